@@ -1,19 +1,32 @@
--- One call of an iterator of two levels.
-use Rattle.std.proofs.Common.{◌≡◌, ℕ, zero, suc, ◌+◌, ◌<◌, false, List, [], ◌∷◌, ◌++◌, length, map, reverse, refl, sym, ap, subst, ◌∙◌, arith}
-use Rattle.std.proofs.lemmas.List.{append_assoc, append-nil, length-append, length-map, length-reverse, map-append, reverse-append}
-use Rattle.std.proofs.lemmas.List.Concat.{flat_map-append}
+-- A step of the walk over partitions, as a call of an iterator of two levels.
+use Rattle.std.proofs.Common.{◌≡◌, ℕ, zero, suc, ◌+◌, ◌<◌, ◌≤◌, false, List, [], ◌∷◌, ◌++◌, length, map, reverse, refl, sym, ap, subst, ◌∙◌, arith}
+use Rattle.std.proofs.lemmas.List.{length-map}
 use Rattle.std.specs.Option.{option_map, option_or}
-use Rattle.std.specs.Prelude.{Option, Some, None, Ok, Err, MatchOption, MatchResult}
+use Rattle.std.specs.Prelude.{IfErr, IfOk, MatchOption, MatchResult, Option, Some, None, Result, Ok, Err}
 use Rattle.sst_entries.specs.declared.error.Error.{Error}
-use Rattle.sst_entries.specs.Error.{FaultsFirst, is_memory}
-use Rattle.sst_entries.specs.Stream.{first, but_first, last, but_last, front_of, back_of, ok_results}
+use Rattle.sst_entries.specs.declared.stream.Direction.{Direction}
+use Rattle.sst_entries.specs.declared.stream.Direction.TheVariants.{Front, Back}
+use Rattle.sst_entries.specs.Error.{FaultsFirst, Refuses, is_memory}
+use Rattle.sst_entries.specs.Span.{Span, rest_in}
+use Rattle.sst_entries.specs.Stream.{answer_stops, ok_results}
+use Rattle.sst_sections.specs.Sections.{body_of}
 use Rattle.sst_blocks.specs.declared.opened.Opened.{Opened}
 use Rattle.sst_blocks.specs.Handle.{Handle}
 use Rattle.sst_blocks.specs.Place.{Place, place_of}
-use Rattle.lsm_block_indexes.specs.Index.{block_early, parts_between, two_level}
-use Rattle.lsm_block_indexes.specs.Left.{IsEnded, AtEnd, TwoLevel, TwoLevelGives, TwoLevelSteps, part_at, part_of, needs, none_behind, front_needs, back_needs, early_behind, tops_early, front_early, back_early, EntersFront, EntersBack, Fails, loaded, two_level_left}
-use Rattle.lsm_block_indexes.specs.Seen.{PartGives}
-use Rattle.lsm_block_indexes.proofs.AtEnds.{R, End, pair, front_in, back_in, back_push, first_split, last_split, not_memory, no_handles, at_part, carries_front, carries_back}
+use Rattle.lsm_walks.specs.declared.walk.Walk.{Walk}
+use Rattle.lsm_walks.specs.Ends.{IsOver, Remains, remains_in, seen_from, span_remains, taken_at}
+use Rattle.lsm_walks.specs.Parts.{LoadGives, Loading, Loads, Tells, all_results, early_among, early_behind, loads_in, needed, none_behind}
+use Rattle.lsm_walks.specs.Walks.{Ended, StopsAtError, WalkGives, WalkTakes, early_at, near, needed_at, walk_left}
+use Rattle.lsm_walks.proofs.AtEnds.{behind_map, early_map, map_seen, map_taken, none_taken, nothing_behind, seen_none, shortens, whole_end}
+use Rattle.lsm_block_indexes.specs.declared.partitions.Partitions.{Partitions}
+use Rattle.lsm_block_indexes.specs.Index.{block_between, block_early, parts_between, two_level}
+use Rattle.lsm_block_indexes.specs.Left.{AtEnd, CountsLoads, IsEnded, LeftGives, TwoLevel, TwoLevelGives, fault_at, loaded, needs, needs_at, new_two_level, part_of, tops_early, two_level_left}
+use Rattle.lsm_block_indexes.specs.Partitions.{EndsPartitions, KeepsPartitions, NamesOf, coming_partitions, part_named, two_level_of}
+use Rattle.lsm_block_indexes.specs.Seen.{rest_of}
+use Rattle.lsm_block_indexes.proofs.AtEnds.{R}
+use Rattle.lsm_block_indexes.proofs.Seeks.{all_of}
+use Rattle.sst_blocks.specs.Opened.{none_opened}
+use Rattle.sst_blocks.specs.Seeking.{whole_span}
 
 module _ {X : Type 0} where
   pub nil_left : (xs ys : List X) → xs ++ ys ≡ [] → xs ≡ []
@@ -28,498 +41,287 @@ module _ {X : Type 0} where
   no_items [] e = refl
   no_items (x ∷ xs) e = absurd (omega (arith, e))
 
--- of partitions
-abbrev parts_of : TwoLevel → List Handle → List R
-parts_of s tops = parts_between s.body s.lower s.upper tops
-
--- ---- what is left, from either end
-
-abbrev left : TwoLevel → List R
-left u = (two_level_left u).results
-
-abbrev front_more : TwoLevel → List R
-front_more u = parts_of u u.tops ++ ok_results u.back
-
-abbrev back_more : TwoLevel → List R
-back_more u = ok_results u.front ++ parts_of u u.tops
-
-from_back : (u : TwoLevel) → left u ≡ back_more u ++ ok_results u.back
-from_back u = sym (append_assoc (ok_results u.front) (parts_of u u.tops) (ok_results u.back))
-
--- one partition alone is left
-left_back : (u : TwoLevel) → u.front ≡ [] → u.tops ≡ [] → left u ≡ ok_results u.back
-left_back u none tops =
-    ap (λ (hs : List Handle). ok_results hs ++ front_more u) none
-    ∙ ap (λ (hs : List Handle). parts_of u hs ++ ok_results u.back) tops
-
-left_front : (u : TwoLevel) → u.back ≡ [] → u.tops ≡ [] → left u ≡ ok_results u.front
-left_front u none tops =
-    ap (λ (hs : List Handle). ok_results u.front ++ (parts_of u hs ++ ok_results u.back)) tops
-    ∙ ap (λ (hs : List Handle). ok_results u.front ++ ok_results hs) none
-    ∙ append-nil (ok_results u.front)
-
--- the next partition at the front, and at the back
-next_front : (u : TwoLevel) (top : Handle) (tops : List Handle) → u.front ≡ [] → u.tops ≡ top ∷ tops → left u ≡ part_of u top ++ (parts_of u tops ++ ok_results u.back)
-next_front u top tops none split =
-    ap (λ (hs : List Handle). ok_results hs ++ front_more u) none
-    ∙ ap (λ (hs : List Handle). parts_of u hs ++ ok_results u.back) split
-    ∙ append_assoc (part_of u top) (parts_of u tops) (ok_results u.back)
-
-next_back : (u : TwoLevel) (top : Handle) (tops : List Handle) → u.back ≡ [] → u.tops ≡ tops ++ top ∷ [] → left u ≡ ok_results u.front ++ (parts_of u tops ++ part_of u top)
-next_back u top tops none split =
-    ap (λ (rs : List R). ok_results u.front ++ rs)
-    (ap (λ (hs : List Handle). parts_of u u.tops ++ ok_results hs) none
-    ∙ append-nil (parts_of u u.tops)
-    ∙ ap (parts_of u) split
-    ∙ flat_map-append (part_of u) tops (top ∷ [])
-    ∙ ap (λ (rs : List R). parts_of u tops ++ rs) (append-nil (part_of u top)))
-
--- ---- how many partitions a call needs
-
-same_needs : (hs : List Handle) (n : ℕ) → none_behind (ok_results hs) n ≡ none_behind hs n
-same_needs [] n = refl
-same_needs (h ∷ hs) n = refl
-
-next_needs : (p : List R) (hs : List Handle) (ps : List (List R)) → ok_results hs ≡ p → needs (p ∷ ps) ≡ suc (none_behind hs (needs ps))
-next_needs p hs ps told = ap (λ (q : List R). needs (q ∷ ps)) (sym told) ∙ ap suc (same_needs hs (needs ps))
-
-front_one_more : (u t : TwoLevel) → u.front ≡ [] → EntersFront u t → front_needs u ≡ suc (front_needs t)
-front_one_more u t none enters =
-    ap (λ (xs : List Handle). none_behind xs (needs (map (part_of u) u.tops))) none
-    ∙ ap (λ (xs : List Handle). needs (map (part_of u) xs)) enters.tops
-    ∙ next_needs (part_of u enters.top) t.front (map (part_of u) t.tops) enters.told
-    ∙ sym (ap (λ (x : TwoLevel). suc (front_needs x)) enters.is)
-
-back_one_more : (u t : TwoLevel) → u.back ≡ [] → EntersBack u t → back_needs u ≡ suc (back_needs t)
-back_one_more u t none enters =
-    let turned : reverse (map (part_of u) (t.tops ++ enters.top ∷ [])) ≡ part_of u enters.top ∷ reverse (map (part_of u) t.tops) =
-    ap reverse (map-append (part_of u) t.tops (enters.top ∷ [])) ∙ reverse-append (map (part_of u) t.tops) (part_of u enters.top ∷ []) in
-    ap (λ (xs : List Handle). none_behind xs (needs (reverse (map (part_of u) u.tops)))) none
-    ∙ ap (λ (xs : List Handle). needs (reverse (map (part_of u) xs))) enters.tops
-    ∙ ap needs turned
-    ∙ next_needs (part_of u enters.top) t.back (reverse (map (part_of u) t.tops)) enters.told
-    ∙ sym (ap (λ (x : TwoLevel). suc (back_needs x)) enters.is)
-
-some_needs : (ps : List (List R)) → 0 < length ps → 0 < needs ps
-some_needs [] lt = absurd (omega (arith, lt))
-some_needs (p ∷ ps) lt = omega arith
-
-some_tops : (xs : List Handle) → (xs ≡ [] → ⊥) → 0 < length xs
-some_tops [] some = absurd (some refl)
-some_tops (x ∷ xs) some = omega arith
-
-front_some : (u : TwoLevel) → u.front ≡ [] → (u.tops ≡ [] → ⊥) → 0 < front_needs u
-front_some u none some =
-    let more = some_needs (map (part_of u) u.tops) (omega (arith, some_tops u.tops some, length-map u.tops (part_of u))) in
-    omega (arith, more, ap (λ (xs : List Handle). none_behind xs (needs (map (part_of u) u.tops))) none)
-
-back_some : (u : TwoLevel) → u.back ≡ [] → (u.tops ≡ [] → ⊥) → 0 < back_needs u
-back_some u none some =
-    let parts = map (part_of u) u.tops in
-    let more = some_needs (reverse parts) (omega (arith, some_tops u.tops some, length-map u.tops (part_of u), length-reverse parts)) in
-    omega (arith, more, ap (λ (xs : List Handle). none_behind xs (needs (reverse parts))) none)
-
--- none where a handle stands at the end, or where no partition is left
-none_needed : (hs : List Handle) (n : ℕ) → (hs ≡ [] → ⊥) → none_behind hs n ≡ 0
-none_needed [] n some = absurd (some refl)
-none_needed (h ∷ hs) n some = refl
-
-has_first : (hs : List Handle) (h : Handle) → first hs ≡ Some h → hs ≡ [] → ⊥
-has_first hs h at none = let wrong : None ≡ Some h = sym (ap first none) ∙ at in absurd cc
-
-has_last : (hs : List Handle) (h : Handle) → last hs ≡ Some h → hs ≡ [] → ⊥
-has_last hs h at none = let wrong : None ≡ Some h = sym (ap last none) ∙ at in absurd cc
-
-front_none : (u : TwoLevel) → u.front ≡ [] → u.tops ≡ [] → front_needs u ≡ 0
-front_none u none tops =
-    ap (λ (xs : List Handle). none_behind xs (needs (map (part_of u) u.tops))) none
-    ∙ ap (λ (xs : List Handle). needs (map (part_of u) xs)) tops
-
-back_none : (u : TwoLevel) → u.back ≡ [] → u.tops ≡ [] → back_needs u ≡ 0
-back_none u none tops =
-    ap (λ (xs : List Handle). none_behind xs (needs (reverse (map (part_of u) u.tops)))) none
-    ∙ ap (λ (xs : List Handle). needs (reverse (map (part_of u) xs))) tops
-
--- one where the next partition is a fault
-front_one : (u : TwoLevel) (top : Handle) (e : Error) → u.front ≡ [] → first u.tops ≡ Some top → Err e ∷ [] ≡ part_of u top → front_needs u ≡ 1
-front_one u top e none at told =
-    ap (λ (xs : List Handle). none_behind xs (needs (map (part_of u) u.tops))) none
-    ∙ ap (λ (xs : List Handle). needs (map (part_of u) xs)) (first_split u.tops top at)
-    ∙ ap (λ (p : List R). needs (p ∷ map (part_of u) (but_first u.tops))) (sym told)
-
-back_one : (u : TwoLevel) (top : Handle) (e : Error) → u.back ≡ [] → last u.tops ≡ Some top → Err e ∷ [] ≡ part_of u top → back_needs u ≡ 1
-back_one u top e none at told =
-    let tops = but_last u.tops in
-    let turned : reverse (map (part_of u) (tops ++ top ∷ [])) ≡ part_of u top ∷ reverse (map (part_of u) tops) =
-    ap reverse (map-append (part_of u) tops (top ∷ [])) ∙ reverse-append (map (part_of u) tops) (part_of u top ∷ []) in
-    ap (λ (xs : List Handle). none_behind xs (needs (reverse (map (part_of u) u.tops)))) none
-    ∙ ap (λ (xs : List Handle). needs (reverse (map (part_of u) xs))) (last_split u.tops top at)
-    ∙ ap needs turned
-    ∙ ap (λ (p : List R). needs (p ∷ reverse (map (part_of u) tops))) (sym told)
-
--- ---- the early fault of the partitions that a call needs
-
-same_early : (hs : List Handle) (o : Option Error) → early_behind (ok_results hs) o ≡ early_behind hs o
-same_early [] o = refl
-same_early (h ∷ hs) o = refl
-
--- behind a partition that was loaded, it is that of the next ones
-next_early : (body : List ℕ) (part : Handle → List R) (top : Handle) (tops hs : List Handle) → block_early body (place_of top) ≡ None → ok_results hs ≡ part top → tops_early body part (top ∷ tops) ≡ early_behind hs (tops_early body part tops)
-next_early body part top tops hs fine told =
-    ap (λ (o : Option Error). option_or o (early_behind (part top) (tops_early body part tops))) fine
-    ∙ ap (λ (p : List R). early_behind p (tops_early body part tops)) (sym told)
-    ∙ same_early hs (tops_early body part tops)
-
-front_early_on : (u t : TwoLevel) → u.front ≡ [] → EntersFront u t → front_early u ≡ front_early t
-front_early_on u t none enters =
-    ap (λ (xs : List Handle). early_behind xs (tops_early u.body (part_of u) u.tops)) none
-    ∙ ap (tops_early u.body (part_of u)) enters.tops
-    ∙ next_early u.body (part_of u) enters.top t.tops t.front enters.fine enters.told
-    ∙ sym (ap front_early enters.is)
-
-back_early_on : (u t : TwoLevel) → u.back ≡ [] → EntersBack u t → back_early u ≡ back_early t
-back_early_on u t none enters =
-    let turned : reverse u.tops ≡ enters.top ∷ reverse t.tops = ap reverse enters.tops ∙ reverse-append t.tops (enters.top ∷ []) in
-    ap (λ (xs : List Handle). early_behind xs (tops_early u.body (part_of u) (reverse u.tops))) none
-    ∙ ap (tops_early u.body (part_of u)) turned
-    ∙ next_early u.body (part_of u) enters.top (reverse t.tops) t.back enters.fine enters.told
-    ∙ sym (ap back_early enters.is)
-
--- where there is one, a partition is needed
-early_tops : (body : List ℕ) (part : Handle → List R) (tops : List Handle) (f : Error) → tops_early body part tops ≡ Some f → 0 < length tops
-early_tops body part [] f is = let wrong : None ≡ Some f = is in absurd cc
-early_tops body part (top ∷ tops) f is = omega arith
-
-behind_needs : {X : Type 0} (xs : List X) (early : Option Error) (n : ℕ) (f : Error) → (early ≡ Some f → 0 < n) → early_behind xs early ≡ Some f → 0 < none_behind xs n
-behind_needs [] early n f more is = more is
-behind_needs (x ∷ xs) early n f more is = let wrong : None ≡ Some f = is in absurd cc
-
-front_early_needs : (u : TwoLevel) (f : Error) → front_early u ≡ Some f → 0 < front_needs u
-front_early_needs u f =
-    let parts = map (part_of u) u.tops in
-    behind_needs u.front (tops_early u.body (part_of u) u.tops) (needs parts) f
-    (λ is. some_needs parts (omega (arith, early_tops u.body (part_of u) u.tops f is, length-map u.tops (part_of u))))
-
-back_early_needs : (u : TwoLevel) (f : Error) → back_early u ≡ Some f → 0 < back_needs u
-back_early_needs u f =
-    let parts = map (part_of u) u.tops in
-    behind_needs u.back (tops_early u.body (part_of u) (reverse u.tops)) (needs (reverse parts)) f
-    (λ is. some_needs (reverse parts) (omega (arith, early_tops u.body (part_of u) (reverse u.tops) f is, length-map u.tops (part_of u), length-reverse parts, length-reverse u.tops)))
-
--- where one partition is needed, it is that of the next one
-own_fault : (own behind : Option Error) (e f : Error) → ((g : Error) → own ≡ Some g → e ≡ g) → (behind ≡ Some f → ⊥) → option_or own behind ≡ Some f → e ≡ f
-own_fault None behind e f first none is = absurd (none is)
-own_fault (Some g) behind e f first none is = let same : g ≡ f = cc in first g refl ∙ same
-
-own_top : (body : List ℕ) (part : Handle → List R) (top : Handle) (tops : List Handle) (n : ℕ) (e f : Error) → (tops_early body part tops ≡ Some f → 0 < n) → none_behind (part top) n ≡ 0 → ((g : Error) → block_early body (place_of top) ≡ Some g → e ≡ g) → tops_early body part (top ∷ tops) ≡ Some f → e ≡ f
-own_top body part top tops n e f more one first =
-    own_fault (block_early body (place_of top)) (early_behind (part top) (tops_early body part tops)) e f first
-    (λ behind. omega (arith, one, behind_needs (part top) (tops_early body part tops) n f more behind))
-
-front_own : (u : TwoLevel) (top : Handle) (e f : Error) → u.front ≡ [] → first u.tops ≡ Some top → ((g : Error) → block_early u.body (place_of top) ≡ Some g → e ≡ g) → front_early u ≡ Some f → front_needs u ≡ 1 → e ≡ f
-front_own u top e f none at early is one =
-    let tops = but_first u.tops in
-    let split = first_split u.tops top at in
-    let parts = map (part_of u) tops in
-    let needed : front_needs u ≡ suc (none_behind (part_of u top) (needs parts)) =
-    ap (λ (xs : List Handle). none_behind xs (needs (map (part_of u) u.tops))) none
-    ∙ ap (λ (xs : List Handle). needs (map (part_of u) xs)) split in
-    let there : front_early u ≡ tops_early u.body (part_of u) (top ∷ tops) =
-    ap (λ (xs : List Handle). early_behind xs (tops_early u.body (part_of u) u.tops)) none
-    ∙ ap (tops_early u.body (part_of u)) split in
-    own_top u.body (part_of u) top tops (needs parts) e f
-    (λ more. some_needs parts (omega (arith, early_tops u.body (part_of u) tops f more, length-map tops (part_of u))))
-    (omega (arith, needed, one)) early (sym there ∙ is)
-
-back_own : (u : TwoLevel) (top : Handle) (e f : Error) → u.back ≡ [] → last u.tops ≡ Some top → ((g : Error) → block_early u.body (place_of top) ≡ Some g → e ≡ g) → back_early u ≡ Some f → back_needs u ≡ 1 → e ≡ f
-back_own u top e f none at early is one =
-    let tops = but_last u.tops in
-    let split = last_split u.tops top at in
-    let before = map (part_of u) tops in
-    let turned : reverse (map (part_of u) (tops ++ top ∷ [])) ≡ part_of u top ∷ reverse before =
-    ap reverse (map-append (part_of u) tops (top ∷ [])) ∙ reverse-append before (part_of u top ∷ []) in
-    let needed : back_needs u ≡ suc (none_behind (part_of u top) (needs (reverse before))) =
-    ap (λ (xs : List Handle). none_behind xs (needs (reverse (map (part_of u) u.tops)))) none
-    ∙ ap (λ (xs : List Handle). needs (reverse (map (part_of u) xs))) split
-    ∙ ap needs turned in
-    let there : back_early u ≡ tops_early u.body (part_of u) (top ∷ reverse tops) =
-    ap (λ (xs : List Handle). early_behind xs (tops_early u.body (part_of u) (reverse u.tops))) none
-    ∙ ap (tops_early u.body (part_of u)) (ap reverse split ∙ reverse-append tops (top ∷ [])) in
-    own_top u.body (part_of u) top (reverse tops) (needs (reverse before)) e f
-    (λ more. some_needs (reverse before) (omega (arith, early_tops u.body (part_of u) (reverse tops) f more, length-map tops (part_of u), length-reverse before, length-reverse tops)))
-    (omega (arith, needed, one)) early (sym there ∙ is)
-
--- ---- the partitions that a call goes through
-
--- from s the call has come to u, of which as much is left
-pub record Reached (needed : TwoLevel → ℕ) (early : TwoLevel → Option Error) (s u : TwoLevel) : Type 0 where
-  pub results : left u ≡ left s
-  pub body : u.body ≡ s.body
-  pub whole : u.whole ≡ s.whole
-  pub ended : IsEnded (two_level_left s) → IsEnded (two_level_left u)
-  pub count : ℕ
-  pub counts : u.opened ≡ loaded count s.opened
-  pub falls : count + length u.tops ≡ length s.tops
-  pub needs : count + needed u ≡ needed s
-  pub same : early s ≡ early u
-
 pub loaded_more : (m n : ℕ) (o : Opened) → loaded m (loaded n o) ≡ loaded (m + n) o
 loaded_more zero n o = ap (λ (k : ℕ). loaded k o) (let e : n ≡ 0 + n = omega arith in e)
 loaded_more (suc m) n o = ap (loaded 1) (loaded_more m n o) ∙ ap (λ (k : ℕ). loaded k o) (let e : suc (m + n) ≡ suc m + n = omega arith in e)
 
--- a partition was loaded, so it was not over
-entered : (s u t : TwoLevel) (m : ℕ) → length u.tops ≡ suc m → (IsEnded (two_level_left s) → IsEnded (two_level_left u)) → IsEnded (two_level_left s) → IsEnded (two_level_left t)
-entered s u t m some ended over = absurd (omega (arith, some, (ended over).loads))
-
--- the partition at the front is used up, and the next one was loaded
-pub reached_front : (s u t : TwoLevel) → Reached front_needs front_early s u → u.front ≡ [] → EntersFront u t → Reached front_needs front_early s t
-reached_front s u t reached none enters =
-    let same : left t ≡ ok_results t.front ++ (parts_of u t.tops ++ ok_results u.back) = ap left enters.is in
-    let count : length u.tops ≡ suc (length t.tops) = ap length enters.tops in
-    record {
-      results = same ∙ ap (λ (rs : List R). rs ++ (parts_of u t.tops ++ ok_results u.back)) enters.told ∙ sym (next_front u enters.top t.tops none enters.tops) ∙ reached.results;
-      body = ap (λ (x : TwoLevel). x.body) enters.is ∙ reached.body;
-      whole = ap (λ (x : TwoLevel). x.whole) enters.is ∙ reached.whole;
-      ended = entered s u t (length t.tops) count reached.ended;
-      count = suc reached.count;
-      counts = ap (λ (x : TwoLevel). x.opened) enters.is ∙ ap (loaded 1) reached.counts;
-      falls = omega (arith, reached.falls, count);
-      needs = omega (arith, reached.needs, front_one_more u t none enters);
-      same = reached.same ∙ front_early_on u t none enters;
-    }
-
-pub reached_back : (s u t : TwoLevel) → Reached back_needs back_early s u → u.back ≡ [] → EntersBack u t → Reached back_needs back_early s t
-reached_back s u t reached none enters =
-    let same : left t ≡ ok_results u.front ++ (parts_of u t.tops ++ ok_results t.back) = ap left enters.is in
-    let count : length u.tops ≡ suc (length t.tops) = omega (arith, ap length enters.tops, length-append t.tops (enters.top ∷ [])) in
-    record {
-      results = same ∙ ap (λ (rs : List R). ok_results u.front ++ (parts_of u t.tops ++ rs)) enters.told ∙ sym (next_back u enters.top t.tops none enters.tops) ∙ reached.results;
-      body = ap (λ (x : TwoLevel). x.body) enters.is ∙ reached.body;
-      whole = ap (λ (x : TwoLevel). x.whole) enters.is ∙ reached.whole;
-      ended = entered s u t (length t.tops) count reached.ended;
-      count = suc reached.count;
-      counts = ap (λ (x : TwoLevel). x.opened) enters.is ∙ ap (loaded 1) reached.counts;
-      falls = omega (arith, reached.falls, count);
-      needs = omega (arith, reached.needs, back_one_more u t none enters);
-      same = reached.same ∙ back_early_on u t none enters;
-    }
-
--- a partition that is used up may be asked again
-pub kept_front : (s u : TwoLevel) (hs : List Handle) → Reached front_needs front_early s u → u.front ≡ [] → hs ≡ [] → Reached front_needs front_early s (record u { front = hs })
-kept_front s u hs reached was is = subst (λ (xs : List Handle). Reached front_needs front_early s (record u { front = xs })) (was ∙ sym is) reached
-
-pub kept_back : (s u : TwoLevel) (hs : List Handle) → Reached back_needs back_early s u → u.back ≡ [] → hs ≡ [] → Reached back_needs back_early s (record u { back = hs })
-kept_back s u hs reached was is = subst (λ (xs : List Handle). Reached back_needs back_early s (record u { back = xs })) (was ∙ sym is) reached
-
--- ---- the answers
-
--- what a call gives of what was reached, it gives
-answers : (of : End) (needed : TwoLevel → ℕ) (early : TwoLevel → Option Error) (s u t : TwoLevel) (r : Option R) → Reached needed early s u → AtEnd of (two_level_left u) r (two_level_left t) → AtEnd of (two_level_left s) r (two_level_left t)
-answers of needed early s u t None reached answer = (sym reached.results ∙ answer.0, answer.1)
-answers of needed early s u t (Some (Ok h)) reached answer = ap of (sym reached.results) ∙ answer
-answers of needed early s u t (Some (Err e)) reached answer =
-    (λ fine. ap (λ (rs : List R). (of rs).0) (sym reached.results) ∙ answer.0 fine, λ over. answer.1 (reached.ended over))
-
--- it loads no more
-steps : (of : End) (needed : TwoLevel → ℕ) (early : TwoLevel → Option Error) → ((x : TwoLevel) (f : Error) → early x ≡ Some f → 0 < needed x) → (s u t : TwoLevel) (r : Option R) → Reached needed early s u → AtEnd of (two_level_left u) r (two_level_left t) → needed u ≡ 0 → t.opened ≡ u.opened → t.tops ≡ u.tops → t.body ≡ u.body → t.whole ≡ u.whole → TwoLevelSteps of needed early s r t
-steps of needed early needs_one s u t r reached answer all opened tops body whole =
-    let same : length t.tops ≡ length u.tops = ap length tops in
-    record {
-      answer = answers of needed early s u t r reached answer;
-      loads = record {
-        count = reached.count;
-        counts = opened ∙ reached.counts;
-        within = omega (arith, same, reached.falls);
-      };
-      body = body ∙ reached.body;
-      whole = whole ∙ reached.whole;
-      most = omega (arith, reached.needs);
-      some = λ any. omega (arith, reached.needs, all, any);
-      exact = λ fine. omega (arith, reached.needs, all);
-      first = λ f is full. absurd (omega (arith, all, needs_one u f (sym reached.same ∙ is)));
-    }
-
--- an item of the partition at the front
-pub front_item : (s u : TwoLevel) (item : R) (hs : List Handle) → Reached front_needs front_early s u → PartGives front_of u.front (Some item) hs → TwoLevelSteps front_of front_needs front_early s (Some item) (record u { front = hs })
-front_item s u (Ok x) hs reached gives =
-    steps front_of front_needs front_early front_early_needs s u (record u { front = hs }) (Some (Ok x)) reached (front_in (front_more u) u.front hs x gives.0 gives.1) (none_needed u.front _ (has_first u.front x gives.0)) refl refl refl refl
-front_item s u (Err e) hs reached gives =
-    steps front_of front_needs front_early front_early_needs s u (record u { front = hs }) (Some (Err e)) reached
-    (λ fine. absurd (not_memory e gives.0 fine), λ over. gives.1 (no_handles u.front (nil_left (ok_results u.front) (front_more u) over.results)))
-    (none_needed u.front _ gives.1) refl refl refl refl
-
--- and at the back
-pub back_item : (s u : TwoLevel) (item : R) (hs : List Handle) → Reached back_needs back_early s u → PartGives back_of u.back (Some item) hs → TwoLevelSteps back_of back_needs back_early s (Some item) (record u { back = hs })
-back_item s u (Ok x) hs reached gives =
-    let t : TwoLevel = record u { back = hs } in
-    steps back_of back_needs back_early back_early_needs s u t (Some (Ok x)) reached (ap back_of (from_back u) ∙ back_in (back_more u) u.back hs x gives.0 gives.1 ∙ pair refl (sym (from_back t))) (none_needed u.back _ (has_last u.back x gives.0)) refl refl refl refl
-back_item s u (Err e) hs reached gives =
-    steps back_of back_needs back_early back_early_needs s u (record u { back = hs }) (Some (Err e)) reached
-    (λ fine. absurd (not_memory e gives.0 fine), λ over. gives.1 (no_handles u.back (nil_right (back_more u) (ok_results u.back) (sym (from_back u) ∙ over.results))))
-    (none_needed u.back _ gives.1) refl refl refl refl
-
--- nothing is left between the ends, so one partition serves both
-pub front_rest : (s u : TwoLevel) (r : Option R) (hs : List Handle) → Reached front_needs front_early s u → u.front ≡ [] → u.tops ≡ [] → PartGives front_of u.back r hs → TwoLevelSteps front_of front_needs front_early s r (record u { back = hs })
-front_rest s u r hs reached none tops gives =
-    let t : TwoLevel = record u { back = hs } in
-    steps front_of front_needs front_early front_early_needs s u t r reached
-    (at_part front_of front_of carries_front (two_level_left u) (two_level_left t) u.back hs r (left_back u none tops) (left_back t none tops) (ap length tops) gives) (front_none u none tops) refl refl refl refl
-
-pub back_rest : (s u : TwoLevel) (r : Option R) (hs : List Handle) → Reached back_needs back_early s u → u.back ≡ [] → u.tops ≡ [] → PartGives back_of u.front r hs → TwoLevelSteps back_of back_needs back_early s r (record u { front = hs })
-back_rest s u r hs reached none tops gives =
-    let t : TwoLevel = record u { front = hs } in
-    steps back_of back_needs back_early back_early_needs s u t r reached
-    (at_part back_of back_of carries_back (two_level_left u) (two_level_left t) u.front hs r (left_front u none tops) (left_front t none tops) (ap length tops) gives) (back_none u none tops) refl refl refl refl
-
--- the next partition cannot be loaded
-fault_steps : (of : End) (end : List Handle → Option Handle × List Handle) (needed : TwoLevel → ℕ) (early : TwoLevel → Option Error) (s u t : TwoLevel) (e : Error) → Reached needed early s u → Fails end u e t → 0 < needed u → (is_memory e ≡ false → needed u ≡ 1) → (is_memory e ≡ false → (of (left u)).0 ≡ Some (Err e)) → ((f : Error) → early u ≡ Some f → needed u ≡ 1 → e ≡ f) → TwoLevelSteps of needed early s (Some (Err e)) t
-fault_steps of end needed early s u t e reached fails some one told own = record {
-  answer = answers of needed early s u t (Some (Err e)) reached (told, λ over. omega (arith, fails.fewer, over.loads));
-  loads = record {
-    count = 1 + reached.count;
-    counts = fails.counts ∙ ap (loaded 1) reached.counts ∙ loaded_more 1 reached.count s.opened;
-    within = omega (arith, fails.fewer, reached.falls);
-  };
-  body = fails.body ∙ reached.body;
-  whole = fails.whole ∙ reached.whole;
-  most = omega (arith, some, reached.needs);
-  some = λ any. omega arith;
-  exact = λ fine. omega (arith, one fine, reached.needs);
-  first = λ f is full. ap (λ (x : Error). Some (Err x)) (own f (sym reached.same ∙ is) (omega (arith, full, reached.needs)));
-}
-
-not_empty : {X : Type 0} (xs : List X) (n : ℕ) → length xs ≡ 1 + n → xs ≡ [] → ⊥
-not_empty xs n more none = omega (arith, more, ap length none)
-
-pub front_fault : (s u t : TwoLevel) (e : Error) → Reached front_needs front_early s u → u.front ≡ [] → Fails front_of u e t → TwoLevelSteps front_of front_needs front_early s (Some (Err e)) t
-front_fault s u t e reached none fails =
-    fault_steps front_of front_of front_needs front_early s u t e reached fails
-    (front_some u none (not_empty u.tops (length t.tops) fails.fewer))
-    (λ fine. front_one u fails.top e none fails.at (fails.told fine))
-    (λ fine. at fine)
-    (λ f is one. front_own u fails.top e f none fails.at fails.first is one)
-  where
-    at : is_memory e ≡ false → first (left u) ≡ Some (Err e)
-    at fine =
-        let split = first_split u.tops fails.top fails.at in
-        ap first (next_front u fails.top (but_first u.tops) none split ∙ ap (λ (rs : List R). rs ++ (parts_of u (but_first u.tops) ++ ok_results u.back)) (sym (fails.told fine)))
-
-pub back_fault : (s u t : TwoLevel) (e : Error) → Reached back_needs back_early s u → u.back ≡ [] → Fails back_of u e t → TwoLevelSteps back_of back_needs back_early s (Some (Err e)) t
-back_fault s u t e reached none fails =
-    fault_steps back_of back_of back_needs back_early s u t e reached fails
-    (back_some u none (not_empty u.tops (length t.tops) fails.fewer))
-    (λ fine. back_one u fails.top e none fails.at (fails.told fine))
-    (λ fine. at fine)
-    (λ f is one. back_own u fails.top e f none fails.at fails.first is one)
-  where
-    at : is_memory e ≡ false → last (left u) ≡ Some (Err e)
-    at fine =
-        let tops = but_last u.tops in
-        let before = ok_results u.front ++ parts_of u tops in
-        let whole : left u ≡ before ++ Err e ∷ [] =
-        next_back u fails.top tops none (last_split u.tops fails.top fails.at)
-        ∙ ap (λ (rs : List R). ok_results u.front ++ (parts_of u tops ++ rs)) (sym (fails.told fine))
-        ∙ sym (append_assoc (ok_results u.front) (parts_of u tops) (Err e ∷ [])) in
-        ap last whole ∙ ap (λ (y : Option R × List R). y.0) (back_push before (Err e))
-
 -- ---- one load
 
--- a place that is told is that of a handle
-named : (o : Option Handle) (place : Place) → Some place ≡ option_map place_of o → (top : Handle) × (o ≡ Some top) × (place ≡ place_of top)
-named None place at = let wrong : Some place ≡ None = at in absurd cc
-named (Some top) place at = let same : place ≡ place_of top = cc in (top, refl, same)
+-- the handle whose place was told
+record Found (o : Option Handle) (place : Place) : Type 0 where
+  pub top : Handle
+  pub here : o ≡ Some top
+  pub at : place_of top ≡ place
 
--- what was loaded has no early fault, and what was not is refused with it
-no_early : (p : List Handle) (fault : Option Error) → FaultsFirst {X = List Handle} (Ok p) fault → fault ≡ None
-no_early p None early = refl
-no_early p (Some f) early = let wrong : Some f ≡ None = early f refl in absurd cc
+found : (o : Option Handle) (place : Place) → Some place ≡ option_map place_of o → Found o place
+found None place told = absurd cc
+found (Some h) place told = record { top = h; here = refl; at = let same : place ≡ place_of h = cc in sym same }
 
-refusal : (e f : Error) (fault : Option Error) → FaultsFirst {X = List Handle} (Err e) fault → fault ≡ Some f → e ≡ f
-refusal e f fault early is = let same : Some f ≡ Some e = early f is in cc
+not_found : (o : Option Handle) → None ≡ option_map place_of o → o ≡ None
+not_found None told = refl
+not_found (Some h) told = absurd cc
 
--- the handle at an end was taken, and those that stay are the others
-module _ (s u : TwoLevel) (whole rest : List Handle) (kept : whole ≡ s.whole)
-    (is : u ≡ record s { whole = whole; tops = rest; opened = loaded 1 s.opened }) where
-  load_is : u ≡ record s { tops = u.tops; opened = loaded 1 s.opened }
-  load_is =
-      is ∙ ap (λ (hs : List Handle). record s { whole = hs; tops = rest; opened = loaded 1 s.opened }) kept
-      ∙ ap (λ (hs : List Handle). record s { tops = hs; opened = loaded 1 s.opened }) (sym (ap (λ (x : TwoLevel). x.tops) is))
+-- what a load tells first is what it is refused with
+refused_first : {X : Type 0} (r : Result X Error) (f : Error) → Refuses r (Some f) → Some r ≡ Some (Err f)
+refused_first (Ok x) f e = let wrong : Some f ≡ None = e in absurd cc
+refused_first (Err e) f is = let same : Some f ≡ Some e = is in cc
 
-  rest_is : rest ≡ u.tops
-  rest_is = sym (ap (λ (x : TwoLevel). x.tops) is)
+tells_part : {A : Type 0} (p : Partitions A) (top : Handle) (r : Result (Span Handle) Error) → IfOk r (λ hs. ok_results (rest_in hs) ≡ block_between (body_of p.source) p.edges.0 p.edges.1 (place_of top)) → IfErr r (λ e. is_memory e ≡ false → Err e ∷ [] ≡ block_between (body_of p.source) p.edges.0 p.edges.1 (place_of top)) → Tells span_remains (Some (part_named p top)) (Some r)
+tells_part p top (Ok hs) ok err = ok
+tells_part p top (Err e) ok err = err
 
-  -- its partition was loaded
-  pub enters_front : (place : Place) (p : List Handle) → Some place ≡ option_map place_of (first s.tops) → rest ≡ but_first s.tops → ok_results p ≡ part_at s place → FaultsFirst {X = List Handle} (Ok p) (block_early s.body place) → EntersFront s (record u { front = p })
-  enters_front place p at others told early =
-      let x = named (first s.tops) place at in
+module _ {A : Type 0} (at : Direction) (s : Partitions A) (tops : Span Handle) (list : tops.list ≡ s.tops.list) (rest : rest_in tops ≡ (taken_at at (rest_in s.tops)).1) where
+  pub part_taken : (opened : Opened) (place : Place) (r : Result (Span Handle) Error) → Some place ≡ option_map place_of (taken_at at (rest_in s.tops)).0 → IfOk r (λ hs. ok_results (rest_in hs) ≡ block_between (body_of s.source) s.edges.0 s.edges.1 place) → IfErr r (λ e. is_memory e ≡ false → Err e ∷ [] ≡ block_between (body_of s.source) s.edges.0 s.edges.1 place) → FaultsFirst r (block_early (body_of s.source) place) → opened ≡ loaded 1 s.opened → LoadGives span_remains coming_partitions KeepsPartitions at s (Some r) (record s { tops = tops; opened = opened })
+  part_taken opened place r told ok err first counts =
+      let x = found (taken_at at (rest_in s.tops)).0 place told in
+      let takes : taken_at at (rest_in s.tops) ≡ (Some x.top, rest_in tops) =
+      whole_end at (rest_in s.tops) x.top x.here ∙ ap (λ (hs : List Handle). (Some x.top, hs)) (sym rest) in
       record {
-        top = x.0;
-        tops = first_split s.tops x.0 x.1 ∙ ap (λ (hs : List Handle). x.0 ∷ hs) (sym others ∙ rest_is);
-        told = told ∙ ap (part_at s) x.2;
-        fine = ap (block_early s.body) (sym x.2) ∙ no_early p (block_early s.body place) early;
-        is = ap (λ (x : TwoLevel). record x { front = p }) load_is;
+        named = Some (part_named s x.top);
+        names = map_taken (part_named s) at (rest_in s.tops) (rest_in tops) x.top takes;
+        told = tells_part s x.top r
+            (subst (λ (p : Place). IfOk r (λ hs. ok_results (rest_in hs) ≡ block_between (body_of s.source) s.edges.0 s.edges.1 p)) (sym x.at) ok)
+            (subst (λ (p : Place). IfErr r (λ e. is_memory e ≡ false → Err e ∷ [] ≡ block_between (body_of s.source) s.edges.0 s.edges.1 p)) (sym x.at) err);
+        first = λ f early. refused_first r f (first f (ap (block_early (body_of s.source)) (sym x.at) ∙ early));
+        kept = record { body = refl; list = list; counts = counts; names = shortens at (rest_in s.tops) (rest_in tops) x.top takes };
       }
 
-  pub enters_back : (place : Place) (p : List Handle) → Some place ≡ option_map place_of (last s.tops) → rest ≡ but_last s.tops → ok_results p ≡ part_at s place → FaultsFirst {X = List Handle} (Ok p) (block_early s.body place) → EntersBack s (record u { back = p })
-  enters_back place p at others told early =
-      let x = named (last s.tops) place at in
+  pub no_part : None ≡ option_map place_of (taken_at at (rest_in s.tops)).0 → LoadGives {T = Span Handle} span_remains coming_partitions KeepsPartitions at s None (record s { tops = tops })
+  no_part told =
+      let none : rest_in s.tops ≡ [] = none_taken at (rest_in s.tops) (not_found (taken_at at (rest_in s.tops)).0 told) in
+      let left : rest_in tops ≡ [] = rest ∙ ap (λ (hs : List Handle). (taken_at at hs).1) none ∙ nothing_behind at in
       record {
-        top = x.0;
-        tops = last_split s.tops x.0 x.1 ∙ ap (λ (hs : List Handle). hs ++ x.0 ∷ []) (sym others ∙ rest_is);
-        told = told ∙ ap (part_at s) x.2;
-        fine = ap (block_early s.body) (sym x.2) ∙ no_early p (block_early s.body place) early;
-        is = ap (λ (x : TwoLevel). record x { back = p }) load_is;
+        named = None;
+        names = (ap (map (part_named s)) none, record { parts = ap (map (part_named s)) left; loads = refl });
+        told = refl;
+        first = λ f early. let wrong : None ≡ Some f = early in absurd cc;
+        kept = record { body = refl; list = list; counts = refl; names = (none, left) };
       }
 
-  -- it could not be loaded
-  fails_at : (end : List Handle → Option Handle × List Handle) (place : Place) (top : Handle) (e : Error) → length s.tops ≡ suc (length rest) → (end s.tops).0 ≡ Some top → place ≡ place_of top → (is_memory e ≡ false → Err e ∷ [] ≡ part_at s place) → FaultsFirst {X = List Handle} (Err e) (block_early s.body place) → Fails end s e u
-  fails_at end place top e shorter at is_at told early =
-      let same : length rest ≡ length u.tops = ap length rest_is in
+-- ---- what several loads keep
+
+record Moved {A : Type 0} (count : ℕ) (s t : Partitions A) : Type 0 where
+  pub body : body_of t.source ≡ body_of s.source
+  pub list : t.tops.list ≡ s.tops.list
+  pub counts : t.opened ≡ loaded count s.opened
+
+loads_one : {X : Type 0} (named : Option (Result (Loading X) Error)) (more : List (Option (Result (Loading X) Error))) → loads_in (named ∷ []) + loads_in more ≡ loads_in (named ∷ more)
+loads_one None more = omega arith
+loads_one (Some (Ok part)) more = omega arith
+loads_one (Some (Err e)) more = omega arith
+
+one_fewer : (named : Option (Result (Loading Handle) Error)) (us ts : List Handle) → NamesOf named us ts → length us ≡ loads_in (named ∷ []) + length ts
+one_fewer None us ts names = omega (arith, ap length names.0, ap length names.1)
+one_fewer (Some (Ok part)) us ts names = omega (arith, names)
+one_fewer (Some (Err e)) us ts names = absurd names
+
+-- where a load was made and there were partitions, one was loaded
+last_load : (x : Option (Result (Loading Handle) Error)) (m k : ℕ) (us ts : List Handle) → NamesOf x us ts → k ≡ m + length us → 0 < k → 0 < loads_in (x ∷ []) + m
+last_load None m k us ts names all some = omega (arith, ap length names.0, all, some)
+last_load (Some (Ok part)) m k us ts names all some = omega arith
+last_load (Some (Err e)) m k us ts names all some = absurd names
+
+module _ {A : Type 0} where
+  moved_more : (m : ℕ) (s u t : Partitions A) (named : Option (Result (Loading Handle) Error)) → Moved m s u → KeepsPartitions u named t → Moved (loads_in (named ∷ []) + m) s t
+  moved_more m s u t named was keeps = record {
+    body = keeps.body ∙ was.body;
+    list = keeps.list ∙ was.list;
+    counts = keeps.counts ∙ ap (loaded (loads_in (named ∷ []))) was.counts ∙ loaded_more (loads_in (named ∷ [])) m s.opened;
+  }
+
+  moved : (named : List (Option (Result (Loading Handle) Error))) (s t : Partitions A) → Loads KeepsPartitions s named t → Moved (loads_in named) s t
+  moved [] s t is = subst (λ (x : Partitions A). Moved 0 s x) (sym is) (record { body = refl; list = refl; counts = refl })
+  moved (x ∷ named) s t loads =
+      subst (λ (n : ℕ). Moved n s t) (loads_one x named) (moved_more (loads_in named) s loads.0 t x (moved named s loads.0 loads.1) loads.2)
+
+  fewer : (named : List (Option (Result (Loading Handle) Error))) (s t : Partitions A) → Loads KeepsPartitions s named t → length (rest_in s.tops) ≡ loads_in named + length (rest_in t.tops)
+  fewer [] s t is = omega (arith, ap (λ (x : Partitions A). length (rest_in x.tops)) is)
+  fewer (x ∷ named) s t loads =
+      omega (arith, fewer named s loads.0 loads.1, one_fewer x (rest_in loads.0.tops) (rest_in t.tops) loads.2.names, loads_one x named)
+
+  some_loads : (named : List (Option (Result (Loading Handle) Error))) (s t : Partitions A) → Loads KeepsPartitions s named t → 0 < length named → 0 < length (rest_in s.tops) → 0 < loads_in named
+  some_loads [] s t is made some = absurd (omega (arith, made))
+  some_loads (x ∷ named) s t loads made some =
+      omega (arith, last_load x (loads_in named) (length (rest_in s.tops)) (rest_in loads.0.tops) (rest_in t.tops) loads.2.names (fewer named s loads.0 loads.1) some, loads_one x named)
+
+-- ---- what is left, and how many partitions an answer needs
+
+part_results : (o : Option (Span Handle)) → (remains_in span_remains o).results ≡ ok_results (rest_of o)
+part_results None = refl
+part_results (Some s) = refl
+
+no_part_loads : (o : Option (Span Handle)) → (remains_in span_remains o).loads ≡ 0
+no_part_loads None = refl
+no_part_loads (Some s) = refl
+
+part_behind : (o : Option (Span Handle)) (n : ℕ) → none_behind (remains_in span_remains o).results n ≡ none_behind (rest_of o) n
+part_behind None n = refl
+part_behind (Some s) n = behind_map (λ (h : Handle). Ok h) _ n
+
+part_early : (o : Option (Span Handle)) (f : Option Error) → early_behind (remains_in span_remains o).results f ≡ early_behind (rest_of o) f
+part_early None f = refl
+part_early (Some s) f = early_map (λ (h : Handle). Ok h) _ f
+
+some_needed : (xs : List R) (n : ℕ) → 0 < none_behind xs n → 0 < n
+some_needed [] n some = some
+some_needed (x ∷ xs) n some = absurd (omega (arith, some))
+
+same_index : (body other : List ℕ) (list more : List Handle) → body ≡ other → list ≡ more → two_level body list ≡ two_level other more
+same_index body other list more e f = ap (λ (b : List ℕ). two_level b list) e ∙ ap (two_level other) f
+
+module _ {A : Type 0} where
+  all_parts : (p : Partitions A) (tops : List Handle) → all_results (map (part_named p) tops) ≡ parts_between (body_of p.source) p.edges.0 p.edges.1 tops
+  all_parts p [] = refl
+  all_parts p (top ∷ tops) =
+      ap (λ (rs : List R). block_between (body_of p.source) p.edges.0 p.edges.1 (place_of top) ++ rs) (all_parts p tops)
+
+  abbrev walk_results : Walk (Partitions A) (Span Handle) → List R
+  walk_results w = (walk_left span_remains coming_partitions w).results
+
+  results_are : (w : Walk (Partitions A) (Span Handle)) → walk_results w ≡ (two_level_left (two_level_of w)).results
+  results_are w =
+      let ms : List R = all_results (map (part_named w.parts) (rest_in w.parts.tops)) in
+      let bs : List R = (remains_in span_remains w.back).results in
+      ap (λ (rs : List R). rs ++ (ms ++ bs)) (part_results w.front)
+      ∙ ap (λ (rs : List R). ok_results (rest_of w.front) ++ (rs ++ bs)) (all_parts w.parts (rest_in w.parts.tops))
+      ∙ ap (λ (rs : List R). ok_results (rest_of w.front) ++ (parts_between (body_of w.parts.source) w.parts.edges.0 w.parts.edges.1 (rest_in w.parts.tops) ++ rs)) (part_results w.back)
+
+  needs_are : (w : Walk (Partitions A) (Span Handle)) (tops : List Handle) → needed (map (part_named w.parts) tops) ≡ needs (map (part_of (two_level_of w)) tops)
+  needs_are w [] = refl
+  needs_are w (top ∷ tops) =
+      ap (λ (n : ℕ). suc (none_behind (part_of (two_level_of w) top) n)) (needs_are w tops)
+
+  faults_are : (w : Walk (Partitions A) (Span Handle)) (tops : List Handle) → early_among (map (part_named w.parts) tops) ≡ tops_early (body_of w.parts.source) (part_of (two_level_of w)) tops
+  faults_are w [] = refl
+  faults_are w (top ∷ tops) =
+      ap (λ (f : Option Error). option_or (block_early (body_of w.parts.source) (place_of top)) (early_behind (part_of (two_level_of w) top) f)) (faults_are w tops)
+
+  needs_is : (at : Direction) (w : Walk (Partitions A) (Span Handle)) → needed_at span_remains coming_partitions at w ≡ needs_at at (two_level_of w)
+  needs_is Front w =
+      ap (λ (n : ℕ). none_behind (remains_in span_remains w.front).results n) (needs_are w (rest_in w.parts.tops))
+      ∙ part_behind w.front (needs (map (part_of (two_level_of w)) (rest_in w.parts.tops)))
+  needs_is Back w =
+      let tops : List Handle = rest_in w.parts.tops in
+      let xs : List R = (remains_in span_remains w.back).results in
+      let s : TwoLevel = two_level_of w in
+      ap (λ (ps : List (Result (Loading Handle) Error)). none_behind xs (needed ps)) (map_seen (part_named w.parts) Back tops)
+      ∙ ap (λ (n : ℕ). none_behind xs n) (needs_are w (reverse tops) ∙ ap needs (sym (map_seen (part_of s) Back tops)))
+      ∙ part_behind w.back (needs (reverse (map (part_of s) tops)))
+
+  fault_is : (at : Direction) (w : Walk (Partitions A) (Span Handle)) → early_at span_remains coming_partitions at w ≡ fault_at at (two_level_of w)
+  fault_is Front w =
+      ap (λ (f : Option Error). early_behind (remains_in span_remains w.front).results f) (faults_are w (rest_in w.parts.tops))
+      ∙ part_early w.front (tops_early (body_of w.parts.source) (part_of (two_level_of w)) (rest_in w.parts.tops))
+  fault_is Back w =
+      let tops : List Handle = rest_in w.parts.tops in
+      let xs : List R = (remains_in span_remains w.back).results in
+      ap (λ (ps : List (Result (Loading Handle) Error)). early_behind xs (early_among ps)) (map_seen (part_named w.parts) Back tops)
+      ∙ ap (λ (f : Option Error). early_behind xs f) (faults_are w (reverse tops))
+      ∙ part_early w.back (tops_early (body_of w.parts.source) (part_of (two_level_of w)) (reverse tops))
+
+  some_tops : (at : Direction) (p : Partitions A) (xs : List R) (tops : List Handle) → 0 < none_behind xs (needed (seen_from at (map (part_named p) tops))) → 0 < length tops
+  some_tops at p xs [] some =
+      absurd (omega (arith, some_needed xs _ some, ap needed (seen_none {X = Result (Loading Handle) Error} at [] refl)))
+  some_tops at p xs (top ∷ tops) some = omega arith
+
+  -- ---- a step
+
+  over_is : (w : Walk (Partitions A) (Span Handle)) → IsOver (walk_left span_remains coming_partitions w) → IsEnded (two_level_left (two_level_of w))
+  over_is w over = record {
+    results = sym (results_are w) ∙ over.results;
+    loads = omega (arith, over.loads, length-map (rest_in w.parts.tops) (part_named w.parts));
+  }
+
+  over_from : (w : Walk (Partitions A) (Span Handle)) → IsEnded (two_level_left (two_level_of w)) → IsOver (walk_left span_remains coming_partitions w)
+  over_from w over = record {
+    results = results_are w ∙ over.results;
+    loads = omega (arith, over.loads, no_part_loads w.front, no_part_loads w.back, length-map (rest_in w.parts.tops) (part_named w.parts));
+  }
+
+  -- behind the loads, where an error ended it
+  abbrev Goes : Option R → Walk (Partitions A) (Span Handle) → Walk (Partitions A) (Span Handle) → Type 0
+  Goes r u v = StopsAtError span_remains coming_partitions EndsPartitions r u v
+
+  ended_is : (u v : Walk (Partitions A) (Span Handle)) → Ended coming_partitions EndsPartitions u v → IsEnded (two_level_left (two_level_of v))
+  ended_is u v ended = record {
+    results = ap (λ (o : Option (Span Handle)). ok_results (rest_of o) ++ (parts_between (body_of v.parts.source) v.parts.edges.0 v.parts.edges.1 (rest_in v.parts.tops) ++ ok_results (rest_of v.back))) ended.front
+        ∙ ap (λ (hs : List Handle). parts_between (body_of v.parts.source) v.parts.edges.0 v.parts.edges.1 hs ++ ok_results (rest_of v.back)) ended.kept.tops
+        ∙ ap (λ (o : Option (Span Handle)). ok_results (rest_of o)) ended.back;
+    loads = ap length ended.kept.tops;
+  }
+
+  -- what is the same whether an error ended it
+  record Stays (u v : Walk (Partitions A) (Span Handle)) : Type 0 where
+    pub index : two_level (body_of v.parts.source) v.parts.tops.list ≡ two_level (body_of u.parts.source) u.parts.tops.list
+    pub opened : v.parts.opened ≡ u.parts.opened
+    pub fewer : length (rest_in v.parts.tops) ≤ length (rest_in u.parts.tops)
+
+  stays_same : (u v : Walk (Partitions A) (Span Handle)) → v ≡ u → Stays u v
+  stays_same u v is = subst (λ (x : Walk (Partitions A) (Span Handle)). Stays u x) (sym is) (record { index = refl; opened = refl; fewer = omega arith })
+
+  stays : (r : Option R) (u v : Walk (Partitions A) (Span Handle)) → Goes r u v → Stays u v
+  stays None u v goes = stays_same u v goes
+  stays (Some (Ok h)) u v goes = stays_same u v goes
+  stays (Some (Err e)) u v goes = record {
+    index = same_index _ _ _ _ goes.kept.body goes.kept.list;
+    opened = goes.kept.opened;
+    fewer = omega (arith, ap length goes.kept.tops);
+  }
+
+  ends_is : (r : Option R) (u v : Walk (Partitions A) (Span Handle)) → Goes r u v → MatchOption r (Unit {0}) (λ x. MatchResult x (λ _. Unit {0}) (λ _. IsEnded (two_level_left (two_level_of v))))
+  ends_is None u v goes = tt
+  ends_is (Some (Ok h)) u v goes = tt
+  ends_is (Some (Err e)) u v goes = ended_is u v goes
+
+  answer_is : (at : Direction) (w u v : Walk (Partitions A) (Span Handle)) (r : Option R) → WalkTakes span_remains coming_partitions KeepsPartitions at w r u → Goes r u v → AtEnd (taken_at at) (two_level_left (two_level_of w)) r (two_level_left (two_level_of v))
+  answer_is at w u v None takes goes =
+      (sym (results_are w) ∙ takes.answer.0, subst (λ (x : Walk (Partitions A) (Span Handle)). IsEnded (two_level_left (two_level_of x))) (sym goes) (over_is u takes.answer.1))
+  answer_is at w u v (Some (Ok h)) takes goes =
+      ap (taken_at at) (sym (results_are w))
+      ∙ takes.answer
+      ∙ ap (λ (rs : List R). (Some (Ok h), rs)) (results_are u ∙ ap (λ (x : Walk (Partitions A) (Span Handle)). (two_level_left (two_level_of x)).results) (sym goes))
+  answer_is at w u v (Some (Err e)) takes goes = (
+    λ fine. ap (λ (rs : List R). (taken_at at rs).0) (sym (results_are w)) ∙ takes.answer.0 fine,
+    λ over. takes.answer.1 (over_from w over),
+  )
+
+  near_loads : (at : Direction) (w : Walk (Partitions A) (Span Handle)) → (remains_in span_remains (near at w)).loads ≡ 0
+  near_loads Front w = no_part_loads w.front
+  near_loads Back w = no_part_loads w.back
+
+  pub two_levels : (at : Direction) (w v : Walk (Partitions A) (Span Handle)) (r : Option R) → WalkGives span_remains coming_partitions KeepsPartitions EndsPartitions at w r v → TwoLevelGives (taken_at at) (needs_at at) (fault_at at) (two_level_of w) r (two_level_of v)
+  two_levels at w v r gives =
+      let takes = gives.takes in
+      let u : Walk (Partitions A) (Span Handle) = gives.taken in
+      let m = moved takes.named w.parts u.parts takes.loads in
+      let same = stays r u v gives.goes in
+      let needs_same = needs_is at w in
       record {
-        top = top;
-        at = at;
-        told = λ fine. told fine ∙ ap (part_at s) is_at;
-        first = λ f there. refusal e f (block_early s.body place) early (ap (block_early s.body) is_at ∙ there);
-        counts = ap (λ (x : TwoLevel). x.opened) is;
-        fewer = omega (arith, shorter, same);
-        body = ap (λ (x : TwoLevel). x.body) is;
-        whole = ap (λ (x : TwoLevel). x.whole) is ∙ kept;
+        gives = record {
+          answer = answer_is at w u v r takes gives.goes;
+          ends = ends_is r u v gives.goes;
+          index = same.index ∙ same_index _ _ _ _ m.body m.list;
+          loads = record {
+            count = loads_in takes.named;
+            counts = same.opened ∙ m.counts;
+            within = omega (arith, fewer takes.named w.parts u.parts takes.loads, same.fewer);
+          };
+        };
+        most = omega (arith, takes.most, needs_same);
+        some = λ some.
+            let more : 0 < needed_at span_remains coming_partitions at w = omega (arith, some, needs_same) in
+            some_loads takes.named w.parts u.parts takes.loads (takes.some (near_loads at w) more) (some_tops at w.parts (remains_in span_remains (near at w)).results (rest_in w.parts.tops) more);
+        exact = λ fine. takes.exact fine ∙ needs_same;
+        first = λ f early all. takes.first f (fault_is at w ∙ early) (all ∙ sym needs_same);
       }
 
-  pub fails_front : (place : Place) (e : Error) → Some place ≡ option_map place_of (first s.tops) → rest ≡ but_first s.tops → (is_memory e ≡ false → Err e ∷ [] ≡ part_at s place) → FaultsFirst {X = List Handle} (Err e) (block_early s.body place) → Fails front_of s e u
-  fails_front place e at others told early =
-      let x = named (first s.tops) place at in
-      let shorter : length s.tops ≡ suc (length rest) = ap length (first_split s.tops x.0 x.1) ∙ ap (λ (hs : List Handle). suc (length hs)) (sym others) in
-      fails_at front_of place x.0 e shorter x.1 x.2 told early
+  -- what was left was let go
+  pub walk_over : (w v : Walk (Partitions A) (Span Handle)) → Ended coming_partitions EndsPartitions w v → two_level_of v ≡ record (two_level_of w) { tops = []; front = []; back = [] }
+  walk_over w v ended =
+      rw (ended.front, ended.back, ended.kept.body, ended.kept.tops, ended.kept.list, ended.kept.edges, ended.kept.opened)
 
-  pub fails_back : (place : Place) (e : Error) → Some place ≡ option_map place_of (last s.tops) → rest ≡ but_last s.tops → (is_memory e ≡ false → Err e ∷ [] ≡ part_at s place) → FaultsFirst {X = List Handle} (Err e) (block_early s.body place) → Fails back_of s e u
-  fails_back place e at others told early =
-      let x = named (last s.tops) place at in
-      let shorter : length s.tops ≡ suc (length rest) = omega (arith, ap length (last_split s.tops x.0 x.1), length-append (but_last s.tops) (x.0 ∷ []), ap length others) in
-      fails_at back_of place x.0 e shorter x.1 x.2 told early
-
--- ---- and its end
-
-index_is : (s t : TwoLevel) → t.body ≡ s.body → t.whole ≡ s.whole → (two_level_left t).index ≡ (two_level_left s).index
-index_is s t body whole = ap (λ (xs : List ℕ). two_level xs t.whole) body ∙ ap (two_level s.body) whole
-
-pub goes_on : (of : End) (needed : TwoLevel → ℕ) (early : TwoLevel → Option Error) (s t : TwoLevel) (r : Option R) → MatchOption r (Unit {0}) (λ x. MatchResult x (λ _. Unit {0}) (λ _. ⊥)) → TwoLevelSteps of needed early s r t → TwoLevelGives of needed early s r t
-goes_on of needed early s t None fine step =
-    record { gives = record { answer = step.answer; ends = tt; index = index_is s t step.body step.whole; loads = step.loads }; most = step.most; some = step.some; exact = step.exact; first = step.first }
-goes_on of needed early s t (Some (Ok x)) fine step =
-    record { gives = record { answer = step.answer; ends = tt; index = index_is s t step.body step.whole; loads = step.loads }; most = step.most; some = step.some; exact = step.exact; first = step.first }
-goes_on of needed early s t (Some (Err e)) fine step = absurd fine
-
-pub ends_at : (of : End) (needed : TwoLevel → ℕ) (early : TwoLevel → Option Error) (s t : TwoLevel) (e : Error) → TwoLevelSteps of needed early s (Some (Err e)) t → TwoLevelGives of needed early s (Some (Err e)) (record t { tops = []; front = []; back = [] })
-ends_at of needed early s t e step = record {
-  gives = record {
-    answer = step.answer;
-    ends = record { results = refl; loads = refl };
-    index = index_is s t step.body step.whole;
-    loads = record { count = step.loads.count; counts = step.loads.counts; within = omega (arith, step.loads.within) };
-  };
-  most = step.most;
-  some = step.some;
-  exact = step.exact;
-  first = step.first;
-}
+  -- before an edge is sought
+  pub none_dealt : (w : Walk (Partitions A) (Span Handle)) (p : Partitions A) (body : List ℕ) (whole : List Handle) → w ≡ record { parts = p; front = None; back = None } → body_of p.source ≡ body → p.tops ≡ whole_span whole → p.edges ≡ (None, None) → p.opened ≡ none_opened → two_level_of w ≡ new_two_level body whole
+  none_dealt w p body whole new same is none counted =
+      let all : rest_in p.tops ≡ whole = all_of p.tops whole is in
+      ap two_level_of new ∙ rw (same, all, is, none, counted)

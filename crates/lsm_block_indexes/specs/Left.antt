@@ -5,6 +5,7 @@ use Rattle.std.specs.Option.{option_or}
 use Rattle.sst_blocks.specs.declared.block_type.BlockType.TheVariants.{Index as IndexBlock}
 use Rattle.sst_entries.specs.declared.error.Error.{Error}
 use Rattle.sst_entries.specs.declared.stream.Direction.{Direction}
+use Rattle.sst_entries.specs.declared.stream.Direction.TheVariants.{Front, Back}
 use Rattle.sst_blocks.specs.declared.opened.Opened.{Opened}
 use Rattle.sst_entries.specs.Error.{is_memory}
 use Rattle.sst_entries.specs.Span.{Span, rest_in}
@@ -13,6 +14,7 @@ use Rattle.sst_blocks.specs.Handle.{Handle}
 use Rattle.sst_blocks.specs.Handles.{window}
 use Rattle.sst_blocks.specs.Opened.{with_load, none_opened}
 use Rattle.sst_blocks.specs.Place.{Place, place_of}
+pub use Rattle.lsm_walks.specs.Parts.{early_behind, none_behind}
 use Rattle.lsm_block_indexes.specs.Index.{Index, full, on_demand, two_level, block_between, block_early, parts_between}
 
 -- the results still to be dealt, how many blocks may still be loaded for them, the index that they are of, and what was loaded
@@ -194,10 +196,6 @@ pub record IsTwoLevelSought (s : TwoLevel) (low : Option (List ℕ × ℕ)) (hig
   pub back : s.back ≡ []
 
 -- how many of these partitions, the next one first, an end loads for its answer: those up to the first that has an item
-abbrev pub none_behind : {X : Type 0} → List X → ℕ → ℕ
-none_behind [] n = n
-none_behind (x ∷ xs) n = 0
-
 abbrev pub needs : List (List (Result Handle Error)) → ℕ
 needs [] = 0
 needs (p ∷ ps) = suc (none_behind p (needs ps))
@@ -218,10 +216,6 @@ abbrev pub back_needs : TwoLevel → ℕ
 back_needs s = none_behind s.back (needs (reverse (map (part_of s) s.tops)))
 
 -- of these partitions, the next one first, up to the first that has an item: the fault that is found before memory is taken
-abbrev pub early_behind : {X : Type 0} → List X → Option Error → Option Error
-early_behind [] early = early
-early_behind (x ∷ xs) early = None
-
 abbrev pub tops_early : List ℕ → (Handle → List (Result Handle Error)) → List Handle → Option Error
 tops_early body part [] = None
 tops_early body part (top ∷ tops) =
@@ -234,6 +228,14 @@ front_early s = early_behind s.front (tops_early s.body (part_of s) s.tops)
 abbrev pub back_early : TwoLevel → Option Error
 back_early s = early_behind s.back (tops_early s.body (part_of s) (reverse s.tops))
 
+abbrev pub needs_at : Direction → TwoLevel → ℕ
+needs_at Front s = front_needs s
+needs_at Back s = back_needs s
+
+abbrev pub fault_at : Direction → TwoLevel → Option Error
+fault_at Front s = front_early s
+fault_at Back s = back_early s
+
 -- one call of it: it loads the partitions that it needs, and no more where it wants memory, which it does not before it loads
 -- one; and where it loads them all, a fault that needs no memory to be found comes before any want of it
 pub record TwoLevelGives (end : List (Result Handle Error) → Option (Result Handle Error) × List (Result Handle Error)) (needed : TwoLevel → ℕ) (early : TwoLevel → Option Error) (s : TwoLevel) (r : Option (Result Handle Error)) (t : TwoLevel) : Type 0 where
@@ -242,40 +244,3 @@ pub record TwoLevelGives (end : List (Result Handle Error) → Option (Result Ha
   pub some : 0 < needed s → 0 < gives.loads.count
   pub exact : answer_stops is_memory r ≡ false → gives.loads.count ≡ needed s
   pub first : (f : Error) → early s ≡ Some f → gives.loads.count ≡ needed s → r ≡ Some (Err f)
-
--- the same before an error ends it
-pub record TwoLevelSteps (end : List (Result Handle Error) → Option (Result Handle Error) × List (Result Handle Error)) (needed : TwoLevel → ℕ) (early : TwoLevel → Option Error) (s : TwoLevel) (r : Option (Result Handle Error)) (t : TwoLevel) : Type 0 where
-  pub answer : AtEnd end (two_level_left s) r (two_level_left t)
-  pub loads : CountsLoads (two_level_left s) (two_level_left t)
-  pub body : t.body ≡ s.body
-  pub whole : t.whole ≡ s.whole
-  pub most : loads.count ≤ needed s
-  pub some : 0 < needed s → 0 < loads.count
-  pub exact : answer_stops is_memory r ≡ false → loads.count ≡ needed s
-  pub first : (f : Error) → early s ≡ Some f → loads.count ≡ needed s → r ≡ Some (Err f)
-
--- the next partition at the front was loaded; and at the back
-pub record EntersFront (s t : TwoLevel) : Type 0 where
-  pub top : Handle
-  pub tops : s.tops ≡ top ∷ t.tops
-  pub told : ok_results t.front ≡ part_of s top
-  pub fine : block_early s.body (place_of top) ≡ None
-  pub is : t ≡ record s { tops = t.tops; front = t.front; opened = loaded 1 s.opened }
-
-pub record EntersBack (s t : TwoLevel) : Type 0 where
-  pub top : Handle
-  pub tops : s.tops ≡ t.tops ++ top ∷ []
-  pub told : ok_results t.back ≡ part_of s top
-  pub fine : block_early s.body (place_of top) ≡ None
-  pub is : t ≡ record s { tops = t.tops; back = t.back; opened = loaded 1 s.opened }
-
--- the next partition at an end could not be loaded
-pub record Fails (end : List Handle → Option Handle × List Handle) (s : TwoLevel) (e : Error) (t : TwoLevel) : Type 0 where
-  pub top : Handle
-  pub at : (end s.tops).0 ≡ Some top
-  pub told : is_memory e ≡ false → Err e ∷ [] ≡ part_of s top
-  pub first : (f : Error) → block_early s.body (place_of top) ≡ Some f → e ≡ f
-  pub counts : t.opened ≡ loaded 1 s.opened
-  pub fewer : length s.tops ≡ 1 + length t.tops
-  pub body : t.body ≡ s.body
-  pub whole : t.whole ≡ s.whole

@@ -4,4 +4,5 @@ pub mod Seen
 pub mod Dealt
 pub mod Answers
 pub mod Kinds
+pub mod Partitions
 pub mod Words

@@ -11,6 +11,6 @@ pub use Rattle.lsm_block_indexes.specs.Index.{Index, block_between, block_early,
 pub use Rattle.lsm_block_indexes.specs.Left.{IsBetween, IsDemandSought, IsEnded, IsSpanSought, IsTwoLevelSought, Left, LeftGives, StaysEnded}
 pub use Rattle.lsm_block_indexes.specs.Left.{OnDemand, OnDemandGives, demanded, demands, left_size, loaded, new_on_demand, new_two_level}
 pub use Rattle.lsm_block_indexes.specs.Left.{on_demand_left, span_left, two_level_left}
-pub use Rattle.lsm_block_indexes.specs.Left.{EntersBack, EntersFront, Fails, TwoLevel, TwoLevelGives, back_early, back_needs, front_early, front_needs, part_at}
-pub use Rattle.lsm_block_indexes.specs.Left.{TwoLevelSteps}
+pub use Rattle.lsm_block_indexes.specs.Left.{TwoLevel, TwoLevelGives, back_early, back_needs, fault_at, front_early, front_needs, needs_at}
 pub use Rattle.lsm_block_indexes.specs.Seen.{PartGives, PlaceGives, rest_of}
+pub use Rattle.lsm_walks.specs.Ends.{span_remains, taken_at}

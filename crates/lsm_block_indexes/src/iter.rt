@@ -5,8 +5,10 @@ ghost use Rattle.lsm_block_indexes.specs.Words.{DealsLeft, KeepsLowerEdge, Keeps
 ghost use Rattle.lsm_block_indexes.specs.Words.{PlaceGives, SpanGives};
 ghost use Rattle.lsm_block_indexes.specs.Words.{above_place, back_of, front_of, reaching_place};
 ghost use Rattle.lsm_block_indexes.specs.Words.{rest_in};
-ghost use Rattle.lsm_block_indexes.specs.Words.{span_from, span_to, whole_span, window};
+ghost use Rattle.lsm_block_indexes.specs.Words.{span_from, span_remains, span_to, taken_at};
+ghost use Rattle.lsm_block_indexes.specs.Words.{whole_span, window};
 
+use lsm_walks::{Direction, Ends};
 use sst_blocks::{BlockHandle, Error, IndexBlock, KeyedBlockHandle, SeqNo};
 use std::alloc::{Allocator, Global};
 use std::marker::Model;
@@ -102,6 +104,16 @@ impl<A: Allocator> OwnedIndexBlockIter<A> {
         Some(place)
     }
 
+    /// The same of the handle at an end.
+    pub(crate) fn take_place(&mut self, at: Direction) -> Option<BlockHandle>
+        ensures { PlaceGives (taken_at at) self.old result self.new }
+    {
+        match at {
+            Direction::Front => self.next_place(),
+            Direction::Back => self.next_place_back(),
+        }
+    }
+
     /// Lets go what is left.
     pub(crate) fn end(&mut self)
         ensures rest { rest_in self.new ≡ [] }
@@ -157,6 +169,20 @@ impl<A: Allocator> DoubleEndedIterator for OwnedIndexBlockIter<A> {
                 self.to = self.from;
                 Some(Err(refusal))
             }
+        }
+    }
+}
+
+impl<A: Allocator> Ends for OwnedIndexBlockIter<A> {
+    type Item = KeyedBlockHandle<A>;
+
+    ghost left = { span_remains };
+
+    #[inline(always)]
+    fn step(&mut self, at: Direction) -> Option<Result<KeyedBlockHandle<A>, Error>> {
+        match at {
+            Direction::Front => self.next(),
+            Direction::Back => self.next_back(),
         }
     }
 }

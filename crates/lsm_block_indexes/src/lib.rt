@@ -6,6 +6,7 @@ mod full;
 mod iter;
 mod kinds;
 mod part;
+mod partitions;
 mod two_level;
 mod volatile;
 

@@ -75,6 +75,26 @@ impl<A: Allocator> Part<A> {
 
 /// What the index block at a place holds between the edges. Refused as [`BlockSource::load`]; each
 /// call counts, also where it refuses.
+pub fn load_handles<A: Allocator + Clone>(
+    source: &BlockSource<A>,
+    handle: &BlockHandle,
+    edges: &Edges<A>,
+    opened: &mut Opened,
+) -> Result<OwnedIndexBlockIter<A>, Error>
+    ensures ok { let told = block_between (body_of source.now) edges.now.0 edges.now.1 in
+        IfOk result (λ hs. ok_results (rest_in hs) ≡ told handle.now) }
+    ensures err { let told = block_between (body_of source.now) edges.now.0 edges.now.1 in
+        IfErr result (λ e. is_memory e ≡ false → Err e ∷ [] ≡ told handle.now) }
+    // What is found before memory is taken comes before any want of it.
+    ensures first { FaultsFirst result (block_early (body_of source.now) handle.now) }
+    ensures counted { opened.new ≡ loaded 1 opened.old }
+{
+    let block = source.load(handle, BlockType::Index, opened)?;
+    Ok(edges.within(IndexBlock::new(block)))
+}
+
+/// What of the index block at a place lies between the edges, as what is left of a partition.
+/// Refused as [`BlockSource::load`]; each call counts, also where it refuses.
 pub fn load_part<A: Allocator + Clone>(
     source: &BlockSource<A>,
     handle: &BlockHandle,
@@ -85,10 +105,11 @@ pub fn load_part<A: Allocator + Clone>(
         IfOk result (λ hs. ok_results hs ≡ told handle.now) }
     ensures err { let told = block_between (body_of source.now) edges.now.0 edges.now.1 in
         IfErr result (λ e. is_memory e ≡ false → Err e ∷ [] ≡ told handle.now) }
-    // What is found before memory is taken comes before any want of it.
     ensures first { FaultsFirst result (block_early (body_of source.now) handle.now) }
     ensures counted { opened.new ≡ loaded 1 opened.old }
 {
-    let block = source.load(handle, BlockType::Index, opened)?;
-    Ok(Part::of(edges.within(IndexBlock::new(block))))
+    match load_handles(source, handle, edges, opened) {
+        Ok(iter) => Ok(Part::of(iter)),
+        Err(error) => Err(error),
+    }
 }

@@ -1,27 +1,24 @@
 //! The index of two levels: a top level that stays loaded, and partitions that each iterator loads
 //! one after another.
-ghost use Rattle.std.specs.Prelude.{◌≡◌, ◌∷◌, [], Some, None, true, false, Ok, Err, IfOk, IfErr};
+ghost use Rattle.std.specs.Prelude.{◌≡◌, [], Some, None, IfOk, IfErr};
 ghost use Rattle.std.specs.Iterator.{at_most};
-ghost use Rattle.sst_entries.specs.Error.{FaultsFirst, is_memory};
-ghost use Rattle.sst_entries.specs.Stream.{ok_results};
 ghost use Rattle.sst_entries.specs.declared.error.Error.TheVariants.{OutOfMemory};
 ghost use Rattle.lsm_block_indexes.specs.Words.{AnswersTrue, DealsEnding, IsBetween};
-ghost use Rattle.lsm_block_indexes.specs.Words.{IsTwoLevelSought};
-ghost use Rattle.lsm_block_indexes.specs.Words.{EntersBack, EntersFront, Fails, TwoLevelGives};
-ghost use Rattle.lsm_block_indexes.specs.Words.{TwoLevelSteps};
-ghost use Rattle.lsm_block_indexes.specs.Words.{back_early, back_needs, back_of, block_early};
-ghost use Rattle.lsm_block_indexes.specs.Words.{body_of, front_early, front_needs, front_of};
-ghost use Rattle.lsm_block_indexes.specs.Words.{left_size, loaded, new_two_level, none_opened};
-ghost use Rattle.lsm_block_indexes.specs.Words.{part_at, two_level, two_level_left};
+ghost use Rattle.lsm_block_indexes.specs.Words.{IsTwoLevelSought, TwoLevelGives, back_early};
+ghost use Rattle.lsm_block_indexes.specs.Words.{back_needs, back_of, body_of, fault_at};
+ghost use Rattle.lsm_block_indexes.specs.Words.{front_early};
+ghost use Rattle.lsm_block_indexes.specs.Words.{front_needs, front_of, left_size, needs_at};
+ghost use Rattle.lsm_block_indexes.specs.Words.{new_two_level, none_opened, taken_at, two_level};
+ghost use Rattle.lsm_block_indexes.specs.Words.{two_level_left};
 
 use crate::edges::Edges;
 use crate::iter::OwnedIndexBlockIter;
 use crate::kinds::BlockIndexIter;
-use crate::part::{Part, load_part};
-use sst_blocks::{BlockHandle, BlockSource, Error, IndexBlock, KeyedBlockHandle, Opened, SeqNo};
+use crate::partitions::Partitions;
+use lsm_walks::{Direction, Ends, Walk};
+use sst_blocks::{BlockSource, Error, IndexBlock, KeyedBlockHandle, Opened, SeqNo};
 use std::alloc::{Allocator, Global};
 use std::marker::Model;
-use std::mem;
 
 /// An index of two levels: the handles of the top level name partitions, which hold the handles of
 /// the data blocks. The top level stays loaded. A contract sees the bytes before the trailer and
@@ -93,13 +90,14 @@ impl<A: Allocator + Clone> TwoLevelBlockIndex<A> {
         let alloc = self.alloc.clone()?;
         let tops = self.top_level_index.clone()?;
         let source = self.source.clone()?;
-        Ok(Iter {
+        let parts = Partitions {
             source,
             tops: OwnedIndexBlockIter::new(tops),
             edges: Edges::new(alloc),
-            front: Part::none(),
-            back: Part::none(),
             opened: Opened::none(),
+        };
+        Ok(Iter {
+            walk: Walk::new(parts),
         })
     }
 }
@@ -111,113 +109,32 @@ impl<A: Allocator + Clone> TwoLevelBlockIndex<A> {
 /// [`Error::OutOfMemory`] among them, nothing more comes, from either end.
 #[derive(Drop)]
 pub struct Iter<A: Allocator = Global> {
-    source: BlockSource<A>,
-    // the partitions that are not loaded
-    tops: OwnedIndexBlockIter<A>,
-    edges: Edges<A>,
-    front: Part<A>,
-    back: Part<A>,
-    opened: Opened,
+    walk: Walk<Partitions<A>, OwnedIndexBlockIter<A>>,
 }
 
 impl<A: Allocator> Model for Iter<A> {
-    ghost use Rattle.sst_entries.specs.Span.{rest_in};
-    ghost use Rattle.sst_sections.specs.Sections.{body_of};
     ghost use Rattle.lsm_block_indexes.specs.Left.{TwoLevel};
+    ghost use Rattle.lsm_block_indexes.specs.Partitions.{two_level_of};
 
     ghost Value = { TwoLevel };
 
-    ghost view = { λ i. record {
-      body = body_of i.source;
-      whole = i.tops.list;
-      tops = rest_in i.tops;
-      lower = i.edges.0;
-      upper = i.edges.1;
-      front = i.front;
-      back = i.back;
-      opened = i.opened;
-    } };
+    ghost view = { λ i. two_level_of i.walk };
 }
 
 impl<A: Allocator + Clone> Iter<A> {
-    /// What the partition at a place holds between the edges.
-    fn load(&mut self, top: &BlockHandle) -> Result<Part<A>, Error>
-        ensures ok { IfOk result (λ hs. ok_results hs ≡ part_at self.old top.now) }
-        ensures err { IfErr result (λ e. is_memory e ≡ false →
-            Err e ∷ [] ≡ part_at self.old top.now) }
-        ensures first { FaultsFirst result (block_early self.old.body top.now) }
-        ensures counted { self.new ≡ record self.old { opened = loaded 1 self.old.opened } }
+    /// The answer at an end.
+    #[inline(always)]
+    fn answer(&mut self, at: Direction) -> Option<Result<KeyedBlockHandle<A>, Error>>
+        ensures { TwoLevelGives (taken_at at) (needs_at at) (fault_at at) self.old result self.new }
     {
-        load_part(&self.source, top, &self.edges, &mut self.opened)
-    }
-
-    /// Loads the next partition at the front, where one is left. Answers whether there was one.
-    fn load_front(&mut self) -> Result<bool, Error>
-        ensures some { result ≡ Ok true → EntersFront self.old self.new }
-        ensures none { result ≡ Ok false → (self.old.tops ≡ []) × (self.new ≡ self.old) }
-        ensures fails { IfErr result (λ e. Fails front_of self.old e self.new) }
-    {
-        let Some(top) = self.tops.next_place() else {
-            return Ok(false);
-        };
-        let part = self.load(&top)?;
-        drop(mem::replace(&mut self.front, part));
-        Ok(true)
-    }
-
-    /// Loads the next partition at the back, where one is left. Answers whether there was one.
-    fn load_back(&mut self) -> Result<bool, Error>
-        ensures some { result ≡ Ok true → EntersBack self.old self.new }
-        ensures none { result ≡ Ok false → (self.old.tops ≡ []) × (self.new ≡ self.old) }
-        ensures fails { IfErr result (λ e. Fails back_of self.old e self.new) }
-    {
-        let Some(top) = self.tops.next_place_back() else {
-            return Ok(false);
-        };
-        let part = self.load(&top)?;
-        drop(mem::replace(&mut self.back, part));
-        Ok(true)
+        self.walk.step(at)
     }
 
     /// Lets go what is left.
     fn end(&mut self)
         ensures { self.new ≡ record self.old { tops = []; front = []; back = [] } }
     {
-        self.tops.end();
-        self.front.end();
-        self.back.end();
-    }
-
-    /// The answer at the front; an error does not end the iterator yet.
-    fn step_front(&mut self) -> Option<Result<KeyedBlockHandle<A>, Error>>
-        ensures { TwoLevelSteps front_of front_needs front_early self.old result self.new }
-    {
-        loop {
-            if let Some(item) = self.front.next() {
-                return Some(item);
-            }
-            match self.load_front() {
-                Ok(true) => {}
-                Ok(false) => return self.back.next(),
-                Err(error) => return Some(Err(error)),
-            }
-        }
-    }
-
-    /// The answer at the back; an error does not end the iterator yet.
-    fn step_back(&mut self) -> Option<Result<KeyedBlockHandle<A>, Error>>
-        ensures { TwoLevelSteps back_of back_needs back_early self.old result self.new }
-    {
-        loop {
-            if let Some(item) = self.back.next_back() {
-                return Some(item);
-            }
-            match self.load_back() {
-                Ok(true) => {}
-                Ok(false) => return self.front.next_back(),
-                Err(error) => return Some(Err(error)),
-            }
-        }
+        self.walk.end();
     }
 }
 
@@ -231,14 +148,7 @@ impl<A: Allocator + Clone> Iterator for Iter<A> {
     ghost remaining = { λ s. at_most (left_size (two_level_left s)) };
 
     fn next(&mut self) -> Option<Self::Item> {
-        match self.step_front() {
-            Some(Ok(handle)) => Some(Ok(handle)),
-            Some(Err(error)) => {
-                self.end();
-                Some(Err(error))
-            }
-            None => None,
-        }
+        self.answer(Direction::Front)
     }
 }
 
@@ -248,14 +158,7 @@ impl<A: Allocator + Clone> DoubleEndedIterator for Iter<A> {
     ghost next_back_gives = { TwoLevelGives back_of back_needs back_early };
 
     fn next_back(&mut self) -> Option<Self::Item> {
-        match self.step_back() {
-            Some(Ok(handle)) => Some(Ok(handle)),
-            Some(Err(error)) => {
-                self.end();
-                Some(Err(error))
-            }
-            None => None,
-        }
+        self.answer(Direction::Back)
     }
 }
 
@@ -269,9 +172,9 @@ impl<A: Allocator + Clone> BlockIndexIter<A> for Iter<A> {
     ghost takes_memory = { λ _. Unit {0} };
 
     fn seek_lower(&mut self, key: &[u8], seqno: SeqNo) -> Result<bool, Error> {
-        match self.edges.set_lower(key, seqno) {
+        match self.walk.parts.edges.set_lower(key, seqno) {
             Ok(()) => {
-                self.tops.seek_lower(key, seqno);
+                self.walk.parts.tops.seek_lower(key, seqno);
                 Ok(true)
             }
             Err(refusal) => {
@@ -282,9 +185,9 @@ impl<A: Allocator + Clone> BlockIndexIter<A> for Iter<A> {
     }
 
     fn seek_upper(&mut self, key: &[u8], seqno: SeqNo) -> Result<bool, Error> {
-        match self.edges.set_upper(key) {
+        match self.walk.parts.edges.set_upper(key) {
             Ok(()) => {
-                self.tops.seek_upper(key, seqno);
+                self.walk.parts.tops.seek_upper(key, seqno);
                 Ok(true)
             }
             Err(refusal) => {
@@ -295,6 +198,6 @@ impl<A: Allocator + Clone> BlockIndexIter<A> for Iter<A> {
     }
 
     fn opened(&self) -> Opened {
-        self.opened
+        self.walk.parts.opened
     }
 }

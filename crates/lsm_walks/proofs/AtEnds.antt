@@ -92,6 +92,18 @@ module _ {X : Type 0} where
   none_at Back xs x none e =
       let wrong : None ≡ Some x = sym (ap last none) ∙ e in absurd cc
 
+  none_first : (xs : List X) → first xs ≡ None → xs ≡ []
+  none_first [] e = refl
+  none_first (x ∷ xs) e = absurd cc
+
+  pub none_taken : (at : Direction) (xs : List X) → (taken_at at xs).0 ≡ None → xs ≡ []
+  none_taken Front xs e = none_first xs e
+  none_taken Back xs e = sym (reverse-reverse xs) ∙ ap reverse (none_first (reverse xs) e)
+
+  pub nothing_behind : (at : Direction) → (taken_at {X = X} at []).1 ≡ []
+  nothing_behind Front = refl
+  nothing_behind Back = refl
+
   -- as the end sees them
   pub seen_split : (at : Direction) (xs ys : List X) (x : X) → taken_at at xs ≡ (Some x, ys) → seen_from at xs ≡ x ∷ seen_from at ys
   seen_split Front xs ys x e = split Front xs ys x e

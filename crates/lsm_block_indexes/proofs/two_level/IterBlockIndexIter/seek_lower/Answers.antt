@@ -5,6 +5,7 @@ use Rattle.sst_entries.specs.Span.{Span, rest_in}
 use Rattle.sst_blocks.specs.Handle.{Handle}
 use Rattle.sst_blocks.specs.Handles.{window}
 use Rattle.lsm_block_indexes.specs.Left.{IsEnded, TwoLevel, two_level_left}
+use Rattle.lsm_block_indexes.specs.Seen.{rest_of}
 use Rattle.lsm_block_indexes.proofs.Laws.{levels_between, levels_deals, levels_stays}
 use Rattle.lsm_block_indexes.proofs.Sought.{levels_lower, levels_over}
 use Rattle.lsm_block_indexes.proofs.two_level.IterBlockIndexIter.seek_lower.Goals as goal
@@ -14,17 +15,17 @@ returns-in-Err-clause-deals g c = levels_deals _
 
 pub returns-in-Ok-clause-sought : goal.returns-in-Ok-clause-sought
 returns-in-Ok-clause-sought g c upper was =
-    let s : TwoLevel = record { body = body_of c.self.inside.source; whole = c.self.inside.tops.list; tops = rest_in c.self.inside.tops; lower = c.self.inside.edges.0; upper = c.self.inside.edges.1; front = c.self.inside.front; back = c.self.inside.back; opened = c.self.inside.opened } in
+    let s : TwoLevel = record { body = body_of c.self.inside.walk.parts.source; whole = c.self.inside.walk.parts.tops.list; tops = rest_in c.self.inside.walk.parts.tops; lower = c.self.inside.walk.parts.edges.0; upper = c.self.inside.walk.parts.edges.1; front = rest_of c.self.inside.walk.front; back = rest_of c.self.inside.walk.back; opened = c.self.inside.walk.parts.opened } in
     let before = rw (← c.self.view_is) at was in
     levels_lower s c.seek_lower.new.self c.set_lower.new.self (c.args.key.now, c.args.seqno) upper c.in-Ok.ensures.ok
-    (ap (λ (x : Span Handle). x.list) c.seek_lower.ensures.narrowed) (c.seek_lower.ensures.both upper c.self.inside.tops.list before.tops) before
+    (ap (λ (x : Span Handle). x.list) c.seek_lower.ensures.narrowed) (c.seek_lower.ensures.both upper c.self.inside.walk.parts.tops.list before.tops) before
 
 pub returns-in-Ok-clause-between : goal.returns-in-Ok-clause-between
 returns-in-Ok-clause-between g c upper was = levels_between _ (Some (c.args.key.now, c.args.seqno)) upper (returns-in-Ok-clause-sought g c upper was)
 
 pub returns-in-Ok-clause-over : goal.returns-in-Ok-clause-over
 returns-in-Ok-clause-over g c over =
-    let s : TwoLevel = record { body = body_of c.self.inside.source; whole = c.self.inside.tops.list; tops = rest_in c.self.inside.tops; lower = c.self.inside.edges.0; upper = c.self.inside.edges.1; front = c.self.inside.front; back = c.self.inside.back; opened = c.self.inside.opened } in
+    let s : TwoLevel = record { body = body_of c.self.inside.walk.parts.source; whole = c.self.inside.walk.parts.tops.list; tops = rest_in c.self.inside.walk.parts.tops; lower = c.self.inside.walk.parts.edges.0; upper = c.self.inside.walk.parts.edges.1; front = rest_of c.self.inside.walk.front; back = rest_of c.self.inside.walk.back; opened = c.self.inside.walk.parts.opened } in
     levels_over s c.seek_lower.new.self c.set_lower.new.self
     (λ none. c.seek_lower.ensures.kept ∙ ap (λ (hs : List Handle). window hs (Some (c.args.key.now, c.args.seqno)) None) none)
     (subst (λ (x : TwoLevel). IsEnded (two_level_left x)) (sym c.self.view_is) over)

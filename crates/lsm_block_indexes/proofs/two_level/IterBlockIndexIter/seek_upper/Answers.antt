@@ -4,6 +4,7 @@ use Rattle.sst_sections.specs.Sections.{body_of}
 use Rattle.sst_entries.specs.Span.{Span, rest_in}
 use Rattle.sst_blocks.specs.Handle.{Handle}
 use Rattle.lsm_block_indexes.specs.Left.{IsEnded, TwoLevel, two_level_left}
+use Rattle.lsm_block_indexes.specs.Seen.{rest_of}
 use Rattle.lsm_block_indexes.proofs.Laws.{levels_between, levels_deals, levels_stays}
 use Rattle.lsm_block_indexes.proofs.Sought.{levels_over, levels_upper, none_nearer}
 use Rattle.lsm_block_indexes.proofs.two_level.IterBlockIndexIter.seek_upper.Goals as goal
@@ -13,7 +14,7 @@ returns-in-Err-clause-deals g c = levels_deals _
 
 pub returns-in-Ok-clause-sought : goal.returns-in-Ok-clause-sought
 returns-in-Ok-clause-sought g c lower was =
-    let s : TwoLevel = record { body = body_of c.self.inside.source; whole = c.self.inside.tops.list; tops = rest_in c.self.inside.tops; lower = c.self.inside.edges.0; upper = c.self.inside.edges.1; front = c.self.inside.front; back = c.self.inside.back; opened = c.self.inside.opened } in
+    let s : TwoLevel = record { body = body_of c.self.inside.walk.parts.source; whole = c.self.inside.walk.parts.tops.list; tops = rest_in c.self.inside.walk.parts.tops; lower = c.self.inside.walk.parts.edges.0; upper = c.self.inside.walk.parts.edges.1; front = rest_of c.self.inside.walk.front; back = rest_of c.self.inside.walk.back; opened = c.self.inside.walk.parts.opened } in
     let before = rw (← c.self.view_is) at was in
     levels_upper s c.seek_upper.new.self c.set_upper.new.self c.args.key.now lower c.in-Ok.ensures.ok
     (ap (λ (x : Span Handle). x.list) c.seek_upper.ensures.narrowed) (c.seek_upper.ensures.both lower before.tops) before
@@ -23,9 +24,9 @@ returns-in-Ok-clause-between g c lower was = levels_between _ lower (Some c.args
 
 pub returns-in-Ok-clause-over : goal.returns-in-Ok-clause-over
 returns-in-Ok-clause-over g c over =
-    let s : TwoLevel = record { body = body_of c.self.inside.source; whole = c.self.inside.tops.list; tops = rest_in c.self.inside.tops; lower = c.self.inside.edges.0; upper = c.self.inside.edges.1; front = c.self.inside.front; back = c.self.inside.back; opened = c.self.inside.opened } in
+    let s : TwoLevel = record { body = body_of c.self.inside.walk.parts.source; whole = c.self.inside.walk.parts.tops.list; tops = rest_in c.self.inside.walk.parts.tops; lower = c.self.inside.walk.parts.edges.0; upper = c.self.inside.walk.parts.edges.1; front = rest_of c.self.inside.walk.front; back = rest_of c.self.inside.walk.back; opened = c.self.inside.walk.parts.opened } in
     levels_over s c.seek_upper.new.self c.set_upper.new.self
-    (none_nearer _ c.self.inside.tops c.seek_upper.new.self c.seek_upper.ensures.narrowed)
+    (none_nearer _ c.self.inside.walk.parts.tops c.seek_upper.new.self c.seek_upper.ensures.narrowed)
     (subst (λ (x : TwoLevel). IsEnded (two_level_left x)) (sym c.self.view_is) over)
 
 pub returns-in-Ok-clause-deals : goal.returns-in-Ok-clause-deals
