@@ -8,8 +8,9 @@ ghost use Rattle.lsm_block_indexes.specs.Words.{rest_in};
 ghost use Rattle.lsm_block_indexes.specs.Words.{span_from, span_remains, span_to, taken_at};
 ghost use Rattle.lsm_block_indexes.specs.Words.{whole_span, window};
 
-use lsm_walks::{Direction, Ends};
+use lsm_walks::Ends;
 use sst_blocks::{BlockHandle, Error, IndexBlock, KeyedBlockHandle, SeqNo};
+use sst_entries::Direction;
 use std::alloc::{Allocator, Global};
 use std::marker::Model;
 

@@ -5,8 +5,9 @@ ghost use Rattle.lsm_block_indexes.specs.Partitions.{coming_partitions};
 use crate::edges::Edges;
 use crate::iter::OwnedIndexBlockIter;
 use crate::part::load_handles;
-use lsm_walks::{Direction, Parts};
+use lsm_walks::Parts;
 use sst_blocks::{BlockSource, Error, Opened};
+use sst_entries::Direction;
 use std::alloc::Allocator;
 
 /// The partitions that a top level still names, each cut to two edges when it is loaded.

@@ -15,8 +15,9 @@ use crate::edges::Edges;
 use crate::iter::OwnedIndexBlockIter;
 use crate::kinds::BlockIndexIter;
 use crate::partitions::Partitions;
-use lsm_walks::{Direction, Ends, Walk};
+use lsm_walks::{Ends, Walk};
 use sst_blocks::{BlockSource, Error, IndexBlock, KeyedBlockHandle, Opened, SeqNo};
+use sst_entries::Direction;
 use std::alloc::{Allocator, Global};
 use std::marker::Model;
 
