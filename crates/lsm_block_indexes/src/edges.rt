@@ -48,7 +48,8 @@ impl<A: Allocator + Clone> Edges<A> {
         Ok(())
     }
 
-    /// The same of the upper edge.
+    /// Keeps a copy of the upper edge. Refused [`Error::OutOfMemory`] alone; the edges are then as
+    /// they were.
     pub fn set_upper(&mut self, key: &[u8]) -> Result<(), Error>
         ensures ok { OnOk result (self.new ≡ (self.old.0, Some key.now)) }
         ensures unchanged { OnErr result (self.new ≡ self.old) }

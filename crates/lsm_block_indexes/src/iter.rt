@@ -93,7 +93,8 @@ impl<A: Allocator> OwnedIndexBlockIter<A> {
         Some(place)
     }
 
-    /// The same of the last handle.
+    /// Takes the last handle, and answers where its block lies. The end key is not shared, so no
+    /// memory is taken.
     pub(crate) fn next_place_back(&mut self) -> Option<BlockHandle>
         ensures { PlaceGives back_of self.old result self.new }
     {
@@ -105,7 +106,8 @@ impl<A: Allocator> OwnedIndexBlockIter<A> {
         Some(place)
     }
 
-    /// The same of the handle at an end.
+    /// Takes the handle at an end, and answers where its block lies, as [`Self::next_place`] and
+    /// [`Self::next_place_back`] do.
     pub(crate) fn take_place(&mut self, at: Direction) -> Option<BlockHandle>
         ensures { PlaceGives (taken_at at) self.old result self.new }
     {

@@ -64,13 +64,6 @@ impl<A: Allocator> Part<A> {
             None => None,
         }
     }
-
-    /// Lets go what is left.
-    pub fn end(&mut self)
-        ensures { self.new ≡ [] }
-    {
-        drop(self.iter.take());
-    }
 }
 
 /// What the index block at a place holds between the edges. Refused as [`BlockSource::load`]; each

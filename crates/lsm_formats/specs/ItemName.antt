@@ -34,3 +34,7 @@ name_of item.TombstoneCount = codes "tombstone_count"
 name_of item.UserDataSize = codes "user_data_size"
 name_of item.WeakTombstoneCount = codes "weak_tombstone_count"
 name_of item.WeakTombstoneReclaimable = codes "weak_tombstone_reclaimable"
+
+-- the number by which a meta block names the hash of keys that filters are asked by
+abbrev pub filter_hash_type : ℕ
+filter_hash_type = 1

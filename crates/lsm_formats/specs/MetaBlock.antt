@@ -9,10 +9,9 @@ use Rattle.sst_blocks.specs.Payload.{payload}
 use Rattle.lsm_formats.specs.Chunks.{joined}
 use Rattle.lsm_formats.specs.Facts.{ListFacts, facts}
 use Rattle.lsm_formats.specs.Index.{data_section}
-use Rattle.lsm_formats.specs.declared.item_name.TheConstants.{FILTER_HASH_TYPE}
 use Rattle.lsm_formats.specs.declared.item_name.ItemName.{ItemName}
 use Rattle.lsm_formats.specs.declared.item_name.ItemName.TheVariants as item
-use Rattle.lsm_formats.specs.ItemName.{name_of}
+use Rattle.lsm_formats.specs.ItemName.{filter_hash_type, name_of}
 use Rattle.lsm_formats.specs.declared.options.Options.{Options}
 use Rattle.lsm_formats.specs.declared.label.Label.{Label}
 
@@ -48,7 +47,7 @@ block_items label options counted data_blocks file_size =
 -- then the hash, the level, the number of items and the keys
 abbrev pub key_items : Label → ListFacts → List Entry
 key_items label f =
-    meta_entry item.FilterHashType (FILTER_HASH_TYPE ∷ [])
+    meta_entry item.FilterHashType (filter_hash_type ∷ [])
     ∷ meta_entry item.IndexKeysHaveSeqno (1 ∷ [])
     ∷ meta_entry item.InitialLevel (label.initial_level ∷ [])
     ∷ meta_entry item.ItemCount (le8 f.item_count)

@@ -52,7 +52,8 @@ impl FilterKind {
 pub struct Options {
     /// After how many entries at most a data block has a place where reading can restart.
     pub data_block_restart_interval: u8,
-    /// The same for the blocks of the index.
+    /// After how many handles at most an index block has a place where reading can restart: 1 where
+    /// the table is to be opened.
     pub index_block_restart_interval: u8,
     /// How many buckets a data block's hash index has for each entry, in thousandths; 0 for none.
     pub data_block_hash_ratio: u32,

@@ -9,6 +9,7 @@ use std::alloc::Allocator;
 
 /// An entry with the global number added. Refused [`sst_blocks::Error::SeqNoOverflow`] where the
 /// sum passes `u64`.
+#[inline(always)]
 fn lift<A: Allocator>(mut item: InternalValue<A>, global_seqno: SeqNo) -> IterItem<A>
     ensures { result ≡ lifted_told global_seqno item }
 {

@@ -87,6 +87,8 @@ impl<A: Allocator> Iterator for OwnedDataBlockIter<A> {
 
     ghost remaining = { λ s. at_most (s.to - s.from) };
 
+    // A range calls it at two places, and is slower where it is a call.
+    #[inline(always)]
     fn next(&mut self) -> Option<IterItem<A>> {
         if self.to <= self.from {
             return None;
@@ -110,6 +112,7 @@ impl<A: Allocator> DoubleEndedIterator for OwnedDataBlockIter<A> {
 
     ghost next_back_gives = { SpanGives back_of };
 
+    #[inline(always)]
     fn next_back(&mut self) -> Option<IterItem<A>> {
         if self.to <= self.from {
             return None;

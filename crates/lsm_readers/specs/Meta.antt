@@ -16,8 +16,7 @@ use Rattle.sst_entries.specs.Entry.{Entry}
 use Rattle.sst_sections.specs.Number.{num8, num16}
 use Rattle.sst_entries.specs.Point.{point}
 use Rattle.lsm_ranges.specs.KeyRange.{Interval, interval}
-use Rattle.lsm_formats.specs.ItemName.{name_of}
-use Rattle.lsm_formats.specs.declared.item_name.TheConstants.{FILTER_HASH_TYPE}
+use Rattle.lsm_formats.specs.ItemName.{filter_hash_type, name_of}
 use Rattle.lsm_formats.specs.declared.item_name.ItemName.{ItemName}
 use Rattle.lsm_formats.specs.declared.item_name.ItemName.TheVariants as item
 use Rattle.lsm_readers.specs.Read.{◌>>=◌}
@@ -90,7 +89,7 @@ version_told es = item_told es item.TableVersion >>= version_number_told
 -- the hash, the checksum and the index have to be those that are known
 unfoldable pub kinds_told : List Entry → Result (Unit {0}) Error
 kinds_told es =
-    byte_told es item.FilterHashType FILTER_HASH_TYPE UnsupportedHashType >>= λ _.
+    byte_told es item.FilterHashType filter_hash_type UnsupportedHashType >>= λ _.
     byte_told es item.ChecksumType 1 UnsupportedChecksumType >>= λ _.
     first_told es item.RestartIntervalIndex 1 UnsupportedIndexInterval
 

@@ -13,8 +13,8 @@ use crate::{Inner, Query};
 use sst_blocks::{BlockHandle, BlockType, Builder, Error, InternalValue, LoadBlocks};
 use std::alloc::{AllocError, Allocator, Global};
 
-/// How many data blocks are compared ahead of the reads that rest on them: as many as a processor's
-/// nearest cache has room for until they are read.
+/// How many data blocks are compared ahead of the reads that rest on them: as many of 4 KiB as a
+/// processor's nearest cache has room for until they are read.
 pub(crate) const AHEAD: usize = 8;
 
 /// Where a query stands in its list, and where the data block lies that a read for it rests on, if

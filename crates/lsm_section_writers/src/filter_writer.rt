@@ -41,10 +41,10 @@ pub trait FilterWriter<A: Allocator> {
     /// most keys nothing but their hashes is kept.
     ghost Holds: { Self → GivenKeys → Type 0 };
 
-    /// The same writer with another policy.
+    /// The writer after its policy was set.
     ghost with_policy: { Self → BloomConstructionPolicy → Self };
 
-    /// The same writer with another size of partitions, where it has partitions.
+    /// The writer after the size of its partitions was set, where it has partitions.
     ghost with_partition_size: { Self → ℕ → Self };
 
     /// Registers a key, which is greater than those before it. Its hash comes to the pending part,

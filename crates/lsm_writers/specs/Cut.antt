@@ -6,6 +6,7 @@ use Rattle.sst_sections.specs.declared.version.TableVersion.{TableVersion}
 use Rattle.sst_sections.specs.declared.version.TableVersion.TheVariants.{V4}
 use Rattle.sst_sections.specs.declared.section.SectionName.TheVariants.{Data}
 use Rattle.sst_blocks.specs.Block.{data_len, header_len}
+use Rattle.sst_blocks.specs.Bounds.{entry_head_len}
 use Rattle.sst_entries.specs.Entry.{Entry}
 use Rattle.sst_blocks.specs.Handle.{Handle}
 use Rattle.sst_blocks.specs.Payload.{payload}
@@ -34,7 +35,7 @@ pub record IsReadable (v : TableVersion) (c : List Entry) : Type 0 where
   pub some : 0 < length c
   pub reads : entries_in v (payload v c) ≡ Some c
   pub short : header_len + length (payload v c) < 2 ^ 32
-  pub wide : 17 * length c ≤ length (payload v c)
+  pub wide : entry_head_len * length c ≤ length (payload v c)
 
 -- the bytes begin with the blocks of the chunks, and have nothing else unless a block could not
 -- be registered; the index has the handles of all blocks

@@ -3,6 +3,7 @@ use Rattle.std.specs.Prelude.{◌≡◌, ℕ, ◌+◌, ◌*◌, ◌<◌, ◌^◌
 use Rattle.std.specs.Prelude.{length, take, Option}
 use Rattle.std.specs.List.{AllByRecursion}
 use Rattle.sst_sections.specs.declared.version.TableVersion.TheVariants.{V4}
+use Rattle.sst_blocks.specs.Bounds.{empty_len, entry_head_len}
 use Rattle.sst_entries.specs.Entry.{Entry}
 use Rattle.sst_entries.specs.Strict.{IsStrict}
 use Rattle.sst_sections.specs.declared.section.SectionName.TheVariants.{Data}
@@ -45,7 +46,7 @@ pub record IsHeld {A : Type 0} (size : ℕ) (cut : List (List Entry)) (pending :
   pub front : (n : ℕ) → 0 < n → n < length pending → is_full size (take n pending) ≡ false
   pub counted : meta ≡ metadata_of V4 cut pending
   pub sized : chunk_size ≡ entries_size pending
-  pub small : 28 + 17 * length pending + chunk_size < 2 ^ 32
+  pub small : empty_len + entry_head_len * length pending + chunk_size < 2 ^ 32
 
 -- what is pending, its size, the blocks and the counts once an entry was put behind those that were
 -- pending: all of these are cut off as a block where they are full

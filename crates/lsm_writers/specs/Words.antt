@@ -5,6 +5,7 @@ pub use Rattle.sst_entries.specs.Strict.{IsStrict, last_of}
 pub use Rattle.sst_sections.specs.Fnv.{fnv1a}
 pub use Rattle.sst_sections.specs.Sections.{finished}
 pub use Rattle.sst_filters.specs.Policy.{tenths_of}
+pub use Rattle.sst_blocks.specs.Bounds.{empty_len, entry_head_len}
 pub use Rattle.sst_blocks.specs.Encoding.{entries_fault}
 pub use Rattle.sst_blocks.specs.Payload.{payload}
 pub use Rattle.lsm_formats.specs.Chunks.{entry_size, is_full, joined, entries_size}

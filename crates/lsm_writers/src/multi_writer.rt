@@ -219,7 +219,8 @@ impl<A: Allocator + Clone> MultiWriter<A> {
         self.with_options(options)
     }
 
-    /// The same for the blocks of the index. Only tables written with 1 can be opened.
+    /// Sets after how many handles at most an index block has a place where reading can restart.
+    /// Only tables written with 1 can be opened.
     pub fn use_index_block_restart_interval(self, interval: u8) -> MultiWriter<A>
         requires { IsFreshRun self }
         ensures { result ≡

@@ -6,7 +6,8 @@ ghost use Rattle.lsm_writers.specs.Words.{AreTableParts, CanRegister, CountsCut,
 ghost use Rattle.lsm_writers.specs.Words.{Faults, FaultsFirst, HasNoVersion, HaveParts, IsFinished};
 ghost use Rattle.lsm_writers.specs.Words.{IsFresh, IsSmallFilter, IsStrict, IsTaken, LabelFits};
 ghost use Rattle.lsm_writers.specs.Words.{MayHaveKeys, WritesTable, appended, cut_writing};
-ghost use Rattle.lsm_writers.specs.Words.{entries_fault, entries_size, entry_size, failed_fault};
+ghost use Rattle.lsm_writers.specs.Words.{empty_len, entries_fault, entries_size, entry_head_len};
+ghost use Rattle.lsm_writers.specs.Words.{entry_size, failed_fault};
 ghost use Rattle.lsm_writers.specs.Words.{filter_with_size, finish_fault, finished, fnv1a};
 ghost use Rattle.lsm_writers.specs.Words.{fresh_writing, gained, index_with_size, is_full};
 ghost use Rattle.lsm_writers.specs.Words.{item_fault, joined, label_of, last_of, may_be_written};
@@ -34,8 +35,8 @@ use lsm_section_writers::{BlockIndexWriter, FilterWriterImpl, IndexWriterImpl};
 use meta::{Metadata, Tally, starts_key};
 use meta_block::{BlockCounts, write_meta};
 use sst_blocks::{
-    Checksum, CompressionType, Error, InternalKey, InternalValue, SectionName, SectionWriter,
-    SeqNo, Slice, TableVersion,
+    Checksum, CompressionType, EMPTY_LEN, ENTRY_HEAD_LEN, Error, InternalKey, InternalValue,
+    SectionName, SectionWriter, SeqNo, Slice, TableVersion,
 };
 use sst_entries::compare_versions;
 use sst_filters::BloomConstructionPolicy;
@@ -359,7 +360,8 @@ impl<A: Allocator + Clone> Writer<A> {
         self
     }
 
-    /// The same for the blocks of the index. Only tables written with 1 can be opened.
+    /// Sets after how many handles at most an index block has a place where reading can restart.
+    /// Only tables written with 1 can be opened.
     pub fn use_index_block_restart_interval(mut self, interval: u8) -> Writer<A>
         requires { IsFresh self }
         ensures { result ≡ record self {
@@ -520,7 +522,7 @@ fn admit<A: Allocator + Clone>(
     item: &InternalValue<A>,
 ) -> Result<Tally<A>, Error>
     requires sized { chunk_size ≡ entries_size chunk.now.items }
-    requires small { 28 + 17 * length chunk.now.items + chunk_size < 2 ^ 32 }
+    requires small { empty_len + entry_head_len * length chunk.now.items + chunk_size < 2 ^ 32 }
     requires rising { CanRegister options.now.filter_kind options.now.bloom_policy filter_writer.old
         (registered_key options.now.bloom_policy
         (starts_key (option_copied before) item.now) item.now.user_key) }
@@ -642,7 +644,7 @@ fn check_item<A: Allocator>(
     item: &InternalValue<A>,
 ) -> Result<(), Error>
     requires sized { chunk_size ≡ entries_size chunk.now }
-    requires small { 28 + 17 * length chunk.now + chunk_size < 2 ^ 32 }
+    requires small { empty_len + entry_head_len * length chunk.now + chunk_size < 2 ^ 32 }
     ensures { MatchResult result (λ _. item_fault chunk.now item.now ≡ None)
         (λ e. item_fault chunk.now item.now ≡ Some e) }
 {
@@ -655,7 +657,7 @@ fn check_item<A: Allocator>(
     }
     let entries = chunk.len() as u64 + 1;
     let bytes = chunk_size as u64 + item.key.user_key.len() as u64 + value_len;
-    if 28 + 17 * entries + bytes >= 1 << 32 {
+    if EMPTY_LEN + ENTRY_HEAD_LEN * entries + bytes >= 1 << 32 {
         return Err(Error::BlockTooLarge);
     }
     Ok(())

@@ -58,8 +58,7 @@ impl<A: Allocator> Clone for Block<A> {
 
     ghost is_clone = { λ b copy. copy ≡ b };
 
-    /// The same block, which shares all that this one holds. Refused where a count of sharers is
-    /// refused.
+    /// Shares the block. Refused where a count of sharers is refused.
     fn clone(&self) -> Result<Block<A>, AllocError> {
         Ok(Block {
             version: self.version,

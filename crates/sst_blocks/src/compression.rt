@@ -3,7 +3,7 @@
 /// How a block's payload is compressed.
 #[derive(Clone, Copy, Debug, Default, PartialEq, Eq)]
 pub enum CompressionType {
-    /// It is not.
+    /// The payload is stored as it is.
     #[default]
     None,
 }

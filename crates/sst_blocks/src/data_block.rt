@@ -65,8 +65,7 @@ impl<A: Allocator> Clone for DataBlock<A> {
 
     ghost is_clone = { λ b copy. copy ≡ b };
 
-    /// The same block, which shares all that this one holds. Refused where a count of sharers is
-    /// refused.
+    /// Shares the block. Refused where a count of sharers is refused.
     fn clone(&self) -> Result<DataBlock<A>, AllocError> {
         Ok(DataBlock {
             version: self.version,

@@ -34,8 +34,7 @@ impl<A: Allocator> Clone for FilterBlock<A> {
 
     ghost is_clone = { λ b copy. copy ≡ b };
 
-    /// The same block, which shares all that this one holds. Refused where a count of sharers is
-    /// refused.
+    /// Shares the block. Refused where a count of sharers is refused.
     fn clone(&self) -> Result<FilterBlock<A>, AllocError> {
         Ok(FilterBlock {
             payload: self.payload.clone()?,

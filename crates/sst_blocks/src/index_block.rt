@@ -63,8 +63,7 @@ impl<A: Allocator> Clone for IndexBlock<A> {
 
     ghost is_clone = { λ b copy. copy ≡ b };
 
-    /// The same block, which shares all that this one holds. Refused where a count of sharers is
-    /// refused.
+    /// Shares the block. Refused where a count of sharers is refused.
     fn clone(&self) -> Result<IndexBlock<A>, AllocError> {
         Ok(IndexBlock {
             version: self.version,

@@ -418,12 +418,11 @@ impl<A: Allocator + Clone> BlockSource<A> {
         let Some(marks) = &self.marks else {
             return;
         };
-        let first = self.said_at(position, BlockType::Data);
-        match first {
-            Some(said) if !marks.has_sum(said.start as u64) => {}
-            _ => return,
+        if most < 2 || marks.has_sum(position.wrapping_add(HEADER_LEN as u64)) {
+            return;
         }
-        if most < 2 {
+        let first = self.said_at(position, BlockType::Data);
+        if first.is_none() {
             return;
         }
         let second = self.said_behind(marks, first);

@@ -13,7 +13,7 @@ pub fn asked<T: Drop, U, F: FnOnce(&T) -> Result<U, Error> + Drop>(
     ask(&made?)
 }
 
-/// The same of a value that changes as it is asked.
+/// What is asked of a value that changes as it is asked, or the refusal that made none.
 pub fn asked_mut<T: Drop, U, F: FnOnce(&mut T) -> Result<U, Error> + Drop>(
     made: Result<T, Error>,
     ask: F,
@@ -23,7 +23,7 @@ pub fn asked_mut<T: Drop, U, F: FnOnce(&mut T) -> Result<U, Error> + Drop>(
     ask(&mut made?)
 }
 
-/// The same of a value that there may be none of.
+/// What is asked of a value that there may be none of, or the refusal that made none.
 pub fn asked_if_any<T: Drop, U, F: FnOnce(&mut T) -> Result<U, Error> + Drop>(
     made: Result<Option<T>, Error>,
     ask: F,

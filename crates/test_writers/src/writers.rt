@@ -1,8 +1,6 @@
 //! What writers count, cut, write and refuse.
-ghost use Rattle.std.specs.Prelude.{◌≡◌};
 
 use crate::one_entry_v4;
-use lsm_formats::FILTER_HASH_TYPE;
 use lsm_writers::{
     BlockIndexWriter, FinishedTable, FullIndexWriter, GlobalTableId, Metadata, Timestamp, Writer,
 };
@@ -356,16 +354,4 @@ fn each_request_refused_is_answered_so(rt: HostRuntime) -> Result<(), Fail> {
     assert!(rt; writes_three_blocks(&heap, false));
     assert_eq!(rt; answers, Ok(heap.requests()));
     Ok(())
-}
-
-// By which number a meta block names the hash of keys that filters are asked by. The format says 1.
-fn filter_hash_type() -> u8
-    ensures { result ≡ 1 }
-{
-    FILTER_HASH_TYPE
-}
-
-#[test]
-fn the_hash_of_keys_has_its_number(rt: HostRuntime) {
-    assert!(rt; filter_hash_type() == 1);
 }

@@ -3,8 +3,8 @@ ghost use Rattle.std.specs.Prelude.{◌≡◌, ◌+◌, ◌*◌, ◌++◌, ◌^�
 ghost use Rattle.std.specs.Prelude.{Some, false, length, IfOk, IfErr, OnOk, OnErr};
 ghost use Rattle.lsm_writers.specs.Words.{AreCut, BlockFits, CanCut, CountsCut, Entry};
 ghost use Rattle.lsm_writers.specs.Words.{Cut, IsReadable, IsStrict, data_block, data_section};
-ghost use Rattle.lsm_writers.specs.Words.{entries_fault, handle_of, handles, joined, laid, last_of};
-ghost use Rattle.lsm_writers.specs.Words.{payload};
+ghost use Rattle.lsm_writers.specs.Words.{entries_fault, entry_head_len, handle_of, handles};
+ghost use Rattle.lsm_writers.specs.Words.{joined, laid, last_of, payload};
 ghost use Rattle.lsm_writers.specs.Words.{rest_chunk, with_cut};
 ghost use Rattle.std.specs.Option.{option_copied};
 ghost use Rattle.sst_entries.specs.declared.error.Error.TheVariants.{OutOfMemory};
@@ -52,8 +52,8 @@ impl<A: Allocator> Model for DataBlocks<A> {
     ghost invariant = { λ b.
         AreCut (chunks_in V4 (length b.index_writer.handles) b.file_writer.bytes)
         b.file_writer b.index_writer.handles b.last b.index_writer.failed
-        × (17 * length (joined (chunks_in V4 (length b.index_writer.handles) b.file_writer.bytes))
-        < 2 ^ 64) };
+        × (entry_head_len * length (joined
+        (chunks_in V4 (length b.index_writer.handles) b.file_writer.bytes)) < 2 ^ 64) };
 }
 
 impl<A: Allocator + Clone> DataBlocks<A> {
@@ -77,7 +77,7 @@ impl<A: Allocator + Clone> DataBlocks<A> {
     pub(crate) fn last(&self) -> Option<&InternalValue<A>>
         ensures last { option_copied result ≡ last_of None (joined self.now.chunks) }
         // Each entry has bytes of its own, so there are fewer than can be counted.
-        ensures few { 17 * length (joined self.now.chunks) < 2 ^ 64 }
+        ensures few { entry_head_len * length (joined self.now.chunks) < 2 ^ 64 }
     {
         self.last.as_ref()
     }

@@ -16,7 +16,8 @@ pub struct Header {
     pub(crate) version: TableVersion,
     /// The length of the payload in bytes.
     pub(crate) data_len: u32,
-    /// The same, since no payload is compressed.
+    /// The length that the payload has once it is decompressed: it is never compressed, so this is
+    /// that of its bytes.
     pub(crate) uncompressed_len: u32,
     /// The checksum of the payload.
     pub(crate) checksum: u64,
