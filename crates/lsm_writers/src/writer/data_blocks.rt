@@ -39,6 +39,7 @@ pub(crate) struct DataBlocks<A: Allocator = Global> {
 impl<A: Allocator> Model for DataBlocks<A> {
     ghost use Rattle.std.specs.Prelude.{◌*◌, ◌^◌, ◌<◌, length};
     ghost use Rattle.sst_sections.specs.declared.version.TableVersion.TheVariants.{V4};
+    ghost use Rattle.sst_blocks.specs.Bounds.{entry_head_len};
     ghost use Rattle.lsm_formats.specs.Chunks.{joined};
     ghost use Rattle.lsm_writers.specs.Cut.{Cut, chunks_in, AreCut};
 
