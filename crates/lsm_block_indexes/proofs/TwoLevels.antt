@@ -15,7 +15,7 @@ use Rattle.sst_blocks.specs.Handle.{Handle}
 use Rattle.sst_blocks.specs.Place.{Place, place_of}
 use Rattle.lsm_walks.specs.declared.walk.Walk.{Walk}
 use Rattle.lsm_walks.specs.Ends.{IsOver, Remains, remains_in, seen_from, span_remains, taken_at}
-use Rattle.lsm_walks.specs.Parts.{LoadGives, Loading, Loads, Tells, all_results, early_among, early_behind, loads_in, needed, none_behind}
+use Rattle.lsm_walks.specs.Parts.{LoadGives, Loading, Loads, Tells, all_results, early_among, early_behind, loads_in, needed, none_behind, own_of}
 use Rattle.lsm_walks.specs.Walks.{Ended, StopsAtError, WalkGives, WalkTakes, early_at, near, needed_at, walk_left}
 use Rattle.lsm_walks.proofs.AtEnds.{behind_map, early_map, map_seen, map_taken, none_taken, nothing_behind, seen_none, shortens, whole_end}
 use Rattle.lsm_block_indexes.specs.declared.partitions.Partitions.{Partitions}
@@ -70,6 +70,11 @@ tells_part : {A : Type 0} (p : Partitions A) (top : Handle) (r : Result (Span Ha
 tells_part p top (Ok hs) ok err = ok
 tells_part p top (Err e) ok err = err
 
+-- a partition loads nothing of its own
+none_own : (r : Result (Span Handle) Error) → own_of span_remains (Some r) ≡ 0
+none_own (Ok hs) = refl
+none_own (Err e) = refl
+
 module _ {A : Type 0} (at : Direction) (s : Partitions A) (tops : Span Handle) (list : tops.list ≡ s.tops.list) (rest : rest_in tops ≡ (taken_at at (rest_in s.tops)).1) where
   pub part_taken : (opened : Opened) (place : Place) (r : Result (Span Handle) Error) → Some place ≡ option_map place_of (taken_at at (rest_in s.tops)).0 → IfOk r (λ hs. ok_results (rest_in hs) ≡ block_between (body_of s.source) s.edges.0 s.edges.1 place) → IfErr r (λ e. is_memory e ≡ false → Err e ∷ [] ≡ block_between (body_of s.source) s.edges.0 s.edges.1 place) → FaultsFirst r (block_early (body_of s.source) place) → opened ≡ loaded 1 s.opened → LoadGives span_remains coming_partitions KeepsPartitions at s (Some r) (record s { tops = tops; opened = opened })
   part_taken opened place r told ok err first counts =
@@ -82,6 +87,7 @@ module _ {A : Type 0} (at : Direction) (s : Partitions A) (tops : Span Handle) (
         told = tells_part s x.top r
             (subst (λ (p : Place). IfOk r (λ hs. ok_results (rest_in hs) ≡ block_between (body_of s.source) s.edges.0 s.edges.1 p)) (sym x.at) ok)
             (subst (λ (p : Place). IfErr r (λ e. is_memory e ≡ false → Err e ∷ [] ≡ block_between (body_of s.source) s.edges.0 s.edges.1 p)) (sym x.at) err);
+        loads = omega (arith, none_own r);
         first = λ f early. refused_first r f (first f (ap (block_early (body_of s.source)) (sym x.at) ∙ early));
         kept = record { body = refl; list = list; counts = counts; names = shortens at (rest_in s.tops) (rest_in tops) x.top takes };
       }
@@ -94,6 +100,7 @@ module _ {A : Type 0} (at : Direction) (s : Partitions A) (tops : Span Handle) (
         named = None;
         names = (ap (map (part_named s)) none, record { parts = ap (map (part_named s)) left; loads = refl });
         told = refl;
+        loads = omega arith;
         first = λ f early. let wrong : None ≡ Some f = early in absurd cc;
         kept = record { body = refl; list = list; counts = refl; names = (none, left) };
       }

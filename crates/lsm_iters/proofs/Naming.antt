@@ -1,5 +1,5 @@
 -- One load of a data block, as a load of a part of a walk.
-use Rattle.std.proofs.Common.{◌≡◌, false, true, [], ◌∷◌, map, refl, sym, ap, subst, ◌∙◌}
+use Rattle.std.proofs.Common.{◌≡◌, false, true, [], ◌∷◌, map, refl, sym, ap, subst, ◌∙◌, arith}
 use Rattle.std.specs.Prelude.{IfErr, IfOk, Option, Some, None, Result, Ok, Err}
 use Rattle.sst_entries.specs.declared.error.Error.{Error}
 use Rattle.sst_entries.specs.declared.stream.Direction.{Direction}
@@ -12,7 +12,7 @@ use Rattle.sst_blocks.specs.Block.{place_fault}
 use Rattle.sst_blocks.specs.Handle.{Handle}
 use Rattle.lsm_block_indexes.specs.Left.{Left, LeftGives}
 use Rattle.lsm_walks.specs.Ends.{span_remains, taken_at}
-use Rattle.lsm_walks.specs.Parts.{Coming, LoadGives, Loading, Names, Tells}
+use Rattle.lsm_walks.specs.Parts.{Coming, LoadGives, Loading, Names, Tells, own_of}
 use Rattle.lsm_walks.proofs.AtEnds.{map_first, map_none, map_taken}
 use Rattle.lsm_iters.specs.Blocks.{Blocks, KeepsBlocks, block_named, coming_blocks, stored_rows}
 use Rattle.lsm_iters.specs.Range.{data_loaded, left_in}
@@ -45,6 +45,11 @@ tells_block : (b : Bounded) (h : Handle) (r : Result (Span Entry) Error) → IfO
 tells_block b h (Ok es) ok err = ok
 tells_block b h (Err e) ok err = err
 
+-- a block loads nothing of its own
+none_own : (r : Result (Span Entry) Error) → own_of span_remains (Some r) ≡ 0
+none_own (Ok es) = refl
+none_own (Err e) = refl
+
 module _ {A : Type 0} (at : Direction) (s m : Blocks A) (is : m ≡ record s { handles = m.handles }) (sought : m.handles.sought ≡ true) where
   same_of : m.of ≡ s.of
   same_of = ap (λ (x : Blocks A). x.of) is
@@ -59,6 +64,7 @@ module _ {A : Type 0} (at : Direction) (s m : Blocks A) (is : m ≡ record s { h
         named = named_in s.of (Some (Ok h));
         names = names (Some (Ok h)) step;
         told = subst (λ (b : Bounded). Tells span_remains (Some (block_named b (Ok h))) (Some r)) same_of (tells_block m.of h r ok err);
+        loads = omega (arith, none_own r, step.loads.within);
         first = λ f early. refused_first r f (first f (ap (λ (b : Bounded). place_fault b.body h.offset h.size Data) same_of ∙ early));
         kept = record { of = same_of; index = step.index; sought = sought; counts = ap (λ (x : Blocks A). data_loaded 1 x.opened) is; loads = step.loads };
       })
@@ -68,6 +74,7 @@ module _ {A : Type 0} (at : Direction) (s m : Blocks A) (is : m ≡ record s { h
     named = named_in s.of (Some (Err e));
     names = names (Some (Err e)) step;
     told = refl;
+    loads = omega (arith, step.loads.within);
     first = λ f early. let wrong : None ≡ Some f = early in absurd cc;
     kept = record { of = same_of; index = step.index; sought = sought; counts = ap (λ (x : Blocks A). x.opened) is; loads = step.loads };
   }
@@ -77,6 +84,7 @@ module _ {A : Type 0} (at : Direction) (s m : Blocks A) (is : m ≡ record s { h
     named = None;
     names = names None step;
     told = refl;
+    loads = omega (arith, step.loads.within);
     first = λ f early. let wrong : None ≡ Some f = early in absurd cc;
     kept = record { of = same_of; index = step.index; sought = sought; counts = ap (λ (x : Blocks A). x.opened) is; loads = step.loads };
   }

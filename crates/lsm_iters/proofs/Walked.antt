@@ -17,7 +17,7 @@ use Rattle.sst_blocks.specs.Handle.{Handle}
 use Rattle.lsm_block_indexes.specs.Left.{CountsLoads, early_behind, loaded, none_behind}
 use Rattle.lsm_block_indexes.proofs.TwoLevels.{loaded_more}
 use Rattle.lsm_walks.specs.declared.walk.Walk.{Walk}
-use Rattle.lsm_walks.specs.Ends.{IsOver as IsWalkOver, Remains, StepGives, remains_in, seen_from, span_remains, taken_at}
+use Rattle.lsm_walks.specs.Ends.{IsOver as IsWalkOver, Remains, StepAnswers, remains_in, seen_from, span_remains, taken_at}
 use Rattle.lsm_walks.specs.Parts.{Loading, Loads, all_results, early_among, loads_in, needed, results_of}
 use Rattle.lsm_walks.specs.Walks.{Ended, WalkTakes, early_at, near, needed_at, walk_left}
 use Rattle.lsm_walks.proofs.AtEnds.{early_map, behind_map, map_first, map_none, map_seen, map_taken, none_at}
@@ -238,7 +238,7 @@ module _ {A : Type 0} where
     λ over. none_at at (left_rows u) (Err e) over.rows (ap (λ (p : Option R × List R). p.0) gives),
   )
 
-  from_walk : (at : Direction) (w v : W A) (r : Option R) → StepGives at (left_of_walk w) r (left_of_walk v) → v.parts.of ≡ w.parts.of → From (taken_at at) (range_of w) (lifted_answer w.parts.of.global_seqno r) (range_of v)
+  from_walk : (at : Direction) (w v : W A) (r : Option R) → StepAnswers at (left_of_walk w) r (left_of_walk v) → v.parts.of ≡ w.parts.of → From (taken_at at) (range_of w) (lifted_answer w.parts.of.global_seqno r) (range_of v)
   from_walk at w v None gives same =
       (sym (told_left w) ∙ ap (map (told w.parts.of.global_seqno)) gives.0, over_range at v gives.1)
   from_walk at w v (Some (Ok e)) gives same =

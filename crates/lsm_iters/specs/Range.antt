@@ -16,6 +16,7 @@ use Rattle.sst_blocks.specs.Opened.{with_load, none_opened}
 use Rattle.lsm_block_indexes.specs.declared.kinds.BlockIndexIterImpl.{BlockIndexIterImpl}
 use Rattle.lsm_block_indexes.specs.Kinds.{left_of}
 use Rattle.lsm_block_indexes.specs.Left.{Left, early_behind, loaded, none_behind}
+use Rattle.lsm_walks.specs.Ends.{Remains}
 use Rattle.lsm_iters.specs.Bounds.{lower_edge, upper_edge}
 use Rattle.lsm_iters.specs.Lift.{lift_told}
 use Rattle.lsm_iters.specs.Rows.{Bounded, block_rows, handle_rows, rows}
@@ -76,10 +77,18 @@ range_left s =
     let g = s.of.global_seqno in
     lift_told g s.front ++ (rows s.of (to_come s) ++ lift_told g s.back)
 
+-- how many loads may be made for them, of data blocks and of the index, whose edges are to be sought
+-- before the first
+abbrev pub range_loads : {A : Type 0} → Range A → ℕ
+range_loads s = length (to_come s) + index_to_come s + (if s.handles.sought then 0 else 1)
+
 -- a bound on the answers that are left
 abbrev pub range_size : {A : Type 0} → Range A → ℕ
-range_size s =
-    length (range_left s) + length (to_come s) + index_to_come s + (if s.handles.sought then 0 else 1)
+range_size s = length (range_left s) + range_loads s
+
+-- the same as what is left of a part of a walk
+abbrev pub range_remains : {A : Type 0} → Range A → Remains Entry
+range_remains s = record { results = range_left s; loads = range_loads s }
 
 -- nothing more comes, and nothing is loaded
 abbrev pub IsEnded : {A : Type 0} → Range A → Type 0

@@ -4,7 +4,8 @@ ghost use Rattle.std.specs.Iterator.{at_most};
 ghost use Rattle.sst_entries.specs.declared.error.Error.TheVariants.{OutOfMemory};
 ghost use Rattle.lsm_iters.specs.Words.{DealsEnding, IsSought, RangeGives, back_next, back_of};
 ghost use Rattle.lsm_iters.specs.Words.{body_of, edge_of, front_next, front_of, new_range, next_at};
-ghost use Rattle.lsm_iters.specs.Words.{opened_in, over, range_left, range_size, stopped, taken_at};
+ghost use Rattle.lsm_iters.specs.Words.{opened_in, over, range_left, range_remains, range_size};
+ghost use Rattle.lsm_iters.specs.Words.{stopped, taken_at};
 
 use crate::blocks::Blocks;
 use crate::cut::lift_answer;
@@ -12,8 +13,8 @@ use crate::handles::Handles;
 use crate::pairs::beside;
 use crate::{Bound, OwnedDataBlockIter};
 use lsm_block_indexes::BlockIndexIterImpl;
-use lsm_walks::Walk;
-use sst_blocks::{BlockSource, CompressionType, Error, IterItem, Opened, SeqNo};
+use lsm_walks::{Ends, Walk};
+use sst_blocks::{BlockSource, CompressionType, Error, InternalValue, IterItem, Opened, SeqNo};
 use sst_entries::Direction;
 use std::alloc::{Allocator, Global};
 use std::marker::Model;
@@ -111,7 +112,7 @@ impl<A: Allocator + Clone> Iter<A> {
 
     /// The answer at an end; an error does not end the iterator yet.
     #[inline(always)]
-    fn step(&mut self, at: Direction) -> Option<IterItem<A>>
+    fn take(&mut self, at: Direction) -> Option<IterItem<A>>
         ensures { RangeGives (taken_at at) (next_at at) self.old result (stopped result self.new) }
     {
         if let Err(refusal) = self.walk.parts.initialize() {
@@ -125,7 +126,7 @@ impl<A: Allocator + Clone> Iter<A> {
     fn answer(&mut self, at: Direction) -> Option<IterItem<A>>
         ensures { RangeGives (taken_at at) (next_at at) self.old result self.new }
     {
-        match self.step(at) {
+        match self.take(at) {
             Some(Ok(item)) => Some(Ok(item)),
             Some(Err(error)) => {
                 self.end();
@@ -164,5 +165,19 @@ impl<A: Allocator + Clone> DoubleEndedIterator for Iter<A> {
 
     fn next_back(&mut self) -> Option<IterItem<A>> {
         self.answer(Direction::Back)
+    }
+}
+
+impl<A: Allocator + Clone> Ends for Iter<A> {
+    type Item = InternalValue<A>;
+
+    ghost left = { range_remains };
+
+    #[inline(always)]
+    fn step(&mut self, at: Direction) -> Option<IterItem<A>> {
+        match at {
+            Direction::Front => self.next(),
+            Direction::Back => self.next_back(),
+        }
     }
 }

@@ -1,24 +1,31 @@
--- Opening the next table at an end, and one call of the reader of a table.
+-- Opening the next table at an end, as a load of a part of a walk.
 use Rattle.std.proofs.Common.{◌≡◌, ℕ, zero, suc, ◌+◌, ◌-◌, ◌<◌, ◌≤◌, List, [], ◌∷◌, drop, get_or}
-use Rattle.std.proofs.Common.{length, take, Bool, true, false, refl, sym, ap, subst, ◌∙◌, arith}
+use Rattle.std.proofs.Common.{length, map, take, Bool, true, false, refl, sym, ap, subst, ◌∙◌, arith}
+use Rattle.std.proofs.lemmas.List.Sums.{sum_by-append}
 use Rattle.std.specs.Prelude.{Option, Some, None, Result, Ok, Err, IfOk, if◌then◌else◌}
 use Rattle.std.specs.declared.ops.Bound.{Bound}
 use Rattle.std.specs.declared.ops.Bound.TheVariants.{Unbounded}
 use Rattle.std.specs.List.{slice_get}
 use Rattle.sst_entries.specs.declared.error.Error.{Error}
 use Rattle.sst_entries.specs.declared.error.Error.TheVariants.{OutOfMemory}
-use Rattle.sst_entries.specs.Stream.{front_of, back_of}
-use Rattle.lsm_iters.specs.Range.{Range, RangeGives, back_next, front_next}
-use Rattle.lsm_iters.proofs.Ends.{back_shortens, front_shortens}
-use Rattle.lsm_iters.proofs.RangeLaws.{nearer}
+use Rattle.sst_entries.specs.declared.stream.Direction.{Direction}
+use Rattle.sst_entries.specs.declared.stream.Direction.TheVariants.{Front, Back}
+use Rattle.sst_entries.specs.Stream.{back_of}
+use Rattle.lsm_walks.specs.Ends.{taken_at}
+use Rattle.lsm_walks.specs.Parts.{LoadGives}
+use Rattle.lsm_walks.proofs.AtEnds.{map_none, map_taken, none_at, split}
+use Rattle.lsm_block_indexes.proofs.AtEnds.{not_memory}
+use Rattle.lsm_iters.specs.Range.{Range, range_left, range_loads, range_remains}
+use Rattle.lsm_iters.proofs.Ends.{if_false}
 use Rattle.lsm_readers.specs.Ranges.{IsRangeOf}
 use Rattle.lsm_readers.specs.Table.{OpenTable}
-use Rattle.lsm_runs.specs.RunParts.{Part, RunSpan, is_edge, span_part_at, span_parts_from}
-use Rattle.lsm_runs.specs.RunParts.{span_parts_between}
-use Rattle.lsm_runs.specs.RunRange.{ItemGives, OpensAt, Unopened}
+use Rattle.lsm_readers.proofs.TableRanges.{come, index_come, left_is}
+use Rattle.lsm_runs.specs.RunParts.{Part, RunSpan, is_edge, part_loads, part_told, span_part_at}
+use Rattle.lsm_runs.specs.RunParts.{span_parts_between, span_parts_from}
+use Rattle.lsm_runs.specs.RunRange.{Unopened, parts_loads}
+use Rattle.lsm_runs.specs.Tables.{KeepsTables, coming_tables, none_unopened, place_taken, table_named}
 use Rattle.lsm_runs.proofs.Places.{first_between, last_between, none_between, part_there}
 use Rattle.lsm_runs.proofs.Places.{same_there, table_at}
-use Rattle.lsm_runs.proofs.RunSteps.{R}
 
 -- the tables from one place up to another
 abbrev pub held : RunSpan → List OpenTable → ℕ → ℕ → ℕ → Unopened
@@ -54,68 +61,94 @@ module _ {A : Type 0} where
     reads_whole edge reads t at =
         subst ReadsPart (sym (ap (part_if t) edge)) (subst (λ (v : OpenTable). IfOk r (IsRangeOf v Unbounded Unbounded)) (same_there ts place u t less is at) reads)
 
-  -- ---- one call of the reader of a table
+-- ---- a reader of a table before its first step
 
-  pub item_front : (s t : Range A) (r : Option R) → RangeGives front_of front_next s r t
-      → ItemGives front_of (Some s) r (Some t)
-  item_front s t None step = record { answer = step.answer.0; lowers = step.answer.1 }
-  item_front s t (Some (Ok e)) step = record { answer = step.answer; lowers = nearer front_of front_shortens front_next s t (Ok e) step }
-  item_front s t (Some (Err e)) step = record { answer = step.answer.0; lowers = nearer front_of front_shortens front_next s t (Err e) step }
+module _ {A : Type 0} (p : Part) (s : Range A) (is : IsRangeOf p.table p.low p.high s) where
+  reader_left : range_left s ≡ part_told p
+  reader_left = left_is p.table p.low p.high s is
 
-  pub item_back : (s t : Range A) (r : Option R) → RangeGives back_of back_next s r t
-      → ItemGives back_of (Some s) r (Some t)
-  item_back s t None step = record { answer = step.answer.0; lowers = step.answer.1 }
-  item_back s t (Some (Ok e)) step = record { answer = step.answer; lowers = nearer back_of back_shortens back_next s t (Ok e) step }
-  item_back s t (Some (Err e)) step = record { answer = step.answer.0; lowers = nearer back_of back_shortens back_next s t (Err e) step }
+  reader_loads : range_loads s ≡ part_loads p
+  reader_loads =
+      omega (
+        arith,
+        ap length (come p.table p.low p.high s is),
+        index_come p.table p.low p.high s is,
+        if_false {X = ℕ} s.handles.sought 0 1 is.unsought,
+      )
 
-  -- ---- the next table at an end
+-- ---- the next table at an end
 
-  module _ (span : RunSpan) (ts : List OpenTable) (lo hi opened : ℕ) where
-    abbrev ReadsAt : ℕ → Range A → Type 0
-    ReadsAt place x = (t : OpenTable) → slice_get ts place ≡ Some t → IsRangeOf (span_part_at span place t).table (span_part_at span place t).low (span_part_at span place t).high x
+loads_taken : (at : Direction) (ps qs : List Part) (p : Part) → taken_at at ps ≡ (Some p, qs)
+    → parts_loads ps ≡ part_loads p + parts_loads qs
+loads_taken Front ps qs p e = ap parts_loads (split Front ps qs p e)
+loads_taken Back ps qs p e = omega (arith, ap parts_loads (split Back ps qs p e), sum_by-append part_loads qs (p ∷ []))
 
-    pub opens_first : (x : Range A) (next count : ℕ) → next ≡ suc lo → count ≡ suc opened → lo < hi
-        → hi ≤ length ts → ReadsAt lo x → OpensAt front_of (held span ts lo hi opened) (Some (Ok x))
-        (held span ts next hi count)
-    opens_first x next count is more less within reads =
-        let t = table_at ts lo (omega (arith, less, within)) in
-        let taken = first_between (span_parts_from span 0 ts) lo hi (span_part_at span lo t.0) (part_there span ts lo t.0 t.1) less in (
-          span_part_at span lo t.0,
-          subst (λ (n : ℕ). front_of (span_parts_between span ts lo hi) ≡ (Some (span_part_at span lo t.0), span_parts_between span ts n hi)) (sym is) taken,
-          (reads t.0 t.1, more),
-        )
+module _ (span : RunSpan) (ts : List OpenTable) (lo hi : ℕ) (less : lo < hi)
+    (within : hi ≤ length ts) where
+  -- the table at an end, as its part
+  record Taken (at : Direction) (p : ℕ × ℕ × ℕ) : Type 0 where
+    pub table : OpenTable
+    pub there : slice_get ts p.0 ≡ Some table
+    pub takes : taken_at at (span_parts_between span ts lo hi)
+        ≡ (Some (span_part_at span p.0 table), span_parts_between span ts p.1 p.2)
 
-    pub opens_last : (x : Range A) (place count : ℕ) → hi ≡ suc place → count ≡ suc opened → lo < hi
-        → hi ≤ length ts → ReadsAt place x → OpensAt back_of (held span ts lo hi opened)
-        (Some (Ok x)) (held span ts lo place count)
-    opens_last x place count is more less within reads =
-        let t = table_at ts place (omega (arith, is, within)) in
-        let taken = last_between (span_parts_from span 0 ts) lo place (span_part_at span place t.0) (part_there span ts place t.0 t.1) (omega (arith, is, less)) in (
-          span_part_at span place t.0,
-          subst (λ (n : ℕ). back_of (span_parts_between span ts lo n) ≡ (Some (span_part_at span place t.0), span_parts_between span ts lo place)) (sym is) taken,
-          (reads t.0 t.1, more),
-        )
-
--- it could not be opened
-module _ (A : Type 0) (span : RunSpan) (ts : List OpenTable) (lo hi opened : ℕ) where
-  pub fails_first : (e : Error) (next : ℕ) → next ≡ suc lo → e ≡ OutOfMemory → lo < hi
-      → hi ≤ length ts → OpensAt {A = A} front_of (held span ts lo hi opened) (Some (Err e))
-      (held span ts next hi opened)
-  fails_first e next is memory less within =
+  taken : (at : Direction) → Taken at (place_taken at lo hi)
+  taken Front =
       let t = table_at ts lo (omega (arith, less, within)) in
-      let taken = first_between (span_parts_from span 0 ts) lo hi (span_part_at span lo t.0) (part_there span ts lo t.0 t.1) less in (
-        span_part_at span lo t.0,
-        subst (λ (n : ℕ). front_of (span_parts_between span ts lo hi) ≡ (Some (span_part_at span lo t.0), span_parts_between span ts n hi)) (sym is) taken,
-        (memory, refl),
-      )
+      record {
+        table = t.0;
+        there = t.1;
+        takes = first_between (span_parts_from span 0 ts) lo hi (span_part_at span lo t.0) (part_there span ts lo t.0 t.1) less;
+      }
+  taken Back =
+      let t = table_at ts (hi - 1) (omega (arith, less, within)) in
+      let last : hi ≡ suc (hi - 1) = omega (arith, less) in
+      record {
+        table = t.0;
+        there = t.1;
+        takes = ap (λ (n : ℕ). back_of (take (n - lo) (drop lo (span_parts_from span 0 ts)))) last
+            ∙ last_between (span_parts_from span 0 ts) lo (hi - 1) (span_part_at span (hi - 1) t.0) (part_there span ts (hi - 1) t.0 t.1) (omega (arith, less));
+      }
 
-  pub fails_last : (e : Error) (place : ℕ) → hi ≡ suc place → e ≡ OutOfMemory → lo < hi
-      → hi ≤ length ts → OpensAt {A = A} back_of (held span ts lo hi opened) (Some (Err e))
-      (held span ts lo place opened)
-  fails_last e place is memory less within =
-      let t = table_at ts place (omega (arith, is, within)) in
-      let taken = last_between (span_parts_from span 0 ts) lo place (span_part_at span place t.0) (part_there span ts place t.0 t.1) (omega (arith, is, less)) in (
-        span_part_at span place t.0,
-        subst (λ (n : ℕ). back_of (span_parts_between span ts lo n) ≡ (Some (span_part_at span place t.0), span_parts_between span ts lo place)) (sym is) taken,
-        (memory, refl),
-      )
+  abbrev ReadsAt : {A : Type 0} → ℕ → Range A → Type 0
+  ReadsAt place x = (t : OpenTable) → slice_get ts place ≡ Some t → IsRangeOf (span_part_at span place t).table (span_part_at span place t).low (span_part_at span place t).high x
+
+  pub opens_at : {A : Type 0} (at : Direction) (opened : ℕ) (p : ℕ × ℕ × ℕ) (x : Range A)
+      (count : ℕ) → p ≡ place_taken at lo hi → count ≡ suc opened → ReadsAt p.0 x
+      → LoadGives range_remains coming_tables KeepsTables at (held span ts lo hi opened)
+      (Some (Ok x)) (held span ts p.1 p.2 count)
+  opens_at at opened p x count is more reads =
+      let t = subst (Taken at) (sym is) (taken at) in
+      let part : Part = span_part_at span p.0 t.table in
+      let before : List Part = span_parts_between span ts lo hi in
+      let behind : List Part = span_parts_between span ts p.1 p.2 in
+      let reader = reads t.table t.there in
+      record {
+        named = Some (table_named part);
+        names = map_taken table_named at before behind part t.takes;
+        told = reader_left part x reader;
+        loads = omega (arith, reader_loads part x reader, loads_taken at before behind part t.takes);
+        first = λ f early. let wrong : None ≡ Some f = early in absurd cc;
+        kept = omega (arith, more);
+      }
+
+  -- it could not be opened
+  pub refused_at : (A : Type 0) (at : Direction) (opened : ℕ) (e : Error) (v : Unopened)
+      → e ≡ OutOfMemory → v ≡ none_unopened (held span ts lo hi opened)
+      → LoadGives {T = Range A} range_remains coming_tables KeepsTables at
+      (held span ts lo hi opened) (Some (Err e)) v
+  refused_at A at opened e v memory is =
+      let before : List Part = span_parts_between span ts lo hi in
+      let t = taken at in
+      subst (λ (u : Unopened). LoadGives {T = Range A} range_remains coming_tables KeepsTables at (held span ts lo hi opened) (Some (Err e)) u) (sym is) (record {
+        named = Some (Err e);
+        names = (
+          λ fine. absurd (not_memory e memory fine),
+          λ done. none_at at before _ (map_none table_named before done.parts) (ap (λ (x : Option Part × List Part). x.0) t.takes),
+          record { parts = refl; loads = refl },
+        );
+        told = refl;
+        loads = omega arith;
+        first = λ f early. let wrong : None ≡ Some f = early in absurd cc;
+        kept = refl;
+      })

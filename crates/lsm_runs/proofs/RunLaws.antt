@@ -2,6 +2,7 @@
 use Rattle.std.proofs.Common.{◌≡◌, ℕ, zero, suc, ◌+◌, ◌-◌, ◌<◌, ◌≤◌, List, [], ◌∷◌, ◌++◌, drop}
 use Rattle.std.proofs.Common.{length, take, refl, sym, ap, subst, ◌∙◌, arith}
 use Rattle.std.proofs.lemmas.List.{length-append, length-take, length-drop}
+use Rattle.std.specs.Iterator.{MakesProgress, at_most}
 use Rattle.std.specs.Prelude.{Option, Some, None, Result, Ok, Err, IfOk}
 use Rattle.sst_entries.specs.declared.stream.Direction.{Direction}
 use Rattle.sst_entries.specs.declared.stream.Direction.TheVariants.{Front, Back}
@@ -9,35 +10,13 @@ use Rattle.sst_entries.specs.Stream.{Runs, front_of, back_of}
 use Rattle.lsm_block_indexes.specs.Dealt.{DealsEnding}
 use Rattle.lsm_block_indexes.proofs.Dealing.{Ending, deals_ending}
 use Rattle.lsm_block_indexes.proofs.TwoLevels.{no_items}
-use Rattle.lsm_iters.specs.Range.{Range, range_left, range_size}
-use Rattle.lsm_runs.specs.RunParts.{Part, part_size, part_told}
 use Rattle.lsm_runs.specs.RunRange.{IsRunEnded, OpensAtMost, RunGives, RunRange, back_tables}
-use Rattle.lsm_runs.specs.RunRange.{front_tables, left_of_reader, parts_size, run_parts_told}
-use Rattle.lsm_runs.specs.RunRange.{run_left, run_size, size_of_reader}
+use Rattle.lsm_runs.specs.RunRange.{front_tables, run_left, run_size}
 use Rattle.lsm_runs.proofs.RunSteps.{End, R}
 
-parts_within : (ps : List Part) → length (run_parts_told ps) ≤ parts_size ps
-parts_within [] = omega arith
-parts_within (p ∷ ps) = omega (arith, length-append (part_told p) (run_parts_told ps), parts_within ps)
-
 module _ {A : Type 0} where
-  within_size : (s : Option (Range A)) → length (left_of_reader s) ≤ size_of_reader s
-  within_size None = omega arith
-  within_size (Some s) = omega arith
-
-  left_within : (s : RunRange A) → length (run_left s) ≤ run_size s
-  left_within s =
-      omega (
-        arith,
-        length-append (left_of_reader s.front) (run_parts_told s.unopened.parts ++ left_of_reader s.back),
-        length-append (run_parts_told s.unopened.parts) (left_of_reader s.back),
-        within_size s.front,
-        within_size s.back,
-        parts_within s.unopened.parts,
-      )
-
   nothing : (s : RunRange A) → IsRunEnded s → run_left s ≡ []
-  nothing s ended = no_items (run_left s) (omega (arith, ended, left_within s))
+  nothing s ended = no_items (run_left s) (omega (arith, ended))
 
   ends_by : (of : End) (needed : RunRange A → ℕ) (s : RunRange A) (r : Option R) (t : RunRange A)
       → RunGives of needed s r t → Ending run_left IsRunEnded of s r t
@@ -51,6 +30,12 @@ module _ {A : Type 0} where
   run_deals s =
       deals_ending run_left IsRunEnded nothing (RunGives front_of front_tables) (RunGives back_of back_tables)
       (λ u r t step. ends_by front_of front_tables u r t step) (λ u r t step. ends_by back_of back_tables u r t step) s
+
+  pub progress : (of : End) (needed : RunRange A → ℕ) (s : RunRange A) (r : Option R) (t : RunRange A)
+      → RunGives of needed s r t
+      → MakesProgress (λ _. Unit {0}) (λ u. at_most (run_size u)) s r t
+  progress of needed s None t step = record { on = λ _. tt; keeps = tt; rests = λ _. tt }
+  progress of needed s (Some x) t step = record { on = λ _. (tt, tt, step.lowers); keeps = tt; rests = λ _. tt }
 
   -- ---- how many tables are opened
 

@@ -1,5 +1,6 @@
 pub mod RunParts
 pub mod RunRange
+pub mod Tables
 pub mod RunLists
 pub mod RunScan
 pub mod SeveralRuns

@@ -26,9 +26,10 @@ part_told p = range_told p.table p.low p.high
 abbrev pub handles_within : Part → ℕ
 handles_within p = length ((table_index p.table).told (lower_edge p.low) (upper_edge p.high))
 
--- a bound on the answers of its reader
-abbrev pub part_size : Part → ℕ
-part_size p = length (part_told p) + handles_within p + index_within p.table p.low p.high + 1
+-- how many loads its reader may make: of data blocks and of its index, whose edges are to be sought
+-- before the first
+abbrev pub part_loads : Part → ℕ
+part_loads p = handles_within p + index_within p.table p.low p.high + 1
 
 -- the first and the last place of some tables of a run, which are read within two bounds
 pub record RunSpan : Type 0 where

@@ -14,10 +14,11 @@ pub use Rattle.lsm_ranges.specs.Run.{ArePlacesOf, IsInOrder, overlap_indexes}
 pub use Rattle.lsm_readers.specs.Answer.{lift}
 pub use Rattle.lsm_readers.specs.Read.{DoesRead, Opens}
 pub use Rattle.lsm_readers.specs.Table.{OpenTable}
+pub use Rattle.lsm_walks.specs.Ends.{taken_at}
 pub use Rattle.lsm_sorted.specs.NewestLaws.{AnswersNewest, CanAskNewest, DealsNewest, IsNewestOf}
 pub use Rattle.lsm_runs.specs.RunParts.{ends_given, range_of, span_of}
-pub use Rattle.lsm_runs.specs.RunRange.{IsRunOf, ItemGives, OpensAtMost, RunGives, back_tables}
-pub use Rattle.lsm_runs.specs.RunRange.{front_tables, over_run, run_left, run_size, stopped_run}
+pub use Rattle.lsm_runs.specs.RunRange.{IsRunOf, OpensAtMost, RunGives, back_tables, front_tables}
+pub use Rattle.lsm_runs.specs.RunRange.{run_left, run_size, tables_at}
 pub use Rattle.lsm_runs.specs.RunLists.{DealTogether, DealsList, HoldLists, RunsHoldLists}
 pub use Rattle.lsm_runs.specs.RunLists.{span_list}
 pub use Rattle.lsm_runs.specs.RunScan.{BeginsNext, BeginsScan, IsScanOf, RunScansNext, ScansItem}

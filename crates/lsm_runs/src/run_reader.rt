@@ -4,17 +4,19 @@ ghost use Rattle.std.specs.Prelude.{MatchOption, length, map};
 ghost use Rattle.std.specs.Arc.{arc_value};
 ghost use Rattle.std.specs.Iterator.{at_most};
 ghost use Rattle.lsm_runs.specs.Words.{ArePlacesOf, DealsEnding, DealsList, Entry, HoldLists};
-ghost use Rattle.lsm_runs.specs.Words.{IsInOrder, IsRunOf, ItemGives, OpensAtMost, RunGives};
-ghost use Rattle.lsm_runs.specs.Words.{back_of, back_tables, ends_given, front_of, front_tables};
-ghost use Rattle.lsm_runs.specs.Words.{joined, over_run, overlap_indexes, run_left, run_size};
-ghost use Rattle.lsm_runs.specs.Words.{span_list, span_of, stopped_run, within};
+ghost use Rattle.lsm_runs.specs.Words.{IsInOrder, IsRunOf, OpensAtMost, RunGives, back_of};
+ghost use Rattle.lsm_runs.specs.Words.{back_tables, ends_given, front_of, front_tables, joined};
+ghost use Rattle.lsm_runs.specs.Words.{overlap_indexes, run_left, run_size, span_list, span_of};
+ghost use Rattle.lsm_runs.specs.Words.{tables_at, taken_at, within};
 
 use crate::spans::{ends_in, places_within};
 use crate::unopened::Unopened;
 use lsm_iters::Iter;
 use lsm_ranges::{Ranged, Run};
 use lsm_readers::Table;
+use lsm_walks::{Ends, Walk};
 use sst_blocks::{Error, IterItem, UserKey};
+use sst_entries::Direction;
 use std::alloc::{Allocator, Global};
 use std::marker::Model;
 use std::ops::Bound;
@@ -27,77 +29,16 @@ use std::sync::Arc;
 /// an error, [`Error::OutOfMemory`] among them, nothing more comes, from either end.
 #[derive(Drop)]
 pub struct RunReader<A: Allocator = Global> {
-    unopened: Unopened<A>,
-    lo_reader: Opened<A>,
-    hi_reader: Opened<A>,
+    walk: Walk<Unopened<A>, Iter<A>>,
 }
 
 impl<A: Allocator> Model for RunReader<A> {
     ghost use Rattle.lsm_runs.specs.RunRange.{RunRange};
+    ghost use Rattle.lsm_runs.specs.Tables.{run_of};
 
     ghost Value = { RunRange A };
 
-    ghost view = { λ r. record { unopened = r.unopened; front = r.lo_reader; back = r.hi_reader } };
-}
-
-/// The reader of one table, where one is opened.
-#[derive(Drop)]
-struct Opened<A: Allocator> {
-    reader: Option<Iter<A>>,
-}
-
-impl<A: Allocator> Model for Opened<A> {
-    ghost use Rattle.std.specs.Prelude.{Option};
-    ghost use Rattle.lsm_iters.specs.Range.{Range};
-
-    ghost Value = { Option (Range A) };
-
-    ghost view = { λ o. o.reader };
-}
-
-impl<A: Allocator> Opened<A> {
-    /// No table.
-    fn none() -> Opened<A>
-        ensures { result ≡ None }
-    {
-        Opened { reader: None }
-    }
-
-    /// Reads a table by this, in the place of one before.
-    fn set(&mut self, reader: Iter<A>)
-        ensures { self.new ≡ Some reader }
-    {
-        drop(self.reader.replace(reader));
-    }
-
-    /// Lets go the table.
-    fn end(&mut self)
-        ensures { self.new ≡ None }
-    {
-        drop(self.reader.take());
-    }
-}
-
-impl<A: Allocator + Clone> Opened<A> {
-    /// The first item that is left.
-    fn first_item(&mut self) -> Option<IterItem<A>>
-        ensures { ItemGives front_of self.old result self.new }
-    {
-        match &mut self.reader {
-            Some(reader) => reader.next(),
-            None => None,
-        }
-    }
-
-    /// The last item that is left.
-    fn last_item(&mut self) -> Option<IterItem<A>>
-        ensures { ItemGives back_of self.old result self.new }
-    {
-        match &mut self.reader {
-            Some(reader) => reader.next_back(),
-            None => None,
-        }
-    }
+    ghost view = { λ r. run_of r.walk };
 }
 
 impl<A: Allocator + Clone> RunReader<A> {
@@ -197,9 +138,7 @@ impl<A: Allocator + Clone> RunReader<A> {
         ensures { IsRunOf (arc_value run) (span_of ends range.0 range.1) result }
     {
         RunReader {
-            unopened: Unopened::new(run, range, ends),
-            lo_reader: Opened::none(),
-            hi_reader: Opened::none(),
+            walk: Walk::new(Unopened::new(run, range, ends)),
         }
     }
 
@@ -207,50 +146,15 @@ impl<A: Allocator + Clone> RunReader<A> {
     pub fn tables_opened(&self) -> usize
         ensures { result ≡ self.now.unopened.opened }
     {
-        self.unopened.opened()
+        self.walk.parts.opened()
     }
 
-    /// Lets go what is left.
-    fn end(&mut self)
-        ensures { self.new ≡ over_run self.old }
+    /// The answer at an end.
+    #[inline(always)]
+    fn answer(&mut self, at: Direction) -> Option<IterItem<A>>
+        ensures { RunGives (taken_at at) (tables_at at) self.old result self.new }
     {
-        self.unopened.end();
-        self.lo_reader.end();
-        self.hi_reader.end();
-    }
-}
-
-impl<A: Allocator + Clone> RunReader<A> {
-    /// The answer at the front; an error does not end the reader yet.
-    fn step_front(&mut self) -> Option<IterItem<A>>
-        ensures { RunGives front_of front_tables self.old result (stopped_run result self.new) }
-    {
-        loop {
-            if let Some(item) = self.lo_reader.first_item() {
-                return Some(item);
-            }
-            match self.unopened.next() {
-                Some(Ok(reader)) => self.lo_reader.set(reader),
-                Some(Err(error)) => return Some(Err(error)),
-                None => return self.hi_reader.first_item(),
-            }
-        }
-    }
-
-    /// The answer at the back; an error does not end the reader yet.
-    fn step_back(&mut self) -> Option<IterItem<A>>
-        ensures { RunGives back_of back_tables self.old result (stopped_run result self.new) }
-    {
-        loop {
-            if let Some(item) = self.hi_reader.last_item() {
-                return Some(item);
-            }
-            match self.unopened.next_back() {
-                Some(Ok(reader)) => self.hi_reader.set(reader),
-                Some(Err(error)) => return Some(Err(error)),
-                None => return self.lo_reader.last_item(),
-            }
-        }
+        self.walk.step(at)
     }
 }
 
@@ -264,14 +168,7 @@ impl<A: Allocator + Clone> Iterator for RunReader<A> {
     ghost remaining = { λ s. at_most (run_size s) };
 
     fn next(&mut self) -> Option<IterItem<A>> {
-        match self.step_front() {
-            Some(Ok(item)) => Some(Ok(item)),
-            Some(Err(error)) => {
-                self.end();
-                Some(Err(error))
-            }
-            None => None,
-        }
+        self.answer(Direction::Front)
     }
 }
 
@@ -281,13 +178,6 @@ impl<A: Allocator + Clone> DoubleEndedIterator for RunReader<A> {
     ghost next_back_gives = { RunGives back_of back_tables };
 
     fn next_back(&mut self) -> Option<IterItem<A>> {
-        match self.step_back() {
-            Some(Ok(item)) => Some(Ok(item)),
-            Some(Err(error)) => {
-                self.end();
-                Some(Err(error))
-            }
-            None => None,
-        }
+        self.answer(Direction::Back)
     }
 }

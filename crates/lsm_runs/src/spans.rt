@@ -1,12 +1,14 @@
 //! Spans of runs: some tables that stand together, by the first and the last place.
-ghost use Rattle.std.specs.Prelude.{◌≡◌, ◌+◌, ◌<◌, ◌==◌, ◌||◌, IfSome, length};
+ghost use Rattle.std.specs.Prelude.{◌≡◌, ◌+◌, ◌<◌, ◌≤◌, ◌==◌, ◌||◌, IfSome, length};
 ghost use Rattle.lsm_ranges.specs.Run.{ArePlacesOf, IsInOrder, overlap_indexes};
 ghost use Rattle.lsm_runs.specs.RunParts.{ends_given, range_of, ranges_of};
+ghost use Rattle.lsm_runs.specs.Tables.{place_taken};
 
 use crate::bounds::edge;
 use lsm_ranges::Run;
 use lsm_readers::Table;
 use sst_blocks::UserKey;
+use sst_entries::Direction;
 use std::alloc::Allocator;
 use std::ops::Bound;
 
@@ -47,4 +49,19 @@ pub(crate) fn place_behind<T>(tables: &[T], place: usize) -> usize
     ensures { result ≡ place + 1 }
 {
     place + 1
+}
+
+/// The place at an end of those from one up to another, and the places that are left.
+pub(crate) fn place_at_end(lo: usize, hi: usize, at: Direction) -> (usize, usize, usize)
+    requires { lo < hi }
+    ensures is { result ≡ place_taken at lo hi }
+    ensures within { (lo ≤ result.0) × (result.0 < hi) }
+    ensures fewer { result.2 + lo + 1 ≡ hi + result.1 }
+    ensures order { result.1 ≤ result.2 }
+    ensures behind { result.2 ≤ hi }
+{
+    match at {
+        Direction::Front => (lo, lo + 1, hi),
+        Direction::Back => (hi - 1, lo, hi - 1),
+    }
 }

@@ -1,20 +1,23 @@
 //! The tables of a run that are not opened yet.
-ghost use Rattle.std.specs.Prelude.{◌≡◌, ◌<◌, [], Some, IfOk, IfErr, length, slice_get};
+ghost use Rattle.std.specs.Prelude.{◌≡◌, ◌+◌, ◌<◌, Some, IfOk, IfErr, length, slice_get};
 ghost use Rattle.std.specs.Arc.{arc_value};
-ghost use Rattle.sst_entries.specs.Stream.{back_of, front_of};
 ghost use Rattle.sst_entries.specs.declared.error.Error.TheVariants.{OutOfMemory};
 ghost use Rattle.lsm_ranges.specs.Run.{ArePlacesOf};
 ghost use Rattle.lsm_readers.specs.Ranges.{IsRangeOf};
 ghost use Rattle.lsm_readers.specs.Table.{OpenTable};
+ghost use Rattle.lsm_iters.specs.Range.{range_remains};
+ghost use Rattle.lsm_walks.specs.Parts.{LoadGives};
 ghost use Rattle.lsm_runs.specs.RunParts.{span_part_at, span_of, span_parts};
-ghost use Rattle.lsm_runs.specs.RunRange.{OpensAt, none_unopened};
+ghost use Rattle.lsm_runs.specs.Tables.{EndsTables, KeepsTables, coming_tables, opened_by};
 
 use crate::bounds::share;
-use crate::spans::{is_end, place_behind};
+use crate::spans::{is_end, place_at_end, place_behind};
 use lsm_iters::Iter;
 use lsm_ranges::Run;
 use lsm_readers::Table;
+use lsm_walks::Parts;
 use sst_blocks::{Error, UserKey};
+use sst_entries::Direction;
 use std::alloc::Allocator;
 use std::marker::Model;
 use std::ops::Bound;
@@ -100,48 +103,44 @@ impl<A: Allocator> Unopened<A> {
     {
         self.opened
     }
-
-    /// Lets go what is left.
-    pub(crate) fn end(&mut self)
-        ensures { self.new ≡ none_unopened self.old }
-    {
-        self.lo = self.hi;
-    }
 }
 
-impl<A: Allocator + Clone> Unopened<A> {
-    /// Opens the first table.
-    pub(crate) fn next(&mut self) -> Option<Result<Iter<A>, Error>>
-        ensures { OpensAt front_of self.old result self.new }
+impl<A: Allocator + Clone> Parts for Unopened<A> {
+    type Part = Iter<A>;
+
+    ghost coming = { coming_tables };
+
+    ghost keeps = { KeepsTables };
+
+    ghost ends = { EndsTables };
+
+    /// Opens the table at an end, and counts it. Where that is refused none is to come any more, and
+    /// nothing is counted.
+    #[inline(never)]
+    fn load(&mut self, at: Direction) -> Option<Result<Iter<A>, Error>>
+        ensures gives { let remains = range_remains {A = A} in
+            LoadGives remains coming_tables KeepsTables at self.old result self.new }
+        ensures counted { self.new.opened ≡ opened_by result + self.old.opened }
     {
         if self.lo == self.hi {
             return None;
         }
-        let place = self.lo;
-        self.lo += 1;
+        let (place, lo, hi) = place_at_end(self.lo, self.hi, at);
         match reader_at(self.run.as_slice(), place, self.ends, &self.range) {
             Ok(reader) => {
+                self.lo = lo;
+                self.hi = hi;
                 self.opened += 1;
                 Some(Ok(reader))
             }
-            Err(refusal) => Some(Err(refusal)),
+            Err(refusal) => {
+                self.end();
+                Some(Err(refusal))
+            }
         }
     }
 
-    /// Opens the last table.
-    pub(crate) fn next_back(&mut self) -> Option<Result<Iter<A>, Error>>
-        ensures { OpensAt back_of self.old result self.new }
-    {
-        if self.lo == self.hi {
-            return None;
-        }
-        self.hi -= 1;
-        match reader_at(self.run.as_slice(), self.hi, self.ends, &self.range) {
-            Ok(reader) => {
-                self.opened += 1;
-                Some(Ok(reader))
-            }
-            Err(refusal) => Some(Err(refusal)),
-        }
+    fn end(&mut self) {
+        self.lo = self.hi;
     }
 }

@@ -10,7 +10,7 @@ use Rattle.sst_entries.specs.declared.error.Error.TheVariants.{OutOfMemory}
 use Rattle.sst_entries.specs.Error.{is_memory}
 use Rattle.sst_entries.specs.Span.{Span, SpanGives, rest_in}
 use Rattle.sst_entries.specs.Stream.{first, but_first, last, but_last, back_of, ok_results}
-use Rattle.lsm_walks.specs.Ends.{StepGives, laid_from, seen_from, span_remains, taken_at}
+use Rattle.lsm_walks.specs.Ends.{StepAnswers, StepGives, laid_from, seen_from, span_remains, taken_at}
 use Rattle.lsm_walks.specs.Parts.{Loading, all_results, early_behind, none_behind, results_of}
 
 pub pair : {A B : Type 0} {a c : A} {b d : B} → a ≡ c → b ≡ d → ◌≡◌ {A = A × B} (a, b) (c, d)
@@ -171,11 +171,14 @@ module _ {X Y : Type 0} (f : X → Y) where
 not_memory : (e : Error) → e ≡ OutOfMemory → is_memory e ≡ false → ⊥
 not_memory e is fine = let wrong : true ≡ false = sym (ap is_memory is) ∙ fine in absurd cc
 
-pub span_step : {X : Type 0} (at : Direction) (s t : Span X) (r : Option (Result X Error)) → SpanGives (taken_at at) s r t → StepGives at (span_remains s) r (span_remains t)
-span_step at s t None gives =
+span_answer : {X : Type 0} (at : Direction) (s t : Span X) (r : Option (Result X Error)) → SpanGives (taken_at at) s r t → StepAnswers at (span_remains s) r (span_remains t)
+span_answer at s t None gives =
     (ap ok_results gives.answer.0, record { results = ap ok_results gives.answer.1; loads = refl })
-span_step {X = X} at s t (Some (Ok x)) gives =
+span_answer {X = X} at s t (Some (Ok x)) gives =
     map_taken (λ (y : X). Ok y) at (rest_in s) (taken_at at (rest_in s)).1 x (whole_end at (rest_in s) x gives.answer.0)
     ∙ ap (λ (ys : List X). (Some (Ok x), ok_results ys)) (sym gives.answer.1)
-span_step {X = X} at s t (Some (Err e)) gives =
+span_answer {X = X} at s t (Some (Err e)) gives =
     (λ fine. absurd (not_memory e gives.answer.0 fine), λ over. gives.answer.1 (map_none (λ (y : X). Ok y) (rest_in s) over.results))
+
+pub span_step : {X : Type 0} (at : Direction) (s t : Span X) (r : Option (Result X Error)) → SpanGives (taken_at at) s r t → StepGives at (span_remains s) r (span_remains t)
+span_step at s t r gives = record { answer = span_answer at s t r gives; loads = omega arith }

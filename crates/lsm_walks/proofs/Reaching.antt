@@ -9,9 +9,9 @@ use Rattle.sst_entries.specs.declared.stream.Direction.TheVariants.{Front, Back}
 use Rattle.sst_entries.specs.Error.{is_memory}
 use Rattle.sst_entries.specs.Stream.{answer_stops}
 use Rattle.lsm_walks.specs.declared.walk.Walk.{Walk}
-use Rattle.lsm_walks.specs.Ends.{IsOver, Remains, StepGives, taken_at, laid_from, remains_in, seen_from}
+use Rattle.lsm_walks.specs.Ends.{IsOver, Remains, StepAnswers, StepGives, taken_at, laid_from, remains_in, seen_from}
 use Rattle.lsm_walks.specs.Parts.{Coming, IsDone, LoadGives, Loading, Loads, Names, Tells, early_behind, early_among, early_named, loads_in, needed, none_behind, results_of, all_results}
-use Rattle.lsm_walks.specs.Walks.{WalkTakes, early_at, far, near, needed_at, walk_left, with_far, with_near}
+use Rattle.lsm_walks.specs.Walks.{StopsAtError, WalkGives, WalkTakes, early_at, far, near, needed_at, other_loads, walk_left, with_far, with_near}
 use Rattle.lsm_walks.proofs.AtEnds.{first_alone, first_joined, nil_joined, nil_left, nil_right, no_items, none_at, pair, joined_assoc, rows_split, seen_none, seen_split, shortens, takes_joined, whole_end}
 
 -- ---- how many parts an answer needs
@@ -61,6 +61,17 @@ module _ {P T X : Type 0} (left : T → Remains X) (coming : P → Coming X) whe
 
   abbrev pub parts_in : Walk P T → List (Result (Loading X) Error)
   parts_in w = (coming w.parts).parts
+
+  -- the loads beside those of the parts to come, as an end sees them
+  abbrev pub near_loads : Direction → Walk P T → ℕ
+  near_loads at w = (remains_in left (near at w)).loads
+
+  abbrev pub far_loads : Direction → Walk P T → ℕ
+  far_loads at w = (remains_in left (far at w)).loads
+
+  pub others_are : (at : Direction) (w : Walk P T) → other_loads left coming w ≡ near_loads at w + (coming w.parts).loads + far_loads at w
+  others_are Front w = refl
+  others_are Back w = omega arith
 
   -- what is left, as an end sees it
   abbrev pub from_end : Direction → Walk P T → List (Result X Error)
@@ -142,6 +153,7 @@ module _ {P T X : Type 0} (left : T → Remains X) (coming : P → Coming X) (ke
   pub record Reached (s u : Walk P T) : Type 0 where
     pub results : from_end left coming at u ≡ from_end left coming at s
     pub over : AllOver left coming at s → AllOver left coming at u
+    pub others : other_loads left coming u ≤ other_loads left coming s
     pub named : List (Option (Result (Loading X) Error))
     pub loads : Loads keeps s.parts named u.parts
     pub within : loads_in named + length (parts_in left coming u) ≤ length (parts_in left coming s)
@@ -158,6 +170,7 @@ module _ {P T X : Type 0} (left : T → Remains X) (coming : P → Coming X) (ke
     reached = record {
       results = refl;
       over = λ all. all;
+      others = omega arith;
       named = [];
       loads = refl;
       within = omega arith;
@@ -167,19 +180,32 @@ module _ {P T X : Type 0} (left : T → Remains X) (coming : P → Coming X) (ke
     fresh = λ none. refl;
   }
 
+  -- a step at the part at the end makes no other loads more or fewer
+  others_kept : (u v : Walk P T) → Keeps left coming u v (far at u) (far at v) → other_loads left coming v + near_loads left coming at u ≡ other_loads left coming u + near_loads left coming at v
+  others_kept u v same =
+      omega (
+        arith,
+        others_are left coming at u,
+        others_are left coming at v,
+        ap (λ (p : P). (coming p).loads) same.parts,
+        ap (λ (o : Option T). (remains_in left o).loads) same.other,
+      )
+
   -- the part at the end has nothing more
   pub kept : (s u v : Walk P T) → Reached s u → StepGives at (remains_in left (near at u)) None (remains_in left (near at v)) → v ≡ with_near at u (near at v) → Reached s v
   kept s u v reached gives is =
       let same = near_keeps left coming at u v (near at v) is in
-      let near_same : near_results left coming at v ≡ near_results left coming at u = gives.1.results ∙ sym gives.0 in
+      let over : IsOver (remains_in left (near at v)) = gives.answer.1 in
+      let near_same : near_results left coming at v ≡ near_results left coming at u = over.results ∙ sym gives.answer.0 in
       let parts_same : parts_in left coming v ≡ parts_in left coming u = ap (λ (p : P). (coming p).parts) same.parts in
       record {
         results = same_end at _ _ _ _ _ _ near_same parts_same (ap (λ (o : Option T). (remains_in left o).results) same.other) ∙ reached.results;
         over = λ all. let was = reached.over all in record {
-          near = gives.1;
+          near = over;
           done = subst (λ (p : P). IsDone (coming p)) (sym same.parts) was.done;
           far = subst (λ (o : Option T). IsOver (remains_in left o)) (sym same.other) was.far;
         };
+        others = omega (arith, reached.others, gives.loads, others_kept u v same);
         named = reached.named;
         loads = subst (λ (p : P). Loads keeps s.parts reached.named p) (sym same.parts) reached.loads;
         within = omega (arith, reached.within, ap length parts_same);
@@ -198,21 +224,23 @@ module _ {P T X : Type 0} (left : T → Remains X) (coming : P → Coming X) (ke
     pub takes : taken_at at (coming u).parts ≡ (Some (Ok load), (coming t).parts)
     pub told : (left part).results ≡ load.results
     pub fine : load.early ≡ None
+    pub loads : (left part).loads + (coming t).loads ≤ (coming u).loads
     pub kept : keeps u (Some (Ok load)) t
 
-  enters_by : (u : P) (part : T) (t : P) (named : Option (Result (Loading X) Error)) → Names at (coming u) named (coming t) → Tells left named (Some (Ok part)) → ((f : Error) → early_named named ≡ Some f → ◌≡◌ {A = Option (Result T Error)} (Some (Ok part)) (Some (Err f))) → keeps u named t → Enters u part t
-  enters_by u part t None names told first keep = absurd cc
-  enters_by u part t (Some (Err e)) names told first keep = absurd cc
-  enters_by u part t (Some (Ok load)) names told first keep = record {
+  enters_by : (u : P) (part : T) (t : P) (named : Option (Result (Loading X) Error)) → Names at (coming u) named (coming t) → Tells left named (Some (Ok part)) → ((f : Error) → early_named named ≡ Some f → ◌≡◌ {A = Option (Result T Error)} (Some (Ok part)) (Some (Err f))) → (left part).loads + (coming t).loads ≤ (coming u).loads → keeps u named t → Enters u part t
+  enters_by u part t None names told first few keep = absurd cc
+  enters_by u part t (Some (Err e)) names told first few keep = absurd cc
+  enters_by u part t (Some (Ok load)) names told first few keep = record {
     load = load;
     takes = names;
     told = told;
     fine = no_fault load.early (λ f early. let wrong : ◌≡◌ {A = Option (Result T Error)} (Some (Ok part)) (Some (Err f)) = first f early in absurd cc);
+    loads = few;
     kept = keep;
   }
 
   pub enters_of : (u : P) (part : T) (t : P) → LoadGives left coming keeps at u (Some (Ok part)) t → Enters u part t
-  enters_of u part t gives = enters_by u part t gives.named gives.names gives.told gives.first gives.kept
+  enters_of u part t gives = enters_by u part t gives.named gives.names gives.told gives.first gives.loads gives.kept
 
   pub advance : (s u v : Walk P T) (part : T) → Reached s u → near_results left coming at u ≡ [] → Enters u.parts part v.parts → near at v ≡ Some part → far at v ≡ far at u → Going s v
   advance s u v part reached none enters put other =
@@ -242,6 +270,15 @@ module _ {P T X : Type 0} (left : T → Remains X) (coming : P → Coming X) (ke
         reached = record {
           results = same ∙ reached.results;
           over = λ all. absurd (omega (arith, shorter, ap length (reached.over all).done.parts));
+          others = omega (
+            arith,
+            reached.others,
+            enters.loads,
+            others_are left coming at u,
+            others_are left coming at v,
+            ap (λ (o : Option T). (remains_in left o).loads) put,
+            ap (λ (o : Option T). (remains_in left o).loads) other,
+          );
           named = Some (Ok load) ∷ reached.named;
           loads = (u.parts, reached.loads, enters.kept);
           within = omega (arith, shorter, reached.within);
@@ -337,7 +374,7 @@ module _ {P T X : Type 0} (left : T → Remains X) (coming : P → Coming X) (ke
 
   -- ---- the answers
 
-  near_answer : (s u v : Walk P T) (x : Result X Error) → Reached s u → Keeps left coming u v (far at u) (far at v) → StepGives at (remains_in left (near at u)) (Some x) (remains_in left (near at v)) → StepGives at (walk_left left coming s) (Some x) (walk_left left coming v)
+  near_answer : (s u v : Walk P T) (x : Result X Error) → Reached s u → Keeps left coming u v (far at u) (far at v) → StepAnswers at (remains_in left (near at u)) (Some x) (remains_in left (near at v)) → StepAnswers at (walk_left left coming s) (Some x) (walk_left left coming v)
   near_answer s u v (Ok x) reached same gives =
       ap (taken_at at) (from_end_is left coming at s ∙ sym reached.results)
       ∙ takes_joined at (near_results left coming at u) (near_results left coming at v) (laid_from at (all_results (parts_in left coming u)) (far_results left coming at u)) (Ok x) gives
@@ -348,11 +385,11 @@ module _ {P T X : Type 0} (left : T → Remains X) (coming : P → Coming X) (ke
     λ over. gives.1 (reached.over (all_over left coming at s over)).near,
   )
 
-  near_stands : (l m : Remains X) (x : Result X Error) (n : ℕ) → StepGives at l (Some x) m → answer_stops is_memory (Some x) ≡ false → none_behind l.results n ≡ 0
+  near_stands : (l m : Remains X) (x : Result X Error) (n : ℕ) → StepAnswers at l (Some x) m → answer_stops is_memory (Some x) ≡ false → none_behind l.results n ≡ 0
   near_stands l m (Ok x) n gives fine = some_behind at l.results (Ok x) n (ap (λ (p : Option (Result X Error) × List (Result X Error)). p.0) gives)
   near_stands l m (Err e) n gives fine = some_behind at l.results (Err e) n (gives.0 fine)
 
-  not_over : (l m : Remains X) (x : Result X Error) → StepGives at l (Some x) m → IsOver l → ⊥
+  not_over : (l m : Remains X) (x : Result X Error) → StepAnswers at l (Some x) m → IsOver l → ⊥
   not_over l m (Ok x) gives over = none_at at l.results (Ok x) over.results (ap (λ (p : Option (Result X Error) × List (Result X Error)). p.0) gives)
   not_over l m (Err e) gives over = gives.1 over
 
@@ -362,20 +399,21 @@ module _ {P T X : Type 0} (left : T → Remains X) (coming : P → Coming X) (ke
       let same = near_keeps left coming at u v (near at v) is in
       let us : List (Result (Loading X) Error) = parts_in left coming u in
       record {
-        answer = near_answer s u v x reached same gives;
+        answer = near_answer s u v x reached same gives.answer;
+        others = omega (arith, reached.others, gives.loads, others_kept u v same);
         named = reached.named;
         loads = subst (λ (p : P). Loads keeps s.parts reached.named p) (sym same.parts) reached.loads;
         within = omega (arith, reached.within, ap (λ (p : P). length (coming p).parts) same.parts);
         most = omega (arith, reached.most);
         some = λ short needs. positive (length reached.named) (λ nil.
             let none : near_results left coming at u ≡ [] = none_before _ (needed (seen_from at us)) (omega (arith, needs, reached.most, no_loads reached.named nil)) in
-            not_over (remains_in left (near at u)) (remains_in left (near at v)) x gives (record { results = none; loads = going.fresh nil ∙ short }));
-        exact = λ fine. omega (arith, reached.most, near_stands (remains_in left (near at u)) (remains_in left (near at v)) x (needed (seen_from at us)) gives fine);
+            not_over (remains_in left (near at u)) (remains_in left (near at v)) x gives.answer (record { results = none; loads = going.fresh nil ∙ short }));
+        exact = λ fine. omega (arith, reached.most, near_stands (remains_in left (near at u)) (remains_in left (near at v)) x (needed (seen_from at us)) gives.answer fine);
         first = λ f early all. absurd (omega (arith, all, reached.most, early_behind_needs (near_results left coming at u) (seen_from at us) f (reached.early ∙ early)));
       }
 
-  pub fault : (s u v : Walk P T) (e : Error) → Reached s u → near_results left coming at u ≡ [] → LoadGives left coming keeps at u.parts (Some (Err e)) v.parts → WalkTakes left coming keeps at s (Some (Err e)) v
-  fault s u v e reached none gives =
+  pub fault : (s u v : Walk P T) (e : Error) → Reached s u → near_results left coming at u ≡ [] → LoadGives left coming keeps at u.parts (Some (Err e)) v.parts → near at v ≡ near at u → far at v ≡ far at u → WalkTakes left coming keeps at s (Some (Err e)) v
+  fault s u v e reached none gives near_is far_is =
       let faults = faults_of u.parts e v.parts gives in
       let us : List (Result (Loading X) Error) = parts_in left coming u in
       let zs : List (Result X Error) = far_results left coming at u in
@@ -399,6 +437,15 @@ module _ {P T X : Type 0} (left : T → Remains X) (coming : P → Coming X) (ke
               ∙ first_joined at (Err e ∷ []) (all_results others) (Err e) (first_alone at (Err e))),
           λ over. faults.some (reached.over (all_over left coming at s over)).done,
         );
+        others = omega (
+          arith,
+          reached.others,
+          gives.loads,
+          others_are left coming at u,
+          others_are left coming at v,
+          ap (λ (o : Option T). (remains_in left o).loads) near_is,
+          ap (λ (o : Option T). (remains_in left o).loads) far_is,
+        );
         named = Some faults.place ∷ reached.named;
         loads = (u.parts, reached.loads, faults.kept);
         within = omega (arith, faults.within, faults.is reached.named, reached.within);
@@ -408,7 +455,7 @@ module _ {P T X : Type 0} (left : T → Remains X) (coming : P → Coming X) (ke
         first = λ f early all. ap (λ (x : Error). Some (Err x)) (faults.first f (sym early_is ∙ reached.early ∙ early) (omega (arith, faults.is reached.named, all, reached.most, needs)));
       }
 
-  far_answer : (s v : Walk P T) (l : Remains X) (r : Option (Result X Error)) → (walk_left left coming s).results ≡ l.results → (walk_left left coming v).results ≡ far_results left coming at v → (IsOver (walk_left left coming s) → IsOver l) → (IsOver (remains_in left (far at v)) → IsOver (walk_left left coming v)) → StepGives at l r (remains_in left (far at v)) → StepGives at (walk_left left coming s) r (walk_left left coming v)
+  far_answer : (s v : Walk P T) (l : Remains X) (r : Option (Result X Error)) → (walk_left left coming s).results ≡ l.results → (walk_left left coming v).results ≡ far_results left coming at v → (IsOver (walk_left left coming s) → IsOver l) → (IsOver (remains_in left (far at v)) → IsOver (walk_left left coming v)) → StepAnswers at l r (remains_in left (far at v)) → StepAnswers at (walk_left left coming s) r (walk_left left coming v)
   far_answer s v l None was is from to gives = (was ∙ gives.0, to gives.1)
   far_answer s v l (Some (Ok x)) was is from to gives = ap (taken_at at) was ∙ gives ∙ pair refl (sym is)
   far_answer s v l (Some (Err e)) was is from to gives =
@@ -437,7 +484,17 @@ module _ {P T X : Type 0} (left : T → Remains X) (coming : P → Coming X) (ke
         answer = far_answer s v (remains_in left (far at w)) r was (alone v near_over.results done.parts)
             (λ over. subst (λ (o : Option T). IsOver (remains_in left o)) (sym far_is) (reached.over (all_over left coming at s over)).far)
             (λ over. over_is left coming at v (record { near = near_over; done = done; far = over }))
-            step;
+            step.answer;
+        others = omega (
+          arith,
+          reached.others,
+          step.loads,
+          done.loads,
+          near_over.loads,
+          others_are left coming at u,
+          others_are left coming at v,
+          ap (λ (o : Option T). (remains_in left o).loads) far_is,
+        );
         named = None ∷ reached.named;
         loads = (u.parts, reached.loads, subst (λ (p : P). keeps u.parts None p) (sym same.parts) rests.kept);
         within = omega (arith, reached.within, ap length done.parts);
@@ -445,4 +502,33 @@ module _ {P T X : Type 0} (left : T → Remains X) (coming : P → Coming X) (ke
         some = λ short some. omega arith;
         exact = λ fine. omega (arith, reached.most, needs);
         first = λ f early all. absurd (omega (arith, needs, early_behind_needs (near_results left coming at u) (seen_from at us) f (reached.early ∙ early)));
+      }
+
+-- ---- a step, before and behind its end
+
+module _ {P T X : Type 0} (left : T → Remains X) (coming : P → Coming X) (keeps : P → Option (Result (Loading X) Error) → P → Type 0) (ends : P → P → Type 0) (at : Direction) where
+  step_answer : (r : Option (Result X Error)) (s u v : Walk P T) → StepAnswers at (walk_left left coming s) r (walk_left left coming u) → StopsAtError left coming ends r u v → StepAnswers at (walk_left left coming s) r (walk_left left coming v)
+  step_answer None s u v answer goes = subst (λ (w : Walk P T). StepAnswers at (walk_left left coming s) None (walk_left left coming w)) (sym goes) answer
+  step_answer (Some (Ok x)) s u v answer goes = subst (λ (w : Walk P T). StepAnswers at (walk_left left coming s) (Some (Ok x)) (walk_left left coming w)) (sym goes) answer
+  step_answer (Some (Err e)) s u v answer goes = answer
+
+  step_loads : (r : Option (Result X Error)) (u v : Walk P T) → StopsAtError left coming ends r u v → (walk_left left coming v).loads ≤ (walk_left left coming u).loads
+  step_loads None u v goes = omega (arith, ap (λ (w : Walk P T). (walk_left left coming w).loads) goes)
+  step_loads (Some (Ok x)) u v goes = omega (arith, ap (λ (w : Walk P T). (walk_left left coming w).loads) goes)
+  step_loads (Some (Err e)) u v goes =
+      omega (
+        arith,
+        goes.done.loads,
+        ap length goes.done.parts,
+        ap (λ (o : Option T). (remains_in left o).loads) goes.front,
+        ap (λ (o : Option T). (remains_in left o).loads) goes.back,
+      )
+
+  -- it is one of what is left
+  pub step_of : (s v : Walk P T) (r : Option (Result X Error)) → WalkGives left coming keeps ends at s r v → StepGives at (walk_left left coming s) r (walk_left left coming v)
+  step_of s v r gives =
+      let takes = gives.takes in
+      record {
+        answer = step_answer r s gives.taken v takes.answer gives.goes;
+        loads = omega (arith, takes.within, takes.others, step_loads r gives.taken v gives.goes);
       }

@@ -1,5 +1,5 @@
 -- The ends of a list, and one step at an end of what is left.
-use Rattle.std.specs.Prelude.{◌≡◌, ℕ, false, List, [], ◌++◌, reverse, Option, Some, None}
+use Rattle.std.specs.Prelude.{◌≡◌, ℕ, ◌≤◌, false, List, [], ◌++◌, reverse, Option, Some, None}
 use Rattle.std.specs.Prelude.{Result, Ok, Err}
 use Rattle.sst_entries.specs.declared.error.Error.{Error}
 use Rattle.sst_entries.specs.declared.stream.Direction.{Direction}
@@ -48,9 +48,15 @@ span_remains s = record { results = ok_results (rest_in s); loads = 0 }
 
 -- an answer at an end: the result that stands there, and the others are left; nothing, where
 -- nothing is left; want of memory stands in the place of any answer, except once all is over
-abbrev pub StepGives : {X : Type 0} → Direction → Remains X → Option (Result X Error) → Remains X
+abbrev pub StepAnswers : {X : Type 0} → Direction → Remains X → Option (Result X Error) → Remains X
     → Type 0
-StepGives at s None t = (s.results ≡ []) × IsOver t
-StepGives at s (Some (Ok x)) t = taken_at at s.results ≡ (Some (Ok x), t.results)
-StepGives at s (Some (Err e)) t =
+StepAnswers at s None t = (s.results ≡ []) × IsOver t
+StepAnswers at s (Some (Ok x)) t = taken_at at s.results ≡ (Some (Ok x), t.results)
+StepAnswers at s (Some (Err e)) t =
     (is_memory e ≡ false → (taken_at at s.results).0 ≡ Some (Err e)) × (IsOver s → ⊥)
+
+-- one step at an end: no more loads are left than before
+pub record StepGives {X : Type 0} (at : Direction) (s : Remains X) (r : Option (Result X Error))
+    (t : Remains X) : Type 0 where
+  pub answer : StepAnswers at s r t
+  pub loads : t.loads ≤ s.loads

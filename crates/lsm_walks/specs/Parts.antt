@@ -1,5 +1,5 @@
 -- Parts that are to come, and one load of them.
-use Rattle.std.specs.Prelude.{◌≡◌, ℕ, suc, false, List, [], ◌∷◌, Option, Some, None}
+use Rattle.std.specs.Prelude.{◌≡◌, ℕ, suc, ◌+◌, ◌≤◌, false, List, [], ◌∷◌, Option, Some, None}
 use Rattle.std.specs.Prelude.{Result, Ok, Err}
 use Rattle.std.specs.List.{flat_map}
 use Rattle.std.specs.Option.{option_or}
@@ -15,7 +15,7 @@ pub record Loading (X : Type 0) : Type 0 where
   pub early : Option Error
 
 -- the parts to come, with an error in the place of a part that cannot be named; and how many loads
--- may be made to name them
+-- may be made beside theirs: to name them, and by each of its own once it is loaded
 pub record Coming (X : Type 0) : Type 0 where
   pub parts : List (Result (Loading X) Error)
   pub loads : ℕ
@@ -81,14 +81,21 @@ early_named None = None
 early_named (Some (Ok part)) = part.early
 early_named (Some (Err e)) = None
 
--- the next part at an end was loaded; a fault that needs no memory to be found comes before any
--- want of it
+-- how many loads a part that was loaded may make of its own
+abbrev pub own_of : {T X : Type 0} → (T → Remains X) → Option (Result T Error) → ℕ
+own_of left None = 0
+own_of left (Some (Ok loaded)) = (left loaded).loads
+own_of left (Some (Err e)) = 0
+
+-- the next part at an end was loaded; its own loads are among those that were to be made; a fault
+-- that needs no memory to be found comes before any want of it
 pub record LoadGives {P T X : Type 0} (left : T → Remains X) (coming : P → Coming X)
     (keeps : P → Option (Result (Loading X) Error) → P → Type 0)
     (at : Direction) (s : P) (r : Option (Result T Error)) (t : P) : Type 0 where
   pub named : Option (Result (Loading X) Error)
   pub names : Names at (coming s) named (coming t)
   pub told : Tells left named r
+  pub loads : own_of left r + (coming t).loads ≤ (coming s).loads
   pub first : (f : Error) → early_named named ≡ Some f → r ≡ Some (Err f)
   pub kept : keeps s named t
 

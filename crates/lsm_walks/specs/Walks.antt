@@ -7,7 +7,7 @@ use Rattle.sst_entries.specs.declared.stream.Direction.TheVariants.{Front, Back}
 use Rattle.sst_entries.specs.Error.{is_memory}
 use Rattle.sst_entries.specs.Stream.{answer_stops}
 use Rattle.lsm_walks.specs.declared.walk.Walk.{Walk}
-use Rattle.lsm_walks.specs.Ends.{Remains, StepGives, remains_in, seen_from}
+use Rattle.lsm_walks.specs.Ends.{Remains, StepAnswers, remains_in, seen_from}
 use Rattle.lsm_walks.specs.Parts.{Coming, IsDone, Loading, Loads, all_results, early_among}
 use Rattle.lsm_walks.specs.Parts.{early_behind, loads_in, needed, none_behind}
 
@@ -38,6 +38,11 @@ pub record Ended {P T X : Type 0} (coming : P → Coming X) (ends : P → P → 
   pub kept : ends s.parts t.parts
 
 module _ {P T X : Type 0} (left : T → Remains X) (coming : P → Coming X) where
+  -- how many loads may be made beside those of the parts that are to come
+  abbrev pub other_loads : Walk P T → ℕ
+  other_loads w =
+      (remains_in left w.front).loads + (coming w.parts).loads + (remains_in left w.back).loads
+
   -- what is left: of the part at the front, of the parts to come, and of the part at the back
   abbrev pub walk_left : Walk P T → Remains X
   walk_left w =
@@ -46,7 +51,7 @@ module _ {P T X : Type 0} (left : T → Remains X) (coming : P → Coming X) whe
       let to_come = coming w.parts in
       record {
         results = front.results ++ (all_results to_come.parts ++ back.results);
-        loads = front.loads + (length to_come.parts + to_come.loads + back.loads);
+        loads = length to_come.parts + other_loads w;
       }
 
   -- how many parts an answer needs at an end: none where a result of a loaded part stands there
@@ -61,13 +66,15 @@ module _ {P T X : Type 0} (left : T → Remains X) (coming : P → Coming X) whe
       let parts = seen_from at (coming w.parts).parts in
       early_behind (remains_in left (near at w)).results (early_among parts)
 
-  -- one step at an end, before an error ends the walk. It loads the parts that it needs, and no
-  -- more where it wants memory; where it needs one it does not want memory before it asked for it,
-  -- unless the part at the end may load something of its own. Where all of them were loaded, a
-  -- fault that needs no memory to be found comes before any want of it
+  -- one step at an end, before an error ends the walk; it leaves no more other loads than before.
+  -- It loads the parts that it needs, and no more where it wants memory; where it needs one it does
+  -- not want memory before it asked for it, unless the part at the end may load something of its
+  -- own. Where all of them were loaded, a fault that needs no memory to be found comes before any
+  -- want of it
   pub record WalkTakes (keeps : P → Option (Result (Loading X) Error) → P → Type 0)
       (at : Direction) (s : Walk P T) (r : Option (Result X Error)) (t : Walk P T) : Type 0 where
-    pub answer : StepGives at (walk_left s) r (walk_left t)
+    pub answer : StepAnswers at (walk_left s) r (walk_left t)
+    pub others : other_loads t ≤ other_loads s
     pub named : List (Option (Result (Loading X) Error))
     pub loads : Loads keeps s.parts named t.parts
     pub within :

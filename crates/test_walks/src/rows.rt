@@ -8,10 +8,12 @@ use lsm_walks::{Ends, Parts};
 use sst_entries::{Direction, Error};
 use std::collections::LinkedList;
 
-/// Numbers, dealt from both ends.
+/// Numbers, dealt from both ends, and how many loads they may make of their own: each step may make
+/// one.
 #[derive(Drop)]
 pub struct Row {
     pub numbers: LinkedList<u8>,
+    pub loads: u8,
 }
 
 /// Rows, and an error in the place of one that cannot be loaded.
@@ -26,15 +28,19 @@ impl Ends for Row {
     ghost left = { row_remains };
 
     fn step(&mut self, at: Direction) -> Option<Result<u8, Error>> {
-        match at {
-            Direction::Front => match self.numbers.pop_front() {
-                Some(number) => Some(Ok(number)),
-                None => None,
-            },
-            Direction::Back => match self.numbers.pop_back() {
-                Some(number) => Some(Ok(number)),
-                None => None,
-            },
+        let number = match at {
+            Direction::Front => self.numbers.pop_front(),
+            Direction::Back => self.numbers.pop_back(),
+        };
+        match number {
+            Some(number) => {
+                self.loads = self.loads.saturating_sub(1);
+                Some(Ok(number))
+            }
+            None => {
+                self.loads = 0;
+                None
+            }
         }
     }
 }

@@ -24,7 +24,10 @@ fn row_of(alloc: Global, numbers: &[u8]) -> Result<Row, Error> {
             return Err(Error::OutOfMemory);
         }
     }
-    Ok(Row { numbers: list })
+    Ok(Row {
+        numbers: list,
+        loads: 2,
+    })
 }
 
 // A walk over rows, of which those that hold nothing but a 0 cannot be loaded.

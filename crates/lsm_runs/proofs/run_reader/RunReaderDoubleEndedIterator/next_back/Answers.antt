@@ -1,6 +1,8 @@
+use Rattle.sst_entries.specs.Stream.{back_of}
+use Rattle.lsm_runs.specs.RunRange.{back_tables}
+use Rattle.lsm_runs.proofs.RunLaws.{progress}
 use Rattle.lsm_runs.proofs.run_reader.RunReaderDoubleEndedIterator.next_back.Goals as goal
 
-pub returns-in-Some-Ok-clause-goes : goal.returns-in-Some-Ok-clause-goes
-returns-in-Some-Ok-clause-goes g c =
-    let step = rw c.in-Some-Ok.field-0-is at c.in-Some-Ok.ensures in
-    record { on = λ _. (tt, tt, step.lowers); keeps = tt; rests = λ _. tt }
+pub returns-clause-goes : goal.returns-clause-goes
+returns-clause-goes g c =
+    progress back_of back_tables c.args.self.now c.answer.result c.answer.new.self c.answer.ensures

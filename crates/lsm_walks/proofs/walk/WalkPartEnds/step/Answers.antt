@@ -1,4 +1,5 @@
 use Rattle.std.proofs.Common.{refl}
+use Rattle.lsm_walks.proofs.Reaching.{step_of}
 use Rattle.lsm_walks.proofs.walk.WalkPartEnds.step.Goals as goal
 
 pub returns-in-Some-Ok-clause-walk : goal.returns-in-Some-Ok-clause-walk
@@ -11,3 +12,12 @@ returns-in-Some-Err-clause-walk g c =
 
 pub returns-in-None-clause-walk : goal.returns-in-None-clause-walk
 returns-in-None-clause-walk g c = record { taken = c.take.new.self; takes = c.in-None.ensures; goes = refl }
+
+pub returns-in-Some-Ok-clause-gives : goal.returns-in-Some-Ok-clause-gives
+returns-in-Some-Ok-clause-gives g c = step_of _ _ _ _ c.args.at _ _ _ (returns-in-Some-Ok-clause-walk g c)
+
+pub returns-in-Some-Err-clause-gives : goal.returns-in-Some-Err-clause-gives
+returns-in-Some-Err-clause-gives g c = step_of _ _ _ _ c.args.at _ _ _ (returns-in-Some-Err-clause-walk g c)
+
+pub returns-in-None-clause-gives : goal.returns-in-None-clause-gives
+returns-in-None-clause-gives g c = step_of _ _ _ _ c.args.at _ _ _ (returns-in-None-clause-walk g c)

@@ -2,7 +2,7 @@ use Rattle.std.proofs.Common.{ap, ◌∙◌}
 use Rattle.lsm_iters.specs.declared.iter.Iter.TheInside.{Inside}
 use Rattle.lsm_iters.specs.Steps.{lifted_answer}
 use Rattle.lsm_iters.proofs.Walked.{walk_refused, walk_steps}
-use Rattle.lsm_iters.proofs.iter.Iter.step.Goals as goal
+use Rattle.lsm_iters.proofs.iter.Iter.take.Goals as goal
 
 pub returns-in-Err : goal.returns-in-Err
 returns-in-Err g c =

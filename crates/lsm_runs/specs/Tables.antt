@@ -1,0 +1,46 @@
+-- The tables of a run that are not opened, as parts of a walk.
+use Rattle.std.specs.Prelude.{◌≡◌, ℕ, suc, ◌+◌, ◌-◌, List, [], ◌∷◌, map, Option, Some, None}
+use Rattle.std.specs.Prelude.{Result, Ok, Err}
+use Rattle.sst_entries.specs.declared.error.Error.{Error}
+use Rattle.sst_entries.specs.declared.stream.Direction.{Direction}
+use Rattle.sst_entries.specs.declared.stream.Direction.TheVariants.{Front, Back}
+use Rattle.sst_entries.specs.Entry.{Entry}
+use Rattle.lsm_walks.specs.declared.walk.Walk.{Walk}
+use Rattle.lsm_walks.specs.Parts.{Coming, Loading, loads_in}
+use Rattle.lsm_iters.specs.Range.{Range}
+use Rattle.lsm_runs.specs.RunParts.{Part, part_told}
+use Rattle.lsm_runs.specs.RunRange.{RunRange, Unopened, parts_loads}
+
+-- the place at an end of those from one up to another, and the places that are left
+abbrev pub place_taken : Direction → ℕ → ℕ → ℕ × ℕ × ℕ
+place_taken Front lo hi = (lo, suc lo, hi)
+place_taken Back lo hi = (hi - 1, lo, hi - 1)
+
+-- a table that is not opened; opening it does not look at its bytes
+abbrev pub table_named : Part → Result (Loading Entry) Error
+table_named p = Ok (record { results = part_told p; early = None })
+
+-- those that are to come, and the loads that their readers may make
+abbrev pub coming_tables : Unopened → Coming Entry
+coming_tables u = record { parts = map table_named u.parts; loads = parts_loads u.parts }
+
+-- what one load keeps: a table that it opens is counted
+abbrev pub KeepsTables : Unopened → Option (Result (Loading Entry) Error) → Unopened → Type 0
+KeepsTables s named t = t.opened ≡ loads_in (named ∷ []) + s.opened
+
+-- one, where it was opened
+abbrev pub opened_by : {T : Type 0} → Option (Result T Error) → ℕ
+opened_by None = 0
+opened_by (Some (Ok reader)) = 1
+opened_by (Some (Err e)) = 0
+
+-- none is to come any more
+abbrev pub none_unopened : Unopened → Unopened
+none_unopened u = record u { parts = [] }
+
+abbrev pub EndsTables : Unopened → Unopened → Type 0
+EndsTables s t = t ≡ none_unopened s
+
+-- a walk over them is a reader of a run
+abbrev pub run_of : {A : Type 0} → Walk Unopened (Range A) → RunRange A
+run_of w = record { unopened = w.parts; front = w.front; back = w.back }
