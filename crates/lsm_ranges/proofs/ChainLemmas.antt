@@ -1,10 +1,10 @@
 -- The chain that the walk gives, and its length.
 use Rattle.std.proofs.Common.{◌≡◌, refl, sym, ◌∙◌, ap, subst, ℕ, List, [], ◌∷◌, length, inl, inr}
-use Rattle.std.proofs.Common.{arith, Some}
+use Rattle.std.proofs.Common.{Some}
 use Rattle.std.specs.Prelude.{map, reverse, IsPermutation}
 use Rattle.std.proofs.lemmas.List.Sorted.{Contains-permutation, IsPermutation-sym}
 use Rattle.std.proofs.lemmas.List.Sorted.{length_permutation}
-use Rattle.std.proofs.lemmas.List.{length-reverse}
+use Rattle.std.proofs.lemmas.List.{length-reverse, nil_from_length, length-map}
 use Rattle.lsm_ranges.specs.KeyRange.{Interval}
 use Rattle.lsm_ranges.specs.Packing.{tables_of, table_at, put_all, AreTablesWellFormed}
 use Rattle.lsm_ranges.specs.Packing.{AreDisjointRuns, AreNotEmpty, IsLeastSize}
@@ -14,17 +14,13 @@ use Rattle.lsm_ranges.specs.declared.optimize.Link.{Link}
 use Rattle.lsm_ranges.proofs.PackLemmas.{put_all_packed, in_order_of, all_by}
 use Rattle.lsm_ranges.proofs.PackNumbers.{Rises, stacked}
 use Rattle.lsm_ranges.proofs.PackSize.{is_at_place, tables_with_places, rises_all, formed-map}
-use Rattle.lsm_ranges.proofs.PackSize.{put_all-map, length-map, least_size}
+use Rattle.lsm_ranges.proofs.PackSize.{put_all-map, least_size}
 use Rattle.lsm_ranges.proofs.LinkLemmas.{mem_contains, contains_mem}
 
 mem-map : {Y Z : Type 0} (h : Y → Z) (ys : List Y) (y : Y) → IsElement y ys
     → IsElement (h y) (map h ys)
 mem-map h [] y m = absurd m
 mem-map h (x ∷ xs) y m = elim m [ inl e ↦ inl (ap h e) | inr n ↦ inr (mem-map h xs y n) ]
-
-no_length : {Y : Type 0} (ys : List Y) → length ys ≡ 0 → ys ≡ []
-no_length [] h = refl
-no_length (y ∷ ys) h = absurd (omega (arith, h))
 
 module _ {T : Type 0} (range : T → Interval) (runs : List (List T)) (packed : List (List (Link T)))
     (h : ArePackedLinks range (runs_with_places 0 runs) packed) where
@@ -48,7 +44,7 @@ module _ {T : Type 0} (range : T → Interval) (runs : List (List T)) (packed : 
   no_chain e =
       let same : IsPermutation h.links [] = subst (λ (ps : List (List (Link T))). IsPermutation h.links (tables_of ps)) e h.same in
       let long = length_permutation h.links [] same in
-      let none : h.links ≡ [] = no_length h.links (sym long) in
+      let none : h.links ≡ [] = nil_from_length h.links (sym long) in
       sym tables_are ∙ ap (λ ls. map (λ (l : Link T). l.table.now) ls) none
 
   module _ (d : AreDisjointRuns range runs) where
@@ -85,9 +81,9 @@ module _ {T : Type 0} (range : T → Interval) (runs : List (List T)) (packed : 
         let f : Link T → Interval = λ l. range l.table.now in
         let size : length packed ≡ length (put_all range (tables_of runs) []) =
         ap length (h.put formed_tables)
-        ∙ sym (length-map (map (λ (l : Link T). l.table.now)) (put_all f h.links []))
+        ∙ sym (length-map (put_all f h.links []) (map (λ (l : Link T). l.table.now)))
         ∙ ap length (put_all-map (λ (l : Link T). l.table.now) range h.links [] ∙ ap (λ ts. put_all range ts []) tables_are) in
         subst (IsLeastSize range runs) (sym (ap length is ∙ length-reverse found ∙ whole stack_of ∙ size)) (least_size range runs d)
 
 pub chain_some : (chain found : List (ℕ × ℕ)) → chain ≡ reverse found → chain ≡ [] → found ≡ []
-chain_some chain found is e = no_length found (sym (length-reverse found) ∙ ap length (sym is) ∙ ap length e)
+chain_some chain found is e = nil_from_length found (sym (length-reverse found) ∙ ap length (sym is) ∙ ap length e)

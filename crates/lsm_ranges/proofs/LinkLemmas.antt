@@ -16,6 +16,7 @@ use Rattle.lsm_ranges.specs.Links.{runs_with_places}
 use Rattle.lsm_ranges.specs.LinkedRuns.{table_of_link, ArePackedLinks}
 use Rattle.lsm_ranges.specs.declared.optimize.Link.{Link}
 use Rattle.lsm_ranges.proofs.PackLemmas.{put_all_packed, put_all-append, formed_parts, in_order_of}
+use Rattle.lsm_ranges.proofs.PackLemmas.{filter-cons_no, filter-cons_yes}
 use Rattle.lsm_ranges.proofs.PackSize.{formed-map}
 
 module _ {X : Type 0} where
@@ -36,13 +37,6 @@ module _ {X : Type 0} where
       go (y ∷ ys) zero lt at = inl (sym at)
       go (y ∷ ys) (suc k) lt at = inr (go ys k (omega arith) at)
 
-  filter_yes : (p : X → Bool) (z : X) (zs : List X) → p z ≡ true
-      → filter p (z ∷ zs) ≡ z ∷ filter p zs
-  filter_yes p z zs e = rw e refl
-
-  filter_no : (p : X → Bool) (z : X) (zs : List X) → p z ≡ false → filter p (z ∷ zs) ≡ filter p zs
-  filter_no p z zs e = rw e refl
-
   any_no : (p : X → Bool) (z : X) (zs : List X) → p z ≡ false → list_any p (z ∷ zs) ≡ list_any p zs
   any_no p z zs e = rw e refl
 
@@ -51,8 +45,8 @@ module _ {X : Type 0} where
   none_first p [] n s = cc
   none_first p (z ∷ zs) n s =
       elim (cases_Bool (p z)) [
-        | inl e ↦ let f : None ≡ Some z = n ∙ ap (λ l. slice_get l 0) (filter_yes p z zs e) in cc
-        | inr e ↦ none_first p zs (n ∙ ap (λ l. slice_get l 0) (filter_no p z zs e)) (sym (any_no p z zs e) ∙ s)
+        | inl e ↦ let f : None ≡ Some z = n ∙ ap (λ l. slice_get l 0) (filter-cons_yes p z zs e) in cc
+        | inr e ↦ none_first p zs (n ∙ ap (λ l. slice_get l 0) (filter-cons_no p z zs e)) (sym (any_no p z zs e) ∙ s)
       ]
 
   -- where one passes, there is a first that passes
@@ -66,10 +60,10 @@ module _ {X : Type 0} where
   some_first p (z ∷ zs) x h =
       elim (cases_Bool (p z)) [
         | inl e ↦
-            let f : Some x ≡ Some z = h ∙ ap (λ l. slice_get l 0) (filter_yes p z zs e) in
+            let f : Some x ≡ Some z = h ∙ ap (λ l. slice_get l 0) (filter-cons_yes p z zs e) in
             let g : x ≡ z = cc in
             (inl g, ap p g ∙ e)
-        | inr e ↦ let k = some_first p zs x (h ∙ ap (λ l. slice_get l 0) (filter_no p z zs e)) in (inr k.0, k.1)
+        | inr e ↦ let k = some_first p zs x (h ∙ ap (λ l. slice_get l 0) (filter-cons_no p z zs e)) in (inr k.0, k.1)
       ]
 
   -- the first that passes is there, and passes

@@ -93,11 +93,11 @@ module _ {X : Type 0} where
   take_and_drop (suc n) [] = refl
   take_and_drop (suc n) (x ∷ xs) = ap (λ l. x ∷ l) (take_and_drop n xs)
 
-  filter-cons_no : (p : X → Bool) (x : X) (xs : List X) → p x ≡ false
+  pub filter-cons_no : (p : X → Bool) (x : X) (xs : List X) → p x ≡ false
       → filter p (x ∷ xs) ≡ filter p xs
   filter-cons_no p x xs e = rw e refl
 
-  filter-cons_yes : (p : X → Bool) (x : X) (xs : List X) → p x ≡ true
+  pub filter-cons_yes : (p : X → Bool) (x : X) (xs : List X) → p x ≡ true
       → filter p (x ∷ xs) ≡ x ∷ filter p xs
   filter-cons_yes p x xs e = rw e refl
 

@@ -6,6 +6,8 @@ use Rattle.std.specs.Prelude.{◌≢◌, map, not, ◌&&◌, ◌||◌, ◌==◌,
 use Rattle.std.specs.List.{list_all, list_any, AllByRecursion, insert}
 use Rattle.std.proofs.lemmas.Bool.{and_parts, and_from, cases_Bool, both_ways, eqb-true, eq-eqb}
 use Rattle.std.proofs.lemmas.Bool.{leb-true, le-leb, lt-leb, not-true}
+use Rattle.std.proofs.lemmas.List.{length-map}
+use Rattle.std.proofs.Math.Bool.{or_assoc}
 use Rattle.sst_entries.specs.Key.{key_lt}
 use Rattle.lsm_ranges.specs.KeyRange.{Interval, key_le, overlaps, are_disjoint}
 use Rattle.lsm_ranges.specs.Run.{are_in_order, how_many}
@@ -130,11 +132,7 @@ module _ {X : Type 0} (f : X → Interval) (at : X → ℕ) where
 any-append : {X : Type 0} (p : X → Bool) (xs ys : List X)
     → list_any p (xs ++ ys) ≡ (list_any p xs || list_any p ys)
 any-append p [] ys = refl
-any-append p (x ∷ xs) ys = ap (λ b. p x || b) (any-append p xs ys) ∙ assoc (p x) (list_any p xs) (list_any p ys)
-  where
-    assoc : (a b c : Bool) → (a || (b || c)) ≡ ((a || b) || c)
-    assoc true b c = refl
-    assoc false b c = refl
+any-append p (x ∷ xs) ys = ap (λ b. p x || b) (any-append p xs ys) ∙ sym (or_assoc (p x) (list_any p xs) (list_any p ys))
 
 module _ {X : Type 0} (f : X → Interval) (at : X → ℕ) where
   all_later : (p : Interval → Bool) (xs : List X) → list_all p (map f xs) ≡ true → (y : X)
@@ -392,10 +390,6 @@ module _ {X T : Type 0} (g : X → T) (range : T → Interval) where
   put_all-map [] ls = refl
   put_all-map (x ∷ xs) ls = put_all-map xs (put (λ v. range (g v)) x ls) ∙ ap (λ rs. put_all range (map g xs) rs) (put-map x ls)
 
-pub length-map : {Y Z : Type 0} (h : Y → Z) (xs : List Y) → length (map h xs) ≡ length xs
-length-map h [] = refl
-length-map h (x ∷ xs) = ap suc (length-map h xs)
-
 module _ {T : Type 0} (range : T → Interval) (runs : List (List T))
     (h : AreDisjointRuns range runs) where
   levels : List (List (TableWithPlace T))
@@ -414,7 +408,7 @@ module _ {T : Type 0} (range : T → Interval) (runs : List (List T))
   size_is : length levels ≡ length (put_all range (tables_of runs) [])
   unfolding levels
   size_is =
-      sym (length-map (map (λ (x : TableWithPlace T). x.table)) (put_all (range_of range) (runs_with_places 0 runs) []))
+      sym (length-map (put_all (range_of range) (runs_with_places 0 runs) []) (map (λ (x : TableWithPlace T). x.table)))
       ∙ ap length (put_all-map (λ (x : TableWithPlace T). x.table) range (runs_with_places 0 runs) [] ∙ ap (λ ts. put_all range ts []) (tables_with_places 0 runs))
 
   is_at : ℕ → ℕ → TableWithPlace T → Bool

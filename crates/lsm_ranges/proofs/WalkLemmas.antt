@@ -4,6 +4,7 @@ use Rattle.std.proofs.Common.{◌∷◌, ◌++◌, length, length-append, get_or
 use Rattle.std.proofs.Common.{None, Option}
 use Rattle.std.specs.Prelude.{◌≢◌, map, reverse, Contains, slice_get, MatchOption}
 use Rattle.std.proofs.lemmas.List.{reverse-append}
+use Rattle.std.proofs.lemmas.Option.{slice_get_read}
 use Rattle.lsm_ranges.specs.KeyRange.{Interval, overlaps}
 use Rattle.lsm_ranges.specs.Run.{are_in_order}
 use Rattle.lsm_ranges.specs.Packing.{tables_of, table_at, touches, AreInOrder, AreNotEmpty, IsChain}
@@ -14,12 +15,6 @@ use Rattle.lsm_ranges.proofs.PackLemmas.{mem-append_left, mem-append_right, any_
 use Rattle.lsm_ranges.proofs.LinkLemmas.{contains_mem}
 
 module _ {X : Type 0} where
-  pub slice_at : (xs : List X) (k : ℕ) (x : X) → k < length xs → x ≡ get_or xs k x
-      → slice_get xs k ≡ Some x
-  slice_at [] k x lt at = absurd (omega arith)
-  slice_at (y ∷ ys) zero x lt at = ap (λ v. Some v) (sym at)
-  slice_at (y ∷ ys) (suc k) x lt at = slice_at ys k x (omega arith) at
-
   mem_at : (ls : List (List X)) (n : ℕ) (l : List X) (x : X) → slice_get ls n ≡ Some l
       → IsElement x l → IsElement x (tables_of ls)
   mem_at [] n l x h m = absurd cc
@@ -122,7 +117,7 @@ module _ {T : Type 0} (range : T → Interval) where
       → MatchOption above (Unit {0}) (λ a. IsBelow range link a)
       → next ≡ chain ++ (link.run, link.index) ∷ [] → Walk packed (Some link) next (level - 1)
   walk_on packed above chain next level run link w some le at within below is =
-      let here : slice_get packed (level - 1) ≡ Some run = slice_at packed (level - 1) run (omega arith) at in
+      let here : slice_get packed (level - 1) ≡ Some run = slice_get_read packed (length packed) (level - 1) run refl (omega arith) at in
       let member = contains_mem run link within in
       let among = mem_at packed (level - 1) run link here member in
       let turned : reverse next ≡ (link.run, link.index) ∷ reverse chain = ap reverse is ∙ reverse-append chain ((link.run, link.index) ∷ []) in
@@ -144,7 +139,7 @@ module _ {T : Type 0} (range : T → Interval) where
       → x.run < a.run) → touches range_of (range_of a) run ≡ true → ⊥)
       → IsStack range_of run_of packed → ⊥
   goes_on_at packed above chain level run w some le at first next stack =
-      let here : slice_get packed (level - 1) ≡ Some run = slice_at packed (level - 1) run (omega arith) at in
+      let here : slice_get packed (level - 1) ≡ Some run = slice_get_read packed (length packed) (level - 1) run refl (omega arith) at in
       let place : suc (level - 1) ≡ level = omega arith in
       by above refl here place
     where
@@ -172,7 +167,7 @@ module _ {T : Type 0} (range : T → Interval) where
       → 0 < level → level ≤ length packed → run ≡ get_or packed (level - 1) run
       → (above ≡ None → run ≢ [] → ⊥) → AreNotEmpty packed → chain ≡ [] → packed ≡ []
   stopped_some packed above chain level run w some le at first filled e =
-      let here : slice_get packed (level - 1) ≡ Some run = slice_at packed (level - 1) run (omega arith) at in
+      let here : slice_get packed (level - 1) ≡ Some run = slice_get_read packed (length packed) (level - 1) run refl (omega arith) at in
       absurd (first (not_started packed above chain level w e) (some_at packed (level - 1) run here filled))
 
   pub stopped_whole : (packed : List (List (Link T))) (above : Option (Link T))
