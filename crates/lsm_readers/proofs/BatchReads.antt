@@ -9,13 +9,13 @@ use Rattle.sst_entries.specs.Error.{FaultsFirst}
 use Rattle.sst_blocks.specs.declared.block_type.BlockType.{BlockType}
 use Rattle.sst_blocks.specs.Block.{Loaded, load_told, place_fault}
 use Rattle.sst_blocks.specs.Place.{Place}
+use Rattle.sst_blocks.proofs.LoadLemmas.{load_kind}
 use Rattle.lsm_readers.specs.Answer.{admitted_handle, answer, match_in}
 use Rattle.lsm_readers.specs.Batch.{AreFound}
 use Rattle.lsm_readers.specs.Keeping.{IsLoaded}
 use Rattle.lsm_readers.specs.Many.{answers_to}
 use Rattle.lsm_readers.specs.Parts.{Parts}
 use Rattle.lsm_readers.specs.Read.{◌>>=◌}
-use Rattle.lsm_readers.proofs.Loads.{load_kind}
 use Rattle.lsm_readers.proofs.ManyReads.{one_more}
 use Rattle.lsm_readers.proofs.ReadLaws.{result}
 

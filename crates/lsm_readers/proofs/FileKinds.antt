@@ -23,10 +23,11 @@ use Rattle.lsm_formats.specs.Kinds.{AreFilterParts, AreIndexParts, full_index, i
 use Rattle.lsm_formats.specs.Layout.{bytes_in}
 use Rattle.lsm_formats.specs.Partitions.{handles_block, index_tops, is_full_index, partitioned_index, tops_from}
 use Rattle.lsm_formats.specs.Parts.{ArePartsOf, joined_parts, rest_part}
-use Rattle.lsm_readers.proofs.FileFilters.{Asked, KeyFits, LoadsFilter, filter_loads, filter_told, filter_tops_load, filters_asked, is_built}
+use Rattle.lsm_formats.proofs.KeyLaws.{key_end}
+use Rattle.lsm_formats.proofs.FilterLaws.{is_built}
+use Rattle.lsm_readers.proofs.FileFilters.{Asked, KeyFits, LoadsFilter, filter_loads, filter_told, filter_tops_load, filters_asked}
 use Rattle.lsm_readers.proofs.FileIndexes.{LoadsHandles, handles_load, partition_told, parts_asked, tops_load}
 use Rattle.lsm_readers.proofs.FileSections.{top_place}
-use Rattle.lsm_readers.proofs.FilterPartReads.{key_end}
 use Rattle.lsm_readers.proofs.PartEnds.{no_parts, some_parts}
 use Rattle.lsm_readers.proofs.PartReads.{AreSomeParts}
 

@@ -275,12 +275,9 @@ early_block s u e (inr calm) ahead none more fault h = absurd (calm fault h)
 -- the number of the entry that stands there was looked at first
 own_entry : (u : Scan) (e : Entry) (es : List Entry) (r : R) → u.entries ≡ e ∷ es → FaultsFirst r (fault_of (lifted_told u.global_seqno e)) → FaultsAtEntry u (Some r)
 own_entry u e es r some early x xs stands f told =
-    let same : e ≡ x = first_same e x es xs (sym some ∙ stands) in
+    let same : e ≡ x = head_eq (sym some ∙ stands) in
     ap (λ (y : R). Some y) (refused_first r f (early f (ap (λ (y : Entry). fault_of (lifted_told u.global_seqno y)) same ∙ ap fault_of told)))
   where
-    first_same : (a b : Entry) (xs ys : List Entry) → a ∷ xs ≡ b ∷ ys → a ≡ b
-    first_same a b xs ys h = cc
-
     refused_first : (r : R) (f : Error) → Refuses r (Some f) → r ≡ Err f
     refused_first (Ok x) f h = absurd cc
     refused_first (Err g) f h = let same : f ≡ g = cc in ap (λ (x : Error). Err x) (sym same)
