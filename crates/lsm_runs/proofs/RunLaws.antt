@@ -1,30 +1,25 @@
 -- What a reader of a run deals, how many tables it opens, and how far off its end is.
 use Rattle.std.proofs.Common.{◌≡◌, ℕ, zero, suc, ◌+◌, ◌-◌, ◌<◌, ◌≤◌, List, [], ◌∷◌, ◌++◌, drop}
 use Rattle.std.proofs.Common.{length, take, refl, sym, ap, subst, ◌∙◌, arith}
-use Rattle.std.proofs.lemmas.List.{length-append, length-take, length-drop}
+use Rattle.std.proofs.lemmas.List.{length-append, length-take, length-drop, nil_from_length}
 use Rattle.std.specs.Prelude.{Option, Some, None, Result, Ok, Err, IfOk}
 use Rattle.sst_entries.specs.declared.stream.Direction.{Direction}
 use Rattle.sst_entries.specs.declared.stream.Direction.TheVariants.{Front, Back}
 use Rattle.sst_entries.specs.Stream.{Runs, front_of, back_of}
 use Rattle.lsm_block_indexes.specs.Dealt.{DealsEnding}
 use Rattle.lsm_block_indexes.proofs.Dealing.{Ending, deals_ending}
-use Rattle.lsm_block_indexes.proofs.TwoLevels.{no_items}
-use Rattle.lsm_iters.specs.Range.{Range, range_left, range_size}
+use Rattle.lsm_iters.specs.Range.{range_left, range_size}
 use Rattle.lsm_runs.specs.RunParts.{Part, part_size, part_told}
 use Rattle.lsm_runs.specs.RunRange.{IsRunEnded, OpensAtMost, RunGives, RunRange, back_tables}
 use Rattle.lsm_runs.specs.RunRange.{front_tables, left_of_reader, parts_size, run_parts_told}
-use Rattle.lsm_runs.specs.RunRange.{run_left, run_size, size_of_reader}
-use Rattle.lsm_runs.proofs.RunSteps.{End, R}
+use Rattle.lsm_runs.specs.RunRange.{run_left, run_size}
+use Rattle.lsm_runs.proofs.RunSteps.{End, R, within_size}
 
 parts_within : (ps : List Part) → length (run_parts_told ps) ≤ parts_size ps
 parts_within [] = omega arith
 parts_within (p ∷ ps) = omega (arith, length-append (part_told p) (run_parts_told ps), parts_within ps)
 
 module _ {A : Type 0} where
-  within_size : (s : Option (Range A)) → length (left_of_reader s) ≤ size_of_reader s
-  within_size None = omega arith
-  within_size (Some s) = omega arith
-
   left_within : (s : RunRange A) → length (run_left s) ≤ run_size s
   left_within s =
       omega (
@@ -37,7 +32,7 @@ module _ {A : Type 0} where
       )
 
   nothing : (s : RunRange A) → IsRunEnded s → run_left s ≡ []
-  nothing s ended = no_items (run_left s) (omega (arith, ended, left_within s))
+  nothing s ended = nil_from_length (run_left s) (omega (arith, ended, left_within s))
 
   ends_by : (of : End) (needed : RunRange A → ℕ) (s : RunRange A) (r : Option R) (t : RunRange A)
       → RunGives of needed s r t → Ending run_left IsRunEnded of s r t

@@ -1,7 +1,7 @@
 -- One call of a reader of a run.
 use Rattle.std.proofs.Common.{◌≡◌, ℕ, suc, ◌+◌, ◌<◌, ◌≤◌, Bool, true, false, List, [], ◌∷◌, ◌++◌}
 use Rattle.std.proofs.Common.{length, reverse, refl, sym, ap, subst, ◌∙◌, arith}
-use Rattle.std.proofs.lemmas.List.{append_assoc, append-nil, length-append}
+use Rattle.std.proofs.lemmas.List.{append_assoc, append-nil, length-append, nil_from_length}
 use Rattle.std.proofs.lemmas.List.Concat.{flat_map-append}
 use Rattle.std.specs.Prelude.{Option, Some, None, Result, Ok, Err}
 use Rattle.sst_entries.specs.declared.error.Error.{Error}
@@ -9,9 +9,8 @@ use Rattle.sst_entries.specs.declared.error.Error.TheVariants.{OutOfMemory}
 use Rattle.sst_entries.specs.Entry.{Entry}
 use Rattle.sst_entries.specs.Error.{is_memory}
 use Rattle.sst_entries.specs.Stream.{Lowers, answer_stops, first, last, front_of, back_of}
+use Rattle.lsm_walks.proofs.AtEnds.{pair, not_memory}
 use Rattle.lsm_block_indexes.specs.Left.{none_behind}
-use Rattle.lsm_block_indexes.proofs.AtEnds.{pair, not_memory}
-use Rattle.lsm_block_indexes.proofs.TwoLevels.{no_items}
 use Rattle.lsm_iters.specs.Range.{Range, range_left, range_size}
 use Rattle.lsm_iters.proofs.Ends.{back_split, back_turns, front_split, if_false, put_back}
 use Rattle.lsm_iters.proofs.Ends.{put_first, put_front, put_last}
@@ -74,12 +73,12 @@ rest_needs near turned none ps = ap (λ (rs : List R). none_behind rs (tables_ne
 
 module _ {A : Type 0} where
   -- a reader that is used up deals nothing
-  left_within : (s : Option (Range A)) → length (left_of_reader s) ≤ size_of_reader s
-  left_within None = omega arith
-  left_within (Some s) = omega arith
+  pub within_size : (s : Option (Range A)) → length (left_of_reader s) ≤ size_of_reader s
+  within_size None = omega arith
+  within_size (Some s) = omega arith
 
   used_up : (s : Option (Range A)) → size_of_reader s ≡ 0 → left_of_reader s ≡ []
-  used_up s none = no_items (left_of_reader s) (omega (arith, none, left_within s))
+  used_up s none = nil_from_length (left_of_reader s) (omega (arith, none, within_size s))
 
   -- ---- the tables that a call goes through
 
