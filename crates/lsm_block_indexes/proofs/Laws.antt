@@ -1,9 +1,10 @@
 -- What every index iterator keeps, for each of the three kinds.
-use Rattle.std.proofs.Common.{◌≡◌, ℕ, Bool, true, false, List, [], ◌++◌, length, refl, ap, ◌∙◌, arith}
+use Rattle.std.proofs.Common.{◌≡◌, ℕ, Bool, false, List, [], ◌++◌, length, refl, ap, ◌∙◌, arith}
 use Rattle.std.proofs.lemmas.List.{append-nil}
 use Rattle.std.specs.Prelude.{Option, Some, None, Ok, Err}
 use Rattle.sst_entries.specs.Stream.{front_of, back_of, ok_results}
 use Rattle.sst_entries.specs.Span.{Span, SpanGives, SpanAnswer, rest_in}
+use Rattle.sst_entries.proofs.Booleans.{apart}
 use Rattle.sst_blocks.specs.Handle.{Handle}
 use Rattle.sst_blocks.specs.Handles.{window}
 use Rattle.lsm_block_indexes.specs.Answers.{AnswersAny, AnswersTrue}
@@ -69,12 +70,8 @@ demand_between s lo hi sought = record {
   loads = ap demands sought.part;
 }
 
-true_not : (any : Bool) → any ≡ true → any ≡ false → ⊥
-true_not true yes_true no_true = let wrong : true ≡ false = no_true in absurd cc
-true_not false yes_true no_true = let wrong : false ≡ true = yes_true in absurd cc
-
 pub demand_none : (s : OnDemand) (any : Bool) → AnswersTrue s any → any ≡ false → (on_demand_left s).results ≡ []
-demand_none s any answers none = absurd (true_not any answers none)
+demand_none s any answers none = absurd (apart any answers none)
 
 -- ---- one of two levels
 
@@ -102,4 +99,4 @@ levels_between s lo hi sought = record {
 }
 
 pub levels_none : (s : TwoLevel) (any : Bool) → AnswersTrue s any → any ≡ false → (two_level_left s).results ≡ []
-levels_none s any answers none = absurd (true_not any answers none)
+levels_none s any answers none = absurd (apart any answers none)

@@ -3,7 +3,7 @@ use Rattle.std.proofs.Common.{◌≡◌, Bool, true, false, suc, List, [], ◌�
 use Rattle.std.proofs.lemmas.List.{append_assoc, length-append, reverse-append}
 use Rattle.std.specs.Prelude.{Option, Some}
 use Rattle.sst_entries.specs.Stream.{first, last, but_last, front_of, back_of}
-use Rattle.lsm_block_indexes.proofs.AtEnds.{first_split, last_split, back_push}
+use Rattle.lsm_walks.proofs.AtEnds.{first_split, last_split, back_push}
 
 module _ {X : Type 0} where
   pub if_true : (b : Bool) (x y : X) → b ≡ true → (if b then x else y) ≡ x

@@ -1,22 +1,19 @@
 -- What an iterator over a range deals, and how far off its end is.
-use Rattle.std.proofs.Common.{◌≡◌, ℕ, ◌<◌, zero, suc, [], refl, arith}
+use Rattle.std.proofs.Common.{◌≡◌, ℕ, ◌<◌, [], arith}
+use Rattle.std.proofs.lemmas.List.{nil_from_length}
+use Rattle.std.proofs.Math.Nat.{pos_of_ne-zero}
 use Rattle.std.specs.Iterator.{MakesProgress, at_most}
 use Rattle.std.specs.Prelude.{Option, Some, None, Ok, Err}
 use Rattle.sst_entries.specs.Stream.{front_of, back_of}
 use Rattle.lsm_block_indexes.specs.Dealt.{DealsEnding}
 use Rattle.lsm_block_indexes.proofs.Dealing.{Ending, deals_ending}
-use Rattle.lsm_block_indexes.proofs.TwoLevels.{no_items}
 use Rattle.lsm_iters.specs.Range.{IsEnded, Next, Range, RangeGives, back_next, front_next, range_left, range_size}
 use Rattle.lsm_iters.proofs.Ends.{Shortens, if_true}
 use Rattle.lsm_iters.proofs.Ranges.{R, End}
 
-positive : (n : ℕ) → (n ≡ 0 → ⊥) → 0 < n
-positive zero some = absurd (some refl)
-positive (suc n) some = omega arith
-
 module _ {A : Type 0} where
   nothing : (s : Range A) → IsEnded s → range_left s ≡ []
-  nothing s ended = no_items (range_left s) (omega (arith, ended))
+  nothing s ended = nil_from_length (range_left s) (omega (arith, ended))
 
   ends_by : (of : End) (next : Range A → Next) (s : Range A) (r : Option R) (t : Range A) → RangeGives of next s r t → Ending range_left IsEnded of s r t
   ends_by of next s None t step = record { answer = step.answer; ends = tt }
@@ -39,7 +36,7 @@ module _ {A : Type 0} where
         step.loads.index_within,
         if_true {X = ℕ} t.handles.sought 0 1 step.initialized,
       )
-  nearer of shortens next s t (Err e) step = omega (arith, step.ends, positive (range_size s) step.answer.1)
+  nearer of shortens next s t (Err e) step = omega (arith, step.ends, pos_of_ne-zero step.answer.1)
 
   pub progress : (of : End) → Shortens of → (next : Range A → Next) (s : Range A) (r : Option R) (t : Range A) → RangeGives of next s r t → MakesProgress (λ _. Unit {0}) (λ u. at_most (range_size u)) s r t
   progress of shortens next s None t step = record { on = λ _. tt; keeps = tt; rests = λ _. tt }

@@ -1,5 +1,6 @@
 -- One call of an iterator over a range of a table.
 use Rattle.std.proofs.Common.{◌≡◌, ℕ, zero, suc, ◌+◌, ◌<◌, ◌≤◌, Bool, true, false, List, [], ◌∷◌, ◌++◌, length, reverse, refl, sym, ap, ◌∙◌, arith}
+use Rattle.std.proofs.lemmas.List.{nil_from_length}
 use Rattle.std.specs.Prelude.{Option, Some, None, Result, Ok, Err}
 use Rattle.sst_entries.specs.declared.error.Error.{Error}
 use Rattle.sst_entries.specs.declared.error.Error.TheVariants.{OutOfMemory}
@@ -8,9 +9,9 @@ use Rattle.sst_entries.specs.Error.{is_memory}
 use Rattle.sst_entries.specs.Stream.{answer_stops, first}
 use Rattle.sst_blocks.specs.declared.opened.Opened.{Opened}
 use Rattle.sst_blocks.specs.Handle.{Handle}
+use Rattle.lsm_walks.proofs.AtEnds.{pair, not_memory}
 use Rattle.lsm_block_indexes.specs.Left.{CountsLoads, IsEnded as IsLeftEnded, Left, early_behind, loaded, none_behind}
-use Rattle.lsm_block_indexes.proofs.AtEnds.{pair, not_memory}
-use Rattle.lsm_block_indexes.proofs.TwoLevels.{loaded_more, no_items}
+use Rattle.lsm_block_indexes.proofs.TwoLevels.{loaded_more}
 use Rattle.lsm_iters.specs.Bounds.{lower_edge, upper_edge}
 use Rattle.lsm_iters.specs.Lift.{lift_told}
 use Rattle.lsm_iters.specs.Range.{CountsBlocks, IsEnded, Next, Range, RangeGives, back_next, blocks_early, blocks_for, blocks_needed, data_loaded, early_for, front_next, index_to_come, left_in, left_unless, range_left, to_come}
@@ -76,8 +77,8 @@ module _ {A : Type 0} where
   -- all is over exactly where nothing is left
   size_none : (s : Range A) → IsEnded s → (range_left s ≡ []) × (to_come s ≡ []) × (index_to_come s ≡ 0)
   size_none s ended = (
-    no_items (range_left s) (omega (arith, ended)),
-    no_items (to_come s) (omega (arith, ended)),
+    nil_from_length (range_left s) (omega (arith, ended)),
+    nil_from_length (to_come s) (omega (arith, ended)),
     omega (arith, ended),
   )
 
