@@ -16,12 +16,12 @@ use Rattle.sst_script.specs.declared.print.Answer.TheVariants.{Runs, Tables}
 use Rattle.sst_script.specs.declared.stop.Failure.{Failure}
 use Rattle.sst_script.specs.declared.stop.Failure.TheVariants.{BadLine, Refused}
 use Rattle.sst_script.specs.Runs.{repeats, run_tables, HasRuns, Run}
-use Rattle.sst_script.specs.Script.{Store, kept_by, pending_fault, store, table_fault, target_size}
-use Rattle.sst_script.specs.Script.{Compacts, Executes, GivesUp, Packs, Writes, WritesTable}
+use Rattle.sst_script.specs.Script.{Store, kept_by, pending_fault, store, adding_fault, target_size}
+use Rattle.sst_script.specs.Script.{CompactsTo, Executes, GivesUp, Packs, Writes, WritesPending}
 use Rattle.sst_script.proofs.RunLemmas.{memory_of}
 
 abbrev MayFail : List Run → List Entry → Option ℕ → Failure → Type 0
-MayFail rs es next f = (f ≡ Refused OutOfMemory) ⊎ (table_fault (store es rs next) ≡ Some f)
+MayFail rs es next f = (f ≡ Refused OutOfMemory) ⊎ (adding_fault (store es rs next) ≡ Some f)
 
 -- only memory is refused where something is told
 pub wants_memory : {X : Type 0} (rs : List Run) (es : List Entry) (next : Option ℕ) (e : Error)
@@ -62,7 +62,7 @@ nothing_refused next (e ∷ es) written = written
 
 -- nothing is against them
 fine : (rs : List Run) (es : List Entry) (next : Option ℕ) → repeats rs es ≡ false
-    → tables_fault next target_size 0 es ≡ None → table_fault (store es rs next) ≡ None
+    → tables_fault next target_size 0 es ≡ None → adding_fault (store es rs next) ≡ None
 fine rs es next fresh written =
     let told : pending_fault next es ≡ None = nothing_refused next es written in
     rw (fresh, told) refl
@@ -71,7 +71,7 @@ fine rs es next fresh written =
 pub gives_up : (r : Result ℕ Failure) (f : Failure) (rs : List Run) (ts : List (List OpenTable))
     (es : List Entry) (next : Option ℕ) → run_tables rs ≡ ts → IsErrAnd r (λ y. y ≡ f)
     → MayFail rs es next f
-    → HasRuns ts (λ after. WritesTable (store es rs next) r (store [] after next))
+    → HasRuns ts (λ after. WritesPending (store es rs next) r (store [] after next))
 gives_up (Ok count) f rs ts es next same is may = absurd is
 gives_up (Err y) f rs ts es next same is may = (rs, same, subst (λ (x : Failure). GivesUp (store es rs next) x (store [] rs next)) (sym is) (may, refl))
 
@@ -87,7 +87,7 @@ answered rs es given b told gives fresh same =
 pub wrote_nothing : (rs : List Run) (ts : List (List OpenTable)) (es : List Entry) (next : Option ℕ)
     → run_tables rs ≡ ts → es ≡ []
     → HasRuns ts (λ after. Writes (store es rs next) 0 (store [] after next))
-wrote_nothing rs ts es next same none = (rs, same, (ap (λ (xs : List Entry). table_fault (store xs rs next)) none, inl (refl, none, refl)))
+wrote_nothing rs ts es next same none = (rs, same, (ap (λ (xs : List Entry). adding_fault (store xs rs next)) none, inl (refl, none, refl)))
 
 -- a run was written
 pub wrote : (rs : List Run) (ts new : List (List OpenTable)) (es : List Entry)
@@ -124,7 +124,7 @@ executed A command rs es left next following count new is none done =
 pub compact_executed : (A : Type 0) (command : Command) (old : Store) (watermark : ℕ)
     (evict zero : Bool) (count : ℕ) (new : List (List OpenTable)) (after : List Run → Store)
     → command ≡ Compact watermark evict zero
-    → HasRuns new (λ rs. Compacts old (kept_by watermark evict zero old.runs) count (after rs))
+    → HasRuns new (λ rs. CompactsTo old (kept_by watermark evict zero old.runs) count (after rs))
     → HasRuns new (λ rs. Executes {A = A} command old (Ok (Tables count)) (after rs))
 compact_executed A command old watermark evict zero count new after is done = (
   done.0,
