@@ -18,7 +18,7 @@ use Rattle.sst_entries.proofs.Booleans.{is_false}
 use Rattle.lsm_merge.specs.Union.{AtMost, Ascends, sort_entries}
 use Rattle.lsm_merge.proofs.UnionLemmas.{ascends_in_order}
 use Rattle.lsm_ranges.specs.KeyRange.{Interval, IsOutside, has_key, key_le}
-use Rattle.lsm_ranges.specs.Packing.{tables_of}
+use Rattle.lsm_ranges.specs.Packing.{tables_in}
 use Rattle.lsm_ranges.proofs.IntervalLemmas.{above, le_refl, le_to, le_trans, lt_then_le, not_le}
 use Rattle.lsm_readers.specs.Table.{OpenTable}
 use Rattle.lsm_readers.proofs.Ends.{nothing_within}
@@ -154,10 +154,10 @@ kept_alike runs packed lists h same holds order =
     packed_union runs packed lists h same order (λ are.
     let own = runs_all_hold runs lists h in
     union_sorts packed
-    ∙ sorts_alike (flat_map list_of (tables_of packed)) (flat_map list_of (tables_of runs))
+    ∙ sorts_alike (flat_map list_of (tables_in packed)) (flat_map list_of (tables_in runs))
     (λ k.
-    key_entries k (tables_of packed) (same_hold runs packed same own)
+    key_entries k (tables_in packed) (same_hold runs packed same own)
     ∙ ap (flat_map (λ (t : OpenTable). of_key k (list_of t))) (holds k)
-    ∙ sym (key_entries k (tables_of runs) own))
+    ∙ sym (key_entries k (tables_in runs) own))
     ∙ sym (union_sorts runs)
     ∙ sym (ap union_in are))

@@ -6,7 +6,7 @@ use Rattle.std.proofs.lemmas.List.Sorted.{Contains-permutation, IsPermutation-sy
 use Rattle.std.proofs.lemmas.List.Sorted.{length_permutation}
 use Rattle.std.proofs.lemmas.List.{length-reverse, nil_from_length, length-map}
 use Rattle.lsm_ranges.specs.KeyRange.{Interval}
-use Rattle.lsm_ranges.specs.Packing.{tables_of, table_at, put_all, AreTablesWellFormed}
+use Rattle.lsm_ranges.specs.Packing.{tables_in, table_at, put_all, AreTablesWellFormed}
 use Rattle.lsm_ranges.specs.Packing.{AreDisjointRuns, AreNotEmpty, IsLeastSize}
 use Rattle.lsm_ranges.specs.Links.{IsElement, TableWithPlace, runs_with_places, IsStack}
 use Rattle.lsm_ranges.specs.LinkedRuns.{table_of_link, ArePackedLinks, AreAtPlaces}
@@ -24,11 +24,11 @@ mem-map h (x ∷ xs) y m = elim m [ inl e ↦ inl (ap h e) | inr n ↦ inr (mem-
 
 module _ {T : Type 0} (range : T → Interval) (runs : List (List T)) (packed : List (List (Link T)))
     (h : ArePackedLinks range (runs_with_places 0 runs) packed) where
-  pub places_of : AreAtPlaces runs (tables_of packed)
+  pub places_of : AreAtPlaces runs (tables_in packed)
   places_of =
-      all_by (λ (l : Link T). table_at runs l.run l.index ≡ Some l.table.now) (tables_of packed)
+      all_by (λ (l : Link T). table_at runs l.run l.index ≡ Some l.table.now) (tables_in packed)
       (λ l m.
-      let there = contains_mem h.links l (Contains-permutation (tables_of packed) h.links l (IsPermutation-sym h.links (tables_of packed) h.same) (mem_contains (tables_of packed) l m)) in
+      let there = contains_mem h.links l (Contains-permutation (tables_in packed) h.links l (IsPermutation-sym h.links (tables_in packed) h.same) (mem_contains (tables_in packed) l m)) in
       let among : IsElement (table_of_link l) (runs_with_places 0 runs) = subst (λ (ts : List (TableWithPlace T)). IsElement (table_of_link l) ts) h.tables_are (mem-map (λ (k : Link T). table_of_link k) h.links l there) in
       is_at_place runs (table_of_link l) among)
 
@@ -37,12 +37,12 @@ module _ {T : Type 0} (range : T → Interval) (runs : List (List T)) (packed : 
   map-map g [] = refl
   map-map g (l ∷ ls) = ap (λ k. g (table_of_link l) ∷ k) (map-map g ls)
 
-  tables_are : map (λ l. l.table.now) h.links ≡ tables_of runs
+  tables_are : map (λ l. l.table.now) h.links ≡ tables_in runs
   tables_are = map-map (λ x. x.table) h.links ∙ ap (λ xs. map (λ (x : TableWithPlace T). x.table) xs) h.tables_are ∙ tables_with_places 0 runs
 
-  pub no_chain : packed ≡ [] → tables_of runs ≡ []
+  pub no_chain : packed ≡ [] → tables_in runs ≡ []
   no_chain e =
-      let same : IsPermutation h.links [] = subst (λ (ps : List (List (Link T))). IsPermutation h.links (tables_of ps)) e h.same in
+      let same : IsPermutation h.links [] = subst (λ (ps : List (List (Link T))). IsPermutation h.links (tables_in ps)) e h.same in
       let long = length_permutation h.links [] same in
       let none : h.links ≡ [] = nil_from_length h.links (sym long) in
       sym tables_are ∙ ap (λ ls. map (λ (l : Link T). l.table.now) ls) none
@@ -79,7 +79,7 @@ module _ {T : Type 0} (range : T → Interval) (runs : List (List T)) (packed : 
         → IsLeastSize range runs (length chain)
     chain_least chain found is whole =
         let f : Link T → Interval = λ l. range l.table.now in
-        let size : length packed ≡ length (put_all range (tables_of runs) []) =
+        let size : length packed ≡ length (put_all range (tables_in runs) []) =
         ap length (h.put formed_tables)
         ∙ sym (length-map (put_all f h.links []) (map (λ (l : Link T). l.table.now)))
         ∙ ap length (put_all-map (λ (l : Link T). l.table.now) range h.links [] ∙ ap (λ ts. put_all range ts []) tables_are) in

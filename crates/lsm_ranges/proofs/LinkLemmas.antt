@@ -9,7 +9,7 @@ use Rattle.std.proofs.lemmas.List.{take_more, take_all, length-take-le}
 use Rattle.std.proofs.lemmas.List.Sorted.{IsPermutation-trans, IsPermutation-append_left}
 use Rattle.std.proofs.lemmas.List.Sorted.{IsPermutation-refl}
 use Rattle.lsm_ranges.specs.KeyRange.{Interval}
-use Rattle.lsm_ranges.specs.Packing.{tables_of, put, put_all, AreTablesWellFormed, AreInOrder}
+use Rattle.lsm_ranges.specs.Packing.{tables_in, put, put_all, AreTablesWellFormed, AreInOrder}
 use Rattle.lsm_ranges.specs.Packing.{AreNotEmpty}
 use Rattle.lsm_ranges.specs.Links.{IsElement, TableWithPlace, table_with_place, run_with_places}
 use Rattle.lsm_ranges.specs.Links.{runs_with_places}
@@ -122,7 +122,7 @@ module _ {T : Type 0} (range : T → Interval) where
   pub links_push : (ts : List (TableWithPlace T)) (now next : List (List (Link T))) (link : Link T)
       → ArePackedLinks range ts now
       → (AreInOrder (λ l. range l.table.now) now → next ≡ put (λ l. range l.table.now) link now)
-      → IsPermutation (tables_of now ++ link ∷ []) (tables_of next)
+      → IsPermutation (tables_in now ++ link ∷ []) (tables_in next)
       → (AreNotEmpty now → AreNotEmpty next)
       → ArePackedLinks range (ts ++ table_of_link link ∷ []) next
   links_push ts now next link h put_one same some =
@@ -130,7 +130,7 @@ module _ {T : Type 0} (range : T → Interval) where
       record {
         links = h.links ++ link ∷ [];
         tables_are = map-push (λ l. table_of_link l) h.links link ∙ ap (λ l. l ++ table_of_link link ∷ []) h.tables_are;
-        same = IsPermutation-trans (h.links ++ link ∷ []) (tables_of now ++ link ∷ []) (tables_of next) (IsPermutation-append_left (link ∷ []) h.links (tables_of now) h.same) same;
+        same = IsPermutation-trans (h.links ++ link ∷ []) (tables_in now ++ link ∷ []) (tables_in next) (IsPermutation-append_left (link ∷ []) h.links (tables_in now) h.same) same;
         put = λ formed.
             let k = formed_parts (λ (x : TableWithPlace T). range x.table) ts (table_of_link link) formed in
             let is = h.put k.0 in
@@ -142,7 +142,7 @@ module _ {T : Type 0} (range : T → Interval) where
 
   pub links_more : (ts : List (TableWithPlace T)) (i j : ℕ) (tables : List T)
       (now next : List (List (Link T))) (link : Link T)
-      → IsPermutation (tables_of now ++ link ∷ []) (tables_of next)
+      → IsPermutation (tables_in now ++ link ∷ []) (tables_in next)
       → (AreInOrder (λ l. range l.table.now) now → next ≡ put (λ l. range l.table.now) link now)
       → (AreNotEmpty now → AreNotEmpty next) → j < length tables
       → link.table.now ≡ get_or tables j link.table.now → link.run ≡ i → link.index ≡ j

@@ -10,7 +10,7 @@ use Rattle.sst_entries.specs.declared.error.Error.TheVariants.{OutOfMemory}
 use Rattle.sst_entries.specs.Entry.{Entry}
 use Rattle.sst_entries.proofs.Lists.{all_append, all_behind, all_front, all_more}
 use Rattle.lsm_ranges.specs.Packing.{AreInOrder, ArePacked, IsLeastSize, SameHolders, SameTables}
-use Rattle.lsm_ranges.specs.Packing.{tables_of}
+use Rattle.lsm_ranges.specs.Packing.{tables_in}
 use Rattle.lsm_readers.specs.Table.{OpenTable}
 use Rattle.lsm_compactions.specs.Compacted.{AreCompactable, HaveEntries}
 use Rattle.lsm_compactions.specs.Packed.{HoldUnion}
