@@ -3,7 +3,7 @@ use Rattle.std.proofs.Common.{◌≡◌, List, [], ◌∷◌, ◌++◌, refl, sy
 use Rattle.std.proofs.lemmas.List.{append_assoc, map-append}
 use Rattle.std.specs.Prelude.{Option, Some, None, Result, Ok, Err, MatchOption, MatchResult}
 use Rattle.sst_entries.specs.declared.error.Error.{Error}
-use Rattle.sst_entries.specs.Stream.{first, but_first, last, but_last, front_of, back_of, ok_results}
+use Rattle.sst_entries.specs.Stream.{last, but_last, front_of, back_of, ok_results}
 use Rattle.sst_blocks.specs.Handle.{Handle}
 use Rattle.lsm_walks.proofs.AtEnds.{back_push, last_split, not_memory, pair}
 use Rattle.lsm_block_indexes.specs.Left.{Left, IsEnded, AtEnd}
@@ -14,13 +14,6 @@ R = Result Handle Error
 
 abbrev pub End : Type 0
 End = List R → Option R × List R
-
--- the first handle, of those that stand in front of some results
-pub front_in : (more : List R) (hs ts : List Handle) (h : Handle) → first hs ≡ Some h → ts ≡ but_first hs → front_of (ok_results hs ++ more) ≡ (Some (Ok h), ok_results ts ++ more)
-front_in more [] ts h e rest = absurd cc
-front_in more (x ∷ xs) ts h e rest =
-    let same : x ≡ h = cc in
-    pair (ap (λ (z : Handle). Some (Ok z)) same) (ap (λ (zs : List Handle). ok_results zs ++ more) (sym rest))
 
 -- the last handle, of those that stand behind some results
 pub back_in : (more : List R) (hs ts : List Handle) (h : Handle) → last hs ≡ Some h → ts ≡ but_last hs → back_of (more ++ ok_results hs) ≡ (Some (Ok h), more ++ ok_results ts)
