@@ -49,10 +49,6 @@ or_first None b e p = absurd cc
 or_first (Some d) b e p = p
 
 module _ (label : Label) (es : List Entry) (g : ℕ) where
-  -- writing refused
-  pub unwritten : (e : Error) → list_fault label es ≡ Some e → opening_fault label es g ≡ Some e
-  unwritten e fault = or_first (list_fault label es) (number_fault es g) e fault
-
   -- nothing was written
   pub none_written : list_fault label es ≡ None → es ≡ [] → g < 2 ^ 64
       → opening_fault label es g ≡ None
