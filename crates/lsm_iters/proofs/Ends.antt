@@ -33,9 +33,6 @@ module _ {X : Type 0} where
   abbrev pub Shortens : (List X → Option X × List X) → Type 0
   Shortens end = (xs ys : List X) (x : X) → Takes end xs x ys → length xs ≡ suc (length ys)
 
-  pub front_turns : Turns front_of (λ xs. xs)
-  front_turns xs ys x e = front_split xs ys x e
-
   pub front_shortens : Shortens front_of
   front_shortens xs ys x e = ap length (front_split xs ys x e)
 

@@ -67,12 +67,3 @@ module _ {A : Type 0} (at : Direction) (s m : Blocks A) (is : m ≡ record s { h
     first = λ f early. let wrong : None ≡ Some f = early in absurd cc;
     kept = record { of = same_of; index = step.index; sought = sought; counts = ap (λ (x : Blocks A). x.opened) is; loads = step.loads };
   }
-
-  pub none_named : LeftGives (taken_at at) (left_in s.handles) None (left_in m.handles) → LoadGives span_remains coming_blocks KeepsBlocks at s None m
-  none_named step = record {
-    named = None;
-    names = names None step;
-    told = refl;
-    first = λ f early. let wrong : None ≡ Some f = early in absurd cc;
-    kept = record { of = same_of; index = step.index; sought = sought; counts = ap (λ (x : Blocks A). x.opened) is; loads = step.loads };
-  }

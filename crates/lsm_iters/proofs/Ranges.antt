@@ -28,9 +28,6 @@ H = Result Handle Error
 abbrev pub End : Type 0
 End = List R → Option R × List R
 
-abbrev pub HandleEnd : Type 0
-HandleEnd = List H → Option H × List H
-
 -- ---- what is left, once the edges were sought
 
 -- the rows of what is left at the front, of the blocks to come, and of what is left at the back
@@ -47,10 +44,6 @@ left_rows u = all_rows u.of u.front (coming u) u.back
 pub record IsOver {A : Type 0} (u : Range A) : Type 0 where
   pub rows : left_rows u ≡ []
   pub index : IsLeftEnded (left_in u.handles)
-
-no_entries : (g : ℕ) (es : List Entry) → lift_told g es ≡ [] → es ≡ []
-no_entries g [] e = refl
-no_entries g (x ∷ es) e = absurd cc
 
 pub data_more : (m n : ℕ) (o : Opened) → data_loaded m (data_loaded n o) ≡ data_loaded (m + n) o
 data_more zero n o = ap (λ (k : ℕ). data_loaded k o) (let e : n ≡ 0 + n = omega arith in e)
