@@ -303,31 +303,6 @@ module _ {T : Type 0} (range : T → Interval) where
   put_all_packed [] runs wf h = h
   put_all_packed (t ∷ ts) runs wf h = put_all_packed ts (put range t runs) wf.1 (put_packed t runs wf.0 h)
 
-  pub put_permutes : (t : T) (runs : List (List T))
-      → IsPermutation (tables_in runs ++ t ∷ []) (tables_in (put range t runs))
-  put_permutes t [] = IsPermutation-refl (t ∷ [])
-  put_permutes t (run ∷ runs) =
-      elim (cases_Bool (touches range (range t) run || list_any (touches range (range t)) runs)) [
-        | inl e ↦
-            subst (λ (rs : List (List T)). IsPermutation (tables_in (run ∷ runs) ++ t ∷ []) (tables_in rs)) (sym (put_behind range t run runs e))
-            (subst (λ (l : List T). IsPermutation l (run ++ tables_in (put range t runs))) (sym (append_assoc run (tables_in runs) (t ∷ [])))
-            (IsPermutation-append_right run (tables_in runs ++ t ∷ []) (tables_in (put range t runs)) (put_permutes t runs)))
-        | inr e ↦
-            subst (λ (rs : List (List T)). IsPermutation (tables_in (run ∷ runs) ++ t ∷ []) (tables_in rs)) (sym (put_here range t run runs e))
-            (IsPermutation-trans (tables_in (run ∷ runs) ++ t ∷ []) (t ∷ (run ++ tables_in runs)) (with_table range t run ++ tables_in runs)
-            (IsPermutation-to_front (run ++ tables_in runs) t)
-            (IsPermutation-append_left (tables_in runs) (t ∷ run) (with_table range t run) (IsPermutation-insert run (how_many (λ r. key_le r.min (range t).min) (map range run)) t)))
-      ]
-
-  pub put_all_permutes : (ts : List T) (runs : List (List T))
-      → IsPermutation (tables_in runs ++ ts) (tables_in (put_all range ts runs))
-  put_all_permutes [] runs = subst (λ (l : List T). IsPermutation l (tables_in runs)) (sym (append-nil (tables_in runs))) (IsPermutation-refl (tables_in runs))
-  put_all_permutes (t ∷ ts) runs =
-      IsPermutation-trans (tables_in runs ++ t ∷ ts) (tables_in (put range t runs) ++ ts) (tables_in (put_all range ts (put range t runs)))
-      (subst (λ (l : List T). IsPermutation l (tables_in (put range t runs) ++ ts)) (append_assoc (tables_in runs) (t ∷ []) ts)
-      (IsPermutation-append_left ts (tables_in runs ++ t ∷ []) (tables_in (put range t runs)) (put_permutes t runs)))
-      (put_all_permutes ts (put range t runs))
-
   pub put_all-append : (ts us : List T) (runs : List (List T))
       → put_all range (ts ++ us) runs ≡ put_all range us (put_all range ts runs)
   put_all-append [] us runs = refl

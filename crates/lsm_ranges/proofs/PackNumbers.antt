@@ -53,12 +53,6 @@ module _ {X : Type 0} where
       ]
 
 module _ {X : Type 0} (f : X → Interval) (at : X → ℕ) where
-  place_for : X → List X → ℕ
-  place_for t l = how_many (λ r. key_le r.min (f t).min) (map f l)
-
-  tests : X → List X → List (List X) → Bool
-  tests t l ls = touches f (f t) l || list_any (touches f (f t)) ls
-
   mem-put_cases : (t : X) (ls : List (List X)) (x : X) → IsElement x (tables_in (put f t ls))
       → IsElement x (tables_in ls) ⊎ (x ≡ t)
   mem-put_cases t [] x h = elim h [ inl e ↦ inr e | inr m ↦ absurd m ]

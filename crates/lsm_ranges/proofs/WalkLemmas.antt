@@ -179,16 +179,3 @@ module _ {T : Type 0} (range : T → Interval) where
       → x.run < a.run) → touches range_of (range_of a) run ≡ true → ⊥)
       → IsStack range_of run_of packed → length chain ≡ length packed
   stopped_whole packed above chain level run w some le at first next stack = absurd (goes_on_at packed above chain level run w some le at first next stack)
-
-  no_length : {Y : Type 0} (ys : List Y) → length ys ≡ 0 → ys ≡ []
-  no_length [] h = refl
-  no_length (y ∷ ys) h = absurd (omega (arith, h))
-
-  pub ended_some : (packed : List (List (Link T))) (above : Option (Link T)) (chain : List (ℕ × ℕ))
-      (level : ℕ) → Walk packed above chain level → level ≡ 0 → chain ≡ [] → packed ≡ []
-  ended_some packed above chain level w z e = no_length packed (sym (w.none (not_started packed above chain level w e)).1 ∙ z)
-
-  pub ended_whole : (packed : List (List (Link T))) (above : Option (Link T)) (chain : List (ℕ × ℕ))
-      (level : ℕ) → Walk packed above chain level → level ≡ 0 → IsStack range_of run_of packed
-      → length chain ≡ length packed
-  ended_whole packed above chain level w z stack = let k = w.counted stack in omega (arith, k)
