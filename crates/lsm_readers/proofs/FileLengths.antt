@@ -7,7 +7,7 @@ use Rattle.sst_sections.specs.declared.version.TableVersion.TheVariants.{V3, V4}
 use Rattle.sst_blocks.specs.declared.block_type.BlockType.TheVariants.{Data}
 use Rattle.sst_entries.specs.Entry.{Entry}
 use Rattle.sst_blocks.specs.Handle.{Handle}
-use Rattle.sst_blocks.specs.Handles.{handles_payload, handles_in, handle_spelled, IsSpellableHandle, AreStrictHandles, end_of}
+use Rattle.sst_blocks.specs.Handles.{handles_payload, handle_spelled, IsSpellableHandle, AreStrictHandles, end_of}
 use Rattle.sst_sections.specs.Number.{le4}
 use Rattle.sst_blocks.specs.Payload.{payload, spelled, AreSpellable}
 use Rattle.sst_blocks.specs.Payload as written
@@ -17,7 +17,7 @@ use Rattle.sst_sections.specs.Version.{key_limit, longest_key}
 use Rattle.sst_entries.proofs.Lists.{all_front, all_behind}
 use Rattle.sst_entries.proofs.OrderLemmas.{before_trans}
 use Rattle.sst_blocks.proofs.Entries.{entries_read, length-spelled}
-use Rattle.sst_blocks.proofs.HandleLaws.{handles_read, length-handle_spelled}
+use Rattle.sst_blocks.proofs.HandleLaws.{length-handle_spelled}
 use Rattle.sst_sections.proofs.Numbers.{wide4}
 use Rattle.lsm_formats.specs.Chunks.{joined}
 use Rattle.lsm_formats.specs.Facts.{lowest_seqno, highest_seqno}
@@ -135,8 +135,3 @@ strict_ends v offset p q ((x ∷ xs) ∷ cs) same some strict =
 
 pub handles_strict : (v : TableVersion) (cs : List (List Entry)) → AreSome cs → IsStrict (joined cs) → AreStrictHandles (handles v cs)
 handles_strict v cs some strict = strict_ends v 0 None None cs (λ e. refl) some strict
-
--- the index of a table reads back
-pub index_reads : (v : TableVersion) (cs : List (List Entry)) → length (data_section v cs) < 2 ^ 64 → AreSome cs → IsStrict (joined cs) → AllByRecursion (EntryFits v) (joined cs) → AllByRecursion (BlockFits v) cs → 24 + length (handles_payload v (handles v cs)) < 2 ^ 32 → handles_in v (handles_payload v (handles v cs)) ≡ Some (handles v cs)
-index_reads v cs short some strict fits blocks index =
-    handles_read v (handles v cs) (omega (arith, index, handles_short v (handles v cs)), handle_fits v 0 cs (omega (arith, short)) some fits blocks) (handles_strict v cs some strict)
