@@ -1,24 +1,21 @@
 -- Opening the next table at an end, and one call of the reader of a table.
 use Rattle.std.proofs.Common.{◌≡◌, ℕ, zero, suc, ◌+◌, ◌-◌, ◌<◌, ◌≤◌, List, [], ◌∷◌, drop, get_or}
 use Rattle.std.proofs.Common.{length, take, Bool, true, false, refl, sym, ap, subst, ◌∙◌, arith}
-use Rattle.std.specs.Prelude.{Option, Some, None, Result, Ok, Err, IfOk, if◌then◌else◌}
+use Rattle.std.specs.Prelude.{Some, Result, Ok, Err, IfOk, if◌then◌else◌}
 use Rattle.std.specs.declared.ops.Bound.{Bound}
 use Rattle.std.specs.declared.ops.Bound.TheVariants.{Unbounded}
 use Rattle.std.specs.List.{slice_get}
 use Rattle.sst_entries.specs.declared.error.Error.{Error}
 use Rattle.sst_entries.specs.declared.error.Error.TheVariants.{OutOfMemory}
 use Rattle.sst_entries.specs.Stream.{front_of, back_of}
-use Rattle.lsm_iters.specs.Range.{Range, RangeGives, back_next, front_next}
-use Rattle.lsm_iters.proofs.Ends.{back_shortens, front_shortens}
-use Rattle.lsm_iters.proofs.RangeLaws.{nearer}
+use Rattle.lsm_iters.specs.Range.{Range}
 use Rattle.lsm_readers.specs.Ranges.{IsRangeOf}
 use Rattle.lsm_readers.specs.Table.{OpenTable}
 use Rattle.lsm_runs.specs.RunParts.{Part, RunSpan, is_edge, span_part_at, span_parts_from}
 use Rattle.lsm_runs.specs.RunParts.{span_parts_between}
-use Rattle.lsm_runs.specs.RunRange.{ItemGives, OpensAt, Unopened}
+use Rattle.lsm_runs.specs.RunRange.{OpensAt, Unopened}
 use Rattle.lsm_runs.proofs.Places.{first_between, last_between, none_between, part_there}
 use Rattle.lsm_runs.proofs.Places.{same_there, table_at}
-use Rattle.lsm_runs.proofs.RunSteps.{R}
 
 -- the tables from one place up to another
 abbrev pub held : RunSpan → List OpenTable → ℕ → ℕ → ℕ → Unopened
@@ -55,18 +52,6 @@ module _ {A : Type 0} where
         subst ReadsPart (sym (ap (part_if t) edge)) (subst (λ (v : OpenTable). IfOk r (IsRangeOf v Unbounded Unbounded)) (same_there ts place u t less is at) reads)
 
   -- ---- one call of the reader of a table
-
-  pub item_front : (s t : Range A) (r : Option R) → RangeGives front_of front_next s r t
-      → ItemGives front_of (Some s) r (Some t)
-  item_front s t None step = record { answer = step.answer.0; lowers = step.answer.1 }
-  item_front s t (Some (Ok e)) step = record { answer = step.answer; lowers = nearer front_of front_shortens front_next s t (Ok e) step }
-  item_front s t (Some (Err e)) step = record { answer = step.answer.0; lowers = nearer front_of front_shortens front_next s t (Err e) step }
-
-  pub item_back : (s t : Range A) (r : Option R) → RangeGives back_of back_next s r t
-      → ItemGives back_of (Some s) r (Some t)
-  item_back s t None step = record { answer = step.answer.0; lowers = step.answer.1 }
-  item_back s t (Some (Ok e)) step = record { answer = step.answer; lowers = nearer back_of back_shortens back_next s t (Ok e) step }
-  item_back s t (Some (Err e)) step = record { answer = step.answer.0; lowers = nearer back_of back_shortens back_next s t (Err e) step }
 
   -- ---- the next table at an end
 

@@ -73,8 +73,3 @@ pub table_at : (ts : List OpenTable) (i : ℕ) → i < length ts → (t : OpenTa
     × (slice_get ts i ≡ Some t)
 table_at [] i less = absurd (omega (arith, less))
 table_at (t ∷ ts) i less = (get_or (t ∷ ts) i t, slice_get-get_or (t ∷ ts) i t less)
-
-pub many_at : (s : RunSpan) (k : ℕ) (ts : List OpenTable)
-    → length (span_parts_from s k ts) ≡ length ts
-many_at s k [] = refl
-many_at s k (t ∷ ts) = ap suc (many_at s (suc k) ts)
