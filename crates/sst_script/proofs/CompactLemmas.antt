@@ -127,9 +127,6 @@ module _ (es left : List Entry) (next : Option ℕ) (rs : List Run) (ts : List (
   not_compacted (Ok count) f is may = absurd is
   not_compacted (Err y) f is may = (rs, same, subst (λ (x : Failure). FailsToCompact (store es rs next) left x (store es rs next)) (sym is) (may, refl))
 
-  pub memory_fails : MayFail (Refused OutOfMemory)
-  memory_fails = inl refl
-
   fails_by : (e : Error) (b : Bool) → is_memory e ≡ b
       → (is_memory e ≡ false → tables_fault next target_size 0 left ≡ Some e) → MayFail (Refused e)
   fails_by e true memory fault = inl (ap (λ (x : Error). Refused x) (memory_is e memory))

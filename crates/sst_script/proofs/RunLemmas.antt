@@ -1,14 +1,13 @@
 -- The lists of runs, and what is read of them.
-use Rattle.std.proofs.Common.{◌≡◌, refl, sym, ◌∙◌, ap, subst, ℕ, suc, ◌+◌, ◌<◌, Bool, true}
-use Rattle.std.proofs.Common.{false, List, [], ◌∷◌, ◌++◌, append_assoc, append-nil, length, get_or}
+use Rattle.std.proofs.Common.{◌≡◌, refl, sym, ◌∙◌, ap, subst, ℕ, suc, ◌+◌, ◌<◌, Bool}
+use Rattle.std.proofs.Common.{List, [], ◌∷◌, ◌++◌, append_assoc, append-nil, length, get_or}
 use Rattle.std.proofs.Common.{drop, drop-cons, add-one}
 use Rattle.std.specs.Prelude.{Option, Result, Ok, Err, ◌||◌, map}
 use Rattle.std.proofs.lemmas.List.{map-append}
 use Rattle.std.specs.declared.ops.Bound.{Bound}
 use Rattle.sst_entries.specs.declared.error.Error.{Error}
-use Rattle.sst_entries.specs.declared.error.Error.TheVariants.{OutOfMemory}
 use Rattle.sst_entries.specs.Entry.{Entry}
-use Rattle.sst_entries.specs.Error.{is_memory, Fails, Gives}
+use Rattle.sst_entries.specs.Error.{Fails, Gives}
 use Rattle.sst_entries.specs.Point.{point, within}
 use Rattle.sst_entries.specs.Stream.{nowhere, ok_results}
 use Rattle.sst_entries.proofs.FrontLemmas.{deals_in_front}
@@ -81,14 +80,6 @@ number_gives rs key n found b told is =
 pub memory_fails : {X Y : Type 0} (e : Error) (found : X) (other : Y) → Fails e (Ok found)
     → Fails e (Ok other)
 memory_fails {X} e found other fails memory = let no : Ok found ≡ Err e = fails memory in absurd cc
-
-pub memory_of : {X : Type 0} (e : Error) (found : X) (b : Bool) → is_memory e ≡ b
-    → Fails e (Ok found) → b ≡ true
-memory_of e found true is fails = refl
-memory_of {X} e found false is fails = let no : Ok found ≡ Err e = fails is in absurd cc
-
-pub out_of_memory : {Y : Type 0} (e : Error) (told : Y) → e ≡ OutOfMemory → Fails e (Ok told)
-out_of_memory e told is memory = let other : is_memory OutOfMemory ≡ false = sym (ap is_memory is) ∙ memory in absurd cc
 
 -- ---- a list whose values are shared one by one
 

@@ -1,59 +1,17 @@
 -- What writing the pending entries comes to.
-use Rattle.std.proofs.Common.{◌≡◌, refl, sym, ◌∙◌, ap, subst, inl, inr, ◌⊎◌, ℕ, Bool, true, false}
+use Rattle.std.proofs.Common.{◌≡◌, refl, sym, ◌∙◌, ap, subst, inr, ℕ, Bool, false}
 use Rattle.std.proofs.Common.{List, [], ◌∷◌, length}
-use Rattle.std.specs.Prelude.{Option, Some, None, Result, Ok, Err}
-use Rattle.std.specs.Result.{IsErrAnd}
-use Rattle.sst_entries.specs.declared.error.Error.{Error}
-use Rattle.sst_entries.specs.declared.error.Error.TheVariants.{OutOfMemory}
+use Rattle.std.specs.Prelude.{Option, None, Ok}
 use Rattle.sst_entries.specs.Entry.{Entry}
-use Rattle.sst_entries.specs.Error.{is_memory, Fails, Gives}
-use Rattle.lsm_readers.proofs.Scans.{memory_is}
+use Rattle.sst_entries.specs.Error.{Gives}
 use Rattle.lsm_readers.specs.Table.{OpenTable}
 use Rattle.lsm_compactions.specs.Chain.{AreCutOf, IsRunOfList, ids_behind, run_label, tables_fault}
 use Rattle.sst_script.specs.declared.command.Command.{Command}
 use Rattle.sst_script.specs.declared.command.Command.TheVariants.{Compact, Pack, Table}
 use Rattle.sst_script.specs.declared.print.Answer.TheVariants.{Runs, Tables}
-use Rattle.sst_script.specs.declared.stop.Failure.{Failure}
-use Rattle.sst_script.specs.declared.stop.Failure.TheVariants.{BadLine, Refused}
 use Rattle.sst_script.specs.Runs.{repeats, run_tables, HasRuns, Run}
 use Rattle.sst_script.specs.Script.{Store, kept_by, pending_fault, store, adding_fault, target_size}
-use Rattle.sst_script.specs.Script.{CompactsTo, Executes, GivesUp, Packs, Writes, WritesPending}
-use Rattle.sst_script.proofs.RunLemmas.{memory_of}
-
-abbrev MayFail : List Run → List Entry → Option ℕ → Failure → Type 0
-MayFail rs es next f = (f ≡ Refused OutOfMemory) ⊎ (adding_fault (store es rs next) ≡ Some f)
-
--- only memory is refused where something is told
-pub wants_memory : {X : Type 0} (rs : List Run) (es : List Entry) (next : Option ℕ) (e : Error)
-    (told : X) → Fails e (Ok told) → MayFail rs es next (Refused e)
-wants_memory rs es next e told fails = inl (ap (λ (x : Error). Refused x) (memory_is e (memory_of e told _ refl fails)))
-
--- a run holds one of the entries
-pub repeated : (rs : List Run) (es : List Entry) (next : Option ℕ) → repeats rs es ≡ true
-    → MayFail rs es next BadLine
-repeated rs es next is = inr (rw is refl)
-
--- what writing some entries refuses
-pending_is : (next : Option ℕ) (es : List Entry) → (es ≡ [] → ⊥)
-    → pending_fault next es ≡ tables_fault next target_size 0 es
-pending_is next [] some = absurd (some refl)
-pending_is next (e ∷ es) some = refl
-
-unwritten_by : (rs : List Run) (es : List Entry) (next : Option ℕ) (e : Error) (b : Bool)
-    → is_memory e ≡ b → repeats rs es ≡ false → (es ≡ [] → ⊥)
-    → (is_memory e ≡ false → tables_fault next target_size 0 es ≡ Some e)
-    → MayFail rs es next (Refused e)
-unwritten_by rs es next e true memory fresh some fault = inl (ap (λ (x : Error). Refused x) (memory_is e memory))
-unwritten_by rs es next e false memory fresh some fault =
-    let told : pending_fault next es ≡ Some e = pending_is next es some ∙ fault memory in
-    inr (rw (fresh, told) refl)
-
--- the entries could not be written
-pub unwritten : (rs : List Run) (es : List Entry) (next : Option ℕ) (e : Error)
-    → repeats rs es ≡ false → (es ≡ [] → ⊥)
-    → (is_memory e ≡ false → tables_fault next target_size 0 es ≡ Some e)
-    → MayFail rs es next (Refused e)
-unwritten rs es next e fresh some fault = unwritten_by rs es next e _ refl fresh some fault
+use Rattle.sst_script.specs.Script.{CompactsTo, Executes, Packs, Writes}
 
 nothing_refused : (next : Option ℕ) (es : List Entry) → tables_fault next target_size 0 es ≡ None
     → pending_fault next es ≡ None
@@ -67,14 +25,6 @@ fine rs es next fresh written =
     let told : pending_fault next es ≡ None = nothing_refused next es written in
     rw (fresh, told) refl
 
--- the refusal is passed on, and the runs are what they were
-pub gives_up : (r : Result ℕ Failure) (f : Failure) (rs : List Run) (ts : List (List OpenTable))
-    (es : List Entry) (next : Option ℕ) → run_tables rs ≡ ts → IsErrAnd r (λ y. y ≡ f)
-    → MayFail rs es next f
-    → HasRuns ts (λ after. WritesPending (store es rs next) r (store [] after next))
-gives_up (Ok count) f rs ts es next same is may = absurd is
-gives_up (Err y) f rs ts es next same is may = (rs, same, subst (λ (x : Failure). GivesUp (store es rs next) x (store [] rs next)) (sym is) (may, refl))
-
 -- what the test for repeated entries answered
 pub answered : (rs : List Run) (es given : List Entry) (b told : Bool)
     → Gives (λ (x : Bool). x) (Ok b) (Ok (repeats rs given)) → b ≡ told → given ≡ es
@@ -82,12 +32,6 @@ pub answered : (rs : List Run) (es given : List Entry) (b told : Bool)
 answered rs es given b told gives fresh same =
     let is : repeats rs given ≡ b = cc in
     subst (λ (xs : List Entry). repeats rs xs ≡ told) same (is ∙ fresh)
-
--- there was nothing to write
-pub wrote_nothing : (rs : List Run) (ts : List (List OpenTable)) (es : List Entry) (next : Option ℕ)
-    → run_tables rs ≡ ts → es ≡ []
-    → HasRuns ts (λ after. Writes (store es rs next) 0 (store [] after next))
-wrote_nothing rs ts es next same none = (rs, same, (ap (λ (xs : List Entry). adding_fault (store xs rs next)) none, inl (refl, none, refl)))
 
 -- a run was written
 pub wrote : (rs : List Run) (ts new : List (List OpenTable)) (es : List Entry)
