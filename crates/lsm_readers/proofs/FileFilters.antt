@@ -29,7 +29,7 @@ use Rattle.lsm_formats.specs.Parts.{joined_parts}
 use Rattle.lsm_formats.specs.Partitions.{handles_block, tops_from}
 use Rattle.sst_blocks.specs.Handles.{handles_payload}
 use Rattle.lsm_formats.proofs.KeyLaws.{key_end}
-use Rattle.lsm_formats.proofs.FilterLaws.{wide}
+use Rattle.lsm_formats.proofs.FilterLaws.{wide, is_built}
 use Rattle.lsm_readers.specs.Read.{◌>>=◌}
 use Rattle.lsm_readers.proofs.FileIndexes.{LoadsHandles, handles_load}
 use Rattle.lsm_readers.proofs.FileLengths.{longest_short}
