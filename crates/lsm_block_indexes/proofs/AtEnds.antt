@@ -1,12 +1,11 @@
 -- One call at an end of handles that are left, as an answer of what an iterator still deals.
-use Rattle.std.proofs.Common.{◌≡◌, true, false, List, [], ◌∷◌, ◌++◌, reverse, refl, sym, ap, ◌∙◌}
-use Rattle.std.proofs.lemmas.List.{append_assoc, reverse-append, reverse-reverse, map-append}
+use Rattle.std.proofs.Common.{◌≡◌, List, [], ◌∷◌, ◌++◌, refl, sym, ap, ◌∙◌}
+use Rattle.std.proofs.lemmas.List.{append_assoc, map-append}
 use Rattle.std.specs.Prelude.{Option, Some, None, Result, Ok, Err, MatchOption, MatchResult}
 use Rattle.sst_entries.specs.declared.error.Error.{Error}
-use Rattle.sst_entries.specs.declared.error.Error.TheVariants.{OutOfMemory}
-use Rattle.sst_entries.specs.Error.{is_memory}
-use Rattle.sst_entries.specs.Stream.{first, but_first, last, but_last, front_of, back_of, ok_results}
+use Rattle.sst_entries.specs.Stream.{last, but_last, front_of, back_of, ok_results}
 use Rattle.sst_blocks.specs.Handle.{Handle}
+use Rattle.lsm_walks.proofs.AtEnds.{back_push, last_split, not_memory, pair}
 use Rattle.lsm_block_indexes.specs.Left.{Left, IsEnded, AtEnd}
 use Rattle.lsm_block_indexes.specs.Seen.{PartGives}
 
@@ -15,34 +14,6 @@ R = Result Handle Error
 
 abbrev pub End : Type 0
 End = List R → Option R × List R
-
-pub pair : {A B : Type 0} {a c : A} {b d : B} → a ≡ c → b ≡ d → ◌≡◌ {A = A × B} (a, b) (c, d)
-pair e f = cc
-
--- ---- a list by its first, and by its last
-
-module _ {X : Type 0} where
-  pub first_split : (xs : List X) (x : X) → first xs ≡ Some x → xs ≡ x ∷ but_first xs
-  first_split [] x e = absurd cc
-  first_split (y ∷ ys) x e = let same : y ≡ x = cc in ap (λ (z : X). z ∷ ys) same
-
-  pub last_split : (xs : List X) (x : X) → last xs ≡ Some x → xs ≡ but_last xs ++ x ∷ []
-  last_split xs x e =
-      sym (reverse-reverse xs)
-      ∙ ap reverse (first_split (reverse xs) x e)
-      ∙ reverse-append (x ∷ []) (but_first (reverse xs))
-
-  pub back_push : (xs : List X) (x : X) → back_of (xs ++ x ∷ []) ≡ (Some x, xs)
-  back_push xs x =
-      let turned : reverse (xs ++ x ∷ []) ≡ x ∷ reverse xs = reverse-append xs (x ∷ []) in
-      pair (ap first turned) (ap (λ (ys : List X). reverse (but_first ys)) turned ∙ reverse-reverse xs)
-
--- the first handle, of those that stand in front of some results
-pub front_in : (more : List R) (hs ts : List Handle) (h : Handle) → first hs ≡ Some h → ts ≡ but_first hs → front_of (ok_results hs ++ more) ≡ (Some (Ok h), ok_results ts ++ more)
-front_in more [] ts h e rest = absurd cc
-front_in more (x ∷ xs) ts h e rest =
-    let same : x ≡ h = cc in
-    pair (ap (λ (z : Handle). Some (Ok z)) same) (ap (λ (zs : List Handle). ok_results zs ++ more) (sym rest))
 
 -- the last handle, of those that stand behind some results
 pub back_in : (more : List R) (hs ts : List Handle) (h : Handle) → last hs ≡ Some h → ts ≡ but_last hs → back_of (more ++ ok_results hs) ≡ (Some (Ok h), more ++ ok_results ts)
@@ -53,9 +24,6 @@ back_in more hs ts h e rest =
     ∙ back_push (more ++ ok_results ts) (Ok h)
 
 -- ---- an answer of what is left of one block
-
-pub not_memory : (e : Error) → e ≡ OutOfMemory → is_memory e ≡ false → ⊥
-not_memory e is fine = let wrong : true ≡ false = sym (ap is_memory is) ∙ fine in absurd cc
 
 pub no_handles : (hs : List Handle) → ok_results hs ≡ [] → hs ≡ []
 no_handles [] e = refl

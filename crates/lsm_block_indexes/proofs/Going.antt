@@ -4,8 +4,9 @@ use Rattle.std.proofs.lemmas.List.{length-append}
 use Rattle.std.specs.Prelude.{Option, Some, None, Ok, Err}
 use Rattle.std.specs.Iterator.{MakesProgress, at_most}
 use Rattle.sst_entries.specs.Stream.{but_first, but_last, first, last, front_of, back_of}
+use Rattle.lsm_walks.proofs.AtEnds.{first_split, last_split}
 use Rattle.lsm_block_indexes.specs.Left.{Left, LeftGives, left_size}
-use Rattle.lsm_block_indexes.proofs.AtEnds.{R, End, first_split, last_split}
+use Rattle.lsm_block_indexes.proofs.AtEnds.{R, End}
 
 -- an end takes its answer away
 abbrev pub Shortens : End → Type 0

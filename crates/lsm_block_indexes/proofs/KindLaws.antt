@@ -1,5 +1,5 @@
 -- The same of an iterator of one of the three kinds.
-use Rattle.std.proofs.Common.{◌≡◌, ℕ, Bool, false, List, [], refl, sym, ap, ◌∙◌, arith}
+use Rattle.std.proofs.Common.{◌≡◌, ℕ, List, refl, sym, ap, ◌∙◌, arith}
 use Rattle.std.specs.Prelude.{Option, Some, None}
 use Rattle.sst_entries.specs.Span.{Span, rest_in}
 use Rattle.sst_entries.specs.Stream.{front_of, back_of}
@@ -12,13 +12,13 @@ use Rattle.lsm_block_indexes.specs.declared.kinds.BlockIndexIterImpl.{BlockIndex
 use Rattle.lsm_block_indexes.specs.declared.kinds.BlockIndexIterImpl.TheVariants.{Full, Volatile, TwoLevel as Levels}
 use Rattle.lsm_block_indexes.specs.Dealt.{DealsEnding}
 use Rattle.lsm_block_indexes.specs.Index.{Index, full, on_demand, two_level}
-use Rattle.lsm_block_indexes.specs.Kinds.{BackGives, FrontGives, IsReader, IsSought, SeekAnswers, left_of}
+use Rattle.lsm_block_indexes.specs.Kinds.{BackGives, FrontGives, IsReader, IsSought, left_of}
 use Rattle.lsm_block_indexes.specs.Left.{IsBetween, IsEnded, IsTwoLevelSought, LeftGives, StaysEnded, OnDemand, TwoLevel, new_on_demand, new_two_level, two_level_left}
 use Rattle.lsm_block_indexes.proofs.AtEnds.{R}
 use Rattle.lsm_block_indexes.proofs.Counting.{counts_along}
 use Rattle.lsm_block_indexes.proofs.Dealing.{deals_left, stays_ended}
 use Rattle.lsm_block_indexes.proofs.Seeks.{all_of}
-use Rattle.lsm_block_indexes.proofs.Laws.{demand_back, demand_between, demand_front, demand_none, levels_back, levels_between, levels_front, levels_none, span_back, span_between, span_front, span_none}
+use Rattle.lsm_block_indexes.proofs.Laws.{demand_back, demand_between, demand_front, levels_back, levels_between, levels_front, span_back, span_between, span_front}
 
 -- before a seek
 pub levels_new : (s : TwoLevel) (body : List ℕ) (whole : List Handle) → s ≡ new_two_level body whole → IsTwoLevelSought s None None
@@ -63,11 +63,6 @@ module _ {A : Type 0} where
   kind_between (Full s) lo hi sought = span_between s lo hi sought
   kind_between (Volatile s) lo hi sought = demand_between s lo hi sought
   kind_between (Levels s) lo hi sought = levels_between s lo hi sought
-
-  pub kind_none : (s : BlockIndexIterImpl A) (any : Bool) → SeekAnswers s any → any ≡ false → (left_of s).results ≡ []
-  kind_none (Full s) any answers none = span_none s any answers none
-  kind_none (Volatile s) any answers none = demand_none s any answers none
-  kind_none (Levels s) any answers none = levels_none s any answers none
 
   -- ---- readers of an index
 

@@ -1,19 +1,17 @@
 -- What every index iterator keeps, for each of the three kinds.
-use Rattle.std.proofs.Common.{◌≡◌, ℕ, Bool, true, false, List, [], ◌++◌, length, refl, ap, ◌∙◌, arith}
+use Rattle.std.proofs.Common.{ℕ, List, ◌++◌, length, refl, ap, ◌∙◌, arith}
 use Rattle.std.proofs.lemmas.List.{append-nil}
 use Rattle.std.specs.Prelude.{Option, Some, None, Ok, Err}
 use Rattle.sst_entries.specs.Stream.{front_of, back_of, ok_results}
 use Rattle.sst_entries.specs.Span.{Span, SpanGives, SpanAnswer, rest_in}
 use Rattle.sst_blocks.specs.Handle.{Handle}
 use Rattle.sst_blocks.specs.Handles.{window}
-use Rattle.lsm_block_indexes.specs.Answers.{AnswersAny, AnswersTrue}
 use Rattle.lsm_block_indexes.specs.Dealt.{DealsEnding}
 use Rattle.lsm_block_indexes.specs.Index.{full, block_between, parts_between}
 use Rattle.lsm_block_indexes.specs.Left.{LeftGives, IsBetween, IsEnded, IsSpanSought, StaysEnded, IsDemandSought, IsTwoLevelSought, TwoLevelGives, back_early, back_needs, front_early, front_needs, OnDemand, OnDemandGives, TwoLevel, demanded, demands, on_demand_left, span_left, two_level_left}
 use Rattle.lsm_block_indexes.specs.Seen.{PartGives}
 use Rattle.lsm_block_indexes.proofs.AtEnds.{R, End, Carries, at_part, part_ends, carries_front, carries_back}
 use Rattle.lsm_block_indexes.proofs.Dealing.{deals_left, stays_ended}
-use Rattle.lsm_block_indexes.proofs.Seeks.{none_left}
 
 -- ---- one of a block that stays loaded
 
@@ -44,9 +42,6 @@ span_deals s = deals_left span_left (SpanGives front_of) (SpanGives back_of) spa
 pub span_between : (s : Span Handle) (lo : Option (List ℕ × ℕ)) (hi : Option (List ℕ)) → IsSpanSought s lo hi → IsBetween (span_left s) lo hi
 span_between s lo hi sought = record { results = ap ok_results sought; loads = refl }
 
-pub span_none : (s : Span Handle) (any : Bool) → AnswersAny s any → any ≡ false → (span_left s).results ≡ []
-span_none s any answers none = ap ok_results (none_left (rest_in s) any answers none)
-
 -- ---- one on demand
 
 pub demand_front : (s : OnDemand) (r : Option R) (t : OnDemand) → OnDemandGives front_of s r t → LeftGives front_of (on_demand_left s) r (on_demand_left t)
@@ -68,13 +63,6 @@ demand_between s lo hi sought = record {
       ∙ ap (λ (high : Option (List ℕ)). block_between s.body lo high s.place) sought.upper;
   loads = ap demands sought.part;
 }
-
-true_not : (any : Bool) → any ≡ true → any ≡ false → ⊥
-true_not true yes_true no_true = let wrong : true ≡ false = no_true in absurd cc
-true_not false yes_true no_true = let wrong : false ≡ true = yes_true in absurd cc
-
-pub demand_none : (s : OnDemand) (any : Bool) → AnswersTrue s any → any ≡ false → (on_demand_left s).results ≡ []
-demand_none s any answers none = absurd (true_not any answers none)
 
 -- ---- one of two levels
 
@@ -100,6 +88,3 @@ levels_between s lo hi sought = record {
       ∙ ap (λ (high : Option (List ℕ)). parts_between s.body lo high (window s.whole lo hi)) sought.upper;
   loads = ap length sought.tops;
 }
-
-pub levels_none : (s : TwoLevel) (any : Bool) → AnswersTrue s any → any ≡ false → (two_level_left s).results ≡ []
-levels_none s any answers none = absurd (true_not any answers none)

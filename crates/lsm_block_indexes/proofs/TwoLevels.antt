@@ -28,19 +28,6 @@ use Rattle.lsm_block_indexes.proofs.Seeks.{all_of}
 use Rattle.sst_blocks.specs.Opened.{none_opened}
 use Rattle.sst_blocks.specs.Seeking.{whole_span}
 
-module _ {X : Type 0} where
-  pub nil_left : (xs ys : List X) → xs ++ ys ≡ [] → xs ≡ []
-  nil_left [] ys e = refl
-  nil_left (x ∷ xs) ys e = absurd cc
-
-  pub nil_right : (xs ys : List X) → xs ++ ys ≡ [] → ys ≡ []
-  nil_right [] ys e = e
-  nil_right (x ∷ xs) ys e = absurd cc
-
-  pub no_items : (xs : List X) → length xs ≡ 0 → xs ≡ []
-  no_items [] e = refl
-  no_items (x ∷ xs) e = absurd (omega (arith, e))
-
 pub loaded_more : (m n : ℕ) (o : Opened) → loaded m (loaded n o) ≡ loaded (m + n) o
 loaded_more zero n o = ap (λ (k : ℕ). loaded k o) (let e : n ≡ 0 + n = omega arith in e)
 loaded_more (suc m) n o = ap (loaded 1) (loaded_more m n o) ∙ ap (λ (k : ℕ). loaded k o) (let e : suc (m + n) ≡ suc m + n = omega arith in e)
@@ -62,7 +49,7 @@ not_found None told = refl
 not_found (Some h) told = absurd cc
 
 -- what a load tells first is what it is refused with
-refused_first : {X : Type 0} (r : Result X Error) (f : Error) → Refuses r (Some f) → Some r ≡ Some (Err f)
+pub refused_first : {X : Type 0} (r : Result X Error) (f : Error) → Refuses r (Some f) → Some r ≡ Some (Err f)
 refused_first (Ok x) f e = let wrong : Some f ≡ None = e in absurd cc
 refused_first (Err e) f is = let same : Some f ≡ Some e = is in cc
 
@@ -112,7 +99,7 @@ record Moved {A : Type 0} (count : ℕ) (s t : Partitions A) : Type 0 where
   pub list : t.tops.list ≡ s.tops.list
   pub counts : t.opened ≡ loaded count s.opened
 
-loads_one : {X : Type 0} (named : Option (Result (Loading X) Error)) (more : List (Option (Result (Loading X) Error))) → loads_in (named ∷ []) + loads_in more ≡ loads_in (named ∷ more)
+pub loads_one : {X : Type 0} (named : Option (Result (Loading X) Error)) (more : List (Option (Result (Loading X) Error))) → loads_in (named ∷ []) + loads_in more ≡ loads_in (named ∷ more)
 loads_one None more = omega arith
 loads_one (Some (Ok part)) more = omega arith
 loads_one (Some (Err e)) more = omega arith

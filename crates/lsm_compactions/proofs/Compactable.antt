@@ -10,12 +10,12 @@ use Rattle.lsm_iters.specs.Lift.{lift, lifted}
 use Rattle.lsm_readers.specs.Table.{OpenTable}
 use Rattle.lsm_writers.specs.Tables.{next_label}
 use Rattle.lsm_writers.specs.Writing.{IsWritable}
+use Rattle.lsm_writers.proofs.CutTables.{some_length}
 use Rattle.lsm_compactions.specs.Chain.{AreCutOf, AreOpened, IsOpenedOf, IsRunOfList}
 use Rattle.lsm_compactions.specs.Compacted.{AreCompactable, HaveEntries}
 use Rattle.lsm_runs.specs.RunLists.{HoldLists, HoldsList}
 use Rattle.lsm_runs.proofs.OneList.{one_list}
 use Rattle.lsm_compactions.proofs.RunBack.{run_held, union_is}
-use Rattle.lsm_compactions.proofs.Opening.{some_length}
 
 one_some : (label : Label) (us : List Entry) (g : ℕ) (t : OpenTable) (es : List Entry)
     → IsOpenedOf label us g t → HoldsList t es → 0 < length es

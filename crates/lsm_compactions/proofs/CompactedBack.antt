@@ -26,7 +26,7 @@ use Rattle.lsm_compactions.specs.PartReads.{ReadsOf}
 use Rattle.lsm_compactions.specs.Written.{number_fault}
 use Rattle.lsm_compactions.proofs.Compactable.{run_compactable}
 use Rattle.lsm_compactions.proofs.RunBack.{union_is}
-use Rattle.lsm_compactions.proofs.RunWriting.{many_opened, small_number}
+use Rattle.lsm_compactions.proofs.RunWriting.{many_opened, small_number, left_none}
 use Rattle.lsm_compactions.proofs.WrittenBy.{behind_new}
 
 -- ---- lists without a global number
@@ -144,10 +144,6 @@ fits_behind label target es xs run ids cut is first fits = subst (λ (o : Option
 
 -- ---- the first fault of writing a list and what is kept of it
 
-option_first : (x y : Option Error) → option_or x y ≡ None → x ≡ None
-option_first None y fine = refl
-option_first (Some e) y fine = fine
-
 first_told : (x y z : Option Error) (e : Error) → y ≡ None → option_or x y ≡ Some e
     → option_or x z ≡ Some e
 first_told None y z e none told = absurd (let wrong : None ≡ Some e = sym none ∙ told in cc)
@@ -175,7 +171,7 @@ module _ (ids : Option ℕ) (target moment : ℕ) (es : List Entry) (from_1 : id
       first_told (tables_fault (Some 1) target 0 es) (number_fault es 0) (tables_fault (ids_behind (Some 1) target (length tables)) target 0 left) e (small_number es 0 small) (sym first_is ∙ told)
 
   first_taken : chain_fault ids target moment es 0 ≡ None → tables_fault (Some 1) target 0 es ≡ None
-  first_taken fine = option_first (tables_fault (Some 1) target 0 es) (number_fault es 0) (sym first_is ∙ fine)
+  first_taken fine = left_none (tables_fault (Some 1) target 0 es) (number_fault es 0) (sym first_is ∙ fine)
 
   -- it is written, and what is kept is written behind it
   pub then_refused : (label : Label) (run : List OpenTable) (behind : Option ℕ)

@@ -1,5 +1,5 @@
 -- Runs that lists were written as may be compacted where their lists together can be written.
-use Rattle.std.proofs.Common.{◌≡◌, refl, sym, ◌∙◌, ap, subst, ℕ, cond, List, [], ◌∷◌, ◌++◌}
+use Rattle.std.proofs.Common.{◌≡◌, sym, ◌∙◌, ap, subst, ℕ, cond, List, [], ◌∷◌, ◌++◌}
 use Rattle.std.specs.Prelude.{IsPermutation, count_by, map}
 use Rattle.std.specs.List.{AllByRecursion}
 use Rattle.std.proofs.lemmas.List.{append-nil, map-append}
@@ -46,9 +46,6 @@ of_cut_unlifted label target es run h cut =
     subst (λ (us : List Entry). HasList us run) (lift_zero es) (of_cut label target es 0 run h cut)
 
 -- ---- several runs
-
-pub none_yet : HaveAll [] []
-none_yet = record { lists = []; hold = tt; some = tt; whole = refl }
 
 held_more : (runs : List (List OpenTable)) (lists : List (List (List Entry)))
     (run : List OpenTable) (ls : List (List Entry)) → RunsHoldLists runs lists

@@ -1,13 +1,12 @@
 -- A list that is written, opened and read.
 use Rattle.std.proofs.Common.{◌≡◌, refl, sym, subst, ◌∙◌, ℕ, ◌+◌, ◌-◌, ◌^◌, ◌<◌, Bool, true, false}
-use Rattle.std.proofs.Common.{cond, ltb, le-ltb, List, [], ◌∷◌, length, arith}
-use Rattle.std.specs.Prelude.{Option, Some, None, Result, Ok, Err}
+use Rattle.std.proofs.Common.{cond, ltb, le-ltb, List, [], length, arith}
+use Rattle.std.specs.Prelude.{Option, Some, None, Ok, Err}
 use Rattle.std.specs.Option.{option_or}
-use Rattle.std.specs.Result.{IsErrAnd}
 use Rattle.sst_entries.specs.declared.error.Error.{Error}
 use Rattle.sst_entries.specs.declared.error.Error.TheVariants.{GlobalSeqNoTooLarge, OutOfMemory}
 use Rattle.sst_entries.specs.Entry.{Entry}
-use Rattle.sst_entries.specs.Error.{Faults, is_memory}
+use Rattle.sst_entries.specs.Error.{is_memory}
 use Rattle.sst_sections.specs.Fnv.{fnv1a}
 use Rattle.sst_sections.specs.declared.version.TableVersion.TheVariants.{V4}
 use Rattle.sst_entries.specs.Point.{point}
@@ -17,6 +16,7 @@ use Rattle.lsm_formats.specs.declared.label.Label.{Label}
 use Rattle.lsm_formats.specs.Options.{default_options}
 use Rattle.lsm_formats.specs.Table.{IsTable}
 use Rattle.lsm_writers.specs.Writing.{IsTableOf, list_fault}
+use Rattle.lsm_writers.proofs.CutTables.{some_length}
 use Rattle.lsm_readers.specs.OfList.{list_told, parts_said}
 use Rattle.lsm_compactions.specs.Written.{IsOpened, ReadsList, number_fault, opening_fault}
 use Rattle.lsm_readers.specs.Answer.{lift}
@@ -49,10 +49,6 @@ or_first None b e p = absurd cc
 or_first (Some d) b e p = p
 
 module _ (label : Label) (es : List Entry) (g : ℕ) where
-  -- writing refused
-  pub unwritten : (e : Error) → list_fault label es ≡ Some e → opening_fault label es g ≡ Some e
-  unwritten e fault = or_first (list_fault label es) (number_fault es g) e fault
-
   -- nothing was written
   pub none_written : list_fault label es ≡ None → es ≡ [] → g < 2 ^ 64
       → opening_fault label es g ≡ None
@@ -96,10 +92,6 @@ opened label es g id sum bytes t f same number tree check told =
 
 -- ---- reading it
 
-pub some_length : (es : List Entry) → (es ≡ [] → ⊥) → 0 < length es
-some_length [] some = absurd (some refl)
-some_length (e ∷ es) some = omega arith
-
 -- reading a list is refused for want of memory alone
 pub read_alone : {X : Type 0} (found : X) (e : Error) → (is_memory e ≡ false → Ok found ≡ Err e)
     → (told : Option Error) → is_memory e ≡ false → told ≡ Some e
@@ -111,7 +103,7 @@ scan_alone es e told some alone memory =
     let is : true ≡ false = sym (subst (λ (x : Error). is_memory x ≡ true) (sym (alone (some_length es some))) refl) ∙ memory in
     absurd cc
 
-value_of : (a b : Option Entry) → found_is a ≡ found_is b → b ≡ a
+pub value_of : (a b : Option Entry) → found_is a ≡ found_is b → b ≡ a
 value_of a b h = cc
 
 -- the answers, by the number that the table adds

@@ -7,7 +7,7 @@ use Rattle.std.proofs.lemmas.List.Sorted.{All-permutation}
 use Rattle.sst_entries.specs.declared.error.Error.{Error}
 use Rattle.sst_entries.specs.Entry.{Entry}
 use Rattle.sst_entries.proofs.Lists.{all_append, all_behind, all_front, all_more}
-use Rattle.lsm_ranges.specs.Packing.{AreInOrder, ArePacked, SameTables, tables_of}
+use Rattle.lsm_ranges.specs.Packing.{AreInOrder, ArePacked, SameTables, tables_in}
 use Rattle.lsm_readers.specs.Table.{OpenTable}
 use Rattle.lsm_writers.specs.Writing.{IsWritable}
 use Rattle.lsm_runs.specs.RunLists.{HoldLists, RunsHoldLists}
@@ -28,15 +28,15 @@ tables_some [] ls h some = tt
 tables_some (t ∷ ts) [] h some = absurd h
 tables_some (t ∷ ts) (es ∷ ls) h some = (subst (λ (xs : List Entry). 0 < length xs) (sym (list_is t es h.0)) some.0, tables_some ts ls h.1 some.1)
 
-runs_some : (runs : List (List OpenTable)) (lists : List (List (List Entry))) → RunsHoldLists runs lists → AllByRecursion HaveEntries lists → AllByRecursion HasEntries (tables_of runs)
+runs_some : (runs : List (List OpenTable)) (lists : List (List (List Entry))) → RunsHoldLists runs lists → AllByRecursion HaveEntries lists → AllByRecursion HasEntries (tables_in runs)
 runs_some [] lists h some = tt
 runs_some (run ∷ runs) [] h some = absurd h
-runs_some (run ∷ runs) (ls ∷ lists) h some = all_append HasEntries run (tables_of runs) (tables_some run ls h.0.1 some.0.1) (runs_some runs lists h.1 some.1)
+runs_some (run ∷ runs) (ls ∷ lists) h some = all_append HasEntries run (tables_in runs) (tables_some run ls h.0.1 some.0.1) (runs_some runs lists h.1 some.1)
 
 -- so it is in other runs of the same tables
-packed_some : (runs packed : List (List OpenTable)) → SameTables runs packed → AllByRecursion HasEntries (tables_of runs) → AllByRecursion HasEntries (tables_of packed)
+packed_some : (runs packed : List (List OpenTable)) → SameTables runs packed → AllByRecursion HasEntries (tables_in runs) → AllByRecursion HasEntries (tables_in packed)
 packed_some runs packed same h =
-    recursion_from_All HasEntries (tables_of packed) (All-permutation HasEntries (tables_of runs) (tables_of packed) same (All-from_recursion HasEntries (tables_of runs) h))
+    recursion_from_All HasEntries (tables_in packed) (All-permutation HasEntries (tables_in runs) (tables_in packed) same (All-from_recursion HasEntries (tables_in runs) h))
 
 lists_some : (ts : List OpenTable) (ls : List (List Entry)) → HoldLists ts ls → AllByRecursion HasEntries ts → AllByRecursion (λ (es : List Entry). 0 < length es) ls
 lists_some [] [] h some = tt
@@ -49,13 +49,13 @@ many_lists [] ls h some = absurd (some refl)
 many_lists (t ∷ ts) [] h some = absurd h
 many_lists (t ∷ ts) (es ∷ ls) h some = omega arith
 
-have_entries : (runs : List (List OpenTable)) (lists : List (List (List Entry))) → RunsHoldLists runs lists → AllByRecursion (λ (run : List OpenTable). run ≢ []) runs → AllByRecursion HasEntries (tables_of runs) → AllByRecursion HaveEntries lists
+have_entries : (runs : List (List OpenTable)) (lists : List (List (List Entry))) → RunsHoldLists runs lists → AllByRecursion (λ (run : List OpenTable). run ≢ []) runs → AllByRecursion HasEntries (tables_in runs) → AllByRecursion HaveEntries lists
 have_entries [] [] h some each = tt
 have_entries [] (ls ∷ lists) h some each = absurd h
 have_entries (run ∷ runs) [] h some each = tt
 have_entries (run ∷ runs) (ls ∷ lists) h some each = (
-  (many_lists run ls h.0.1 some.0, lists_some run ls h.0.1 (all_front HasEntries run (tables_of runs) each)),
-  have_entries runs lists h.1 some.1 (all_behind HasEntries run (tables_of runs) each),
+  (many_lists run ls h.0.1 some.0, lists_some run ls h.0.1 (all_front HasEntries run (tables_in runs) each)),
+  have_entries runs lists h.1 some.1 (all_behind HasEntries run (tables_in runs) each),
 )
 
 -- ---- packed runs

@@ -16,7 +16,7 @@ use Rattle.lsm_formats.specs.Chunks.{joined}
 use Rattle.lsm_merge.specs.Ends.{R}
 use Rattle.lsm_merge.specs.Union.{IsUnion, all_entries, entries_among, sort_entries}
 use Rattle.lsm_merge.proofs.UnionLemmas.{merged_union, only_union}
-use Rattle.lsm_ranges.specs.Packing.{AreInOrder, SameTables, tables_of}
+use Rattle.lsm_ranges.specs.Packing.{AreInOrder, SameTables, tables_in}
 use Rattle.lsm_readers.specs.Ranges.{range_told}
 use Rattle.lsm_readers.specs.Table.{OpenTable}
 use Rattle.lsm_compactions.specs.Packed.{HoldUnion, PackedLaw}
@@ -73,17 +73,17 @@ runs_lists_are (run ∷ runs) (ls ∷ lists) h =
     ∙ ap (λ (xs : List (List (List Entry))). map list_of run ∷ xs) (runs_lists_are runs lists h.1)
 
 pub runs_all_hold : (runs : List (List OpenTable)) (lists : List (List (List Entry)))
-    → RunsHoldLists runs lists → AllByRecursion Holds (tables_of runs)
+    → RunsHoldLists runs lists → AllByRecursion Holds (tables_in runs)
 runs_all_hold [] [] h = tt
 runs_all_hold [] (ls ∷ lists) h = absurd h
 runs_all_hold (run ∷ runs) [] h = absurd h
-runs_all_hold (run ∷ runs) (ls ∷ lists) h = all_append Holds run (tables_of runs) (all_hold run ls h.0.1) (runs_all_hold runs lists h.1)
+runs_all_hold (run ∷ runs) (ls ∷ lists) h = all_append Holds run (tables_in runs) (all_hold run ls h.0.1) (runs_all_hold runs lists h.1)
 
 runs_hold_all : (runs : List (List OpenTable)) → AreInOrder range_of runs
-    → AllByRecursion Holds (tables_of runs) → RunsHoldLists runs (lists_of runs)
+    → AllByRecursion Holds (tables_in runs) → RunsHoldLists runs (lists_of runs)
 runs_hold_all [] order h = tt
 runs_hold_all (run ∷ runs) order h =
-    ((order.0, hold_all run (all_front Holds run (tables_of runs) h)), runs_hold_all runs order.1 (all_behind Holds run (tables_of runs) h))
+    ((order.0, hold_all run (all_front Holds run (tables_in runs) h)), runs_hold_all runs order.1 (all_behind Holds run (tables_in runs) h))
 
 -- ---- all entries, table by table
 
@@ -95,23 +95,23 @@ abbrev pub results_of : List (List (List Entry)) → List (List R)
 results_of lists = map (λ (run : List (List Entry)). ok_results (joined run)) lists
 
 entries_in : (runs : List (List OpenTable))
-    → all_entries (results_of (lists_of runs)) ≡ flat_map list_of (tables_of runs)
+    → all_entries (results_of (lists_of runs)) ≡ flat_map list_of (tables_in runs)
 entries_in [] = refl
 entries_in (run ∷ runs) =
     ap (λ (xs : List Entry). xs ++ all_entries (results_of (lists_of runs))) (entries_of (joined (map list_of run)) ∙ join_lists run)
     ∙ ap (λ (xs : List Entry). flat_map list_of run ++ xs) (entries_in runs)
-    ∙ sym (flat_map-append list_of run (tables_of runs))
+    ∙ sym (flat_map-append list_of run (tables_in runs))
 
 pub union_sorts : (runs : List (List OpenTable))
-    → union_in (lists_of runs) ≡ sort_entries (flat_map list_of (tables_of runs))
+    → union_in (lists_of runs) ≡ sort_entries (flat_map list_of (tables_in runs))
 union_sorts runs = ap sort_entries (entries_in runs)
 
 -- ---- the same tables in other runs
 
 pub same_hold : (runs packed : List (List OpenTable)) → SameTables runs packed
-    → AllByRecursion Holds (tables_of runs) → AllByRecursion Holds (tables_of packed)
+    → AllByRecursion Holds (tables_in runs) → AllByRecursion Holds (tables_in packed)
 same_hold runs packed same h =
-    recursion_from_All Holds (tables_of packed) (All-permutation Holds (tables_of runs) (tables_of packed) same (All-from_recursion Holds (tables_of runs) h))
+    recursion_from_All Holds (tables_in packed) (All-permutation Holds (tables_in runs) (tables_in packed) same (All-from_recursion Holds (tables_in runs) h))
 
 -- whatever lists they hold, the entries are to be compared alone
 pub packed_union : (runs packed : List (List OpenTable)) (lists : List (List (List Entry)))
@@ -145,7 +145,7 @@ same_union runs packed same =
         count = λ p.
             own.same.count p
             ∙ ap (count_by p) (entries_in runs)
-            ∙ count_same p (tables_of runs) (tables_of packed) same
+            ∙ count_same p (tables_in runs) (tables_in packed) same
             ∙ ap (count_by p) (sym (entries_in packed));
       };
     }

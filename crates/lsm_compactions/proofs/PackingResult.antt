@@ -5,7 +5,7 @@ use Rattle.std.specs.List.{AllByRecursion}
 use Rattle.sst_entries.specs.Entry.{Entry}
 use Rattle.sst_entries.proofs.Lists.{all_more}
 use Rattle.lsm_ranges.specs.KeyRange.{has_key}
-use Rattle.lsm_ranges.specs.Packing.{AreDisjointRuns, AreInOrder, ArePacked, ArePlaced, AreWellFormed, IsLeastSize, SameHolders, SameTables, holders, tables_of}
+use Rattle.lsm_ranges.specs.Packing.{AreDisjointRuns, AreInOrder, ArePacked, ArePlaced, AreWellFormed, IsLeastSize, SameHolders, SameTables, holders, tables_in}
 use Rattle.lsm_ranges.proofs.PackLemmas.{if_ok}
 use Rattle.lsm_readers.specs.Table.{OpenTable}
 use Rattle.lsm_compactions.specs.Packed.{HoldUnion}
@@ -30,14 +30,14 @@ order_of : (runs : List (List OpenTable)) → ArePacked range_of runs → AreInO
 order_of runs packed = all_more _ _ (λ run h. h.0) runs packed
 
 module _ {V E : Type 0} (items : V → List (List OpenTable)) (runs : List (List OpenTable)) (v : V) (are : items v ≡ kept runs) (r : Result V E) where
-  same_tables : tables_of (items v) ≡ tables_of runs
-  same_tables = ap tables_of are ∙ kept_tables runs
+  same_tables : tables_in (items v) ≡ tables_in runs
+  same_tables = ap tables_in are ∙ kept_tables runs
 
   formed_shared : AreInOrder range_of runs → AreWellFormed range_of (items v)
   formed_shared order = subst (AreWellFormed range_of) (sym are) (formed (kept runs) (kept_order runs order))
 
   pub result_tables : IfOk r (λ p. SameTables (items v) (items p)) → IfOk r (λ p. SameTables runs (items p))
-  result_tables = if_ok r (λ p same. subst (λ (ts : List OpenTable). IsPermutation ts (tables_of (items p))) same_tables same)
+  result_tables = if_ok r (λ p same. subst (λ (ts : List OpenTable). IsPermutation ts (tables_in (items p))) same_tables same)
 
   pub result_holders : IfOk r (λ p. AreWellFormed range_of (items v) → SameHolders range_of (items v) (items p)) → IfOk r (λ p. AreInOrder range_of runs → SameHolders range_of runs (items p))
   result_holders =
@@ -53,7 +53,7 @@ module _ {V E : Type 0} (items : V → List (List OpenTable)) (runs : List (List
         | inr many ↦ if_ok r (λ p packed order. packed (formed_shared order) many) packs
       ]
 
-  pub result_placed : IfOk r (λ p. AreWellFormed range_of (items v) → 1 < length (items v) → ArePlaced range_of (tables_of (items v)) (items p)) → IfOk r (λ p. AreInOrder range_of runs → 1 < length (kept runs) → ArePlaced range_of (tables_of runs) (items p))
+  pub result_placed : IfOk r (λ p. AreWellFormed range_of (items v) → 1 < length (items v) → ArePlaced range_of (tables_in (items v)) (items p)) → IfOk r (λ p. AreInOrder range_of runs → 1 < length (kept runs) → ArePlaced range_of (tables_in runs) (items p))
   result_placed =
       if_ok r (λ p placed order many.
       subst (λ (ts : List OpenTable). ArePlaced range_of ts (items p)) same_tables

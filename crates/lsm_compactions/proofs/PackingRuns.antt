@@ -9,7 +9,7 @@ use Rattle.sst_entries.proofs.Lists.{all_append}
 use Rattle.sst_entries.proofs.Booleans.{and_parts}
 use Rattle.sst_entries.specs.Key.{key_lt}
 use Rattle.lsm_ranges.specs.KeyRange.{Interval, are_disjoint, key_le, overlaps}
-use Rattle.lsm_ranges.specs.Packing.{AreDisjointRuns, AreInOrder, AreTablesWellFormed, AreWellFormed, IsLeastSize, IsPlacement, table_at, tables_of}
+use Rattle.lsm_ranges.specs.Packing.{AreDisjointRuns, AreInOrder, AreTablesWellFormed, AreWellFormed, IsLeastSize, IsPlacement, table_at, tables_in}
 use Rattle.lsm_ranges.specs.Run.{are_in_order}
 use Rattle.lsm_ranges.proofs.RunLemmas.{parts}
 use Rattle.lsm_readers.specs.Table.{OpenTable}
@@ -42,7 +42,7 @@ module _ {X : Type 0} (f : X → List OpenTable) (xs : List X) (i : ℕ) (x : X)
 
 -- ---- they have the same tables
 
-pub kept_tables : (runs : List (List OpenTable)) → tables_of (kept runs) ≡ tables_of runs
+pub kept_tables : (runs : List (List OpenTable)) → tables_in (kept runs) ≡ tables_in runs
 kept_tables [] = refl
 kept_tables ([] ∷ runs) = kept_tables runs
 kept_tables ((t ∷ ts) ∷ runs) = ap (λ (us : List OpenTable). (t ∷ ts) ++ us) (kept_tables runs)
@@ -65,7 +65,7 @@ tables_formed (t ∷ ts) order = let p = parts (range_of t) (ranges_of ts) order
 
 pub formed : (runs : List (List OpenTable)) → AreInOrder range_of runs → AreWellFormed range_of runs
 formed [] order = tt
-formed (run ∷ runs) order = all_append _ run (tables_of runs) (tables_formed run order.0) (formed runs order.1)
+formed (run ∷ runs) order = all_append _ run (tables_in runs) (tables_formed run order.0) (formed runs order.1)
 
 apart_one : (a b : Interval) → key_lt a.max b.min ≡ true → overlaps a b ≡ false
 apart_one a b less = ap (λ (c : Bool). not c && key_le a.min b.max) less

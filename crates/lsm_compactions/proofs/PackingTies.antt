@@ -18,7 +18,7 @@ use Rattle.sst_entries.proofs.Booleans.{is_false}
 use Rattle.lsm_merge.specs.Union.{AtMost, Ascends, sort_entries}
 use Rattle.lsm_merge.proofs.UnionLemmas.{ascends_in_order}
 use Rattle.lsm_ranges.specs.KeyRange.{Interval, IsOutside, has_key, key_le}
-use Rattle.lsm_ranges.specs.Packing.{tables_of}
+use Rattle.lsm_ranges.specs.Packing.{tables_in}
 use Rattle.lsm_ranges.proofs.IntervalLemmas.{above, le_refl, le_to, le_trans, lt_then_le, not_le}
 use Rattle.lsm_readers.specs.Table.{OpenTable}
 use Rattle.lsm_readers.proofs.Ends.{nothing_within}
@@ -30,6 +30,7 @@ use Rattle.lsm_compactions.proofs.Packing.{union_sorts}
 use Rattle.lsm_runs.proofs.RunWithin.{held_keys}
 use Rattle.lsm_runs.proofs.Unions.{within_sorted}
 use Rattle.sst_entries.specs.Key.{key_lt}
+use Rattle.sst_entries.proofs.StreamLemmas.{head_eq, tail_eq}
 
 -- the entries of a key
 abbrev of_key : List ℕ → List Entry → List Entry
@@ -92,18 +93,12 @@ first_key x y xs ys up same =
           (sym (taken x.user_key x xs (has_own x)) ∙ same ∙ starts_above x.user_key y ys (above y.user_key x.user_key e) up))
     ]
 
-head_is : (x y : Entry) (xs ys : List Entry) → x ∷ xs ≡ y ∷ ys → x ≡ y
-head_is x y xs ys h = cc
-
-tail_is : (x y : Entry) (xs ys : List Entry) → x ∷ xs ≡ y ∷ ys → xs ≡ ys
-tail_is x y xs ys h = cc
-
 rest_same : (x : Entry) (xs ys : List Entry)
     → ((k : List ℕ) → of_key k (x ∷ xs) ≡ of_key k (x ∷ ys)) → (k : List ℕ)
     → of_key k xs ≡ of_key k ys
 rest_same x xs ys same k =
     elim (cases_Bool (has k x)) [
-      | inl e ↦ tail_is x x (of_key k xs) (of_key k ys) (sym (taken k x xs e) ∙ same k ∙ taken k x ys e)
+      | inl e ↦ tail_eq (sym (taken k x xs e) ∙ same k ∙ taken k x ys e)
       | inr e ↦ sym (left k x xs e) ∙ same k ∙ left k x ys e
     ]
 
@@ -115,7 +110,7 @@ same_sorted (x ∷ xs) [] up vp same = absurd (not_none x (of_key x.user_key xs)
 same_sorted (x ∷ xs) (y ∷ ys) up vp same =
     let kx = x.user_key in
     let one : has kx y ≡ true = and_from (key_le kx y.user_key) (key_le y.user_key kx) (first_key y x ys xs up (sym (same y.user_key))) (first_key x y xs ys vp (same kx)) in
-    let e : x ≡ y = head_is x y (of_key kx xs) (of_key kx ys) (sym (taken kx x xs (has_own x)) ∙ same kx ∙ taken kx y ys one) in
+    let e : x ≡ y = head_eq (sym (taken kx x xs (has_own x)) ∙ same kx ∙ taken kx y ys one) in
     let more : (k : List ℕ) → of_key k (x ∷ xs) ≡ of_key k (x ∷ ys) = λ k. same k ∙ ap (λ (z : Entry). of_key k (z ∷ ys)) (sym e) in
     ap (λ (zs : List Entry). x ∷ zs) (same_sorted xs ys up.1 vp.1 (rest_same x xs ys more)) ∙ ap (λ (z : Entry). z ∷ ys) e
 
@@ -159,10 +154,10 @@ kept_alike runs packed lists h same holds order =
     packed_union runs packed lists h same order (λ are.
     let own = runs_all_hold runs lists h in
     union_sorts packed
-    ∙ sorts_alike (flat_map list_of (tables_of packed)) (flat_map list_of (tables_of runs))
+    ∙ sorts_alike (flat_map list_of (tables_in packed)) (flat_map list_of (tables_in runs))
     (λ k.
-    key_entries k (tables_of packed) (same_hold runs packed same own)
+    key_entries k (tables_in packed) (same_hold runs packed same own)
     ∙ ap (flat_map (λ (t : OpenTable). of_key k (list_of t))) (holds k)
-    ∙ sym (key_entries k (tables_of runs) own))
+    ∙ sym (key_entries k (tables_in runs) own))
     ∙ sym (union_sorts runs)
     ∙ sym (ap union_in are))

@@ -12,6 +12,7 @@ use Rattle.sst_entries.specs.Stream.{ok_results}
 use Rattle.lsm_formats.specs.Chunks.{joined}
 use Rattle.lsm_merge.specs.Union.{Ascends, entries_among, insert_sorted, sort_entries}
 use Rattle.lsm_merge.proofs.Pairs.{Strict}
+use Rattle.lsm_merge.proofs.MergedLemmas.{insert_least}
 use Rattle.lsm_readers.specs.Answer.{lift}
 use Rattle.lsm_readers.specs.Table.{OpenTable}
 use Rattle.lsm_readers.proofs.Scans.{memory_is}
@@ -20,13 +21,13 @@ use Rattle.lsm_compactions.specs.PartReads.{ReadsOf}
 use Rattle.lsm_runs.specs.RunLists.{RunsHoldLists}
 use Rattle.lsm_runs.specs.SeveralRuns.{union_in}
 use Rattle.lsm_runs.proofs.Rising.{ascends_of, run_strict}
-use Rattle.lsm_runs.proofs.Unions.{before_all, entries_of}
+use Rattle.lsm_runs.proofs.Unions.{entries_of}
 use Rattle.lsm_runs.proofs.RunReads.{found_is}
 
 -- sorting leaves a sorted list as it is
 sorted_same : (es : List Entry) → Ascends es → sort_entries es ≡ es
 sorted_same [] up = refl
-sorted_same (e ∷ es) up = ap (insert_sorted e) (sorted_same es up.1) ∙ before_all e es up.0
+sorted_same (e ∷ es) up = ap (insert_sorted e) (sorted_same es up.1) ∙ insert_least e es up.0
 
 -- one run alone
 one_run : (ls : List (List Entry)) (es : List Entry) → joined ls ≡ es → Ascends es

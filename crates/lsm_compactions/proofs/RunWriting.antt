@@ -14,7 +14,7 @@ use Rattle.sst_entries.specs.declared.error.Error.TheVariants.{GlobalSeqNoTooLar
 use Rattle.sst_entries.specs.declared.error.Error.TheVariants.{WriterFailed}
 use Rattle.sst_entries.specs.Entry.{Entry}
 use Rattle.sst_entries.specs.Key.{key_lt}
-use Rattle.sst_entries.specs.Strict.{IsStrict, last_of}
+use Rattle.sst_entries.specs.Strict.{IsStrict}
 use Rattle.sst_entries.proofs.Booleans.{and_both, and_parts}
 use Rattle.sst_entries.proofs.OrderLemmas.{lt_trans}
 use Rattle.lsm_formats.specs.declared.label.Label.{Label}
@@ -39,6 +39,8 @@ use Rattle.lsm_writers.specs.Writing.{IsTableOf, Writing, fresh_writing, gained,
 use Rattle.lsm_writers.specs.Writing.{written}
 use Rattle.lsm_writers.proofs.Cutting.{last_is_some, rest_is}
 use Rattle.lsm_writers.proofs.ListWriting.{same_label, written_gained}
+use Rattle.lsm_writers.proofs.CutTables.{no_end, some_length}
+use Rattle.lsm_writers.proofs.Orders.{nothing_last}
 use Rattle.lsm_readers.specs.Answer.{lift, lifted}
 use Rattle.lsm_readers.specs.OfList.{ends_of, list_told, parts_said}
 use Rattle.lsm_readers.specs.Parts.{Parts}
@@ -50,21 +52,12 @@ use Rattle.lsm_compactions.specs.Chain.{IsRunOfList, ids_behind, run_label}
 use Rattle.lsm_runs.specs.RunLists.{HoldLists}
 use Rattle.lsm_runs.specs.RunParts.{ranges_of}
 use Rattle.lsm_compactions.specs.Written.{number_fault}
-use Rattle.lsm_compactions.proofs.Opening.{some_length}
 
 -- ---- the ids of a writer of many tables
-
-pub no_end : (t : List Entry) (e : Entry) → t ++ e ∷ [] ≡ [] → ⊥
-no_end [] e h = cc
-no_end (x ∷ t) e h = cc
 
 one_more : (ts : List (List Entry)) (t : List Entry) → (t ≡ [] → ⊥)
     → length (ts ++ rest_chunk t) ≡ length ts + 1
 one_more ts t some = ap (λ (c : List (List Entry)). length (ts ++ c)) (rest_is t (some_length t some)) ∙ length-append ts (t ∷ [])
-
-pub nothing_last : last_of None [] ≡ None
-unfolding last_of
-nothing_last = refl
 
 pub first_is : (fault : Option ℕ) → ids_fault fault ≡ None → (first : ℕ) × (fault ≡ Some first)
 first_is None h = absurd cc

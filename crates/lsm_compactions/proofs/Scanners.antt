@@ -4,7 +4,7 @@ use Rattle.std.proofs.Common.{Bool, true, false, List, [], ◌∷◌, ◌++◌, 
 use Rattle.std.specs.Prelude.{Option, Some, None, Result, Ok, Err, IfErr, map}
 use Rattle.std.specs.Iterator.{Count}
 use Rattle.std.specs.List.{AllByRecursion, slice_get}
-use Rattle.std.proofs.lemmas.List.{take_all}
+use Rattle.std.proofs.lemmas.List.{take_all, length-map}
 use Rattle.std.proofs.lemmas.Simd.{map-map}
 use Rattle.std.proofs.lemmas.Slice.Zip.{AllZip-long}
 use Rattle.sst_entries.specs.declared.error.Error.{Error}
@@ -32,7 +32,7 @@ use Rattle.lsm_runs.specs.RunParts.{ends_given, range_of}
 use Rattle.lsm_runs.specs.RunScan.{RunScan, RunScansNext, tables_between, tables_scan}
 use Rattle.lsm_runs.specs.SeveralRuns.{union_in}
 use Rattle.lsm_runs.proofs.Rising.{ascends_of, run_strict}
-use Rattle.lsm_runs.proofs.RunLoops.{length_mapped, mapped_at, take_next, zip_at}
+use Rattle.lsm_runs.proofs.RunLoops.{mapped_at, take_next, zip_at}
 use Rattle.lsm_runs.proofs.ScanSteps.{all_values, held_scans}
 use Rattle.lsm_runs.proofs.Together.{each_ascends, each_deals, one_more}
 use Rattle.lsm_runs.proofs.Unions.{entries_joined, no_errors_joined}
@@ -108,7 +108,7 @@ module _ {X : Type 0} (f : X → List OpenTable) (xs : List X) (able : AreCompac
     pub scanned_all : (sources : List S) → ScannedSoFar sources i → length xs ≤ i
         → DealTogether front back sources (map joined able.lists)
     scanned_all sources d past =
-        let many : length (map joined able.lists) ≤ i = omega (arith, length_mapped joined able.lists, AllZip-long Held (map f xs) able.lists able.hold, length_mapped f xs, past) in
+        let many : length (map joined able.lists) ≤ i = omega (arith, length-map able.lists joined, AllZip-long Held (map f xs) able.lists able.hold, length-map xs f, past) in
         subst (λ (found : List (List Entry)). DealTogether front back sources found) (take_all i (map joined able.lists) many) d
 
     pub scanned_more : (x : X) (less : i < length xs) (is : x ≡ get_or xs i x) (sources : List S)

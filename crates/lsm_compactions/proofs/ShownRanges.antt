@@ -1,10 +1,10 @@
 -- What a range sees of sorted entries is told by what point reads see of them.
-use Rattle.std.proofs.Common.{◌≡◌, refl, sym, ◌∙◌, ap, subst, ℕ, ◌+◌, ◌<◌, ◌≤◌, inl, inr, Bool, true, false, cond, not, ◌&&◌, nat_lt, List, [], ◌∷◌, filter, arith}
+use Rattle.std.proofs.Common.{◌≡◌, refl, sym, ◌∙◌, ap, subst, ℕ, ◌+◌, ◌≤◌, inl, inr, Bool, true, false, cond, not, ◌&&◌, List, [], ◌∷◌, filter, arith}
 use Rattle.std.specs.Prelude.{Option, Some, None, find, map}
 use Rattle.std.specs.List.{AllByRecursion}
 use Rattle.std.specs.declared.ops.Bound.{Bound}
-use Rattle.std.proofs.lemmas.Bool.{cases_Bool}
-use Rattle.std.proofs.lemmas.Bool.Decides.{nat_tests}
+use Rattle.std.proofs.lemmas.Bool.{cases_Bool, lt-ltb}
+use Rattle.std.proofs.Math.Bool.{and-true}
 use Rattle.sst_entries.specs.declared.value_type.ValueType.{ValueType}
 use Rattle.sst_entries.specs.Entry.{Entry}
 use Rattle.sst_entries.specs.Key.{key_lt, same_key}
@@ -16,7 +16,7 @@ use Rattle.sst_entries.proofs.Lists.{all_more}
 use Rattle.sst_entries.proofs.OrderLemmas.{lt_trans}
 use Rattle.lsm_merge.specs.Union.{Ascends, newest}
 use Rattle.lsm_sorted.specs.Point.{seen, shown}
-use Rattle.lsm_sorted.proofs.NewestLemmas.{KeysUp, keys_up}
+use Rattle.lsm_sorted.proofs.NewestLemmas.{KeysUp, keys_up, filter_keeps, newest_keeps}
 use Rattle.lsm_compactions.specs.ReadsCompacted.{all_shown, shown_of}
 
 -- the first entry of a key
@@ -29,18 +29,11 @@ abbrev pub top : List Entry → ℕ
 top [] = 0
 top (e ∷ es) = e.seqno + 1 + top es
 
-is_under : (n bound : ℕ) → n < bound → nat_lt n bound ≡ true
-is_under n bound h = grind (arith, nat_tests)
-
-and_true : (b : Bool) → (b && true) ≡ b
-and_true true = refl
-and_true false = refl
-
 hit_seek : (key : List ℕ) (bound : ℕ) (es : List Entry) → top es ≤ bound → find (is_hit key bound) es ≡ seek key es
 hit_seek key bound [] above = refl
 hit_seek key bound (e ∷ es) above =
     let one : is_hit key bound e ≡ same_key e.user_key key =
-    ap (λ (b : Bool). same_key e.user_key key && b) (is_under e.seqno bound (omega (arith, above))) ∙ and_true (same_key e.user_key key) in
+    ap (λ (b : Bool). same_key e.user_key key && b) (lt-ltb e.seqno bound (omega (arith, above))) ∙ and-true (same_key e.user_key key) in
     ap (λ (b : Bool). cond b (Some e) (find (is_hit key bound) es)) one
     ∙ ap (λ (o : Option Entry). cond (same_key e.user_key key) (Some e) o) (hit_seek key bound es (omega (arith, above)))
 
@@ -109,30 +102,19 @@ abbrev pub Rises : List Entry → Type 0
 Rises [] = Unit {0}
 Rises (x ∷ xs) = Above x.user_key xs × Rises xs
 
-all_passing : (P : Entry → Type 0) (p : Entry → Bool) (es : List Entry) → AllByRecursion P es → AllByRecursion P (filter p es)
-all_passing P p [] h = tt
-all_passing P p (e ∷ es) h = elim (cases_Bool (p e)) [
-  | inl f ↦ rw f (h.0, all_passing P p es h.1)
-  | inr f ↦ rw f (all_passing P p es h.1)
-]
-
 passing_rises : (p : Entry → Bool) (es : List Entry) → Rises es → Rises (filter p es)
 passing_rises p [] h = tt
 passing_rises p (e ∷ es) h = elim (cases_Bool (p e)) [
-  | inl f ↦ rw f (all_passing (λ (y : Entry). key_lt e.user_key y.user_key ≡ true) p es h.0, passing_rises p es h.1)
+  | inl f ↦ rw f (filter_keeps (λ (y : Entry). key_lt e.user_key y.user_key ≡ true) p es h.0, passing_rises p es h.1)
   | inr f ↦ rw f (passing_rises p es h.1)
 ]
 
 passing_up : (p : Entry → Bool) (es : List Entry) → KeysUp es → KeysUp (filter p es)
 passing_up p [] h = tt
 passing_up p (e ∷ es) h = elim (cases_Bool (p e)) [
-  | inl f ↦ rw f (all_passing (λ (y : Entry). KeyLe e.user_key y.user_key) p es h.0, passing_up p es h.1)
+  | inl f ↦ rw f (filter_keeps (λ (y : Entry). KeyLe e.user_key y.user_key) p es h.0, passing_up p es h.1)
   | inr f ↦ rw f (passing_up p es h.1)
 ]
-
-all_newest : (P : Entry → Type 0) (es : List Entry) → AllByRecursion P es → AllByRecursion P (newest es)
-all_newest P [] h = tt
-all_newest P (x ∷ xs) h = (h.0, all_passing P (λ (y : Entry). not (same_key y.user_key x.user_key)) (newest xs) (all_newest P xs h.1))
 
 others_above : (key : List ℕ) (es : List Entry) → AllByRecursion (λ (y : Entry). KeyLe key y.user_key) es → Above key (filter (λ (y : Entry). not (same_key y.user_key key)) es)
 others_above key [] h = tt
@@ -144,7 +126,7 @@ others_above key (e ∷ es) h = elim (cases_Bool (same_key e.user_key key)) [
 newest_rises : (es : List Entry) → KeysUp es → Rises (newest es)
 newest_rises [] h = tt
 newest_rises (x ∷ xs) h = (
-  others_above x.user_key (newest xs) (all_newest (λ (y : Entry). KeyLe x.user_key y.user_key) xs h.0),
+  others_above x.user_key (newest xs) (newest_keeps (λ (y : Entry). KeyLe x.user_key y.user_key) xs h.0),
   passing_rises (λ (y : Entry). not (same_key y.user_key x.user_key)) (newest xs) (newest_rises xs h.1),
 )
 
@@ -174,7 +156,7 @@ live_seek key (e ∷ es) h =
     elim (cases_Bool (is_tombstone_kind e.kind)) [
       | inl f ↦ elim (cases_Bool (same_key e.user_key key)) [
         | inl g ↦
-            let behind : Above key (filter live es) = subst (λ (k : List ℕ). Above k (filter live es)) (same_is e.user_key key g) (all_passing (λ (y : Entry). key_lt e.user_key y.user_key ≡ true) live es h.0) in
+            let behind : Above key (filter live es) = subst (λ (k : List ℕ). Above k (filter live es)) (same_is e.user_key key g) (filter_keeps (λ (y : Entry). key_lt e.user_key y.user_key ≡ true) live es h.0) in
             ap (λ (b : Bool). shown (seek key (cond (not b) (e ∷ filter live es) (filter live es)))) f
             ∙ ap shown (above_seek key (filter live es) behind)
             ∙ sym (ap (λ (b : Bool). shown (cond b (Some e) (seek key es))) g ∙ ap (λ (b : Bool). cond b None (Some (e.kind, e.value))) f)

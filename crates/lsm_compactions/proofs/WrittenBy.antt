@@ -9,7 +9,7 @@ use Rattle.std.proofs.lemmas.Bool.{cases_Bool, eqb-true, leb-false, leb-true}
 use Rattle.sst_entries.specs.declared.error.Error.{Error}
 use Rattle.sst_entries.specs.declared.error.Error.TheVariants.{WriterFailed}
 use Rattle.sst_entries.specs.Entry.{Entry}
-use Rattle.sst_entries.specs.Strict.{IsStrict, last_of}
+use Rattle.sst_entries.specs.Strict.{IsStrict}
 use Rattle.lsm_formats.specs.Chunks.{joined}
 use Rattle.lsm_formats.specs.declared.label.Label.{Label}
 use Rattle.lsm_formats.specs.declared.options.Options.{Options}
@@ -25,12 +25,13 @@ use Rattle.lsm_writers.specs.Writing.{IsWritable, Writing, fresh_writing, gained
 use Rattle.lsm_writers.specs.Writing.{written}
 use Rattle.lsm_writers.proofs.Cutting.{rest_is}
 use Rattle.lsm_writers.proofs.ListWriting.{same_label, written_gained}
+use Rattle.lsm_writers.proofs.CutTables.{no_end, some_length}
+use Rattle.lsm_writers.proofs.Orders.{nothing_last}
 use Rattle.lsm_compactions.specs.Chain.{ids_behind, writes_fault}
 use Rattle.lsm_compactions.specs.Compacted.{AreWrittenBy, FitsBy, RunsOn, begun_behind, drawn_often}
 use Rattle.lsm_compactions.specs.Compacted.{first_written}
-use Rattle.lsm_compactions.proofs.Opening.{some_length}
 use Rattle.lsm_compactions.proofs.RunWriting.{first_at, first_else, first_is, left_none, next_by}
-use Rattle.lsm_compactions.proofs.RunWriting.{no_end, nothing_last, other_label}
+use Rattle.lsm_compactions.proofs.RunWriting.{other_label}
 
 -- ---- small facts
 

@@ -5,7 +5,7 @@ ghost use Rattle.sst_entries.specs.Entry.{Entry};
 ghost use Rattle.sst_entries.specs.declared.error.Error.TheVariants.{OutOfMemory};
 ghost use Rattle.lsm_ranges.specs.Packing.{AreInOrder, ArePacked, ArePlaced, IsLeastSize};
 ghost use Rattle.lsm_ranges.specs.Packing.{SameHolders, SameTables};
-ghost use Rattle.lsm_ranges.specs.Packing.{tables_of};
+ghost use Rattle.lsm_ranges.specs.Packing.{tables_in};
 ghost use Rattle.lsm_compactions.specs.Compacted.{AreCompactable};
 ghost use Rattle.lsm_compactions.specs.Packed.{HeldLaw, HoldUnion, KeptLaw, PackedLaw, has_table};
 ghost use Rattle.lsm_runs.specs.RunLists.{RunsHoldLists};
@@ -94,7 +94,7 @@ pub fn pack_runs<A: Allocator + Clone>(
     // first, where more than one run has a table,
     ensures placed { let given = map arc_value runs.now in IfOk result (λ packed.
         AreInOrder range_of given → 1 < length (filter has_table given) →
-        ArePlaced range_of (tables_of given) packed.items) }
+        ArePlaced range_of (tables_in given) packed.items) }
     // each packed run is in order and has a table,
     ensures ordered { IfOk result (λ packed. AreInOrder range_of (map arc_value runs.now) →
         ArePacked range_of packed.items) }

@@ -1,4 +1,7 @@
 pub mod BlockLengths
+pub mod FactLaws
+pub mod FilterLaws
+pub mod KeyLaws
 pub mod KindLemmas
 pub mod MetaItems
 pub mod OneCut

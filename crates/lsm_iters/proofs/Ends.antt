@@ -3,7 +3,7 @@ use Rattle.std.proofs.Common.{◌≡◌, Bool, true, false, suc, List, [], ◌�
 use Rattle.std.proofs.lemmas.List.{append_assoc, length-append, reverse-append}
 use Rattle.std.specs.Prelude.{Option, Some}
 use Rattle.sst_entries.specs.Stream.{first, last, but_last, front_of, back_of}
-use Rattle.lsm_block_indexes.proofs.AtEnds.{first_split, last_split, back_push}
+use Rattle.lsm_walks.proofs.AtEnds.{first_split, last_split, back_push}
 
 module _ {X : Type 0} where
   pub if_true : (b : Bool) (x y : X) → b ≡ true → (if b then x else y) ≡ x
@@ -32,9 +32,6 @@ module _ {X : Type 0} where
 
   abbrev pub Shortens : (List X → Option X × List X) → Type 0
   Shortens end = (xs ys : List X) (x : X) → Takes end xs x ys → length xs ≡ suc (length ys)
-
-  pub front_turns : Turns front_of (λ xs. xs)
-  front_turns xs ys x e = front_split xs ys x e
 
   pub front_shortens : Shortens front_of
   front_shortens xs ys x e = ap length (front_split xs ys x e)

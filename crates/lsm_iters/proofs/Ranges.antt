@@ -1,5 +1,6 @@
 -- One call of an iterator over a range of a table.
 use Rattle.std.proofs.Common.{◌≡◌, ℕ, zero, suc, ◌+◌, ◌<◌, ◌≤◌, Bool, true, false, List, [], ◌∷◌, ◌++◌, length, reverse, refl, sym, ap, ◌∙◌, arith}
+use Rattle.std.proofs.lemmas.List.{nil_from_length}
 use Rattle.std.specs.Prelude.{Option, Some, None, Result, Ok, Err}
 use Rattle.sst_entries.specs.declared.error.Error.{Error}
 use Rattle.sst_entries.specs.declared.error.Error.TheVariants.{OutOfMemory}
@@ -8,9 +9,9 @@ use Rattle.sst_entries.specs.Error.{is_memory}
 use Rattle.sst_entries.specs.Stream.{answer_stops, first}
 use Rattle.sst_blocks.specs.declared.opened.Opened.{Opened}
 use Rattle.sst_blocks.specs.Handle.{Handle}
+use Rattle.lsm_walks.proofs.AtEnds.{pair, not_memory}
 use Rattle.lsm_block_indexes.specs.Left.{CountsLoads, IsEnded as IsLeftEnded, Left, early_behind, loaded, none_behind}
-use Rattle.lsm_block_indexes.proofs.AtEnds.{pair, not_memory}
-use Rattle.lsm_block_indexes.proofs.TwoLevels.{loaded_more, no_items}
+use Rattle.lsm_block_indexes.proofs.TwoLevels.{loaded_more}
 use Rattle.lsm_iters.specs.Bounds.{lower_edge, upper_edge}
 use Rattle.lsm_iters.specs.Lift.{lift_told}
 use Rattle.lsm_iters.specs.Range.{CountsBlocks, IsEnded, Next, Range, RangeGives, back_next, blocks_early, blocks_for, blocks_needed, data_loaded, early_for, front_next, index_to_come, left_in, left_unless, range_left, to_come}
@@ -26,9 +27,6 @@ H = Result Handle Error
 
 abbrev pub End : Type 0
 End = List R → Option R × List R
-
-abbrev pub HandleEnd : Type 0
-HandleEnd = List H → Option H × List H
 
 -- ---- what is left, once the edges were sought
 
@@ -46,10 +44,6 @@ left_rows u = all_rows u.of u.front (coming u) u.back
 pub record IsOver {A : Type 0} (u : Range A) : Type 0 where
   pub rows : left_rows u ≡ []
   pub index : IsLeftEnded (left_in u.handles)
-
-no_entries : (g : ℕ) (es : List Entry) → lift_told g es ≡ [] → es ≡ []
-no_entries g [] e = refl
-no_entries g (x ∷ es) e = absurd cc
 
 pub data_more : (m n : ℕ) (o : Opened) → data_loaded m (data_loaded n o) ≡ data_loaded (m + n) o
 data_more zero n o = ap (λ (k : ℕ). data_loaded k o) (let e : n ≡ 0 + n = omega arith in e)
@@ -76,8 +70,8 @@ module _ {A : Type 0} where
   -- all is over exactly where nothing is left
   size_none : (s : Range A) → IsEnded s → (range_left s ≡ []) × (to_come s ≡ []) × (index_to_come s ≡ 0)
   size_none s ended = (
-    no_items (range_left s) (omega (arith, ended)),
-    no_items (to_come s) (omega (arith, ended)),
+    nil_from_length (range_left s) (omega (arith, ended)),
+    nil_from_length (to_come s) (omega (arith, ended)),
     omega (arith, ended),
   )
 

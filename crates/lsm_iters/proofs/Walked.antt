@@ -15,7 +15,7 @@ use Rattle.sst_blocks.specs.declared.block_type.BlockType.TheVariants.{Data}
 use Rattle.sst_blocks.specs.Block.{Loaded, load_told, place_fault}
 use Rattle.sst_blocks.specs.Handle.{Handle}
 use Rattle.lsm_block_indexes.specs.Left.{CountsLoads, early_behind, loaded, none_behind}
-use Rattle.lsm_block_indexes.proofs.TwoLevels.{loaded_more}
+use Rattle.lsm_block_indexes.proofs.TwoLevels.{loaded_more, loads_one}
 use Rattle.lsm_walks.specs.declared.walk.Walk.{Walk}
 use Rattle.lsm_walks.specs.Ends.{IsOver as IsWalkOver, Remains, StepAnswers, remains_in, seen_from, span_remains, taken_at}
 use Rattle.lsm_walks.specs.Parts.{Loading, Loads, all_results, early_among, loads_in, needed, results_of}
@@ -94,11 +94,6 @@ part_early None f = refl
 part_early (Some s) f = early_map (λ (e : Entry). Ok e) _ f
 
 -- ---- the loads of a step
-
-loads_one : {X : Type 0} (named : Option (Result (Loading X) Error)) (more : List (Option (Result (Loading X) Error))) → loads_in (named ∷ []) + loads_in more ≡ loads_in (named ∷ more)
-loads_one None more = omega arith
-loads_one (Some (Ok part)) more = omega arith
-loads_one (Some (Err e)) more = omega arith
 
 -- what several loads keep
 record Moved {A : Type 0} (blocks : ℕ) (s t : Blocks A) : Type 0 where

@@ -4,7 +4,7 @@ use Rattle.std.specs.Prelude.{◌==◌, Option, Some, None, Ok, Err, All, count_
 use Rattle.std.specs.Option.{option_map}
 use Rattle.std.specs.List.{AllZip, AllByRecursion}
 use Rattle.std.specs.Iterator.{Count, IsFinite}
-use Rattle.std.proofs.lemmas.List.{append-nil}
+use Rattle.std.proofs.lemmas.List.{append-nil, length-map}
 use Rattle.std.proofs.lemmas.List.Elements.{recursion_from_All, All-from_recursion, All-nil}
 use Rattle.sst_entries.specs.Entry.{Entry}
 use Rattle.sst_entries.specs.Stream.{Deals, CanDeal, answer_stops, NoneStops, Runs, first, but_first, last, but_last, deal, ok_results, front_of, back_of, EndAtError, EndsAtError}
@@ -19,7 +19,6 @@ use Rattle.lsm_merge.specs.Ends.{R, Left, Goes, new_ends}
 use Rattle.lsm_merge.specs.Union.{Ascends, entries_among, all_errors, union_of}
 use Rattle.lsm_merge.specs.Merge.{entry_of, is_ready, MayMerge, Follows, DealsUntil, held_of}
 use Rattle.lsm_merge.proofs.Kept.{count_of, Ready, LeavesIf, Kept, whole, taken, HeapHolds, Stands, Leaves, MergeAnswer, Merges}
-use Rattle.lsm_merge.proofs.PopLemmas.{length_map}
 use Rattle.lsm_merge.proofs.RoomLemmas.{may_merge}
 
 -- ---- a new merger
@@ -91,7 +90,7 @@ module _ {S A : Type 0} (front back : S → Option R → S → Type 0) (m : Merg
       new_may space c ends = may_merge front back can can_back left m fine (record {
         sources = subst (All (Goes front back can can_back left)) (sym sources) (All-from_recursion (Goes front back can can_back left) (map new_ends its) (all_fresh its (recursion_from_All (CanDeal front back can can_back) its c) (recursion_from_All (λ s. IsFinite (left s)) its ends)));
         known = subst (All (λ h. h.source < length m.sources.items)) (sym empty) (All-nil (λ h. h.source < length m.sources.items));
-        space = let n : length m.sources.items ≡ length its = ap length sources ∙ length_map new_ends its in omega arith;
+        space = let n : length m.sources.items ≡ length its = ap length sources ∙ length-map its new_ends in omega arith;
         few = let n : length m.heap.items ≡ 0 = ap length empty in omega arith;
         each = λ k. let n : held_of k m ≡ 0 = ap (count_by (λ h. h.source == k)) empty in omega arith;
       })

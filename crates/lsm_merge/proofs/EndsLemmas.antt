@@ -10,7 +10,7 @@ use Rattle.sst_entries.specs.declared.stream.Direction.{Direction}
 use Rattle.sst_entries.specs.declared.stream.Direction.TheVariants.{Front, Back}
 use Rattle.lsm_merge.specs.Ends.{R, LeftIf, Left, GoesIf, Goes, AskedIf, Asked, DealsAt, ends_size}
 use Rattle.sst_entries.proofs.FrontLemmas.{can_in_front}
-use Rattle.sst_entries.proofs.StreamLemmas.{deals_front, deals_back, can_front, can_after_back, can_now, can_now_back}
+use Rattle.sst_entries.proofs.StreamLemmas.{deals_front, deals_back, can_front, can_after_back}
 
 pub none_first : {A : Type 0} (xs : List A) → None ≡ first xs → xs ≡ []
 none_first [] e = refl
@@ -56,26 +56,11 @@ module _ {S : Type 0} (front back : S → Option R → S → Type 0) where
     pub goes_ready : (s : Ends S) → s.done ≡ false → Goes front back can can_back left s → CanDeal front back can can_back s.iter × IsFinite (left s.iter)
     goes_ready s e h = subst (λ (b : Bool). GoesIf front back can can_back left b s.iter) e h.ready
 
-    pub goes_can : (s : Ends S) → s.done ≡ false → Goes front back can can_back left s → can s.iter
-    goes_can s e h = can_now front back can can_back s.iter (goes_ready s e h).0
-
-    pub goes_can_back : (s : Ends S) → s.done ≡ false → Goes front back can can_back left s → can_back s.iter
-    goes_can_back s e h = can_now_back front back can can_back s.iter (goes_ready s e h).0
-
-    pub some_goes : (s : Ends S) (r : Option R) (t : S) → s.done ≡ false → Goes front back can can_back left s → front s.iter r t → IsFinite (left t) → Goes front back can can_back left (record { iter = t; done = s.done })
-    some_goes s r t e h step ends = record { ready = subst (λ (b : Bool). GoesIf front back can can_back left b t) (sym e) (can_front front back can can_back s.iter r t (goes_ready s e h).0 step, ends) }
-
-    pub some_goes_back : (s : Ends S) (r : Option R) (t : S) → s.done ≡ false → Goes front back can can_back left s → back s.iter r t → IsFinite (left t) → Goes front back can can_back left (record { iter = t; done = s.done })
-    some_goes_back s r t e h step ends = record { ready = subst (λ (b : Bool). GoesIf front back can can_back left b t) (sym e) (can_after_back front back can can_back s.iter r t (goes_ready s e h).0 step, ends) }
-
 -- ---- a call by what it asks
 
 module _ {S : Type 0} (ask : S → Option R → S → Type 0) (s : Ends S) where
   pub asked_now : (r : Option R) (t : S) (d : Bool) → s.done ≡ false → d ≡ is_none r → ask s.iter r t → Asked ask s r (record { iter = t; done = d })
   asked_now r t d e ends step = record { call = subst (λ (b : Bool). AskedIf ask b s r (record { iter = t; done = d })) (sym e) (step, ends) }
-
-  pub asked_done : s.done ≡ true → Asked ask s None s
-  asked_done e = record { call = subst (λ (b : Bool). AskedIf ask b s None s) (sym e) (refl, refl) }
 
 module _ {S : Type 0} (stops : Error → Bool) (front back : S → Option R → S → Type 0) where
   pub asked_first : (s : Ends S) (r : Option R) (t : Ends S) → Asked front s r t → DealsFirst stops (Left stops front back) s r t

@@ -85,13 +85,3 @@ module _ {S A : Type 0} (stops : Error → Bool) (front back : S → Option R �
     entries = was.entries ∙ ap union_of (sym filled.wholes);
     faults = was.faults ∙ ap all_errors (sym filled.wholes);
   }
-
-  -- a merger whose flags alone may differ
-  pub merging_same : (s t : Merger S A) (xs : List Entry) (errors : List Error) → t.sources ≡ s.sources → t.heap ≡ s.heap → ((b : Direction) → is_ready b t ≡ is_ready b s) → Merging stops front back s xs errors → Merging stops front back t xs errors
-  merging_same s t xs errors sources heap flags was = record {
-    kept = was.kept;
-    stands = stands_same s t was.kept sources heap was.stands;
-    ready = λ b. subst (λ (f : Bool). Ready f b was.kept) (sym (flags b)) (was.ready b);
-    entries = was.entries;
-    faults = was.faults;
-  }

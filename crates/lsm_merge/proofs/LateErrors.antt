@@ -3,7 +3,7 @@ use Rattle.std.proofs.Common.{◌≡◌, inl, inr, refl, sym, ◌∙◌, ap, sub
 use Rattle.std.specs.Prelude.{Option, Some, None, Result, Ok, Err, MatchResult, MatchOption, count_by}
 use Rattle.std.specs.List.{AllByRecursion}
 use Rattle.std.proofs.lemmas.Bool.{cases_eq}
-use Rattle.std.proofs.lemmas.List.{append_assoc, append-nil, reverse-append, reverse-reverse, get_or-set_same, get_or-set_other}
+use Rattle.std.proofs.lemmas.List.{append_assoc, append-nil, reverse-append, reverse-reverse, get_or-set_same, get_or-set_other, length-map}
 use Rattle.std.proofs.Math.ListN.{get_or-map}
 use Rattle.sst_entries.specs.Entry.{Entry}
 use Rattle.sst_entries.specs.Stream.{first, but_first, last, but_last, ok_results, answer_stops, NoneStops}
@@ -21,7 +21,7 @@ use Rattle.lsm_merge.specs.Asks.{error_told, entry_told, answer_told, ended_at, 
 use Rattle.lsm_merge.specs.MergeLaws.{DealSorted, IsWithinBag, join_at, but_farthest, ComesLate, ErrorsComeLate, RunsAt, MeetsErrorsLate}
 use Rattle.lsm_merge.proofs.EndsLemmas.{asked_first, asked_last}
 use Rattle.lsm_merge.proofs.HeldLemmas.{weight, count_cons}
-use Rattle.lsm_merge.proofs.PopLemmas.{length_map, cleared, rewritten}
+use Rattle.lsm_merge.proofs.PopLemmas.{cleared, rewritten}
 use Rattle.lsm_merge.proofs.TakeLemmas.{zip_length, last_of, front_err_first, back_err_last}
 use Rattle.lsm_merge.proofs.FillLemmas.{stands_same, ready_filled}
 use Rattle.lsm_merge.proofs.StepLemmas.{others, end_ready, end_stands, end_free, end_spent, end_joined, ready_turned}
@@ -244,7 +244,7 @@ module _ {S A : Type 0} (front back : S → Option R → S → Type 0) (ask : S 
           λ fine.
           let head = err_whole end (kept_at filled.kept k.place) x (filled.free k.place (omega arith)) (asks_err k.place k.before t x k.fails filled.kept filled.stands fine) in
           let left : Gone end lists (map whole filled.kept) given = subst (λ (ls : List (List R)). Gone end lists ls given) (sym filled.wholes) was.gone in
-          let within : k.place < length lists = omega (arith, left.count, length_map whole filled.kept, zip_length _ k.before.sources.items filled.kept filled.stands.sources, k.fails.within) in
+          let within : k.place < length lists = omega (arith, left.count, length-map filled.kept whole, zip_length _ k.before.sources.items filled.kept filled.stands.sources, k.fails.within) in
           let g = left.at k.place within in
           record {
             place = k.place;
@@ -280,7 +280,7 @@ module _ {S A : Type 0} (front back : S → Option R → S → Type 0) (ask : S 
     within : k.lead.source < length lists
     within =
         let sources : length k.mid.sources.items ≡ length s.sources.items = ap (λ v. length v.items) k.pops.same.sources in
-        omega (arith, was.gone.count, length_map whole was.kept, zip_length _ s.sources.items was.kept was.stands.sources, k.asks.within, sources)
+        omega (arith, was.gone.count, length-map was.kept whole, zip_length _ s.sources.items was.kept was.stands.sources, k.asks.within, sources)
 
     stand : Stands stops front back k.mid after
     stand = end_stands stops front back s k.mid entries faults merging k.lead k.pops.left k.pops.same.sources end k.pops.leads now

@@ -9,6 +9,7 @@ use Rattle.std.specs.declared.cmp.Ordering.TheVariants.{Less, Equal, Greater}
 use Rattle.std.proofs.lemmas.Cmp.{upto}
 use Rattle.sst_entries.specs.Entry.{Entry}
 use Rattle.sst_entries.specs.Key.{key_cmp}
+use Rattle.sst_entries.proofs.Lists.{all_append}
 use Rattle.lsm_merge.specs.Ends.{R}
 use Rattle.lsm_merge.specs.Union.{internal_key_of, item_cmp, AtMost, entries_among, all_entries, insert_sorted, sort_entries, union_of}
 
@@ -34,10 +35,6 @@ pub above_at_most : (x y : Entry) → Above x y → AtMost y x
 above_at_most x y h = ap is_gt (item_total.antisymm y x) ∙ other_way (item_cmp x y) h
 
 -- ---- sorted lists
-
-pub all_append : {A : Type 0} (P : A → Type 0) (xs ys : List A) → AllByRecursion P xs → AllByRecursion P ys → AllByRecursion P (xs ++ ys)
-all_append P [] ys h k = k
-all_append P (x ∷ xs) ys h k = (h.0, all_append P xs ys h.1 k)
 
 pub all_inserted : (P : Entry → Type 0) (x : Entry) (ys : List Entry) → P x → AllByRecursion P ys → AllByRecursion P (insert_sorted x ys)
 all_inserted P x [] p h = (p, tt)
@@ -70,7 +67,7 @@ all_onto P (x ∷ xs) zs h k = all_inserted P x (onto xs zs) h.0 (all_onto P xs 
 
 -- ---- the least
 
-insert_least : (x : Entry) (zs : List Entry) → AllByRecursion (AtMost x) zs → insert_sorted x zs ≡ x ∷ zs
+pub insert_least : (x : Entry) (zs : List Entry) → AllByRecursion (AtMost x) zs → insert_sorted x zs ≡ x ∷ zs
 insert_least x [] h = refl
 insert_least x (z ∷ zs) h = ap (λ (b : Bool). cond b (z ∷ insert_sorted x zs) (x ∷ z ∷ zs)) h.0
 

@@ -170,13 +170,6 @@ child_nodes side n u c k = child_nodes_at side n u c k.precedes k.below
     child_nodes_at Back n u c (inr (inl r)) low = absurd (omega arith)
     child_nodes_at Back n u c (inr (inr r)) low = second u c (omega arith) (omega arith)
 
-pub end_below : (side : Direction) (n u c : ℕ) → IsEnd side n u → IsEnd side n c → c < n
-    → u / 2 * 2 + 1 ≤ c / 2 → c / 2 ≤ u / 2 * 2 + 1 + 1 → IsChildEnd side n u c
-end_below Front n u c e f low from upto = record { precedes = inl (record { above = e; low = f; from = omega arith; upto = omega arith; within = low }); below = omega arith }
-end_below Back n u c e f low from upto =
-    let odd : u % 2 ≡ 1 = ⊎_elim (λ (even : u % 2 ≡ 0). let last = e even in absurd (omega arith)) (λ (odd : u % 2 ≢ 0). omega arith) (cases_eq (u % 2) 0) in
-    record { precedes = inr (inr (record { above = odd; high = f; from = omega arith; upto = omega arith; within = low })); below = omega arith }
-
 -- a node with a node below is full
 pub full_above_child : (side : Direction) (n u c b : ℕ) → IsEnd side n u → IsChildEnd side n u c
     → IsOtherAbove side c b → PrecedesOn side n u b × (b / 2 ≡ u / 2)

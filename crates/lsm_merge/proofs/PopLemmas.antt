@@ -7,7 +7,7 @@ use Rattle.std.specs.declared.cmp.Ordering.{Ordering}
 use Rattle.std.specs.declared.cmp.Ordering.TheVariants.{Less, Equal, Greater}
 use Rattle.std.proofs.lemmas.Bool.{cases_eq}
 use Rattle.std.proofs.lemmas.Bool.Decides.{nat_tests}
-use Rattle.std.proofs.lemmas.List.{append-nil, append_assoc, map-set, get_or-set_same}
+use Rattle.std.proofs.lemmas.List.{append-nil, append_assoc, map-set, get_or-set_same, length-map}
 use Rattle.std.proofs.Math.ListN.{get_or-map}
 use Rattle.sst_entries.specs.Entry.{Entry}
 use Rattle.sst_entries.specs.declared.stream.Direction.{Direction}
@@ -144,10 +144,6 @@ errors_set [] k rs lt e = absurd (omega arith)
 errors_set (l ∷ lists) zero rs lt e = ap (λ (es : List Error). es ++ all_errors lists) e
 errors_set (l ∷ lists) (suc k) rs lt e = ap (λ (es : List Error). errors_among l ++ es) (errors_set lists k rs (omega arith) e)
 
-pub length_map : {A B : Type 0} (f : A → B) (xs : List A) → length (map f xs) ≡ length xs
-length_map f [] = refl
-length_map f (x ∷ xs) = let more = length_map f xs in omega (arith, more)
-
 -- ---- an item is taken out
 
 abbrev pub Sorted : Kept → Type 0
@@ -227,9 +223,9 @@ module _ {A : Type 0} (hs mid : List (HeapItem A)) (h : HeapItem A) (ks : List K
 
     pub least_merged : union_of (map whole ks) ≡ entry_of h ∷ union_of (map whole without)
     least_merged =
-        merged_least (map whole ks) h.source (entry_of h) (whole (cleared h.end its)) (omega (arith, within, length_map whole ks)) (ap entries_among (at h.source ∙ least_first))
+        merged_least (map whole ks) h.source (entry_of h) (whole (cleared h.end its)) (omega (arith, within, length-map ks whole)) (ap entries_among (at h.source ∙ least_first))
         (λ j lt. all_of (λ y. Above y (entry_of h)) j (up_from (λ y. Above y (entry_of h)) (λ y z le up. above_chain y z le up) (kept_at ks j) (all_at Sorted ks j _ (omega (arith, within)) sorted) (ready j) (λ b y e. before j b y lt e)))
-        (λ j gt lt. all_of (AtMost (entry_of h)) j (up_from (AtMost (entry_of h)) (λ y z le up. at_most_chain (entry_of h) y z up le) (kept_at ks j) (all_at Sorted ks j _ (omega (arith, lt, length_map whole ks)) sorted) (ready j) (λ b y e. over_at_most j b y e)))
+        (λ j gt lt. all_of (AtMost (entry_of h)) j (up_from (AtMost (entry_of h)) (λ y z le up. at_most_chain (entry_of h) y z up le) (kept_at ks j) (all_at Sorted ks j _ (omega (arith, lt, length-map ks whole)) sorted) (ready j) (λ b y e. over_at_most j b y e)))
         ((subst (λ (rs : List R). Ascends (entries_among rs)) least_first own_sorted).0)
         ∙ ap (λ (ls : List (List R)). entry_of h ∷ union_of ls) (sym rewritten)
       where
@@ -245,7 +241,7 @@ module _ {A : Type 0} (hs mid : List (HeapItem A)) (h : HeapItem A) (ks : List K
 
     pub least_errors : all_errors (map whole ks) ≡ all_errors (map whole without)
     least_errors =
-        errors_set (map whole ks) h.source (whole (cleared h.end its)) (omega (arith, within, length_map whole ks)) (ap errors_among (at h.source ∙ least_first)) ∙ ap all_errors (sym rewritten)
+        errors_set (map whole ks) h.source (whole (cleared h.end its)) (omega (arith, within, length-map ks whole)) (ap errors_among (at h.source ∙ least_first)) ∙ ap all_errors (sym rewritten)
 
     pub least_sorted : AllByRecursion Sorted without
     least_sorted = all_set Sorted ks h.source (cleared h.end its) sorted ((subst (λ (rs : List R). Ascends (entries_among rs)) least_first own_sorted).1)
@@ -292,9 +288,9 @@ module _ {A : Type 0} (hs mid : List (HeapItem A)) (h : HeapItem A) (ks : List K
 
     pub greatest_merged : union_of (map whole ks) ≡ union_of (map whole without) ++ entry_of h ∷ []
     greatest_merged =
-        merged_greatest (map whole ks) h.source (entry_of h) (whole (cleared h.end its)) (omega (arith, within, length_map whole ks)) (ap entries_among (at h.source) ∙ last_parts)
+        merged_greatest (map whole ks) h.source (entry_of h) (whole (cleared h.end its)) (omega (arith, within, length-map ks whole)) (ap entries_among (at h.source) ∙ last_parts)
         (λ j lt. all_of (λ y. AtMost y (entry_of h)) j (down_from (λ y. AtMost y (entry_of h)) (λ y z le up. at_most_chain y z (entry_of h) le up) (kept_at ks j) (all_at Sorted ks j _ (omega (arith, within)) sorted) (ready j) (λ b y e. under_at_most j b y e)))
-        (λ j gt lt. all_of (Above (entry_of h)) j (down_from (Above (entry_of h)) (λ y z le up. above_chain y z le up) (kept_at ks j) (all_at Sorted ks j _ (omega (arith, lt, length_map whole ks)) sorted) (ready j) (λ b y e. after j b y gt e)))
+        (λ j gt lt. all_of (Above (entry_of h)) j (down_from (Above (entry_of h)) (λ y z le up. above_chain y z le up) (kept_at ks j) (all_at Sorted ks j _ (omega (arith, lt, length-map ks whole)) sorted) (ready j) (λ b y e. after j b y gt e)))
         (ascends_last (entries_among (whole (cleared h.end its))) (entry_of h) (subst Ascends last_parts own_sorted))
         ∙ ap (λ (ls : List (List R)). union_of ls ++ entry_of h ∷ []) (sym rewritten)
       where
@@ -310,7 +306,7 @@ module _ {A : Type 0} (hs mid : List (HeapItem A)) (h : HeapItem A) (ks : List K
 
     pub greatest_errors : all_errors (map whole ks) ≡ all_errors (map whole without)
     greatest_errors =
-        errors_set (map whole ks) h.source (whole (cleared h.end its)) (omega (arith, within, length_map whole ks))
+        errors_set (map whole ks) h.source (whole (cleared h.end its)) (omega (arith, within, length-map ks whole))
         (ap errors_among (at h.source ∙ greatest_last) ∙ errors_append (whole (cleared h.end its)) (Ok (entry_of h) ∷ []) ∙ append-nil (errors_among (whole (cleared h.end its))))
         ∙ ap all_errors (sym rewritten)
 

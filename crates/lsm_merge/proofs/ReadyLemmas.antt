@@ -1,5 +1,5 @@
 -- Which ends of a merger are ready, and what stays as it was.
-use Rattle.std.proofs.Common.{◌≡◌, refl, sym, ◌∙◌, ap, Bool, true, false}
+use Rattle.std.proofs.Common.{◌≡◌, refl, sym, ◌∙◌, ap, true}
 use Rattle.sst_entries.specs.declared.stream.Direction.{Direction}
 use Rattle.sst_entries.specs.declared.stream.Direction.TheVariants.{Front, Back}
 use Rattle.lsm_merge.specs.declared.merge.Merger.{Merger}
@@ -42,10 +42,6 @@ made_other Front m = refl
 pub made_failed : {S A : Type 0} (end : Direction) (m : Merger S A) → (made_ready end m).failed ≡ m.failed
 made_failed Back m = refl
 made_failed Front m = refl
-
--- an end by the value of a call that names it
-pub not_ready_at : {S A : Type 0} (end e : Direction) (s : Merger S A) (b : Bool) → e ≡ end → b ≡ is_ready e s → b ≡ false → is_ready end s ≡ false
-not_ready_at end e s b same ready none = ap (λ (d : Direction). is_ready d s) (sym same) ∙ sym ready ∙ none
 
 pub made_at : {S A : Type 0} (end e : Direction) (m t : Merger S A) → e ≡ end → t ≡ made_ready e m → made_ready end m ≡ t
 made_at end e m t same made = ap (λ (d : Direction). made_ready d m) (sym same) ∙ sym made

@@ -1,5 +1,5 @@
 -- How many entries a merger holds.
-use Rattle.std.proofs.Common.{◌≡◌, ◌≢◌, inl, inr, refl, sym, ◌∙◌, ap, subst, ℕ, suc, ◌+◌, ◌<◌, ◌≤◌, Bool, true, false, cond, nat_lt, List, ◌∷◌, length, arith}
+use Rattle.std.proofs.Common.{◌≡◌, inl, inr, refl, sym, ◌∙◌, ap, subst, ℕ, suc, ◌+◌, ◌<◌, ◌≤◌, Bool, true, false, cond, nat_lt, List, ◌∷◌, length, arith}
 use Rattle.std.specs.Prelude.{◌==◌, Option, All, IsPermutation, count_by, sum_by}
 use Rattle.std.specs.Iterator.{Count}
 use Rattle.std.proofs.lemmas.Bool.{eqb-true}
@@ -28,9 +28,6 @@ Known n h = h.source < n
 
 pub count_perm : {A : Type 0} (k : ℕ) (xs ys : List (HeapItem A)) → IsPermutation xs ys → count_by (of_source k) ys ≡ count_by (of_source k) xs
 count_perm k xs ys perm = sum_by-IsPermutation (λ h. cond (of_source k h) 1 0) xs ys perm
-
-not_same : {A : Type 0} (k : ℕ) (h : HeapItem A) → k ≢ h.source → of_source k h ≡ false
-not_same k h ne = elim (h.source == k) as (λ b. (h.source == k) ≡ b → b ≡ false) [ true ↦ λ e. absurd (ne (sym (eqb-true h.source k e))) | false ↦ λ e. refl ] refl
 
 -- 1 where it is so
 abbrev pub one_if : Bool → ℕ
@@ -189,9 +186,6 @@ module _ {S A : Type 0} (front back : S → Option R → S → Type 0) (can can_
     popped_known =
         let known : h.source < length s.sources.items = (recursion_from_All (Known (length s.sources.items)) (h ∷ m.heap.items) (All-permutation (Known (length s.sources.items)) s.heap.items (h ∷ m.heap.items) pops.left was.known)).0 in
         omega (arith, known, same_count)
-
-    pub popped_goes : All (Goes front back can can_back left) m.sources.items
-    popped_goes = subst (λ v. All (Goes front back can can_back left) v.items) (sym pops.same.sources) was.sources
 
     -- there is room for the next of its source
     pub popped_space : length m.heap.items < m.heap.room

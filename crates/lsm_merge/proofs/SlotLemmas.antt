@@ -10,38 +10,39 @@ use Rattle.std.proofs.lemmas.List.Sorted.{IsPermutation-refl, IsPermutation-sym,
 use Rattle.std.proofs.lemmas.List.Sorted.{IsPermutation-trans, IsPermutation-middle}
 use Rattle.std.proofs.lemmas.List.Sorted.{length_permutation}
 use Rattle.std.proofs.lemmas.Bool.{cases_eq}
-use Rattle.lsm_merge.specs.Slots.{items_of, slot_at, IsFreeList}
+use Rattle.lsm_merge.specs.Slots.{occupants, slot_at, IsFreeList}
 
-pub items_of-replicate : {T : Type 0} (n : ℕ) → items_of (replicate {A = Option T} n None) ≡ []
-items_of-replicate zero = refl
-items_of-replicate (suc n) = items_of-replicate n
+pub occupants-replicate : {T : Type 0} (n : ℕ) → occupants (replicate {A = Option T} n None) ≡ []
+occupants-replicate zero = refl
+occupants-replicate (suc n) = occupants-replicate n
 
 -- an item goes into an empty slot
-pub items_of-fill : {T : Type 0} (places : List (Option T)) (s : ℕ) (x : T) → s < length places
+pub occupants-fill : {T : Type 0} (places : List (Option T)) (s : ℕ) (x : T) → s < length places
     → slot_at places s ≡ None
-    → IsPermutation (x ∷ items_of places) (items_of (set places s (Some x)))
-items_of-fill [] s x low empty = absurd (omega arith)
-items_of-fill (None ∷ places) zero x low empty = IsPermutation-refl _
-items_of-fill (Some y ∷ places) zero x low empty = cc
-items_of-fill (None ∷ places) (suc s) x low empty = items_of-fill places s x (omega arith) empty
-items_of-fill (Some y ∷ places) (suc s) x low empty =
-    IsPermutation-trans _ _ _ (IsPermutation-sym _ _ (IsPermutation-middle (y ∷ []) x (items_of places)))
-    (IsPermutation-cons y _ _ (items_of-fill places s x (omega arith) empty))
+    → IsPermutation (x ∷ occupants places) (occupants (set places s (Some x)))
+occupants-fill [] s x low empty = absurd (omega arith)
+occupants-fill (None ∷ places) zero x low empty = IsPermutation-refl _
+occupants-fill (Some y ∷ places) zero x low empty = cc
+occupants-fill (None ∷ places) (suc s) x low empty = occupants-fill places s x (omega arith) empty
+occupants-fill (Some y ∷ places) (suc s) x low empty =
+    IsPermutation-trans _ _ _ (IsPermutation-sym _ _ (IsPermutation-middle (y ∷ []) x (occupants places)))
+    (IsPermutation-cons y _ _ (occupants-fill places s x (omega arith) empty))
 
 -- the item of a slot is taken out
-pub items_of-empty : {T : Type 0} (places : List (Option T)) (s : ℕ) (x : T) → s < length places
-    → slot_at places s ≡ Some x → IsPermutation (items_of places) (x ∷ items_of (set places s None))
-items_of-empty places s x low is =
+pub occupants-empty : {T : Type 0} (places : List (Option T)) (s : ℕ) (x : T) → s < length places
+    → slot_at places s ≡ Some x
+    → IsPermutation (occupants places) (x ∷ occupants (set places s None))
+occupants-empty places s x low is =
     let back : set (set places s None) s (Some x) ≡ places = set-set places s None (Some x) ∙ ap (λ o. set places s o) (sym is) ∙ set-get_or places s None in
     let inside : s < length (set places s None) = rw length-set low in
-    let p = items_of-fill (set places s None) s x inside (get_or-set_same places s None None low) in
+    let p = occupants-fill (set places s None) s x inside (get_or-set_same places s None None low) in
     IsPermutation-sym _ _ (rw back at p)
 
 pub IsFreeList-new : {T : Type 0} (n room : ℕ) (free : List ℕ) → room ≤ n → length free ≡ room
     → ((i : ℕ) → i < room → get_or free i 0 + i + 1 ≡ room)
     → IsFreeList (replicate {A = Option T} n None) free room
 IsFreeList-new {T} n room free fits count each = record {
-  count = let e = ap length (items_of-replicate {T = T} n) in omega (arith, e, count);
+  count = let e = ap length (occupants-replicate {T = T} n) in omega (arith, e, count);
   within = λ i h. let e = each i (omega arith) in omega (arith, e, length-replicate {A = Option T} n None);
   empty = λ i h. let e = each i (omega arith) in get_or-replicate {A = Option T} n (get_or free i 0) None None (omega arith);
   apart = λ i j h k same. let e = each i (omega arith) in let f = each j (omega arith) in omega arith;
@@ -57,7 +58,7 @@ IsFreeList-fill places free rest room s x is f =
     let same : (i : ℕ) → i < length rest → get_or free i 0 ≡ get_or rest i 0 = λ i h. ap (λ l. get_or l i 0) is ∙ get_or_append_left rest (s ∷ []) 0 i h in
     let inside : s < length places = let w = f.within (length rest) (omega arith) in rw at_end at w in
     let was : slot_at places s ≡ None = let w = f.empty (length rest) (omega arith) in rw at_end at w in
-    let grown = length_permutation _ _ (items_of-fill places s x inside was) in
+    let grown = length_permutation _ _ (occupants-fill places s x inside was) in
     record {
       count = let c = f.count in omega (arith, grown, c);
       within = λ i h. let w = f.within i (omega arith) in let e = same i h in omega (arith, length-set places s (Some x));
@@ -77,7 +78,7 @@ pub IsFreeList-empty : {T : Type 0} (places : List (Option T)) (free : List ℕ)
     → s < length places → slot_at places s ≡ Some x → IsFreeList places free room
     → IsFreeList (set places s None) (free ++ s ∷ []) room
 IsFreeList-empty places free room s x low is f =
-    let shrunk = length_permutation _ _ (items_of-empty places s x low is) in
+    let shrunk = length_permutation _ _ (occupants-empty places s x low is) in
     let at_end : get_or (free ++ s ∷ []) (length free) 0 ≡ s = get_or_push free s 0 (length free) refl in
     let same : (i : ℕ) → i < length free → get_or (free ++ s ∷ []) i 0 ≡ get_or free i 0 = λ i h. get_or_append_left free (s ∷ []) 0 i h in
     let other : (i : ℕ) → i < length free → get_or free i 0 ≢ s = λ i h q. let e = f.empty i h in let e2 : slot_at places s ≡ None = rw q at e in cc in

@@ -10,7 +10,7 @@ use Rattle.std.proofs.lemmas.List.{set-set, set-get_or}
 use Rattle.std.proofs.lemmas.List.Elements.{All-nil, All-cons}
 use Rattle.lsm_merge.specs.declared.lazy_tournament.brackets.Bracket.{Bracket}
 use Rattle.lsm_merge.specs.declared.lazy_tournament.brackets.Brackets.{Brackets}
-use Rattle.lsm_merge.specs.Slots.{Places, items_of, slot_at}
+use Rattle.lsm_merge.specs.Slots.{Places, occupants, slot_at}
 use Rattle.lsm_merge.specs.Brackets.{is_beaten, IsUnplayed, IsWon, WasWon, IsWonBut, IsKept}
 use Rattle.lsm_merge.specs.Brackets.{AreKept, IsNextIf}
 
@@ -21,22 +21,22 @@ IfNone-from (Some x) P p = tt
 -- an item that no place beats comes before all items, or is as good
 pub all_behind : {T : Type 0} (cmp : T → T → Ordering) (x : T) (places : List (Option T))
     → ((k : ℕ) → k < length places → is_beaten cmp (Some x) (slot_at places k) ≡ false)
-    → All (λ y. is_gt (cmp x y) ≡ false) (items_of places)
+    → All (λ y. is_gt (cmp x y) ≡ false) (occupants places)
 all_behind cmp x [] h = All-nil (λ y. is_gt (cmp x y) ≡ false)
 all_behind cmp x (None ∷ places) h = all_behind cmp x places (λ k low. h (suc k) (omega arith))
-all_behind cmp x (Some y ∷ places) h = All-cons (λ y. is_gt (cmp x y) ≡ false) y (items_of places) (h 0 (omega arith)) (all_behind cmp x places (λ k low. h (suc k) (omega arith)))
+all_behind cmp x (Some y ∷ places) h = All-cons (λ y. is_gt (cmp x y) ≡ false) y (occupants places) (h 0 (omega arith)) (all_behind cmp x places (λ k low. h (suc k) (omega arith)))
 
 -- where an empty place is not beaten, all are empty
 all_empty : {T : Type 0} (cmp : T → T → Ordering) (places : List (Option T))
     → ((k : ℕ) → k < length places → is_beaten cmp None (slot_at places k) ≡ false)
-    → items_of places ≡ []
+    → occupants places ≡ []
 all_empty cmp [] h = refl
 all_empty cmp (None ∷ places) h = all_empty cmp places (λ k low. h (suc k) (omega arith))
 all_empty cmp (Some y ∷ places) h = let wrong = h 0 (omega arith) in cc
 
 pub none_left : {T : Type 0} (cmp : T → T → Ordering) (places : List (Option T)) (o : Option T)
     → None ≡ o → ((k : ℕ) → k < length places → is_beaten cmp o (slot_at places k) ≡ false)
-    → items_of places ≡ []
+    → occupants places ≡ []
 none_left {T} cmp places o e h = all_empty cmp places (λ k low. subst (λ (x : Option T). is_beaten cmp x (slot_at places k) ≡ false) (sym e) (h k low))
 
 last_same : (xs ys : List ℕ) (x y : ℕ) → xs ++ x ∷ [] ≡ ys ++ y ∷ [] → x ≡ y

@@ -7,6 +7,7 @@ use Rattle.std.specs.Ordering.{nat_cmp, is_gt, is_lt, ordering_then, ordering_re
 use Rattle.std.specs.declared.cmp.Ordering.{Ordering}
 use Rattle.std.specs.declared.cmp.Ordering.TheVariants.{Less, Equal, Greater}
 use Rattle.std.proofs.lemmas.Bool.{eqb-true, eq-eqb}
+use Rattle.std.proofs.Math.Bool.{and-false}
 use Rattle.sst_entries.specs.Entry.{Entry}
 use Rattle.sst_entries.specs.Key.{same_key}
 use Rattle.sst_entries.specs.Kind.{tag_of}
@@ -125,11 +126,7 @@ abbrev after : Entry → Entry → Entry → Bool
 after x y z = is_entry y z && not (is_lt (version_cmp x z))
 
 no_after : (x y z : Entry) → is_lt (version_cmp x z) ≡ true → after x y z ≡ false
-no_after x y z h = ap (λ (b : Bool). is_entry y z && not b) h ∙ and_false (is_entry y z)
-  where
-    and_false : (b : Bool) → (b && false) ≡ false
-    and_false true = refl
-    and_false false = refl
+no_after x y z h = ap (λ (b : Bool). is_entry y z && not b) h ∙ and-false (is_entry y z)
 
 strict_only : (xs ys : List Entry) → AllBefore xs → Ascends ys → SameBag xs ys → xs ≡ ys
 strict_only [] [] strict up same = refl

@@ -9,10 +9,10 @@ pub record Places (T : Type 0) : Type 0 where
   pub free : List ℕ
 
 -- the items in the places that are taken
-abbrev pub items_of : {T : Type 0} → List (Option T) → List T
-items_of [] = []
-items_of (None ∷ places) = items_of places
-items_of (Some x ∷ places) = x ∷ items_of places
+abbrev pub occupants : {T : Type 0} → List (Option T) → List T
+occupants [] = []
+occupants (None ∷ places) = occupants places
+occupants (Some x ∷ places) = x ∷ occupants places
 
 -- what a slot holds
 abbrev pub slot_at : {T : Type 0} → List (Option T) → ℕ → Option T
@@ -22,7 +22,7 @@ slot_at places k = slice_index_or places k None
 -- listed twice
 pub record IsFreeList {T : Type 0} (places : List (Option T)) (free : List ℕ)
     (room : ℕ) : Type 0 where
-  pub count : length (items_of places) + length free ≡ room
+  pub count : length (occupants places) + length free ≡ room
   pub within : (i : ℕ) → i < length free → slice_index free i < length places
   pub empty : (i : ℕ) → i < length free → slot_at places (slice_index free i) ≡ None
   pub apart : (i j : ℕ) → i < j → j < length free → slice_index free i ≢ slice_index free j

@@ -34,14 +34,14 @@ pub struct LazyTournament<T: Ord, A: Allocator = Global> {
 }
 
 impl<T: Ord, A: Allocator> Model for LazyTournament<T, A> {
-    ghost use Rattle.lsm_merge.specs.Slots.{items_of};
+    ghost use Rattle.lsm_merge.specs.Slots.{occupants};
     ghost use Rattle.lsm_merge.specs.Tournament.{Contest};
     ghost use Rattle.lsm_merge.specs.Brackets.{IsTournament};
 
     ghost Value = { Contest T };
 
     ghost view = { λ t. record {
-      items = items_of t.slots.places;
+      items = occupants t.slots.places;
       room = t.slots.room;
       steps = t.brackets.steps;
       plays_front = t.brackets.front.is_played;

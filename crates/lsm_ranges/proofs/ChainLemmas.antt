@@ -1,12 +1,12 @@
 -- The chain that the walk gives, and its length.
 use Rattle.std.proofs.Common.{◌≡◌, refl, sym, ◌∙◌, ap, subst, ℕ, List, [], ◌∷◌, length, inl, inr}
-use Rattle.std.proofs.Common.{arith, Some}
+use Rattle.std.proofs.Common.{Some}
 use Rattle.std.specs.Prelude.{map, reverse, IsPermutation}
 use Rattle.std.proofs.lemmas.List.Sorted.{Contains-permutation, IsPermutation-sym}
 use Rattle.std.proofs.lemmas.List.Sorted.{length_permutation}
-use Rattle.std.proofs.lemmas.List.{length-reverse}
+use Rattle.std.proofs.lemmas.List.{length-reverse, nil_from_length, length-map}
 use Rattle.lsm_ranges.specs.KeyRange.{Interval}
-use Rattle.lsm_ranges.specs.Packing.{tables_of, table_at, put_all, AreTablesWellFormed}
+use Rattle.lsm_ranges.specs.Packing.{tables_in, table_at, put_all, AreTablesWellFormed}
 use Rattle.lsm_ranges.specs.Packing.{AreDisjointRuns, AreNotEmpty, IsLeastSize}
 use Rattle.lsm_ranges.specs.Links.{IsElement, TableWithPlace, runs_with_places, IsStack}
 use Rattle.lsm_ranges.specs.LinkedRuns.{table_of_link, ArePackedLinks, AreAtPlaces}
@@ -14,7 +14,7 @@ use Rattle.lsm_ranges.specs.declared.optimize.Link.{Link}
 use Rattle.lsm_ranges.proofs.PackLemmas.{put_all_packed, in_order_of, all_by}
 use Rattle.lsm_ranges.proofs.PackNumbers.{Rises, stacked}
 use Rattle.lsm_ranges.proofs.PackSize.{is_at_place, tables_with_places, rises_all, formed-map}
-use Rattle.lsm_ranges.proofs.PackSize.{put_all-map, length-map, least_size}
+use Rattle.lsm_ranges.proofs.PackSize.{put_all-map, least_size}
 use Rattle.lsm_ranges.proofs.LinkLemmas.{mem_contains, contains_mem}
 
 mem-map : {Y Z : Type 0} (h : Y → Z) (ys : List Y) (y : Y) → IsElement y ys
@@ -22,17 +22,13 @@ mem-map : {Y Z : Type 0} (h : Y → Z) (ys : List Y) (y : Y) → IsElement y ys
 mem-map h [] y m = absurd m
 mem-map h (x ∷ xs) y m = elim m [ inl e ↦ inl (ap h e) | inr n ↦ inr (mem-map h xs y n) ]
 
-no_length : {Y : Type 0} (ys : List Y) → length ys ≡ 0 → ys ≡ []
-no_length [] h = refl
-no_length (y ∷ ys) h = absurd (omega (arith, h))
-
 module _ {T : Type 0} (range : T → Interval) (runs : List (List T)) (packed : List (List (Link T)))
     (h : ArePackedLinks range (runs_with_places 0 runs) packed) where
-  pub places_of : AreAtPlaces runs (tables_of packed)
+  pub places_of : AreAtPlaces runs (tables_in packed)
   places_of =
-      all_by (λ (l : Link T). table_at runs l.run l.index ≡ Some l.table.now) (tables_of packed)
+      all_by (λ (l : Link T). table_at runs l.run l.index ≡ Some l.table.now) (tables_in packed)
       (λ l m.
-      let there = contains_mem h.links l (Contains-permutation (tables_of packed) h.links l (IsPermutation-sym h.links (tables_of packed) h.same) (mem_contains (tables_of packed) l m)) in
+      let there = contains_mem h.links l (Contains-permutation (tables_in packed) h.links l (IsPermutation-sym h.links (tables_in packed) h.same) (mem_contains (tables_in packed) l m)) in
       let among : IsElement (table_of_link l) (runs_with_places 0 runs) = subst (λ (ts : List (TableWithPlace T)). IsElement (table_of_link l) ts) h.tables_are (mem-map (λ (k : Link T). table_of_link k) h.links l there) in
       is_at_place runs (table_of_link l) among)
 
@@ -41,14 +37,14 @@ module _ {T : Type 0} (range : T → Interval) (runs : List (List T)) (packed : 
   map-map g [] = refl
   map-map g (l ∷ ls) = ap (λ k. g (table_of_link l) ∷ k) (map-map g ls)
 
-  tables_are : map (λ l. l.table.now) h.links ≡ tables_of runs
+  tables_are : map (λ l. l.table.now) h.links ≡ tables_in runs
   tables_are = map-map (λ x. x.table) h.links ∙ ap (λ xs. map (λ (x : TableWithPlace T). x.table) xs) h.tables_are ∙ tables_with_places 0 runs
 
-  pub no_chain : packed ≡ [] → tables_of runs ≡ []
+  pub no_chain : packed ≡ [] → tables_in runs ≡ []
   no_chain e =
-      let same : IsPermutation h.links [] = subst (λ (ps : List (List (Link T))). IsPermutation h.links (tables_of ps)) e h.same in
+      let same : IsPermutation h.links [] = subst (λ (ps : List (List (Link T))). IsPermutation h.links (tables_in ps)) e h.same in
       let long = length_permutation h.links [] same in
-      let none : h.links ≡ [] = no_length h.links (sym long) in
+      let none : h.links ≡ [] = nil_from_length h.links (sym long) in
       sym tables_are ∙ ap (λ ls. map (λ (l : Link T). l.table.now) ls) none
 
   module _ (d : AreDisjointRuns range runs) where
@@ -83,11 +79,11 @@ module _ {T : Type 0} (range : T → Interval) (runs : List (List T)) (packed : 
         → IsLeastSize range runs (length chain)
     chain_least chain found is whole =
         let f : Link T → Interval = λ l. range l.table.now in
-        let size : length packed ≡ length (put_all range (tables_of runs) []) =
+        let size : length packed ≡ length (put_all range (tables_in runs) []) =
         ap length (h.put formed_tables)
-        ∙ sym (length-map (map (λ (l : Link T). l.table.now)) (put_all f h.links []))
+        ∙ sym (length-map (put_all f h.links []) (map (λ (l : Link T). l.table.now)))
         ∙ ap length (put_all-map (λ (l : Link T). l.table.now) range h.links [] ∙ ap (λ ts. put_all range ts []) tables_are) in
         subst (IsLeastSize range runs) (sym (ap length is ∙ length-reverse found ∙ whole stack_of ∙ size)) (least_size range runs d)
 
 pub chain_some : (chain found : List (ℕ × ℕ)) → chain ≡ reverse found → chain ≡ [] → found ≡ []
-chain_some chain found is e = no_length found (sym (length-reverse found) ∙ ap length (sym is) ∙ ap length e)
+chain_some chain found is e = nil_from_length found (sym (length-reverse found) ∙ ap length (sym is) ∙ ap length e)

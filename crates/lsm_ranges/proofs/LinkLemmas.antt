@@ -9,13 +9,14 @@ use Rattle.std.proofs.lemmas.List.{take_more, take_all, length-take-le}
 use Rattle.std.proofs.lemmas.List.Sorted.{IsPermutation-trans, IsPermutation-append_left}
 use Rattle.std.proofs.lemmas.List.Sorted.{IsPermutation-refl}
 use Rattle.lsm_ranges.specs.KeyRange.{Interval}
-use Rattle.lsm_ranges.specs.Packing.{tables_of, put, put_all, AreTablesWellFormed, AreInOrder}
+use Rattle.lsm_ranges.specs.Packing.{tables_in, put, put_all, AreTablesWellFormed, AreInOrder}
 use Rattle.lsm_ranges.specs.Packing.{AreNotEmpty}
 use Rattle.lsm_ranges.specs.Links.{IsElement, TableWithPlace, table_with_place, run_with_places}
 use Rattle.lsm_ranges.specs.Links.{runs_with_places}
 use Rattle.lsm_ranges.specs.LinkedRuns.{table_of_link, ArePackedLinks}
 use Rattle.lsm_ranges.specs.declared.optimize.Link.{Link}
 use Rattle.lsm_ranges.proofs.PackLemmas.{put_all_packed, put_all-append, formed_parts, in_order_of}
+use Rattle.lsm_ranges.proofs.PackLemmas.{filter-cons_no, filter-cons_yes}
 use Rattle.lsm_ranges.proofs.PackSize.{formed-map}
 
 module _ {X : Type 0} where
@@ -36,13 +37,6 @@ module _ {X : Type 0} where
       go (y ∷ ys) zero lt at = inl (sym at)
       go (y ∷ ys) (suc k) lt at = inr (go ys k (omega arith) at)
 
-  filter_yes : (p : X → Bool) (z : X) (zs : List X) → p z ≡ true
-      → filter p (z ∷ zs) ≡ z ∷ filter p zs
-  filter_yes p z zs e = rw e refl
-
-  filter_no : (p : X → Bool) (z : X) (zs : List X) → p z ≡ false → filter p (z ∷ zs) ≡ filter p zs
-  filter_no p z zs e = rw e refl
-
   any_no : (p : X → Bool) (z : X) (zs : List X) → p z ≡ false → list_any p (z ∷ zs) ≡ list_any p zs
   any_no p z zs e = rw e refl
 
@@ -51,8 +45,8 @@ module _ {X : Type 0} where
   none_first p [] n s = cc
   none_first p (z ∷ zs) n s =
       elim (cases_Bool (p z)) [
-        | inl e ↦ let f : None ≡ Some z = n ∙ ap (λ l. slice_get l 0) (filter_yes p z zs e) in cc
-        | inr e ↦ none_first p zs (n ∙ ap (λ l. slice_get l 0) (filter_no p z zs e)) (sym (any_no p z zs e) ∙ s)
+        | inl e ↦ let f : None ≡ Some z = n ∙ ap (λ l. slice_get l 0) (filter-cons_yes p z zs e) in cc
+        | inr e ↦ none_first p zs (n ∙ ap (λ l. slice_get l 0) (filter-cons_no p z zs e)) (sym (any_no p z zs e) ∙ s)
       ]
 
   -- where one passes, there is a first that passes
@@ -66,10 +60,10 @@ module _ {X : Type 0} where
   some_first p (z ∷ zs) x h =
       elim (cases_Bool (p z)) [
         | inl e ↦
-            let f : Some x ≡ Some z = h ∙ ap (λ l. slice_get l 0) (filter_yes p z zs e) in
+            let f : Some x ≡ Some z = h ∙ ap (λ l. slice_get l 0) (filter-cons_yes p z zs e) in
             let g : x ≡ z = cc in
             (inl g, ap p g ∙ e)
-        | inr e ↦ let k = some_first p zs x (h ∙ ap (λ l. slice_get l 0) (filter_no p z zs e)) in (inr k.0, k.1)
+        | inr e ↦ let k = some_first p zs x (h ∙ ap (λ l. slice_get l 0) (filter-cons_no p z zs e)) in (inr k.0, k.1)
       ]
 
   -- the first that passes is there, and passes
@@ -128,7 +122,7 @@ module _ {T : Type 0} (range : T → Interval) where
   pub links_push : (ts : List (TableWithPlace T)) (now next : List (List (Link T))) (link : Link T)
       → ArePackedLinks range ts now
       → (AreInOrder (λ l. range l.table.now) now → next ≡ put (λ l. range l.table.now) link now)
-      → IsPermutation (tables_of now ++ link ∷ []) (tables_of next)
+      → IsPermutation (tables_in now ++ link ∷ []) (tables_in next)
       → (AreNotEmpty now → AreNotEmpty next)
       → ArePackedLinks range (ts ++ table_of_link link ∷ []) next
   links_push ts now next link h put_one same some =
@@ -136,7 +130,7 @@ module _ {T : Type 0} (range : T → Interval) where
       record {
         links = h.links ++ link ∷ [];
         tables_are = map-push (λ l. table_of_link l) h.links link ∙ ap (λ l. l ++ table_of_link link ∷ []) h.tables_are;
-        same = IsPermutation-trans (h.links ++ link ∷ []) (tables_of now ++ link ∷ []) (tables_of next) (IsPermutation-append_left (link ∷ []) h.links (tables_of now) h.same) same;
+        same = IsPermutation-trans (h.links ++ link ∷ []) (tables_in now ++ link ∷ []) (tables_in next) (IsPermutation-append_left (link ∷ []) h.links (tables_in now) h.same) same;
         put = λ formed.
             let k = formed_parts (λ (x : TableWithPlace T). range x.table) ts (table_of_link link) formed in
             let is = h.put k.0 in
@@ -148,7 +142,7 @@ module _ {T : Type 0} (range : T → Interval) where
 
   pub links_more : (ts : List (TableWithPlace T)) (i j : ℕ) (tables : List T)
       (now next : List (List (Link T))) (link : Link T)
-      → IsPermutation (tables_of now ++ link ∷ []) (tables_of next)
+      → IsPermutation (tables_in now ++ link ∷ []) (tables_in next)
       → (AreInOrder (λ l. range l.table.now) now → next ≡ put (λ l. range l.table.now) link now)
       → (AreNotEmpty now → AreNotEmpty next) → j < length tables
       → link.table.now ≡ get_or tables j link.table.now → link.run ≡ i → link.index ≡ j

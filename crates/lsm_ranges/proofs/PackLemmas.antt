@@ -19,7 +19,7 @@ use Rattle.std.proofs.lemmas.Bool.{or_right, or_from, cases_Bool, both_ways, ne_
 use Rattle.sst_entries.specs.Key.{key_lt}
 use Rattle.lsm_ranges.specs.KeyRange.{Interval, key_le, is_well_formed, has_key, overlaps}
 use Rattle.lsm_ranges.specs.Run.{are_in_order, how_many}
-use Rattle.lsm_ranges.specs.Packing.{tables_of, holders, touches, with_table, put, put_all}
+use Rattle.lsm_ranges.specs.Packing.{tables_in, holders, touches, with_table, put, put_all}
 use Rattle.lsm_ranges.specs.Packing.{count_to_last, AreInOrder, ArePacked, AreTablesWellFormed}
 use Rattle.lsm_ranges.specs.Packing.{AreWellFormed, AreNotEmpty}
 use Rattle.lsm_ranges.specs.Links.{IsElement}
@@ -93,11 +93,11 @@ module _ {X : Type 0} where
   take_and_drop (suc n) [] = refl
   take_and_drop (suc n) (x ∷ xs) = ap (λ l. x ∷ l) (take_and_drop n xs)
 
-  filter-cons_no : (p : X → Bool) (x : X) (xs : List X) → p x ≡ false
+  pub filter-cons_no : (p : X → Bool) (x : X) (xs : List X) → p x ≡ false
       → filter p (x ∷ xs) ≡ filter p xs
   filter-cons_no p x xs e = rw e refl
 
-  filter-cons_yes : (p : X → Bool) (x : X) (xs : List X) → p x ≡ true
+  pub filter-cons_yes : (p : X → Bool) (x : X) (xs : List X) → p x ≡ true
       → filter p (x ∷ xs) ≡ x ∷ filter p xs
   filter-cons_yes p x xs e = rw e refl
 
@@ -140,11 +140,11 @@ module _ {T : Type 0} (range : T → Interval) where
       ]
 
   pub untouched : (r : Interval) (runs : List (List T)) → list_any (touches range r) runs ≡ false
-      → (x : T) → IsElement x (tables_of runs) → overlaps (range x) r ≡ false
+      → (x : T) → IsElement x (tables_in runs) → overlaps (range x) r ≡ false
   untouched r [] h x m = absurd m
   untouched r (run ∷ runs) h x m =
       let k = or_parts (touches range r run) (list_any (touches range r) runs) h in
-      elim (mem-append_cases run (tables_of runs) x m) [
+      elim (mem-append_cases run (tables_in runs) x m) [
         | inl a ↦ any_fails (λ t. overlaps (range t) r) run k.0 x a
         | inr b ↦ untouched r runs k.1 x b
       ]
@@ -170,27 +170,27 @@ module _ {T : Type 0} (range : T → Interval) where
       elim (cases_Bool b) [
         | inl e ↦
             ap (λ rs. holders range rs k) (put_behind t run runs e)
-            ∙ filter-append p run (tables_of (put range t runs))
+            ∙ filter-append p run (tables_in (put range t runs))
             ∙ ap (λ l. filter p run ++ l) (put_holders k t runs)
-            ∙ sym (append_assoc (filter p run) (filter p (tables_of runs)) (filter p (t ∷ [])))
-            ∙ ap (λ l. l ++ filter p (t ∷ [])) (sym (filter-append p run (tables_of runs)))
+            ∙ sym (append_assoc (filter p run) (filter p (tables_in runs)) (filter p (t ∷ [])))
+            ∙ ap (λ l. l ++ filter p (t ∷ [])) (sym (filter-append p run (tables_in runs)))
         | inr e ↦
             let parted = or_parts (touches range (range t) run) (list_any (touches range (range t)) runs) e in
             ap (λ rs. holders range rs k) (put_here t run runs e)
-            ∙ filter-append p (with_table range t run) (tables_of runs)
+            ∙ filter-append p (with_table range t run) (tables_in runs)
             ∙ elim (cases_Bool (has_key (range t) k)) [
               | inl has ↦
                   let none_here : filter p run ≡ [] = filter_none p run (no_holder t run k has (any_fails (λ x. overlaps (range x) (range t)) run parted.0)) in
-                  let none_later : filter p (tables_of runs) ≡ [] = filter_none p (tables_of runs) (no_holder t (tables_of runs) k has (untouched (range t) runs parted.1)) in
-                  ap (λ l. l ++ filter p (tables_of runs)) (filter-insert_alone p run (how_many (λ r. key_le r.min (range t).min) (map range run)) t has none_here)
+                  let none_later : filter p (tables_in runs) ≡ [] = filter_none p (tables_in runs) (no_holder t (tables_in runs) k has (untouched (range t) runs parted.1)) in
+                  ap (λ l. l ++ filter p (tables_in runs)) (filter-insert_alone p run (how_many (λ r. key_le r.min (range t).min) (map range run)) t has none_here)
                   ∙ ap (λ l. t ∷ l) none_later
                   ∙ sym (filter-cons_yes p t [] has)
-                  ∙ ap (λ l. l ++ filter p (t ∷ [])) (sym (filter-append p run (tables_of runs) ∙ ap (λ l. l ++ filter p (tables_of runs)) none_here ∙ none_later))
+                  ∙ ap (λ l. l ++ filter p (t ∷ [])) (sym (filter-append p run (tables_in runs) ∙ ap (λ l. l ++ filter p (tables_in runs)) none_here ∙ none_later))
               | inr has ↦
-                  ap (λ l. l ++ filter p (tables_of runs)) (filter-insert_no p run (how_many (λ r. key_le r.min (range t).min) (map range run)) t has)
-                  ∙ sym (filter-append p run (tables_of runs))
-                  ∙ sym (append-nil (filter p (run ++ tables_of runs)))
-                  ∙ ap (λ l. filter p (run ++ tables_of runs) ++ l) (sym (filter-cons_no p t [] has))
+                  ap (λ l. l ++ filter p (tables_in runs)) (filter-insert_no p run (how_many (λ r. key_le r.min (range t).min) (map range run)) t has)
+                  ∙ sym (filter-append p run (tables_in runs))
+                  ∙ sym (append-nil (filter p (run ++ tables_in runs)))
+                  ∙ ap (λ l. filter p (run ++ tables_in runs) ++ l) (sym (filter-cons_no p t [] has))
             ]
       ]
 
@@ -302,31 +302,6 @@ module _ {T : Type 0} (range : T → Interval) where
       → ArePacked range runs → ArePacked range (put_all range ts runs)
   put_all_packed [] runs wf h = h
   put_all_packed (t ∷ ts) runs wf h = put_all_packed ts (put range t runs) wf.1 (put_packed t runs wf.0 h)
-
-  pub put_permutes : (t : T) (runs : List (List T))
-      → IsPermutation (tables_of runs ++ t ∷ []) (tables_of (put range t runs))
-  put_permutes t [] = IsPermutation-refl (t ∷ [])
-  put_permutes t (run ∷ runs) =
-      elim (cases_Bool (touches range (range t) run || list_any (touches range (range t)) runs)) [
-        | inl e ↦
-            subst (λ (rs : List (List T)). IsPermutation (tables_of (run ∷ runs) ++ t ∷ []) (tables_of rs)) (sym (put_behind range t run runs e))
-            (subst (λ (l : List T). IsPermutation l (run ++ tables_of (put range t runs))) (sym (append_assoc run (tables_of runs) (t ∷ [])))
-            (IsPermutation-append_right run (tables_of runs ++ t ∷ []) (tables_of (put range t runs)) (put_permutes t runs)))
-        | inr e ↦
-            subst (λ (rs : List (List T)). IsPermutation (tables_of (run ∷ runs) ++ t ∷ []) (tables_of rs)) (sym (put_here range t run runs e))
-            (IsPermutation-trans (tables_of (run ∷ runs) ++ t ∷ []) (t ∷ (run ++ tables_of runs)) (with_table range t run ++ tables_of runs)
-            (IsPermutation-to_front (run ++ tables_of runs) t)
-            (IsPermutation-append_left (tables_of runs) (t ∷ run) (with_table range t run) (IsPermutation-insert run (how_many (λ r. key_le r.min (range t).min) (map range run)) t)))
-      ]
-
-  pub put_all_permutes : (ts : List T) (runs : List (List T))
-      → IsPermutation (tables_of runs ++ ts) (tables_of (put_all range ts runs))
-  put_all_permutes [] runs = subst (λ (l : List T). IsPermutation l (tables_of runs)) (sym (append-nil (tables_of runs))) (IsPermutation-refl (tables_of runs))
-  put_all_permutes (t ∷ ts) runs =
-      IsPermutation-trans (tables_of runs ++ t ∷ ts) (tables_of (put range t runs) ++ ts) (tables_of (put_all range ts (put range t runs)))
-      (subst (λ (l : List T). IsPermutation l (tables_of (put range t runs) ++ ts)) (append_assoc (tables_of runs) (t ∷ []) ts)
-      (IsPermutation-append_left ts (tables_of runs ++ t ∷ []) (tables_of (put range t runs)) (put_permutes t runs)))
-      (put_all_permutes ts (put range t runs))
 
   pub put_all-append : (ts us : List T) (runs : List (List T))
       → put_all range (ts ++ us) runs ≡ put_all range us (put_all range ts runs)
@@ -467,9 +442,9 @@ module _ {T : Type 0} (range : T → Interval) where
       let ordered : AreInOrder range now = subst (AreInOrder range) (sym is) (in_order_of (put_all range ts start) (put_all_packed range ts start k.0 packed)) in
       put_one ordered ∙ ap (λ rs. put range t rs) is ∙ sym (put_all-append range ts (t ∷ []) start)
 
-  pub tables_of-push : (runs : List (List T)) (run : List T)
-      → tables_of (runs ++ run ∷ []) ≡ tables_of runs ++ run
-  tables_of-push runs run = flat_map-append (λ (ts : List T). ts) runs (run ∷ []) ∙ ap (λ l. tables_of runs ++ l) (append-nil run)
+  pub tables_in-push : (runs : List (List T)) (run : List T)
+      → tables_in (runs ++ run ∷ []) ≡ tables_in runs ++ run
+  tables_in-push runs run = flat_map-append (λ (ts : List T). ts) runs (run ∷ []) ∙ ap (λ l. tables_in runs ++ l) (append-nil run)
 
   formed_both : (ts us : List T) → AreTablesWellFormed range (ts ++ us)
       → AreTablesWellFormed range ts × AreTablesWellFormed range us
@@ -478,17 +453,17 @@ module _ {T : Type 0} (range : T → Interval) where
 
   -- one more run whose tables are put in
   pub put_run : (runs : List (List T)) (run : List T) (now next : List (List T))
-      → (AreWellFormed range runs → now ≡ put_all range (tables_of runs) [])
+      → (AreWellFormed range runs → now ≡ put_all range (tables_in runs) [])
       → (AreTablesWellFormed range run → ArePacked range now → next ≡ put_all range run now)
       → AreWellFormed range (runs ++ run ∷ [])
-      → next ≡ put_all range (tables_of (runs ++ run ∷ [])) []
+      → next ≡ put_all range (tables_in (runs ++ run ∷ [])) []
   put_run runs run now next before put_tables formed =
-      let k = formed_both (tables_of runs) run (subst (AreTablesWellFormed range) (tables_of-push runs run) formed) in
+      let k = formed_both (tables_in runs) run (subst (AreTablesWellFormed range) (tables_in-push runs run) formed) in
       let is = before k.0 in
-      let packed : ArePacked range now = subst (ArePacked range) (sym is) (put_all_packed range (tables_of runs) [] k.0 tt) in
+      let packed : ArePacked range now = subst (ArePacked range) (sym is) (put_all_packed range (tables_in runs) [] k.0 tt) in
       put_tables k.1 packed ∙ ap (λ rs. put_all range run rs) is
-      ∙ sym (put_all-append range (tables_of runs) run [])
-      ∙ ap (λ ts. put_all range ts []) (sym (tables_of-push runs run))
+      ∙ sym (put_all-append range (tables_in runs) run [])
+      ∙ ap (λ ts. put_all range ts []) (sym (tables_in-push runs run))
 
 -- a fact of a success gives another
 pub if_ok : {Y E : Type 0} {P Q : Y → Type 0} (r : Result Y E) → ((y : Y) → P y → Q y) → IfOk r P
@@ -500,24 +475,24 @@ module _ {T : Type 0} where
   -- one table more in one of the runs
   pub permutes_in : (t : T) (items : List (List T)) (n : ℕ) (old new : List T) → n < length items
       → old ≡ get_or items n old → IsPermutation (old ++ t ∷ []) new
-      → IsPermutation (tables_of items ++ t ∷ []) (tables_of (set items n new))
+      → IsPermutation (tables_in items ++ t ∷ []) (tables_in (set items n new))
   permutes_in t [] n old new lt at same = absurd (omega arith)
   permutes_in t (run ∷ runs) zero old new lt at same =
       let here : IsPermutation (run ++ t ∷ []) new = subst (λ (l : List T). IsPermutation (l ++ t ∷ []) new) at same in
-      IsPermutation-trans ((run ++ tables_of runs) ++ t ∷ []) ((run ++ t ∷ []) ++ tables_of runs) (new ++ tables_of runs)
-      (IsPermutation-trans ((run ++ tables_of runs) ++ t ∷ []) (t ∷ (run ++ tables_of runs)) ((run ++ t ∷ []) ++ tables_of runs)
-      (IsPermutation-to_front (run ++ tables_of runs) t)
-      (IsPermutation-append_left (tables_of runs) (t ∷ run) (run ++ t ∷ []) (IsPermutation-sym (run ++ t ∷ []) (t ∷ run) (IsPermutation-to_front run t))))
-      (IsPermutation-append_left (tables_of runs) (run ++ t ∷ []) new here)
+      IsPermutation-trans ((run ++ tables_in runs) ++ t ∷ []) ((run ++ t ∷ []) ++ tables_in runs) (new ++ tables_in runs)
+      (IsPermutation-trans ((run ++ tables_in runs) ++ t ∷ []) (t ∷ (run ++ tables_in runs)) ((run ++ t ∷ []) ++ tables_in runs)
+      (IsPermutation-to_front (run ++ tables_in runs) t)
+      (IsPermutation-append_left (tables_in runs) (t ∷ run) (run ++ t ∷ []) (IsPermutation-sym (run ++ t ∷ []) (t ∷ run) (IsPermutation-to_front run t))))
+      (IsPermutation-append_left (tables_in runs) (run ++ t ∷ []) new here)
   permutes_in t (run ∷ runs) (suc n) old new lt at same =
-      subst (λ (l : List T). IsPermutation l (run ++ tables_of (set runs n new))) (sym (append_assoc run (tables_of runs) (t ∷ [])))
-      (IsPermutation-append_right run (tables_of runs ++ t ∷ []) (tables_of (set runs n new)) (permutes_in t runs n old new (omega arith) at same))
+      subst (λ (l : List T). IsPermutation l (run ++ tables_in (set runs n new))) (sym (append_assoc run (tables_in runs) (t ∷ [])))
+      (IsPermutation-append_right run (tables_in runs ++ t ∷ []) (tables_in (set runs n new)) (permutes_in t runs n old new (omega arith) at same))
 
   pub permutes_behind : (t : T) (items after : List (List T)) (run : List T) → run ≡ t ∷ []
-      → after ≡ items ++ run ∷ [] → IsPermutation (tables_of items ++ t ∷ []) (tables_of after)
+      → after ≡ items ++ run ∷ [] → IsPermutation (tables_in items ++ t ∷ []) (tables_in after)
   permutes_behind t items after run only is =
-      subst (λ (l : List T). IsPermutation (tables_of items ++ t ∷ []) l) (sym (ap tables_of is ∙ flat_map-append (λ (ts : List T). ts) items (run ∷ []) ∙ ap (λ l. tables_of items ++ l) (append-nil run ∙ only)))
-      (IsPermutation-refl (tables_of items ++ t ∷ []))
+      subst (λ (l : List T). IsPermutation (tables_in items ++ t ∷ []) l) (sym (ap tables_in is ∙ flat_map-append (λ (ts : List T). ts) items (run ∷ []) ∙ ap (λ l. tables_in items ++ l) (append-nil run ∙ only)))
+      (IsPermutation-refl (tables_in items ++ t ∷ []))
 
   -- a list with one element more, in any order, is not empty
   more_than_none : (xs ys : List T) (t : T) → IsPermutation (xs ++ t ∷ []) ys → ys ≢ []
@@ -548,11 +523,11 @@ module _ {T : Type 0} where
       one
 
   pub permutes_run : (done : List (List T)) (run : List T) (now next : List T)
-      → IsPermutation (tables_of done) now → IsPermutation (now ++ run) next
-      → IsPermutation (tables_of (done ++ run ∷ [])) next
+      → IsPermutation (tables_in done) now → IsPermutation (now ++ run) next
+      → IsPermutation (tables_in (done ++ run ∷ [])) next
   permutes_run done run now next before one =
-      subst (λ (l : List T). IsPermutation l next) (sym (flat_map-append (λ (ts : List T). ts) done (run ∷ []) ∙ ap (λ l. tables_of done ++ l) (append-nil run)))
-      (IsPermutation-trans (tables_of done ++ run) (now ++ run) next (IsPermutation-append_left run (tables_of done) now before) one)
+      subst (λ (l : List T). IsPermutation l next) (sym (flat_map-append (λ (ts : List T). ts) done (run ∷ []) ∙ ap (λ l. tables_in done ++ l) (append-nil run)))
+      (IsPermutation-trans (tables_in done ++ run) (now ++ run) next (IsPermutation-append_left run (tables_in done) now before) one)
 
   pub permutes_inserted : (old items new : List T) (n : ℕ) (t : T) → items ≡ old
       → new ≡ insert items n t → IsPermutation (old ++ t ∷ []) new

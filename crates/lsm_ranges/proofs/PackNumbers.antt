@@ -7,7 +7,7 @@ use Rattle.std.specs.List.{list_any, insert}
 use Rattle.std.proofs.lemmas.Bool.{or_parts, cases_Bool, both_ways}
 use Rattle.lsm_ranges.specs.KeyRange.{Interval, key_le, overlaps}
 use Rattle.lsm_ranges.specs.Run.{how_many}
-use Rattle.lsm_ranges.specs.Packing.{tables_of, touches, with_table, put, put_all}
+use Rattle.lsm_ranges.specs.Packing.{tables_in, touches, with_table, put, put_all}
 use Rattle.lsm_ranges.specs.Links.{IsElement, KeepRunOrder, EachCarriesNext, CarriesNext}
 use Rattle.lsm_ranges.proofs.PackLemmas.{mem-append_left, mem-append_right, mem-append_cases}
 use Rattle.lsm_ranges.proofs.PackLemmas.{any_found, overlaps_comm, untouched, put_here, put_behind}
@@ -53,53 +53,47 @@ module _ {X : Type 0} where
       ]
 
 module _ {X : Type 0} (f : X → Interval) (at : X → ℕ) where
-  place_for : X → List X → ℕ
-  place_for t l = how_many (λ r. key_le r.min (f t).min) (map f l)
-
-  tests : X → List X → List (List X) → Bool
-  tests t l ls = touches f (f t) l || list_any (touches f (f t)) ls
-
-  mem-put_cases : (t : X) (ls : List (List X)) (x : X) → IsElement x (tables_of (put f t ls))
-      → IsElement x (tables_of ls) ⊎ (x ≡ t)
+  mem-put_cases : (t : X) (ls : List (List X)) (x : X) → IsElement x (tables_in (put f t ls))
+      → IsElement x (tables_in ls) ⊎ (x ≡ t)
   mem-put_cases t [] x h = elim h [ inl e ↦ inr e | inr m ↦ absurd m ]
   mem-put_cases t (l ∷ ls) x h =
       elim (cases_Bool (touches f (f t) l || list_any (touches f (f t)) ls)) [
         | inl e ↦
-            let h' : IsElement x (l ++ tables_of (put f t ls)) = subst (λ (k : List (List X)). IsElement x (tables_of k)) (put_behind f t l ls e) h in
-            elim (mem-append_cases l (tables_of (put f t ls)) x h') [
-              | inl a ↦ inl (mem-append_left l (tables_of ls) x a)
-              | inr b ↦ elim (mem-put_cases t ls x b) [ inl m ↦ inl (mem-append_right l (tables_of ls) x m) | inr n ↦ inr n ]
+            let h' : IsElement x (l ++ tables_in (put f t ls)) = subst (λ (k : List (List X)). IsElement x (tables_in k)) (put_behind f t l ls e) h in
+            elim (mem-append_cases l (tables_in (put f t ls)) x h') [
+              | inl a ↦ inl (mem-append_left l (tables_in ls) x a)
+              | inr b ↦ elim (mem-put_cases t ls x b) [ inl m ↦ inl (mem-append_right l (tables_in ls) x m) | inr n ↦ inr n ]
             ]
         | inr e ↦
-            let h' : IsElement x (with_table f t l ++ tables_of ls) = subst (λ (k : List (List X)). IsElement x (tables_of k)) (put_here f t l ls e) h in
-            elim (mem-append_cases (with_table f t l) (tables_of ls) x h') [
-              | inl a ↦ elim (mem-insert_cases l (how_many (λ r. key_le r.min (f t).min) (map f l)) t x a) [ inl m ↦ inl (mem-append_left l (tables_of ls) x m) | inr n ↦ inr n ]
-              | inr b ↦ inl (mem-append_right l (tables_of ls) x b)
+            let h' : IsElement x (with_table f t l ++ tables_in ls) = subst (λ (k : List (List X)). IsElement x (tables_in k)) (put_here f t l ls e) h in
+            elim (mem-append_cases (with_table f t l) (tables_in ls) x h') [
+              | inl a ↦ elim (mem-insert_cases l (how_many (λ r. key_le r.min (f t).min) (map f l)) t x a) [ inl m ↦ inl (mem-append_left l (tables_in ls) x m) | inr n ↦ inr n ]
+              | inr b ↦ inl (mem-append_right l (tables_in ls) x b)
             ]
       ]
 
-  mem-put_new : (t : X) (ls : List (List X)) → IsElement t (tables_of (put f t ls))
+  mem-put_new : (t : X) (ls : List (List X)) → IsElement t (tables_in (put f t ls))
   mem-put_new t [] = inl refl
   mem-put_new t (l ∷ ls) =
       elim (cases_Bool (touches f (f t) l || list_any (touches f (f t)) ls)) [
-        | inl e ↦ subst (λ (k : List (List X)). IsElement t (tables_of k)) (sym (put_behind f t l ls e)) (mem-append_right l (tables_of (put f t ls)) t (mem-put_new t ls))
-        | inr e ↦ subst (λ (k : List (List X)). IsElement t (tables_of k)) (sym (put_here f t l ls e)) (mem-append_left (with_table f t l) (tables_of ls) t (mem-insert_new l (how_many (λ r. key_le r.min (f t).min) (map f l)) t))
+        | inl e ↦ subst (λ (k : List (List X)). IsElement t (tables_in k)) (sym (put_behind f t l ls e)) (mem-append_right l (tables_in (put f t ls)) t (mem-put_new t ls))
+        | inr e ↦ subst (λ (k : List (List X)). IsElement t (tables_in k)) (sym (put_here f t l ls e)) (mem-append_left (with_table f t l) (tables_in ls) t (mem-insert_new l (how_many (λ r. key_le r.min (f t).min) (map f l)) t))
       ]
 
-  mem-put_old : (t : X) (ls : List (List X)) (x : X) → IsElement x (tables_of ls)
-      → IsElement x (tables_of (put f t ls))
+  mem-put_old : (t : X) (ls : List (List X)) (x : X) → IsElement x (tables_in ls)
+      → IsElement x (tables_in (put f t ls))
   mem-put_old t [] x h = absurd h
   mem-put_old t (l ∷ ls) x h =
       elim (cases_Bool (touches f (f t) l || list_any (touches f (f t)) ls)) [
-        | inl e ↦ subst (λ (k : List (List X)). IsElement x (tables_of k)) (sym (put_behind f t l ls e))
-            (elim (mem-append_cases l (tables_of ls) x h) [
-              | inl a ↦ mem-append_left l (tables_of (put f t ls)) x a
-              | inr b ↦ mem-append_right l (tables_of (put f t ls)) x (mem-put_old t ls x b)
+        | inl e ↦ subst (λ (k : List (List X)). IsElement x (tables_in k)) (sym (put_behind f t l ls e))
+            (elim (mem-append_cases l (tables_in ls) x h) [
+              | inl a ↦ mem-append_left l (tables_in (put f t ls)) x a
+              | inr b ↦ mem-append_right l (tables_in (put f t ls)) x (mem-put_old t ls x b)
             ])
-        | inr e ↦ subst (λ (k : List (List X)). IsElement x (tables_of k)) (sym (put_here f t l ls e))
-            (elim (mem-append_cases l (tables_of ls) x h) [
-              | inl a ↦ mem-append_left (with_table f t l) (tables_of ls) x (mem-insert_old l (how_many (λ r. key_le r.min (f t).min) (map f l)) t x a)
-              | inr b ↦ mem-append_right (with_table f t l) (tables_of ls) x b
+        | inr e ↦ subst (λ (k : List (List X)). IsElement x (tables_in k)) (sym (put_here f t l ls e))
+            (elim (mem-append_cases l (tables_in ls) x h) [
+              | inl a ↦ mem-append_left (with_table f t l) (tables_in ls) x (mem-insert_old l (how_many (λ r. key_le r.min (f t).min) (map f l)) t x a)
+              | inr b ↦ mem-append_right (with_table f t l) (tables_in ls) x b
             ])
       ]
 
@@ -112,7 +106,7 @@ module _ {X : Type 0} (f : X → Interval) (at : X → ℕ) where
   abbrev pub After : X → List X → Type 0
   After t xs = (y : X) → IsElement y xs → overlaps (f y) (f t) ≡ true → at y < at t
 
-  put_apart : (t : X) (ls : List (List X)) → After t (tables_of ls) → KeepRunOrder f at ls
+  put_apart : (t : X) (ls : List (List X)) → After t (tables_in ls) → KeepRunOrder f at ls
       → KeepRunOrder f at (put f t ls)
   put_apart t [] later h = ((λ x y m n o. absurd n), tt)
   put_apart t (l ∷ ls) later h =
@@ -120,9 +114,9 @@ module _ {X : Type 0} (f : X → Interval) (at : X → ℕ) where
         | inl e ↦ subst (KeepRunOrder f at) (sym (put_behind f t l ls e)) (
           (λ x y m n o. elim (mem-put_cases t ls y n) [
             | inl k ↦ h.0 x y m k o
-            | inr is ↦ subst (λ (v : X). at x < at v) (sym is) (later x (mem-append_left l (tables_of ls) x m) (subst (λ (v : X). overlaps (f x) (f v) ≡ true) is o))
+            | inr is ↦ subst (λ (v : X). at x < at v) (sym is) (later x (mem-append_left l (tables_in ls) x m) (subst (λ (v : X). overlaps (f x) (f v) ≡ true) is o))
           ]),
-          put_apart t ls (λ y m o. later y (mem-append_right l (tables_of ls) y m) o) h.1,
+          put_apart t ls (λ y m o. later y (mem-append_right l (tables_in ls) y m) o) h.1,
         )
         | inr e ↦
             let parted = or_parts (touches f (f t) l) (list_any (touches f (f t)) ls) e in
@@ -143,7 +137,7 @@ module _ {X : Type 0} (f : X → Interval) (at : X → ℕ) where
   one_of true b h k = refl
   one_of false b h k = absurd (both_ways b k h)
 
-  steps_put : (t : X) (l : List X) (ls : List (List X)) → After t (l ++ tables_of ls)
+  steps_put : (t : X) (l : List X) (ls : List (List X)) → After t (l ++ tables_in ls)
       → (touches f (f t) l || list_any (touches f (f t)) ls) ≡ true → CarriesNext f at l ls
       → CarriesNext f at l (put f t ls)
   steps_put t l [] later e h =
@@ -160,18 +154,18 @@ module _ {X : Type 0} (f : X → Interval) (at : X → ℕ) where
             (λ y n. elim (mem-insert_cases m (how_many (λ r. key_le r.min (f t).min) (map f m)) t y n) [
               | inl old ↦ h y old
               | inr is ↦
-                  let k = touched t l (λ x n o. later x (mem-append_left l (tables_of (m ∷ ms)) x n) o) (one_of (touches f (f t) l) (list_any (touches f (f t)) (m ∷ ms)) e e2) in
+                  let k = touched t l (λ x n o. later x (mem-append_left l (tables_in (m ∷ ms)) x n) o) (one_of (touches f (f t) l) (list_any (touches f (f t)) (m ∷ ms)) e e2) in
                   (k.0, k.1, ap (λ v. overlaps (f k.0) (f v)) is ∙ k.2, subst (λ (v : X). at k.0 < at v) (sym is) k.3)
             ])
       ]
 
-  put_steps : (t : X) (ls : List (List X)) → After t (tables_of ls) → EachCarriesNext f at ls
+  put_steps : (t : X) (ls : List (List X)) → After t (tables_in ls) → EachCarriesNext f at ls
       → EachCarriesNext f at (put f t ls)
   put_steps t [] later h = (tt, tt)
   put_steps t (l ∷ ls) later h =
       elim (cases_Bool (touches f (f t) l || list_any (touches f (f t)) ls)) [
         | inl e ↦ subst (EachCarriesNext f at) (sym (put_behind f t l ls e))
-            (steps_put t l ls later e h.0, put_steps t ls (λ y m o. later y (mem-append_right l (tables_of ls) y m) o) h.1)
+            (steps_put t l ls later e h.0, put_steps t ls (λ y m o. later y (mem-append_right l (tables_in ls) y m) o) h.1)
         | inr e ↦ subst (EachCarriesNext f at) (sym (put_here f t l ls e)) (wider ls h.0, h.1)
       ]
     where
@@ -183,21 +177,21 @@ module _ {X : Type 0} (f : X → Interval) (at : X → ℕ) where
   pub record Stacked (ts : List X) (ls : List (List X)) : Type 0 where
     pub keeps_order : KeepRunOrder f at ls
     pub carries : EachCarriesNext f at ls
-    pub from : (x : X) → IsElement x (tables_of ls) → IsElement x ts
-    pub has : (x : X) → IsElement x ts → IsElement x (tables_of ls)
+    pub from : (x : X) → IsElement x (tables_in ls) → IsElement x ts
+    pub has : (x : X) → IsElement x ts → IsElement x (tables_in ls)
 
   stack : (done ts : List X) (ls : List (List X)) → Stacked done ls → Rises ts
       → ((t : X) → IsElement t ts → After t done) → Stacked (done ++ ts) (put_all f ts ls)
   stack done [] ls s r later = subst (λ (k : List X). Stacked k ls) (sym (append-nil done)) s
   stack done (t ∷ ts) ls s r later =
-      let after : After t (tables_of ls) = λ y m o. later t (inl refl) y (s.from y m) o in
+      let after : After t (tables_in ls) = λ y m o. later t (inl refl) y (s.from y m) o in
       let next : Stacked (done ++ t ∷ []) (put f t ls) = record {
         keeps_order = put_apart t ls after s.keeps_order;
         carries = put_steps t ls after s.carries;
         from = λ x m. elim (mem-put_cases t ls x m) [ inl k ↦ mem-append_left done (t ∷ []) x (s.from x k) | inr e ↦ mem-append_right done (t ∷ []) x (inl e) ];
         has = λ x m. elim (mem-append_cases done (t ∷ []) x m) [
           | inl k ↦ mem-put_old t ls x (s.has x k)
-          | inr k ↦ elim k [ inl e ↦ subst (λ (v : X). IsElement v (tables_of (put f t ls))) (sym e) (mem-put_new t ls) | inr n ↦ absurd n ]
+          | inr k ↦ elim k [ inl e ↦ subst (λ (v : X). IsElement v (tables_in (put f t ls))) (sym e) (mem-put_new t ls) | inr n ↦ absurd n ]
         ];
       } in
       subst (λ (k : List X). Stacked k (put_all f ts (put f t ls))) (append_assoc done (t ∷ []) ts)

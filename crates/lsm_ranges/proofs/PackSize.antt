@@ -6,10 +6,12 @@ use Rattle.std.specs.Prelude.{◌≢◌, map, not, ◌&&◌, ◌||◌, ◌==◌,
 use Rattle.std.specs.List.{list_all, list_any, AllByRecursion, insert}
 use Rattle.std.proofs.lemmas.Bool.{and_parts, and_from, cases_Bool, both_ways, eqb-true, eq-eqb}
 use Rattle.std.proofs.lemmas.Bool.{leb-true, le-leb, lt-leb, not-true}
+use Rattle.std.proofs.lemmas.List.{length-map}
+use Rattle.std.proofs.Math.Bool.{or_assoc}
 use Rattle.sst_entries.specs.Key.{key_lt}
 use Rattle.lsm_ranges.specs.KeyRange.{Interval, key_le, overlaps, are_disjoint}
 use Rattle.lsm_ranges.specs.Run.{are_in_order, how_many}
-use Rattle.lsm_ranges.specs.Packing.{tables_of, table_at, touches, with_table, put, put_all}
+use Rattle.lsm_ranges.specs.Packing.{tables_in, table_at, touches, with_table, put, put_all}
 use Rattle.lsm_ranges.specs.Packing.{ArePacked, AreTablesWellFormed, AreDisjointRuns, IsLeastSize}
 use Rattle.lsm_ranges.proofs.IntervalLemmas.{le_from}
 use Rattle.lsm_ranges.proofs.RunLemmas.{parts}
@@ -90,9 +92,9 @@ module _ {X : Type 0} (f : X → Interval) (at : X → ℕ) where
 
   -- each level has an element whose number is above as many numbers as there are levels before it
   climb : (N : X → ℕ) (ns : List ℕ) (l : List X) (ls : List (List X)) (k : ℕ)
-      → ((x y : X) → IsElement x (l ++ tables_of ls) → IsElement y (l ++ tables_of ls)
+      → ((x y : X) → IsElement x (l ++ tables_in ls) → IsElement y (l ++ tables_in ls)
       → overlaps (f x) (f y) ≡ true → at x < at y → N x < N y)
-      → ((x : X) → IsElement x (l ++ tables_of ls) → Contains ns (N x))
+      → ((x : X) → IsElement x (l ++ tables_in ls) → Contains ns (N x))
       → ((x : X) → IsElement x l → k ≤ upto ns (N x)) → l ≢ [] → ArePacked f ls
       → CarriesNext f at l ls → EachCarriesNext f at ls → k + length ls ≤ length ns
   climb N ns l [] k grows among counted some packed steps rest =
@@ -101,12 +103,12 @@ module _ {X : Type 0} (f : X → Interval) (at : X → ℕ) where
   climb N ns l (m ∷ ms) k grows among counted some packed steps rest =
       let next : suc k + length ms ≤ length ns =
       climb N ns m ms (suc k)
-      (λ x y p q. grows x y (mem-append_right l (m ++ tables_of ms) x p) (mem-append_right l (m ++ tables_of ms) y q))
-      (λ x p. among x (mem-append_right l (m ++ tables_of ms) x p))
+      (λ x y p q. grows x y (mem-append_right l (m ++ tables_in ms) x p) (mem-append_right l (m ++ tables_in ms) y q))
+      (λ x p. among x (mem-append_right l (m ++ tables_in ms) x p))
       (λ y p.
       let s = steps y p in
-      let mem_s = mem-append_left l (m ++ tables_of ms) s.0 s.1 in
-      let mem_y = mem-append_right l (m ++ tables_of ms) y (mem-append_left m (tables_of ms) y p) in
+      let mem_s = mem-append_left l (m ++ tables_in ms) s.0 s.1 in
+      let mem_y = mem-append_right l (m ++ tables_in ms) y (mem-append_left m (tables_in ms) y p) in
       let lower = grows s.0 y mem_s mem_y s.2 s.3 in
       let y_in = among y mem_y in
       omega (arith, counted s.0 s.1, upto-grows ns (N s.0) (N y) y_in.0 lower y_in.1 y_in.2))
@@ -115,26 +117,22 @@ module _ {X : Type 0} (f : X → Interval) (at : X → ℕ) where
 
   -- no list of fewer numbers than levels holds the numbers of all elements
   pub at_least : (N : X → ℕ) (ns : List ℕ) (ls : List (List X))
-      → ((x y : X) → IsElement x (tables_of ls) → IsElement y (tables_of ls)
+      → ((x y : X) → IsElement x (tables_in ls) → IsElement y (tables_in ls)
       → overlaps (f x) (f y) ≡ true → at x < at y → N x < N y)
-      → ((x : X) → IsElement x (tables_of ls) → Contains ns (N x)) → ArePacked f ls
+      → ((x : X) → IsElement x (tables_in ls) → Contains ns (N x)) → ArePacked f ls
       → EachCarriesNext f at ls → length ls ≤ length ns
   at_least N ns [] grows among packed steps = omega arith
   at_least N ns (l ∷ ls) grows among packed steps =
       let up : 1 + length ls ≤ length ns =
       climb N ns l ls 1 grows among
-      (λ x p. let x_in = among x (mem-append_left l (tables_of ls) x p) in upto-some ns (N x) x_in.0 x_in.1 x_in.2)
+      (λ x p. let x_in = among x (mem-append_left l (tables_in ls) x p) in upto-some ns (N x) x_in.0 x_in.1 x_in.2)
       packed.0.1 packed.1 steps.0 steps.1 in
       omega (arith, up)
 
 any-append : {X : Type 0} (p : X → Bool) (xs ys : List X)
     → list_any p (xs ++ ys) ≡ (list_any p xs || list_any p ys)
 any-append p [] ys = refl
-any-append p (x ∷ xs) ys = ap (λ b. p x || b) (any-append p xs ys) ∙ assoc (p x) (list_any p xs) (list_any p ys)
-  where
-    assoc : (a b c : Bool) → (a || (b || c)) ≡ ((a || b) || c)
-    assoc true b c = refl
-    assoc false b c = refl
+any-append p (x ∷ xs) ys = ap (λ b. p x || b) (any-append p xs ys) ∙ sym (or_assoc (p x) (list_any p xs) (list_any p ys))
 
 module _ {X : Type 0} (f : X → Interval) (at : X → ℕ) where
   all_later : (p : Interval → Bool) (xs : List X) → list_all p (map f xs) ≡ true → (y : X)
@@ -171,7 +169,7 @@ module _ {X : Type 0} (f : X → Interval) (at : X → ℕ) where
   level_of p [] = 0
   level_of p (l ∷ ls) = cond (list_any p l) 0 (suc (level_of p ls))
 
-  level_below : (p : X → Bool) (ls : List (List X)) → list_any p (tables_of ls) ≡ true
+  level_below : (p : X → Bool) (ls : List (List X)) → list_any p (tables_in ls) ≡ true
       → level_of p ls < length ls
   unfolding level_of
   level_below p [] h = absurd cc
@@ -179,16 +177,16 @@ module _ {X : Type 0} (f : X → Interval) (at : X → ℕ) where
       elim (cases_Bool (list_any p l)) [
         | inl e ↦ rw e (omega arith)
         | inr e ↦
-            let there : list_any p (tables_of ls) ≡ true = rw e at (sym (any-append p l (tables_of ls)) ∙ h) in
+            let there : list_any p (tables_in ls) ≡ true = rw e at (sym (any-append p l (tables_in ls)) ∙ h) in
             let low = level_below p ls there in
             rw e (omega (arith, low))
       ]
 
   -- of elements that overlap, the one from the later run is in a later level
   level_rises : (p q : X → Bool) (ls : List (List X))
-      → ((x y : X) → IsElement x (tables_of ls) → IsElement y (tables_of ls) → p x ≡ true
+      → ((x y : X) → IsElement x (tables_in ls) → IsElement y (tables_in ls) → p x ≡ true
       → q y ≡ true → (overlaps (f x) (f y) ≡ true) × (at x < at y)) → KeepRunOrder f at ls
-      → ArePacked f ls → list_any p (tables_of ls) ≡ true → list_any q (tables_of ls) ≡ true
+      → ArePacked f ls → list_any p (tables_in ls) ≡ true → list_any q (tables_in ls) ≡ true
       → level_of p ls < level_of q ls
   unfolding level_of
   level_rises p q [] pairs apart packed hp hq = absurd cc
@@ -199,23 +197,23 @@ module _ {X : Type 0} (f : X → Interval) (at : X → ℕ) where
               | inl g ↦
                   let x = any_found p l e in
                   let y = any_found q l g in
-                  let k = pairs x.0 y.0 (mem-append_left l (tables_of ls) x.0 x.1) (mem-append_left l (tables_of ls) y.0 y.1) x.2 y.2 in
+                  let k = pairs x.0 y.0 (mem-append_left l (tables_in ls) x.0 x.1) (mem-append_left l (tables_in ls) y.0 y.1) x.2 y.2 in
                   let same = same_in_order l packed.0.0 x.0 y.0 x.1 y.1 k.0 in
                   absurd (omega (arith, k.1, ap at same))
               | inr g ↦ rw (e, g) (omega arith)
             ]
         | inr e ↦
-            let p_there : list_any p (tables_of ls) ≡ true = rw e at (sym (any-append p l (tables_of ls)) ∙ hp) in
+            let p_there : list_any p (tables_in ls) ≡ true = rw e at (sym (any-append p l (tables_in ls)) ∙ hp) in
             elim (cases_Bool (list_any q l)) [
               | inl g ↦
-                  let x = any_found p (tables_of ls) p_there in
+                  let x = any_found p (tables_in ls) p_there in
                   let y = any_found q l g in
-                  let k = pairs x.0 y.0 (mem-append_right l (tables_of ls) x.0 x.1) (mem-append_left l (tables_of ls) y.0 y.1) x.2 y.2 in
+                  let k = pairs x.0 y.0 (mem-append_right l (tables_in ls) x.0 x.1) (mem-append_left l (tables_in ls) y.0 y.1) x.2 y.2 in
                   let back = apart.0 y.0 x.0 y.1 x.1 (overlaps_comm (f y.0) (f x.0) ∙ k.0) in
                   absurd (omega (arith, k.1, back))
               | inr g ↦
-                  let q_there : list_any q (tables_of ls) ≡ true = rw g at (sym (any-append q l (tables_of ls)) ∙ hq) in
-                  let low = level_rises p q ls (λ x y m n. pairs x y (mem-append_right l (tables_of ls) x m) (mem-append_right l (tables_of ls) y n)) apart.1 packed.1 p_there q_there in
+                  let q_there : list_any q (tables_in ls) ≡ true = rw g at (sym (any-append q l (tables_in ls)) ∙ hq) in
+                  let low = level_rises p q ls (λ x y m n. pairs x y (mem-append_right l (tables_in ls) x m) (mem-append_right l (tables_in ls) y n)) apart.1 packed.1 p_there q_there in
                   rw (e, g) (omega (arith, low))
             ]
       ]
@@ -279,16 +277,16 @@ module _ {T : Type 0} where
       → IsElement (table_with_place t i j) (runs_with_places 0 runs)
   has_table runs i j t h = let a : 0 + i ≡ i = omega arith in subst (λ (v : ℕ). IsElement (table_with_place t v j) (runs_with_places 0 runs)) a (has_in_runs 0 i j runs t h)
 
-  tables_in : (i j : ℕ) (ts : List T) → map (λ x. x.table) (run_with_places i j ts) ≡ ts
-  tables_in i j [] = refl
-  tables_in i j (t ∷ ts) = ap (λ l. t ∷ l) (tables_in i (suc j) ts)
+  without_places : (i j : ℕ) (ts : List T) → map (λ x. x.table) (run_with_places i j ts) ≡ ts
+  without_places i j [] = refl
+  without_places i j (t ∷ ts) = ap (λ l. t ∷ l) (without_places i (suc j) ts)
 
   pub tables_with_places : (i : ℕ) (runs : List (List T))
-      → map (λ x. x.table) (runs_with_places i runs) ≡ tables_of runs
+      → map (λ x. x.table) (runs_with_places i runs) ≡ tables_in runs
   tables_with_places i [] = refl
   tables_with_places i (run ∷ runs) =
       map-append (λ (x : TableWithPlace T). x.table) (run_with_places i 0 run) (runs_with_places (suc i) runs)
-      ∙ ap (λ l. l ++ map (λ x. x.table) (runs_with_places (suc i) runs)) (tables_in i 0 run)
+      ∙ ap (λ l. l ++ map (λ x. x.table) (runs_with_places (suc i) runs)) (without_places i 0 run)
       ∙ ap (λ l. run ++ l) (tables_with_places (suc i) runs)
 
 module _ {T : Type 0} (range : T → Interval) where
@@ -392,10 +390,6 @@ module _ {X T : Type 0} (g : X → T) (range : T → Interval) where
   put_all-map [] ls = refl
   put_all-map (x ∷ xs) ls = put_all-map xs (put (λ v. range (g v)) x ls) ∙ ap (λ rs. put_all range (map g xs) rs) (put-map x ls)
 
-pub length-map : {Y Z : Type 0} (h : Y → Z) (xs : List Y) → length (map h xs) ≡ length xs
-length-map h [] = refl
-length-map h (x ∷ xs) = ap suc (length-map h xs)
-
 module _ {T : Type 0} (range : T → Interval) (runs : List (List T))
     (h : AreDisjointRuns range runs) where
   levels : List (List (TableWithPlace T))
@@ -411,10 +405,10 @@ module _ {T : Type 0} (range : T → Interval) (runs : List (List T))
       put_all_packed (range_of range) (runs_with_places 0 runs) []
       (formed-map range (λ (x : TableWithPlace T). x.table) (runs_with_places 0 runs) (subst (AreTablesWellFormed range) (sym (tables_with_places 0 runs)) h.formed)) tt
 
-  size_is : length levels ≡ length (put_all range (tables_of runs) [])
+  size_is : length levels ≡ length (put_all range (tables_in runs) [])
   unfolding levels
   size_is =
-      sym (length-map (map (λ (x : TableWithPlace T). x.table)) (put_all (range_of range) (runs_with_places 0 runs) []))
+      sym (length-map (put_all (range_of range) (runs_with_places 0 runs) []) (map (λ (x : TableWithPlace T). x.table)))
       ∙ ap length (put_all-map (λ (x : TableWithPlace T). x.table) range (runs_with_places 0 runs) [] ∙ ap (λ ts. put_all range ts []) (tables_with_places 0 runs))
 
   is_at : ℕ → ℕ → TableWithPlace T → Bool
@@ -437,8 +431,8 @@ module _ {T : Type 0} (range : T → Interval) (runs : List (List T))
       (cc, run)
 
   found_at : (i j : ℕ) (t : T) → table_at runs i j ≡ Some t
-      → list_any (is_at i j) (tables_of levels) ≡ true
-  found_at i j t a = any_from (is_at i j) (tables_of levels) (table_with_place t i j) (levels_stacked.has (table_with_place t i j) (has_table runs i j t a)) (is_at_itself t i j)
+      → list_any (is_at i j) (tables_in levels) ≡ true
+  found_at i j t a = any_from (is_at i j) (tables_in levels) (table_with_place t i j) (levels_stacked.has (table_with_place t i j) (has_table runs i j t a)) (is_at_itself t i j)
 
   least_levels : IsLeastSize range runs (length levels)
   least_levels = record {
@@ -462,7 +456,7 @@ module _ {T : Type 0} (range : T → Interval) (runs : List (List T))
     );
   }
 
-  pub least_size : IsLeastSize range runs (length (put_all range (tables_of runs) []))
+  pub least_size : IsLeastSize range runs (length (put_all range (tables_in runs) []))
   least_size = subst (IsLeastSize range runs) size_is least_levels
 
 -- of one run or none, each table can have the same number

@@ -4,9 +4,10 @@ use Rattle.std.proofs.Common.{◌∷◌, ◌++◌, length, length-append, get_or
 use Rattle.std.proofs.Common.{None, Option}
 use Rattle.std.specs.Prelude.{◌≢◌, map, reverse, Contains, slice_get, MatchOption}
 use Rattle.std.proofs.lemmas.List.{reverse-append}
+use Rattle.std.proofs.lemmas.Option.{slice_get_read}
 use Rattle.lsm_ranges.specs.KeyRange.{Interval, overlaps}
 use Rattle.lsm_ranges.specs.Run.{are_in_order}
-use Rattle.lsm_ranges.specs.Packing.{tables_of, table_at, touches, AreInOrder, AreNotEmpty, IsChain}
+use Rattle.lsm_ranges.specs.Packing.{tables_in, table_at, touches, AreInOrder, AreNotEmpty, IsChain}
 use Rattle.lsm_ranges.specs.Links.{IsElement, KeepRunOrder, EachCarriesNext, CarriesNext, IsStack}
 use Rattle.lsm_ranges.specs.LinkedRuns.{AreAtPlaces, IsBelow}
 use Rattle.lsm_ranges.specs.declared.optimize.Link.{Link}
@@ -14,17 +15,11 @@ use Rattle.lsm_ranges.proofs.PackLemmas.{mem-append_left, mem-append_right, any_
 use Rattle.lsm_ranges.proofs.LinkLemmas.{contains_mem}
 
 module _ {X : Type 0} where
-  pub slice_at : (xs : List X) (k : ℕ) (x : X) → k < length xs → x ≡ get_or xs k x
-      → slice_get xs k ≡ Some x
-  slice_at [] k x lt at = absurd (omega arith)
-  slice_at (y ∷ ys) zero x lt at = ap (λ v. Some v) (sym at)
-  slice_at (y ∷ ys) (suc k) x lt at = slice_at ys k x (omega arith) at
-
   mem_at : (ls : List (List X)) (n : ℕ) (l : List X) (x : X) → slice_get ls n ≡ Some l
-      → IsElement x l → IsElement x (tables_of ls)
+      → IsElement x l → IsElement x (tables_in ls)
   mem_at [] n l x h m = absurd cc
-  mem_at (k ∷ ks) zero l x h m = let e : l ≡ k = cc in mem-append_left k (tables_of ks) x (subst (λ (v : List X). IsElement x v) e m)
-  mem_at (k ∷ ks) (suc n) l x h m = mem-append_right k (tables_of ks) x (mem_at ks n l x h m)
+  mem_at (k ∷ ks) zero l x h m = let e : l ≡ k = cc in mem-append_left k (tables_in ks) x (subst (λ (v : List X). IsElement x v) e m)
+  mem_at (k ∷ ks) (suc n) l x h m = mem-append_right k (tables_in ks) x (mem_at ks n l x h m)
 
   some_at : (ls : List (List X)) (n : ℕ) (l : List X) → slice_get ls n ≡ Some l → AreNotEmpty ls
       → l ≢ []
@@ -71,10 +66,10 @@ module _ {T : Type 0} (range : T → Interval) where
   -- what holds on the walk, with `level` runs left
   pub record Walk (packed : List (List (Link T))) (above : Option (Link T)) (chain : List (ℕ × ℕ))
       (level : ℕ) : Type 0 where
-    pub linked : (runs : List (List T)) → AreAtPlaces runs (tables_of packed)
+    pub linked : (runs : List (List T)) → AreAtPlaces runs (tables_in packed)
         → IsChain range runs (reverse chain)
     pub top : (a : Link T) → above ≡ Some a
-        → IsElement a (tables_of packed)
+        → IsElement a (tables_in packed)
         × ((rest : List (ℕ × ℕ)) × (reverse chain ≡ (a.run, a.index) ∷ rest))
     pub none : above ≡ None → (chain ≡ []) × (level ≡ length packed)
     pub counted : IsStack range_of run_of packed → length chain + level ≡ length packed
@@ -94,12 +89,12 @@ module _ {T : Type 0} (range : T → Interval) where
   -- one more place, in front of the chain so far
   chain_more : (runs : List (List T)) (packed : List (List (Link T))) (above : Option (Link T))
       (chain : List (ℕ × ℕ)) (level : ℕ) (link : Link T) → Walk packed above chain level
-      → AreAtPlaces runs (tables_of packed) → IsElement link (tables_of packed)
+      → AreAtPlaces runs (tables_in packed) → IsElement link (tables_in packed)
       → MatchOption above (Unit {0}) (λ a. IsBelow range link a)
       → IsChain range runs ((link.run, link.index) ∷ reverse chain)
   chain_more runs packed None chain level link w places m below =
       subst (λ (ps : List (ℕ × ℕ)). IsChain range runs ((link.run, link.index) ∷ reverse ps)) (sym (w.none refl).0)
-      (link.table.now, all_of (λ (l : Link T). table_at runs l.run l.index ≡ Some l.table.now) (tables_of packed) places link m)
+      (link.table.now, all_of (λ (l : Link T). table_at runs l.run l.index ≡ Some l.table.now) (tables_in packed) places link m)
   chain_more runs packed (Some a) chain level link w places m below =
       let t = w.top a refl in
       let rest = t.1.0 in
@@ -107,8 +102,8 @@ module _ {T : Type 0} (range : T → Interval) where
         record {
           first = link.table.now;
           second = a.table.now;
-          first_at = all_of (λ (l : Link T). table_at runs l.run l.index ≡ Some l.table.now) (tables_of packed) places link m;
-          second_at = all_of (λ (l : Link T). table_at runs l.run l.index ≡ Some l.table.now) (tables_of packed) places a t.0;
+          first_at = all_of (λ (l : Link T). table_at runs l.run l.index ≡ Some l.table.now) (tables_in packed) places link m;
+          second_at = all_of (λ (l : Link T). table_at runs l.run l.index ≡ Some l.table.now) (tables_in packed) places a t.0;
           later = below.0;
           overlap = below.1;
         },
@@ -122,14 +117,14 @@ module _ {T : Type 0} (range : T → Interval) where
       → MatchOption above (Unit {0}) (λ a. IsBelow range link a)
       → next ≡ chain ++ (link.run, link.index) ∷ [] → Walk packed (Some link) next (level - 1)
   walk_on packed above chain next level run link w some le at within below is =
-      let here : slice_get packed (level - 1) ≡ Some run = slice_at packed (level - 1) run (omega arith) at in
+      let here : slice_get packed (level - 1) ≡ Some run = slice_get_read packed (length packed) (level - 1) run refl (omega arith) at in
       let member = contains_mem run link within in
       let among = mem_at packed (level - 1) run link here member in
       let turned : reverse next ≡ (link.run, link.index) ∷ reverse chain = ap reverse is ∙ reverse-append chain ((link.run, link.index) ∷ []) in
       record {
         linked = λ runs places. subst (λ (ps : List (ℕ × ℕ)). IsChain range runs ps) (sym turned) (chain_more runs packed above chain level link w places among below);
         top = λ a e. let g : link ≡ a = cc in
-            (subst (λ (v : Link T). IsElement v (tables_of packed)) g among, (reverse chain, turned ∙ ap (λ (v : Link T). (v.run, v.index) ∷ reverse chain) g));
+            (subst (λ (v : Link T). IsElement v (tables_in packed)) g among, (reverse chain, turned ∙ ap (λ (v : Link T). (v.run, v.index) ∷ reverse chain) g));
         none = λ e. absurd cc;
         counted = λ s. let k = w.counted s in let long = ap length is ∙ length-append chain ((link.run, link.index) ∷ []) in omega (arith, k, long);
         last_run = λ a e. let g : link ≡ a = cc in (run, here, subst (λ (v : Link T). IsElement v run) g member);
@@ -144,7 +139,7 @@ module _ {T : Type 0} (range : T → Interval) where
       → x.run < a.run) → touches range_of (range_of a) run ≡ true → ⊥)
       → IsStack range_of run_of packed → ⊥
   goes_on_at packed above chain level run w some le at first next stack =
-      let here : slice_get packed (level - 1) ≡ Some run = slice_at packed (level - 1) run (omega arith) at in
+      let here : slice_get packed (level - 1) ≡ Some run = slice_get_read packed (length packed) (level - 1) run refl (omega arith) at in
       let place : suc (level - 1) ≡ level = omega arith in
       by above refl here place
     where
@@ -172,7 +167,7 @@ module _ {T : Type 0} (range : T → Interval) where
       → 0 < level → level ≤ length packed → run ≡ get_or packed (level - 1) run
       → (above ≡ None → run ≢ [] → ⊥) → AreNotEmpty packed → chain ≡ [] → packed ≡ []
   stopped_some packed above chain level run w some le at first filled e =
-      let here : slice_get packed (level - 1) ≡ Some run = slice_at packed (level - 1) run (omega arith) at in
+      let here : slice_get packed (level - 1) ≡ Some run = slice_get_read packed (length packed) (level - 1) run refl (omega arith) at in
       absurd (first (not_started packed above chain level w e) (some_at packed (level - 1) run here filled))
 
   pub stopped_whole : (packed : List (List (Link T))) (above : Option (Link T))
@@ -184,16 +179,3 @@ module _ {T : Type 0} (range : T → Interval) where
       → x.run < a.run) → touches range_of (range_of a) run ≡ true → ⊥)
       → IsStack range_of run_of packed → length chain ≡ length packed
   stopped_whole packed above chain level run w some le at first next stack = absurd (goes_on_at packed above chain level run w some le at first next stack)
-
-  no_length : {Y : Type 0} (ys : List Y) → length ys ≡ 0 → ys ≡ []
-  no_length [] h = refl
-  no_length (y ∷ ys) h = absurd (omega (arith, h))
-
-  pub ended_some : (packed : List (List (Link T))) (above : Option (Link T)) (chain : List (ℕ × ℕ))
-      (level : ℕ) → Walk packed above chain level → level ≡ 0 → chain ≡ [] → packed ≡ []
-  ended_some packed above chain level w z e = no_length packed (sym (w.none (not_started packed above chain level w e)).1 ∙ z)
-
-  pub ended_whole : (packed : List (List (Link T))) (above : Option (Link T)) (chain : List (ℕ × ℕ))
-      (level : ℕ) → Walk packed above chain level → level ≡ 0 → IsStack range_of run_of packed
-      → length chain ≡ length packed
-  ended_whole packed above chain level w z stack = let k = w.counted stack in omega (arith, k)

@@ -2,7 +2,7 @@
 use Rattle.std.specs.Prelude.{◌≡◌, ◌<◌, true, List, [], map, Contains, IsPermutation, Some}
 use Rattle.std.specs.List.{AllByRecursion}
 use Rattle.lsm_ranges.specs.KeyRange.{Interval, overlaps}
-use Rattle.lsm_ranges.specs.Packing.{tables_of, table_at, put_all, AreTablesWellFormed, AreNotEmpty}
+use Rattle.lsm_ranges.specs.Packing.{tables_in, table_at, put_all, AreTablesWellFormed, AreNotEmpty}
 use Rattle.lsm_ranges.specs.Links.{TableWithPlace, table_with_place}
 use Rattle.lsm_ranges.specs.declared.optimize.Link.{Link}
 
@@ -21,7 +21,7 @@ module _ {T : Type 0} where
       (packed : List (List (Link T))) : Type 0 where
     pub links : List (Link T)
     pub tables_are : map table_of_link links ≡ ts
-    pub same : IsPermutation links (tables_of packed)
+    pub same : IsPermutation links (tables_in packed)
     pub put : AreTablesWellFormed (λ x. range x.table) ts →
         packed ≡ put_all (λ link. range link.table.now) links []
     pub some : AreNotEmpty packed

@@ -1,7 +1,7 @@
 -- Tables with their places in the runs of an input, and what holds of packed runs of them.
 use Rattle.std.specs.Prelude.{◌≡◌, ℕ, suc, ◌<◌, ◌⊎◌, true, List, [], ◌∷◌, ◌++◌}
 use Rattle.lsm_ranges.specs.KeyRange.{Interval, overlaps}
-use Rattle.lsm_ranges.specs.Packing.{tables_of, AreInOrder, AreNotEmpty}
+use Rattle.lsm_ranges.specs.Packing.{tables_in, AreInOrder, AreNotEmpty}
 
 -- x is an element of a list
 abbrev pub IsElement : {X : Type 0} → X → List X → Type 0
@@ -33,7 +33,7 @@ module _ {X : Type 0} (f : X → Interval) (at : X → ℕ) where
   abbrev pub KeepRunOrder : List (List X) → Type 0
   KeepRunOrder [] = Unit {0}
   KeepRunOrder (l ∷ ls) =
-      ((x y : X) → IsElement x l → IsElement y (tables_of ls) →
+      ((x y : X) → IsElement x l → IsElement y (tables_in ls) →
       overlaps (f x) (f y) ≡ true → at x < at y) × KeepRunOrder ls
 
   -- each of the next packed run overlaps one of this, from an earlier run of the input

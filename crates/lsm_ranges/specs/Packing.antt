@@ -8,8 +8,8 @@ use Rattle.lsm_ranges.specs.KeyRange.{are_disjoint}
 use Rattle.lsm_ranges.specs.Run.{how_many, are_in_order}
 
 -- the tables of runs, in run order
-abbrev pub tables_of : {T : Type 0} → List (List T) → List T
-tables_of runs = flat_map (λ run. run) runs
+abbrev pub tables_in : {T : Type 0} → List (List T) → List T
+tables_in runs = flat_map (λ run. run) runs
 
 -- the table at a place of a run
 abbrev pub table_at : {T : Type 0} → List (List T) → ℕ → ℕ → Option T
@@ -19,16 +19,16 @@ table_at (run ∷ runs) (suc i) j = table_at runs i j
 
 -- runs have the same tables, each as often
 abbrev pub SameTables : {T : Type 0} → List (List T) → List (List T) → Type 0
-SameTables runs packed = IsPermutation (tables_of runs) (tables_of packed)
+SameTables runs packed = IsPermutation (tables_in runs) (tables_in packed)
 
 -- runs have the tables of other ones, and some more
 abbrev pub AddsTables : {T : Type 0} → List (List T) → List T → List (List T) → Type 0
-AddsTables runs tables packed = IsPermutation (tables_of runs ++ tables) (tables_of packed)
+AddsTables runs tables packed = IsPermutation (tables_in runs ++ tables) (tables_in packed)
 
 module _ {T : Type 0} (range : T → Interval) where
   -- the tables, in run order, whose range has a key
   abbrev pub holders : List (List T) → List ℕ → List T
-  holders runs k = filter (λ t. has_key (range t) k) (tables_of runs)
+  holders runs k = filter (λ t. has_key (range t) k) (tables_in runs)
 
   -- each table's range is well-formed
   abbrev pub AreTablesWellFormed : List T → Type 0
@@ -36,7 +36,7 @@ module _ {T : Type 0} (range : T → Interval) where
 
   -- the ranges of all tables of some runs are well-formed
   abbrev pub AreWellFormed : List (List T) → Type 0
-  AreWellFormed runs = AreTablesWellFormed (tables_of runs)
+  AreWellFormed runs = AreTablesWellFormed (tables_in runs)
 
   -- for each key, the tables whose range has it come in the same order
   abbrev pub SameHolders : List (List T) → List (List T) → Type 0

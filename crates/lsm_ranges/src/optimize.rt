@@ -9,7 +9,7 @@ ghost use Rattle.lsm_ranges.specs.Links.{TableWithPlace};
 ghost use Rattle.lsm_ranges.specs.LinkedRuns.{link_range, AreAtPlaces, AreEarlier, ArePackedLinks};
 ghost use Rattle.lsm_ranges.specs.LinkedRuns.{IsBelow};
 ghost use Rattle.lsm_ranges.specs.declared.optimize.Link.{Link};
-ghost use Rattle.lsm_ranges.specs.Packing.{count_to_last, put, put_all, tables_of, touches};
+ghost use Rattle.lsm_ranges.specs.Packing.{count_to_last, put, put_all, tables_in, touches};
 ghost use Rattle.lsm_ranges.specs.Packing.{AddsTables, AreDisjointRuns, AreTablesWellFormed};
 ghost use Rattle.lsm_ranges.specs.Packing.{AreInOrder, AreNotEmpty, ArePacked, ArePlaced};
 ghost use Rattle.lsm_ranges.specs.Packing.{AreWellFormed, IsChain, IsLeastSize, SameHolders};
@@ -39,7 +39,7 @@ pub fn optimize_runs<T: Clone + Ranged + Drop, A: Allocator + Clone>(
     ensures ordered { IfOk result (λ packed. AreWellFormed T.range runs.items →
         1 < length runs.items → ArePacked T.range packed.items) }
     ensures placed { IfOk result (λ packed. AreWellFormed T.range runs.items →
-        1 < length runs.items → ArePlaced T.range (tables_of runs.items) packed.items) }
+        1 < length runs.items → ArePlaced T.range (tables_in runs.items) packed.items) }
     ensures least { IfOk result (λ packed. AreDisjointRuns T.range runs.items →
         IsLeastSize T.range runs.items (length packed.items)) }
     ensures err { IfErr result (λ e. e ≡ OutOfMemory) }
@@ -57,7 +57,7 @@ fn pack<T: Ranged + Drop, A: Allocator + Clone>(
     runs: Vec<Run<T, A>, A>,
 ) -> Result<Vec<Run<T, A>, A>, Error>
     ensures ok { IfOk result (λ packed. AreWellFormed T.range runs.items →
-        packed.items ≡ put_all T.range (tables_of runs.items) []) }
+        packed.items ≡ put_all T.range (tables_in runs.items) []) }
     ensures permutation { IfOk result (λ packed. SameTables runs.items packed.items) }
     ensures err { IfErr result (λ e. e ≡ OutOfMemory) }
 {
@@ -97,7 +97,7 @@ pub fn overlap_chain<T: Ranged, A: Allocator + Clone, B: Allocator>(
     ensures chain { IfOk result (λ chain. IsChain T.range runs.now chain.items) }
     ensures least { IfOk result (λ chain. AreDisjointRuns T.range runs.now →
         IsLeastSize T.range runs.now (length chain.items)) }
-    ensures some { IfOk result (λ chain. chain.items ≡ [] → tables_of runs.now ≡ []) }
+    ensures some { IfOk result (λ chain. chain.items ≡ [] → tables_in runs.now ≡ []) }
     ensures err { IfErr result (λ e. e ≡ OutOfMemory) }
 {
     let mut packed = Vec::new(alloc.clone()?);
@@ -171,7 +171,7 @@ fn walk_down<'a, T: Ranged, A: Allocator>(
     chain: &mut Vec<(usize, usize), A>,
 ) -> Result<(), Error>
     requires { chain.old.items ≡ [] }
-    ensures chain { OnOk result ((runs : List (List T)) → AreAtPlaces runs (tables_of packed.now) →
+    ensures chain { OnOk result ((runs : List (List T)) → AreAtPlaces runs (tables_in packed.now) →
         IsChain T.range runs (reverse chain.new.items)) }
     ensures whole { OnOk result (IsStack (link_range T.range) (λ link. link.run) packed.now →
         length chain.new.items ≡ length packed.now) }

@@ -1,21 +1,21 @@
 -- A batch of point reads: what is kept, where one more is answered, and what a read comes to whose handle was found before.
-use Rattle.std.proofs.Common.{◌≡◌, ℕ, ◌+◌, ◌-◌, ◌<◌, ◌≤◌, Bool, true, false, List, length, get_or, set, take, replicate, refl, sym, ap, subst, ◌∙◌, arith, inl, inr}
-use Rattle.std.proofs.Math.ListN.{get_or-eq_default, length-set, length-replicate}
-use Rattle.std.proofs.lemmas.Bool.{cases_eq, cases_lt}
-use Rattle.std.proofs.lemmas.List.{get_or_default, get_or-replicate, get_or-set_other, get_or-set_same, take_all, take_more, take_more_set}
+use Rattle.std.proofs.Common.{◌≡◌, ℕ, ◌+◌, ◌-◌, ◌<◌, Bool, true, false, List, length, get_or, set, take, refl, sym, ap, subst, ◌∙◌, arith, inl, inr}
+use Rattle.std.proofs.Math.ListN.{length-set}
+use Rattle.std.proofs.lemmas.Bool.{cases_eq}
+use Rattle.std.proofs.lemmas.List.{get_or_default, get_or-set_other, get_or-set_same, take_more, take_more_set}
 use Rattle.std.specs.Prelude.{Option, Some, None, Result, Ok}
 use Rattle.sst_entries.specs.declared.error.Error.{Error}
 use Rattle.sst_entries.specs.Error.{FaultsFirst}
 use Rattle.sst_blocks.specs.declared.block_type.BlockType.{BlockType}
 use Rattle.sst_blocks.specs.Block.{Loaded, load_told, place_fault}
 use Rattle.sst_blocks.specs.Place.{Place}
+use Rattle.sst_blocks.proofs.LoadLemmas.{load_kind}
 use Rattle.lsm_readers.specs.Answer.{admitted_handle, answer, match_in}
 use Rattle.lsm_readers.specs.Batch.{AreFound}
 use Rattle.lsm_readers.specs.Keeping.{IsLoaded}
 use Rattle.lsm_readers.specs.Many.{answers_to}
 use Rattle.lsm_readers.specs.Parts.{Parts}
 use Rattle.lsm_readers.specs.Read.{◌>>=◌}
-use Rattle.lsm_readers.proofs.Loads.{load_kind}
 use Rattle.lsm_readers.proofs.ManyReads.{one_more}
 use Rattle.lsm_readers.proofs.ReadLaws.{result}
 
@@ -34,10 +34,6 @@ pub kept_as : (body : List ℕ) (place : Place) (kind : BlockType) (b : Loaded) 
 kept_as body place kind b is =
     subst (λ (k : BlockType). IsLoaded body place k b) (sym (load_kind body place.offset place.size kind b is.told)) is
 
--- no fault comes before a want of memory
-pub none_first : {X : Type 0} (r : Result X Error) (told : Option Error) → told ≡ None → FaultsFirst r told
-none_first r told none e is = absurd (let wrong : Some e ≡ None = sym is ∙ none in cc)
-
 -- ---- answers that are known
 
 abbrev answered : {Y : Type 0} → Y → Result Y Error
@@ -49,23 +45,6 @@ same_element xs i k x y less same x_is y_is =
     there ∙ get_or_default xs i y x less ∙ sym x_is
 
 module _ {X Y : Type 0} (f : X → Result (Option Y) Error) (queries : List X) where
-  none_marked : (n k : ℕ) → get_or (replicate n false) k false ≡ true → ⊥
-  none_marked n k marked = elim (cases_lt k n) [
-    | inl lt ↦ let wrong : false ≡ true = sym (get_or-replicate n k false false lt) ∙ marked in absurd cc
-    | inr le ↦
-        let short : length (replicate n false) ≤ k = omega (arith, le, length-replicate n false) in
-        let wrong : false ≡ true = sym (get_or-eq_default (replicate n false) false short) ∙ marked in
-        absurd cc
-  ]
-
-  -- none is known yet
-  pub none_found : (found : List (Option Y)) (done : List Bool) → length found ≡ length queries → done ≡ replicate (length queries) false → AreFound f queries found done
-  none_found found done long none = record {
-    found_len = long;
-    done_len = ap length none ∙ length-replicate (length queries) false;
-    told = λ k q marked here. absurd (none_marked (length queries) k (subst (λ (l : List Bool). get_or l k false ≡ true) none marked));
-  }
-
   module _ (found : List (Option Y)) (done : List Bool) (are : AreFound f queries found done) (i : ℕ) (x : X) (less : i < length queries) (at : x ≡ get_or queries i x) where
     -- the answer of one is put in its place
     pub found_at : (y : Option Y) → f x ≡ Ok y → AreFound f queries (set found i y) done
@@ -82,17 +61,6 @@ module _ {X Y : Type 0} (f : X → Result (Option Y) Error) (queries : List X) w
           ];
         }
 
-    -- one whose answer is there is marked
-    pub done_at : f x ≡ Ok (get_or found i None) → AreFound f queries found (set done i true)
-    done_at is = record {
-      found_len = are.found_len;
-      done_len = length-set done i true ∙ are.done_len;
-      told = λ k q marked here. elim (cases_eq k i) [
-        | inl same ↦ ap f (same_element queries i k x q less same at here) ∙ is ∙ ap (λ (n : ℕ). answered (get_or found n None)) (sym same)
-        | inr other ↦ are.told k q (sym (get_or-set_other done i k true false other) ∙ marked) here
-      ];
-    }
-
     -- the answers so far, with one that was read now, and with one that was known
     pub one_read : (y : Option Y) → f x ≡ Ok y → answers_to f (take i queries) ≡ Ok (take i found) → answers_to f (take (i + 1) queries) ≡ Ok (take (i + 1) (set found i y))
     one_read y is before =
@@ -103,18 +71,6 @@ module _ {X Y : Type 0} (f : X → Result (Option Y) Error) (queries : List X) w
     one_known marked before =
         let inside : i < length found = omega (arith, less, are.found_len) in
         one_more f queries i x (take i found) (get_or found i None) less at before (are.told i x marked at) ∙ ap answered (sym (take_more found i None inside))
-
-  -- one is answered and marked
-  pub found_more : (found : List (Option Y)) (done : List Bool) → AreFound f queries found done → (i : ℕ) (x : X) → i < length queries → x ≡ get_or queries i x → (y : Option Y) → f x ≡ Ok y → AreFound f queries (set found i y) (set done i true)
-  found_more found done are i x less at y is =
-      let inside : i < length found = omega (arith, less, are.found_len) in
-      done_at (set found i y) done (found_at found done are i x less at y is) i x less at (is ∙ ap answered (sym (get_or-set_same found i y None inside)))
-
-  -- all of them
-  pub all_read : (found : List (Option Y)) (done : List Bool) → AreFound f queries found done → (i : ℕ) → length queries ≤ i → answers_to f (take i queries) ≡ Ok (take i found) → answers_to f queries ≡ Ok found
-  all_read found done are i past before =
-      let short : length found ≤ i = omega (arith, past, are.found_len) in
-      ap (answers_to f) (sym (take_all i queries past)) ∙ before ∙ ap answered (take_all i found short)
 
 -- ---- a read whose handle was found before
 

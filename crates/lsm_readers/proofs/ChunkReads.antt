@@ -1,5 +1,6 @@
 -- A point read of chunks is decided by the first chunk whose last entry reaches the key.
 use Rattle.std.proofs.Common.{◌≡◌, ℕ, ◌+◌, ◌<◌, Bool, true, false, cond, List, [], ◌∷◌, ◌++◌, length, refl, sym, ap, subst, ◌∙◌, length-append, arith}
+use Rattle.std.proofs.Math.Bool.{or-false}
 use Rattle.std.specs.Prelude.{Option, Some, None, find, ◌&&◌, ◌||◌, nat_lt}
 use Rattle.std.specs.declared.cmp.Ordering.{Ordering}
 use Rattle.std.specs.Ordering.{is_eq, nat_cmp, ordering_reverse}
@@ -34,10 +35,6 @@ after_is key bound e = reaches_after key bound (ending e)
 
 above_is : (key : List ℕ) (e : Entry) → key_lt key e.user_key ≡ after key 0 e
 above_is key e = above_reaches key (ending e) ∙ reaches_after key 0 (ending e)
-
-or_left_only : (a b : Bool) → (a || b) ≡ true → b ≡ false → a ≡ true
-or_left_only true b h n = refl
-or_left_only false b h n = absurd (let e : true ≡ false = sym h ∙ n in cc)
 
 hit_after : (key : List ℕ) (bound : ℕ) (e : Entry) → is_hit key bound e ≡ true → after key bound e ≡ true
 hit_after key bound e h = sym (after_is key bound e) ∙ or_right (key_lt key e.user_key) (is_hit key bound e) h
@@ -87,7 +84,8 @@ none_above key bound x (y ∷ ys) strict above =
 read_last : (key : List ℕ) (bound : ℕ) (x : Entry) (rest : List Entry) (hit : Bool) → is_hit key bound x ≡ hit → IsStrictAfter (Some x) rest → after key bound x ≡ true → cond hit (Some x) (find (is_hit key bound) rest) ≡ cond hit (Some x) None
 read_last key bound x rest true e strict late = refl
 read_last key bound x rest false e strict late =
-    none_above key bound x rest strict (or_left_only (key_lt key x.user_key) (is_hit key bound x) (after_is key bound x ∙ late) e)
+    let above = key_lt key x.user_key in
+    none_above key bound x rest strict (sym (or-false above) ∙ ap (λ (b : Bool). above || b) (sym e) ∙ after_is key bound x ∙ late)
 
 read_here : (key : List ℕ) (bound : ℕ) (last : Option Entry) (x : Entry) (xs rest : List Entry) → IsStrictAfter last ((x ∷ xs) ++ rest) → after key bound (last_entry (x ∷ xs)) ≡ true → find (is_hit key bound) ((x ∷ xs) ++ rest) ≡ find (is_hit key bound) (x ∷ xs)
 unfolding IsStrictAfter last_of

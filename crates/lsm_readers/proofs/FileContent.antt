@@ -1,5 +1,5 @@
 -- What a table of a list holds: its chunks, its handles and its counts, all of which fit.
-use Rattle.std.proofs.Common.{◌≡◌, ℕ, ◌+◌, ◌^◌, ◌<◌, ◌≤◌, List, [], ◌∷◌, ◌++◌, length, refl, sym, ap, subst, ◌∙◌, length-append, arith}
+use Rattle.std.proofs.Common.{◌≡◌, ℕ, ◌+◌, ◌^◌, ◌<◌, ◌≤◌, List, [], ◌∷◌, ◌++◌, length, sym, ap, subst, ◌∙◌, length-append, arith}
 use Rattle.std.specs.Prelude.{None, unwrap_or}
 use Rattle.std.specs.List.{AllByRecursion, flat_map}
 use Rattle.std.proofs.lemmas.List.Sums.{count_by-le-length}
@@ -21,7 +21,7 @@ use Rattle.lsm_formats.specs.Facts.{first_key, is_reclaimable, is_tombstone, is_
 use Rattle.lsm_formats.specs.File.{IsContent, counted_blocks}
 use Rattle.lsm_formats.specs.Filters.{filter_block}
 use Rattle.lsm_formats.specs.Fits.{EntryFits, Fits, SectionFits}
-use Rattle.lsm_formats.specs.Index.{data_section, handles, handles_from, block_size}
+use Rattle.lsm_formats.specs.Index.{data_section, handles}
 use Rattle.lsm_formats.specs.Kinds.{AreIndexParts, filter_count, filter_sections}
 use Rattle.lsm_formats.specs.Layout.{bytes_in}
 use Rattle.lsm_formats.specs.Partitions.{is_full_index}
@@ -33,9 +33,10 @@ use Rattle.lsm_formats.specs.declared.options.IndexKind.{IndexKind}
 use Rattle.lsm_formats.specs.declared.options.IndexKind.TheVariants.{Full as FullIndex, Partitioned as PartitionedIndex}
 use Rattle.lsm_formats.specs.declared.options.Options.{Options}
 use Rattle.lsm_readers.proofs.ChunkReads.{AreSome}
-use Rattle.lsm_readers.proofs.FileLengths.{after_within, handle_fits, handles_strict, highest_below, last_fits, last_some, lowest_fits, section_wide}
+use Rattle.lsm_readers.proofs.FileLengths.{handle_fits, handles_strict, highest_below, last_fits, last_some, lowest_fits, section_wide}
 use Rattle.lsm_readers.proofs.FileSections.{body_is, data_len, the_end, the_filter, the_index, the_items, the_meta, written}
 use Rattle.sst_sections.proofs.SectionLaws.{finished_body}
+use Rattle.lsm_formats.proofs.FactLaws.{after_within, length-handles}
 use Rattle.lsm_readers.proofs.MetaBlocks.{meta_length}
 use Rattle.lsm_readers.proofs.MetaReads.{FactsFit}
 use Rattle.lsm_readers.proofs.PartEnds.{some_parts}
@@ -70,10 +71,6 @@ few_parts (p ∷ ps) some = omega (arith, some.0, few_parts ps some.1, length-ap
 index_count : (k : IndexKind) (hs : List Handle) (parts : List (List Handle)) → AreIndexParts k hs parts → length parts ≤ 1 + length hs
 index_count FullIndex hs parts are = omega (arith, ap length are)
 index_count (PartitionedIndex size) hs parts are = omega (arith, few_parts parts (some_parts (is_full_index size) parts are.each), ap length are.whole)
-
-length-handles : (v : TableVersion) (at : ℕ) (cs : List (List Entry)) → length (handles_from v at cs) ≡ length cs
-length-handles v at [] = refl
-length-handles v at (c ∷ cs) = omega (arith, length-handles v (at + block_size v c) cs)
 
 few_filters : (v : TableVersion) (fs : List BloomFilter) → length fs ≤ length (flat_map (filter_block v) fs)
 few_filters v [] = omega arith

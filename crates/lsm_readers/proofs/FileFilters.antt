@@ -1,11 +1,7 @@
 -- The filters of a table: each of them loads, and a no of the one that is asked says that none of the keys is the one that is sought.
 use Rattle.std.proofs.Common.{◌≡◌, ℕ, ◌+◌, ◌*◌, ◌/◌, ◌-◌, ◌^◌, ◌<◌, ◌≤◌, Bool, true, false, cond, List, [], ◌∷◌, ◌++◌, length, map, refl, sym, ap, subst, ◌∙◌, length-append, arith}
-use Rattle.std.specs.Prelude.{Option, Some, None, Result, Ok, find, max, min, unwrap_or}
+use Rattle.std.specs.Prelude.{Option, Some, None, Result, Ok, find, unwrap_or}
 use Rattle.std.specs.List.{AllByRecursion, flat_map}
-use Rattle.std.specs.Ordering.{is_lt, nat_cmp, ordering_reverse, ordering_then}
-use Rattle.std.specs.declared.cmp.Ordering.{Ordering}
-use Rattle.std.specs.declared.cmp.Ordering.TheVariants.{Less, Equal, Greater}
-use Rattle.std.specs.Cmp.Lexicographic.{nat_list_cmp_total, slice_cmp}
 use Rattle.std.proofs.lemmas.List.Concat.{flat_map-append}
 use Rattle.sst_sections.specs.declared.version.TableVersion.{TableVersion}
 use Rattle.sst_filters.specs.KeyHash.{hash_of}
@@ -13,10 +9,8 @@ use Rattle.sst_sections.specs.Version.{longest_key}
 use Rattle.sst_entries.specs.declared.error.Error.{Error}
 use Rattle.sst_entries.specs.declared.value_type.ValueType.TheVariants.{Value}
 use Rattle.sst_entries.specs.Entry.{Entry, entry}
-use Rattle.sst_entries.specs.Key.{key_lt, same_key}
-use Rattle.sst_entries.specs.Strict.{IsStrict, IsStrictAfter, is_before}
-use Rattle.sst_entries.proofs.Booleans.{apart, is_false, not_is, not_not}
-use Rattle.sst_entries.proofs.KeyLemmas.{le_other, same_is}
+use Rattle.sst_entries.specs.Strict.{IsStrict}
+use Rattle.sst_entries.proofs.Booleans.{apart, is_false}
 use Rattle.sst_blocks.specs.declared.block_type.BlockType.TheVariants.{Filter}
 use Rattle.sst_blocks.specs.Block.{Loaded, load_told}
 use Rattle.sst_blocks.specs.Handle.{Handle}
@@ -28,48 +22,23 @@ use Rattle.sst_filters.specs.Policy.{tenths_of}
 use Rattle.sst_filters.proofs.Probes.{admits_its_hashes}
 use Rattle.lsm_formats.proofs.BlockLengths.{length-block}
 use Rattle.lsm_formats.specs.Facts.{starts_key}
-use Rattle.lsm_formats.specs.Filters.{AreFiltersFor, IsFilterFor, filter_block, filter_partitions, keys_after, keys_of, last_of_keys}
+use Rattle.lsm_formats.specs.Filters.{AreFiltersFor, IsFilterFor, filter_block, filter_partitions, keys_after, last_of_keys}
 use Rattle.lsm_formats.specs.Fits.{EntryFits}
 use Rattle.lsm_formats.specs.Index.{last_entry}
 use Rattle.lsm_formats.specs.Parts.{joined_parts}
 use Rattle.lsm_formats.specs.Partitions.{handles_block, tops_from}
 use Rattle.sst_blocks.specs.Handles.{handles_payload}
+use Rattle.lsm_formats.proofs.KeyLaws.{key_end}
+use Rattle.lsm_formats.proofs.FilterLaws.{wide, is_built}
 use Rattle.lsm_readers.specs.Read.{◌>>=◌}
 use Rattle.lsm_readers.proofs.FileIndexes.{LoadsHandles, handles_load}
 use Rattle.lsm_readers.proofs.FileLengths.{longest_short}
-use Rattle.lsm_readers.proofs.FilterPartReads.{AsksPartBy, before_is, key_end, last_end_is, part_asked}
+use Rattle.lsm_readers.proofs.FilterPartReads.{AsksPartBy, last_end_is, part_asked}
 use Rattle.lsm_readers.proofs.FilterReads.{hash_in, has_key}
 use Rattle.lsm_readers.proofs.PartEnds.{block_of, ends_strict}
 use Rattle.lsm_readers.proofs.PartReads.{AreSomeParts}
 
 -- ---- the keys of a strict list
-
-not_after : (o p : Ordering) → is_lt (ordering_then o p) ≡ true → is_lt (ordering_reverse o) ≡ false
-not_after Less p h = refl
-not_after Equal p h = refl
-not_after Greater p h = absurd cc
-
-key_above : (a b : Entry) → is_before a b ≡ true → same_key a.user_key b.user_key ≡ false → key_lt a.user_key b.user_key ≡ true
-key_above a b before other =
-    let le : key_lt b.user_key a.user_key ≡ false = ap is_lt (nat_list_cmp_total.antisymm b.user_key a.user_key) ∙ not_after (slice_cmp nat_cmp a.user_key b.user_key) _ before in
-    let turned : same_key b.user_key a.user_key ≡ false = is_false (same_key b.user_key a.user_key) (λ same.
-    apart (same_key a.user_key b.user_key) (subst (λ (k : List ℕ). same_key k b.user_key ≡ true) (same_is b.user_key a.user_key same) (ap (same_key b.user_key) (same_is b.user_key a.user_key same) ∙ same)) other) in
-    le_other a.user_key b.user_key le turned
-
-keys_line : (x : Entry) (es : List Entry) → IsStrictAfter (Some x) es → IsStrictAfter (Some (key_end x.user_key)) (map key_end (keys_after (Some x) es))
-unfolding IsStrictAfter keys_after
-keys_line x [] h = tt
-keys_line x (e ∷ es) h =
-    let more = keys_line e es h.1 in
-    elim (starts_key (Some x) e) as (λ (b : Bool). starts_key (Some x) e ≡ b → IsStrictAfter (Some (key_end x.user_key)) (map key_end (cond b (e.user_key ∷ keys_after (Some e) es) (keys_after (Some e) es)))) [
-      | true ↦ λ s. (sym (before_is x.user_key e.user_key) ∙ key_above x e h.0 (not_is (same_key x.user_key e.user_key) s), more)
-      | false ↦ λ s. subst (λ (k : List ℕ). IsStrictAfter (Some (key_end k)) (map key_end (keys_after (Some e) es))) (sym (same_is x.user_key e.user_key (not_not (same_key x.user_key e.user_key) s))) more
-    ] refl
-
-pub keys_strict : (es : List Entry) → IsStrict es → IsStrict (map key_end (keys_of es))
-unfolding IsStrictAfter keys_after
-keys_strict [] h = tt
-keys_strict (e ∷ es) h = (refl, keys_line e es h.1)
 
 -- a key that a table of a version takes
 pub record KeyFits (v : TableVersion) (key : List ℕ) : Type 0 where
@@ -91,20 +60,6 @@ pub record LoadsFilter (body : List ℕ) (offset size : ℕ) (f : BloomFilter) :
   pub block : Loaded
   pub loads : load_told body offset size Filter ≡ Ok block
   pub filter : filter_in block.payload ≡ f
-
-few : (n : ℕ) → (1 ≤ min 30 (max 1 n)) × (min 30 (max 1 n) ≤ 30)
-few n = (omega arith, omega arith)
-
-wide : (n : ℕ) → 8 ≤ min (2 ^ 64 - 1) (max 8 n)
-wide n = omega arith
-
-pub is_built : (policy : BloomConstructionPolicy) (keys : List (List ℕ)) (f : BloomFilter) → IsFilterFor policy keys f → 25 + length f.bits < 2 ^ 32 → IsBuilt f
-is_built policy keys f is short = record {
-  some = rw (is.probes) ((few (tenths_of policy * 69 / 1000)).0);
-  few = rw (is.probes) ((few (tenths_of policy * 69 / 1000)).1);
-  wide = rw (is.size) (wide ((length keys * tenths_of policy + 79) / 80));
-  short = short;
-}
 
 pub filter_loads : (v : TableVersion) (f : BloomFilter) (pre post body : List ℕ) (offset size : ℕ) → IsBuilt f → offset ≡ length pre → size ≡ 24 + length (payload_of f) → body ≡ pre ++ filter_block v f ++ post → LoadsFilter body offset size f
 filter_loads v f pre post body offset size built at len e =

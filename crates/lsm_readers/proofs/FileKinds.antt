@@ -15,32 +15,20 @@ use Rattle.sst_filters.specs.Policy.{tenths_of}
 use Rattle.lsm_formats.proofs.BlockLengths.{length-block}
 use Rattle.lsm_formats.specs.declared.options.FilterKind.{FilterKind}
 use Rattle.lsm_formats.specs.declared.options.FilterKind.TheVariants.{Full as FullFilter, Partitioned as PartitionedFilter}
-use Rattle.lsm_formats.specs.declared.options.IndexKind.{IndexKind}
-use Rattle.lsm_formats.specs.declared.options.IndexKind.TheVariants.{Full as FullIndex, Partitioned as PartitionedIndex}
 use Rattle.lsm_formats.specs.Filters.{AreFiltersFor, IsFilterFor, filter_block, filter_partitions, filtered_keys, full_filter, is_full_filter, keys_of, partitioned_filter}
 use Rattle.lsm_formats.specs.Fits.{SectionFits}
-use Rattle.lsm_formats.specs.Kinds.{AreFilterParts, AreIndexParts, full_index, index_sections}
+use Rattle.lsm_formats.specs.Kinds.{AreFilterParts, full_index}
 use Rattle.lsm_formats.specs.Layout.{bytes_in}
 use Rattle.lsm_formats.specs.Partitions.{handles_block, index_tops, is_full_index, partitioned_index, tops_from}
 use Rattle.lsm_formats.specs.Parts.{ArePartsOf, joined_parts, rest_part}
-use Rattle.lsm_readers.proofs.FileFilters.{Asked, KeyFits, LoadsFilter, filter_loads, filter_told, filter_tops_load, filters_asked, is_built}
+use Rattle.lsm_formats.proofs.KeyLaws.{key_end}
+use Rattle.lsm_formats.proofs.FilterLaws.{is_built}
+use Rattle.lsm_readers.proofs.FileFilters.{Asked, KeyFits, LoadsFilter, filter_loads, filter_told, filter_tops_load, filters_asked}
 use Rattle.lsm_readers.proofs.FileIndexes.{LoadsHandles, handles_load, partition_told, parts_asked, tops_load}
-use Rattle.lsm_readers.proofs.FileSections.{top_place}
-use Rattle.lsm_readers.proofs.FilterPartReads.{key_end}
 use Rattle.lsm_readers.proofs.PartEnds.{no_parts, some_parts}
 use Rattle.lsm_readers.proofs.PartReads.{AreSomeParts}
 
 -- ---- the index
-
--- the handles of the block that the top of an index has
-abbrev pub top_handles : IndexKind → TableVersion → ℕ → List Handle → List (List Handle) → List Handle
-top_handles FullIndex v at hs parts = hs
-top_handles (PartitionedIndex size) v at hs parts = index_tops v at parts
-
--- one after another the parts of an index are its handles: these are what a scan of all blocks walks
-pub parts_whole : (k : IndexKind) (hs : List Handle) (parts : List (List Handle)) → AreIndexParts k hs parts → joined_parts parts ≡ hs
-parts_whole FullIndex hs parts are = ap joined_parts are ∙ append-nil hs
-parts_whole (PartitionedIndex size) hs parts are = are.whole
 
 module _ (v : TableVersion) (at : ℕ) (hs : List Handle) (parts : List (List Handle)) (strict : AreStrictHandles hs) (spelled : AllByRecursion (IsSpellableHandle v) hs)
     (pre post body : List ℕ) (from : at ≡ length pre) where
@@ -76,13 +64,6 @@ module _ (v : TableVersion) (at : ℕ) (hs : List Handle) (parts : List (List Ha
         let whole : body ≡ pre ++ (blocks ++ ((top ++ []) ++ post)) = lies ∙ simp append_assoc in
         parts_asked v at parts some line all (fits.0).short pre ((top ++ []) ++ post) body from whole key bound
         ∙ ap (λ (xs : List Handle). Ok (find (reaches key bound) xs)) are.whole
-
--- the top of an index loads
-pub top_loads : (k : IndexKind) (v : TableVersion) (at : ℕ) (hs : List Handle) (parts : List (List Handle)) → AreStrictHandles hs → AllByRecursion (IsSpellableHandle v) hs → (pre post body : List ℕ) → at ≡ length pre → AreIndexParts k hs parts
-    → AllByRecursion SectionFits (index_sections k v at hs parts) → at + length (bytes_in (index_sections k v at hs parts)) < 2 ^ 64 → body ≡ pre ++ (bytes_in (index_sections k v at hs parts) ++ post)
-    → LoadsHandles body (top_place k v at hs parts).offset (top_place k v at hs parts).size (top_handles k v at hs parts)
-top_loads FullIndex v at hs parts strict spelled pre post body from are fits within lies = full_loads v at hs parts strict spelled pre post body from fits lies
-top_loads (PartitionedIndex size) v at hs parts strict spelled pre post body from are fits within lies = top_level_loads v at hs parts strict spelled pre post body from size are fits lies within
 
 -- ---- the filter
 

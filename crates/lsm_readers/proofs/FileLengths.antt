@@ -1,5 +1,5 @@
 -- How long the parts of a table are, and that its blocks read back.
-use Rattle.std.proofs.Common.{◌≡◌, ℕ, ◌+◌, ◌^◌, ◌<◌, ◌≤◌, Bool, true, false, List, [], ◌∷◌, length, map, refl, sym, ap, ◌∙◌, length-append, arith}
+use Rattle.std.proofs.Common.{◌≡◌, ℕ, ◌+◌, ◌^◌, ◌<◌, ◌≤◌, true, List, [], ◌∷◌, length, map, refl, sym, ap, ◌∙◌, length-append, arith}
 use Rattle.std.specs.Prelude.{Option, Some, None, min, max}
 use Rattle.std.specs.List.{flat_map, AllByRecursion}
 use Rattle.sst_sections.specs.declared.version.TableVersion.{TableVersion}
@@ -7,7 +7,7 @@ use Rattle.sst_sections.specs.declared.version.TableVersion.TheVariants.{V3, V4}
 use Rattle.sst_blocks.specs.declared.block_type.BlockType.TheVariants.{Data}
 use Rattle.sst_entries.specs.Entry.{Entry}
 use Rattle.sst_blocks.specs.Handle.{Handle}
-use Rattle.sst_blocks.specs.Handles.{handles_payload, handles_in, handle_spelled, IsSpellableHandle, AreStrictHandles, end_of}
+use Rattle.sst_blocks.specs.Handles.{handles_payload, handle_spelled, IsSpellableHandle, AreStrictHandles, end_of}
 use Rattle.sst_sections.specs.Number.{le4}
 use Rattle.sst_blocks.specs.Payload.{payload, spelled, AreSpellable}
 use Rattle.sst_blocks.specs.Payload as written
@@ -17,10 +17,10 @@ use Rattle.sst_sections.specs.Version.{key_limit, longest_key}
 use Rattle.sst_entries.proofs.Lists.{all_front, all_behind}
 use Rattle.sst_entries.proofs.OrderLemmas.{before_trans}
 use Rattle.sst_blocks.proofs.Entries.{entries_read, length-spelled}
-use Rattle.sst_blocks.proofs.HandleLaws.{handles_read, length-handle_spelled}
+use Rattle.sst_blocks.proofs.HandleLaws.{length-handle_spelled}
 use Rattle.sst_sections.proofs.Numbers.{wide4}
 use Rattle.lsm_formats.specs.Chunks.{joined}
-use Rattle.lsm_formats.specs.Facts.{count_after, one_if, lowest_seqno, highest_seqno}
+use Rattle.lsm_formats.specs.Facts.{lowest_seqno, highest_seqno}
 use Rattle.lsm_formats.specs.Index.{last_entry, handle_of, handles_from, handles, block_size, data_block, data_section}
 use Rattle.lsm_formats.specs.Fits.{EntryFits, BlockFits}
 use Rattle.lsm_readers.proofs.ChunkReads.{AreSome, later, strict_front, strict_after}
@@ -58,15 +58,6 @@ section_wide v (c ∷ cs) =
     omega (arith, section_wide v cs, payload_wide v c, length-block v Data (payload v c), length-append c (joined cs), length-append (data_block v c) (data_section v cs))
 
 -- ---- counts
-
-one_small : (b : Bool) → one_if b ≤ 1
-one_small true = omega arith
-one_small false = omega arith
-
-pub after_within : (test : Option Entry → Entry → Bool) (before : Option Entry) (es : List Entry) → count_after test before es ≤ length es
-unfolding count_after
-after_within test before [] = omega arith
-after_within test before (e ∷ es) = omega (arith, one_small (test before e), after_within test (Some e) es)
 
 min_le : (a b c : ℕ) → b < c → min a b < c
 min_le a b c h = omega arith
@@ -144,8 +135,3 @@ strict_ends v offset p q ((x ∷ xs) ∷ cs) same some strict =
 
 pub handles_strict : (v : TableVersion) (cs : List (List Entry)) → AreSome cs → IsStrict (joined cs) → AreStrictHandles (handles v cs)
 handles_strict v cs some strict = strict_ends v 0 None None cs (λ e. refl) some strict
-
--- the index of a table reads back
-pub index_reads : (v : TableVersion) (cs : List (List Entry)) → length (data_section v cs) < 2 ^ 64 → AreSome cs → IsStrict (joined cs) → AllByRecursion (EntryFits v) (joined cs) → AllByRecursion (BlockFits v) cs → 24 + length (handles_payload v (handles v cs)) < 2 ^ 32 → handles_in v (handles_payload v (handles v cs)) ≡ Some (handles v cs)
-index_reads v cs short some strict fits blocks index =
-    handles_read v (handles v cs) (omega (arith, index, handles_short v (handles v cs)), handle_fits v 0 cs (omega (arith, short)) some fits blocks) (handles_strict v cs some strict)

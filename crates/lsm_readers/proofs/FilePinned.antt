@@ -25,6 +25,7 @@ use Rattle.lsm_formats.specs.declared.options.FilterKind.{FilterKind}
 use Rattle.lsm_formats.specs.declared.options.FilterKind.TheVariants.{Full as FullFilter, Partitioned as PartitionedFilter}
 use Rattle.lsm_formats.specs.declared.options.IndexKind.{IndexKind}
 use Rattle.lsm_formats.specs.declared.options.IndexKind.TheVariants.{Full as FullIndex, Partitioned as PartitionedIndex}
+use Rattle.lsm_formats.proofs.KeyLaws.{key_end}
 use Rattle.lsm_readers.specs.declared.regions.ParsedRegions.{ParsedRegions}
 use Rattle.lsm_readers.specs.Answer.{filter_admits, handle_by, handle_in_part, part_admits, place_in}
 use Rattle.lsm_readers.specs.OfList.{filter_said, filter_tops_said, index_said, place_from}
@@ -35,7 +36,6 @@ use Rattle.lsm_readers.proofs.FileFilters as filters
 use Rattle.lsm_readers.proofs.FileIndexes.{LoadsHandles, found_in, partition_told}
 use Rattle.lsm_readers.proofs.FileKinds.{filter_parts_asked, filter_top_loads, full_filter_loads, full_is, full_loads, partitions_asked, top_level_loads}
 use Rattle.lsm_readers.proofs.FileSections.{top_place}
-use Rattle.lsm_readers.proofs.FilterPartReads.{key_end}
 
 -- the handles of a place where they lie
 handles_at : (body : List ℕ) (place : Place) (hs : List Handle) → LoadsHandles body place.offset place.size hs → handles_told body place ≡ Ok hs

@@ -5,6 +5,7 @@ use Rattle.std.specs.List.{AllByRecursion}
 use Rattle.std.specs.Option.{option_map}
 use Rattle.std.proofs.lemmas.Bool.{cases_lt, lt-ltb, le-ltb, ltb-false}
 use Rattle.std.proofs.lemmas.List.Concat.{flat_map-append}
+use Rattle.std.proofs.Math.Bool.{and-false}
 use Rattle.sst_sections.specs.declared.version.TableVersion.{TableVersion}
 use Rattle.sst_filters.specs.KeyHash.{hash_of}
 use Rattle.sst_sections.specs.Sections.{body_of, finished}
@@ -14,6 +15,7 @@ use Rattle.sst_entries.specs.Key.{same_key}
 use Rattle.sst_entries.specs.Point.{is_hit, point}
 use Rattle.sst_entries.specs.Strict.{IsStrict, IsStrictAfter, last_of}
 use Rattle.sst_entries.proofs.Lists.{all_behind, all_front}
+use Rattle.sst_entries.proofs.Strictness.{strict_alone}
 use Rattle.sst_blocks.specs.declared.block_type.BlockType.TheVariants.{Data}
 use Rattle.sst_blocks.specs.Block.{load_told}
 use Rattle.sst_blocks.specs.Handle.{Handle}
@@ -70,11 +72,7 @@ point_lifted (e ∷ es) g key bound =
 -- ---- nothing is numbered below the lowest number
 
 high_missed : (key : List ℕ) (bound : ℕ) (e : Entry) → bound ≤ e.seqno → is_hit key bound e ≡ false
-high_missed key bound e high = rw (le-ltb e.seqno bound high) (and_false (same_key e.user_key key))
-  where
-    and_false : (b : Bool) → (b && false) ≡ false
-    and_false true = refl
-    and_false false = refl
+high_missed key bound e high = rw (le-ltb e.seqno bound high) (and-false (same_key e.user_key key))
 
 none_low : (es : List Entry) (key : List ℕ) (bound : ℕ) → bound ≤ lowest_seqno es → find (is_hit key bound) es ≡ None
 unfolding lowest_seqno
@@ -82,11 +80,6 @@ none_low [] key bound low = refl
 none_low (e ∷ es) key bound low =
     let here : bound ≤ e.seqno = omega (arith, low) in
     rw (high_missed key bound e here) (none_low es key bound (omega (arith, low)))
-
-pub any_front : (last : Option Entry) (c : List Entry) → IsStrictAfter last c → IsStrict c
-unfolding IsStrictAfter
-any_front last [] h = tt
-any_front last (x ∷ xs) h = (refl, h.1)
 
 -- ---- a read that asks the filter, then the index, then a data block
 
@@ -111,7 +104,7 @@ module _ (v : TableVersion) (label : Label) (options : Options) (spills : List �
 
   -- a chunk of a strict list is strict
   chunk_strict : (last : Option Entry) (before behind : List (List Entry)) (d : List Entry) → IsStrictAfter last (joined (before ++ d ∷ behind)) → IsStrict d
-  chunk_strict last [] behind d h = any_front last d (strict_front last d (joined behind) h)
+  chunk_strict last [] behind d h = strict_alone last d (strict_front last d (joined behind) h)
   chunk_strict last (b ∷ before) behind d h = chunk_strict (last_of last b) before behind d (strict_after last b (joined (before ++ d ∷ behind)) h)
 
   chunk_fits : (before behind : List (List Entry)) (d : List Entry) → AllByRecursion (EntryFits v) (joined (before ++ d ∷ behind)) → AllByRecursion (EntryFits v) d

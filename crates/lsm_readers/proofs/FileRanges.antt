@@ -31,6 +31,7 @@ use Rattle.sst_blocks.specs.Handles.{is_above, reaches, up_to_first, window}
 use Rattle.sst_blocks.specs.Payload.{payload}
 use Rattle.sst_blocks.proofs.BlockLaws.{written_loads}
 use Rattle.sst_blocks.proofs.Reaching.{above_reaches, reaches_after}
+use Rattle.lsm_ranges.proofs.PackLemmas.{filter-cons_no}
 use Rattle.lsm_formats.proofs.BlockLengths.{length-block}
 use Rattle.lsm_formats.specs.Chunks.{joined}
 use Rattle.lsm_formats.specs.Content.{Content}
@@ -100,12 +101,9 @@ all_below v key last x (y ∷ ys) strict fits early =
 
 -- ---- entries beside the bounds
 
-pass_one : {X : Type 0} (p : X → Bool) (x : X) (xs : List X) → p x ≡ false → filter p (x ∷ xs) ≡ filter p xs
-pass_one p x xs h = rw h refl
-
 none_within : (low high : Bound (List ℕ)) (es : List Entry) → AllByRecursion (λ e. (is_from low e.user_key && is_to high e.user_key) ≡ false) es → within low high es ≡ []
 none_within low high [] h = refl
-none_within low high (e ∷ es) h = pass_one (λ (e : Entry). is_from low e.user_key && is_to high e.user_key) e es h.0 ∙ none_within low high es h.1
+none_within low high (e ∷ es) h = filter-cons_no (λ (e : Entry). is_from low e.user_key && is_to high e.user_key) e es h.0 ∙ none_within low high es h.1
 
 not_from : (low high : Bound (List ℕ)) (key : List ℕ) → is_from low key ≡ false → (is_from low key && is_to high key) ≡ false
 not_from low high key h = ap (λ (b : Bool). b && is_to high key) h

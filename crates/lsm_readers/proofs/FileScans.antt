@@ -43,9 +43,9 @@ use Rattle.lsm_readers.proofs.ChunkReads.{AreSome, strict_front, strict_after}
 use Rattle.lsm_formats.proofs.BlockLengths.{length-block}
 use Rattle.lsm_readers.proofs.FileLengths.{chunk_reads}
 use Rattle.sst_entries.proofs.Lists.{all_front, all_behind}
+use Rattle.sst_entries.proofs.Strictness.{strict_alone}
 use Rattle.lsm_readers.proofs.FileContent.{line, some_chunks, whole}
 use Rattle.lsm_readers.proofs.FileParts.{behind_index, facts_are, short_file, told_file}
-use Rattle.lsm_readers.proofs.FilePoints.{any_front}
 use Rattle.lsm_readers.proofs.FileSections.{body_is, the_end, the_filter, the_index, written}
 use Rattle.lsm_readers.proofs.PartEnds.{no_parts, some_parts}
 use Rattle.lsm_readers.proofs.Recovered.{steps}
@@ -83,7 +83,7 @@ all_read v last [] strict fits blocks = tt
 all_read v last (c ∷ cs) strict fits blocks =
     let block : BlockFits v c = blocks.0 in
     let fit = all_front (EntryFits v) c (joined cs) fits in
-    let here : Reads v c = (chunk_reads v c fit (any_front last c (strict_front last c (joined cs) strict)) block, omega (arith, block.short)) in
+    let here : Reads v c = (chunk_reads v c fit (strict_alone last c (strict_front last c (joined cs) strict)) block, omega (arith, block.short)) in
     (here, all_read v (last_of last c) cs (strict_after last c (joined cs) strict) (all_behind (EntryFits v) c (joined cs) fits) blocks.1)
 
 -- a chunk's block is loaded at its position

@@ -112,9 +112,6 @@ module _ (v : TableVersion) (label : Label) (options : Options) (c : Content) wh
 
   -- ---- the bytes
 
-  length-written : length written.bytes ≡ 0 + data_len + length (bytes_in the_rest)
-  length-written = omega (arith, length-append (data_section v c.blocks) (bytes_in the_rest))
-
   pub ascending : AreAscending (length written.bytes) written.started
   ascending = laid_ascending 0 (length written.bytes) (sections_of v label options c) (omega arith)
 

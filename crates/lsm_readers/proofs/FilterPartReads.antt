@@ -3,6 +3,7 @@ use Rattle.std.proofs.Common.{◌≡◌, ℕ, ◌+◌, ◌-◌, ◌^◌, Bool, t
 use Rattle.std.specs.Prelude.{Option, Some, None, find, ◌&&◌, ◌||◌, nat_lt}
 use Rattle.std.specs.List.{flat_map}
 use Rattle.std.proofs.lemmas.List.{map-append}
+use Rattle.std.proofs.Math.Bool.{or_assoc, or-false}
 use Rattle.sst_sections.specs.declared.version.TableVersion.{TableVersion}
 use Rattle.sst_entries.specs.declared.value_type.ValueType.TheVariants.{Value}
 use Rattle.sst_entries.specs.Entry.{Entry, entry}
@@ -14,20 +15,17 @@ use Rattle.sst_entries.proofs.OrderLemmas.{before_trans, lt_trans}
 use Rattle.sst_blocks.specs.declared.block_type.BlockType.TheVariants.{Filter}
 use Rattle.sst_blocks.specs.Handle.{Handle}
 use Rattle.sst_blocks.specs.Handles.{reaches}
-use Rattle.sst_blocks.proofs.Reaching.{above_reaches, reaches_after}
+use Rattle.sst_blocks.proofs.Reaching.{reaches_after}
 use Rattle.sst_filters.specs.declared.policy.BloomConstructionPolicy.{BloomConstructionPolicy}
 use Rattle.sst_filters.specs.Filter.{BloomFilter, payload_of}
 use Rattle.lsm_formats.proofs.BlockLengths.{length-block}
 use Rattle.lsm_formats.specs.Filters.{AreFiltersFor, IsFilterFor, filter_block, filter_partitions, last_of_keys}
 use Rattle.lsm_formats.specs.Parts.{joined_parts}
 use Rattle.lsm_formats.specs.Partitions.{tops_from}
+use Rattle.lsm_formats.proofs.KeyLaws.{key_end, before_is}
 use Rattle.lsm_readers.proofs.ChunkReads.{strict_after, strict_front}
 use Rattle.lsm_readers.proofs.FilterReads.{has_key}
 use Rattle.lsm_readers.proofs.PartReads.{AreSomeParts}
-
--- the entry that stands for a key in a top level
-abbrev pub key_end : List ℕ → Entry
-key_end key = entry key [] 0 Value
 
 abbrev highest : ℕ
 highest = 2 ^ 64 - 1
@@ -45,9 +43,6 @@ reached_is key end = reaches_after key highest (ending end)
 -- a key reaches itself
 same_reached : (key k : List ℕ) → same_key k key ≡ true → reached key k ≡ true
 same_reached key k h = sym (reached_is key k) ∙ or_right (key_lt key k) (same_key k key && nat_lt 0 highest) (rw h refl)
-
-pub before_is : (a b : List ℕ) → key_lt a b ≡ is_before (key_end a) (key_end b)
-before_is a b = above_reaches a (ending b) ∙ reaches_after a 0 (ending b)
 
 no_less : (key : List ℕ) → key_lt key key ≡ true → ⊥
 no_less key h = apart (key_lt key key) h (le_itself key)
@@ -90,17 +85,9 @@ lacks_behind key end (k ∷ ks) hit strict =
     one_apart key k ks (not_below key end k hit strict.0)
     (lacks_behind key k ks (before_trans (entry key [] highest Value) (key_end end) (key_end k) hit strict.0) strict.1)
 
-or_assoc : (a b c : Bool) → (a || (b || c)) ≡ ((a || b) || c)
-or_assoc true b c = refl
-or_assoc false b c = refl
-
 has_append : (key : List ℕ) (xs ys : List (List ℕ)) → has_key key (xs ++ ys) ≡ (has_key key xs || has_key key ys)
 has_append key [] ys = refl
-has_append key (x ∷ xs) ys = ap (λ (b : Bool). same_key x key || b) (has_append key xs ys) ∙ or_assoc (same_key x key) (has_key key xs) (has_key key ys)
-
-or_false : (b : Bool) → (b || false) ≡ b
-or_false true = refl
-or_false false = refl
+has_append key (x ∷ xs) ys = ap (λ (b : Bool). same_key x key || b) (has_append key xs ys) ∙ sym (or_assoc (same_key x key) (has_key key xs) (has_key key ys))
 
 pub last_end_is : (last : Option Entry) (x : List ℕ) (xs : List (List ℕ)) → last_of last (map key_end (x ∷ xs)) ≡ Some (key_end (last_of_keys (x ∷ xs)))
 unfolding last_of
@@ -157,7 +144,7 @@ decided v policy at last x xs f ps fs key o true strict is late more =
       filters_are = refl;
       top_is = let place : at ≡ at + 0 = omega arith in ap (λ (n : ℕ). filter_top n (x ∷ xs) f) place;
       is_for = is;
-      covers = has_append key (x ∷ xs) (joined_parts ps) ∙ ap (λ (b : Bool). has_key key (x ∷ xs) || b) (lacks_behind key end (joined_parts ps) late rest) ∙ or_false (has_key key (x ∷ xs));
+      covers = has_append key (x ∷ xs) (joined_parts ps) ∙ ap (λ (b : Bool). has_key key (x ∷ xs) || b) (lacks_behind key end (joined_parts ps) late rest) ∙ or-false (has_key key (x ∷ xs));
     }
 decided v policy at last x xs f ps fs key o false strict is early more =
     let place : at + (24 + length (payload_of f)) ≡ at + length (filter_block v f) = ap (λ (n : ℕ). at + n) (sym (length-block v Filter (payload_of f))) in

@@ -37,33 +37,13 @@ payload_ok v checksum kind payload b h =
     let checked = unless (grammar_fault v kind payload) (Ok (made v kind payload)) in
     grammar_ok v kind payload (grammar_fault v kind payload) b (guard_ok (not (fnv1a payload == checksum)) ChecksumMismatch checked b h)
 
-pub load_kind : (body : List ℕ) (offset size : ℕ) (kind : BlockType) (b : Loaded) → load_told body offset size kind ≡ Ok b → b.kind ≡ kind
-unfolding load_told
-load_kind body offset size kind b h =
-    let head = slice_range body offset (offset + 24) in
-    let payload = slice_range body (offset + 24) (offset + size) in
-    let tail = checked_payload (version_in head) (stored_checksum head) kind payload in
-    let wrong = not (data_len head == uncompressed_len head) || not (24 + data_len head == size) in
-    let past = nat_lt size 24 || nat_lt (length body) (offset + size) in
-    let rest = cond wrong (Err InvalidHeader) tail in
-    let one = guard_ok past Truncated (unless (header_fault kind head) rest) b h in
-    let two = unless_ok (header_fault kind head) rest b one in
-    let three = guard_ok wrong InvalidHeader tail b two in
-    sym (ap (λ (l : Loaded). l.kind) (payload_ok (version_in head) (stored_checksum head) kind payload b three))
-
 pub meta_holds : (k : BlockType) → k ≡ Meta → HoldsEntries k
 meta_holds Meta e = tt
 meta_holds Data e = tt
 meta_holds Index e = absurd cc
 meta_holds Filter e = absurd cc
 
-pub data_holds : (k : BlockType) → k ≡ Data → HoldsEntries k
-data_holds Meta e = tt
-data_holds Data e = tt
-data_holds Index e = absurd cc
-data_holds Filter e = absurd cc
-
--- the same of a block by its position
+-- a block by its position is of that kind
 pub load_at_kind : (body : List ℕ) (position : ℕ) (kind : BlockType) (b : Loaded) → load_at_told body position kind ≡ Ok b → b.kind ≡ kind
 unfolding load_at_told
 load_at_kind body position kind b h =

@@ -4,11 +4,7 @@ use Rattle.std.specs.Prelude.{Result, Ok, Err, map}
 use Rattle.sst_entries.specs.declared.error.Error.{Error}
 use Rattle.lsm_readers.specs.Many.{answers_to}
 use Rattle.lsm_readers.specs.Read.{◌>>=◌}
-
--- where a step of two gives a value, the first one does
-then_ok : {X Y : Type 0} (r : Result X Error) (f : X → Result Y Error) (y : Y) → (r >>= f) ≡ Ok y → (x : X) × (r ≡ Ok x) × (f x ≡ Ok y)
-then_ok (Ok x) f y is = (x, refl, is)
-then_ok (Err e) f y is = absurd cc
+use Rattle.lsm_readers.proofs.Recovered.{bind_ok}
 
 module _ {X Y : Type 0} (f : X → Result Y Error) where
   -- behind the answer to one come those to others
@@ -30,8 +26,8 @@ module _ {X Y : Type 0} (f : X → Result Y Error) where
       let none : [] ≡ ys = cc in
       subst (λ (us : List Y). answers_to f (z ∷ []) ≡ Ok (us ++ y ∷ [])) none (first_ok z [] y (ap f (sym is) ∙ here))
   more_of (z ∷ zs) (suc i) x ys y less is before here =
-      let first = then_ok (f z) (behind (take i zs)) ys before in
-      let rest = then_ok (answers_to f (take i zs)) (λ us. Ok (first.0 ∷ us)) ys first.2 in
+      let first = bind_ok (f z) (behind (take i zs)) ys before in
+      let rest = bind_ok (answers_to f (take i zs)) (λ us. Ok (first.0 ∷ us)) ys first.2 in
       let same : first.0 ∷ rest.0 ≡ ys = let told = rest.2 in cc in
       let more = more_of zs i x rest.0 y (omega (arith, less)) is rest.1 here in
       subst (λ (us : List Y). answers_to f (z ∷ take (suc i) zs) ≡ Ok (us ++ y ∷ [])) same
@@ -47,8 +43,8 @@ module _ {X Y : Type 0} (f : X → Result Y Error) where
   refused_at [] i x ys e less is before here = absurd (omega (arith, less))
   refused_at (z ∷ zs) zero x ys e less is before here = first_err z zs e (ap f (sym is) ∙ here)
   refused_at (z ∷ zs) (suc i) x ys e less is before here =
-      let first = then_ok (f z) (behind (take i zs)) ys before in
-      let rest = then_ok (answers_to f (take i zs)) (λ us. Ok (first.0 ∷ us)) ys first.2 in
+      let first = bind_ok (f z) (behind (take i zs)) ys before in
+      let rest = bind_ok (answers_to f (take i zs)) (λ us. Ok (first.0 ∷ us)) ys first.2 in
       first_ok z zs first.0 first.1
       ∙ ap (λ (r : Result (List Y) Error). r >>= λ us. Ok (first.0 ∷ us)) (refused_at zs i x rest.0 e (omega (arith, less)) is rest.1 here)
 

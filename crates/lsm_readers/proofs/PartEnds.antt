@@ -7,6 +7,7 @@ use Rattle.std.proofs.lemmas.List.Concat.{flat_map-append}
 use Rattle.sst_entries.specs.Entry.{Entry}
 use Rattle.sst_entries.specs.Strict.{IsStrict, IsStrictAfter, last_of}
 use Rattle.sst_entries.proofs.Lists.{all_front, all_behind}
+use Rattle.sst_entries.proofs.Strictness.{strict_alone}
 use Rattle.lsm_formats.specs.Index.{last_entry}
 use Rattle.lsm_formats.specs.Parts.{AreParts, joined_parts}
 use Rattle.lsm_readers.proofs.ChunkReads.{strict_after, strict_front}
@@ -28,17 +29,12 @@ pub part_all : {A : Type 0} (P : A → Type 0) (before : List (List A)) (part : 
 part_all P [] part behind h = all_front P part (joined_parts behind) h
 part_all P (b ∷ before) part behind h = part_all P before part behind (all_behind P b (joined_parts (before ++ part ∷ behind)) h)
 
-fresh : (last : Option Entry) (es : List Entry) → IsStrictAfter last es → IsStrict es
-unfolding IsStrictAfter
-fresh last [] h = tt
-fresh last (e ∷ es) h = (refl, h.1)
-
 module _ {A : Type 0} (end : A → Entry) where
   split : (last : Option Entry) (p : List A) (ps : List (List A)) → IsStrictAfter last (map end (joined_parts (p ∷ ps))) → IsStrictAfter last (map end p ++ map end (joined_parts ps))
   split last p ps h = subst (λ (es : List Entry). IsStrictAfter last es) (map-append end p (joined_parts ps)) h
 
   pub part_strict : (last : Option Entry) (before : List (List A)) (part : List A) (behind : List (List A)) → IsStrictAfter last (map end (joined_parts (before ++ part ∷ behind))) → IsStrict (map end part)
-  part_strict last [] part behind h = fresh last (map end part) (strict_front last (map end part) (map end (joined_parts behind)) (split last part behind h))
+  part_strict last [] part behind h = strict_alone last (map end part) (strict_front last (map end part) (map end (joined_parts behind)) (split last part behind h))
   part_strict last (b ∷ before) part behind h =
       let rest = before ++ part ∷ behind in
       part_strict (last_of last (map end b)) before part behind (strict_after last (map end b) (map end (joined_parts rest)) (split last b rest h))

@@ -16,8 +16,8 @@ use Rattle.std.specs.Option.{option_map}
 use Rattle.sst_entries.specs.Error.{FaultsFirst, Refuses, is_memory}
 use Rattle.sst_blocks.specs.declared.opened.Opened.{Opened}
 use Rattle.sst_blocks.specs.Opened.{with_load}
-use Rattle.sst_entries.specs.Stream.{Answers, Deals, CanDeal, first, but_first, front_of, nowhere, answer_stops}
-use Rattle.sst_entries.proofs.StreamLemmas.{head_eq, deals_by, can_by}
+use Rattle.sst_entries.specs.Stream.{Answers, Deals, first, but_first, front_of, nowhere, answer_stops}
+use Rattle.sst_entries.proofs.StreamLemmas.{head_eq, deals_by}
 use Rattle.lsm_readers.specs.Answer.{lifted}
 use Rattle.lsm_readers.specs.Scan.{FaultsAtBlock, FaultsAtEntry, IsEnded, Scan, ScanHas, ScansNext, TakesEntry, behind, block_told, blocks_told, ended, entries_from, entries_told, fault_of, lifted_told, loads, scan_loads_behind, loads_from, loads_of, scan_left, scan_size, scan_told, then_blocks, unless_left, up_to_error}
 use Rattle.lsm_readers.specs.Read.{◌>>=◌}
@@ -181,9 +181,6 @@ pub record Reached (s u : Scan) : Type 0 where
   pub falls : count + u.blocks ≡ s.blocks
   pub needs : count + loads_of u ≡ loads_of s
 
-pub reached_first : (s : Scan) → Reached s s
-reached_first s = record { left = refl; start = inl refl; stands = inl refl; ended = λ e. e; count = 0; counts = refl; falls = omega arith; needs = omega arith }
-
 ended_too : (s u : Scan) (m : Type 0) → (IsEnded s → IsEnded u) → IsEnded s ⊎ m → IsEnded u ⊎ m
 ended_too s u m on (inl e) = inl (on e)
 ended_too s u m on (inr h) = inr h
@@ -275,12 +272,9 @@ early_block s u e (inr calm) ahead none more fault h = absurd (calm fault h)
 -- the number of the entry that stands there was looked at first
 own_entry : (u : Scan) (e : Entry) (es : List Entry) (r : R) → u.entries ≡ e ∷ es → FaultsFirst r (fault_of (lifted_told u.global_seqno e)) → FaultsAtEntry u (Some r)
 own_entry u e es r some early x xs stands f told =
-    let same : e ≡ x = first_same e x es xs (sym some ∙ stands) in
+    let same : e ≡ x = head_eq (sym some ∙ stands) in
     ap (λ (y : R). Some y) (refused_first r f (early f (ap (λ (y : Entry). fault_of (lifted_told u.global_seqno y)) same ∙ ap fault_of told)))
   where
-    first_same : (a b : Entry) (xs ys : List Entry) → a ∷ xs ≡ b ∷ ys → a ≡ b
-    first_same a b xs ys h = cc
-
     refused_first : (r : R) (f : Error) → Refuses r (Some f) → r ≡ Err f
     refused_first (Ok x) f h = absurd cc
     refused_first (Err g) f h = let same : f ≡ g = cc in ap (λ (x : Error). Err x) (sym same)
@@ -448,9 +442,6 @@ progress s t r step = record { on = λ _. (tt, tt, scan_falls s t r step); keeps
 
 pub scan_deals : (stops : Error → Bool) (s : Scan) (xs : List R) → ScanHas stops s xs → Deals (answer_stops stops) ScansNext nowhere s xs
 scan_deals stops s xs has = deals_by (answer_stops stops) ScansNext nowhere (ScanHas stops) (λ s xs r t has step fine. (step.answers).gives stops xs has fine) (λ s xs r t has step fine. absurd step) s xs has
-
-pub scan_can : (s : Scan) → CanDeal ScansNext nowhere (λ _. Unit {0}) (λ _. Unit {0}) s
-scan_can s = can_by ScansNext nowhere (λ _. Unit {0}) (λ _. Unit {0}) (λ _. Unit {0}) (λ s may. (tt, tt)) (λ s r t may step. tt) (λ s r t may step. absurd step) s tt
 
 pub scan_ends : (stops : Error → Bool) (s t : Scan) (e : Error) → ScansNext s (Some (Err e)) t → Deals (answer_stops stops) ScansNext nowhere t []
 scan_ends stops s t e step = scan_deals stops t [] (sym (ended_left t step.ends), inl step.ends)

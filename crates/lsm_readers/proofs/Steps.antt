@@ -113,14 +113,11 @@ tested view seen (Err e) step x r is gives = rw is (fails_here step _ e gives)
 same_value : {X E : Type 0} (x y : X) → answered {E = E} x ≡ answered y → x ≡ y
 same_value x y is = cc
 
-not_memory : (e : Error) → e ≡ OutOfMemory → is_memory e ≡ false → ⊥
-not_memory e is fine = let wrong : true ≡ false = ap is_memory (sym is) ∙ fine in cc
-
 module _ {X Y : Type 0} (at : Y → X) where
   pub shared_gives : {Z : Type 0} (view : X → Z) (value : Result X Error) (r : Result Y Error) (told : Result Z Error) → IfOk r (λ y. value ≡ Ok (at y)) → IfErr r (λ e. MatchResult value (λ _. e ≡ OutOfMemory) (λ f. e ≡ f)) → Gives view value told → Gives (λ y. view (at y)) r told
   shared_gives view (Ok x) (Ok y) told ok err gives = gives ∙ ap (λ (z : X). answered {E = Error} (view z)) (same_value x (at y) ok)
   shared_gives view (Err f) (Ok y) told ok err gives = absurd cc
-  shared_gives view (Ok x) (Err e) told ok err gives = λ memory. absurd (not_memory e err memory)
+  shared_gives view (Ok x) (Err e) told ok err gives = λ memory. let wrong : true ≡ false = ap is_memory (sym err) ∙ memory in absurd cc
   shared_gives view (Err f) (Err e) told ok err gives = rw err gives
 
   pub shared_early : (value : Result X Error) (r : Result Y Error) (told : Option Error) → IfOk r (λ y. value ≡ Ok (at y)) → IfErr r (λ e. MatchResult value (λ _. e ≡ OutOfMemory) (λ f. e ≡ f)) → FaultsFirst value told → FaultsFirst r told

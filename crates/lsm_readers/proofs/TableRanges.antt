@@ -3,7 +3,6 @@ use Rattle.std.proofs.Common.{◌≡◌, ℕ, zero, suc, ◌+◌, ◌≤◌, Boo
 use Rattle.std.specs.Prelude.{IfOk, Option, Some, None, Result, Ok, Err}
 use Rattle.std.specs.declared.ops.Bound.{Bound}
 use Rattle.std.specs.declared.ops.Bound.TheVariants.{Unbounded}
-use Rattle.sst_sections.specs.Sections.{body_of}
 use Rattle.sst_entries.specs.declared.error.Error.{Error}
 use Rattle.sst_entries.specs.declared.error.Error.TheVariants.{OutOfMemory}
 use Rattle.sst_entries.specs.declared.stream.Direction.{Direction}
@@ -17,13 +16,11 @@ use Rattle.sst_entries.proofs.StreamLemmas.{map_reverse}
 use Rattle.sst_blocks.specs.declared.opened.Opened.{Opened}
 use Rattle.sst_blocks.specs.Handle.{Handle}
 use Rattle.lsm_formats.specs.Table.{IsTable}
-use Rattle.lsm_block_indexes.specs.declared.kinds.BlockIndexIterImpl.{BlockIndexIterImpl}
 use Rattle.lsm_block_indexes.specs.Dealt.{DealsEnding, up_to_error}
-use Rattle.lsm_block_indexes.specs.Kinds.{IsReader}
 use Rattle.lsm_block_indexes.specs.Left.{loaded}
 use Rattle.lsm_iters.specs.Bounds.{lower_edge, upper_edge}
 use Rattle.lsm_iters.specs.Lift.{lift, lift_told}
-use Rattle.lsm_iters.specs.Range.{Next, Range, RangeGives, back_next, data_loaded, front_next, index_to_come, left_in, new_range, opened_in, range_left, to_come}
+use Rattle.lsm_iters.specs.Range.{Next, Range, RangeGives, back_next, data_loaded, front_next, index_to_come, left_in, opened_in, range_left, to_come}
 use Rattle.lsm_iters.specs.Rows.{Bounded, rows}
 use Rattle.lsm_iters.proofs.Cuts.{all_within}
 use Rattle.lsm_iters.proofs.Ends.{if_false}
@@ -123,30 +120,6 @@ module _ {A : Type 0} (blocks index : ℕ) where
   along (Back ∷ ends) (r ∷ rs) s t runs held = along ends rs runs.0 t runs.2 (stays back_of back_next s r runs.0 runs.1 held)
 
 -- ---- a range of an opened table
-
-module _ {A : Type 0} where
-  -- before a bound is set
-  pub starts : (t : OpenTable) (body : List ℕ) (g : ℕ) (iter : BlockIndexIterImpl A) → body ≡ body_of t.bytes → g ≡ t.global_seqno → IsReader iter (table_index t) None None → IsRangeOf t Unbounded Unbounded (new_range body g iter)
-  starts t body g iter bytes number reader = record {
-    of = rw (bytes, number) refl;
-    index = reader.index_is;
-    whole = reader.between;
-    unsought = refl;
-    front = refl;
-    back = refl;
-    opened = ap (λ (o : Opened). record o { data_loads = 0 }) reader.opened;
-  }
-
-  -- a bound is set
-  pub from_lower : (t : OpenTable) (low high : Bound (List ℕ)) (old : Bound (List ℕ)) (s u : Range A) → IsRangeOf t old high s → u ≡ record s { of = record s.of { low = low } } → IsRangeOf t low high u
-  from_lower t low high old s u is set =
-      subst (λ (x : Range A). IsRangeOf t low high x) (sym set)
-      (record { of = ap (λ (b : Bounded). record b { low = low }) is.of; index = is.index; whole = is.whole; unsought = is.unsought; front = is.front; back = is.back; opened = is.opened })
-
-  pub to_upper : (t : OpenTable) (low high : Bound (List ℕ)) (old : Bound (List ℕ)) (s u : Range A) → IsRangeOf t low old s → u ≡ record s { of = record s.of { high = high } } → IsRangeOf t low high u
-  to_upper t low high old s u is set =
-      subst (λ (x : Range A). IsRangeOf t low high x) (sym set)
-      (record { of = ap (λ (b : Bounded). record b { high = high }) is.of; index = is.index; whole = is.whole; unsought = is.unsought; front = is.front; back = is.back; opened = is.opened })
 
 module _ {A : Type 0} (t : OpenTable) (low high : Bound (List ℕ)) (s : Range A) (is : IsRangeOf t low high s) where
   abbrev told : List (Result Handle Error)

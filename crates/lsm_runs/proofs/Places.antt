@@ -1,10 +1,11 @@
 -- The tables of a run from one place up to another.
 use Rattle.std.proofs.Common.{◌≡◌, ℕ, zero, suc, ◌+◌, ◌-◌, ◌<◌, ◌≤◌, List, [], ◌∷◌, ◌++◌, drop}
 use Rattle.std.proofs.Common.{get_or, length, take, refl, sym, ap, ◌∙◌, arith}
+use Rattle.std.proofs.lemmas.Option.{slice_get_read, slice_get-get_or}
 use Rattle.std.specs.Prelude.{Option, Some, None}
 use Rattle.std.specs.List.{slice_get}
 use Rattle.sst_entries.specs.Stream.{front_of, back_of}
-use Rattle.lsm_block_indexes.proofs.AtEnds.{back_push, pair}
+use Rattle.lsm_walks.proofs.AtEnds.{back_push}
 use Rattle.lsm_readers.specs.Table.{OpenTable}
 use Rattle.lsm_runs.specs.RunParts.{Part, RunSpan, span_part_at, span_parts_from}
 use Rattle.lsm_runs.specs.RunParts.{span_parts_between}
@@ -48,21 +49,9 @@ module _ {X : Type 0} where
   pub none_between : (xs : List X) (lo hi : ℕ) → lo ≡ hi → take (hi - lo) (drop lo xs) ≡ []
   none_between xs lo hi same = ap (λ (n : ℕ). take n (drop lo xs)) (let e : hi - lo ≡ 0 = omega (arith, same) in e)
 
-  -- what stands at a place
-  pub there : (xs : List X) (i : ℕ) (x : X) → i < length xs → x ≡ get_or xs i x
-      → slice_get xs i ≡ Some x
-  there [] i x less is = absurd (omega (arith, less))
-  there (y ∷ ys) zero x less is = ap (λ (z : X). Some z) (sym is)
-  there (y ∷ ys) (suc i) x less is = there ys i x (omega (arith, less)) is
-
   pub same_there : (xs : List X) (i : ℕ) (x y : X) → i < length xs → x ≡ get_or xs i x
       → slice_get xs i ≡ Some y → x ≡ y
-  same_there xs i x y less is at = let e : Some x ≡ Some y = sym (there xs i x less is) ∙ at in cc
-
-  get_within : (xs : List X) (i : ℕ) → i < length xs → (x : X) × (slice_get xs i ≡ Some x)
-  get_within [] i less = absurd (omega (arith, less))
-  get_within (x ∷ xs) zero less = (x, refl)
-  get_within (x ∷ xs) (suc i) less = get_within xs i (omega (arith, less))
+  same_there xs i x y less is at = let e : Some x ≡ Some y = sym (slice_get_read xs (length xs) i x refl less is) ∙ at in cc
 
 -- the part at a place is that of the table there
 place_of : (s : RunSpan) (k : ℕ) (ts : List OpenTable) (i : ℕ) (t : OpenTable)
@@ -82,9 +71,5 @@ part_there s ts i t e = place_of s 0 ts i t e ∙ ap (λ (n : ℕ). Some (span_p
 -- there is a table at each place
 pub table_at : (ts : List OpenTable) (i : ℕ) → i < length ts → (t : OpenTable)
     × (slice_get ts i ≡ Some t)
-table_at ts i less = get_within ts i less
-
-pub many_at : (s : RunSpan) (k : ℕ) (ts : List OpenTable)
-    → length (span_parts_from s k ts) ≡ length ts
-many_at s k [] = refl
-many_at s k (t ∷ ts) = ap suc (many_at s (suc k) ts)
+table_at [] i less = absurd (omega (arith, less))
+table_at (t ∷ ts) i less = (get_or (t ∷ ts) i t, slice_get-get_or (t ∷ ts) i t less)

@@ -23,10 +23,6 @@ module _ {X Y : Type 0} (f : X → Y) where
   mapped_at (y ∷ ys) zero x there = let same : y ≡ x = cc in ap (λ (z : X). Some (f z)) same
   mapped_at (y ∷ ys) (suc i) x there = mapped_at ys i x there
 
-  pub length_mapped : (xs : List X) → length (map f xs) ≡ length xs
-  length_mapped [] = refl
-  length_mapped (x ∷ xs) = ap suc (length_mapped xs)
-
 -- one more of a list
 pub take_next : {X : Type 0} (xs : List X) (i : ℕ) (x : X) → slice_get xs i ≡ Some x → take (i + 1) xs ≡ take i xs ++ x ∷ []
 take_next {X} xs i x there = ap (λ (n : ℕ). take n xs) (let e : i + 1 ≡ suc i = omega arith in e) ∙ take_push xs i x there

@@ -9,6 +9,7 @@ use Rattle.std.specs.declared.ops.Bound.TheVariants.{Unbounded}
 use Rattle.std.proofs.lemmas.Bool.{cases_Bool, eq-eqb, ne_eqb}
 use Rattle.std.proofs.lemmas.List.{append-nil, map-append}
 use Rattle.std.proofs.lemmas.List.Elements.{filter-append}
+use Rattle.std.proofs.Math.Bool.{and-false}
 use Rattle.sst_entries.specs.Entry.{Entry}
 use Rattle.sst_entries.specs.Key.{key_lt}
 use Rattle.sst_entries.specs.Point.{is_from, is_to, within}
@@ -62,10 +63,6 @@ held_told t es h low high =
     file_rows t.bytes h.stored h.table t.global_seqno pins.pin_filter pins.pin_index t.parts h.opened.short pins.told low high
     ∙ ap (λ (xs : List Entry). ok_results (within low high xs)) (sym h.lifted_is)
 
-and_no : (a : Bool) → (a && false) ≡ false
-and_no true = refl
-and_no false = refl
-
 module _ (low high : Bound (List ℕ)) where
   -- it ends before the lower bound
   all_before : (t : OpenTable) (es : List Entry) → HoldsList t es
@@ -80,7 +77,7 @@ module _ (low high : Bound (List ℕ)) where
       → starts_within high (range_of t) ≡ false → within low high es ≡ []
   all_past t es h e =
       let r = range_of t in
-      let out : (is_from low r.max && is_to high r.min) ≡ false = ap (λ (b : Bool). is_from low r.max && b) e ∙ and_no (is_from low r.max) in
+      let out : (is_from low r.max && is_to high r.min) ≡ false = ap (λ (b : Bool). is_from low r.max && b) e ∙ and-false (is_from low r.max) in
       nothing_within es low high r (held_keys t es h) (none_within r low high (is_from low r.max && is_to high r.min) refl out)
 
   -- it lies within both

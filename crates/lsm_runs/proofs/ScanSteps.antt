@@ -1,7 +1,7 @@
 -- One call of a scanner of a run, and what it deals.
 use Rattle.std.proofs.Common.{◌≡◌, ℕ, suc, ◌-◌, ◌<◌, ◌≤◌, false, List, [], ◌∷◌, ◌++◌, drop, length}
 use Rattle.std.proofs.Common.{take, refl, sym, ap, subst, ◌∙◌, arith, inr}
-use Rattle.std.proofs.lemmas.List.{length-append, length-map, map-append}
+use Rattle.std.proofs.lemmas.List.{length-append, length-map, map-append, nil_from_length}
 use Rattle.std.specs.Prelude.{Option, Some, None, Result, Ok, Err, IfErr, IfOk}
 use Rattle.std.specs.List.{AllByRecursion, flat_map, slice_get}
 use Rattle.std.specs.Result.{IsErrAnd}
@@ -13,10 +13,9 @@ use Rattle.sst_entries.specs.Stream.{but_first, first, front_of, nowhere, ok_res
 use Rattle.sst_blocks.specs.declared.block_type.BlockType.TheVariants.{Data}
 use Rattle.sst_blocks.specs.Block.{load_at_told}
 use Rattle.lsm_block_indexes.specs.Dealt.{DealsEnding}
-use Rattle.lsm_block_indexes.proofs.AtEnds.{first_split}
 use Rattle.lsm_block_indexes.proofs.Dealing.{Ending, deals_ending}
-use Rattle.lsm_block_indexes.proofs.TwoLevels.{no_items}
 use Rattle.lsm_formats.specs.Chunks.{joined}
+use Rattle.lsm_walks.proofs.AtEnds.{first_split}
 use Rattle.lsm_iters.specs.Lift.{lifted}
 use Rattle.lsm_iters.proofs.Ends.{front_split}
 use Rattle.lsm_readers.specs.Scan.{IsNewScan, Scan, ScansNext, fault_of, scan_left, scan_size}
@@ -121,7 +120,7 @@ begins_next o ts lo hi next r is less within each =
 
 used_up : (o : Option Scan) → size_of_scan o ≡ 0 → left_of_scan o ≡ []
 used_up None none = refl
-used_up (Some s) none = no_items (scan_left s) (omega (arith, none))
+used_up (Some s) none = nil_from_length (scan_left s) (omega (arith, none))
 
 -- from s the call has come to u, of which as much is left
 pub record Reached (s u : RunScan) : Type 0 where
@@ -213,7 +212,7 @@ one_within (Some s) = omega arith
 
 nothing : (s : RunScan) → IsRunScanEnded s → run_scan_left s ≡ []
 nothing s ended =
-    no_items (run_scan_left s)
+    nil_from_length (run_scan_left s)
     (omega (arith, ended, no_longer (left_of_scan s.scan ++ behind s), length-append (left_of_scan s.scan) (behind s), one_within s.scan, tables_within s.tables))
 
 ends_by : (s : RunScan) (r : Option R) (t : RunScan) → RunScansNext s r t

@@ -3,7 +3,7 @@ use Rattle.std.proofs.Common.{◌≡◌, refl, sym, ◌∙◌, ap, subst, ℕ, �
 use Rattle.std.specs.Prelude.{All, Option, Some, Result, Ok, ◌&&◌, map}
 use Rattle.std.specs.List.{AllByRecursion, AllZip, slice_get}
 use Rattle.std.specs.declared.ops.Bound.{Bound}
-use Rattle.std.proofs.lemmas.List.{append-nil, take_all}
+use Rattle.std.proofs.lemmas.List.{append-nil, take_all, length-map}
 use Rattle.std.proofs.lemmas.List.Concat.{flat_map-append}
 use Rattle.std.proofs.lemmas.List.Elements.{All-from_recursion}
 use Rattle.std.proofs.lemmas.Simd.{map-map}
@@ -25,7 +25,7 @@ use Rattle.lsm_runs.specs.RunLists.{DealTogether, DealsList, HoldLists, RunsHold
 use Rattle.lsm_runs.specs.RunParts.{range_of}
 use Rattle.lsm_runs.specs.SeveralRuns.{union_in}
 use Rattle.lsm_runs.proofs.Rising.{ascends_of, run_strict, strict_within}
-use Rattle.lsm_runs.proofs.RunLoops.{length_mapped, mapped_at, take_next, zip_at}
+use Rattle.lsm_runs.proofs.RunLoops.{mapped_at, take_next, zip_at}
 use Rattle.lsm_runs.proofs.Unions.{entries_joined, entries_of, no_errors_joined, within_joined, within_sorted}
 
 -- what holds of anything holds of each of a list
@@ -120,7 +120,7 @@ module _ {S X : Type 0} (front back : S → Option R → S → Type 0) (f : X �
 
   pub read_all : (sources : List S) → ReadSoFar sources i → length xs ≤ i → DealTogether front back sources (map (cut low high) lists)
   read_all sources d past =
-      let many : length (map (cut low high) lists) ≤ i = omega (arith, length_mapped (cut low high) lists, AllZip-long Held (map f xs) lists held, length_mapped f xs, past) in
+      let many : length (map (cut low high) lists) ≤ i = omega (arith, length-map lists (cut low high), AllZip-long Held (map f xs) lists held, length-map xs f, past) in
       subst (λ (found : List (List Entry)). DealTogether front back sources found) (take_all i (map (cut low high) lists) many) d
 
   module _ (x : X) (less : i < length xs) (is : x ≡ get_or xs i x) (sources : List S) (d : ReadSoFar sources i) where

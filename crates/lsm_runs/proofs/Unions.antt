@@ -15,9 +15,10 @@ use Rattle.lsm_formats.specs.Chunks.{joined}
 use Rattle.lsm_merge.specs.Ends.{R}
 use Rattle.lsm_merge.specs.Union.{AtMost, Ascends, all_entries, all_errors, entries_among}
 use Rattle.lsm_merge.specs.Union.{errors_among, insert_sorted, item_cmp, sort_entries, union_of}
-use Rattle.lsm_merge.proofs.MergedLemmas.{at_most_chain}
+use Rattle.lsm_merge.proofs.MergedLemmas.{at_most_chain, insert_least}
 use Rattle.lsm_merge.proofs.UnionLemmas.{ascends_in_order}
 use Rattle.sst_entries.proofs.Lists.{all_more}
+use Rattle.lsm_sorted.proofs.NewestLemmas.{filter_keeps}
 use Rattle.lsm_runs.specs.SeveralRuns.{union_in}
 
 -- the entries of lists without errors
@@ -25,25 +26,10 @@ pub entries_of : (es : List Entry) → entries_among (ok_results es) ≡ es
 entries_of [] = refl
 entries_of (e ∷ es) = ap (λ (xs : List Entry). e ∷ xs) (entries_of es)
 
--- an entry that is at most each of some entries stands before them
-pub before_all : (x : Entry) (ys : List Entry) → AllByRecursion (AtMost x) ys
-    → insert_sorted x ys ≡ x ∷ ys
-before_all x [] h = refl
-before_all x (y ∷ ys) h = rw h.0 refl
-
 -- what is above an entry is above each that is at most that one
 all_above : (x y : Entry) → AtMost x y → (ys : List Entry) → AllByRecursion (AtMost y) ys
     → AllByRecursion (AtMost x) ys
 all_above x y e ys up = all_more (AtMost y) (AtMost x) (λ z le. at_most_chain x y z e le) ys up
-
--- what passes a test
-kept_all : (p : Entry → Bool) (x : Entry) (ys : List Entry) → AllByRecursion (AtMost x) ys
-    → AllByRecursion (AtMost x) (filter p ys)
-kept_all p x [] h = tt
-kept_all p x (y ∷ ys) h = elim (cases_Bool (p y)) [
-  | inl e ↦ rw e (h.0, kept_all p x ys h.1)
-  | inr e ↦ rw e (kept_all p x ys h.1)
-]
 
 -- an entry that does not pass is put in for nothing
 put_out : (p : Entry → Bool) (x : Entry) (ys : List Entry) → p x ≡ false
@@ -69,7 +55,7 @@ put_in p x (y ∷ ys) up holds = elim (cases_Bool (is_gt (item_cmp x y))) [
       ]
   | inr e ↦
       let above : AllByRecursion (AtMost x) (y ∷ ys) = (e, all_above x y e ys up.0) in
-      rw (e, holds) (sym (before_all x (filter p (y ∷ ys)) (kept_all p x (y ∷ ys) above)))
+      rw (e, holds) (sym (insert_least x (filter p (y ∷ ys)) (filter_keeps (AtMost x) p (y ∷ ys) above)))
 ]
 
 module _ (low high : Bound (List ℕ)) where

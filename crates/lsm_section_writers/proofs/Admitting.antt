@@ -1,12 +1,14 @@
 -- A key that was given is admitted: by the one filter, or by the first partition whose last key is not below it.
-use Rattle.std.proofs.Common.{◌≡◌, refl, ◌∙◌, ap, sym, subst, ℕ, ◌+◌, ◌*◌, ◌/◌, ◌-◌, ◌^◌, ◌<◌, ◌≤◌, Bool, true, false, cond, List, [], ◌∷◌, ◌++◌, length, append_assoc, length-append, arith}
-use Rattle.std.specs.Prelude.{◌==◌, ◌||◌, not, map, min, max, find, Option, Some, None, Ok}
+use Rattle.std.proofs.Common.{◌≡◌, refl, ◌∙◌, ap, sym, subst, ℕ, ◌+◌, ◌-◌, ◌^◌, ◌<◌, Bool, true, false, cond, List, [], ◌∷◌, ◌++◌, length, append_assoc, length-append, arith}
+use Rattle.std.specs.Prelude.{◌==◌, ◌||◌, not, map, find, Option, Some, None, Ok}
 use Rattle.std.specs.List.{AllByRecursion, flat_map}
 use Rattle.std.proofs.lemmas.Cmp.{nat_eq_equiv}
 use Rattle.std.proofs.lemmas.List.{append-nil, map-append}
+use Rattle.std.proofs.lemmas.Bool.{or_from}
+use Rattle.std.proofs.Math.Bool.{or_assoc}
 use Rattle.sst_entries.specs.Entry.{Entry}
 use Rattle.sst_entries.specs.Key.{key_lt, same_key}
-use Rattle.sst_entries.specs.Strict.{IsStrictAfter, is_before, may_follow}
+use Rattle.sst_entries.specs.Strict.{IsStrictAfter, may_follow}
 use Rattle.sst_entries.proofs.Booleans.{apart, is_false, or_right}
 use Rattle.sst_entries.proofs.KeyLemmas.{le_itself, same_is}
 use Rattle.sst_entries.proofs.OrderLemmas.{lt_trans}
@@ -20,10 +22,8 @@ use Rattle.sst_blocks.specs.declared.block_type.BlockType.TheVariants.{Filter}
 use Rattle.sst_blocks.specs.Block.{load_told}
 use Rattle.sst_blocks.specs.Handle.{Handle}
 use Rattle.sst_blocks.proofs.BlockLaws.{built_load}
-use Rattle.sst_blocks.proofs.Reaching.{above_reaches, reaches_after}
 use Rattle.sst_filters.specs.declared.policy.BloomConstructionPolicy.{BloomConstructionPolicy}
 use Rattle.sst_filters.specs.Filter.{BloomFilter, IsBuilt, admits, filter_in, is_in, payload_of}
-use Rattle.sst_filters.specs.Policy.{tenths_of}
 use Rattle.sst_filters.proofs.Probes.{admits_its_hashes}
 use Rattle.lsm_formats.proofs.BlockLengths.{length-block}
 use Rattle.lsm_formats.specs.declared.options.FilterKind.{FilterKind}
@@ -33,6 +33,8 @@ use Rattle.lsm_formats.specs.Fits.{SectionFits}
 use Rattle.lsm_formats.specs.Layout.{Sections, appended}
 use Rattle.lsm_formats.specs.Partitions.{handles_block, tops_from}
 use Rattle.lsm_formats.specs.Parts.{joined_parts}
+use Rattle.lsm_formats.proofs.FilterLaws.{is_built}
+use Rattle.lsm_formats.proofs.KeyLaws.{before_is}
 use Rattle.lsm_section_writers.specs.Answering.{FirstSaysYes, IsAdmitted, SaysYes, TopLevelSaysYes, is_among, was_given}
 use Rattle.lsm_section_writers.specs.Given.{GivenKeys, IsSomePart, KeyPart, all_keys, keys_in, parts_of, rest_keys}
 use Rattle.lsm_section_writers.specs.Held.{AreFiltersOf}
@@ -42,45 +44,33 @@ use Rattle.lsm_section_writers.proofs.RisingLaws.{above_last, strict_front, stri
 
 -- ---- keys of a list
 
-lt_is : (a b : List ℕ) → is_before (end_entry a) (end_entry b) ≡ key_lt a b
-lt_is a b =
-    let end : Handle = record { end_key = b; seqno = 0; offset = 0; size = 0 } in
-    sym (above_reaches a end ∙ reaches_after a 0 end)
-
 -- a key that is greater is another
 lt_apart : (k key : List ℕ) → key_lt k key ≡ true → same_key k key ≡ false
 lt_apart k key h = is_false (same_key k key) (λ same. apart (key_lt k key) h (subst (λ (x : List ℕ). key_lt k x ≡ false) (same_is k key same) (le_itself k)))
 
-or_falses : (a b : Bool) → a ≡ false → b ≡ false → (a || b) ≡ false
-or_falses a b x y = rw (x, y) refl
-
 -- a part whose last key is below a key has it not
 lacks : (last : Option Entry) (ks : List (List ℕ)) (key : List ℕ) → IsStrictAfter last (map end_entry ks) → key_lt (last_of_keys ks) key ≡ true → is_among ks key ≡ false
 lacks last [] key strict h = refl
-lacks last (k ∷ []) key strict h = or_falses (same_key k key) false (lt_apart k key h) refl
+lacks last (k ∷ []) key strict h = or_from (same_key k key) false (lt_apart k key h) refl
 lacks last (k ∷ l ∷ ks) key strict h =
     let rest = (strict_parts last (end_entry k) (map end_entry (l ∷ ks)) strict).1 in
     let over = above_last (Some (end_entry k)) (l ∷ ks) [] (omega arith) (subst (λ (xs : List (List ℕ)). IsStrictAfter (Some (end_entry k)) (map end_entry xs)) (sym (append-nil (l ∷ ks))) rest) in
-    let up : key_lt k (last_of_keys (l ∷ ks)) ≡ true = sym (lt_is k (last_of_keys (l ∷ ks))) ∙ over.0 in
-    or_falses (same_key k key) (is_among (l ∷ ks) key) (lt_apart k key (lt_trans k (last_of_keys (l ∷ ks)) key up h)) (lacks (Some (end_entry k)) (l ∷ ks) key rest h)
+    let up : key_lt k (last_of_keys (l ∷ ks)) ≡ true = before_is k (last_of_keys (l ∷ ks)) ∙ over.0 in
+    or_from (same_key k key) (is_among (l ∷ ks) key) (lt_apart k key (lt_trans k (last_of_keys (l ∷ ks)) key up h)) (lacks (Some (end_entry k)) (l ∷ ks) key rest h)
 
 -- and so do the keys behind one that is not below it
 lacks_behind : (end : List ℕ) (ks : List (List ℕ)) (key : List ℕ) → IsStrictAfter (Some (end_entry end)) (map end_entry ks) → key_lt end key ≡ false → is_among ks key ≡ false
 lacks_behind end [] key strict h = refl
 lacks_behind end (k ∷ ks) key strict h =
     let a = strict_parts (Some (end_entry end)) (end_entry k) (map end_entry ks) strict in
-    let up : key_lt end k ≡ true = sym (lt_is end k) ∙ a.0 in
+    let up : key_lt end k ≡ true = before_is end k ∙ a.0 in
     let other : same_key k key ≡ false = is_false (same_key k key) (λ same. apart (key_lt end key) (subst (λ (x : List ℕ). key_lt end x ≡ true) (same_is k key same) up) h) in
     let later : key_lt k key ≡ false = is_false (key_lt k key) (λ less. apart (key_lt end key) (lt_trans end k key up less) h) in
-    or_falses (same_key k key) (is_among ks key) other (lacks_behind k ks key a.1 later)
+    or_from (same_key k key) (is_among ks key) other (lacks_behind k ks key a.1 later)
 
 among_append : (xs ys : List (List ℕ)) (key : List ℕ) → is_among (xs ++ ys) key ≡ (is_among xs key || is_among ys key)
 among_append [] ys key = refl
-among_append (x ∷ xs) ys key = ap (λ (b : Bool). same_key x key || b) (among_append xs ys key) ∙ or_assoc (same_key x key) (is_among xs key) (is_among ys key)
-  where
-    or_assoc : (a b c : Bool) → (a || (b || c)) ≡ ((a || b) || c)
-    or_assoc true b c = refl
-    or_assoc false b c = refl
+among_append (x ∷ xs) ys key = ap (λ (b : Bool). same_key x key || b) (among_append xs ys key) ∙ sym (or_assoc (same_key x key) (is_among xs key) (is_among ys key))
 
 or_first : (a b : Bool) → (a || b) ≡ true → b ≡ false → a ≡ true
 or_first true b h none = refl
@@ -101,20 +91,6 @@ hash_in (k ∷ ks) key h =
     ] refl
 
 -- ---- one filter
-
-few : (n : ℕ) → (1 ≤ min 30 (max 1 n)) × (min 30 (max 1 n) ≤ 30)
-few n = (omega arith, omega arith)
-
-wide : (n : ℕ) → 8 ≤ min (2 ^ 64 - 1) (max 8 n)
-wide n = omega arith
-
-is_built : (policy : BloomConstructionPolicy) (keys : List (List ℕ)) (f : BloomFilter) → IsFilterFor policy keys f → 25 + length f.bits < 2 ^ 32 → IsBuilt f
-is_built policy keys f is short = record {
-  some = rw (is.probes) ((few (tenths_of policy * 69 / 1000)).0);
-  few = rw (is.probes) ((few (tenths_of policy * 69 / 1000)).1);
-  wide = rw (is.size) (wide ((length keys * tenths_of policy + 79) / 80));
-  short = short;
-}
 
 -- its block loads, wherever it lies
 filter_loads : (v : TableVersion) (f : BloomFilter) (pre post body : List ℕ) (offset size : ℕ) → IsBuilt f → offset ≡ length pre → size ≡ 24 + length (payload_of f) → body ≡ pre ++ filter_block v f ++ post →

@@ -25,6 +25,7 @@ use Rattle.sst_entries.specs.Strict.{IsStrict}
 use Rattle.sst_entries.specs.declared.error.Error.{Error}
 use Rattle.sst_entries.specs.declared.error.Error.TheVariants.{KeyTooLong, SectionTooLarge, WriterFailed}
 use Rattle.std.proofs.lemmas.Bool.Decides.{nat_tests}
+use Rattle.std.proofs.lemmas.Bool.{lt-leb}
 use Rattle.std.specs.Option.{option_or}
 use Rattle.lsm_formats.specs.Failed.{failed_fault}
 use Rattle.lsm_section_writers.specs.Given.{GivenKeys, IsSomePart, KeyPart, given_by, keys_in, no_keys, parts_of}
@@ -439,10 +440,7 @@ finish_large v size policy b given failed works rest h same same' bound le =
 
 -- the top level, where the section fits
 section_fits : (n : ℕ) → n < 2 ^ 32 → section_fault n ≡ None
-section_fits n lt = ap (λ (b : Bool). if b then Some SectionTooLarge else None) (small n lt)
-  where
-    small : (n : ℕ) → n < 2 ^ 32 → nat_le (2 ^ 32) n ≡ false
-    small n lt = grind (arith, nat_tests, lt)
+section_fits n lt = ap (λ (b : Bool). if b then Some SectionTooLarge else None) (lt-leb (2 ^ 32) n lt)
 
 pub finish_told : (v : CutParts) (size : ℕ) (policy : BloomConstructionPolicy) (cs : List CutPart) (b : ℕ) (given : GivenKeys) (failed : Bool) →
     failed ≡ false → keys_fault policy given.pending ≡ None → HoldsAll v given → v.policy ≡ policy → v.size ≡ size → cs ≡ v.parts → b ≡ v.bound → b < 2 ^ 32 →

@@ -2,6 +2,7 @@
 use Rattle.std.proofs.Common.{◌≡◌, refl, ap, ℕ, ◌+◌, ◌*◌, ◌^◌, ◌<◌, ◌≤◌, nat_le, Bool, true, false, inl, inr, List, [], ◌∷◌, ◌++◌, length, Option, Some, None, length-append, arith}
 use Rattle.std.specs.Prelude.{if◌then◌else◌}
 use Rattle.std.proofs.lemmas.Bool.Decides.{nat_tests}
+use Rattle.std.proofs.lemmas.Bool.{lt-leb}
 use Rattle.sst_entries.specs.declared.error.Error.{Error}
 use Rattle.sst_entries.specs.declared.error.Error.TheVariants.{BlockTooLarge}
 use Rattle.sst_filters.specs.Policy.{bound_for, fault_for, size_for, tenths_of}
@@ -15,10 +16,7 @@ use Rattle.lsm_section_writers.specs.FilterRefusing.{cut_fault, partition_size, 
 use Rattle.lsm_section_writers.proofs.CutLaws.{Waits, waits_after}
 
 no_fault : (b : ℕ) → b < 2 ^ 32 → (if nat_le (2 ^ 32) b then Some BlockTooLarge else None) ≡ None
-no_fault b lt = ap (λ (t : Bool). if t then Some BlockTooLarge else None) (small b lt)
-  where
-    small : (b : ℕ) → b < 2 ^ 32 → nat_le (2 ^ 32) b ≡ false
-    small b lt = grind (arith, nat_tests, lt)
+no_fault b lt = ap (λ (t : Bool). if t then Some BlockTooLarge else None) (lt-leb (2 ^ 32) b lt)
 
 -- the filter of one key, and that of one key more than do not fill a part
 first_bound : (t : ℕ) → t < 2 ^ 32 → bound_for t 1 < 2 ^ 32

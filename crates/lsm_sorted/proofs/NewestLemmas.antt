@@ -39,11 +39,11 @@ settle_ok : (x : Entry) (ys : List Entry) → settle x (ok_results ys) ≡ (Some
 settle_ok x [] = refl
 settle_ok x (y ∷ ys) = refl
 
-filter_keeps : (P : Entry → Type 0) (p : Entry → Bool) (xs : List Entry) → AllByRecursion P xs → AllByRecursion P (filter p xs)
+pub filter_keeps : (P : Entry → Type 0) (p : Entry → Bool) (xs : List Entry) → AllByRecursion P xs → AllByRecursion P (filter p xs)
 filter_keeps P p [] h = tt
 filter_keeps P p (x ∷ xs) h = elim (p x) as (λ b. AllByRecursion P (cond b (x ∷ filter p xs) (filter p xs))) [ true ↦ (h.0, filter_keeps P p xs h.1) | false ↦ filter_keeps P p xs h.1 ]
 
-newest_keeps : (P : Entry → Type 0) (xs : List Entry) → AllByRecursion P xs → AllByRecursion P (newest xs)
+pub newest_keeps : (P : Entry → Type 0) (xs : List Entry) → AllByRecursion P xs → AllByRecursion P (newest xs)
 newest_keeps P [] h = tt
 newest_keeps P (x ∷ xs) h = (h.0, filter_keeps P (not_of x.user_key) (newest xs) (newest_keeps P xs h.1))
 

@@ -11,6 +11,7 @@ use Rattle.std.specs.declared.cmp.Ordering.{Ordering}
 use Rattle.std.specs.declared.cmp.Ordering.TheVariants.{Less, Equal, Greater}
 use Rattle.std.proofs.lemmas.Bool.Decides.{nat_tests}
 use Rattle.std.proofs.lemmas.List.Sums.{sum_by-cons}
+use Rattle.std.proofs.lemmas.Bool.{lt-ltb}
 use Rattle.sst_entries.specs.Entry.{Entry}
 use Rattle.sst_entries.specs.Kind.{tag_of, is_weak_kind}
 use Rattle.sst_entries.specs.Key.{same_key, key_lt}
@@ -212,9 +213,6 @@ at_most_lower a q y h k = grind (arith, nat_tests)
 at_most_upper : (a q y : ℕ) → nat_lt a q ≡ false → y ≤ q → y ≤ a
 at_most_upper a q y h k = grind (arith, nat_tests)
 
-is_lower : (a q : ℕ) → a < q → nat_lt a q ≡ true
-is_lower a q h = grind (arith, nat_tests)
-
 module _ (key : List ℕ) (bound : ℕ) where
   hit_key : (x : Entry) → is_hit key bound x ≡ true → x.user_key ≡ key
   hit_key x h = same_is x.user_key key (and_parts (same_key x.user_key key) (nat_lt x.seqno bound) h).0
@@ -318,7 +316,7 @@ module _ (key : List ℕ) (bound : ℕ) where
         let ain = point_in xs a ex in
         let qin = point_in ys q ey in
         let less : a.seqno < q.seqno = all_in (λ z. a.user_key ≡ z.user_key → a.seqno < z.seqno) ys q (all_in (λ w. AllByRecursion (λ z. w.user_key ≡ z.user_key → w.seqno < z.seqno) ys) xs a newer ain.0) qin.0 (hit_key a ain.1 ∙ sym (hit_key q qin.1)) in
-        ap (λ (b : Bool). cond b (Some q) (Some a)) (is_lower a.seqno q.seqno less)
+        ap (λ (b : Bool). cond b (Some q) (Some a)) (lt-ltb a.seqno q.seqno less)
   ] refl
 
   -- where nothing goes or becomes 0, a reader at the watermark or above hits the same entry

@@ -1,5 +1,5 @@
 -- Runs side by side of which a part is compacted, and what is read of them.
-use Rattle.std.proofs.Common.{◌≡◌, refl, sym, ◌∙◌, ap, subst, ℕ, ◌+◌, ◌<◌, ◌≤◌, List, [], ◌∷◌, ◌++◌}
+use Rattle.std.proofs.Common.{◌≡◌, sym, ◌∙◌, ap, subst, ℕ, ◌+◌, ◌<◌, ◌≤◌, List, [], ◌∷◌, ◌++◌}
 use Rattle.std.proofs.Common.{get_or, length, take, append_assoc, append-nil}
 use Rattle.std.specs.Prelude.{Option, Some, None, Result, Ok, Err, IfOk, MatchOption, map, ◌⊎◌}
 use Rattle.std.specs.List.{AllZip}
@@ -15,13 +15,11 @@ use Rattle.lsm_sorted.specs.declared.compaction.Rules.{Rules}
 use Rattle.lsm_sorted.specs.Point.{shown}
 use Rattle.lsm_sorted.specs.ReadLaw.{AllNewer, IsPlain}
 use Rattle.lsm_compactions.specs.Chain.{IsRunOfList}
-use Rattle.lsm_compactions.specs.Compacted.{kept_in}
 use Rattle.lsm_compactions.specs.PartReads.{HoldSides, ReadsKept, ReadsOf, ShowAlike}
 use Rattle.lsm_compactions.specs.ReadsCompacted.{PointsStay, RangesStay, SideBySide, joined_in}
 use Rattle.lsm_runs.specs.RunLists.{HoldLists, RunsHoldLists}
 use Rattle.lsm_runs.specs.RunParts.{range_of}
 use Rattle.lsm_runs.specs.SeveralRuns.{union_in}
-use Rattle.lsm_runs.proofs.RunReads.{found_is}
 use Rattle.lsm_compactions.proofs.CompactedBack.{lift_zero}
 use Rattle.lsm_compactions.proofs.RunBack.{run_held}
 
@@ -87,9 +85,6 @@ made_result f items es run (Ok v) is alone = made_of f es run (items v) is alone
 made_result f items es run (Err e) is alone = tt
 
 -- ---- reads before and after
-
-pub value_found : (told found : Option Entry) → found_is told ≡ found_is found → found ≡ told
-value_found told found is = cc
 
 pub same_bounds : {S : Type 0} (front back : S → Option (Result Entry Error) → S → Type 0)
     (key : List ℕ) (bound : ℕ) (low low' high high' : Bound (List ℕ)) (es : List Entry)

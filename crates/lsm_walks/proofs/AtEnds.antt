@@ -168,7 +168,7 @@ module _ {X Y : Type 0} (f : X → Y) where
 
 -- ---- a step of a window in a list
 
-not_memory : (e : Error) → e ≡ OutOfMemory → is_memory e ≡ false → ⊥
+pub not_memory : (e : Error) → e ≡ OutOfMemory → is_memory e ≡ false → ⊥
 not_memory e is fine = let wrong : true ≡ false = sym (ap is_memory is) ∙ fine in absurd cc
 
 span_answer : {X : Type 0} (at : Direction) (s t : Span X) (r : Option (Result X Error)) → SpanGives (taken_at at) s r t → StepAnswers at (span_remains s) r (span_remains t)

@@ -1,11 +1,7 @@
 -- The tables that a writer of many tables answers.
-use Rattle.std.proofs.Common.{◌≡◌, refl, sym, ◌∙◌, ap, subst, ℕ, ◌<◌, Bool, true, false, List, [], ◌∷◌, ◌++◌, length, append-nil, arith}
+use Rattle.std.proofs.Common.{◌≡◌, refl, sym, ◌∙◌, ap, subst, ℕ, Bool, true, false, List, [], ◌∷◌, ◌++◌, length, append-nil, arith}
 use Rattle.std.specs.Prelude.{Option, Some, None, MatchOption, not}
 use Rattle.std.specs.Option.{option_to_list}
-use Rattle.std.specs.declared.cmp.Ordering.{Ordering}
-use Rattle.std.specs.declared.cmp.Ordering.TheVariants.{Less, Equal, Greater}
-use Rattle.std.specs.Ordering.{nat_cmp, is_lt, is_eq, ordering_then}
-use Rattle.std.specs.Cmp.Lexicographic.{slice_cmp, texts_ties}
 use Rattle.std.proofs.lemmas.List.{length-map}
 use Rattle.std.proofs.lemmas.List.Concat.{flat_map-append}
 use Rattle.sst_entries.specs.declared.error.Error.{Error}
@@ -18,9 +14,10 @@ use Rattle.lsm_formats.specs.Chunks.{is_full, joined}
 use Rattle.lsm_formats.specs.Facts.{starts_key}
 use Rattle.lsm_formats.specs.Failed.{failed_fault}
 use Rattle.lsm_formats.specs.Index.{last_entry}
+use Rattle.lsm_formats.proofs.KeyLaws.{key_above}
 use Rattle.lsm_writers.specs.declared.writer.FinishedTable.{FinishedTable}
 use Rattle.lsm_writers.specs.Cut.{rest_chunk}
-use Rattle.lsm_writers.specs.Tables.{AddsTable, AreCuts, AreFinished, AreInKeyOrder, AreTables, GoesOn, all_written, apart, first_label, gained_all, label_before, list_in, lists_in, run_fault, tables_of}
+use Rattle.lsm_writers.specs.Tables.{AddsTable, AreCuts, AreFinished, AreInKeyOrder, AreTables, GoesOn, all_written, first_label, gained_all, label_before, list_in, lists_in, run_fault, tables_of}
 use Rattle.lsm_writers.specs.Writing.{IsFinished, Writing, finish_fault, fresh_writing, gained, written}
 use Rattle.lsm_writers.proofs.Finishing.{nothing_behind}
 use Rattle.lsm_writers.proofs.Chunking.{joined_rest}
@@ -29,16 +26,9 @@ use Rattle.lsm_writers.proofs.Orders.{last_of_cons, strict_back}
 use Rattle.lsm_writers.proofs.Refused.{none_some}
 use Rattle.lsm_writers.proofs.Rotating.{all_finished}
 use Rattle.lsm_writers.proofs.Turning.{state_of}
+use Rattle.lsm_writers.proofs.CutTables.{some_length}
 
 -- ---- the order of their keys
-
-lt_first : (o p : Ordering) → is_lt (ordering_then o p) ≡ true → is_eq o ≡ false → is_lt o ≡ true
-lt_first Less p h apart = refl
-lt_first Equal p h apart = absurd cc
-lt_first Greater p h apart = absurd cc
-
-key_above : (a b : Entry) → is_before a b ≡ true → same_key a.user_key b.user_key ≡ false → key_lt a.user_key b.user_key ≡ true
-key_above a b h other = lt_first (slice_cmp nat_cmp a.user_key b.user_key) _ h (sym (texts_ties a.user_key b.user_key) ∙ other)
 
 -- the first entry behind a list has a greater key, where it has another
 below_first : (before : Option Entry) (x : Entry) (xs : List Entry) (e : Entry) (es : List Entry) → IsStrictAfter before ((x ∷ xs) ++ e ∷ es) → starts_key (last_of None (x ∷ xs)) e ≡ true → key_lt (last_entry (x ∷ xs)).user_key e.user_key ≡ true
@@ -64,10 +54,6 @@ in_order size target before ((x ∷ xs) ∷ (e ∷ es) ∷ ts) cuts strict = (
 
 pub joined_all : (ts : List (List Entry)) (t : List Entry) → joined (ts ++ rest_chunk t) ≡ joined ts ++ t
 joined_all ts t = flat_map-append (λ (x : List Entry). x) ts (rest_chunk t) ∙ ap (λ (x : List Entry). joined ts ++ x) (joined_rest t)
-
-some_length : (es : List Entry) → (es ≡ [] → ⊥) → 0 < length es
-some_length [] some = absurd (some refl)
-some_length (x ∷ es) some = omega arith
 
 failed_by : (w : Writing) (e : Entry) (full : Bool) → is_full w.options.data_block_size (w.pending ++ e ∷ []) ≡ full → (gained w e).failed ≡ w.failed
 failed_by w e true h = rw h refl

@@ -4,7 +4,7 @@ use Rattle.std.specs.Prelude.{◌==◌, ◌||◌}
 use Rattle.std.specs.List.{AllByRecursion}
 use Rattle.std.proofs.lemmas.List.{take_all, append-nil}
 use Rattle.std.proofs.lemmas.List.Concat.{flat_map-append}
-use Rattle.std.proofs.lemmas.Bool.{eq-eqb, ne_eqb}
+use Rattle.std.proofs.lemmas.Bool.{eq-eqb, ne_eqb, or_from}
 use Rattle.sst_entries.specs.Entry.{Entry}
 use Rattle.sst_entries.proofs.Booleans.{or_right}
 use Rattle.lsm_formats.specs.Chunks.{joined, is_full, is_spilled, ends_after, IsChunk, Ends, AreChunksFrom, AreChunks}
@@ -32,10 +32,6 @@ or_true : (a b : Bool) → a ≡ true → (a || b) ≡ true
 or_true true b h = refl
 or_true false b h = absurd cc
 
-both_false : (a b : Bool) → a ≡ false → b ≡ false → (a || b) ≡ false
-both_false true b h k = absurd cc
-both_false false b h k = k
-
 -- a chunk that is full, or has an early end
 ended : (b : Bool) (size : ℕ) (S : List ℕ) (at : ℕ) (c : List Entry) (E : List ℕ) → is_full size c ≡ b → is_spilled S (at + length c) ≡ is_spilled (cond b E ((at + length c) ∷ E)) (at + length c) → ends_after size S at c (length c) ≡ true
 ended true size S at c E f h = or_true _ _ (ap (is_full size) (take_all (length c) c (omega arith)) ∙ f)
@@ -60,7 +56,7 @@ chunks_from size S at (c ∷ cs) last h same end =
       shortest = λ n pos' lt.
           let past : (at' == at + n) ≡ false = ne_eqb _ _ (λ e. omega (arith, e, lt)) in
           let none : is_spilled S (at + n) ≡ false = same (at + n) (omega (arith, pos')) ∙ skip (is_full size c) E at' (at + n) past ∙ none_before size at' cs (at + n) h.1 (omega (arith, lt)) in
-          both_false _ _ (h.0.shortest n pos' lt) none;
+          or_from _ _ (h.0.shortest n pos' lt) none;
     } in
     let ended' : ends_after size S at c (length c) ≡ true = ended (is_full size c) size S at c E refl (same at' pos) in
     let same' = λ (p : ℕ) (lt : at' < p). same p (omega (arith, lt)) ∙ skip (is_full size c) E at' p (ne_eqb _ _ (λ e. omega (arith, e, lt))) in
@@ -69,7 +65,7 @@ chunks_from size S at (c ∷ cs) last h same end =
 last_chunk : (size : ℕ) (S : List ℕ) (at : ℕ) (pending : List Entry) → ((n : ℕ) → 0 < n → n < length pending → is_full size (take n pending) ≡ false) → ((p : ℕ) → at < p → is_spilled S p ≡ false) → AreChunksFrom size S at (rest_chunk pending)
 last_chunk size S at [] f none = tt
 last_chunk size S at (e ∷ es) f none =
-    (record { some = omega arith; shortest = λ n pos lt. both_false _ _ (f n pos lt) (none (at + n) (omega (arith, pos))) }, tt, tt)
+    (record { some = omega arith; shortest = λ n pos lt. or_from _ _ (f n pos lt) (none (at + n) (omega (arith, pos))) }, tt, tt)
 
 pub joined_rest : (es : List Entry) → joined (rest_chunk es) ≡ es
 joined_rest [] = refl

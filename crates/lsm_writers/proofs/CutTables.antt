@@ -82,7 +82,7 @@ record Filled (size : ℕ) (w : Writing) : Type 0 where
   cuts : AllByRecursion (λ (c : List Entry). is_full size c ≡ true) w.cut
   rest : IsUnfilled size w.pending
 
-unfilled : (size : ℕ) (es : List Entry) → is_full size es ≡ false → IsUnfilled size es
+pub unfilled : (size : ℕ) (es : List Entry) → is_full size es ≡ false → IsUnfilled size es
 unfilled size [] h = tt
 unfilled size (e ∷ es) h = h
 
@@ -139,6 +139,10 @@ snoc_split (x ∷ a) b (y ∷ t) e h =
 pub no_end : (es : List Entry) (e : Entry) → es ++ e ∷ [] ≡ [] → ⊥
 no_end [] e h = cc
 no_end (x ∷ es) e h = cc
+
+pub some_length : (es : List Entry) → (es ≡ [] → ⊥) → 0 < length es
+some_length [] some = absurd (some refl)
+some_length (x ∷ es) some = omega arith
 
 apart_nil : (a : List Entry) → apart a [] ≡ true → ⊥
 apart_nil [] h = cc

@@ -6,7 +6,6 @@ use Rattle.std.proofs.lemmas.List.{take_at, drop_at, append-nil}
 use Rattle.std.proofs.lemmas.List.Concat.{flat_map-append}
 use Rattle.std.proofs.lemmas.List.Sums.{sum_by-append, sum_by-cons}
 use Rattle.std.specs.Option.{option_map}
-use Rattle.sst_sections.specs.declared.version.TableVersion.{TableVersion}
 use Rattle.sst_sections.specs.declared.version.TableVersion.TheVariants.{V4}
 use Rattle.sst_blocks.specs.declared.block_type.BlockType.TheVariants.{Data as DataKind}
 use Rattle.sst_sections.specs.declared.section.SectionName.TheVariants.{Data}
@@ -30,6 +29,7 @@ use Rattle.lsm_formats.specs.Facts.{last_key}
 use Rattle.lsm_formats.specs.Fits.{BlockFits}
 use Rattle.lsm_formats.specs.Index.{data_block, data_section, handles, handles_from, handle_of, block_size, last_entry}
 use Rattle.sst_entries.proofs.Lists.{all_append, all_more}
+use Rattle.lsm_formats.proofs.FactLaws.{length-handles}
 use Rattle.lsm_writers.proofs.Orders.{last_of-append, last_of_cons, HasSome, handles_strict}
 
 -- what a header says of the length
@@ -61,10 +61,6 @@ chunks_again (c ∷ cs) rest h =
     let head : unwrap_or (entries_in V4 (take (data_len bytes) (drop 24 bytes))) [] ≡ c = rw (n, past_header p more, take_at p more (length p) refl, h.0.reads) refl in
     let tail : drop (24 + data_len bytes) bytes ≡ more = rw n (drop_at (data_block V4 c) more (24 + length p) (block_len c)) in
     ap (chunks_in V4 (suc (length cs))) at ∙ (ap (λ (x : List Entry). x ∷ chunks_in V4 (length cs) (drop (24 + data_len bytes) bytes)) head ∙ ap (λ (x : List ℕ). c ∷ chunks_in V4 (length cs) x) tail ∙ ap (λ (x : List (List Entry)). c ∷ x) (chunks_again cs rest h.1))
-
-pub length-handles : (v : TableVersion) (at : ℕ) (cs : List (List Entry)) → length (handles_from v at cs) ≡ length cs
-length-handles v at [] = refl
-length-handles v at (c ∷ cs) = ap (λ (n : ℕ). suc n) (length-handles v (at + block_size v c) cs)
 
 -- the handle of one block more
 handles_more_from : (at : ℕ) (cs : List (List Entry)) (c : List Entry) → handles_from V4 at (cs ++ c ∷ []) ≡ handles_from V4 at cs ++ handle_of V4 (at + length (data_section V4 cs)) c ∷ []

@@ -1,6 +1,6 @@
 -- The list of a finished table is read back from its bytes.
 use Rattle.std.proofs.Common.{◌≡◌, refl, sym, ◌∙◌, ap, subst, ℕ, zero, suc, ◌+◌, ◌<◌, ◌≤◌, ◌^◌, false, List, [], ◌∷◌, ◌++◌, length, take, drop, append_assoc, arith, length-append}
-use Rattle.std.specs.Prelude.{Option, Some, None, unwrap_or, slice_index, ◌==◌}
+use Rattle.std.specs.Prelude.{Some, None, unwrap_or, slice_index, ◌==◌}
 use Rattle.std.specs.List.{AllByRecursion, flat_map}
 use Rattle.std.proofs.lemmas.List.{take_at, drop_at}
 use Rattle.sst_sections.specs.declared.version.TableVersion.TheVariants.{V4}
@@ -14,8 +14,9 @@ use Rattle.sst_blocks.specs.Payload as written
 use Rattle.sst_blocks.specs.Reading.{entries_in}
 use Rattle.sst_blocks.proofs.Entries.{entries_read, length-spelled}
 use Rattle.sst_entries.specs.Entry.{Entry}
-use Rattle.sst_entries.specs.Strict.{IsStrictAfter, IsStrict}
+use Rattle.sst_entries.specs.Strict.{IsStrict}
 use Rattle.sst_entries.proofs.Lists.{all_front, all_behind}
+use Rattle.sst_entries.proofs.Strictness.{strict_alone}
 use Rattle.lsm_formats.specs.Chunks.{joined}
 use Rattle.lsm_formats.specs.File.{index_part, filter_part, closing_sections, sections_of}
 use Rattle.lsm_formats.specs.Fits.{BlockFits, EntryFits}
@@ -52,16 +53,11 @@ gives_back c fits strict short = record {
   short = omega (arith, short.short);
 }
 
-from_first : (before : Option Entry) (es : List Entry) → IsStrictAfter before es → IsStrict es
-unfolding IsStrictAfter
-from_first before [] h = tt
-from_first before (e ∷ es) h = (refl, h.1)
-
 give_back : (cs : List (List Entry)) → AllByRecursion (EntryFits V4) (joined cs) → IsStrict (joined cs) → AllByRecursion (BlockFits V4) cs → AllByRecursion GivesBack cs
 give_back [] fits strict short = tt
 give_back (c ∷ cs) fits strict short = (
   gives_back c (all_front (EntryFits V4) c (joined cs) fits) (strict_front None c (joined cs) strict) short.0,
-  give_back cs (all_behind (EntryFits V4) c (joined cs) fits) (from_first _ (joined cs) (strict_back None c (joined cs) strict)) short.1,
+  give_back cs (all_behind (EntryFits V4) c (joined cs) fits) (strict_alone _ (joined cs) (strict_back None c (joined cs) strict)) short.1,
 )
 
 -- the data blocks at the front of some bytes, behind which another kind begins

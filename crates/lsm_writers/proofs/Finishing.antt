@@ -54,7 +54,7 @@ use Rattle.lsm_formats.specs.Failed.{failed_fault}
 use Rattle.lsm_writers.specs.Writing.{Writing, written, spilled, blocks_of, content_of, keys_of_parts, spills_of, cut_writing, sections_fault, finish_fault, IsFinished, WritesTable}
 use Rattle.lsm_writers.proofs.Chunking.{are_chunks}
 use Rattle.sst_entries.proofs.Lists.{all_more, all_behind, all_front}
-use Rattle.lsm_writers.proofs.Orders.{last_of_cons}
+use Rattle.lsm_writers.proofs.Orders.{last_of_cons, nothing_last}
 use Rattle.lsm_writers.proofs.Filtered.{no_keys, no_filter_fault}
 use Rattle.lsm_writers.proofs.Taking.{no_fault}
 
@@ -113,12 +113,8 @@ pub first_short : (es : List Entry) → AllByRecursion (EntryFits V4) es → len
 first_short [] h = omega arith
 first_short (e ∷ es) h = h.0.key
 
-last_nothing : last_of None [] ≡ None
-unfolding last_of
-last_nothing = refl
-
 pub last_short : (es : List Entry) → AllByRecursion (EntryFits V4) es → length (unwrap_or (last_key es) []) ≤ 1048576
-last_short [] h = rw last_nothing (omega arith)
+last_short [] h = rw nothing_last (omega arith)
 last_short (e ∷ es) h = rw (last_of_cons None e es) (last_all (EntryFits V4) e es h).key
 
 pub counted_strict : {A : Type 0} (label : Label) (options : Options) (counts : Blocks) (m : Metadata A) → IsStrict (counted_items label options counts m)

@@ -19,7 +19,7 @@ use Rattle.lsm_section_writers.specs.FilterRefusing.{filter_fault}
 use Rattle.lsm_section_writers.specs.IndexRefusing.{index_fault}
 use Rattle.lsm_writers.specs.declared.writer.FinishedTable.{FinishedTable}
 use Rattle.lsm_writers.specs.Cut.{rest_chunk}
-use Rattle.lsm_writers.specs.Tables.{FitsBehind, GoesOn, HasRoomFor, filling, gained_all, ids_fault, is_due, rotation_fault, run_fault, standing, table_fault, took_fault, turn_fault}
+use Rattle.lsm_writers.specs.Tables.{FitsBehind, GoesOn, HasRoomFor, filling, gained_all, ids_fault, is_due, rotation_fault, standing, table_fault, took_fault, turn_fault}
 use Rattle.lsm_writers.specs.Writing.{Writing, blocks_of, finish_fault, fresh_writing, item_fault, sections_fault, spilled, write_fault, written}
 use Rattle.lsm_writers.proofs.AllTables.{failed_kept}
 use Rattle.lsm_writers.proofs.Chunking.{joined_rest}
@@ -109,9 +109,6 @@ module _ (target : ℕ) (ids : Option ℕ) (w : Writing) (e : Entry) (is : w ≡
 
   pub no_fault : {A : Type 0} (fs : List (FinishedTable A)) (failed : Bool) → failed ≡ false → took_fault (state_of target ids fs w failed) e ≡ None
   no_fault fs failed fine = rw (fine, turns _ refl) (no_fault_by fs _ refl)
-
-pub no_run_fault : {A : Type 0} (target : ℕ) (ids : Option ℕ) (fs : List (FinishedTable A)) (w : Writing) (failed : Bool) → w ≡ gained_all (fresh_writing w.label w.options) (written w) → failed ≡ false → table_fault w.options (written w) ≡ None → run_fault (state_of target ids fs w failed) ≡ None
-no_run_fault target ids fs w failed is fine fits = rw fine (finish_fault_is w is ∙ fits)
 
 -- where there is room, there is no fault
 pub room_fault : {A : Type 0} (target : ℕ) (ids : Option ℕ) (fs : List (FinishedTable A)) (w : Writing) (failed : Bool) (e : Entry) → (failed ≡ false → GoesOn target ids fs w) → HasRoomFor (state_of target ids fs w failed) e → took_fault (state_of target ids fs w failed) e ≡ None

@@ -14,15 +14,12 @@ use Rattle.lsm_writers.specs.Counts.{added, HasRoom}
 use Rattle.lsm_formats.specs.Fits.{LabelFits}
 use Rattle.lsm_writers.specs.Cut.{Cut, rest_chunk, with_cut}
 use Rattle.lsm_writers.specs.Filtering.{IsFiltered}
-use Rattle.lsm_writers.specs.Held.{CanGoOn, IsHeld, IsTaken, IsUnfilled}
+use Rattle.lsm_writers.specs.Held.{CanGoOn, IsHeld, IsTaken}
 use Rattle.lsm_writers.specs.Writing.{Writing, gained, item_fault, spilled, write_fault}
 use Rattle.lsm_writers.proofs.Cutting.{rest_is}
 use Rattle.lsm_writers.proofs.Filtered.{filtered_cut, filtered_not}
 use Rattle.lsm_writers.proofs.Taking.{cut_held, held_cut, room_still}
-
-unfilled : (size : ℕ) (es : List Entry) → is_full size es ≡ false → IsUnfilled size es
-unfilled size [] h = tt
-unfilled size (e ∷ es) h = h
+use Rattle.lsm_writers.proofs.CutTables.{unfilled}
 
 -- one entry more is a chunk of its own
 pub rest_more : (es : List Entry) (e : Entry) → rest_chunk (es ++ e ∷ []) ≡ (es ++ e ∷ []) ∷ []

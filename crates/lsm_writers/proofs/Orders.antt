@@ -13,6 +13,10 @@ use Rattle.lsm_formats.specs.Chunks.{joined}
 use Rattle.lsm_writers.specs.Writing.{may_be_written}
 use Rattle.lsm_formats.specs.Index.{last_entry, block_size, handle_of, handles_from, handles}
 
+pub nothing_last : last_of None [] ≡ None
+unfolding last_of
+nothing_last = refl
+
 -- the last of two lists one after another
 pub last_of-append : (before : Option Entry) (xs ys : List Entry) → last_of before (xs ++ ys) ≡ last_of (last_of before xs) ys
 unfolding last_of

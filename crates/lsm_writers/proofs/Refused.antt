@@ -44,13 +44,6 @@ memory_alone (Err e) told none h = memory_or e told (is_memory e) refl none h
 pub refused_alone : {X : Type 0} (r : Result X Error) (e : Error) → r ≡ Err e → IfErr r (λ x. x ≡ OutOfMemory) → e ≡ OutOfMemory
 refused_alone {X} r e is told = subst (λ (t : Result X Error). IfErr t (λ x. x ≡ OutOfMemory)) is told
 
--- where nothing is refused but want of memory, no fault is told
-pub faults_none : {X : Type 0} (r : Result X Error) (told : Option Error) → told ≡ None → IfErr r (λ e. e ≡ OutOfMemory) → Faults r told
-faults_none (Ok x) told none memory = none
-faults_none (Err e) told none memory = λ h.
-    let both : true ≡ false = sym (ap is_memory memory) ∙ h in
-    absurd cc
-
 -- what follows from a call's answer, and from its refusal
 pub ok_then : {X E P Q : Type 0} (r : Result X E) → OnOk r P → (P → Q) → OnOk r Q
 ok_then (Ok x) p f = f p

@@ -14,6 +14,7 @@ use Rattle.lsm_writers.specs.Cut.{rest_chunk}
 use Rattle.lsm_writers.specs.Tables.{AddsTable, AreCuts, AreFinished, GoesOn, drawn, gained_all, ids_fault, is_due, label_before, list_in, lists_in, next_id, next_label, next_writing}
 use Rattle.lsm_writers.specs.Writing.{IsFinished, IsTableWith, Writing, fresh_writing, gained, may_be_written, spills_of, written}
 use Rattle.lsm_writers.proofs.CutTables.{cuts_first, cuts_longer, cuts_next, gained_snoc, long_enough, no_end, still_short, unspilled}
+use Rattle.lsm_writers.proofs.CutTables.{some_length}
 use Rattle.lsm_writers.proofs.Cutting.{joined_more, rest_is}
 use Rattle.lsm_writers.proofs.DataBack.{list_back}
 use Rattle.lsm_writers.proofs.ListWriting.{no_spills, same_label, written_gained}
@@ -190,10 +191,6 @@ lists_by {A} w fs gs None added =
 lists_by {A} w fs gs (Some f) added =
     let some : 0 < length (written w) = some_length (written w) added.1.some in
     ap (λ (x : List (FinishedTable A)). lists_in x) added.0 ∙ (lists_more fs f (written w) (list_back w f.id f.checksum.0 f.bytes added.1) ∙ ap (λ (x : List (List Entry)). lists_in fs ++ x) (sym (rest_is (written w) some)))
-  where
-    some_length : (es : List Entry) → (es ≡ [] → ⊥) → 0 < length es
-    some_length [] some = absurd (some refl)
-    some_length (x ∷ es) some = omega arith
 
 pub lists_added : {A : Type 0} (w : Writing) (fs gs : List (FinishedTable A)) → AddsTable w fs gs → lists_in gs ≡ lists_in fs ++ rest_chunk (written w)
 lists_added w fs gs a = lists_by w fs gs a.table (a.added, a.is)

@@ -27,6 +27,7 @@ use Rattle.lsm_writers.proofs.Cutting.{joined_more, rest_is}
 use Rattle.sst_entries.proofs.Lists.{all_append, all_behind}
 use Rattle.sst_entries.proofs.Booleans.{and_parts}
 use Rattle.sst_entries.proofs.Strictness.{strict_push}
+use Rattle.lsm_formats.proofs.FactLaws.{after_within}
 use Rattle.lsm_writers.proofs.Orders.{ends_follow, last_of-append}
 
 -- the bound of a block, by the number of its entries and their size
@@ -142,15 +143,6 @@ counted_is cut pending e m h =
 
 -- ---- room for one more
 
-one_if-le : (b : Bool) → one_if b ≤ 1
-one_if-le true = omega arith
-one_if-le false = omega arith
-
-after-le : (test : Option Entry → Entry → Bool) (before : Option Entry) (es : List Entry) → count_after test before es ≤ length es
-unfolding count_after
-after-le test before [] = omega arith
-after-le test before (x ∷ xs) = omega (arith, after-le test (Some x) xs, one_if-le (test before x))
-
 pub has_room : {A : Type 0} (cut : List (List Entry)) (pending : List Entry) (m : Metadata A) → m ≡ metadata_of V4 cut pending → 17 * length (joined cut) < 2 ^ 64 → 17 * length pending < 2 ^ 32 → HasRoom m
 has_room {A} cut pending m h few small =
     let es = joined cut ++ pending in
@@ -158,8 +150,8 @@ has_room {A} cut pending m h few small =
     record {
       tombstones = omega (arith, ap (λ (x : Metadata A). x.tombstone_count) h, count_by-le-length is_tombstone es, n, few, small);
       weak = omega (arith, ap (λ (x : Metadata A). x.weak_tombstone_count) h, count_by-le-length is_weak es, n, few, small);
-      reclaimable = omega (arith, ap (λ (x : Metadata A). x.weak_tombstone_reclaimable_count) h, after-le is_reclaimable None es, n, few, small);
-      keys = omega (arith, ap (λ (x : Metadata A). x.key_count) h, after-le starts_key None es, n, few, small);
+      reclaimable = omega (arith, ap (λ (x : Metadata A). x.weak_tombstone_reclaimable_count) h, after_within is_reclaimable None es, n, few, small);
+      keys = omega (arith, ap (λ (x : Metadata A). x.key_count) h, after_within starts_key None es, n, few, small);
     }
 
 pub room_still : {A : Type 0} (cs : List (List Entry)) (m : Metadata A) → HasRoom m → HasRoom (with_cut cs m)

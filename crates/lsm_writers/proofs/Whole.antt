@@ -26,10 +26,11 @@ use Rattle.lsm_writers.specs.Tables.{AreCuts, HasOneKey, HasTaken, IsCut, OneKey
 use Rattle.lsm_writers.specs.Writing.{IsWritable, Writing, finish_fault, fresh_writing, gained, may_be_written, spilled, write_fault, written}
 use Rattle.lsm_writers.proofs.AllTables.{failed_kept, in_order}
 use Rattle.lsm_writers.proofs.CutTables.{apart_first, apart_starts, cut_len_is, gained_full, gained_open, gained_snoc, long_enough, no_end, options_kept, part_full, part_open}
+use Rattle.lsm_writers.proofs.CutTables.{some_length}
 use Rattle.lsm_writers.proofs.Cutting.{joined_more, rest_is}
 use Rattle.lsm_writers.proofs.Finishing.{nothing_refused}
 use Rattle.lsm_writers.proofs.Fitting.{finish_fault_is, fits_in}
-use Rattle.lsm_writers.proofs.Orders.{last_of-append}
+use Rattle.lsm_writers.proofs.Orders.{last_of-append, nothing_last}
 use Rattle.lsm_writers.proofs.ListWriting.{listed_follows, same_label, written_gained}
 
 -- ---- a writer that has taken some entries
@@ -101,14 +102,6 @@ room_next : (w : Writing) (e : Entry) (es : List Entry) → HasRoom w (e ∷ es)
 room_next w e es h = room_by w e es _ refl h
 
 -- ---- a writer of many tables behind some tables and the front of one
-
-nothing_last : last_of None [] ≡ None
-unfolding last_of
-nothing_last = refl
-
-some_length : (t : List Entry) → (t ≡ [] → ⊥) → 0 < length t
-some_length [] some = absurd (some refl)
-some_length (x ∷ t) some = omega arith
 
 same_id : (label : Label) → label_before 0 label ≡ label
 same_id label = ap (λ (k : ℕ). record label { table_id = k }) (omega arith)

@@ -114,19 +114,6 @@ no_command line name rest words no_entry no_get no_range no_compact (Range low h
 no_command line name rest words no_entry no_get no_range no_compact (Compact watermark evict zero) h = no_compact (parts name (codes "compact") (words_of line) (words_of rest) _ words h.words_are).0
 no_command line name rest words no_entry no_get no_range no_compact Pack h = some_word rest (parts name (codes "pack") (words_of line) (words_of rest) [] words h).1
 
-none_behind : (w x y : List ℕ) (ws rest : List (List ℕ)) → ws ≡ w ∷ [] → ws ≡ x ∷ y ∷ rest → ⊥
-none_behind w x y ws rest h k = let e : w ∷ [] ≡ x ∷ y ∷ rest = sym h ∙ k in absurd cc
-
--- a line of one word that is neither name asks for nothing
-pub no_word : (line name : List ℕ) → words_of line ≡ name ∷ [] → (name ≡ codes "table" → ⊥)
-    → (name ≡ codes "pack" → ⊥) → (command : Command) → AskFor (words_of line) command → ⊥
-no_word line name words no_table no_pack (Entry key seqno kind value) h = none_behind name _ _ (words_of line) _ words h.words_are
-no_word line name words no_table no_pack Table h = no_table (parts name (codes "table") (words_of line) [] [] words h).0
-no_word line name words no_table no_pack (Get key bound) h = none_behind name _ _ (words_of line) _ words h.words_are
-no_word line name words no_table no_pack (Range low high) h = none_behind name _ _ (words_of line) _ words h.words_are
-no_word line name words no_table no_pack (Compact watermark evict zero) h = none_behind name _ _ (words_of line) _ words h.words_are
-no_word line name words no_table no_pack Pack h = no_pack (parts name (codes "pack") (words_of line) [] [] words h).0
-
 -- words behind a watermark that are none of these are no settings
 pub no_settings : (rest : List ℕ) → (rest ≡ codes "evict" → ⊥) → (rest ≡ codes "zero" → ⊥)
     → (rest ≡ codes "evict zero" → ⊥) → (evict zero : Bool)

@@ -24,7 +24,7 @@ use Rattle.lsm_runs.proofs.OneList.{one_way}
 use Rattle.sst_script.specs.declared.stop.Failure.{Failure}
 use Rattle.sst_script.specs.declared.stop.Failure.TheVariants.{Refused}
 use Rattle.sst_script.specs.Runs.{HasRuns, Run, repeats, run_tables, union}
-use Rattle.sst_script.specs.Script.{FailsToCompact, CompactsRuns, Compacts, kept_by, kept_fault}
+use Rattle.sst_script.specs.Script.{FailsToCompact, CompactsRuns, CompactsTo, kept_by, kept_fault}
 use Rattle.sst_script.specs.Script.{store, target_size}
 use Rattle.lsm_compactions.proofs.CompactedBack.{lift_zero}
 use Rattle.sst_script.proofs.PendingLemmas.{nothing_pending}
@@ -127,9 +127,6 @@ module _ (es left : List Entry) (next : Option ℕ) (rs : List Run) (ts : List (
   not_compacted (Ok count) f is may = absurd is
   not_compacted (Err y) f is may = (rs, same, subst (λ (x : Failure). FailsToCompact (store es rs next) left x (store es rs next)) (sym is) (may, refl))
 
-  pub memory_fails : MayFail (Refused OutOfMemory)
-  memory_fails = inl refl
-
   fails_by : (e : Error) (b : Bool) → is_memory e ≡ b
       → (is_memory e ≡ false → tables_fault next target_size 0 left ≡ Some e) → MayFail (Refused e)
   fails_by e true memory fault = inl (ap (λ (x : Error). Refused x) (memory_is e memory))
@@ -145,7 +142,7 @@ module _ (es left : List Entry) (next : Option ℕ) (rs : List Run) (ts : List (
       → tables_fault next target_size 0 left ≡ None
       → following ≡ ids_behind next target_size (length tables) → IsRunOfList left 0 tables
       → AreCutOf (run_label next target_size 0) target_size left 0 tables
-      → HasRuns new (λ after. Compacts (store es rs next) left count (store es after following))
+      → HasRuns new (λ after. CompactsTo (store es rs next) left count (store es after following))
   compacted new following tables count new_is count_is written behind is cut =
       let run : Run = record { list = left; tables = tables; is = is } in
       let ids : following ≡ ids_behind next target_size count = behind ∙ ap (ids_behind next target_size) (sym count_is) in (
@@ -158,7 +155,7 @@ module _ (es left : List Entry) (next : Option ℕ) (rs : List Run) (ts : List (
   pub compacted_away : (new : List (List OpenTable)) (following : Option ℕ) (count : ℕ) → new ≡ []
       → count ≡ 0 → tables_fault next target_size 0 left ≡ None
       → following ≡ ids_behind next target_size 0 → left ≡ []
-      → HasRuns new (λ after. Compacts (store es rs next) left count (store es after following))
+      → HasRuns new (λ after. CompactsTo (store es rs next) left count (store es after following))
   compacted_away new following count new_is count_is written behind none =
       let ids : following ≡ ids_behind next target_size count = behind ∙ ap (ids_behind next target_size) (sym count_is) in (
         [],

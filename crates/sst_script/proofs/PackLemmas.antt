@@ -1,31 +1,20 @@
 -- What packing the runs comes to.
-use Rattle.std.proofs.Common.{◌≡◌, refl, sym, ◌∙◌, ap, subst, ℕ, ◌<◌, List, [], ◌∷◌, length, arith}
-use Rattle.std.specs.Prelude.{◌≢◌, Option, Result, Ok, Err}
+use Rattle.std.proofs.Common.{◌≡◌, refl, sym, ◌∙◌, ap, subst, ℕ, List, [], length}
+use Rattle.std.specs.Prelude.{◌≢◌, Option}
 use Rattle.std.specs.List.{AllByRecursion}
-use Rattle.std.specs.Result.{IsErrAnd}
 use Rattle.std.proofs.lemmas.List.{length-map}
-use Rattle.std.proofs.lemmas.List.Elements.{All-from_recursion, recursion_from_All}
-use Rattle.std.proofs.lemmas.List.Sorted.{All-permutation}
-use Rattle.sst_entries.specs.declared.error.Error.TheVariants.{OutOfMemory}
 use Rattle.sst_entries.specs.Entry.{Entry}
-use Rattle.sst_entries.proofs.Lists.{all_append, all_behind, all_front, all_more}
+use Rattle.sst_entries.proofs.Lists.{all_more}
 use Rattle.lsm_ranges.specs.Packing.{AreInOrder, ArePacked, IsLeastSize, SameHolders, SameTables}
-use Rattle.lsm_ranges.specs.Packing.{tables_of}
 use Rattle.lsm_readers.specs.Table.{OpenTable}
-use Rattle.lsm_compactions.specs.Compacted.{AreCompactable, HaveEntries}
 use Rattle.lsm_compactions.specs.Packed.{HoldUnion}
-use Rattle.lsm_runs.specs.RunLists.{HoldLists, RunsHoldLists}
 use Rattle.lsm_runs.specs.RunParts.{range_of}
 use Rattle.lsm_runs.specs.SeveralRuns.{union_in}
-use Rattle.lsm_writers.specs.Writing.{IsWritable}
 use Rattle.lsm_runs.proofs.OneList.{one_way}
-use Rattle.lsm_compactions.proofs.Packing.{list_is, list_of}
 use Rattle.lsm_runs.proofs.RunPoints.{runs_in_order}
-use Rattle.sst_script.specs.declared.stop.Failure.{Failure}
-use Rattle.sst_script.specs.declared.stop.Failure.TheVariants.{Refused}
 use Rattle.sst_script.specs.Runs.{HasRuns, Run, run_tables, union}
-use Rattle.sst_script.specs.Script.{ArePackedRuns, Packs, PacksRuns, store}
-use Rattle.sst_script.proofs.CompactLemmas.{able_entries, able_from, able_writable, runs_of}
+use Rattle.sst_script.specs.Script.{ArePackedRuns, Packs, store}
+use Rattle.sst_script.proofs.CompactLemmas.{runs_of}
 use Rattle.sst_script.proofs.RunLemmas.{held, lists_of, union_same}
 
 -- ---- packed runs
@@ -65,11 +54,3 @@ module _ (rs : List Run) (ts packed : List (List OpenTable)) (same : run_tables 
         union_is = same_union;
       } in
       (made.0, made.1, (count_is ∙ many, are, refl))
-
--- memory is wanted, and the runs are what they were
-pub not_packed : (r : Result ℕ Failure) (f : Failure) (rs : List Run) (ts : List (List OpenTable))
-    (es : List Entry) (next : Option ℕ) → run_tables rs ≡ ts → IsErrAnd r (λ y. y ≡ f)
-    → f ≡ Refused OutOfMemory
-    → HasRuns ts (λ after. PacksRuns (store es rs next) r (store es after next))
-not_packed (Ok count) f rs ts es next same is memory = absurd is
-not_packed (Err y) f rs ts es next same is memory = (rs, same, (is ∙ memory, refl))

@@ -2,7 +2,6 @@
 use Rattle.std.proofs.Common.{◌≡◌, refl, sym, ◌∙◌, ap, subst, ℕ, ◌+◌, ◌-◌, ◌^◌, ◌<◌, Bool, true}
 use Rattle.std.proofs.Common.{false, IsTrue, List, [], ◌∷◌, ◌++◌, arith, ltb, ltb-true, le-ltb}
 use Rattle.std.specs.Prelude.{Option, Some, None, IfOk, IfSome, MatchOption, Result, nat_lt}
-use Rattle.std.specs.List.{AllByRecursion}
 use Rattle.std.specs.Option.{option_or}
 use Rattle.sst_entries.specs.declared.error.Error.{Error}
 use Rattle.sst_entries.specs.declared.value_type.ValueType.TheVariants.{Value}
@@ -17,6 +16,7 @@ use Rattle.lsm_compactions.specs.Written.{number_fault}
 use Rattle.sst_entries.proofs.Booleans.{and_parts}
 use Rattle.sst_entries.proofs.Lists.{all_append}
 use Rattle.sst_entries.proofs.Strictness.{strict_push}
+use Rattle.lsm_compactions.proofs.CompactedBack.{small_numbers}
 
 pub nothing_pending : IsWritable []
 unfolding IsStrictAfter
@@ -42,16 +42,9 @@ pending_more es e p f =
       numbered = all_append (λ (x : Entry). x.seqno < 2 ^ 64 - 1) es (e ∷ []) p.numbered (ltb-true _ _ both.0, tt);
     }
 
--- the highest number fits
-highest_below : (es : List Entry) → AllByRecursion (λ (e : Entry). e.seqno < 2 ^ 64 - 1) es
-    → highest_seqno es < 2 ^ 64 - 1
-unfolding highest_seqno
-highest_below [] h = omega arith
-highest_below (e ∷ es) h = omega (arith, h.0, highest_below es h.1)
-
 number_fits : (es : List Entry) → IsWritable es → number_fault es 0 ≡ None
 number_fits es p =
-    let low : ltb (2 ^ 64 - 1) (highest_seqno es + 0) ≡ false = le-ltb _ _ (omega (arith, highest_below es p.numbered)) in
+    let low : ltb (2 ^ 64 - 1) (highest_seqno es + 0) ≡ false = le-ltb _ _ (omega (arith, small_numbers es p.numbered)) in
     rw low refl
 
 or_none : (a : Option Error) → option_or a None ≡ a

@@ -1,15 +1,13 @@
 -- The lists of runs, and what is read of them.
-use Rattle.std.proofs.Common.{◌≡◌, refl, sym, ◌∙◌, ap, subst, ℕ, zero, suc, ◌+◌, ◌<◌, Bool, true}
-use Rattle.std.proofs.Common.{false, List, [], ◌∷◌, ◌++◌, append_assoc, append-nil, length, get_or}
-use Rattle.std.proofs.Common.{drop, drop-cons, add-one, arith}
+use Rattle.std.proofs.Common.{◌≡◌, refl, sym, ◌∙◌, ap, subst, ℕ, suc, ◌+◌, ◌<◌, Bool}
+use Rattle.std.proofs.Common.{List, [], ◌∷◌, ◌++◌, append_assoc, append-nil, length, get_or}
+use Rattle.std.proofs.Common.{drop, drop-cons, add-one}
 use Rattle.std.specs.Prelude.{Option, Result, Ok, Err, ◌||◌, map}
-use Rattle.std.specs.List.{AllByRecursion}
 use Rattle.std.proofs.lemmas.List.{map-append}
 use Rattle.std.specs.declared.ops.Bound.{Bound}
 use Rattle.sst_entries.specs.declared.error.Error.{Error}
-use Rattle.sst_entries.specs.declared.error.Error.TheVariants.{OutOfMemory}
 use Rattle.sst_entries.specs.Entry.{Entry}
-use Rattle.sst_entries.specs.Error.{is_memory, Fails, Gives}
+use Rattle.sst_entries.specs.Error.{Fails, Gives}
 use Rattle.sst_entries.specs.Point.{point, within}
 use Rattle.sst_entries.specs.Stream.{nowhere, ok_results}
 use Rattle.sst_entries.proofs.FrontLemmas.{deals_in_front}
@@ -83,14 +81,6 @@ pub memory_fails : {X Y : Type 0} (e : Error) (found : X) (other : Y) → Fails 
     → Fails e (Ok other)
 memory_fails {X} e found other fails memory = let no : Ok found ≡ Err e = fails memory in absurd cc
 
-pub memory_of : {X : Type 0} (e : Error) (found : X) (b : Bool) → is_memory e ≡ b
-    → Fails e (Ok found) → b ≡ true
-memory_of e found true is fails = refl
-memory_of {X} e found false is fails = let no : Ok found ≡ Err e = fails is in absurd cc
-
-pub out_of_memory : {Y : Type 0} (e : Error) (told : Y) → e ≡ OutOfMemory → Fails e (Ok told)
-out_of_memory e told is memory = let other : is_memory OutOfMemory ≡ false = sym (ap is_memory is) ∙ memory in absurd cc
-
 -- ---- a list whose values are shared one by one
 
 pub shared_more : {X Y : Type 0} (f : X → Y) (shared : List X) (x : X) (y : Y)
@@ -124,10 +114,3 @@ past_item rs es i e key n b so_far h is key_is number_is has =
     let here : has_entry (union rs) key n ≡ b = cc in
     let there : has_entry (union rs) e.user_key e.seqno ≡ b = sym (rw (key_is, number_is) refl) ∙ here in
     so_far ∙ ap (repeats rs) (rest_of es i e h is) ∙ ap (λ (x : Bool). x || repeats rs (drop (i + 1) es)) there
-
--- what all entries have, the one at a place has
-pub holds_at : {X : Type 0} (P : X → Type 0) (xs : List X) (i : ℕ) (x : X) → AllByRecursion P xs
-    → i < length xs → x ≡ get_or xs i x → P x
-holds_at P [] i x all h is = absurd (omega (arith, h))
-holds_at P (y ∷ ys) zero x all h is = subst P (sym is) all.0
-holds_at P (y ∷ ys) (suc i) x all h is = holds_at P ys i x all.1 (omega (arith, h)) is

@@ -6,7 +6,7 @@ use Rattle.std.specs.Prelude.{IfErr, Option, Some, None, Result, Ok, Err, ◌==�
 use Rattle.std.specs.Prelude.{slice_index}
 use Rattle.std.specs.List.{onto_first}
 use Rattle.std.specs.Io.BufRead.{take_through, drop_through, first_piece, strip_last}
-use Rattle.std.specs.Io.KnownBytes.{Appends, Keeps, IsAtEnd}
+use Rattle.std.specs.Io.KnownBytes.{Appends, Keeps}
 use Rattle.std.proofs.KnownBytes.{Appends-nil, Appends-trans}
 use Rattle.sst_script.specs.declared.stop.Stop.{Stop}
 use Rattle.sst_script.specs.declared.stop.Stop.TheVariants.{Line, Input, Output}
@@ -113,12 +113,6 @@ leaves_rest None front left h = tt
 leaves_rest (Some bytes) front None h = absurd h
 leaves_rest (Some bytes) front (Some rest) h = h
 
-leaves_none : (input : Option (List ℕ)) (front : List (List ℕ)) (left : Option (List ℕ))
-    → Leaves input front left → IsAtEnd left → HasLines input front []
-leaves_none None front left h e = tt
-leaves_none (Some bytes) front None h e = absurd h
-leaves_none (Some bytes) front (Some rest) h e = h ∙ ap (λ (bs : List ℕ). front ++ lines_of bs) e
-
 leaves_line : (input : Option (List ℕ)) (front : List (List ℕ)) (left new : Option (List ℕ))
     (line : List ℕ) → Leaves input front left → LosesLine left new line
     → HasLines input front (line ∷ known_lines new)
@@ -181,14 +175,6 @@ at_more {X} {A} {input} {left} {new} {before} {between} {after} {count} {now} {n
   written = Appends-trans before between after here.text ended.0 here.written ended.2;
 }
 
--- no line is left
-pub at_end : {X : Type 0} {A : Type 0} {input left before after : Option (List ℕ)} {count : ℕ}
-    {now : Store} (x : X)
-    → IsAt A input left before after count now → IsAtEnd left
-    → ScriptEnds A input before after (Ok x)
-at_end {X} {A} {input} {left} {before} {after} {count} {now} x here none =
-    (here.front, here.text, now, record { lines = leaves_none input here.front left here.leaves none; answers = here.answers }, here.written)
-
 -- the input fails
 pub at_failure : {X A : Type 0} {input left before after : Option (List ℕ)} {count : ℕ}
     {now : Store} (r : Result X Stop)
@@ -236,13 +222,6 @@ pub at_stop : {X Y A : Type 0} {input left before between : Option (List ℕ)} {
 at_stop {X} {Y} {A} {input} {left} {before} {between} {count} {now} r new after next line stop q e f here loses ended =
     let line_ended : LineEnds {X = X} A (count + 1) line now next between after (Err stop) = subst (λ (q : Result X Stop). LineEnds A (count + 1) line now next between after q) f ended in
     subst (λ (r : Result Y Stop). ScriptEnds A input before after r) (sym e) (stop_at X Y new after next line stop here loses line_ended)
-
--- a line that is empty
-pub ends_empty : {X : Type 0} (A : Type 0) (number : ℕ) (line : List ℕ) (old : Store)
-    (before : Option (List ℕ)) (x : X) → length line ≡ 0
-    → LineEnds A number line old old before before (Ok x)
-ends_empty A number [] old before x h = ([], (refl, refl), Appends-nil before)
-ends_empty A number (b ∷ bs) old before x h = absurd (omega arith)
 
 answers_some : (A : Type 0) (line : List ℕ) (old new : Store) (text : List ℕ) → 0 < length line
     → Prints A line old text new → AnswersLine A line old text new

@@ -45,8 +45,8 @@ pending_fault ids (e ∷ es) = tables_fault ids target_size 0 (e ∷ es)
 
 -- why pending entries become no run: a run holds one of them; or, where none does, writing them is
 -- refused
-abbrev pub table_fault : Store → Option Failure
-table_fault s =
+abbrev pub adding_fault : Store → Option Failure
+adding_fault s =
     if repeats s.runs s.pending then Some BadLine
     else option_map Refused (pending_fault s.next_id s.pending)
 
@@ -61,17 +61,17 @@ AddsRun old count new =
 
 -- nothing was against the pending entries, and they were written
 abbrev pub Writes : Store → ℕ → Store → Type 0
-Writes old count new = (table_fault old ≡ None) × AddsRun old count new
+Writes old count new = (adding_fault old ≡ None) × AddsRun old count new
 
 -- the pending entries were given up for their fault, or for want of memory
 abbrev pub GivesUp : Store → Failure → Store → Type 0
 GivesUp old e new =
-    ((e ≡ Refused OutOfMemory) ⊎ (table_fault old ≡ Some e))
+    ((e ≡ Refused OutOfMemory) ⊎ (adding_fault old ≡ Some e))
     × (new ≡ store [] old.runs old.next_id)
 
 -- what writing the pending entries comes to
-abbrev pub WritesTable : Store → Result ℕ Failure → Store → Type 0
-WritesTable old r new = MatchResult r (λ count. Writes old count new) (λ e. GivesUp old e new)
+abbrev pub WritesPending : Store → Result ℕ Failure → Store → Type 0
+WritesPending old r new = MatchResult r (λ count. Writes old count new) (λ e. GivesUp old e new)
 
 -- what a compaction keeps of the sorted entries of the runs' lists
 abbrev pub kept_by : ℕ → Bool → Bool → List Run → List Entry
@@ -92,8 +92,8 @@ abbrev pub kept_fault : Store → List Entry → Option Failure
 kept_fault s left = option_map Refused (tables_fault s.next_id target_size 0 left)
 
 -- nothing was against the kept entries, and they were written
-abbrev pub Compacts : Store → List Entry → ℕ → Store → Type 0
-Compacts old left count new = (kept_fault old left ≡ None) × LeavesRun old left count new
+abbrev pub CompactsTo : Store → List Entry → ℕ → Store → Type 0
+CompactsTo old left count new = (kept_fault old left ≡ None) × LeavesRun old left count new
 
 -- all is as it was, for the kept entries' fault or for want of memory
 abbrev pub FailsToCompact : Store → List Entry → Failure → Store → Type 0
@@ -103,7 +103,7 @@ FailsToCompact old left e new =
 -- what compacting the runs to kept entries comes to
 abbrev pub CompactsRuns : Store → List Entry → Result ℕ Failure → Store → Type 0
 CompactsRuns old left r new =
-    MatchResult r (λ count. Compacts old left count new) (λ e. FailsToCompact old left e new)
+    MatchResult r (λ count. CompactsTo old left count new) (λ e. FailsToCompact old left e new)
 
 -- the same tables in other runs: of each key in the same order, in runs in order that have a table
 -- each, so few that none can do with fewer; they hold the same sorted entries
@@ -154,7 +154,7 @@ Executes (Range low high) old r new = (new ≡ old) × MatchResult r
     (λ e. e ≡ Refused OutOfMemory)
 Executes (Compact watermark evict zero) old r new =
     let left = kept_by watermark evict zero old.runs in MatchResult r
-    (λ a. (count : ℕ) × (a ≡ Tables count) × Compacts old left count new)
+    (λ a. (count : ℕ) × (a ≡ Tables count) × CompactsTo old left count new)
     (λ e. FailsToCompact old left e new)
 Executes Pack old r new = MatchResult r
     (λ a. (count : ℕ) × (a ≡ PackedInto count) × Packs old count new)

@@ -12,7 +12,7 @@ ghost use Rattle.sst_script.specs.Lines.{ReadsLine};
 ghost use Rattle.sst_script.specs.Runs.{ForRuns, HasRuns};
 ghost use Rattle.lsm_compactions.specs.Compacted.{AreCompactable};
 ghost use Rattle.sst_script.specs.Script.{store, kept_by, CompactsRuns, Executes, PacksRuns};
-ghost use Rattle.sst_script.specs.Script.{WritesTable};
+ghost use Rattle.sst_script.specs.Script.{WritesPending};
 
 use crate::pending::{Pending, TARGET_SIZE};
 use crate::runs::{is_repeated, newest_answer, newest_entries, share_all};
@@ -228,7 +228,7 @@ impl<A: Allocator + Clone> Script<A> {
         ensures able { AreCompactable (map arc_value self.new.runs.items) }
         ensures done { ForRuns (map arc_value self.old.runs.items) (λ before.
             HasRuns (map arc_value self.new.runs.items) (λ after.
-            WritesTable
+            WritesPending
             (store self.old.pending before self.old.ids) result
             (store [] after self.new.ids))) }
     {

@@ -2,7 +2,7 @@
 ghost use Rattle.std.specs.Prelude.{◌≡◌, ℕ, ◌+◌, ◌<◌, ◌≤◌, [], ◌∷◌, ◌++◌, IfSome, length};
 ghost use Rattle.std.specs.Prelude.{replicate, slice_index, slice_set, IfOk};
 ghost use Rattle.std.specs.Vec.{vec_capacity};
-ghost use Rattle.lsm_merge.specs.Slots.{items_of, slot_at};
+ghost use Rattle.lsm_merge.specs.Slots.{occupants, slot_at};
 
 use std::alloc::{AllocError, Allocator};
 use std::marker::Model;
@@ -45,7 +45,7 @@ impl<T, A: Allocator + Clone> Slots<T, A> {
 
 impl<T, A: Allocator> Slots<T, A> {
     pub(crate) fn len(&self) -> usize
-        ensures { result ≡ length (items_of self.now.places) }
+        ensures { result ≡ length (occupants self.now.places) }
     {
         self.free.capacity() - self.free.len()
     }
@@ -58,7 +58,7 @@ impl<T, A: Allocator> Slots<T, A> {
 
     // Puts an item into an empty slot, and says which.
     pub(crate) fn insert(&mut self, item: T) -> usize
-        requires { length (items_of self.old.places) < self.old.room }
+        requires { length (occupants self.old.places) < self.old.room }
         ensures within { result < length self.old.places }
         ensures empty { slot_at self.old.places result ≡ None }
         ensures places { self.new.places ≡ slice_set self.old.places result (Some item) }

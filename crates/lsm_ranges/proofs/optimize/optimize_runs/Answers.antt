@@ -1,6 +1,6 @@
 -- What holds of the tables of the runs once they were put in one after the other.
 use Rattle.std.proofs.Common.{◌∙◌, sym, ap, subst, [], length, rules}
-use Rattle.lsm_ranges.specs.Packing.{holders, tables_of, ArePacked, ArePlaced, IsLeastSize}
+use Rattle.lsm_ranges.specs.Packing.{holders, tables_in, ArePacked, ArePlaced, IsLeastSize}
 use Rattle.lsm_ranges.proofs.PlaceLemmas.{placed_by_rule}
 use Rattle.lsm_ranges.proofs.PackLemmas.{put_all_holders, put_all_packed, if_ok}
 use Rattle.lsm_ranges.proofs.PackSize.{least_size, least_single}
@@ -13,21 +13,21 @@ pub returns-clause-holders : goal.returns-clause-holders
 returns-clause-holders g c =
     let range = g.T.Ranged.range in
     if_ok c.pack.result
-    (λ packed says formed k. ap (λ rs. holders range rs k) (says formed) ∙ put_all_holders range k (tables_of c.args.runs.items) [])
+    (λ packed says formed k. ap (λ rs. holders range rs k) (says formed) ∙ put_all_holders range k (tables_in c.args.runs.items) [])
     c.pack.ensures.ok
 
 pub returns-clause-ordered : goal.returns-clause-ordered
 returns-clause-ordered g c =
     let range = g.T.Ranged.range in
     if_ok c.pack.result
-    (λ packed says formed many. subst (ArePacked range) (sym (says formed)) (put_all_packed range (tables_of c.args.runs.items) [] formed tt))
+    (λ packed says formed many. subst (ArePacked range) (sym (says formed)) (put_all_packed range (tables_in c.args.runs.items) [] formed tt))
     c.pack.ensures.ok
 
 pub returns-clause-placed : goal.returns-clause-placed
 returns-clause-placed g c =
     let range = g.T.Ranged.range in
     if_ok c.pack.result
-    (λ packed says formed many. subst (ArePlaced range (tables_of c.args.runs.items)) (sym (says formed)) (placed_by_rule range (tables_of c.args.runs.items)))
+    (λ packed says formed many. subst (ArePlaced range (tables_in c.args.runs.items)) (sym (says formed)) (placed_by_rule range (tables_in c.args.runs.items)))
     c.pack.ensures.ok
 
 pub returns-clause-least : goal.returns-clause-least

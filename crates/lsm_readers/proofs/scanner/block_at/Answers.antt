@@ -3,9 +3,10 @@ use Rattle.std.specs.Prelude.{Result, Ok}
 use Rattle.sst_entries.specs.declared.error.Error.{Error}
 use Rattle.sst_blocks.specs.Block.{Loaded, entries_of}
 use Rattle.sst_entries.specs.Entry.{Entry}
+use Rattle.sst_blocks.proofs.LoadLemmas.{data_holds}
 use Rattle.lsm_readers.specs.Scan.{behind}
 use Rattle.lsm_readers.specs.Read.{◌>>=◌}
-use Rattle.lsm_readers.proofs.Loads.{load_at_kind, data_holds}
+use Rattle.lsm_readers.proofs.Loads.{load_at_kind}
 use Rattle.lsm_readers.proofs.scanner.block_at.Goals as goal
 
 pub new-requires : goal.new-requires

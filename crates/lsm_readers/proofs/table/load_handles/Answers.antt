@@ -1,4 +1,4 @@
-use Rattle.lsm_readers.proofs.Loads.{load_kind}
+use Rattle.sst_blocks.proofs.LoadLemmas.{load_kind}
 use Rattle.lsm_readers.proofs.table.load_handles.Goals as goal
 
 pub new-requires : goal.new-requires

@@ -5,8 +5,9 @@ use Rattle.lsm_formats.specs.Index.{data_section}
 use Rattle.lsm_formats.specs.Kinds.{index_parts}
 use Rattle.std.specs.Prelude.{length}
 use Rattle.sst_sections.specs.declared.version.TableVersion.TheVariants.{V4}
+use Rattle.lsm_section_writers.proofs.Behind.{faults_none}
 use Rattle.lsm_writers.proofs.Finishing.{sections_fit, sections_written}
-use Rattle.lsm_writers.proofs.Refused.{faults_none, ok_then}
+use Rattle.lsm_writers.proofs.Refused.{ok_then}
 use Rattle.lsm_writers.proofs.Starting.{no_meta_yet, no_version_yet}
 use Rattle.lsm_writers.proofs.writer.write_sections.Goals as goal
 

@@ -4,7 +4,7 @@ use Rattle.std.proofs.Math.Pow.{pow_pos}
 use Rattle.std.specs.Int.{IsNextPowerOfTwo}
 use Rattle.lsm_merge.specs.Tournament.{height}
 use Rattle.lsm_merge.specs.Brackets.{AreKept, IsNextIf}
-use Rattle.lsm_merge.proofs.SlotLemmas.{items_of-replicate}
+use Rattle.lsm_merge.proofs.SlotLemmas.{occupants-replicate}
 use Rattle.lsm_merge.proofs.HeightLemmas.{next_power_is}
 use Rattle.lsm_merge.proofs.TournamentLemmas.{kept_unplayed}
 use Rattle.lsm_merge.proofs.lazy_tournament.LazyTournament.new.Goals as goal
@@ -20,7 +20,7 @@ pub new-requires-2 : goal.new-requires-2
 new-requires-2 g c = c.in-Some.ensures.1
 
 pub returns-clause-empty : goal.returns-clause-empty
-returns-clause-empty g c = rw c.in_ok-new.ensures.places (items_of-replicate {T = g.row.T.Denot} c.in-Some.leaves)
+returns-clause-empty g c = rw c.in_ok-new.ensures.places (occupants-replicate {T = g.row.T.Denot} c.in-Some.leaves)
 
 pub invariant_of-result : goal.invariant_of-result
 invariant_of-result g c =

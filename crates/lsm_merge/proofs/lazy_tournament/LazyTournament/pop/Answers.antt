@@ -2,10 +2,10 @@ use Rattle.std.proofs.Common.{◌≡◌, ℕ, ◌^◌, ◌<◌, [], Option, Some
 use Rattle.std.proofs.lemmas.List.{length-set, set-get_or}
 use Rattle.lsm_merge.specs.Order.{toward}
 use Rattle.lsm_merge.specs.Tournament.{Contest, height}
-use Rattle.lsm_merge.specs.Slots.{items_of, slot_at}
+use Rattle.lsm_merge.specs.Slots.{occupants, slot_at}
 use Rattle.lsm_merge.specs.Brackets.{AreKept, IsUnbeaten}
 use Rattle.lsm_merge.proofs.AskedLemmas.{plays_at_most, plays_from}
-use Rattle.lsm_merge.proofs.SlotLemmas.{items_of-empty}
+use Rattle.lsm_merge.proofs.SlotLemmas.{occupants-empty}
 use Rattle.lsm_merge.proofs.TournamentLemmas.{IfNone-from, all_behind, none_left, are_kept_set, are_kept_open}
 use Rattle.lsm_merge.proofs.lazy_tournament.LazyTournament.pop.Goals as goal
 use Rattle.lsm_merge.proofs.lazy_tournament.LazyTournament.pop.Goals.{After-winner-slot, After-from_residual, After-remove}
@@ -13,7 +13,7 @@ use Rattle.lsm_merge.proofs.lazy_tournament.LazyTournament.pop.Goals.{After-winn
 kept : (g : _) (c : After-winner-slot g) → AreKept None g.T.Ord.cmp c.self.inside.slots.places c.winner-slot.new.self
 kept g c = rw c.as_slice.ensures at c.winner-slot.ensures.kept
 
-same_items : (g : _) (c : After-winner-slot g) → items_of c.self.inside.slots.places ≡ c.args.self.now.items
+same_items : (g : _) (c : After-winner-slot g) → occupants c.self.inside.slots.places ≡ c.args.self.now.items
 same_items g c = ap (λ (t : Contest g.row.T.Denot). t.items) c.self.view_is
 
 within : (g : _) (c : After-winner-slot g) → c.winner-slot.result < length c.self.inside.slots.places
@@ -35,7 +35,7 @@ same_leaves : (g : _) (c : After-remove g) → length c.remove.new.self.places �
 same_leaves g c = rw (c.remove.ensures.places, length-set) c.self.invariant.leaves
 
 -- the slot that wins is empty only where all are
-all_empty : (g : _) (c : After-from_residual g) → items_of c.self.inside.slots.places ≡ []
+all_empty : (g : _) (c : After-from_residual g) → occupants c.self.inside.slots.places ≡ []
 all_empty g c =
     none_left (toward c.args.end g.T.Ord.cmp) c.self.inside.slots.places (slot_at c.self.inside.slots.places c.winner-slot.result) c.in_err-item.ensures.value
     (rw c.as_slice.ensures at c.winner-slot.ensures.wins)
@@ -48,7 +48,7 @@ returns-in_err-item-clause-none g c =
 pub returns-in_err-item-clause-unchanged : goal.returns-in_err-item-clause-unchanged
 returns-in_err-item-clause-unchanged g c =
     let here = (goal.at.returns-in_err-item-clause-unchanged g c).After-from_residual in
-    IfNone-from _ _ (ap items_of (same_places g here) ∙ all_empty g here)
+    IfNone-from _ _ (ap occupants (same_places g here) ∙ all_empty g here)
 
 pub invariant_of-self-2 : goal.invariant_of-self-2
 invariant_of-self-2 g c =
@@ -65,7 +65,7 @@ pub returns-clause-taken : goal.returns-clause-taken
 returns-clause-taken g c =
     let before = (goal.at.returns-clause-taken g c).After-winner-slot in
     rw (← same_items g before, c.remove.ensures.places)
-    (items_of-empty c.self.inside.slots.places c.winner-slot.result c.in_ok-item.item (within g before) (sym c.in_ok-item.ensures.value))
+    (occupants-empty c.self.inside.slots.places c.winner-slot.result c.in_ok-item.item (within g before) (sym c.in_ok-item.ensures.value))
 
 pub returns-clause-first : goal.returns-clause-first
 returns-clause-first g c =

@@ -1,6 +1,6 @@
 use Rattle.std.proofs.Common.{ap, Some, None}
 use Rattle.lsm_merge.specs.Tournament.{Contest}
-use Rattle.lsm_merge.proofs.SlotLemmas.{items_of-fill}
+use Rattle.lsm_merge.proofs.SlotLemmas.{occupants-fill}
 use Rattle.lsm_merge.proofs.TournamentLemmas.{agrees_next, are_kept_set, are_kept_open}
 use Rattle.lsm_merge.proofs.lazy_tournament.LazyTournament.push.Goals as goal
 
@@ -17,4 +17,4 @@ pub returns-clause-items : goal.returns-clause-items
 returns-clause-items g c =
     let before = ap (λ (t : Contest g.row.T.Denot). t.items) c.self.view_is in
     rw (← before, c.insert-slot.ensures.places)
-    (items_of-fill c.self.inside.slots.places c.insert-slot.result c.args.item c.insert-slot.ensures.within c.insert-slot.ensures.empty)
+    (occupants-fill c.self.inside.slots.places c.insert-slot.result c.args.item c.insert-slot.ensures.within c.insert-slot.ensures.empty)

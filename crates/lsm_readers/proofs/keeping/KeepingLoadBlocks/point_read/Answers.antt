@@ -1,7 +1,7 @@
 use Rattle.sst_blocks.specs.declared.block_type.BlockType.TheVariants.{Data}
 use Rattle.sst_sections.specs.Sections.{body_of}
+use Rattle.sst_blocks.proofs.LoadLemmas.{load_kind, data_holds}
 use Rattle.lsm_readers.specs.Keeping.{IsLoaded}
-use Rattle.lsm_readers.proofs.Loads.{data_holds, load_kind}
 use Rattle.lsm_readers.proofs.keeping.KeepingLoadBlocks.point_read.Goals as goal
 
 pub read_kept-requires : goal.read_kept-requires

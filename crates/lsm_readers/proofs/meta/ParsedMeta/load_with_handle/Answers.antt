@@ -1,5 +1,6 @@
+use Rattle.sst_blocks.proofs.LoadLemmas.{load_kind}
 use Rattle.lsm_readers.proofs.Recovered.{first_from, first_none}
-use Rattle.lsm_readers.proofs.Loads.{load_kind, meta_holds}
+use Rattle.lsm_readers.proofs.Loads.{meta_holds}
 use Rattle.lsm_readers.proofs.meta.ParsedMeta.load_with_handle.Goals as goal
 
 pub new-block-requires : goal.new-block-requires

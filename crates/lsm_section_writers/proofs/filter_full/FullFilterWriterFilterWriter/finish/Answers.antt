@@ -3,11 +3,12 @@ use Rattle.std.proofs.Common.{ap, sym, ◌∙◌, ℕ}
 use Rattle.std.specs.Prelude.{Ok}
 use Rattle.sst_entries.proofs.StreamLemmas.{on_err}
 use Rattle.lsm_section_writers.specs.Held.{Hashes}
-use Rattle.lsm_section_writers.proofs.Emptiness.{vec_is_empty, vec_is_some}
+use Rattle.lsm_section_writers.proofs.Emptiness.{vec_is_empty}
 use Rattle.lsm_section_writers.proofs.Sections.{full_fault, full_idle, full_none, full_none_fault, full_written}
 use Rattle.lsm_section_writers.proofs.Finishing.{works_first}
 use Rattle.lsm_section_writers.proofs.Behind.{bytes_stay}
 use Rattle.lsm_section_writers.proofs.filter_full.FullFilterWriterFilterWriter.finish.Goals as goal
+use Rattle.lsm_section_writers.proofs.Empty.{vec_is_some}
 
 pub returns-then-is_empty-clause-ok : goal.returns-then-is_empty-clause-ok
 returns-then-is_empty-clause-ok g c = λ keys h.

@@ -5,13 +5,14 @@ use Rattle.sst_entries.proofs.StreamLemmas.{on_err}
 use Rattle.sst_entries.specs.declared.error.Error.TheVariants.{SectionTooLarge}
 use Rattle.lsm_section_writers.specs.Given.{no_keys}
 use Rattle.lsm_section_writers.specs.Held.{as_list, CutParts, end_keys, HoldsParts}
-use Rattle.lsm_section_writers.proofs.Emptiness.{vec_is_empty, vec_is_some}
+use Rattle.lsm_section_writers.proofs.Emptiness.{vec_is_empty}
 use Rattle.lsm_section_writers.proofs.Holding.{none_cut, none_waits}
 use Rattle.lsm_section_writers.proofs.RisingLaws.{rising_front}
 use Rattle.lsm_section_writers.proofs.Sections.{faults_same, finish_told, finish_large, finish_none, finish_none_fault, finish_writes, rest_refused, spent_first, spent_told, written_blocks}
 use Rattle.lsm_section_writers.proofs.Finishing.{works_first}
 use Rattle.lsm_section_writers.proofs.Behind.{bytes_stay}
 use Rattle.lsm_section_writers.proofs.filter_partitioned.PartitionedFilterWriterFilterWriter.finish.Goals as goal
+use Rattle.lsm_section_writers.proofs.Empty.{vec_is_some}
 
 pub write_sections-requires-clause-rising : goal.write_sections-requires-clause-rising
 write_sections-requires-clause-rising g c = rising_front (end_keys c.self-2.inside.partitions.items) (as_list c.self-2.inside.last_key) c.self-2.invariant

@@ -2,7 +2,7 @@ use Rattle.std.proofs.Common.{◌≡◌, ◌<◌, ◌∙◌, length, sym, ap, ar
 use Rattle.std.proofs.lemmas.List.{get_or_read}
 use Rattle.std.proofs.lemmas.List.Sorted.{length_permutation}
 use Rattle.lsm_merge.specs.Slots.{Places, slot_at}
-use Rattle.lsm_merge.proofs.SlotLemmas.{IsFreeList-empty, items_of-empty}
+use Rattle.lsm_merge.proofs.SlotLemmas.{IsFreeList-empty, occupants-empty}
 use Rattle.lsm_merge.proofs.lazy_tournament.slots.Slots.remove.Goals as goal
 use Rattle.lsm_merge.proofs.lazy_tournament.slots.Slots.remove.Goals.{In_ok-item}
 
@@ -16,7 +16,7 @@ held_there g c =
 pub push_reserved-requires : goal.push_reserved-requires
 push_reserved-requires g c =
     let h = held_there g (goal.at.push_reserved-requires g c).In_ok-item in
-    let p = length_permutation _ _ (items_of-empty c.self.inside.places.items c.args.slot c.in_ok-item.item h.0 h.1) in
+    let p = length_permutation _ _ (occupants-empty c.self.inside.places.items c.args.slot c.in_ok-item.item h.0 h.1) in
     omega (arith, p, c.self.invariant.count)
 
 pub invariant_of-self-2 : goal.invariant_of-self-2
