@@ -80,7 +80,7 @@ module _ {A : Type 0} (p : Part) (s : Range A) (is : IsRangeOf p.table p.low p.h
 
 loads_taken : (at : Direction) (ps qs : List Part) (p : Part) → taken_at at ps ≡ (Some p, qs)
     → parts_loads ps ≡ part_loads p + parts_loads qs
-loads_taken Front ps qs p e = ap parts_loads (split Front ps qs p e)
+loads_taken Front ps qs p e = omega (arith, ap parts_loads (split Front ps qs p e), sum_by-append part_loads (p ∷ []) qs)
 loads_taken Back ps qs p e = omega (arith, ap parts_loads (split Back ps qs p e), sum_by-append part_loads qs (p ∷ []))
 
 module _ (span : RunSpan) (ts : List OpenTable) (lo hi : ℕ) (less : lo < hi)
@@ -150,5 +150,5 @@ module _ (span : RunSpan) (ts : List OpenTable) (lo hi : ℕ) (less : lo < hi)
         told = refl;
         loads = omega arith;
         first = λ f early. let wrong : None ≡ Some f = early in absurd cc;
-        kept = refl;
+        kept = omega arith;
       })
