@@ -1,7 +1,7 @@
 -- What a reader of a run deals, how many tables it opens, and how far off its end is.
-use Rattle.std.proofs.Common.{◌≡◌, ℕ, zero, suc, ◌+◌, ◌-◌, ◌<◌, ◌≤◌, List, [], ◌∷◌, ◌++◌, drop}
-use Rattle.std.proofs.Common.{length, take, refl, sym, ap, subst, ◌∙◌, arith}
-use Rattle.std.proofs.lemmas.List.{length-append, length-take, length-drop}
+use Rattle.std.proofs.Common.{◌≡◌, ℕ, ◌+◌, ◌-◌, ◌≤◌, List, [], ◌∷◌, drop}
+use Rattle.std.proofs.Common.{length, take, subst, arith}
+use Rattle.std.proofs.lemmas.List.{length-take}
 use Rattle.std.specs.Iterator.{MakesProgress, at_most}
 use Rattle.std.specs.Prelude.{Option, Some, None, Result, Ok, Err, IfOk}
 use Rattle.sst_entries.specs.declared.stream.Direction.{Direction}
@@ -31,8 +31,8 @@ module _ {A : Type 0} where
       deals_ending run_left IsRunEnded nothing (RunGives front_of front_tables) (RunGives back_of back_tables)
       (λ u r t step. ends_by front_of front_tables u r t step) (λ u r t step. ends_by back_of back_tables u r t step) s
 
-  pub progress : (of : End) (needed : RunRange A → ℕ) (s : RunRange A) (r : Option R) (t : RunRange A)
-      → RunGives of needed s r t
+  pub progress : (of : End) (needed : RunRange A → ℕ) (s : RunRange A) (r : Option R)
+      (t : RunRange A) → RunGives of needed s r t
       → MakesProgress (λ _. Unit {0}) (λ u. at_most (run_size u)) s r t
   progress of needed s None t step = record { on = λ _. tt; keeps = tt; rests = λ _. tt }
   progress of needed s (Some x) t step = record { on = λ _. (tt, tt, step.lowers); keeps = tt; rests = λ _. tt }
