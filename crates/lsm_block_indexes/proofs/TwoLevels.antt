@@ -6,21 +6,22 @@ use Rattle.std.specs.Prelude.{IfErr, IfOk, MatchOption, MatchResult, Option, Som
 use Rattle.sst_entries.specs.declared.error.Error.{Error}
 use Rattle.sst_entries.specs.declared.stream.Direction.{Direction}
 use Rattle.sst_entries.specs.declared.stream.Direction.TheVariants.{Front, Back}
-use Rattle.sst_entries.specs.Error.{FaultsFirst, Refuses, is_memory}
+use Rattle.sst_entries.specs.Error.{FaultsFirst, is_memory}
 use Rattle.sst_entries.specs.Span.{Span, rest_in}
-use Rattle.sst_entries.specs.Stream.{answer_stops, ok_results}
+use Rattle.sst_entries.specs.Stream.{ok_results}
 use Rattle.sst_sections.specs.Sections.{body_of}
 use Rattle.sst_blocks.specs.declared.opened.Opened.{Opened}
 use Rattle.sst_blocks.specs.Handle.{Handle}
 use Rattle.sst_blocks.specs.Place.{Place, place_of}
 use Rattle.lsm_walks.specs.declared.walk.Walk.{Walk}
-use Rattle.lsm_walks.specs.Ends.{IsOver, Remains, remains_in, seen_from, span_remains, taken_at}
-use Rattle.lsm_walks.specs.Parts.{LoadGives, Loading, Loads, Tells, all_results, early_among, early_behind, loads_in, needed, none_behind, own_of}
+use Rattle.lsm_walks.specs.Ends.{IsOver, remains_in, seen_from, span_remains, taken_at}
+use Rattle.lsm_walks.specs.Parts.{LoadGives, Loading, Loads, Tells, all_results, early_among, early_behind, loads_in, needed, none_behind}
 use Rattle.lsm_walks.specs.Walks.{Ended, StopsAtError, WalkGives, WalkTakes, early_at, near, needed_at, walk_left}
-use Rattle.lsm_walks.proofs.AtEnds.{behind_map, early_map, map_seen, map_taken, none_taken, nothing_behind, seen_none, shortens, whole_end}
+use Rattle.lsm_walks.proofs.Instances.{loads_one, no_part_loads, none_own, part_behind, part_early, part_results, refused_first}
+use Rattle.lsm_walks.proofs.AtEnds.{map_seen, map_taken, none_taken, nothing_behind, seen_none, shortens, whole_end}
 use Rattle.lsm_block_indexes.specs.declared.partitions.Partitions.{Partitions}
 use Rattle.lsm_block_indexes.specs.Index.{block_between, block_early, parts_between, two_level}
-use Rattle.lsm_block_indexes.specs.Left.{AtEnd, CountsLoads, IsEnded, LeftGives, TwoLevel, TwoLevelGives, fault_at, loaded, needs, needs_at, new_two_level, part_of, tops_early, two_level_left}
+use Rattle.lsm_block_indexes.specs.Left.{AtEnd, IsEnded, TwoLevel, TwoLevelGives, fault_at, loaded, needs, needs_at, new_two_level, part_of, tops_early, two_level_left}
 use Rattle.lsm_block_indexes.specs.Partitions.{EndsPartitions, KeepsPartitions, NamesOf, coming_partitions, part_named, two_level_of}
 use Rattle.lsm_block_indexes.specs.Seen.{rest_of}
 use Rattle.lsm_block_indexes.proofs.AtEnds.{R}
@@ -48,19 +49,9 @@ not_found : (o : Option Handle) → None ≡ option_map place_of o → o ≡ Non
 not_found None told = refl
 not_found (Some h) told = absurd cc
 
--- what a load tells first is what it is refused with
-pub refused_first : {X : Type 0} (r : Result X Error) (f : Error) → Refuses r (Some f) → Some r ≡ Some (Err f)
-refused_first (Ok x) f e = let wrong : Some f ≡ None = e in absurd cc
-refused_first (Err e) f is = let same : Some f ≡ Some e = is in cc
-
 tells_part : {A : Type 0} (p : Partitions A) (top : Handle) (r : Result (Span Handle) Error) → IfOk r (λ hs. ok_results (rest_in hs) ≡ block_between (body_of p.source) p.edges.0 p.edges.1 (place_of top)) → IfErr r (λ e. is_memory e ≡ false → Err e ∷ [] ≡ block_between (body_of p.source) p.edges.0 p.edges.1 (place_of top)) → Tells span_remains (Some (part_named p top)) (Some r)
 tells_part p top (Ok hs) ok err = ok
 tells_part p top (Err e) ok err = err
-
--- a partition loads nothing of its own
-none_own : (r : Result (Span Handle) Error) → own_of span_remains (Some r) ≡ 0
-none_own (Ok hs) = refl
-none_own (Err e) = refl
 
 module _ {A : Type 0} (at : Direction) (s : Partitions A) (tops : Span Handle) (list : tops.list ≡ s.tops.list) (rest : rest_in tops ≡ (taken_at at (rest_in s.tops)).1) where
   pub part_taken : (opened : Opened) (place : Place) (r : Result (Span Handle) Error) → Some place ≡ option_map place_of (taken_at at (rest_in s.tops)).0 → IfOk r (λ hs. ok_results (rest_in hs) ≡ block_between (body_of s.source) s.edges.0 s.edges.1 place) → IfErr r (λ e. is_memory e ≡ false → Err e ∷ [] ≡ block_between (body_of s.source) s.edges.0 s.edges.1 place) → FaultsFirst r (block_early (body_of s.source) place) → opened ≡ loaded 1 s.opened → LoadGives span_remains coming_partitions KeepsPartitions at s (Some r) (record s { tops = tops; opened = opened })
@@ -99,11 +90,6 @@ record Moved {A : Type 0} (count : ℕ) (s t : Partitions A) : Type 0 where
   pub list : t.tops.list ≡ s.tops.list
   pub counts : t.opened ≡ loaded count s.opened
 
-pub loads_one : {X : Type 0} (named : Option (Result (Loading X) Error)) (more : List (Option (Result (Loading X) Error))) → loads_in (named ∷ []) + loads_in more ≡ loads_in (named ∷ more)
-loads_one None more = omega arith
-loads_one (Some (Ok part)) more = omega arith
-loads_one (Some (Err e)) more = omega arith
-
 one_fewer : (named : Option (Result (Loading Handle) Error)) (us ts : List Handle) → NamesOf named us ts → length us ≡ loads_in (named ∷ []) + length ts
 one_fewer None us ts names = omega (arith, ap length names.0, ap length names.1)
 one_fewer (Some (Ok part)) us ts names = omega (arith, names)
@@ -139,22 +125,6 @@ module _ {A : Type 0} where
       omega (arith, last_load x (loads_in named) (length (rest_in s.tops)) (rest_in loads.0.tops) (rest_in t.tops) loads.2.names (fewer named s loads.0 loads.1) some, loads_one x named)
 
 -- ---- what is left, and how many partitions an answer needs
-
-part_results : (o : Option (Span Handle)) → (remains_in span_remains o).results ≡ ok_results (rest_of o)
-part_results None = refl
-part_results (Some s) = refl
-
-no_part_loads : (o : Option (Span Handle)) → (remains_in span_remains o).loads ≡ 0
-no_part_loads None = refl
-no_part_loads (Some s) = refl
-
-part_behind : (o : Option (Span Handle)) (n : ℕ) → none_behind (remains_in span_remains o).results n ≡ none_behind (rest_of o) n
-part_behind None n = refl
-part_behind (Some s) n = behind_map (λ (h : Handle). Ok h) _ n
-
-part_early : (o : Option (Span Handle)) (f : Option Error) → early_behind (remains_in span_remains o).results f ≡ early_behind (rest_of o) f
-part_early None f = refl
-part_early (Some s) f = early_map (λ (h : Handle). Ok h) _ f
 
 some_needed : (xs : List R) (n : ℕ) → 0 < none_behind xs n → 0 < n
 some_needed [] n some = some

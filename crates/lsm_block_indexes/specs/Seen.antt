@@ -4,13 +4,9 @@ use Rattle.std.specs.Option.{option_map}
 use Rattle.sst_entries.specs.declared.error.Error.{Error}
 use Rattle.sst_entries.specs.declared.error.Error.TheVariants.{OutOfMemory}
 use Rattle.sst_entries.specs.Span.{Span, rest_in}
+pub use Rattle.lsm_walks.specs.Ends.{rest_of}
 use Rattle.sst_blocks.specs.Handle.{Handle}
 use Rattle.sst_blocks.specs.Place.{Place, place_of}
-
--- nothing, where no block is loaded
-abbrev pub rest_of : Option (Span Handle) → List Handle
-rest_of None = []
-rest_of (Some s) = rest_in s
 
 -- the handle at the end, and the others are left; want of memory where there is a handle, and nothing is left; or nothing, where
 -- nothing is left

@@ -4,7 +4,7 @@ use Rattle.std.specs.Prelude.{IfErr, IfOk, Option, Some, None, Result, Ok, Err}
 use Rattle.sst_entries.specs.declared.error.Error.{Error}
 use Rattle.sst_entries.specs.declared.stream.Direction.{Direction}
 use Rattle.sst_entries.specs.Entry.{Entry}
-use Rattle.sst_entries.specs.Error.{FaultsFirst, Refuses, is_memory}
+use Rattle.sst_entries.specs.Error.{FaultsFirst, is_memory}
 use Rattle.sst_entries.specs.Span.{Span, rest_in}
 use Rattle.sst_entries.specs.Stream.{ok_results}
 use Rattle.sst_blocks.specs.declared.block_type.BlockType.TheVariants.{Data}
@@ -12,7 +12,8 @@ use Rattle.sst_blocks.specs.Block.{place_fault}
 use Rattle.sst_blocks.specs.Handle.{Handle}
 use Rattle.lsm_block_indexes.specs.Left.{Left, LeftGives}
 use Rattle.lsm_walks.specs.Ends.{span_remains, taken_at}
-use Rattle.lsm_walks.specs.Parts.{Coming, LoadGives, Loading, Names, Tells, own_of}
+use Rattle.lsm_walks.specs.Parts.{Coming, LoadGives, Loading, Names, Tells}
+use Rattle.lsm_walks.proofs.Instances.{none_own, refused_first}
 use Rattle.lsm_walks.proofs.AtEnds.{map_first, map_none, map_taken}
 use Rattle.lsm_iters.specs.Blocks.{Blocks, KeepsBlocks, block_named, coming_blocks, stored_rows}
 use Rattle.lsm_iters.specs.Range.{data_loaded, left_in}
@@ -36,19 +37,9 @@ names_by at b s t (Some (Err e)) step = (
   record { parts = ap (map (block_named b)) step.ends.results; loads = step.ends.loads },
 )
 
--- what a load tells first is what it is refused with
-refused_first : {X : Type 0} (r : Result X Error) (f : Error) → Refuses r (Some f) → Some r ≡ Some (Err f)
-refused_first (Ok x) f e = let wrong : Some f ≡ None = e in absurd cc
-refused_first (Err e) f is = let same : Some f ≡ Some e = is in cc
-
 tells_block : (b : Bounded) (h : Handle) (r : Result (Span Entry) Error) → IfOk r (λ es. ok_results (rest_in es) ≡ stored_rows b h) → IfErr r (λ e. is_memory e ≡ false → Err e ∷ [] ≡ stored_rows b h) → Tells span_remains (Some (block_named b (Ok h))) (Some r)
 tells_block b h (Ok es) ok err = ok
 tells_block b h (Err e) ok err = err
-
--- a block loads nothing of its own
-none_own : (r : Result (Span Entry) Error) → own_of span_remains (Some r) ≡ 0
-none_own (Ok es) = refl
-none_own (Err e) = refl
 
 module _ {A : Type 0} (at : Direction) (s m : Blocks A) (is : m ≡ record s { handles = m.handles }) (sought : m.handles.sought ≡ true) where
   same_of : m.of ≡ s.of

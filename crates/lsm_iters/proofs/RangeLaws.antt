@@ -1,24 +1,21 @@
 -- What an iterator over a range deals, and how far off its end is.
-use Rattle.std.proofs.Common.{◌≡◌, ℕ, ◌<◌, ◌≤◌, zero, suc, [], length, refl, ap, arith}
+use Rattle.std.proofs.Common.{◌≡◌, ℕ, ◌<◌, ◌≤◌, [], length, ap, arith}
+use Rattle.std.proofs.lemmas.List.{nil_from_length}
 use Rattle.std.specs.Iterator.{MakesProgress, at_most}
 use Rattle.std.specs.Prelude.{Option, Some, None, Ok, Err}
 use Rattle.sst_entries.specs.declared.stream.Direction.{Direction}
 use Rattle.sst_entries.specs.Stream.{front_of, back_of}
 use Rattle.lsm_block_indexes.specs.Dealt.{DealsEnding}
 use Rattle.lsm_block_indexes.proofs.Dealing.{Ending, deals_ending}
-use Rattle.lsm_block_indexes.proofs.TwoLevels.{no_items}
 use Rattle.lsm_walks.specs.Ends.{StepAnswers, StepGives, taken_at}
+use Rattle.lsm_walks.proofs.Instances.{positive}
 use Rattle.lsm_iters.specs.Range.{IsEnded, Next, Range, RangeGives, back_next, front_next, next_at, range_left, range_loads, range_remains, range_size}
 use Rattle.lsm_iters.proofs.Ends.{Shortens, if_true}
 use Rattle.lsm_iters.proofs.Ranges.{R, End}
 
-positive : (n : ℕ) → (n ≡ 0 → ⊥) → 0 < n
-positive zero some = absurd (some refl)
-positive (suc n) some = omega arith
-
 module _ {A : Type 0} where
   nothing : (s : Range A) → IsEnded s → range_left s ≡ []
-  nothing s ended = no_items (range_left s) (omega (arith, ended))
+  nothing s ended = nil_from_length (range_left s) (omega (arith, ended))
 
   ends_by : (of : End) (next : Range A → Next) (s : Range A) (r : Option R) (t : Range A) → RangeGives of next s r t → Ending range_left IsEnded of s r t
   ends_by of next s None t step = record { answer = step.answer; ends = tt }

@@ -15,11 +15,12 @@ use Rattle.sst_blocks.specs.declared.block_type.BlockType.TheVariants.{Data}
 use Rattle.sst_blocks.specs.Block.{Loaded, load_told, place_fault}
 use Rattle.sst_blocks.specs.Handle.{Handle}
 use Rattle.lsm_block_indexes.specs.Left.{CountsLoads, early_behind, loaded, none_behind}
-use Rattle.lsm_block_indexes.proofs.TwoLevels.{loaded_more, loads_one}
+use Rattle.lsm_block_indexes.proofs.TwoLevels.{loaded_more}
 use Rattle.lsm_walks.specs.declared.walk.Walk.{Walk}
 use Rattle.lsm_walks.specs.Ends.{IsOver as IsWalkOver, Remains, StepAnswers, remains_in, seen_from, span_remains, taken_at}
 use Rattle.lsm_walks.specs.Parts.{Loading, Loads, all_results, early_among, loads_in, needed, results_of}
 use Rattle.lsm_walks.specs.Walks.{Ended, WalkTakes, early_at, near, needed_at, walk_left}
+use Rattle.lsm_walks.proofs.Instances.{loads_one, no_part_loads, part_behind, part_early}
 use Rattle.lsm_walks.proofs.AtEnds.{early_map, behind_map, map_first, map_none, map_seen, map_taken, none_at}
 use Rattle.lsm_walks.proofs.Reaching.{all_over}
 use Rattle.lsm_iters.specs.Blocks.{Blocks, EndsBlocks, KeepsBlocks, block_named, coming_blocks, range_of, stored_in, stored_rows}
@@ -85,14 +86,6 @@ early_is b (Ok h ∷ hs) =
     (ap (early_behind (stored_rows b h)) (early_is b hs) ∙ same_early b h (blocks_early b hs))
 early_is b (Err e ∷ hs) = refl
 
-part_behind : (o : Option (Span Entry)) (n : ℕ) → none_behind (remains_in span_remains o).results n ≡ none_behind (rest_of o) n
-part_behind None n = refl
-part_behind (Some s) n = behind_map (λ (e : Entry). Ok e) _ n
-
-part_early : (o : Option (Span Entry)) (f : Option Error) → early_behind (remains_in span_remains o).results f ≡ early_behind (rest_of o) f
-part_early None f = refl
-part_early (Some s) f = early_map (λ (e : Entry). Ok e) _ f
-
 -- ---- the loads of a step
 
 -- what several loads keep
@@ -137,10 +130,6 @@ module _ {A : Type 0} where
 
 abbrev W : Type 0 → Type 0
 W A = Walk (Blocks A) (Span Entry)
-
-no_part_loads : (o : Option (Span Entry)) → (remains_in span_remains o).loads ≡ 0
-no_part_loads None = refl
-no_part_loads (Some s) = refl
 
 fine_before : (g : ℕ) (r : Option R) → answer_stops is_memory (lifted_answer g r) ≡ false → answer_stops is_memory r ≡ false
 fine_before g None fine = refl

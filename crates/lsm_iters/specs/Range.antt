@@ -77,8 +77,8 @@ range_left s =
     let g = s.of.global_seqno in
     lift_told g s.front ++ (rows s.of (to_come s) ++ lift_told g s.back)
 
--- how many loads may be made for them, of data blocks and of the index, whose edges are to be sought
--- before the first
+-- how many loads may be made for them: of data blocks, of the index, and one for the search of its
+-- edges
 abbrev pub range_loads : {A : Type 0} → Range A → ℕ
 range_loads s = length (to_come s) + index_to_come s + (if s.handles.sought then 0 else 1)
 

@@ -2,17 +2,10 @@
 use Rattle.std.specs.Prelude.{◌≡◌, ℕ, true, List, [], Option, Some, None, Result, Ok, Err}
 use Rattle.sst_entries.specs.declared.error.Error.{Error}
 use Rattle.sst_entries.specs.Entry.{Entry}
-use Rattle.sst_entries.specs.Span.{Span, rest_in}
 use Rattle.lsm_block_indexes.specs.Left.{Left}
+pub use Rattle.lsm_walks.specs.Ends.{rest_of}
 use Rattle.lsm_iters.specs.Lift.{lifted_told}
 use Rattle.lsm_iters.specs.Range.{Handles, Range, index_to_seek, left_in, to_seek}
-
--- ---- what is left of a loaded block
-
--- nothing, where no block is loaded
-abbrev pub rest_of : Option (Span Entry) → List Entry
-rest_of None = []
-rest_of (Some s) = rest_in s
 
 -- an answer with the number of its entry lifted
 abbrev pub lifted_answer : ℕ → Option (Result Entry Error) → Option (Result Entry Error)

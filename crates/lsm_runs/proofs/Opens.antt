@@ -1,7 +1,6 @@
 -- Opening the next table at an end, as a load of a part of a walk.
-use Rattle.std.proofs.Common.{◌≡◌, ℕ, zero, suc, ◌+◌, ◌-◌, ◌<◌, ◌≤◌, List, [], ◌∷◌, drop, get_or}
-use Rattle.std.proofs.Common.{length, map, take, Bool, true, false, refl, sym, ap, subst, ◌∙◌, arith}
-use Rattle.std.proofs.lemmas.List.Sums.{sum_by-append}
+use Rattle.std.proofs.Common.{◌≡◌, ℕ, suc, ◌-◌, ◌<◌, ◌≤◌, List, [], drop, get_or}
+use Rattle.std.proofs.Common.{length, take, Bool, true, false, refl, sym, ap, subst, ◌∙◌, arith}
 use Rattle.std.specs.Prelude.{Option, Some, None, Result, Ok, Err, IfOk, if◌then◌else◌}
 use Rattle.std.specs.declared.ops.Bound.{Bound}
 use Rattle.std.specs.declared.ops.Bound.TheVariants.{Unbounded}
@@ -13,8 +12,8 @@ use Rattle.sst_entries.specs.declared.stream.Direction.TheVariants.{Front, Back}
 use Rattle.sst_entries.specs.Stream.{back_of}
 use Rattle.lsm_walks.specs.Ends.{taken_at}
 use Rattle.lsm_walks.specs.Parts.{LoadGives}
-use Rattle.lsm_walks.proofs.AtEnds.{map_none, map_taken, none_at, split}
-use Rattle.lsm_block_indexes.proofs.AtEnds.{not_memory}
+use Rattle.lsm_walks.proofs.AtEnds.{map_none, map_taken, none_at}
+use Rattle.lsm_walks.proofs.Instances.{sum_taken}
 use Rattle.lsm_iters.specs.Range.{Range, range_left, range_loads, range_remains}
 use Rattle.lsm_iters.proofs.Ends.{if_false}
 use Rattle.lsm_readers.specs.Ranges.{IsRangeOf}
@@ -22,7 +21,7 @@ use Rattle.lsm_readers.specs.Table.{OpenTable}
 use Rattle.lsm_readers.proofs.TableRanges.{come, index_come, left_is}
 use Rattle.lsm_runs.specs.RunParts.{Part, RunSpan, is_edge, part_loads, part_told, span_part_at}
 use Rattle.lsm_runs.specs.RunParts.{span_parts_between, span_parts_from}
-use Rattle.lsm_runs.specs.RunRange.{Unopened, parts_loads}
+use Rattle.lsm_runs.specs.RunRange.{Unopened}
 use Rattle.lsm_runs.specs.Tables.{KeepsTables, coming_tables, none_unopened, place_taken, table_named}
 use Rattle.lsm_runs.proofs.Places.{first_between, last_between, none_between, part_there}
 use Rattle.lsm_runs.proofs.Places.{same_there, table_at}
@@ -78,11 +77,6 @@ module _ {A : Type 0} (p : Part) (s : Range A) (is : IsRangeOf p.table p.low p.h
 
 -- ---- the next table at an end
 
-loads_taken : (at : Direction) (ps qs : List Part) (p : Part) → taken_at at ps ≡ (Some p, qs)
-    → parts_loads ps ≡ part_loads p + parts_loads qs
-loads_taken Front ps qs p e = ap parts_loads (split Front ps qs p e)
-loads_taken Back ps qs p e = omega (arith, ap parts_loads (split Back ps qs p e), sum_by-append part_loads qs (p ∷ []))
-
 module _ (span : RunSpan) (ts : List OpenTable) (lo hi : ℕ) (less : lo < hi)
     (within : hi ≤ length ts) where
   -- the table at an end, as its part
@@ -127,7 +121,7 @@ module _ (span : RunSpan) (ts : List OpenTable) (lo hi : ℕ) (less : lo < hi)
         named = Some (table_named part);
         names = map_taken table_named at before behind part t.takes;
         told = reader_left part x reader;
-        loads = omega (arith, reader_loads part x reader, loads_taken at before behind part t.takes);
+        loads = omega (arith, reader_loads part x reader, sum_taken part_loads at before behind part t.takes);
         first = λ f early. let wrong : None ≡ Some f = early in absurd cc;
         kept = omega (arith, more);
       }
@@ -150,5 +144,5 @@ module _ (span : RunSpan) (ts : List OpenTable) (lo hi : ℕ) (less : lo < hi)
         told = refl;
         loads = omega arith;
         first = λ f early. let wrong : None ≡ Some f = early in absurd cc;
-        kept = refl;
+        kept = omega arith;
       })

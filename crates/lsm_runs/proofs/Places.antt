@@ -2,13 +2,12 @@
 use Rattle.std.proofs.Common.{◌≡◌, ℕ, zero, suc, ◌+◌, ◌-◌, ◌<◌, ◌≤◌, List, [], ◌∷◌, ◌++◌, drop}
 use Rattle.std.proofs.Common.{get_or, length, take, refl, sym, ap, ◌∙◌, arith}
 use Rattle.std.proofs.lemmas.Option.{slice_get_read, slice_get-get_or}
-use Rattle.std.specs.Prelude.{Option, Some, None}
+use Rattle.std.specs.Prelude.{Some}
 use Rattle.std.specs.List.{slice_get}
 use Rattle.sst_entries.specs.Stream.{front_of, back_of}
 use Rattle.lsm_walks.proofs.AtEnds.{back_push}
 use Rattle.lsm_readers.specs.Table.{OpenTable}
-use Rattle.lsm_runs.specs.RunParts.{Part, RunSpan, span_part_at, span_parts_from}
-use Rattle.lsm_runs.specs.RunParts.{span_parts_between}
+use Rattle.lsm_runs.specs.RunParts.{RunSpan, span_part_at, span_parts_from}
 
 module _ {X : Type 0} where
   drop_split : (xs : List X) (i : ℕ) (x : X) → slice_get xs i ≡ Some x

@@ -1,24 +1,23 @@
 -- The lists of the tables of a run in order are sorted, one behind another.
-use Rattle.std.proofs.Common.{◌≡◌, refl, sym, ◌∙◌, ap, subst, ℕ, ◌+◌, ◌<◌, inl, inr, Bool, true}
-use Rattle.std.proofs.Common.{false, List, [], ◌∷◌, ◌++◌, filter, IsTrue, arith}
-use Rattle.std.specs.Prelude.{◌&&◌, map}
+use Rattle.std.proofs.Common.{◌≡◌, sym, ◌∙◌, ap, subst, ℕ, ◌+◌, inl, inr, Bool, true}
+use Rattle.std.proofs.Common.{List, [], ◌∷◌, ◌++◌, filter, arith}
 use Rattle.std.specs.List.{AllByRecursion, list_all}
 use Rattle.std.specs.Cmp.Lexicographic.{slice_cmp}
 use Rattle.std.specs.Ordering.{is_gt, nat_cmp, ordering_then}
 use Rattle.std.specs.declared.cmp.Ordering.{Ordering}
-use Rattle.std.specs.declared.cmp.Ordering.TheVariants.{Less, Equal, Greater}
+use Rattle.std.specs.declared.cmp.Ordering.TheVariants.{Equal}
 use Rattle.std.proofs.lemmas.Bool.{cases_Bool}
 use Rattle.sst_entries.specs.Entry.{Entry}
 use Rattle.sst_entries.specs.Key.{key_lt}
 use Rattle.sst_entries.specs.Kind.{tag_of}
 use Rattle.sst_entries.proofs.Booleans.{and_parts}
 use Rattle.sst_entries.proofs.Lists.{all_more}
-use Rattle.sst_entries.proofs.OrderLemmas.{less_of, tie_same}
+use Rattle.sst_entries.proofs.OrderLemmas.{less_of}
 use Rattle.lsm_formats.specs.Chunks.{joined}
 use Rattle.lsm_iters.specs.Lift.{lift}
-use Rattle.lsm_merge.specs.Union.{AtMost, Ascends, item_cmp}
+use Rattle.lsm_merge.specs.Union.{AtMost, Ascends}
 use Rattle.lsm_merge.proofs.Pairs.{Precedes, Strict, as_pairs, nat_is_less, tied}
-use Rattle.lsm_ranges.specs.KeyRange.{Interval, has_key, key_le}
+use Rattle.lsm_ranges.specs.KeyRange.{Interval, key_le}
 use Rattle.lsm_ranges.specs.Run.{are_in_order}
 use Rattle.lsm_ranges.proofs.IntervalLemmas.{le_then_lt, lt_then_le}
 use Rattle.lsm_ranges.proofs.RunLemmas.{parts}

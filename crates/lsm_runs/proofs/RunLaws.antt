@@ -1,7 +1,7 @@
 -- What a reader of a run deals, how many tables it opens, and how far off its end is.
-use Rattle.std.proofs.Common.{◌≡◌, ℕ, zero, suc, ◌+◌, ◌-◌, ◌<◌, ◌≤◌, List, [], ◌∷◌, ◌++◌, drop}
-use Rattle.std.proofs.Common.{length, take, refl, sym, ap, subst, ◌∙◌, arith}
-use Rattle.std.proofs.lemmas.List.{length-append, length-take, length-drop}
+use Rattle.std.proofs.Common.{◌≡◌, ℕ, ◌+◌, ◌-◌, ◌≤◌, List, [], ◌∷◌, drop}
+use Rattle.std.proofs.Common.{length, take, subst, arith}
+use Rattle.std.proofs.lemmas.List.{length-take, nil_from_length}
 use Rattle.std.specs.Iterator.{MakesProgress, at_most}
 use Rattle.std.specs.Prelude.{Option, Some, None, Result, Ok, Err, IfOk}
 use Rattle.sst_entries.specs.declared.stream.Direction.{Direction}
@@ -9,14 +9,13 @@ use Rattle.sst_entries.specs.declared.stream.Direction.TheVariants.{Front, Back}
 use Rattle.sst_entries.specs.Stream.{Runs, front_of, back_of}
 use Rattle.lsm_block_indexes.specs.Dealt.{DealsEnding}
 use Rattle.lsm_block_indexes.proofs.Dealing.{Ending, deals_ending}
-use Rattle.lsm_block_indexes.proofs.TwoLevels.{no_items}
 use Rattle.lsm_runs.specs.RunRange.{IsRunEnded, OpensAtMost, RunGives, RunRange, back_tables}
 use Rattle.lsm_runs.specs.RunRange.{front_tables, run_left, run_size}
 use Rattle.lsm_runs.proofs.RunSteps.{End, R}
 
 module _ {A : Type 0} where
   nothing : (s : RunRange A) → IsRunEnded s → run_left s ≡ []
-  nothing s ended = no_items (run_left s) (omega (arith, ended))
+  nothing s ended = nil_from_length (run_left s) (omega (arith, ended))
 
   ends_by : (of : End) (needed : RunRange A → ℕ) (s : RunRange A) (r : Option R) (t : RunRange A)
       → RunGives of needed s r t → Ending run_left IsRunEnded of s r t
@@ -31,8 +30,8 @@ module _ {A : Type 0} where
       deals_ending run_left IsRunEnded nothing (RunGives front_of front_tables) (RunGives back_of back_tables)
       (λ u r t step. ends_by front_of front_tables u r t step) (λ u r t step. ends_by back_of back_tables u r t step) s
 
-  pub progress : (of : End) (needed : RunRange A → ℕ) (s : RunRange A) (r : Option R) (t : RunRange A)
-      → RunGives of needed s r t
+  pub progress : (of : End) (needed : RunRange A → ℕ) (s : RunRange A) (r : Option R)
+      (t : RunRange A) → RunGives of needed s r t
       → MakesProgress (λ _. Unit {0}) (λ u. at_most (run_size u)) s r t
   progress of needed s None t step = record { on = λ _. tt; keeps = tt; rests = λ _. tt }
   progress of needed s (Some x) t step = record { on = λ _. (tt, tt, step.lowers); keeps = tt; rests = λ _. tt }

@@ -1,5 +1,5 @@
 -- What a new reader of a run of tables of lists deals.
-use Rattle.std.proofs.Common.{◌≡◌, ℕ, suc, ◌+◌, ◌-◌, ◌≤◌, true, List, [], ◌++◌, length, sym, ap}
+use Rattle.std.proofs.Common.{◌≡◌, ℕ, suc, ◌+◌, ◌-◌, true, List, ◌++◌, length, sym, ap}
 use Rattle.std.proofs.Common.{subst, ◌∙◌, append-nil, arith}
 use Rattle.std.specs.Prelude.{Option, Some}
 use Rattle.std.specs.declared.ops.Bound.{Bound}
@@ -12,7 +12,7 @@ use Rattle.lsm_iters.specs.Range.{Range}
 use Rattle.lsm_ranges.specs.Run.{ArePlacesOf, are_in_order, overlap_indexes}
 use Rattle.lsm_readers.specs.Table.{OpenTable}
 use Rattle.lsm_runs.specs.RunLists.{DealsList, HoldLists, span_list}
-use Rattle.lsm_runs.specs.RunParts.{Part, RunSpan, span_parts_from, ranges_of, span_of, span_parts}
+use Rattle.lsm_runs.specs.RunParts.{RunSpan, span_parts_from, ranges_of, span_of, span_parts}
 use Rattle.lsm_runs.specs.RunRange.{IsRunOf, OpensAtMost, RunGives, RunRange, back_tables}
 use Rattle.lsm_runs.specs.RunRange.{front_tables, left_of_reader, run_parts_told, run_left}
 use Rattle.lsm_runs.proofs.RunLaws.{few_between, opens_few, run_deals}

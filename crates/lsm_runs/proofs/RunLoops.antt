@@ -1,6 +1,6 @@
 -- Loops over runs: what holds at a place of several lists.
 use Rattle.std.proofs.Common.{◌≡◌, refl, sym, ◌∙◌, ap, subst, ℕ, zero, suc, ◌+◌, ◌<◌, List, [], ◌∷◌, ◌++◌, get_or, length, take, arith}
-use Rattle.std.specs.Prelude.{Option, Some, map}
+use Rattle.std.specs.Prelude.{Some, map}
 use Rattle.std.specs.List.{AllByRecursion, AllZip, slice_get}
 use Rattle.lsm_runs.proofs.Places.{take_push}
 

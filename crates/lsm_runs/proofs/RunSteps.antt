@@ -1,23 +1,25 @@
 -- A step of the walk over tables, as a call of a reader of a run.
-use Rattle.std.proofs.Common.{◌≡◌, ℕ, zero, suc, ◌+◌, ◌<◌, ◌≤◌, List, [], ◌∷◌, ◌++◌, length, map}
+use Rattle.std.proofs.Common.{◌≡◌, ℕ, suc, ◌+◌, ◌≤◌, List, [], ◌∷◌, ◌++◌, length, map}
 use Rattle.std.proofs.Common.{reverse, refl, sym, ap, subst, ◌∙◌, arith}
 use Rattle.std.proofs.lemmas.List.{length-map}
+use Rattle.std.proofs.lemmas.List.Sums.{sum_by-append}
 use Rattle.std.specs.Prelude.{Option, Some, None, Result, Ok, Err}
 use Rattle.sst_entries.specs.declared.error.Error.{Error}
 use Rattle.sst_entries.specs.declared.stream.Direction.{Direction}
 use Rattle.sst_entries.specs.declared.stream.Direction.TheVariants.{Front, Back}
 use Rattle.sst_entries.specs.Entry.{Entry}
 use Rattle.lsm_walks.specs.declared.walk.Walk.{Walk}
-use Rattle.lsm_walks.specs.Ends.{IsOver, seen_from, taken_at}
+use Rattle.lsm_walks.specs.Ends.{IsOver, taken_at}
 use Rattle.lsm_walks.specs.Parts.{Loading, Loads, all_results, loads_in, needed, none_behind}
 use Rattle.lsm_walks.specs.Walks.{Ended, WalkGives, WalkTakes, needed_at, walk_left}
 use Rattle.lsm_walks.proofs.AtEnds.{map_seen, no_items, shortens}
+use Rattle.lsm_walks.proofs.Instances.{loads_one, positive}
 use Rattle.lsm_iters.specs.Range.{Range, range_remains}
-use Rattle.lsm_runs.specs.RunParts.{Part, part_told}
-use Rattle.lsm_runs.specs.RunRange.{CountsTables, IsRunEnded, RunGives, RunRange, Unopened}
-use Rattle.lsm_runs.specs.RunRange.{left_of_reader, loads_of_reader, parts_loads, run_left}
-use Rattle.lsm_runs.specs.RunRange.{run_loads, run_parts_told, run_size, tables_at, tables_needed}
-use Rattle.lsm_runs.specs.Tables.{EndsTables, KeepsTables, coming_tables, none_unopened, run_of}
+use Rattle.lsm_runs.specs.RunParts.{Part, part_loads, part_told}
+use Rattle.lsm_runs.specs.RunRange.{CountsTables, IsRunEnded, RunGives, Unopened}
+use Rattle.lsm_runs.specs.RunRange.{left_of_reader, parts_loads, run_left}
+use Rattle.lsm_runs.specs.RunRange.{run_parts_told, run_size, tables_at, tables_needed}
+use Rattle.lsm_runs.specs.Tables.{EndsTables, KeepsTables, coming_tables, run_of}
 use Rattle.lsm_runs.specs.Tables.{table_named}
 
 abbrev pub R : Type 0
@@ -42,96 +44,89 @@ needed_tables (p ∷ ps) = ap (λ (n : ℕ). suc (none_behind (part_told p) n)) 
 -- each of them may load something
 each_loads : (ps : List Part) → length ps ≤ parts_loads ps
 each_loads [] = omega arith
-each_loads (p ∷ ps) = omega (arith, each_loads ps)
-
-one_more : (named : Named) (more : List Named) → loads_in (named ∷ more) ≡ loads_in (named ∷ []) + loads_in more
-one_more None more = omega arith
-one_more (Some (Ok part)) more = omega arith
-one_more (Some (Err e)) more = omega arith
+each_loads (p ∷ ps) = omega (arith, sum_by-append part_loads (p ∷ []) ps, each_loads ps)
 
 counted : (named : List Named) (s t : Unopened) → Loads KeepsTables s named t
     → t.opened ≡ loads_in named + s.opened
-counted [] s t is = ap (λ (u : Unopened). u.opened) is
-counted (x ∷ named) s t loads = omega (arith, one_more x named, loads.2, counted named s loads.0 loads.1)
-
-positive : (n : ℕ) → (n ≡ 0 → ⊥) → 0 < n
-positive zero some = absurd (some refl)
-positive (suc n) some = omega arith
+counted [] s t is = omega (arith, ap (λ (u : Unopened). u.opened) is)
+counted (x ∷ named) s t loads = omega (arith, loads_one x named, loads.2, counted named s loads.0 loads.1)
 
 -- ---- a walk and its reader of a run
 
-module _ {A : Type 0} where
-  abbrev W : Type 0
-  W = Walk Unopened (Range A)
+abbrev W : Type 0 → Type 0
+W A = Walk Unopened (Range A)
 
-  left_is : (w : W) → (walk_left range_remains coming_tables w).results ≡ run_left (run_of w)
+module _ {A : Type 0} where
+  left_is : (w : W A) → (walk_left range_remains coming_tables w).results ≡ run_left (run_of w)
   left_is w =
       ap (λ (rs : List R). left_of_reader w.front ++ (rs ++ left_of_reader w.back)) (told_tables w.parts.parts)
 
-  needs_is : (at : Direction) (w : W) → needed_at range_remains coming_tables at w ≡ tables_at at (run_of w)
+  needs_is : (at : Direction) (w : W A)
+      → needed_at range_remains coming_tables at w ≡ tables_at at (run_of w)
   needs_is Front w = ap (none_behind (left_of_reader w.front)) (needed_tables w.parts.parts)
   needs_is Back w =
       ap (λ (ps : List (Result (Loading Entry) Error)). none_behind (left_of_reader w.back) (needed ps)) (map_seen table_named Back w.parts.parts)
       ∙ ap (none_behind (left_of_reader w.back)) (needed_tables (reverse w.parts.parts))
 
-  over_is : (w : W) → IsOver (walk_left range_remains coming_tables w) → IsRunEnded (run_of w)
+  over_is : (w : W A) → IsOver (walk_left range_remains coming_tables w) → IsRunEnded (run_of w)
   over_is w over = omega (arith, ap length (sym (left_is w) ∙ over.results), over.loads)
 
-  over_from : (w : W) → IsRunEnded (run_of w) → IsOver (walk_left range_remains coming_tables w)
+  over_from : (w : W A) → IsRunEnded (run_of w) → IsOver (walk_left range_remains coming_tables w)
   over_from w ended = record {
     results = left_is w ∙ no_items (run_left (run_of w)) (omega (arith, ended));
     loads = omega (arith, ended, each_loads w.parts.parts, length-map w.parts.parts table_named);
   }
 
-  ended_is : (u v : W) → Ended coming_tables EndsTables u v → IsRunEnded (run_of v)
+  ended_is : (u v : W A) → Ended coming_tables EndsTables u v → IsRunEnded (run_of v)
   ended_is u v ended =
       ap (λ (o : Option (Range A)). run_size (record (run_of v) { front = o })) ended.front
       ∙ ap (λ (o : Option (Range A)). run_size (record (run_of v) { front = None; back = o })) ended.back
       ∙ ap (λ (x : Unopened). run_size {A = A} (record { unopened = x; front = None; back = None })) ended.kept
 
-  counts : (at : Direction) (w u : W) (r : Option R) → WalkTakes range_remains coming_tables KeepsTables at w r u
-      → (t : Unopened) → t.opened ≡ u.parts.opened → length t.parts ≤ length u.parts.parts → CountsTables (tables_at at (run_of w)) w.parts t
-  counts at w u r takes t same fewer = record {
+  counts : (at : Direction) (w u : W A) (r : Option R) (t : Unopened)
+      → WalkTakes range_remains coming_tables KeepsTables at w r u → t.opened ≡ u.parts.opened
+      → length t.parts ≤ length u.parts.parts → CountsTables (tables_at at (run_of w)) w.parts t
+  counts at w u r t takes same fewer = record {
     count = loads_in takes.named;
     counts = same ∙ counted takes.named w.parts u.parts takes.loads;
     within = omega (arith, takes.within, fewer, length-map w.parts.parts table_named, length-map u.parts.parts table_named);
     most = omega (arith, takes.most, needs_is at w);
   }
 
-  pub run_gives : (at : Direction) (w v : W) (r : Option R)
+  pub run_gives : (at : Direction) (w v : W A) (r : Option R)
       → WalkGives range_remains coming_tables KeepsTables EndsTables at w r v
       → RunGives (taken_at at) (tables_at at) (run_of w) r (run_of v)
   unfolding counts
   run_gives at w v None gives =
       let takes = gives.takes in
-      let u : W = gives.taken in
-      subst (λ (x : W). RunGives (taken_at at) (tables_at at) (run_of w) None (run_of x)) (sym gives.goes) (record {
+      let u : W A = gives.taken in
+      subst (λ (x : W A). RunGives (taken_at at) (tables_at at) (run_of w) None (run_of x)) (sym gives.goes) (record {
         answer = sym (left_is w) ∙ takes.answer.0;
         ends = tt;
         lowers = over_is u takes.answer.1;
-        tables = counts at w u None takes u.parts refl (omega arith);
+        tables = counts at w u None u.parts takes refl (omega arith);
         exact = λ fine. takes.exact fine ∙ needs_is at w;
       })
   run_gives at w v (Some (Ok e)) gives =
       let takes = gives.takes in
-      let u : W = gives.taken in
+      let u : W A = gives.taken in
       let answer : taken_at at (run_left (run_of w)) ≡ (Some (Ok e), run_left (run_of u)) =
       ap (taken_at at) (sym (left_is w)) ∙ takes.answer ∙ ap (λ (rs : List R). (Some (Ok e), rs)) (left_is u) in
-      subst (λ (x : W). RunGives (taken_at at) (tables_at at) (run_of w) (Some (Ok e)) (run_of x)) (sym gives.goes) (record {
+      subst (λ (x : W A). RunGives (taken_at at) (tables_at at) (run_of w) (Some (Ok e)) (run_of x)) (sym gives.goes) (record {
         answer = answer;
         ends = tt;
         lowers = omega (arith, shortens at (run_left (run_of w)) (run_left (run_of u)) (Ok e) answer, takes.others);
-        tables = counts at w u (Some (Ok e)) takes u.parts refl (omega arith);
+        tables = counts at w u (Some (Ok e)) u.parts takes refl (omega arith);
         exact = λ fine. takes.exact fine ∙ needs_is at w;
       })
   run_gives at w v (Some (Err e)) gives =
       let takes = gives.takes in
-      let u : W = gives.taken in
+      let u : W A = gives.taken in
       let ended = ended_is u v gives.goes in
       record {
         answer = λ fine. ap (λ (rs : List R). (taken_at at rs).0) (sym (left_is w)) ∙ takes.answer.0 fine;
         ends = ended;
         lowers = omega (arith, ended, positive (run_size (run_of w)) (λ none. takes.answer.1 (over_from w none)));
-        tables = counts at w u (Some (Err e)) takes v.parts (ap (λ (x : Unopened). x.opened) gives.goes.kept) (omega (arith, ap (λ (x : Unopened). length x.parts) gives.goes.kept));
+        tables = counts at w u (Some (Err e)) v.parts takes (ap (λ (x : Unopened). x.opened) gives.goes.kept) (omega (arith, ap (λ (x : Unopened). length x.parts) gives.goes.kept));
         exact = λ fine. takes.exact fine ∙ needs_is at w;
       }

@@ -1,13 +1,13 @@
 -- Of tables of lists in a run in order a reader deals what of all lists lies within the bounds.
-use Rattle.std.proofs.Common.{◌≡◌, refl, sym, ap, subst, ◌∙◌, ℕ, zero, suc, ◌+◌, ◌-◌, ◌<◌, Bool}
-use Rattle.std.proofs.Common.{true, false, cond, ◌==◌, List, [], ◌∷◌, ◌++◌, drop, length, take}
+use Rattle.std.proofs.Common.{◌≡◌, refl, sym, ap, subst, ◌∙◌, ℕ, zero, suc, ◌+◌, ◌-◌, Bool}
+use Rattle.std.proofs.Common.{true, false, ◌==◌, List, [], ◌∷◌, ◌++◌, drop, take}
 use Rattle.std.proofs.Common.{IsTrue, inl, inr, arith}
 use Rattle.std.specs.Prelude.{Option, Some, None, Ok, ◌&&◌, ◌||◌, map, if◌then◌else◌}
-use Rattle.std.specs.List.{AllByRecursion, AllZip, list_all}
+use Rattle.std.specs.List.{AllByRecursion, list_all}
 use Rattle.std.specs.declared.ops.Bound.{Bound}
 use Rattle.std.specs.declared.ops.Bound.TheVariants.{Unbounded}
-use Rattle.std.proofs.lemmas.Bool.{cases_Bool, eq-eqb, ne_eqb}
-use Rattle.std.proofs.lemmas.List.{append-nil, map-append}
+use Rattle.std.proofs.lemmas.Bool.{cases_Bool, eq-eqb}
+use Rattle.std.proofs.lemmas.List.{map-append}
 use Rattle.std.proofs.lemmas.List.Elements.{filter-append}
 use Rattle.std.proofs.Math.Bool.{and-false}
 use Rattle.sst_entries.specs.Entry.{Entry}
@@ -17,12 +17,12 @@ use Rattle.sst_entries.specs.Stream.{ok_results}
 use Rattle.sst_entries.proofs.Booleans.{and_both, and_parts, is_false, not_is, not_not, or_right}
 use Rattle.lsm_formats.specs.Chunks.{joined}
 use Rattle.lsm_iters.specs.Lift.{lift}
-use Rattle.lsm_ranges.specs.KeyRange.{Interval, IsOutside, has_key, key_le}
+use Rattle.lsm_ranges.specs.KeyRange.{Interval, has_key, key_le}
 use Rattle.lsm_ranges.specs.Run.{are_in_order, ends_before, first_and_last, how_many}
 use Rattle.lsm_ranges.specs.Run.{overlap_indexes, starts_within}
-use Rattle.lsm_ranges.proofs.IntervalLemmas.{le_to, lt_then_le, lt_to_le, lower_up, none_within}
+use Rattle.lsm_ranges.proofs.IntervalLemmas.{lt_to_le, lower_up, none_within}
 use Rattle.lsm_ranges.proofs.IntervalLemmas.{upper_down}
-use Rattle.lsm_ranges.proofs.RunLemmas.{Parts as Ordered, falls-ends_before, falls-starts_within}
+use Rattle.lsm_ranges.proofs.RunLemmas.{falls-ends_before, falls-starts_within}
 use Rattle.lsm_ranges.proofs.RunLemmas.{first_and_last-none, first_and_last-some, none_count, parts}
 use Rattle.lsm_readers.specs.OfList.{ends_of}
 use Rattle.lsm_readers.specs.Parts.{Parts}
@@ -34,7 +34,7 @@ use Rattle.lsm_readers.proofs.FileRanges.{file_rows}
 use Rattle.lsm_readers.proofs.Recovered.{range_is}
 use Rattle.lsm_runs.specs.RunLists.{HoldLists, HoldsList}
 use Rattle.lsm_runs.specs.RunParts.{Part, RunSpan, is_edge, span_part_at, part_told}
-use Rattle.lsm_runs.specs.RunParts.{span_parts_from, span_parts_between, range_of, ranges_of}
+use Rattle.lsm_runs.specs.RunParts.{span_parts_from, range_of, ranges_of}
 use Rattle.lsm_runs.specs.RunParts.{span_of, span_parts}
 use Rattle.lsm_runs.specs.RunRange.{run_parts_told}
 use Rattle.lsm_runs.proofs.RunSteps.{R}

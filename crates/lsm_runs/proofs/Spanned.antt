@@ -1,7 +1,7 @@
 -- A loop over runs that makes the readers of their spans.
-use Rattle.std.proofs.Common.{◌≡◌, refl, sym, ◌∙◌, ap, subst, ℕ, ◌+◌, ◌<◌, ◌≤◌, List, [], ◌∷◌, ◌++◌}
+use Rattle.std.proofs.Common.{◌≡◌, sym, ◌∙◌, ap, subst, ℕ, ◌+◌, ◌<◌, ◌≤◌, List, [], ◌∷◌, ◌++◌}
 use Rattle.std.proofs.Common.{get_or, length, take, append-nil}
-use Rattle.std.specs.Prelude.{Option, Some, None, MatchOption, map}
+use Rattle.std.specs.Prelude.{Option, Some, None, map}
 use Rattle.std.specs.List.{AllByRecursion, AllZip, flat_map}
 use Rattle.std.specs.declared.ops.Bound.{Bound}
 use Rattle.std.proofs.lemmas.List.{map-append, take_all, take_more}

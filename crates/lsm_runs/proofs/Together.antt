@@ -1,6 +1,6 @@
 -- Readers of several runs: what they deal together, and the newest of it.
 use Rattle.std.proofs.Common.{◌≡◌, refl, sym, ◌∙◌, ap, subst, ℕ, ◌+◌, ◌<◌, ◌≤◌, Bool, true, List, [], ◌∷◌, ◌++◌, get_or, length, take, arith}
-use Rattle.std.specs.Prelude.{All, Option, Some, Result, Ok, ◌&&◌, map}
+use Rattle.std.specs.Prelude.{All, Option, Some, ◌&&◌, map}
 use Rattle.std.specs.List.{AllByRecursion, AllZip, slice_get}
 use Rattle.std.specs.declared.ops.Bound.{Bound}
 use Rattle.std.proofs.lemmas.List.{append-nil, take_all, length-map}

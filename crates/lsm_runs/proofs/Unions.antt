@@ -2,24 +2,21 @@
 use Rattle.std.proofs.Common.{◌≡◌, refl, sym, ◌∙◌, ap, ℕ, Bool, true, false, cond, List, [], ◌∷◌}
 use Rattle.std.proofs.Common.{◌++◌, filter, inl, inr}
 use Rattle.std.specs.Prelude.{◌&&◌, map}
-use Rattle.std.specs.List.{AllByRecursion, AllZip}
+use Rattle.std.specs.List.{AllByRecursion}
 use Rattle.std.specs.Ordering.{is_gt}
 use Rattle.std.specs.declared.ops.Bound.{Bound}
 use Rattle.std.proofs.lemmas.Bool.{cases_Bool}
-use Rattle.std.proofs.lemmas.List.{append-nil}
 use Rattle.std.proofs.lemmas.List.Elements.{filter-append}
 use Rattle.sst_entries.specs.Entry.{Entry}
 use Rattle.sst_entries.specs.Point.{is_from, is_to, within}
 use Rattle.sst_entries.specs.Stream.{ok_results}
 use Rattle.lsm_formats.specs.Chunks.{joined}
-use Rattle.lsm_merge.specs.Ends.{R}
 use Rattle.lsm_merge.specs.Union.{AtMost, Ascends, all_entries, all_errors, entries_among}
-use Rattle.lsm_merge.specs.Union.{errors_among, insert_sorted, item_cmp, sort_entries, union_of}
+use Rattle.lsm_merge.specs.Union.{errors_among, insert_sorted, item_cmp, sort_entries}
 use Rattle.lsm_merge.proofs.MergedLemmas.{at_most_chain, insert_least}
 use Rattle.lsm_merge.proofs.UnionLemmas.{ascends_in_order}
 use Rattle.sst_entries.proofs.Lists.{all_more}
 use Rattle.lsm_sorted.proofs.NewestLemmas.{filter_keeps}
-use Rattle.lsm_runs.specs.SeveralRuns.{union_in}
 
 -- the entries of lists without errors
 pub entries_of : (es : List Entry) → entries_among (ok_results es) ≡ es

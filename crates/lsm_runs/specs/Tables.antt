@@ -1,5 +1,5 @@
 -- The tables of a run that are not opened, as parts of a walk.
-use Rattle.std.specs.Prelude.{◌≡◌, ℕ, suc, ◌+◌, ◌-◌, List, [], ◌∷◌, map, Option, Some, None}
+use Rattle.std.specs.Prelude.{◌≡◌, ℕ, suc, ◌+◌, ◌-◌, [], ◌∷◌, map, Option, Some, None}
 use Rattle.std.specs.Prelude.{Result, Ok, Err}
 use Rattle.sst_entries.specs.declared.error.Error.{Error}
 use Rattle.sst_entries.specs.declared.stream.Direction.{Direction}
@@ -28,11 +28,11 @@ coming_tables u = record { parts = map table_named u.parts; loads = parts_loads 
 abbrev pub KeepsTables : Unopened → Option (Result (Loading Entry) Error) → Unopened → Type 0
 KeepsTables s named t = t.opened ≡ loads_in (named ∷ []) + s.opened
 
--- one, where it was opened
-abbrev pub opened_by : {T : Type 0} → Option (Result T Error) → ℕ
-opened_by None = 0
-opened_by (Some (Ok reader)) = 1
-opened_by (Some (Err e)) = 0
+-- how many tables a load opened
+abbrev pub opened_tables : {T : Type 0} → Option (Result T Error) → ℕ
+opened_tables None = 0
+opened_tables (Some (Ok reader)) = 1
+opened_tables (Some (Err e)) = 0
 
 -- none is to come any more
 abbrev pub none_unopened : Unopened → Unopened

@@ -8,7 +8,7 @@ ghost use Rattle.lsm_readers.specs.Table.{OpenTable};
 ghost use Rattle.lsm_iters.specs.Range.{range_remains};
 ghost use Rattle.lsm_walks.specs.Parts.{LoadGives};
 ghost use Rattle.lsm_runs.specs.RunParts.{span_part_at, span_of, span_parts};
-ghost use Rattle.lsm_runs.specs.Tables.{EndsTables, KeepsTables, coming_tables, opened_by};
+ghost use Rattle.lsm_runs.specs.Tables.{EndsTables, KeepsTables, coming_tables, opened_tables};
 
 use crate::bounds::share;
 use crate::spans::{is_end, place_at_end, place_behind};
@@ -114,13 +114,13 @@ impl<A: Allocator + Clone> Parts for Unopened<A> {
 
     ghost ends = { EndsTables };
 
-    /// Opens the table at an end, and counts it. Where that is refused none is to come any more, and
-    /// nothing is counted.
+    /// Opens the table at an end, and counts it. Where that is refused nothing is counted, and none
+    /// is to come any more.
     #[inline(never)]
     fn load(&mut self, at: Direction) -> Option<Result<Iter<A>, Error>>
         ensures gives { let remains = range_remains {A = A} in
             LoadGives remains coming_tables KeepsTables at self.old result self.new }
-        ensures counted { self.new.opened ≡ opened_by result + self.old.opened }
+        ensures counted { self.new.opened ≡ opened_tables result + self.old.opened }
     {
         if self.lo == self.hi {
             return None;

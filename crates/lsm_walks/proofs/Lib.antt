@@ -1,2 +1,3 @@
 pub mod AtEnds
+pub mod Instances
 pub mod Reaching

@@ -1,5 +1,5 @@
 -- How far a step of a walk has come.
-use Rattle.std.proofs.Common.{◌≡◌, ℕ, zero, suc, ◌+◌, ◌<◌, ◌≤◌, false, List, [], ◌∷◌, ◌++◌, length, refl, sym, ap, subst, ◌∙◌, arith}
+use Rattle.std.proofs.Common.{◌≡◌, ℕ, suc, ◌+◌, ◌<◌, ◌≤◌, false, List, [], ◌∷◌, ◌++◌, length, refl, sym, ap, subst, ◌∙◌, arith}
 use Rattle.std.proofs.lemmas.List.{append_assoc}
 use Rattle.std.specs.Prelude.{Option, Some, None, Result, Ok, Err}
 use Rattle.std.specs.Option.{option_or}
@@ -12,6 +12,7 @@ use Rattle.lsm_walks.specs.declared.walk.Walk.{Walk}
 use Rattle.lsm_walks.specs.Ends.{IsOver, Remains, StepAnswers, StepGives, taken_at, laid_from, remains_in, seen_from}
 use Rattle.lsm_walks.specs.Parts.{Coming, IsDone, LoadGives, Loading, Loads, Names, Tells, early_behind, early_among, early_named, loads_in, needed, none_behind, results_of, all_results}
 use Rattle.lsm_walks.specs.Walks.{StopsAtError, WalkGives, WalkTakes, early_at, far, near, needed_at, other_loads, walk_left, with_far, with_near}
+use Rattle.lsm_walks.proofs.Instances.{positive}
 use Rattle.lsm_walks.proofs.AtEnds.{first_alone, first_joined, nil_joined, nil_left, nil_right, no_items, none_at, pair, joined_assoc, rows_split, seen_none, seen_split, shortens, takes_joined, whole_end}
 
 -- ---- how many parts an answer needs
@@ -34,10 +35,6 @@ module _ {X : Type 0} where
   early_behind_needs : (xs : List (Result X Error)) (ps : List (Result (Loading X) Error)) (f : Error) → early_behind xs (early_among ps) ≡ Some f → 0 < none_behind xs (needed ps)
   early_behind_needs [] ps f e = early_needs ps f e
   early_behind_needs (x ∷ xs) ps f e = let wrong : None ≡ Some f = e in absurd cc
-
-positive : (n : ℕ) → (n ≡ 0 → ⊥) → 0 < n
-positive zero some = absurd (some refl)
-positive (suc n) some = omega arith
 
 no_loads : {X : Type 0} (ns : List (Option (Result (Loading X) Error))) → length ns ≡ 0 → loads_in ns ≡ 0
 no_loads [] e = refl

@@ -42,9 +42,13 @@ abbrev pub remains_in : {T X : Type 0} → (T → Remains X) → Option T → Re
 remains_in left None = nothing
 remains_in left (Some part) = left part
 
--- of a window in a list, for which nothing is loaded
+-- of a window in a list, for which nothing is loaded; and its list, where there is a window
 abbrev pub span_remains : {X : Type 0} → Span X → Remains X
 span_remains s = record { results = ok_results (rest_in s); loads = 0 }
+
+abbrev pub rest_of : {X : Type 0} → Option (Span X) → List X
+rest_of None = []
+rest_of (Some s) = rest_in s
 
 -- an answer at an end: the result that stands there, and the others are left; nothing, where
 -- nothing is left; want of memory stands in the place of any answer, except once all is over

@@ -1,5 +1,5 @@
 -- Lists of numbers as the parts of a walk.
-use Rattle.std.specs.Prelude.{ℕ, List, [], ◌∷◌, map, None, Some, Result, Ok, Err}
+use Rattle.std.specs.Prelude.{ℕ, [], ◌∷◌, map, None, Some, Result, Ok, Err}
 use Rattle.std.specs.List.{sum_by}
 use Rattle.sst_entries.specs.declared.error.Error.{Error}
 use Rattle.sst_entries.specs.Stream.{ok_results}
@@ -12,6 +12,7 @@ use Rattle.test_walks.specs.declared.rows.Rows.{Rows}
 abbrev pub row_remains : Row → Remains ℕ
 row_remains row = record { results = ok_results row.numbers; loads = row.loads }
 
+-- those of a row that is to come
 abbrev pub loads_named : Result Row Error → ℕ
 loads_named (Ok row) = row.loads
 loads_named (Err e) = 0

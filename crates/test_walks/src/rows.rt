@@ -8,8 +8,8 @@ use lsm_walks::{Ends, Parts};
 use sst_entries::{Direction, Error};
 use std::collections::LinkedList;
 
-/// Numbers, dealt from both ends, and how many loads they may make of their own: each step may make
-/// one.
+/// Numbers, dealt from both ends, and how many loads they may make of their own: the first step
+/// makes them.
 #[derive(Drop)]
 pub struct Row {
     pub numbers: LinkedList<u8>,
@@ -28,19 +28,16 @@ impl Ends for Row {
     ghost left = { row_remains };
 
     fn step(&mut self, at: Direction) -> Option<Result<u8, Error>> {
-        let number = match at {
-            Direction::Front => self.numbers.pop_front(),
-            Direction::Back => self.numbers.pop_back(),
-        };
-        match number {
-            Some(number) => {
-                self.loads = self.loads.saturating_sub(1);
-                Some(Ok(number))
-            }
-            None => {
-                self.loads = 0;
-                None
-            }
+        self.loads = 0;
+        match at {
+            Direction::Front => match self.numbers.pop_front() {
+                Some(number) => Some(Ok(number)),
+                None => None,
+            },
+            Direction::Back => match self.numbers.pop_back() {
+                Some(number) => Some(Ok(number)),
+                None => None,
+            },
         }
     }
 }
