@@ -1,4 +1,5 @@
 pub mod BlockLengths
+pub mod Counting
 pub mod KindLemmas
 pub mod MetaItems
 pub mod OneCut

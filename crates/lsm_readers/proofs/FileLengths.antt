@@ -20,7 +20,7 @@ use Rattle.sst_blocks.proofs.Entries.{entries_read, length-spelled}
 use Rattle.sst_blocks.proofs.HandleLaws.{handles_read, length-handle_spelled}
 use Rattle.sst_sections.proofs.Numbers.{wide4}
 use Rattle.lsm_formats.specs.Chunks.{joined}
-use Rattle.lsm_formats.specs.Facts.{count_after, one_if, lowest_seqno, highest_seqno}
+use Rattle.lsm_formats.specs.Facts.{lowest_seqno, highest_seqno}
 use Rattle.lsm_formats.specs.Index.{last_entry, handle_of, handles_from, handles, block_size, data_block, data_section}
 use Rattle.lsm_formats.specs.Fits.{EntryFits, BlockFits}
 use Rattle.lsm_readers.proofs.ChunkReads.{AreSome, later, strict_front, strict_after}
@@ -57,16 +57,7 @@ section_wide v [] = omega arith
 section_wide v (c ∷ cs) =
     omega (arith, section_wide v cs, payload_wide v c, length-block v Data (payload v c), length-append c (joined cs), length-append (data_block v c) (data_section v cs))
 
--- ---- counts
-
-one_small : (b : Bool) → one_if b ≤ 1
-one_small true = omega arith
-one_small false = omega arith
-
-pub after_within : (test : Option Entry → Entry → Bool) (before : Option Entry) (es : List Entry) → count_after test before es ≤ length es
-unfolding count_after
-after_within test before [] = omega arith
-after_within test before (e ∷ es) = omega (arith, one_small (test before e), after_within test (Some e) es)
+-- ---- numbers
 
 min_le : (a b c : ℕ) → b < c → min a b < c
 min_le a b c h = omega arith

@@ -21,6 +21,7 @@ use Rattle.lsm_writers.specs.Counts.{metadata_of, brought, tally_of, added, with
 use Rattle.lsm_writers.specs.Cut.{Cut, rest_chunk, with_cut}
 use Rattle.lsm_formats.specs.Facts.{count_after, lowest_seqno, highest_seqno, is_tombstone, is_weak, is_reclaimable, starts_key, one_if, first_key}
 use Rattle.lsm_formats.specs.Fits.{EntryFits}
+use Rattle.lsm_formats.proofs.Counting.{after_within}
 use Rattle.lsm_writers.specs.Held.{IsUnfilled, IsHeld, IsShortest, IsTaken}
 use Rattle.lsm_writers.specs.Writing.{item_fault, may_be_written}
 use Rattle.lsm_writers.proofs.Cutting.{joined_more, rest_is}
@@ -138,32 +139,18 @@ brought_is (Some x) key = refl
 pub counted_is : {A : Type 0} (cut : List (List Entry)) (pending : List Entry) (e : Entry) (m : Metadata A) → m ≡ metadata_of V4 cut pending → with_entry (last_of None (joined cut ++ pending)) e m ≡ metadata_of V4 cut (pending ++ e ∷ [])
 counted_is cut pending e m h =
     let es = joined cut ++ pending in
-    rw (h, brought_is (first_key es) e.user_key, snoc_assoc (joined cut) pending e, count_more is_tombstone es e, count_more is_weak es e, after_more is_reclaimable None es e, after_more starts_key None es e, lowest_more es e, highest_more es e, first_more es e) refl
+    rw (h, brought_is (first_key es) e.user_key, snoc_assoc (joined cut) pending e) (simp (count_more, after_more, lowest_more, highest_more, first_more) refl)
 
 -- ---- room for one more
-
-one_if-le : (b : Bool) → one_if b ≤ 1
-one_if-le true = omega arith
-one_if-le false = omega arith
-
-after-le : (test : Option Entry → Entry → Bool) (before : Option Entry) (es : List Entry) → count_after test before es ≤ length es
-unfolding count_after
-after-le test before [] = omega arith
-after-le test before (x ∷ xs) = omega (arith, after-le test (Some x) xs, one_if-le (test before x))
 
 pub has_room : {A : Type 0} (cut : List (List Entry)) (pending : List Entry) (m : Metadata A) → m ≡ metadata_of V4 cut pending → 17 * length (joined cut) < 2 ^ 64 → 17 * length pending < 2 ^ 32 → HasRoom m
 has_room {A} cut pending m h few small =
     let es = joined cut ++ pending in
     let n = length-append (joined cut) pending in
-    record {
-      tombstones = omega (arith, ap (λ (x : Metadata A). x.tombstone_count) h, count_by-le-length is_tombstone es, n, few, small);
-      weak = omega (arith, ap (λ (x : Metadata A). x.weak_tombstone_count) h, count_by-le-length is_weak es, n, few, small);
-      reclaimable = omega (arith, ap (λ (x : Metadata A). x.weak_tombstone_reclaimable_count) h, after-le is_reclaimable None es, n, few, small);
-      keys = omega (arith, ap (λ (x : Metadata A). x.key_count) h, after-le starts_key None es, n, few, small);
-    }
+    rw h (grind (arith, count_by-le-length, after_within, n, few, small))
 
 pub room_still : {A : Type 0} (cs : List (List Entry)) (m : Metadata A) → HasRoom m → HasRoom (with_cut cs m)
-room_still cs m r = record { tombstones = r.tombstones; weak = r.weak; reclaimable = r.reclaimable; keys = r.keys }
+room_still cs m r = grind arith
 
 -- ---- a writer's parts after a call
 
