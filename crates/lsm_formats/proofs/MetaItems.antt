@@ -1,5 +1,5 @@
 -- The items of a meta block: they are strict, and all but the two keys are short.
-use Rattle.std.proofs.Common.{◌≡◌, refl, ℕ, ◌+◌, ◌*◌, ◌≤◌, Bool, true, List, [], ◌∷◌, ◌++◌, length, take, drop, arith}
+use Rattle.std.proofs.Common.{◌≡◌, refl, ℕ, ◌+◌, ◌*◌, ◌≤◌, Bool, true, List, [], ◌∷◌, ◌++◌, length, arith}
 use Rattle.std.specs.Prelude.{None, nat_le, ◌&&◌, ◌==◌, sum_by}
 use Rattle.std.specs.List.{AllByRecursion, list_all}
 use Rattle.std.proofs.lemmas.Bool.{eqb-true, leb-true}
@@ -12,8 +12,7 @@ use Rattle.sst_entries.proofs.Booleans.{and_parts}
 use Rattle.sst_entries.proofs.Lists.{all_append}
 use Rattle.sst_entries.proofs.Strictness.{strict_from_test}
 use Rattle.lsm_formats.specs.Facts.{ListFacts}
-use Rattle.lsm_formats.specs.ItemName.{name_of}
-use Rattle.lsm_formats.specs.MetaBlock.{Blocks, block_items, count_items, key_items, meta_entry, meta_items, option_items}
+use Rattle.lsm_formats.specs.MetaBlock.{Blocks, block_items, count_items, level_items, meta_entry, meta_items, name_of, option_items}
 use Rattle.lsm_formats.specs.declared.item_name.ItemName.TheVariants as item
 use Rattle.lsm_formats.specs.declared.label.Label.{Label}
 use Rattle.lsm_formats.specs.declared.options.Options.{Options}
@@ -57,13 +56,7 @@ module _ (v : TableVersion) (label : Label) (options : Options) (counted : Block
   es = meta_items v label options counted f blocks size user
 
   abbrev first_items : List Entry
-  first_items = block_items label options counted blocks size
-
-  abbrev before_keys : List Entry
-  before_keys = take 4 (key_items label f)
-
-  abbrev behind_keys : List Entry
-  behind_keys = drop 6 (key_items label f)
+  first_items = block_items label options counted blocks size ++ level_items label f
 
   abbrev last_items : List Entry
   last_items = option_items v label options f ++ count_items f user
@@ -88,20 +81,6 @@ module _ (v : TableVersion) (label : Label) (options : Options) (counted : Block
   first_short : AreShort first_items
   first_short = shorts first_items first_test
 
-  before_test : list_all is_short before_keys ≡ true
-  unfolding name_of le8
-  before_test = refl
-
-  before_short : AreShort before_keys
-  before_short = shorts before_keys before_test
-
-  behind_test : list_all is_short behind_keys ≡ true
-  unfolding name_of le8
-  behind_test = refl
-
-  behind_short : AreShort behind_keys
-  behind_short = shorts behind_keys behind_test
-
   last_test : list_all is_short last_items ≡ true
   unfolding name_of le8
   last_test = refl
@@ -109,31 +88,26 @@ module _ (v : TableVersion) (label : Label) (options : Options) (counted : Block
   last_short : AreShort last_items
   last_short = shorts last_items last_test
 
+  abbrev top : Entry
+  top = meta_entry item.KeyMax f.max_key
+
+  abbrev low : Entry
+  low = meta_entry item.KeyMin f.min_key
+
   -- what holds of short items and of those of the keys holds of all
-  pub items_each : (P : Entry → Type 0) → ((e : Entry) → IsShort e → P e) → P (meta_entry item.KeyMax f.max_key) → P (meta_entry item.KeyMin f.min_key) → AllByRecursion P es
-  items_each P holds top low =
-      let rest = behind_keys ++ last_items in
-      let keys = meta_entry item.KeyMax f.max_key ∷ (meta_entry item.KeyMin f.min_key ∷ rest) in
-      let behind = all_append P behind_keys last_items (each P behind_keys behind_short holds) (each P last_items last_short holds) in
-      all_append P first_items (before_keys ++ keys) (each P first_items first_short holds)
-      (all_append P before_keys keys (each P before_keys before_short holds) (top, (low, behind)))
+  pub items_each : (P : Entry → Type 0) → ((e : Entry) → IsShort e → P e) → P top → P low → AllByRecursion P es
+  items_each P holds at_top at_low =
+      all_append P first_items (top ∷ (low ∷ last_items)) (each P first_items first_short holds)
+      (at_top, (at_low, each P last_items last_short holds))
 
   -- and what bounds short items bounds the sum of all, but for the keys
-  pub items_sum : (cost : Entry → ℕ) (most : ℕ) → ((e : Entry) → IsShort e → cost e ≤ most) → sum_by cost es ≤ most * 27 + cost (meta_entry item.KeyMax f.max_key) + cost (meta_entry item.KeyMin f.min_key)
+  pub items_sum : (cost : Entry → ℕ) (most : ℕ) → ((e : Entry) → IsShort e → cost e ≤ most) → sum_by cost es ≤ most * 99 + cost top + cost low
   items_sum cost most small =
-      let top = meta_entry item.KeyMax f.max_key in
-      let low = meta_entry item.KeyMin f.min_key in
-      let rest = behind_keys ++ last_items in
-      let keys = top ∷ (low ∷ rest) in
       omega (
         arith,
         bounded cost most first_items first_short small,
-        bounded cost most before_keys before_short small,
-        bounded cost most behind_keys behind_short small,
         bounded cost most last_items last_short small,
-        sum_by-append cost first_items (before_keys ++ keys),
-        sum_by-append cost before_keys keys,
-        sum_by-cons cost top (low ∷ rest),
-        sum_by-cons cost low rest,
-        sum_by-append cost behind_keys last_items,
+        sum_by-append cost first_items (top ∷ (low ∷ last_items)),
+        sum_by-cons cost top (low ∷ last_items),
+        sum_by-cons cost low last_items,
       )

@@ -4,7 +4,9 @@ use Rattle.sst_sections.specs.declared.version.TableVersion.{TableVersion}
 use Rattle.sst_sections.specs.declared.section.SectionName.{SectionName}
 use Rattle.sst_blocks.specs.declared.block_type.BlockType.TheVariants.{Meta}
 use Rattle.sst_sections.specs.declared.section.SectionName.TheVariants.{Data}
-use Rattle.sst_sections.specs.declared.section.SectionName.TheVariants.{TableVersion as VersionSection}
+use Rattle.sst_sections.specs.declared.section.SectionName.TheVariants.{
+  TableVersion as VersionSection,
+}
 use Rattle.sst_sections.specs.declared.section.SectionName.TheVariants.{Meta as MetaSection}
 use Rattle.sst_blocks.specs.Block.{block_bytes}
 use Rattle.sst_entries.specs.Entry.{Entry}

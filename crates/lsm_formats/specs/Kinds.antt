@@ -7,10 +7,14 @@ use Rattle.sst_filters.specs.declared.policy.BloomConstructionPolicy.{BloomConst
 use Rattle.sst_filters.specs.Filter.{BloomFilter}
 use Rattle.lsm_formats.specs.declared.options.FilterKind.{FilterKind}
 use Rattle.lsm_formats.specs.declared.options.FilterKind.TheVariants.{Full as FullFilter}
-use Rattle.lsm_formats.specs.declared.options.FilterKind.TheVariants.{Partitioned as PartitionedFilter}
+use Rattle.lsm_formats.specs.declared.options.FilterKind.TheVariants.{
+  Partitioned as PartitionedFilter,
+}
 use Rattle.lsm_formats.specs.declared.options.IndexKind.{IndexKind}
 use Rattle.lsm_formats.specs.declared.options.IndexKind.TheVariants.{Full as FullIndex}
-use Rattle.lsm_formats.specs.declared.options.IndexKind.TheVariants.{Partitioned as PartitionedIndex}
+use Rattle.lsm_formats.specs.declared.options.IndexKind.TheVariants.{
+  Partitioned as PartitionedIndex,
+}
 use Rattle.lsm_formats.specs.Filters.{full_filter, partitioned_filter, is_full_filter}
 use Rattle.lsm_formats.specs.Layout.{Sections}
 use Rattle.lsm_formats.specs.Partitions.{handles_block, is_full_index, partitioned_index}
@@ -21,7 +25,7 @@ abbrev pub AreIndexParts : IndexKind → List Handle → List (List Handle) → 
 AreIndexParts FullIndex hs parts = parts ≡ hs ∷ []
 AreIndexParts (PartitionedIndex size) hs parts = ArePartsOf (is_full_index size) hs parts
 
--- the same, as they are cut one after another
+-- the parts of an index that are cut one after another, as soon as each is full
 abbrev pub index_parts : IndexKind → List Handle → List (List Handle)
 index_parts FullIndex hs = hs ∷ []
 index_parts (PartitionedIndex size) hs = parts_by (is_full_index size) hs
@@ -48,7 +52,7 @@ AreFilterParts FullFilter policy keys parts = parts ≡ rest_part keys
 AreFilterParts (PartitionedFilter size) policy keys parts =
     ArePartsOf (is_full_filter policy size) keys parts
 
--- the same, as they are cut one after another
+-- the keys of the filters that are cut one after another, as soon as each is full
 abbrev pub filter_parts : FilterKind → BloomConstructionPolicy → List (List ℕ)
     → List (List (List ℕ))
 filter_parts FullFilter policy keys = rest_part keys

@@ -13,4 +13,3 @@ pub mod MetaBlock
 pub mod File
 pub mod Fits
 pub mod Table
-pub mod ItemName

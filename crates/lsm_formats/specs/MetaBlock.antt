@@ -1,4 +1,4 @@
--- The entries of a table's meta block.
+-- The items of a table's meta block: their names and their values.
 use Rattle.std.specs.Prelude.{ℕ, List, [], ◌∷◌, ◌++◌, length, sum_by, codes}
 use Rattle.sst_sections.specs.declared.version.TableVersion.{TableVersion}
 use Rattle.sst_sections.specs.declared.version.TableVersion.TheVariants.{V3, V4}
@@ -11,9 +11,44 @@ use Rattle.lsm_formats.specs.Facts.{ListFacts, facts}
 use Rattle.lsm_formats.specs.Index.{data_section}
 use Rattle.lsm_formats.specs.declared.item_name.ItemName.{ItemName}
 use Rattle.lsm_formats.specs.declared.item_name.ItemName.TheVariants as item
-use Rattle.lsm_formats.specs.ItemName.{filter_hash_type, name_of}
 use Rattle.lsm_formats.specs.declared.options.Options.{Options}
 use Rattle.lsm_formats.specs.declared.label.Label.{Label}
+
+-- the key under which an item stands; the items are in the byte order of their keys
+unfoldable pub name_of : ItemName → List ℕ
+name_of item.BlockCountData = codes "block_count#data"
+name_of item.BlockCountFilter = codes "block_count#filter"
+name_of item.BlockCountIndex = codes "block_count#index"
+name_of item.ChecksumType = codes "checksum_type"
+name_of item.CompressionData = codes "compression#data"
+name_of item.CompressionIndex = codes "compression#index"
+name_of item.CrateVersion = codes "crate_version"
+name_of item.CreatedAt = codes "created_at"
+name_of item.DataBlockHashRatio = codes "data_block_hash_ratio"
+name_of item.FileSize = codes "file_size"
+name_of item.FilterHashType = codes "filter_hash_type"
+name_of item.IndexKeysHaveSeqno = codes "index_keys_have_seqno"
+name_of item.InitialLevel = codes "initial_level"
+name_of item.ItemCount = codes "item_count"
+name_of item.KeyMax = codes "key#max"
+name_of item.KeyMin = codes "key#min"
+name_of item.KeyCount = codes "key_count"
+name_of item.PrefixTruncationData = codes "prefix_truncation#data"
+name_of item.PrefixTruncationIndex = codes "prefix_truncation#index"
+name_of item.RestartIntervalData = codes "restart_interval#data"
+name_of item.RestartIntervalIndex = codes "restart_interval#index"
+name_of item.SeqnoMax = codes "seqno#max"
+name_of item.SeqnoMin = codes "seqno#min"
+name_of item.TableId = codes "table_id"
+name_of item.TableVersion = codes "table_version"
+name_of item.TombstoneCount = codes "tombstone_count"
+name_of item.UserDataSize = codes "user_data_size"
+name_of item.WeakTombstoneCount = codes "weak_tombstone_count"
+name_of item.WeakTombstoneReclaimable = codes "weak_tombstone_reclaimable"
+
+-- the number by which a meta block names the hash of keys that filters are asked by
+abbrev pub filter_hash_type : ℕ
+filter_hash_type = 1
 
 -- an item with its value
 abbrev pub meta_entry : ItemName → List ℕ → Entry
@@ -44,22 +79,24 @@ block_items label options counted data_blocks file_size =
     ∷ meta_entry item.FileSize (le8 file_size)
     ∷ []
 
--- then the hash, the level, the number of items and the keys
-abbrev pub key_items : Label → ListFacts → List Entry
-key_items label f =
+-- then the hash, the level and the number of items
+abbrev pub level_items : Label → ListFacts → List Entry
+level_items label f =
     meta_entry item.FilterHashType (filter_hash_type ∷ [])
     ∷ meta_entry item.IndexKeysHaveSeqno (1 ∷ [])
     ∷ meta_entry item.InitialLevel (label.initial_level ∷ [])
     ∷ meta_entry item.ItemCount (le8 f.item_count)
-    ∷ meta_entry item.KeyMax f.max_key
-    ∷ meta_entry item.KeyMin f.min_key
-    ∷ meta_entry item.KeyCount (le8 f.key_count)
     ∷ []
 
--- then the options and the numbers
+-- then the last and the first key, the only values that may be long
+abbrev pub key_items : ListFacts → List Entry
+key_items f = meta_entry item.KeyMax f.max_key ∷ meta_entry item.KeyMin f.min_key ∷ []
+
+-- then the number of keys, the options and the numbers
 abbrev pub option_items : TableVersion → Label → Options → ListFacts → List Entry
 option_items v label options f =
-    meta_entry item.PrefixTruncationData (0 ∷ [])
+    meta_entry item.KeyCount (le8 f.key_count)
+    ∷ meta_entry item.PrefixTruncationData (0 ∷ [])
     ∷ meta_entry item.PrefixTruncationIndex (0 ∷ [])
     ∷ meta_entry item.RestartIntervalData (options.data_block_restart_interval ∷ [])
     ∷ meta_entry item.RestartIntervalIndex (options.index_block_restart_interval ∷ [])
@@ -83,7 +120,8 @@ count_items f user_data_size =
 abbrev pub meta_items : TableVersion → Label → Options → Blocks → ListFacts → ℕ → ℕ → ℕ → List Entry
 meta_items v label options counted f data_blocks file_size user_data_size =
     block_items label options counted data_blocks file_size
-    ++ key_items label f
+    ++ level_items label f
+    ++ key_items f
     ++ option_items v label options f
     ++ count_items f user_data_size
 

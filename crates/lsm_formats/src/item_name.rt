@@ -1,6 +1,6 @@
 //! The items of a meta block.
 ghost use Rattle.std.specs.Prelude.{◌≡◌};
-ghost use Rattle.lsm_formats.specs.ItemName.{name_of};
+ghost use Rattle.lsm_formats.specs.MetaBlock.{name_of};
 
 /// How the meta block names the hash of keys that filters are asked by.
 pub const FILTER_HASH_TYPE: u8 = 1;
@@ -41,7 +41,7 @@ pub enum ItemName {
 
 impl ItemName {
     /// The key under which the item stands.
-    #[tactic(auto, unfolding(crate::specs::ItemName::name_of))]
+    #[tactic(auto, unfolding(crate::specs::MetaBlock::name_of))]
     pub fn key(self) -> &'static [u8]
         ensures { result.now ≡ name_of self }
     {

@@ -2,7 +2,6 @@
 use Rattle.std.proofs.Common.{◌≡◌, ℕ, ◌+◌, ◌^◌, ◌<◌, ◌≤◌, List, [], ◌∷◌, ◌++◌, length, sym, ap, subst, ◌∙◌, length-append, arith}
 use Rattle.std.specs.Prelude.{None, unwrap_or}
 use Rattle.std.specs.List.{AllByRecursion, flat_map}
-use Rattle.std.proofs.lemmas.List.Sums.{count_by-le-length}
 use Rattle.sst_sections.specs.declared.version.TableVersion.{TableVersion}
 use Rattle.sst_sections.specs.declared.version.TableVersion.TheVariants.{V3, V4}
 use Rattle.sst_sections.specs.Sections.{finished, trailer}
@@ -17,7 +16,7 @@ use Rattle.sst_filters.specs.Filter.{BloomFilter, payload_of}
 use Rattle.lsm_formats.proofs.BlockLengths.{length-block}
 use Rattle.lsm_formats.specs.Chunks.{AreChunksFrom, joined}
 use Rattle.lsm_formats.specs.Content.{Content}
-use Rattle.lsm_formats.specs.Facts.{first_key, is_reclaimable, is_tombstone, is_weak, last_key}
+use Rattle.lsm_formats.specs.Facts.{first_key, last_key}
 use Rattle.lsm_formats.specs.File.{IsContent, counted_blocks}
 use Rattle.lsm_formats.specs.Filters.{filter_block}
 use Rattle.lsm_formats.specs.Fits.{EntryFits, Fits, SectionFits}
@@ -145,9 +144,6 @@ module _ (v : TableVersion) (label : Label) (options : Options) (spills : List �
         created_at = (fits.label_fits).created_at;
         interval = one;
         items = omega (arith, data_short, wide);
-        tombstones = omega (arith, data_short, wide, count_by-le-length is_tombstone xs);
-        weak = omega (arith, data_short, wide, count_by-le-length is_weak xs);
-        reclaimable = omega (arith, data_short, wide, after_within is_reclaimable None xs);
         lowest = lowest_fits xs;
         highest = highest_below v xs fits.entries;
         data_blocks = omega (arith, data_short, wide);

@@ -57,7 +57,7 @@ section_wide v [] = omega arith
 section_wide v (c ∷ cs) =
     omega (arith, section_wide v cs, payload_wide v c, length-block v Data (payload v c), length-append c (joined cs), length-append (data_block v c) (data_section v cs))
 
--- ---- counts
+-- ---- numbers
 
 min_le : (a b c : ℕ) → b < c → min a b < c
 min_le a b c h = omega arith

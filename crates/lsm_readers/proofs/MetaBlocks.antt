@@ -16,8 +16,7 @@ use Rattle.sst_sections.proofs.Numbers.{wide4}
 use Rattle.lsm_formats.specs.Chunks.{joined}
 use Rattle.lsm_formats.specs.Facts.{ListFacts, facts}
 use Rattle.lsm_formats.specs.Index.{data_section}
-use Rattle.lsm_formats.specs.ItemName.{name_of}
-use Rattle.lsm_formats.specs.MetaBlock.{Blocks, meta_entries, meta_entry}
+use Rattle.lsm_formats.specs.MetaBlock.{Blocks, meta_entries, meta_entry, name_of}
 use Rattle.lsm_formats.specs.declared.item_name.ItemName.{ItemName}
 use Rattle.lsm_formats.specs.declared.item_name.ItemName.TheVariants as item
 use Rattle.lsm_formats.proofs.MetaItems.{IsShort, items_each, items_strict, items_sum}
@@ -72,7 +71,7 @@ module _ (v : TableVersion) (label : Label) (options : Options) (cs : List (List
   meta_strict = items_strict v label options blocks f (length cs) data_bytes payload_bytes
 
   -- what the two keys leave is fixed
-  pub meta_length : length (payload v es) ≤ 2000 + length (facts (joined cs)).min_key + length (facts (joined cs)).max_key
+  pub meta_length : length (payload v es) ≤ 7000 + length (facts (joined cs)).min_key + length (facts (joined cs)).max_key
   unfolding name_of
   meta_length = omega (arith, key_narrow v, items_sum v label options blocks f (length cs) data_bytes payload_bytes (taken v) 63 (short_taken v), length-payload v es)
 

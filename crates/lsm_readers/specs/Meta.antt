@@ -15,10 +15,15 @@ use Rattle.sst_entries.specs.declared.error.Error.TheVariants.{UnsupportedCompre
 use Rattle.sst_entries.specs.Entry.{Entry}
 use Rattle.sst_sections.specs.Number.{num8, num16}
 use Rattle.sst_entries.specs.Point.{point}
+use Rattle.sst_sections.specs.declared.version.TableVersion.{TableVersion}
 use Rattle.lsm_ranges.specs.KeyRange.{Interval, interval}
-use Rattle.lsm_formats.specs.ItemName.{filter_hash_type, name_of}
+use Rattle.lsm_formats.specs.Facts.{ListFacts, facts}
+use Rattle.lsm_formats.specs.MetaBlock.{filter_hash_type, name_of, version_number}
 use Rattle.lsm_formats.specs.declared.item_name.ItemName.{ItemName}
 use Rattle.lsm_formats.specs.declared.item_name.ItemName.TheVariants as item
+use Rattle.lsm_formats.specs.declared.label.Label.{Label}
+use Rattle.lsm_readers.specs.declared.meta.Numbers.{Numbers}
+use Rattle.lsm_readers.specs.declared.meta.ParsedMeta.{ParsedMeta}
 use Rattle.lsm_readers.specs.Read.{◌>>=◌}
 
 -- what a table says of itself
@@ -36,6 +41,63 @@ pub record Facts : Type 0 where
   pub tombstone_count : ℕ
   pub weak_tombstone_count : ℕ
   pub weak_tombstone_reclaimable : ℕ
+
+abbrev pub facts_of : {A : Type 0} → ParsedMeta A → Facts
+facts_of m = record {
+  table_version = m.table_version;
+  id = m.id;
+  created_at = m.created_at;
+  data_block_count = m.data_block_count;
+  index_block_count = m.index_block_count;
+  key_range = m.key_range;
+  seqno_min = m.seqnos.0;
+  seqno_max = m.seqnos.1;
+  file_size = m.file_size;
+  item_count = m.item_count;
+  tombstone_count = m.tombstone_count;
+  weak_tombstone_count = m.weak_tombstone_count;
+  weak_tombstone_reclaimable = m.weak_tombstone_reclaimable;
+}
+
+-- what a table says of itself, by what is read: its version, the moment, its numbers, its keys, and
+-- the lowest and the highest number of its entries
+abbrev pub facts_with : ℕ → ℕ → Numbers → Interval → ℕ × ℕ → Facts
+facts_with table_version created_at n key_range seqnos = record {
+  table_version = table_version;
+  id = n.id;
+  created_at = created_at;
+  data_block_count = n.data_block_count;
+  index_block_count = n.index_block_count;
+  key_range = key_range;
+  seqno_min = seqnos.0;
+  seqno_max = seqnos.1;
+  file_size = n.file_size;
+  item_count = n.item_count;
+  tombstone_count = n.tombstone_count;
+  weak_tombstone_count = n.weak_tombstone_count;
+  weak_tombstone_reclaimable = n.weak_tombstone_reclaimable;
+}
+
+-- the numbers of the table of a list, and what it says of itself: it has so many data blocks and
+-- index blocks, the data blocks of so many bytes
+abbrev pub numbers_said : Label → ListFacts → ℕ → ℕ → ℕ → Numbers
+numbers_said label f blocks index_blocks size = record {
+  id = label.table_id;
+  item_count = f.item_count;
+  tombstone_count = f.tombstone_count;
+  data_block_count = blocks;
+  index_block_count = index_blocks;
+  file_size = size;
+  weak_tombstone_count = f.weak_tombstone_count;
+  weak_tombstone_reclaimable = f.weak_tombstone_reclaimable;
+}
+
+abbrev pub facts_said : TableVersion → Label → List Entry → ℕ → ℕ → ℕ → Facts
+facts_said v label es blocks index_blocks size =
+    let f = facts es in
+    facts_with (version_number v) label.created_at
+    (numbers_said label f blocks index_blocks size)
+    (interval f.min_key f.max_key) (f.lowest, f.highest)
 
 -- the value of the item of a name, where there is one
 abbrev pub value_told : Option Entry → Result (List ℕ) Error
@@ -102,14 +164,28 @@ compressions_told es =
 unfoldable pub created_told : List Entry → Result ℕ Error
 created_told es = item_told es item.CreatedAt >>= number16_told
 
--- three numbers, one after another
-unfoldable pub triple_told : List Entry → ItemName → ItemName → ItemName
-    → Result (ℕ × ℕ × ℕ) Error
-triple_told es a b c =
-    u64_told es a >>= λ x.
-    u64_told es b >>= λ y.
-    u64_told es c >>= λ z.
-    Ok (x, y, z)
+-- the numbers that are read before the moment, in this order
+unfoldable pub numbers_told : List Entry → Result Numbers Error
+numbers_told es =
+    u64_told es item.TableId >>= λ id.
+    u64_told es item.ItemCount >>= λ item_count.
+    u64_told es item.TombstoneCount >>= λ tombstone_count.
+    u64_told es item.BlockCountData >>= λ data_block_count.
+    u64_told es item.BlockCountIndex >>= λ index_block_count.
+    u64_told es item.BlockCountFilter >>= λ _.
+    u64_told es item.FileSize >>= λ file_size.
+    u64_told es item.WeakTombstoneCount >>= λ weak_tombstone_count.
+    u64_told es item.WeakTombstoneReclaimable >>= λ weak_tombstone_reclaimable.
+    Ok (record {
+      id = id;
+      item_count = item_count;
+      tombstone_count = tombstone_count;
+      data_block_count = data_block_count;
+      index_block_count = index_block_count;
+      file_size = file_size;
+      weak_tombstone_count = weak_tombstone_count;
+      weak_tombstone_reclaimable = weak_tombstone_reclaimable;
+    })
 
 -- the first and the last key
 unfoldable pub keys_told : List Entry → Result Interval Error
@@ -125,44 +201,22 @@ seqnos_told es =
     u64_told es item.SeqnoMax >>= λ max.
     Ok (min, max)
 
--- what a table says of itself, by what is read: its version, the moment, its counts three by three,
--- its keys and its numbers
-abbrev pub facts_with : ℕ → ℕ → ℕ × ℕ × ℕ → ℕ × ℕ × ℕ → ℕ × ℕ × ℕ → Interval → ℕ × ℕ → Facts
-facts_with table_version created_at table blocks sizes key_range seqnos = record {
-  table_version = table_version;
-  id = table.0;
-  created_at = created_at;
-  data_block_count = blocks.0;
-  index_block_count = blocks.1;
-  key_range = key_range;
-  seqno_min = seqnos.0;
-  seqno_max = seqnos.1;
-  file_size = sizes.0;
-  item_count = table.1;
-  tombstone_count = table.2;
-  weak_tombstone_count = sizes.1;
-  weak_tombstone_reclaimable = sizes.2;
-}
-
--- what is read behind the version and the counts, in this order
-unfoldable pub rest_told : List Entry → ℕ → ℕ × ℕ × ℕ → ℕ × ℕ × ℕ → ℕ × ℕ × ℕ
-    → Result Facts Error
-rest_told es table_version table blocks sizes =
+-- what is read behind the version and the numbers, in this order
+unfoldable pub rest_told : List Entry → ℕ → Numbers → Result Facts Error
+rest_told es table_version numbers =
     created_told es >>= λ created_at.
     keys_told es >>= λ key_range.
     seqnos_told es >>= λ seqnos.
     compressions_told es >>= λ _.
-    Ok (facts_with table_version created_at table blocks sizes key_range seqnos)
+    Ok (facts_with table_version created_at numbers key_range seqnos)
 
 -- all that is read, in this order
 unfoldable pub facts_told : List Entry → Result Facts Error
 facts_told es =
     version_told es >>= λ table_version.
     kinds_told es >>= λ _.
-    triple_told es item.TableId item.ItemCount item.TombstoneCount >>= λ table.
-    triple_told es item.BlockCountData item.BlockCountIndex item.BlockCountFilter >>= λ blocks.
-    triple_told es item.FileSize item.WeakTombstoneCount item.WeakTombstoneReclaimable >>= λ sizes.
-    rest_told es table_version table blocks sizes
+    numbers_told es >>= λ numbers.
+    rest_told es table_version numbers
 
 -- what the meta block at a place tells: it is loaded, then its items are read
 abbrev pub meta_told : List ℕ → Place → Result Facts Error

@@ -18,7 +18,6 @@ use Rattle.lsm_formats.specs.File.{closing_sections, filter_part, front_sections
 use Rattle.lsm_formats.specs.Filters.{filter_partitions}
 use Rattle.lsm_formats.specs.Index.{handles, data_section}
 use Rattle.lsm_formats.specs.Layout.{Sections, bytes_in}
-use Rattle.lsm_formats.specs.MetaBlock.{version_number}
 use Rattle.lsm_formats.specs.Partitions.{index_tops, tops_from}
 use Rattle.lsm_formats.specs.declared.options.FilterKind.{FilterKind}
 use Rattle.lsm_formats.specs.declared.options.FilterKind.TheVariants.{Full as FullFilter, Partitioned as PartitionedFilter}
@@ -28,33 +27,12 @@ use Rattle.lsm_formats.specs.declared.options.Options.{Options}
 use Rattle.lsm_formats.specs.declared.label.Label.{Label}
 use Rattle.lsm_formats.specs.Table.{IsTable}
 use Rattle.lsm_readers.specs.declared.regions.ParsedRegions.{ParsedRegions}
-use Rattle.lsm_readers.specs.Meta.{Facts}
+use Rattle.lsm_readers.specs.Meta.{facts_said}
 use Rattle.lsm_readers.specs.Parts.{Parts, Pinned, PinnedIndex, full, two_level, volatile}
 
 -- the first and the last key of a list
 abbrev pub ends_of : List Entry → Interval
 ends_of es = interval (facts es).min_key (facts es).max_key
-
--- what the table of a list says of itself, which has so many data blocks and index blocks, the
--- data blocks of so many bytes
-abbrev pub facts_said : TableVersion → Label → List Entry → ℕ → ℕ → ℕ → Facts
-facts_said v label es blocks index_blocks size =
-    let f = facts es in
-    record {
-      table_version = version_number v;
-      id = label.table_id;
-      created_at = label.created_at;
-      data_block_count = blocks;
-      index_block_count = index_blocks;
-      key_range = ends_of es;
-      seqno_min = f.lowest;
-      seqno_max = f.highest;
-      file_size = size;
-      item_count = f.item_count;
-      tombstone_count = f.tombstone_count;
-      weak_tombstone_count = f.weak_tombstone_count;
-      weak_tombstone_reclaimable = f.weak_tombstone_reclaimable;
-    }
 
 -- where the section of a name lies among some, the first of them at a position
 abbrev pub place_from : ℕ → Sections → SectionName → Option Place

@@ -24,6 +24,7 @@ pub use Rattle.lsm_readers.specs.Parts.{tops_told, volatile}
 pub use Rattle.lsm_readers.specs.Read.{DoesRead, Opens}
 pub use Rattle.lsm_readers.specs.Scan.{IsNewScan, Scan, ScansList, ScansNext, TakesEntry, block_told, ended}
 pub use Rattle.lsm_readers.specs.Scan.{fault_of, lifted_told, scan_size, scan_told}
-pub use Rattle.lsm_readers.specs.Table.{IsOpen, IsRecovered, OpenTable, facts_of, index_of, parts_of, pinned_of}
+pub use Rattle.lsm_readers.specs.Meta.{facts_of}
+pub use Rattle.lsm_readers.specs.Table.{IsOpen, IsRecovered, OpenTable, index_of, parts_of, pinned_of}
 pub use Rattle.lsm_block_indexes.specs.Dealt.{DealsEnding}
 pub use Rattle.lsm_readers.specs.Ranges.{DealsAll, DealsWithin, IsRangeOf, LoadsAtMost, blocks_within, index_within, range_told}

@@ -4,13 +4,13 @@ ghost use Rattle.sst_entries.specs.Error.{FaultsFirst, Gives};
 ghost use Rattle.sst_blocks.specs.Block.{place_fault};
 ghost use Rattle.sst_blocks.specs.declared.block_type.BlockType.TheVariants.{Meta};
 ghost use Rattle.sst_sections.specs.Sections.{body_of};
-ghost use Rattle.lsm_readers.specs.Meta.{Facts, item_told, number8_told, number16_told, u64_told};
+ghost use Rattle.lsm_readers.specs.Meta.{item_told, number8_told, number16_told, u64_told};
 ghost use Rattle.lsm_readers.specs.Meta.{one_byte_told, byte_told, first_byte_told, first_told};
 ghost use Rattle.lsm_readers.specs.Meta.{version_number_told, version_told, kinds_told};
-ghost use Rattle.lsm_readers.specs.Meta.{compressions_told, created_told, triple_told, keys_told};
-ghost use Rattle.lsm_readers.specs.Meta.{seqnos_told, rest_told, facts_told, meta_told};
+ghost use Rattle.lsm_readers.specs.Meta.{compressions_told, created_told, numbers_told, keys_told};
+ghost use Rattle.lsm_readers.specs.Meta.{seqnos_told, rest_told, facts_of, facts_told, meta_told};
+ghost use Rattle.lsm_readers.specs.declared.meta.Numbers.{Numbers};
 ghost use Rattle.lsm_ranges.specs.KeyRange.{Interval};
-ghost use Rattle.lsm_readers.specs.Table.{facts_of};
 
 use byteorder::{ByteOrder, LittleEndian};
 use lsm_formats::{FILTER_HASH_TYPE, ItemName, TableId, Timestamp};
@@ -219,19 +219,42 @@ fn created_item<A: Allocator>(block: &DataBlock<A>) -> Result<u128, Error>
     number
 }
 
-#[tactic(auto, unfolding(crate::specs::Meta::triple_told))]
-fn three_items<A: Allocator>(
-    block: &DataBlock<A>,
-    a: ItemName,
-    b: ItemName,
-    c: ItemName,
-) -> Result<(u64, u64, u64), Error>
-    ensures { Gives (λ (n : ℕ × ℕ × ℕ). n) result (triple_told block.now a b c) }
+/// The numbers of a table that are read before its moment, in this order.
+#[derive(Clone, Copy)]
+struct Numbers {
+    id: TableId,
+    item_count: u64,
+    tombstone_count: u64,
+    data_block_count: u64,
+    index_block_count: u64,
+    file_size: u64,
+    weak_tombstone_count: u64,
+    weak_tombstone_reclaimable: u64,
+}
+
+#[tactic(auto, unfolding(crate::specs::Meta::numbers_told))]
+fn number_items<A: Allocator>(block: &DataBlock<A>) -> Result<Numbers, Error>
+    ensures { Gives (λ (n : Numbers). n) result (numbers_told block.now) }
 {
-    let x = u64_item(block, a)?;
-    let y = u64_item(block, b)?;
-    let z = u64_item(block, c)?;
-    Ok((x, y, z))
+    let id = u64_item(block, ItemName::TableId)?;
+    let item_count = u64_item(block, ItemName::ItemCount)?;
+    let tombstone_count = u64_item(block, ItemName::TombstoneCount)?;
+    let data_block_count = u64_item(block, ItemName::BlockCountData)?;
+    let index_block_count = u64_item(block, ItemName::BlockCountIndex)?;
+    u64_item(block, ItemName::BlockCountFilter)?;
+    let file_size = u64_item(block, ItemName::FileSize)?;
+    let weak_tombstone_count = u64_item(block, ItemName::WeakTombstoneCount)?;
+    let weak_tombstone_reclaimable = u64_item(block, ItemName::WeakTombstoneReclaimable)?;
+    Ok(Numbers {
+        id,
+        item_count,
+        tombstone_count,
+        data_block_count,
+        index_block_count,
+        file_size,
+        weak_tombstone_count,
+        weak_tombstone_reclaimable,
+    })
 }
 
 #[tactic(auto, unfolding(crate::specs::Meta::keys_told))]
@@ -252,35 +275,30 @@ fn seqno_items<A: Allocator>(block: &DataBlock<A>) -> Result<(SeqNo, SeqNo), Err
     Ok((min, max))
 }
 
-/// What a table says of itself, where its version and its counts were read: the rest is read here.
+/// What a table says of itself, where its version and its numbers were read: the rest is read here.
 fn read_rest<A: Allocator>(
     block: &DataBlock<A>,
     table_version: u8,
-    table: (u64, u64, u64),
-    blocks: (u64, u64, u64),
-    sizes: (u64, u64, u64),
+    numbers: Numbers,
 ) -> Result<ParsedMeta<A>, Error>
-    ensures { Gives facts_of result (rest_told block.now table_version table blocks sizes) }
+    ensures { Gives facts_of result (rest_told block.now table_version numbers) }
 {
-    let (id, item_count, tombstone_count) = table;
-    let (data_block_count, index_block_count, _filter_block_count) = blocks;
-    let (file_size, weak_tombstone_count, weak_tombstone_reclaimable) = sizes;
     let created_at = created_item(block)?;
     let key_range = key_items(block)?;
     let (key_range, seqnos) = beside(key_range, seqno_items(block))?;
     let meta = ParsedMeta {
         table_version,
-        id,
+        id: numbers.id,
         created_at: Timestamp::from(created_at),
-        data_block_count,
-        index_block_count,
+        data_block_count: numbers.data_block_count,
+        index_block_count: numbers.index_block_count,
         key_range,
         seqnos,
-        file_size,
-        item_count,
-        tombstone_count,
-        weak_tombstone_count,
-        weak_tombstone_reclaimable,
+        file_size: numbers.file_size,
+        item_count: numbers.item_count,
+        tombstone_count: numbers.tombstone_count,
+        weak_tombstone_count: numbers.weak_tombstone_count,
+        weak_tombstone_reclaimable: numbers.weak_tombstone_reclaimable,
         data_block_compression: CompressionType::None,
         index_block_compression: CompressionType::None,
     };
@@ -292,25 +310,8 @@ fn read_facts<A: Allocator>(block: &DataBlock<A>) -> Result<ParsedMeta<A>, Error
 {
     let table_version = version_item(block)?;
     test_kinds(block)?;
-    let table = three_items(
-        block,
-        ItemName::TableId,
-        ItemName::ItemCount,
-        ItemName::TombstoneCount,
-    )?;
-    let blocks = three_items(
-        block,
-        ItemName::BlockCountData,
-        ItemName::BlockCountIndex,
-        ItemName::BlockCountFilter,
-    )?;
-    let sizes = three_items(
-        block,
-        ItemName::FileSize,
-        ItemName::WeakTombstoneCount,
-        ItemName::WeakTombstoneReclaimable,
-    )?;
-    read_rest(block, table_version, table, blocks, sizes)
+    let numbers = number_items(block)?;
+    read_rest(block, table_version, numbers)
 }
 
 impl<A: Allocator + Clone> ParsedMeta<A> {

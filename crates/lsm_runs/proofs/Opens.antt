@@ -12,7 +12,7 @@ use Rattle.sst_entries.specs.declared.stream.Direction.TheVariants.{Front, Back}
 use Rattle.sst_entries.specs.Stream.{back_of}
 use Rattle.lsm_walks.specs.Ends.{taken_at}
 use Rattle.lsm_walks.specs.Parts.{LoadGives}
-use Rattle.lsm_walks.proofs.AtEnds.{map_none, map_taken, none_at}
+use Rattle.lsm_walks.proofs.AtEnds.{map_none, map_taken, none_at, not_memory}
 use Rattle.lsm_walks.proofs.Instances.{sum_taken}
 use Rattle.lsm_iters.specs.Range.{Range, range_left, range_loads, range_remains}
 use Rattle.lsm_iters.proofs.Ends.{if_false}

@@ -1,4 +1,4 @@
--- What a writer of either kind holds, and the same writer with other options.
+-- What a writer of either kind holds, and such a writer with other options.
 use Rattle.std.specs.Prelude.{ℕ, Bool}
 use Rattle.sst_filters.specs.declared.policy.BloomConstructionPolicy.{BloomConstructionPolicy}
 use Rattle.lsm_formats.specs.declared.options.FilterKind.{FilterKind}
@@ -6,8 +6,12 @@ use Rattle.lsm_formats.specs.declared.options.FilterKind.TheVariants.{Full, Part
 use Rattle.lsm_section_writers.specs.Given.{GivenKeys}
 use Rattle.lsm_section_writers.specs.Held.{HoldsHashes, HoldsParts}
 use Rattle.lsm_section_writers.specs.declared.filter_either.FilterWriterImpl.{FilterWriterImpl}
-use Rattle.lsm_section_writers.specs.declared.filter_either.FilterWriterImpl.TheVariants.{Full as FullWriter}
-use Rattle.lsm_section_writers.specs.declared.filter_either.FilterWriterImpl.TheVariants.{Partitioned as PartitionedWriter}
+use Rattle.lsm_section_writers.specs.declared.filter_either.FilterWriterImpl.TheVariants.{
+  Full as FullWriter,
+}
+use Rattle.lsm_section_writers.specs.declared.filter_either.FilterWriterImpl.TheVariants.{
+  Partitioned as PartitionedWriter,
+}
 
 -- the kind of a writer, its policy, and whether it has refused
 abbrev pub kind_by : {A : Type 0} → FilterWriterImpl A → FilterKind
@@ -27,13 +31,13 @@ abbrev pub HoldsBy : {A : Type 0} → FilterWriterImpl A → GivenKeys → Type 
 HoldsBy (FullWriter w) given = HoldsHashes w given
 HoldsBy (PartitionedWriter w) given = HoldsParts w given
 
--- the same writer with another policy
+-- a writer of either kind with another policy, or with partitions of another size: a full filter
+-- has none
 abbrev pub with_policy_by : {A : Type 0} → FilterWriterImpl A → BloomConstructionPolicy
     → FilterWriterImpl A
 with_policy_by (FullWriter w) policy = FullWriter (record w { policy = policy })
 with_policy_by (PartitionedWriter w) policy = PartitionedWriter (record w { policy = policy })
 
--- a full filter has no partitions
 abbrev pub with_size_by : {A : Type 0} → FilterWriterImpl A → ℕ → FilterWriterImpl A
 with_size_by (FullWriter w) size = FullWriter w
 with_size_by (PartitionedWriter w) size = PartitionedWriter (record w { size = size })

@@ -18,7 +18,7 @@ abbrev pub part_fault : ℕ → List Handle → Option Error
 part_fault before part =
     option_or (handles_fault part) (section_fault (before + index_block_bound_of part))
 
--- the same of parts, one after another
+-- what some parts refuse, one after another, behind blocks with so many bytes at most
 unfoldable pub parts_fault : ℕ → List (List Handle) → Option Error
 parts_fault before [] = None
 parts_fault before (p ∷ ps) =

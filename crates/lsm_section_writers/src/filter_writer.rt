@@ -8,7 +8,9 @@ ghost use Rattle.lsm_section_writers.specs.FilterWords.{no_keys, partition_size,
 ghost use Rattle.lsm_section_writers.specs.FilterWords.{tenths_of, was_given, with_key};
 ghost use Rattle.lsm_formats.specs.declared.options.FilterKind.{FilterKind};
 ghost use Rattle.sst_sections.specs.Sections.{Written};
-ghost use Rattle.sst_filters.specs.declared.policy.BloomConstructionPolicy.{BloomConstructionPolicy};
+ghost use Rattle.sst_filters.specs.declared.policy.BloomConstructionPolicy.{
+  BloomConstructionPolicy,
+};
 
 use sst_blocks::{BloomConstructionPolicy, CompressionType, Error, SectionWriter, UserKey};
 use std::alloc::Allocator;
@@ -18,7 +20,9 @@ pub trait FilterWriter<A: Allocator> {
     ghost use Rattle.std.specs.Prelude.{◌≡◌, ℕ, Bool, true, false, length, take, OnOk, OnErr, IfOk};
     ghost use Rattle.std.specs.Option.{option_or};
     ghost use Rattle.sst_entries.specs.Error.{Faults, FaultsFirst};
-    ghost use Rattle.sst_filters.specs.declared.policy.BloomConstructionPolicy.{BloomConstructionPolicy};
+    ghost use Rattle.sst_filters.specs.declared.policy.BloomConstructionPolicy.{
+      BloomConstructionPolicy,
+    };
     ghost use Rattle.lsm_formats.specs.Failed.{failed_fault};
     ghost use Rattle.lsm_formats.specs.File.{HasNoFilter};
     ghost use Rattle.lsm_formats.specs.declared.options.FilterKind.{FilterKind};

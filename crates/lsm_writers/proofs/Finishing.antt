@@ -36,7 +36,6 @@ use Rattle.sst_filters.specs.declared.policy.BloomConstructionPolicy.{BloomConst
 use Rattle.sst_sections.specs.Sections.{Written, finished}
 use Rattle.sst_sections.specs.declared.section.SectionName.TheVariants.{Data}
 use Rattle.lsm_writers.proofs.Laying.{laid_more}
-use Rattle.lsm_formats.specs.ItemName.{name_of}
 use Rattle.lsm_formats.specs.Fits.{BlockFits, EntryFits, LabelFits, SectionFits}
 use Rattle.lsm_section_writers.specs.declared.index_either.IndexWriterImpl.{IndexWriterImpl}
 use Rattle.lsm_section_writers.specs.IndexEither.{registered_by}
@@ -44,7 +43,7 @@ use Rattle.lsm_section_writers.specs.Registered.{Registered}
 use Rattle.lsm_writers.specs.Held.{AreTableParts, IsShortest, IsHeld}
 use Rattle.sst_blocks.specs.Handle.{Handle}
 use Rattle.lsm_formats.specs.Index.{data_section, handles, last_entry}
-use Rattle.lsm_formats.specs.MetaBlock.{Blocks, meta_entry, meta_items, meta_entries}
+use Rattle.lsm_formats.specs.MetaBlock.{Blocks, meta_entries, meta_entry, meta_items, name_of}
 use Rattle.lsm_formats.specs.declared.item_name.ItemName.{ItemName}
 use Rattle.lsm_formats.specs.declared.item_name.ItemName.TheVariants as item
 use Rattle.lsm_formats.proofs.MetaItems.{IsShort, items_each, items_few, items_strict}

@@ -139,7 +139,7 @@ brought_is (Some x) key = refl
 pub counted_is : {A : Type 0} (cut : List (List Entry)) (pending : List Entry) (e : Entry) (m : Metadata A) → m ≡ metadata_of V4 cut pending → with_entry (last_of None (joined cut ++ pending)) e m ≡ metadata_of V4 cut (pending ++ e ∷ [])
 counted_is cut pending e m h =
     let es = joined cut ++ pending in
-    rw (h, brought_is (first_key es) e.user_key, snoc_assoc (joined cut) pending e, count_more is_tombstone es e, count_more is_weak es e, after_more is_reclaimable None es e, after_more starts_key None es e, lowest_more es e, highest_more es e, first_more es e) refl
+    rw (h, brought_is (first_key es) e.user_key, snoc_assoc (joined cut) pending e) (simp (count_more, after_more, lowest_more, highest_more, first_more) refl)
 
 -- ---- room for one more
 
@@ -147,15 +147,10 @@ pub has_room : {A : Type 0} (cut : List (List Entry)) (pending : List Entry) (m 
 has_room {A} cut pending m h few small =
     let es = joined cut ++ pending in
     let n = length-append (joined cut) pending in
-    record {
-      tombstones = omega (arith, ap (λ (x : Metadata A). x.tombstone_count) h, count_by-le-length is_tombstone es, n, few, small);
-      weak = omega (arith, ap (λ (x : Metadata A). x.weak_tombstone_count) h, count_by-le-length is_weak es, n, few, small);
-      reclaimable = omega (arith, ap (λ (x : Metadata A). x.weak_tombstone_reclaimable_count) h, after_within is_reclaimable None es, n, few, small);
-      keys = omega (arith, ap (λ (x : Metadata A). x.key_count) h, after_within starts_key None es, n, few, small);
-    }
+    rw h (grind (arith, count_by-le-length, after_within, n, few, small))
 
 pub room_still : {A : Type 0} (cs : List (List Entry)) (m : Metadata A) → HasRoom m → HasRoom (with_cut cs m)
-room_still cs m r = record { tombstones = r.tombstones; weak = r.weak; reclaimable = r.reclaimable; keys = r.keys }
+room_still cs m r = grind arith
 
 -- ---- a writer's parts after a call
 

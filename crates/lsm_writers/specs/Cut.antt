@@ -14,6 +14,7 @@ use Rattle.sst_blocks.specs.Reading.{entries_in}
 use Rattle.sst_sections.specs.Sections.{Written}
 use Rattle.sst_entries.specs.Strict.{IsStrict, last_of}
 use Rattle.lsm_writers.specs.declared.writer.meta.Metadata.{Metadata}
+use Rattle.lsm_section_writers.specs.Registered.{Registered}
 use Rattle.lsm_formats.specs.Chunks.{joined}
 use Rattle.lsm_formats.specs.Facts.{last_key}
 use Rattle.lsm_formats.specs.Index.{handles, data_section}
@@ -49,6 +50,10 @@ pub record AreCut (chunks : List (List Entry)) (w : Written) (hs : List Handle)
   pub index : hs ≡ handles V4 chunks
   pub strict : IsStrict (joined chunks)
   pub last_is : last ≡ last_of None (joined chunks)
+
+-- and an index writer has their handles
+abbrev pub AreCutBy : List (List Entry) → Written → Registered → Option Entry → Type 0
+AreCutBy chunks w index last = AreCut chunks w index.handles last index.failed
 
 -- entries may be cut off behind the blocks that were cut
 pub record CanCut (w : Written) (hs : List Handle) (failed : Bool) (es : List Entry) : Type 0 where

@@ -5,6 +5,7 @@ use Rattle.sst_entries.specs.Entry.{Entry}
 use Rattle.sst_filters.specs.declared.policy.BloomConstructionPolicy.{BloomConstructionPolicy}
 use Rattle.sst_filters.specs.Policy.{tenths_of}
 use Rattle.lsm_formats.specs.declared.options.FilterKind.{FilterKind}
+use Rattle.lsm_formats.specs.declared.options.Options.{Options}
 use Rattle.lsm_formats.specs.Filters.{filtered_keys}
 use Rattle.lsm_section_writers.specs.declared.filter_either.FilterWriterImpl.{FilterWriterImpl}
 use Rattle.lsm_section_writers.specs.FilterEither.{kind_by, policy_by, failed_by, HoldsBy}
@@ -30,6 +31,13 @@ abbrev pub MayHaveKeys : {A : Type 0} → FilterKind → BloomConstructionPolicy
     → Option (FilterWriterImpl A) → List (List ℕ) → Type 0
 MayHaveKeys kind policy None keys = keys ≡ []
 MayHaveKeys kind policy (Some w) keys = (keys ≡ [] → ⊥) × HasKeys kind policy w keys
+
+-- whatever keys there were, more stand behind them now
+abbrev pub Registers : {A : Type 0} → Options → Option (FilterWriterImpl A)
+    → Option (FilterWriterImpl A) → List (List ℕ) → Type 0
+Registers options before after more =
+    (keys : List (List ℕ)) → MayHaveKeys options.filter_kind options.bloom_policy before keys
+    → MayHaveKeys options.filter_kind options.bloom_policy after (keys ++ more)
 
 -- partitions of a filter are cut below four megabytes
 abbrev pub IsSmallFilter : FilterKind → Type 0

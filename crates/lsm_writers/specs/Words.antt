@@ -19,10 +19,10 @@ pub use Rattle.lsm_formats.specs.Options.{label_of}
 pub use Rattle.lsm_section_writers.specs.FilterRefusing.{filter_fault}
 pub use Rattle.lsm_section_writers.specs.Writing.{WritesFilter}
 pub use Rattle.lsm_writers.specs.Counts.{metadata_of, tally_of}
-pub use Rattle.lsm_writers.specs.Cut.{AreCut, CanCut, CountsCut, Cut, IsReadable, rest_chunk}
-pub use Rattle.lsm_writers.specs.Cut.{with_cut}
+pub use Rattle.lsm_writers.specs.Cut.{AreCut, AreCutBy, CanCut, CountsCut, Cut, IsReadable}
+pub use Rattle.lsm_writers.specs.Cut.{rest_chunk, with_cut}
 pub use Rattle.lsm_writers.specs.Filtering.{CanRegister, HasKeys, IsSmallFilter, MayHaveKeys}
-pub use Rattle.lsm_writers.specs.Filtering.{registered_key}
+pub use Rattle.lsm_writers.specs.Filtering.{Registers, registered_key}
 pub use Rattle.lsm_writers.specs.Held.{AreTableParts, HaveParts, IsTaken}
 pub use Rattle.lsm_formats.specs.Facts.{starts_key}
 pub use Rattle.lsm_writers.specs.Writing.{WritesTable, cut_writing, fresh_writing, sections_fault}

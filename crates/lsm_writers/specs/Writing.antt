@@ -146,7 +146,7 @@ abbrev pub fresh_writing : Label → Options → Writing
 fresh_writing label options =
     record { label = label; options = options; cut = []; pending = []; failed = false }
 
--- the same with the options that hold where none are told
+-- a writer that has no entry yet, with the options that hold where none are told
 abbrev pub new_writing : Label → Writing
 new_writing label = fresh_writing label default_options
 
@@ -176,6 +176,6 @@ pub record IsTableWith (label : Label) (options : Options) (es : List Entry) (id
   pub version_is : table.version ≡ V4
   pub spills_are : table.spills ≡ []
 
--- the same with the options that hold where none are told
+-- a finished table of a list under a label, with the options that hold where none are told
 abbrev pub IsTableOf : Label → List Entry → ℕ → ℕ → List ℕ → Type 0
 IsTableOf label es id checksum bytes = IsTableWith label default_options es id checksum bytes

@@ -5,7 +5,7 @@ ghost use Rattle.std.specs.Prelude.{OnErr, MatchResult, MatchOption};
 ghost use Rattle.lsm_writers.specs.Words.{AreTableParts, CanRegister, CountsCut, Entry, EntryFits};
 ghost use Rattle.lsm_writers.specs.Words.{Faults, FaultsFirst, HasNoVersion, HaveParts, IsFinished};
 ghost use Rattle.lsm_writers.specs.Words.{IsFresh, IsSmallFilter, IsStrict, IsTaken, LabelFits};
-ghost use Rattle.lsm_writers.specs.Words.{MayHaveKeys, WritesTable, appended, cut_writing};
+ghost use Rattle.lsm_writers.specs.Words.{Registers, WritesTable, appended, cut_writing};
 ghost use Rattle.lsm_writers.specs.Words.{empty_len, entries_fault, entries_size, entry_head_len};
 ghost use Rattle.lsm_writers.specs.Words.{entry_size, failed_fault};
 ghost use Rattle.lsm_writers.specs.Words.{filter_with_size, finish_fault, finished, fnv1a};
@@ -19,8 +19,12 @@ ghost use Rattle.std.specs.List.{AllByRecursion};
 ghost use Rattle.std.specs.Option.{option_copied};
 ghost use Rattle.sst_entries.specs.declared.error.Error.TheVariants.{OutOfMemory};
 ghost use Rattle.sst_sections.specs.declared.version.TableVersion.TheVariants.{V4};
-ghost use Rattle.lsm_formats.specs.declared.options.FilterKind.TheVariants.{Partitioned as PartitionedFilter};
-ghost use Rattle.lsm_formats.specs.declared.options.IndexKind.TheVariants.{Partitioned as PartitionedIndex};
+ghost use Rattle.lsm_formats.specs.declared.options.FilterKind.TheVariants.{
+  Partitioned as PartitionedFilter,
+};
+ghost use Rattle.lsm_formats.specs.declared.options.IndexKind.TheVariants.{
+  Partitioned as PartitionedIndex,
+};
 
 mod data_blocks;
 mod filter;
@@ -528,10 +532,8 @@ fn admit<A: Allocator + Clone>(
         (starts_key (option_copied before) item.now) item.now.user_key) }
     ensures tally { IfOk result (λ t. t ≡
         tally_of (option_copied before.entry) item.now meta.now.first_key) }
-    ensures registered { OnOk result ((keys : List (List ℕ)) →
-        MayHaveKeys options.now.filter_kind options.now.bloom_policy filter_writer.old keys →
-        MayHaveKeys options.now.filter_kind options.now.bloom_policy filter_writer.new
-        (keys ++ registered_key options.now.bloom_policy
+    ensures registered { OnOk result (Registers options.now filter_writer.old filter_writer.new
+        (registered_key options.now.bloom_policy
         (starts_key (option_copied before.entry) item.now) item.now.user_key)) }
     ensures refused { Faults result (item_fault chunk.now.items item.now) }
     ensures first { FaultsFirst result (item_fault chunk.now.items item.now) }
@@ -564,9 +566,8 @@ fn take_item<A: Allocator + Clone>(
     requires fit { entries_fault (chunk.old.items ++ item ∷ []) ≡ None }
     requires small { entry_size item + chunk_size.old < 2 ^ 64 }
     requires counts { CountsCut blocks.old.chunks meta.old }
-    ensures taken { OnOk result (IsTaken
-        (is_full options.now.data_block_size (chunk.old.items ++ item ∷ []))
-        (chunk.old.items ++ item ∷ []) blocks.old meta.old
+    ensures taken { let more = chunk.old.items ++ item ∷ [] in
+        OnOk result (IsTaken (is_full options.now.data_block_size more) more blocks.old meta.old
         chunk.new.items chunk_size.new blocks.new meta.new) }
     ensures left { OnErr result (chunk.new.items ≡ chunk.old.items) }
     ensures same_size { OnErr result (chunk_size.new ≡ chunk_size.old) }

@@ -13,7 +13,7 @@ use Rattle.sst_blocks.specs.Handle.{Handle}
 use Rattle.sst_blocks.specs.Payload.{spelled, payload}
 use Rattle.lsm_formats.specs.Facts.{count_after, lowest_seqno, highest_seqno}
 use Rattle.lsm_formats.specs.Filters.{keys_after}
-use Rattle.lsm_formats.specs.ItemName.{name_of}
+use Rattle.lsm_formats.specs.MetaBlock.{name_of}
 use Rattle.lsm_formats.specs.Content.{Content}
 use Rattle.lsm_formats.specs.Chunks.{AreChunks, IsChunk}
 use Rattle.lsm_formats.specs.Parts.{ArePartsOf, IsPart}

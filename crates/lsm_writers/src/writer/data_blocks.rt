@@ -1,7 +1,7 @@
 //! The data blocks of a table, with the index that they are registered with.
 ghost use Rattle.std.specs.Prelude.{◌≡◌, ◌+◌, ◌*◌, ◌++◌, ◌^◌, ◌<◌, List, [], ◌∷◌, Option, None};
 ghost use Rattle.std.specs.Prelude.{Some, false, length, IfOk, IfErr, OnOk, OnErr};
-ghost use Rattle.lsm_writers.specs.Words.{AreCut, BlockFits, CanCut, CountsCut, Entry};
+ghost use Rattle.lsm_writers.specs.Words.{AreCutBy, BlockFits, CanCut, CountsCut, Entry};
 ghost use Rattle.lsm_writers.specs.Words.{Cut, IsReadable, IsStrict, data_block, data_section};
 ghost use Rattle.lsm_writers.specs.Words.{entries_fault, entry_head_len, handle_of, handles};
 ghost use Rattle.lsm_writers.specs.Words.{joined, laid, last_of, payload};
@@ -163,14 +163,14 @@ fn add_block<A: Allocator + Clone>(
     requires cut { CanCut file_writer.old index_writer.old.handles index_writer.old.failed
         items.now }
     ensures added { OnOk result ((chunks : List (List Entry)) → (before : Option Entry) →
-        AreCut chunks file_writer.old index_writer.old.handles before index_writer.old.failed →
-        IsStrict (joined chunks ++ items.now) → AreCut (chunks ++ items.now ∷ [])
-        file_writer.new index_writer.new.handles (Some last.now) index_writer.new.failed) }
+        AreCutBy chunks file_writer.old index_writer.old before →
+        IsStrict (joined chunks ++ items.now) →
+        AreCutBy (chunks ++ items.now ∷ []) file_writer.new index_writer.new (Some last.now)) }
     ensures works { OnOk result (index_writer.new.failed ≡ false) }
     ensures encoded { OnOk result (buffer.new.items ≡ payload V4 items.now) }
     ensures left { OnErr result ((chunks : List (List Entry)) → (before : Option Entry) →
-        AreCut chunks file_writer.old index_writer.old.handles before index_writer.old.failed →
-        AreCut chunks file_writer.new index_writer.new.handles before index_writer.new.failed) }
+        AreCutBy chunks file_writer.old index_writer.old before →
+        AreCutBy chunks file_writer.new index_writer.new before) }
     ensures err { IfErr result (λ e. e ≡ OutOfMemory) }
 {
     let handle = write_chunk(file_writer, buffer, items, last, options)?;

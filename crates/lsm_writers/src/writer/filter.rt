@@ -1,8 +1,8 @@
 //! The keys of a table's filter.
-ghost use Rattle.std.specs.Prelude.{◌≡◌, ◌<◌, ◌^◌, ◌&&◌, ◌++◌, ℕ, List, [], nat_lt, OnOk, IfOk};
+ghost use Rattle.std.specs.Prelude.{◌≡◌, ◌<◌, ◌^◌, ◌&&◌, ℕ, List, [], nat_lt, OnOk, IfOk};
 ghost use Rattle.std.specs.Prelude.{IfErr};
 ghost use Rattle.lsm_writers.specs.Words.{CanRegister, Faults, HasKeys, HasNoFilter, MayHaveKeys};
-ghost use Rattle.lsm_writers.specs.Words.{WritesFilter};
+ghost use Rattle.lsm_writers.specs.Words.{Registers, WritesFilter};
 ghost use Rattle.lsm_writers.specs.Words.{filter_fault, registered_key, tenths_of};
 ghost use Rattle.sst_entries.specs.declared.error.Error.TheVariants.{OutOfMemory};
 
@@ -51,10 +51,8 @@ pub(crate) fn register_key<A: Allocator + Clone>(
 ) -> Result<(), Error>
     requires { CanRegister options.now.filter_kind options.now.bloom_policy filter_writer.old
         (registered_key options.now.bloom_policy starts_key key.now) }
-    ensures ok { OnOk result ((keys : List (List ℕ)) →
-        MayHaveKeys options.now.filter_kind options.now.bloom_policy filter_writer.old keys →
-        MayHaveKeys options.now.filter_kind options.now.bloom_policy filter_writer.new
-        (keys ++ registered_key options.now.bloom_policy starts_key key.now)) }
+    ensures ok { OnOk result (Registers options.now filter_writer.old filter_writer.new
+        (registered_key options.now.bloom_policy starts_key key.now)) }
     ensures err { IfErr result (λ e. e ≡ OutOfMemory) }
 {
     if !is_registered(options.bloom_policy, starts_key) {
@@ -81,13 +79,12 @@ pub(crate) fn finish_filter<A: Allocator + Clone>(
     file_writer: &mut SectionWriter<A>,
 ) -> Result<usize, Error>
     requires { HasNoFilter file_writer.old }
-    ensures ok { IfOk result (λ n. (keys : List (List ℕ)) →
-        MayHaveKeys options.now.filter_kind options.now.bloom_policy filter_writer keys →
-        WritesFilter options.now.filter_kind options.now.bloom_policy keys
-        file_writer.old file_writer.new n) }
-    ensures refused { (keys : List (List ℕ)) →
-        MayHaveKeys options.now.filter_kind options.now.bloom_policy filter_writer keys →
-        Faults result (filter_fault options.now.filter_kind options.now.bloom_policy keys) }
+    ensures ok { let kind = options.now.filter_kind in let policy = options.now.bloom_policy in
+        IfOk result (λ n. (keys : List (List ℕ)) → MayHaveKeys kind policy filter_writer keys →
+        WritesFilter kind policy keys file_writer.old file_writer.new n) }
+    ensures refused { let kind = options.now.filter_kind in let policy = options.now.bloom_policy in
+        (keys : List (List ℕ)) → MayHaveKeys kind policy filter_writer keys →
+        Faults result (filter_fault kind policy keys) }
 {
     match filter_writer {
         Some(writer) => writer.finish(file_writer),

@@ -1,14 +1,16 @@
 //! The meta block of a table: what a reader is told of it.
-ghost use Rattle.std.specs.Prelude.{◌≡◌, [], ◌∷◌, ◌++◌, None, unwrap_or, map, IfOk, IfErr, OnOk};
+ghost use Rattle.std.specs.Prelude.{◌≡◌, [], ◌∷◌, ◌++◌, None, codes, map, unwrap_or, IfOk};
+ghost use Rattle.std.specs.Prelude.{IfErr, OnOk};
 ghost use Rattle.sst_entries.specs.declared.error.Error.TheVariants.{OutOfMemory};
+ghost use Rattle.sst_sections.specs.Number.{le4, le8, le16};
 ghost use Rattle.sst_sections.specs.declared.version.TableVersion.TheVariants.{V4};
 ghost use Rattle.lsm_writers.specs.Counts.{counted_facts, counted_items, HasShortKeys};
 ghost use Rattle.lsm_formats.specs.File.{meta_section, HasNoMeta};
 ghost use Rattle.lsm_formats.specs.Layout.{appended};
 ghost use Rattle.sst_blocks.specs.Encoding.{entries_fault};
 ghost use Rattle.sst_entries.specs.Strict.{IsStrict};
-ghost use Rattle.lsm_formats.specs.MetaBlock.{meta_entry, block_items, key_items, option_items};
-ghost use Rattle.lsm_formats.specs.MetaBlock.{count_items};
+ghost use Rattle.lsm_formats.specs.MetaBlock.{meta_entry, block_items, level_items, key_items};
+ghost use Rattle.lsm_formats.specs.MetaBlock.{option_items, count_items, version_number};
 
 use crate::writer::meta::Metadata;
 use lsm_formats::{FILTER_HASH_TYPE, ItemName, Label, Options};
@@ -106,26 +108,20 @@ fn put_block_items<A: Allocator + Clone>(
         &[
             (
                 ItemName::BlockCountData,
-                &(meta.data_block_count as u64).to_le_bytes(),
+                &bytes8(meta.data_block_count as u64),
             ),
-            (
-                ItemName::BlockCountFilter,
-                &(counts.filter as u64).to_le_bytes(),
-            ),
-            (
-                ItemName::BlockCountIndex,
-                &(counts.index as u64).to_le_bytes(),
-            ),
+            (ItemName::BlockCountFilter, &bytes8(counts.filter as u64)),
+            (ItemName::BlockCountIndex, &bytes8(counts.index as u64)),
             (ItemName::ChecksumType, &[1]),
             (ItemName::CompressionData, &[0]),
             (ItemName::CompressionIndex, &[0]),
-            (ItemName::CrateVersion, b"3.1.10"),
-            (ItemName::CreatedAt, &label.created_at.to_le_bytes()),
+            (ItemName::CrateVersion, crate_version()),
+            (ItemName::CreatedAt, &bytes16(u128::from(label.created_at))),
             (
                 ItemName::DataBlockHashRatio,
-                &options.data_block_hash_ratio.to_le_bytes(),
+                &bytes4(options.data_block_hash_ratio),
             ),
-            (ItemName::FileSize, &meta.file_pos.0.to_le_bytes()),
+            (ItemName::FileSize, &bytes8(meta.file_pos.0)),
         ],
     )
 }
@@ -137,7 +133,7 @@ fn put_key_items<A: Allocator + Clone>(
     meta: &Metadata<A>,
 ) -> Result<(), Error>
     ensures ok { OnOk result (items.new.items ≡ items.old.items ++
-        key_items label.now (counted_facts meta.now)) }
+        level_items label.now (counted_facts meta.now) ++ key_items (counted_facts meta.now)) }
     ensures err { IfErr result (λ e. e ≡ OutOfMemory) }
 {
     put_all(
@@ -146,15 +142,14 @@ fn put_key_items<A: Allocator + Clone>(
             (ItemName::FilterHashType, &[FILTER_HASH_TYPE]),
             (ItemName::IndexKeysHaveSeqno, &[1]),
             (ItemName::InitialLevel, &[label.initial_level]),
-            (ItemName::ItemCount, &(meta.item_count as u64).to_le_bytes()),
+            (ItemName::ItemCount, &bytes8(meta.item_count as u64)),
             (ItemName::KeyMax, bytes_of(&meta.last_key)),
             (ItemName::KeyMin, bytes_of(&meta.first_key)),
-            (ItemName::KeyCount, &(meta.key_count as u64).to_le_bytes()),
         ],
     )
 }
 
-/// The options and the numbers.
+/// The number of keys, the options and the numbers.
 fn put_option_items<A: Allocator + Clone>(
     items: &mut Vec<InternalValue<A>, A>,
     label: &Label,
@@ -168,6 +163,7 @@ fn put_option_items<A: Allocator + Clone>(
     put_all(
         items,
         &[
+            (ItemName::KeyCount, &bytes8(meta.key_count as u64)),
             (ItemName::PrefixTruncationData, &[0]),
             (ItemName::PrefixTruncationIndex, &[0]),
             (
@@ -178,10 +174,10 @@ fn put_option_items<A: Allocator + Clone>(
                 ItemName::RestartIntervalIndex,
                 &[options.index_block_restart_interval],
             ),
-            (ItemName::SeqnoMax, &meta.highest_seqno.to_le_bytes()),
-            (ItemName::SeqnoMin, &meta.lowest_seqno.to_le_bytes()),
-            (ItemName::TableId, &label.table_id.to_le_bytes()),
-            (ItemName::TableVersion, &[4]),
+            (ItemName::SeqnoMax, &bytes8(meta.highest_seqno)),
+            (ItemName::SeqnoMin, &bytes8(meta.lowest_seqno)),
+            (ItemName::TableId, &bytes8(label.table_id)),
+            (ItemName::TableVersion, table_version()),
         ],
     )
 }
@@ -200,19 +196,16 @@ fn put_count_items<A: Allocator + Clone>(
         &[
             (
                 ItemName::TombstoneCount,
-                &(meta.tombstone_count as u64).to_le_bytes(),
+                &bytes8(meta.tombstone_count as u64),
             ),
-            (
-                ItemName::UserDataSize,
-                &meta.uncompressed_size.to_le_bytes(),
-            ),
+            (ItemName::UserDataSize, &bytes8(meta.uncompressed_size)),
             (
                 ItemName::WeakTombstoneCount,
-                &(meta.weak_tombstone_count as u64).to_le_bytes(),
+                &bytes8(meta.weak_tombstone_count as u64),
             ),
             (
                 ItemName::WeakTombstoneReclaimable,
-                &(meta.weak_tombstone_reclaimable_count as u64).to_le_bytes(),
+                &bytes8(meta.weak_tombstone_reclaimable_count as u64),
             ),
         ],
     )
@@ -231,6 +224,42 @@ fn put_all<A: Allocator + Clone>(
         put(items, *name, value)?;
     }
     Ok(())
+}
+
+/// The bytes of a number, the low one first.
+#[tactic(auto, unfolding(sst_sections::specs::Number::le4))]
+fn bytes4(number: u32) -> [u8; 4]
+    ensures { result ≡ le4 number }
+{
+    number.to_le_bytes()
+}
+
+#[tactic(auto, unfolding(sst_sections::specs::Number::le8))]
+fn bytes8(number: u64) -> [u8; 8]
+    ensures { result ≡ le8 number }
+{
+    number.to_le_bytes()
+}
+
+#[tactic(auto, unfolding(sst_sections::specs::Number::le16))]
+fn bytes16(number: u128) -> [u8; 16]
+    ensures { result ≡ le16 number }
+{
+    number.to_le_bytes()
+}
+
+/// The version of the crate whose format is written.
+fn crate_version() -> &'static [u8]
+    ensures { result.now ≡ codes "3.1.10" }
+{
+    b"3.1.10"
+}
+
+/// The number of the version that is written.
+fn table_version() -> &'static [u8]
+    ensures { result.now ≡ version_number V4 ∷ [] }
+{
+    &[4]
 }
 
 /// The bytes of a key, none where there is no key.

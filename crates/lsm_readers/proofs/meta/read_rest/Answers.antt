@@ -3,9 +3,8 @@ use Rattle.std.specs.Prelude.{Result, Ok}
 use Rattle.sst_entries.specs.declared.error.Error.{Error}
 use Rattle.sst_entries.specs.Error.{Gives}
 use Rattle.lsm_ranges.specs.KeyRange.{Interval}
-use Rattle.lsm_readers.specs.Meta.{Facts, compressions_told, facts_with, rest_told}
+use Rattle.lsm_readers.specs.Meta.{Facts, compressions_told, facts_of, facts_with, rest_told}
 use Rattle.lsm_readers.specs.Read.{◌>>=◌}
-use Rattle.lsm_readers.specs.Table.{facts_of}
 use Rattle.lsm_readers.proofs.Steps.{goes_on, fails_here, fails_later, passes_fault, beside_fails, beside_first, beside_gives, tested}
 use Rattle.lsm_readers.proofs.meta.read_rest.Goals as goal
 
@@ -39,5 +38,5 @@ returns g c =
     (sym (goes_on _ _ _ _ (c.in_ok-created_at.ensures ∙ ap (λ (n : ℕ). Ok n) (sym c.from.ensures))
     (goes_on _ _ _ _ c.in_ok-key_range.ensures
     (goes_on _ _ _ _ (beside_gives _ first c.seqno_items.result _ second seqnos c.seqno_items.ensures one)
-    (ap (λ (keys : Interval). compressions_told c.args.block.now >>= λ _. Ok (facts_with c.args.table_version c.from.result c.args.table c.args.blocks c.args.sizes keys seqnos)) (sym same))))))
+    (ap (λ (keys : Interval). compressions_told c.args.block.now >>= λ _. Ok (facts_with c.args.table_version c.from.result c.args.numbers keys seqnos)) (sym same))))))
     (tested (facts_of {A = g.row.A.Denot}) (λ (_ : _). tt) c.test_compressions.result (compressions_told c.args.block.now) _ c.and.result c.and.ensures c.test_compressions.ensures)

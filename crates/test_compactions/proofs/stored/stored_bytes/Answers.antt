@@ -7,7 +7,7 @@ use Rattle.sst_blocks.specs.Handles.{handle_spelled, handles_payload}
 use Rattle.sst_blocks.specs.Payload.{spelled, payload}
 use Rattle.lsm_formats.specs.Facts.{count_after, lowest_seqno, highest_seqno}
 use Rattle.lsm_formats.specs.Filters.{keys_after}
-use Rattle.lsm_formats.specs.ItemName.{name_of}
+use Rattle.lsm_formats.specs.MetaBlock.{name_of}
 use Rattle.lsm_formats.specs.Table.{IsTable}
 use Rattle.test_compactions.specs.Stored.{stored_entries}
 use Rattle.test_compactions.proofs.StoredTable.{stored_file, stored_table}
