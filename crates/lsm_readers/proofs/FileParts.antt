@@ -25,8 +25,9 @@ use Rattle.lsm_formats.specs.declared.label.Label.{Label}
 use Rattle.lsm_formats.specs.declared.options.Options.{Options}
 use Rattle.lsm_readers.specs.declared.regions.ParsedRegions.{ParsedRegions}
 use Rattle.lsm_readers.specs.Meta.{Facts, facts_told, meta_told}
-use Rattle.lsm_readers.specs.OfList.{facts_said, filter_said, filter_tops_said, index_said, list_told, no_place, parts_said, pinned_said, place_from, regions_said}
-use Rattle.lsm_readers.specs.Parts.{Parts, Pinned, filter_told, index_told, parts_told, pinned_filter, pinned_told, places_told, recovered_told, tops_told}
+use Rattle.lsm_readers.specs.OfList.{facts_said, filter_said, filter_tops_said, list_told, no_place, parts_said, pinned_said, place_from, regions_said}
+use Rattle.lsm_readers.specs.IndexKinds.{index_said, index_told}
+use Rattle.lsm_readers.specs.Parts.{Parts, Pinned, filter_told, parts_told, pinned_filter, pinned_told, places_told, recovered_told, tops_told}
 use Rattle.lsm_readers.proofs.FileContent.{body_short, entries_fit, facts_fit, filter_within, first_short, handles_fit, handles_line, index_within, last_short, longest_below, meta_block_short, meta_short, whole}
 use Rattle.lsm_readers.proofs.FileFilters.{KeyFits, keys_fit, keys_strict}
 use Rattle.lsm_readers.proofs.FilePinned.{filter_here, index_here, tops_here}

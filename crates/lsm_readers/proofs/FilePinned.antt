@@ -26,9 +26,10 @@ use Rattle.lsm_formats.specs.declared.options.FilterKind.TheVariants.{Full as Fu
 use Rattle.lsm_formats.specs.declared.options.IndexKind.{IndexKind}
 use Rattle.lsm_formats.specs.declared.options.IndexKind.TheVariants.{Full as FullIndex, Partitioned as PartitionedIndex}
 use Rattle.lsm_readers.specs.declared.regions.ParsedRegions.{ParsedRegions}
-use Rattle.lsm_readers.specs.Answer.{filter_admits, handle_by, handle_in_part, part_admits, place_in}
-use Rattle.lsm_readers.specs.OfList.{filter_said, filter_tops_said, index_said, place_from}
-use Rattle.lsm_readers.specs.Parts.{filter_told, handles_told, index_told, pinned_filter, tops_told}
+use Rattle.lsm_readers.specs.Answer.{filter_admits, part_admits}
+use Rattle.lsm_readers.specs.IndexKinds.{handle_by, handle_in_part, handles_told, index_said, index_told, place_in}
+use Rattle.lsm_readers.specs.OfList.{filter_said, filter_tops_said, place_from}
+use Rattle.lsm_readers.specs.Parts.{filter_told, pinned_filter, tops_told}
 use Rattle.lsm_readers.specs.Read.{◌>>=◌}
 use Rattle.lsm_readers.proofs.FileFilters.{Asked, KeyFits, filter_asked, no_key}
 use Rattle.lsm_readers.proofs.FileFilters as filters

@@ -33,7 +33,8 @@ use Rattle.lsm_formats.specs.Layout.{bytes_in}
 use Rattle.lsm_formats.specs.Table.{IsTable}
 use Rattle.lsm_formats.specs.declared.label.Label.{Label}
 use Rattle.lsm_formats.specs.declared.options.Options.{Options}
-use Rattle.lsm_readers.specs.Answer.{answer, filter_admits, handle_for, lift, lifted, match_at, match_in, place_in}
+use Rattle.lsm_readers.specs.Answer.{answer, filter_admits, handle_for, lift, lifted, match_at, match_in}
+use Rattle.lsm_readers.specs.IndexKinds.{place_in}
 use Rattle.lsm_readers.specs.OfList.{pinned_said, regions_said}
 use Rattle.lsm_readers.specs.Parts.{Parts, recovered_told}
 use Rattle.lsm_readers.specs.Read.{◌>>=◌, known, read_then}

@@ -45,7 +45,7 @@ use Rattle.lsm_formats.specs.declared.options.Options.{Options}
 use Rattle.lsm_iters.specs.Bounds.{lower_edge, upper_edge}
 use Rattle.lsm_iters.specs.Lift.{lift, lift_told, lifted, lifted_told}
 use Rattle.lsm_iters.specs.Rows.{Bounded, block_rows, rows, rows_in}
-use Rattle.lsm_readers.specs.BlockIndexes.{index_over}
+use Rattle.lsm_readers.specs.IndexKinds.{index_over}
 use Rattle.lsm_readers.specs.Meta.{Facts}
 use Rattle.lsm_readers.specs.OfList.{regions_said}
 use Rattle.lsm_readers.specs.Parts.{Parts, recovered_told}

@@ -26,8 +26,7 @@ use Rattle.lsm_formats.specs.Partitions.{handles_block, index_tops, is_full_inde
 use Rattle.lsm_formats.specs.declared.options.IndexKind.{IndexKind}
 use Rattle.lsm_formats.specs.declared.options.IndexKind.TheVariants.{Full as FullIndex, Partitioned as PartitionedIndex}
 use Rattle.lsm_block_indexes.specs.Index.{block_between, parts_between}
-use Rattle.lsm_readers.specs.BlockIndexes.{index_over}
-use Rattle.lsm_readers.specs.OfList.{index_said}
+use Rattle.lsm_readers.specs.IndexKinds.{index_over, index_said}
 use Rattle.lsm_readers.proofs.ChunkReads.{strict_after, strict_front}
 use Rattle.lsm_readers.proofs.FileIndexes.{LoadsHandles, part_loads}
 use Rattle.lsm_readers.proofs.FileKinds.{full_loads}

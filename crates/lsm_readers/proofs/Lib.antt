@@ -1,6 +1,7 @@
 pub mod Steps
 pub mod Loads
 pub mod Recovered
+pub mod IndexKinds
 pub mod ReadLaws
 pub mod FewLoads
 pub mod Points
@@ -33,4 +34,3 @@ pub mod ManyReads
 pub mod ManyOfList
 pub mod BatchReads
 pub mod OneIndex
-pub mod IndexKinds

@@ -1,12 +1,11 @@
 -- An opened table without its memory.
 use Rattle.std.specs.Prelude.{◌≡◌, ℕ, ◌<◌, ◌^◌, Bool, List, length, Ok}
 use Rattle.lsm_readers.specs.declared.inner.Inner.{Inner}
-use Rattle.lsm_readers.specs.declared.inner.PinnedBlockIndex.{PinnedBlockIndex}
-use Rattle.lsm_readers.specs.declared.inner.PinnedBlockIndex.TheVariants.{Full, VolatileFull, TwoLevel}
 use Rattle.lsm_readers.specs.declared.inner.PinnedBlocks.{PinnedBlocks}
 use Rattle.lsm_readers.specs.declared.meta.ParsedMeta.{ParsedMeta}
 use Rattle.lsm_readers.specs.Meta.{Facts}
-use Rattle.lsm_readers.specs.Parts.{Parts, Pinned, PinnedIndex, full, volatile, two_level, recovered_told}
+use Rattle.lsm_readers.specs.IndexKinds.{index_of}
+use Rattle.lsm_readers.specs.Parts.{Parts, Pinned, recovered_told}
 
 -- what a table says of itself
 abbrev pub facts_of : {A : Type 0} → ParsedMeta A → Facts
@@ -25,11 +24,6 @@ facts_of m = record {
   weak_tombstone_count = m.weak_tombstone_count;
   weak_tombstone_reclaimable = m.weak_tombstone_reclaimable;
 }
-
-abbrev pub index_of : {A : Type 0} → PinnedBlockIndex A → PinnedIndex
-index_of (Full index) = full index
-index_of VolatileFull = volatile
-index_of (TwoLevel tops) = two_level tops
 
 -- which blocks stay loaded
 abbrev pub pinned_of : {A : Type 0} → PinnedBlocks A → Pinned
