@@ -30,8 +30,9 @@ use Rattle.lsm_readers.specs.IndexKinds.{index_said, index_told}
 use Rattle.lsm_readers.specs.Parts.{Parts, Pinned, filter_told, parts_told, pinned_filter, pinned_told, places_told, recovered_told, tops_told}
 use Rattle.lsm_readers.proofs.FileContent.{body_short, entries_fit, facts_fit, filter_within, first_short, handles_fit, handles_line, index_within, last_short, longest_below, meta_block_short, meta_short, whole}
 use Rattle.lsm_readers.proofs.FileFilters.{KeyFits, keys_fit, keys_strict}
-use Rattle.lsm_readers.proofs.FilePinned.{filter_here, index_here, tops_here}
-use Rattle.lsm_readers.proofs.FileSections.{ascending, body_is, data_len, filter_at, filter_top_at, index_at, meta_items_read, regions_read, the_end, the_filter, the_index, the_items, top_at, top_place, written}
+use Rattle.lsm_readers.proofs.FileFilterKinds.{filter_here, tops_here}
+use Rattle.lsm_readers.proofs.FileIndexKinds.{index_here, top_place}
+use Rattle.lsm_readers.proofs.FileSections.{ascending, body_is, data_len, filter_at, filter_top_at, index_at, meta_items_read, regions_read, the_end, the_filter, the_index, the_items, top_at, written}
 use Rattle.lsm_readers.proofs.FilterPartReads.{key_end}
 use Rattle.lsm_readers.proofs.MetaBlocks.{meta_reads}
 use Rattle.lsm_readers.proofs.MetaReads.{facts_read, interval_read, written_facts}

@@ -43,7 +43,8 @@ use Rattle.lsm_readers.proofs.FileContent.{all_some, handles_fit, handles_line, 
 use Rattle.lsm_readers.proofs.FileFilters.{Asked}
 use Rattle.lsm_readers.proofs.FileLengths.{chunk_reads}
 use Rattle.lsm_readers.proofs.FileParts.{before_filter, behind_filter, behind_index, filter_lies, filter_place, filter_start, keys_line, keys_short, parts_are, short_file, the_body, tli_place, told_file, written_parts}
-use Rattle.lsm_readers.proofs.FilePinned.{filter_answers, index_finds}
+use Rattle.lsm_readers.proofs.FileFilterKinds.{filter_answers}
+use Rattle.lsm_readers.proofs.FileIndexKinds.{index_finds}
 use Rattle.lsm_readers.proofs.FileSections.{body_is, the_index, written}
 use Rattle.lsm_readers.proofs.FilterReads.{no_entry}
 

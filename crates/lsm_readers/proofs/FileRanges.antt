@@ -55,7 +55,8 @@ use Rattle.lsm_readers.proofs.FileLengths.{last_some}
 use Rattle.lsm_readers.proofs.FileParts.{behind_index, facts_are, parts_are, short_file, the_body, tli_place, told_file}
 use Rattle.lsm_readers.proofs.FileScans.{Reads, all_read, loaded_of}
 use Rattle.lsm_readers.proofs.FileSections.{body_is, the_index, written}
-use Rattle.lsm_readers.proofs.FileWindows.{from_test, index_window, to_test, window_is}
+use Rattle.lsm_readers.proofs.FileIndexKinds.{index_window}
+use Rattle.lsm_readers.proofs.FileWindows.{from_test, to_test, window_is}
 use Rattle.lsm_readers.proofs.Recovered.{steps}
 use Rattle.lsm_readers.proofs.Scans.{lifted_ok}
 use Rattle.lsm_readers.proofs.Windows.{StopsAt, all_to, skip_back, skip_front}
