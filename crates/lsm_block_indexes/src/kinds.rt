@@ -177,6 +177,32 @@ pub enum BlockIndexIterImpl<A: Allocator = Global> {
     TwoLevel(two_level::Iter<A>),
 }
 
+impl<A: Allocator + Clone> BlockIndexIterImpl<A> {
+    // A step at the front, by the kind.
+    #[inline]
+    fn step(&mut self) -> Option<Result<KeyedBlockHandle<A>, Error>>
+        ensures { FrontGives self.old result self.new }
+    {
+        match self {
+            BlockIndexIterImpl::Full(iter) => iter.next(),
+            BlockIndexIterImpl::Volatile(iter) => iter.next(),
+            BlockIndexIterImpl::TwoLevel(iter) => iter.next(),
+        }
+    }
+
+    // A step at the back, by the kind.
+    #[inline]
+    fn step_back(&mut self) -> Option<Result<KeyedBlockHandle<A>, Error>>
+        ensures { BackGives self.old result self.new }
+    {
+        match self {
+            BlockIndexIterImpl::Full(iter) => iter.next_back(),
+            BlockIndexIterImpl::Volatile(iter) => iter.next_back(),
+            BlockIndexIterImpl::TwoLevel(iter) => iter.next_back(),
+        }
+    }
+}
+
 impl<A: Allocator + Clone> Iterator for BlockIndexIterImpl<A> {
     type Item = Result<KeyedBlockHandle<A>, Error>;
 
@@ -187,11 +213,7 @@ impl<A: Allocator + Clone> Iterator for BlockIndexIterImpl<A> {
     ghost remaining = { λ s. at_most (left_size (left_of s)) };
 
     fn next(&mut self) -> Option<Self::Item> {
-        match self {
-            BlockIndexIterImpl::Full(iter) => iter.next(),
-            BlockIndexIterImpl::Volatile(iter) => iter.next(),
-            BlockIndexIterImpl::TwoLevel(iter) => iter.next(),
-        }
+        self.step()
     }
 }
 
@@ -201,11 +223,7 @@ impl<A: Allocator + Clone> DoubleEndedIterator for BlockIndexIterImpl<A> {
     ghost next_back_gives = { BackGives };
 
     fn next_back(&mut self) -> Option<Self::Item> {
-        match self {
-            BlockIndexIterImpl::Full(iter) => iter.next_back(),
-            BlockIndexIterImpl::Volatile(iter) => iter.next_back(),
-            BlockIndexIterImpl::TwoLevel(iter) => iter.next_back(),
-        }
+        self.step_back()
     }
 }
 

@@ -74,9 +74,9 @@ module _ {X Y : Type 0} (f : X → Result (Option Y) Error) (queries : List X) w
 
 -- ---- a read whose handle was found before
 
-pub placed_told : (body : List ℕ) (g : ℕ) (parts : Parts) (key : List ℕ) (bound low : ℕ) (handle : Option Place) → low ≡ bound - g
+pub lookup_told : (body : List ℕ) (g : ℕ) (parts : Parts) (key : List ℕ) (bound low : ℕ) (handle : Option Place) → low ≡ bound - g
     → (admitted_handle body parts key (bound - g)).told ≡ Ok handle → (answer body g parts key bound).told ≡ (match_in body g key low handle).told
 unfolding answer
-placed_told body g parts key bound low handle lowered is =
+lookup_told body g parts key bound low handle lowered is =
     ap (λ (r : Result (Option Place) Error). r >>= λ x. (match_in body g key (bound - g) x).told) is
     ∙ ap (λ (n : ℕ). (match_in body g key n handle).told) (sym lowered)

@@ -10,9 +10,11 @@ use Rattle.sst_blocks.specs.Opened.{with_load}
 use Rattle.sst_blocks.specs.Place.{Place}
 use Rattle.sst_filters.specs.Filter.{BloomFilter}
 use Rattle.sst_filters.specs.KeyHash.{hash_of}
-use Rattle.lsm_readers.specs.Answer.{LoadsFew, admission, admitted_handle, answer, filter_admits, handle_by, handle_for, match_in, most_filter_loads, most_index_loads, part_admits, handle_in_part, place_in}
-use Rattle.lsm_readers.specs.Parts.{Parts, PinnedIndex, full, volatile, two_level}
+use Rattle.lsm_readers.specs.Answer.{LoadsFew, admission, admitted_handle, answer, filter_admits, handle_for, match_in, most_filter_loads, part_admits}
+use Rattle.lsm_readers.specs.IndexKinds.{most_index_loads, place_in}
+use Rattle.lsm_readers.specs.Parts.{Parts}
 use Rattle.lsm_readers.specs.Read.{Opens, Read, known, loads_behind, opened_by}
+use Rattle.lsm_readers.proofs.IndexKinds.{index_up}
 
 -- ---- how often a kind is loaded
 
@@ -116,15 +118,6 @@ low_up : (body : List ℕ) (parts : Parts) (key : List ℕ) (above : Bool)
     → UpTo Filter (filter_most parts) (cond above (filter_admits body parts.pinned.filter_tops parts.pinned.filter parts.regions.filter key (hash_of key)) (known false)).loads
 low_up body parts key true = filter_up body parts.pinned.filter_tops parts.pinned.filter parts.regions.filter key (hash_of key)
 low_up body parts key false = inl refl
-
-handle_part_up : (body key : List ℕ) (bound : ℕ) (place : Option Place) → UpTo Index 1 (handle_in_part body key bound place).loads
-handle_part_up body key bound None = inl refl
-handle_part_up body key bound (Some place) = inr (refl, refl)
-
-index_up : (body : List ℕ) (index : PinnedIndex) (tli : Place) (key : List ℕ) (bound : ℕ) → UpTo Index (most_index_loads index) (handle_by body index tli key bound).loads
-index_up body (full handles) tli key bound = inl refl
-index_up body volatile tli key bound = inr (refl, refl)
-index_up body (two_level tops) tli key bound = handle_part_up body key bound (place_in tops key bound)
 
 handle_up : (body : List ℕ) (parts : Parts) (key : List ℕ) (bound : ℕ) (admitted : Bool) → UpTo Index (most_index_loads parts.pinned.index) (handle_for body parts key bound admitted).loads
 handle_up body parts key bound false = inl refl

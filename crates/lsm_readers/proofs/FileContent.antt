@@ -21,25 +21,20 @@ use Rattle.lsm_formats.specs.File.{IsContent, counted_blocks}
 use Rattle.lsm_formats.specs.Filters.{filter_block}
 use Rattle.lsm_formats.specs.Fits.{EntryFits, Fits, SectionFits}
 use Rattle.lsm_formats.specs.Index.{data_section, handles}
-use Rattle.lsm_formats.specs.Kinds.{AreIndexParts, filter_count, filter_sections}
+use Rattle.lsm_formats.specs.Kinds.{filter_count, filter_sections}
 use Rattle.lsm_formats.specs.Layout.{bytes_in}
-use Rattle.lsm_formats.specs.Partitions.{is_full_index}
-use Rattle.lsm_formats.specs.Parts.{joined_parts}
 use Rattle.lsm_formats.specs.declared.label.Label.{Label}
 use Rattle.lsm_formats.specs.declared.options.FilterKind.{FilterKind}
 use Rattle.lsm_formats.specs.declared.options.FilterKind.TheVariants.{Full as FullFilter, Partitioned as PartitionedFilter}
-use Rattle.lsm_formats.specs.declared.options.IndexKind.{IndexKind}
-use Rattle.lsm_formats.specs.declared.options.IndexKind.TheVariants.{Full as FullIndex, Partitioned as PartitionedIndex}
 use Rattle.lsm_formats.specs.declared.options.Options.{Options}
 use Rattle.lsm_readers.proofs.ChunkReads.{AreSome}
+use Rattle.lsm_readers.proofs.FileIndexKinds.{index_count}
 use Rattle.lsm_readers.proofs.FileLengths.{handle_fits, handles_strict, highest_below, last_fits, last_some, lowest_fits, section_wide}
 use Rattle.lsm_readers.proofs.FileSections.{body_is, data_len, the_end, the_filter, the_index, the_items, the_meta, written}
 use Rattle.sst_sections.proofs.SectionLaws.{finished_body}
 use Rattle.lsm_formats.proofs.FactLaws.{after_within, length-handles}
 use Rattle.lsm_readers.proofs.MetaBlocks.{meta_length}
 use Rattle.lsm_readers.proofs.MetaReads.{FactsFit}
-use Rattle.lsm_readers.proofs.PartEnds.{some_parts}
-use Rattle.lsm_readers.proofs.PartReads.{AreSomeParts}
 
 -- each chunk of a cut list has an entry
 pub some_chunks : (size : ℕ) (spills : List ℕ) (at : ℕ) (cs : List (List Entry)) → AreChunksFrom size spills at cs → AreSome cs
@@ -62,14 +57,6 @@ longest_below V3 = omega arith
 longest_below V4 = omega arith
 
 -- ---- how many blocks there are
-
-few_parts : {A : Type 0} (ps : List (List A)) → AreSomeParts ps → length ps ≤ length (joined_parts ps)
-few_parts [] some = omega arith
-few_parts (p ∷ ps) some = omega (arith, some.0, few_parts ps some.1, length-append p (joined_parts ps))
-
-index_count : (k : IndexKind) (hs : List Handle) (parts : List (List Handle)) → AreIndexParts k hs parts → length parts ≤ 1 + length hs
-index_count FullIndex hs parts are = omega (arith, ap length are)
-index_count (PartitionedIndex size) hs parts are = omega (arith, few_parts parts (some_parts (is_full_index size) parts are.each), ap length are.whole)
 
 few_filters : (v : TableVersion) (fs : List BloomFilter) → length fs ≤ length (flat_map (filter_block v) fs)
 few_filters v [] = omega arith

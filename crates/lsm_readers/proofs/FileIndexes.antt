@@ -13,12 +13,14 @@ use Rattle.sst_blocks.specs.declared.block_type.BlockType.TheVariants.{Index}
 use Rattle.sst_blocks.specs.Block.{Loaded, handles_of, load_told}
 use Rattle.sst_blocks.specs.Handle.{Handle}
 use Rattle.sst_blocks.specs.Handles.{AreStrictHandles, IsSpellableHandle, end_of, handles_in, handles_payload, reaches}
+use Rattle.sst_blocks.specs.Place.{Place}
 use Rattle.sst_blocks.proofs.BlockLaws.{written_loads}
 use Rattle.sst_blocks.proofs.HandleLaws.{handles_read}
 use Rattle.lsm_formats.proofs.BlockLengths.{length-block}
 use Rattle.lsm_formats.specs.Index.{last_entry}
 use Rattle.lsm_formats.specs.Parts.{joined_parts}
 use Rattle.lsm_formats.specs.Partitions.{handles_block, index_tops, last_end}
+use Rattle.lsm_readers.specs.IndexKinds.{handles_told}
 use Rattle.lsm_readers.specs.Read.{◌>>=◌}
 use Rattle.lsm_readers.proofs.FileLengths.{handles_short}
 use Rattle.lsm_readers.proofs.PartEnds.{block_of, ends_strict, part_all, part_strict}
@@ -33,6 +35,10 @@ pub record LoadsHandles (body : List ℕ) (offset size : ℕ) (hs : List Handle)
 -- what is found in its handles
 pub found_in : {X : Type 0} (body : List ℕ) (offset size : ℕ) (hs : List Handle) (f : List Handle → X) → LoadsHandles body offset size hs → (load_told body offset size Index >>= λ b. Ok (f (handles_of b))) ≡ Ok (f hs)
 found_in body offset size hs f h = rw (h.loads, h.handles) refl
+
+-- the handles of a place where they lie
+pub handles_at : (body : List ℕ) (place : Place) (hs : List Handle) → LoadsHandles body place.offset place.size hs → handles_told body place ≡ Ok hs
+handles_at body place hs l = found_in body place.offset place.size hs (λ (xs : List Handle). xs) l
 
 -- ---- one block
 

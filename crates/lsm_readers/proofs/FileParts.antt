@@ -26,12 +26,14 @@ use Rattle.lsm_formats.specs.declared.options.Options.{Options}
 use Rattle.lsm_formats.proofs.KeyLaws.{key_end, keys_strict}
 use Rattle.lsm_readers.specs.declared.regions.ParsedRegions.{ParsedRegions}
 use Rattle.lsm_readers.specs.Meta.{Facts, facts_said, facts_told, meta_told}
-use Rattle.lsm_readers.specs.OfList.{filter_said, filter_tops_said, index_said, list_told, no_place, parts_said, pinned_said, place_from, regions_said}
-use Rattle.lsm_readers.specs.Parts.{Parts, Pinned, filter_told, index_told, parts_told, pinned_filter, pinned_told, places_told, recovered_told, tops_told}
+use Rattle.lsm_readers.specs.OfList.{filter_said, filter_tops_said, list_told, no_place, parts_said, pinned_said, place_from, regions_said}
+use Rattle.lsm_readers.specs.IndexKinds.{index_said, index_told}
+use Rattle.lsm_readers.specs.Parts.{Parts, Pinned, filter_told, parts_told, pinned_filter, pinned_told, places_told, recovered_told, tops_told}
 use Rattle.lsm_readers.proofs.FileContent.{body_short, entries_fit, facts_fit, filter_within, first_short, handles_fit, handles_line, index_within, last_short, longest_below, meta_block_short, meta_short, whole}
 use Rattle.lsm_readers.proofs.FileFilters.{KeyFits, keys_fit}
-use Rattle.lsm_readers.proofs.FilePinned.{filter_here, index_here, tops_here}
-use Rattle.lsm_readers.proofs.FileSections.{ascending, body_is, data_len, filter_at, filter_top_at, index_at, meta_items_read, regions_read, the_end, the_filter, the_index, the_items, top_at, top_place, written}
+use Rattle.lsm_readers.proofs.FileFilterKinds.{filter_here, tops_here}
+use Rattle.lsm_readers.proofs.FileIndexKinds.{index_here, top_place}
+use Rattle.lsm_readers.proofs.FileSections.{ascending, body_is, data_len, filter_at, filter_top_at, index_at, meta_items_read, regions_read, the_end, the_filter, the_index, the_items, top_at, written}
 use Rattle.lsm_readers.proofs.MetaBlocks.{meta_reads}
 use Rattle.lsm_readers.proofs.MetaReads.{facts_read, interval_read, written_facts}
 use Rattle.lsm_readers.proofs.Recovered.{Steps, steps}

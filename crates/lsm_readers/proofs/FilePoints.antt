@@ -35,7 +35,8 @@ use Rattle.lsm_formats.specs.Layout.{bytes_in}
 use Rattle.lsm_formats.specs.Table.{IsTable}
 use Rattle.lsm_formats.specs.declared.label.Label.{Label}
 use Rattle.lsm_formats.specs.declared.options.Options.{Options}
-use Rattle.lsm_readers.specs.Answer.{answer, filter_admits, handle_for, lift, lifted, match_at, match_in, place_in}
+use Rattle.lsm_readers.specs.Answer.{answer, filter_admits, handle_for, lift, lifted, match_at, match_in}
+use Rattle.lsm_readers.specs.IndexKinds.{place_in}
 use Rattle.lsm_readers.specs.OfList.{pinned_said, regions_said}
 use Rattle.lsm_readers.specs.Parts.{Parts, recovered_told}
 use Rattle.lsm_readers.specs.Read.{◌>>=◌, known, read_then}
@@ -44,7 +45,8 @@ use Rattle.lsm_readers.proofs.FileContent.{all_some, handles_fit, handles_line, 
 use Rattle.lsm_readers.proofs.FileFilters.{Asked}
 use Rattle.lsm_readers.proofs.FileLengths.{chunk_reads}
 use Rattle.lsm_readers.proofs.FileParts.{before_filter, behind_filter, behind_index, filter_lies, filter_place, filter_start, keys_line, keys_short, parts_are, short_file, the_body, tli_place, told_file, written_parts}
-use Rattle.lsm_readers.proofs.FilePinned.{filter_answers, index_finds}
+use Rattle.lsm_readers.proofs.FileFilterKinds.{filter_answers}
+use Rattle.lsm_readers.proofs.FileIndexKinds.{index_finds}
 use Rattle.lsm_readers.proofs.FileSections.{body_is, the_index, written}
 use Rattle.lsm_readers.proofs.FilterReads.{no_entry}
 

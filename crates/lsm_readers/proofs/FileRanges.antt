@@ -46,7 +46,7 @@ use Rattle.lsm_formats.specs.declared.options.Options.{Options}
 use Rattle.lsm_iters.specs.Bounds.{lower_edge, upper_edge}
 use Rattle.lsm_iters.specs.Lift.{lift, lift_told, lifted, lifted_told}
 use Rattle.lsm_iters.specs.Rows.{Bounded, block_rows, rows, rows_in}
-use Rattle.lsm_readers.specs.BlockIndexes.{index_over}
+use Rattle.lsm_readers.specs.IndexKinds.{index_over}
 use Rattle.lsm_readers.specs.Meta.{Facts}
 use Rattle.lsm_readers.specs.OfList.{regions_said}
 use Rattle.lsm_readers.specs.Parts.{Parts, recovered_told}
@@ -56,7 +56,8 @@ use Rattle.lsm_readers.proofs.FileLengths.{last_some}
 use Rattle.lsm_readers.proofs.FileParts.{behind_index, facts_are, parts_are, short_file, the_body, tli_place, told_file}
 use Rattle.lsm_readers.proofs.FileScans.{Reads, all_read, loaded_of}
 use Rattle.lsm_readers.proofs.FileSections.{body_is, the_index, written}
-use Rattle.lsm_readers.proofs.FileWindows.{from_test, index_window, to_test, window_is}
+use Rattle.lsm_readers.proofs.FileIndexKinds.{index_window}
+use Rattle.lsm_readers.proofs.FileWindows.{from_test, to_test, window_is}
 use Rattle.lsm_readers.proofs.Recovered.{steps}
 use Rattle.lsm_readers.proofs.Scans.{lifted_ok}
 use Rattle.lsm_readers.proofs.Windows.{StopsAt, all_to, skip_back, skip_front}

@@ -27,10 +27,7 @@ use Rattle.lsm_formats.specs.Index.{handles, data_block, data_section}
 use Rattle.lsm_formats.specs.Content.{Content}
 use Rattle.lsm_formats.specs.Kinds.{AreIndexParts, index_sections}
 use Rattle.lsm_formats.specs.Layout.{bytes_in}
-use Rattle.lsm_formats.specs.Partitions.{handles_block, is_full_index}
-use Rattle.lsm_formats.specs.declared.options.IndexKind.{IndexKind}
-use Rattle.lsm_formats.specs.declared.options.IndexKind.TheVariants.{Full as FullIndex, Partitioned as PartitionedIndex}
-use Rattle.sst_blocks.specs.Handle.{Handle}
+use Rattle.lsm_formats.specs.Partitions.{handles_block}
 use Rattle.lsm_formats.specs.declared.options.Options.{Options}
 use Rattle.lsm_formats.specs.declared.label.Label.{Label}
 use Rattle.lsm_formats.specs.Table.{IsTable}
@@ -45,9 +42,9 @@ use Rattle.lsm_readers.proofs.FileLengths.{chunk_reads}
 use Rattle.sst_entries.proofs.Lists.{all_front, all_behind}
 use Rattle.sst_entries.proofs.Strictness.{strict_alone}
 use Rattle.lsm_readers.proofs.FileContent.{line, some_chunks, whole}
+use Rattle.lsm_readers.proofs.FileIndexKinds.{index_alone}
 use Rattle.lsm_readers.proofs.FileParts.{behind_index, facts_are, short_file, told_file}
 use Rattle.lsm_readers.proofs.FileSections.{body_is, the_end, the_filter, the_index, written}
-use Rattle.lsm_readers.proofs.PartEnds.{no_parts, some_parts}
 use Rattle.lsm_readers.proofs.Recovered.{steps}
 use Rattle.lsm_readers.proofs.Scans.{lifted_ok, memory_is}
 
@@ -197,11 +194,6 @@ index_refused v bytes rest body e =
 no_chunks : (cs : List (List Entry)) → AreSome cs → length (joined cs) ≡ 0 → cs ≡ []
 no_chunks [] some none = refl
 no_chunks (c ∷ cs) some none = absurd (omega (arith, some.0, none, length-append c (joined cs)))
-
--- an index of no handles is one block
-index_alone : (k : IndexKind) (v : TableVersion) (at : ℕ) (parts : List (List Handle)) → AreIndexParts k [] parts → bytes_in (index_sections k v at [] parts) ≡ handles_block v [] ++ []
-index_alone FullIndex v at parts are = refl
-index_alone (PartitionedIndex size) v at parts are = ap (λ (ps : List (List Handle)). bytes_in (index_sections (PartitionedIndex size) v at [] ps)) (no_parts parts (some_parts (is_full_index size) parts are.each) are.whole)
 
 -- so the first block of a table without entries is the index
 empty_refused : (v : TableVersion) (label : Label) (options : Options) (spills : List ℕ) (es : List Entry) (c : Content) → IsContent v options spills es c → length es ≡ 0 → load_at_told (body_of (finished (written v label options c))) 0 Data ≡ Err (InvalidTag BlockTypeTag 1)

@@ -1,7 +1,7 @@
 -- The bytes of a table tell where its sections lie, and its index and its filter load from there.
 use Rattle.std.proofs.Common.{◌≡◌, ℕ, ◌+◌, ◌^◌, ◌<◌, ◌==◌, false, List, [], ◌∷◌, ◌++◌, length, map, refl, ap, ◌∙◌, append_assoc, length-append, arith}
 use Rattle.std.specs.Prelude.{Option, Some, None, Ok, is_some, unwrap_or}
-use Rattle.std.specs.List.{AllByRecursion, flat_map}
+use Rattle.std.specs.List.{AllByRecursion}
 use Rattle.std.specs.Option.{option_or}
 use Rattle.std.proofs.lemmas.List.{append-nil}
 use Rattle.sst_sections.specs.declared.version.TableVersion.{TableVersion}
@@ -14,7 +14,6 @@ use Rattle.sst_entries.specs.Entry.{Entry}
 use Rattle.sst_entries.proofs.Lists.{all_append}
 use Rattle.sst_blocks.specs.declared.block_type.BlockType.TheVariants.{Meta}
 use Rattle.sst_blocks.specs.Block.{block_bytes, load_told}
-use Rattle.sst_blocks.specs.Handle.{Handle}
 use Rattle.sst_blocks.specs.Payload.{payload}
 use Rattle.sst_blocks.specs.Place.{Place}
 use Rattle.sst_blocks.specs.Reading.{entries_in}
@@ -22,23 +21,21 @@ use Rattle.sst_blocks.proofs.BlockLaws.{written_loads}
 use Rattle.lsm_formats.proofs.BlockLengths.{length-block}
 use Rattle.lsm_formats.specs.declared.options.FilterKind.{FilterKind}
 use Rattle.lsm_formats.specs.declared.options.FilterKind.TheVariants.{Full as FullFilter, Partitioned as PartitionedFilter}
-use Rattle.lsm_formats.specs.declared.options.IndexKind.{IndexKind}
-use Rattle.lsm_formats.specs.declared.options.IndexKind.TheVariants.{Full as FullIndex, Partitioned as PartitionedIndex}
 use Rattle.lsm_formats.specs.declared.label.Label.{Label}
 use Rattle.lsm_formats.specs.declared.options.Options.{Options}
 use Rattle.lsm_formats.specs.Content.{Content}
 use Rattle.lsm_formats.specs.File.{closing_sections, counted_blocks, filter_part, index_part, sections_of}
 use Rattle.lsm_formats.specs.Fits.{SectionFits}
 use Rattle.lsm_formats.specs.Index.{data_section, handles}
-use Rattle.lsm_formats.specs.Kinds.{filter_sections, index_sections}
+use Rattle.lsm_formats.specs.Kinds.{filter_sections}
 use Rattle.lsm_formats.specs.Layout.{Sections, bytes_in, laid}
 use Rattle.lsm_formats.specs.MetaBlock.{meta_entries, version_number}
-use Rattle.lsm_formats.specs.Partitions.{handles_block, index_tops}
 use Rattle.sst_filters.specs.Filter.{BloomFilter}
 use Rattle.lsm_readers.specs.declared.regions.ParsedRegions.{ParsedRegions}
 use Rattle.lsm_readers.specs.Meta.{facts_told, meta_told}
 use Rattle.lsm_readers.specs.OfList.{no_place, place_from, regions_laid, regions_said}
 use Rattle.lsm_readers.specs.Regions.{regions_told, section_named}
+use Rattle.lsm_readers.proofs.FileIndexKinds.{index_none, top_lies, top_place}
 use Rattle.lsm_readers.proofs.FileRegions.{bytes_append, laid_ascending, needed_by, place_append, section_from, section_told, sections_laid}
 
 -- ---- what the table of contents tells
@@ -56,20 +53,6 @@ regions_from toc at ss t m ft tli i f meta fits top closing =
     rw (ft, tli, i, f, meta, ft_told, tli_told, i_told, f_told, meta_is_told, top, closing) refl
 
 -- ---- the sections of each kind
-
-abbrev pub top_place : IndexKind → TableVersion → ℕ → List Handle → List (List Handle) → Place
-top_place FullIndex v at hs parts = record { offset = at; size = length (handles_block v hs) }
-top_place (PartitionedIndex size) v at hs parts = record { offset = at + length (flat_map (handles_block v) parts); size = length (handles_block v (index_tops v at parts)) }
-
-top_lies : (k : IndexKind) (v : TableVersion) (at : ℕ) (hs : List Handle) (parts : List (List Handle)) → place_from at (index_sections k v at hs parts) Tli ≡ Some (top_place k v at hs parts)
-top_lies FullIndex v at hs parts = refl
-top_lies (PartitionedIndex size) v at hs parts = refl
-
--- sections of an index are none of a filter, and none of the others
-index_none : (k : IndexKind) (v : TableVersion) (at : ℕ) (hs : List Handle) (parts : List (List Handle)) (n : ℕ) →
-    (place_from n (index_sections k v at hs parts) FilterSection ≡ None) × (place_from n (index_sections k v at hs parts) FilterTli ≡ None) × (place_from n (index_sections k v at hs parts) MetaSection ≡ None)
-index_none FullIndex v at hs parts n = (refl, refl, refl)
-index_none (PartitionedIndex size) v at hs parts n = (refl, refl, refl)
 
 filter_none : (k : FilterKind) (v : TableVersion) (at : ℕ) (keys : List (List (List ℕ))) (fs : List BloomFilter) (n : ℕ) → (place_from n (filter_sections k v at keys fs) IndexSection ≡ None) × (place_from n (filter_sections k v at keys fs) MetaSection ≡ None)
 filter_none FullFilter v at keys [] n = (refl, refl)

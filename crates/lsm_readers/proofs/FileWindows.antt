@@ -18,21 +18,11 @@ use Rattle.sst_blocks.specs.Handles.{AreStrictHandles, IsSpellableHandle, end_of
 use Rattle.sst_blocks.specs.Place.{Place, place_of}
 use Rattle.sst_blocks.proofs.Reaching.{above_reaches, reaches_after}
 use Rattle.lsm_formats.proofs.BlockLengths.{length-block}
-use Rattle.lsm_formats.specs.Fits.{SectionFits}
-use Rattle.lsm_formats.specs.Kinds.{AreIndexParts, index_sections}
-use Rattle.lsm_formats.specs.Layout.{bytes_in}
 use Rattle.lsm_formats.specs.Parts.{joined_parts}
-use Rattle.lsm_formats.specs.Partitions.{handles_block, index_tops, is_full_index, last_end}
-use Rattle.lsm_formats.specs.declared.options.IndexKind.{IndexKind}
-use Rattle.lsm_formats.specs.declared.options.IndexKind.TheVariants.{Full as FullIndex, Partitioned as PartitionedIndex}
+use Rattle.lsm_formats.specs.Partitions.{handles_block, index_tops, last_end}
 use Rattle.lsm_block_indexes.specs.Index.{block_between, parts_between}
-use Rattle.lsm_readers.specs.BlockIndexes.{index_over}
-use Rattle.lsm_readers.specs.OfList.{index_said}
 use Rattle.lsm_readers.proofs.ChunkReads.{strict_after, strict_front}
 use Rattle.lsm_readers.proofs.FileIndexes.{LoadsHandles, part_loads}
-use Rattle.lsm_readers.proofs.FileKinds.{full_loads}
-use Rattle.lsm_readers.proofs.FileSections.{top_place}
-use Rattle.lsm_readers.proofs.PartEnds.{some_parts}
 use Rattle.lsm_readers.proofs.PartReads.{AreSomeParts, top_at}
 use Rattle.lsm_readers.proofs.Windows.{AllCut, AllTell, Rises, Tells, parts_cut, to_here, to_later}
 
@@ -142,7 +132,7 @@ module _ (p : Handle → Bool) (edge : IsEdge p) where
 
 -- ---- what a block and what partitions have between the edges
 
-between_here : (body : List ℕ) (place : Place) (hs : List Handle) (lo : Option (List ℕ × ℕ)) (hi : Option (List ℕ)) → LoadsHandles body place.offset place.size hs → block_between body lo hi place ≡ ok_results (window hs lo hi)
+pub between_here : (body : List ℕ) (place : Place) (hs : List Handle) (lo : Option (List ℕ × ℕ)) (hi : Option (List ℕ)) → LoadsHandles body place.offset place.size hs → block_between body lo hi place ≡ ok_results (window hs lo hi)
 between_here body place hs lo hi l = rw (l.loads, l.handles) refl
 
 module _ (v : TableVersion) (at : ℕ) (parts : List (List Handle)) (some : AreSomeParts parts) (strict : AreStrictHandles (joined_parts parts)) (spelled : AllByRecursion (IsSpellableHandle v) (joined_parts parts))
@@ -174,21 +164,3 @@ module _ (v : TableVersion) (at : ℕ) (parts : List (List Handle)) (some : AreS
       ∙ parts_cut (from_test lo) (to_test hi) result results tops parts (tells (from_test lo) (from_is_edge lo) v at None parts some strict) (tells (to_test hi) (to_is_edge hi) v at None parts some strict) all
       (rises (from_test lo) (from_is_edge lo) None (joined_parts parts) strict)
       ∙ ap (map result) (sym (window_is (joined_parts parts) lo hi))
-
--- ---- the index of each kind
-
-module _ (v : TableVersion) (at : ℕ) (hs : List Handle) (parts : List (List Handle)) (strict : AreStrictHandles hs) (spelled : AllByRecursion (IsSpellableHandle v) hs) (pre post body : List ℕ) (from : at ≡ length pre)
-    (lo : Option (List ℕ × ℕ)) (hi : Option (List ℕ)) where
-  pub index_window : (k : IndexKind) (tli : Place) (pin : Bool) → AreIndexParts k hs parts → AllByRecursion SectionFits (index_sections k v at hs parts) → body ≡ pre ++ (bytes_in (index_sections k v at hs parts) ++ post) → tli ≡ top_place k v at hs parts
-      → (index_over body (index_said k v at hs parts pin) tli).told lo hi ≡ ok_results (window hs lo hi)
-  index_window FullIndex tli true are fits lies place = refl
-  index_window FullIndex tli false are fits lies place =
-      ap (block_between body lo hi) place ∙ between_here body (top_place FullIndex v at hs parts) hs lo hi (full_loads v at hs parts strict spelled pre post body from fits lies)
-  index_window (PartitionedIndex size) tli pin are fits lies place =
-      let top = handles_block v (index_tops v at parts) in
-      let blocks = flat_map (handles_block v) parts in
-      let whole : body ≡ pre ++ (blocks ++ ((top ++ []) ++ post)) = lies ∙ simp append_assoc in
-      let line : AreStrictHandles (joined_parts parts) = subst AreStrictHandles (sym are.whole) strict in
-      let all : AllByRecursion (IsSpellableHandle v) (joined_parts parts) = subst (λ (xs : List Handle). AllByRecursion (IsSpellableHandle v) xs) (sym are.whole) spelled in
-      parts_window v at parts (some_parts (is_full_index size) parts are.each) line all (fits.0).short pre ((top ++ []) ++ post) body from whole lo hi
-      ∙ ap (λ (xs : List Handle). ok_results (window xs lo hi)) are.whole

@@ -1,20 +1,19 @@
--- The kind of an index is that of what of it stays loaded.
-use Rattle.std.proofs.Common.{◌≡◌, ℕ, Bool, true, false, cond, List, ap, refl, ◌∙◌}
-use Rattle.std.specs.Prelude.{Result, Ok, is_some}
+-- What holds of an index by what of it stays loaded.
+use Rattle.std.proofs.Common.{◌≡◌, ℕ, ◌-◌, ◌≤◌, Bool, true, false, cond, List, [], ◌∷◌, ap, refl, ◌∙◌, arith, inl, inr}
+use Rattle.std.specs.Prelude.{◌≢◌, ◌⊎◌, Option, Some, None, Result, Ok, is_some}
 use Rattle.sst_entries.specs.declared.error.Error.{Error}
+use Rattle.sst_blocks.specs.declared.block_type.BlockType.{BlockType}
+use Rattle.sst_blocks.specs.declared.block_type.BlockType.TheVariants.{Index}
 use Rattle.sst_blocks.specs.Handle.{Handle}
 use Rattle.sst_blocks.specs.Place.{Place}
 use Rattle.sst_sections.specs.Sections.{body_of}
-use Rattle.lsm_readers.specs.BlockIndexes.{Kind, OpenedWith, kind_for, on_each_read, partitioned, whole}
-use Rattle.lsm_readers.specs.Parts.{PinnedIndex, full, handles_told, two_level, volatile}
+use Rattle.lsm_readers.specs.BlockIndexes.{OpenedWith}
+use Rattle.lsm_readers.specs.IndexKinds.{Kind, PinnedIndex, full, handle_by, handle_in_part, handles_told, index_len, kind_for, kind_kept, most_index_loads, partitioned, place_in, two_level, volatile, whole}
 use Rattle.lsm_readers.specs.Read.{◌>>=◌}
 use Rattle.lsm_readers.specs.Table.{OpenTable}
 use Rattle.lsm_readers.proofs.Recovered.{bind_ok, pinned_steps, steps}
 
-abbrev pub kind_kept : PinnedIndex → Kind
-kind_kept (full handles) = whole
-kind_kept volatile = on_each_read
-kind_kept (two_level tops) = partitioned
+-- ---- its kind
 
 abbrev kept : PinnedIndex → Result PinnedIndex Error
 kept index = Ok index
@@ -43,3 +42,31 @@ opened_kind t pin_filter pin_index told =
     let all = steps t.bytes t.global_seqno pin_filter pin_index t.parts told in
     let pins = pinned_steps body regions pin_filter pin_index t.parts.pinned all.pinned in
     kind_of_told body regions.tli (is_some regions.index) pin_index t.parts.pinned.index pins.index
+
+-- ---- what a lookup loads
+
+-- no block, or one of the index
+abbrev UpTo : ℕ → List BlockType → Type 0
+UpTo n ks = (ks ≡ []) ⊎ ((ks ≡ Index ∷ []) × (n ≡ 1))
+
+part_up : (body key : List ℕ) (bound : ℕ) (place : Option Place) → UpTo 1 (handle_in_part body key bound place).loads
+part_up body key bound None = inl refl
+part_up body key bound (Some place) = inr (refl, refl)
+
+pub index_up : (body : List ℕ) (index : PinnedIndex) (tli : Place) (key : List ℕ) (bound : ℕ) → UpTo (most_index_loads index) (handle_by body index tli key bound).loads
+index_up body (full handles) tli key bound = inl refl
+index_up body volatile tli key bound = inr (refl, refl)
+index_up body (two_level tops) tli key bound = part_up body key bound (place_in tops key bound)
+
+pub index_one : (index : PinnedIndex) → most_index_loads index ≤ 1
+index_one (full handles) = omega arith
+index_one volatile = omega arith
+index_one (two_level tops) = omega arith
+
+-- ---- how long it is
+
+-- where a block stays loaded, its header is not counted
+pub kept_len : (index : PinnedIndex) (tli : Place) → index ≢ volatile → index_len index tli ≡ tli.size - 24
+kept_len (full handles) tli some = refl
+kept_len volatile tli some = absurd (some refl)
+kept_len (two_level tops) tli some = refl

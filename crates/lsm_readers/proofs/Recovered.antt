@@ -1,22 +1,22 @@
 -- What a recovered table's parts keep.
 use Rattle.std.proofs.Common.{◌≡◌, ℕ, ◌+◌, ◌-◌, ◌^◌, ◌<◌, ◌≤◌, Bool, true, false, cond, ltb, List, refl, sym, ap, subst, ◌∙◌, arith}
-use Rattle.std.specs.Prelude.{◌≢◌, length, Option, Some, None, is_some, Result, Ok, Err}
+use Rattle.std.specs.Prelude.{length, Option, Some, None, Result, Ok, Err}
 use Rattle.std.proofs.lemmas.Bool.{ltb-false}
 use Rattle.sst_entries.specs.declared.error.Error.{Error}
 use Rattle.sst_entries.specs.declared.error.Error.TheVariants.{GlobalSeqNoTooLarge}
 use Rattle.std.specs.Option.{option_or}
 use Rattle.std.specs.Result.{IsErrAnd}
 use Rattle.sst_entries.specs.Error.{Fails, FaultsFirst, is_memory, unless}
-use Rattle.sst_blocks.specs.declared.block_type.BlockType.TheVariants.{Index, Meta}
-use Rattle.sst_blocks.specs.Block.{Loaded, load_told, place_fault, handles_of}
+use Rattle.sst_blocks.specs.declared.block_type.BlockType.TheVariants.{Meta}
+use Rattle.sst_blocks.specs.Block.{place_fault}
 use Rattle.sst_blocks.specs.Handle.{Handle}
-use Rattle.sst_blocks.specs.Place.{Place}
 use Rattle.sst_filters.specs.Filter.{BloomFilter}
 use Rattle.sst_sections.specs.Sections.{body_of, trailer_fault}
 use Rattle.lsm_readers.specs.declared.regions.ParsedRegions.{ParsedRegions}
 use Rattle.lsm_readers.specs.Meta.{Facts}
 use Rattle.lsm_readers.specs.Meta.{meta_told}
-use Rattle.lsm_readers.specs.Parts.{Parts, Pinned, PinnedIndex, early_fault, early_in, filter_told, full, handles_told, index_told, number_told, parts_told, pinned_filter, pinned_told, places_told, range_in, range_told, recovered_told, tops_told, two_level, volatile}
+use Rattle.lsm_readers.specs.Parts.{Parts, Pinned, early_fault, early_in, filter_told, number_told, parts_told, pinned_filter, pinned_told, places_told, range_in, range_told, recovered_told, tops_told}
+use Rattle.lsm_readers.specs.IndexKinds.{PinnedIndex, index_told}
 use Rattle.lsm_readers.specs.Table.{IsRecovered, IsOpen}
 use Rattle.lsm_readers.specs.Table.{OpenTable}
 use Rattle.lsm_readers.specs.Read.{◌>>=◌}
@@ -104,34 +104,6 @@ pinned_steps body regions pin_filter pin_index pinned h =
     let f = bind_ok (filter_told body place) (λ filter. Ok (pins i.0 t.0 filter)) pinned t.2 in
     let same : pins i.0 t.0 f.0 ≡ pinned = cc in
     subst (PinnedSteps body regions pin_filter pin_index) same (record { index = i.1; filter_tops = t.1; filter = f.1 })
-
-loads_handles : (body : List ℕ) (place : Place) (index : PinnedIndex) (kept : List Handle → PinnedIndex) → (handles_told body place >>= λ hs. Ok (kept hs)) ≡ Ok index
-    → (b : Loaded) × (load_told body place.offset place.size Index ≡ Ok b)
-loads_handles body place index kept h =
-    let hs = bind_ok (handles_told body place) (λ hs. Ok (kept hs)) index h in
-    let b = bind_ok (load_told body place.offset place.size Index) (λ block. Ok (handles_of block)) hs.0 hs.1 in
-    (b.0, b.1)
-
-abbrev index_result : PinnedIndex → Result PinnedIndex Error
-index_result index = Ok index
-
-volatile_is : (index : PinnedIndex) → index_result volatile ≡ Ok index → index ≡ volatile
-volatile_is index h = cc
-
-index_loads : (body : List ℕ) (tli : Place) (parts pin : Bool) (index : PinnedIndex)
-    → cond parts (handles_told body tli >>= λ tops. Ok (two_level tops)) (cond pin (handles_told body tli >>= λ handles. Ok (full handles)) (Ok volatile)) ≡ Ok index
-    → index ≢ volatile → (b : Loaded) × (load_told body tli.offset tli.size Index ≡ Ok b)
-index_loads body tli true pin index h some = loads_handles body tli index two_level h
-index_loads body tli false true index h some = loads_handles body tli index full h
-index_loads body tli false false index h some = absurd (some (volatile_is index h))
-
--- the index block that stays loaded was loaded
-pub index_opens : (t : OpenTable) → IsRecovered t → t.parts.pinned.index ≢ volatile → (b : Loaded) × (load_told (body_of t.bytes) t.parts.regions.tli.offset t.parts.regions.tli.size Index ≡ Ok b)
-index_opens t h some =
-    let body = body_of t.bytes in
-    let regions = t.parts.regions in
-    let kept = pinned_steps body regions h.pin_filter h.pin_index t.parts.pinned (recovered_steps t h).pinned in
-    index_loads body regions.tli (is_some regions.index) h.pin_index t.parts.pinned.index kept.index some
 
 -- opening what has no fault in its trailer tells what its parts tell
 pub opening_told : (bytes source : List ℕ) (g : ℕ) (pin_filter pin_index : Bool) (told : Result Parts Error) → trailer_fault bytes ≡ None → source ≡ bytes → parts_told source g pin_filter pin_index ≡ told → recovered_told bytes g pin_filter pin_index ≡ told

@@ -1,17 +1,17 @@
 -- A point read of a table, over any bytes: a key is admitted, its data block is found, and is read.
-use Rattle.std.specs.Prelude.{◌≡◌, ℕ, ◌+◌, ◌-◌, ◌^◌, ◌≤◌, nat_lt, Bool, true, false, List, find, Option, Some, None, if◌then◌else◌}
+use Rattle.std.specs.Prelude.{◌≡◌, ℕ, ◌+◌, ◌-◌, ◌^◌, ◌≤◌, nat_lt, Bool, true, false, List, Option, Some, None, if◌then◌else◌}
 use Rattle.std.specs.Option.{option_map}
-use Rattle.sst_blocks.specs.declared.block_type.BlockType.TheVariants.{Data, Index, Filter}
+use Rattle.sst_blocks.specs.declared.block_type.BlockType.TheVariants.{Data, Filter}
 use Rattle.sst_blocks.specs.declared.opened.Opened.{Opened}
-use Rattle.sst_blocks.specs.Block.{entries_of, handles_of}
+use Rattle.sst_blocks.specs.Block.{entries_of}
 use Rattle.sst_entries.specs.Entry.{Entry}
 use Rattle.sst_blocks.specs.Handle.{Handle}
-use Rattle.sst_blocks.specs.Handles.{reaches}
-use Rattle.sst_blocks.specs.Place.{Place, place_of}
+use Rattle.sst_blocks.specs.Place.{Place}
 use Rattle.sst_entries.specs.Point.{point}
 use Rattle.sst_filters.specs.Filter.{BloomFilter, admits, filter_in}
 pub use Rattle.lsm_iters.specs.Lift.{lifted, lift}
-use Rattle.lsm_readers.specs.Parts.{Parts, PinnedIndex, full, volatile, two_level}
+use Rattle.lsm_readers.specs.IndexKinds.{handle_by, most_index_loads, place_in}
+use Rattle.lsm_readers.specs.Parts.{Parts}
 use Rattle.lsm_readers.specs.Table.{OpenTable}
 use Rattle.sst_filters.specs.KeyHash.{hash_of}
 use Rattle.sst_sections.specs.Sections.{body_of}
@@ -26,10 +26,6 @@ block_admits body hash place =
 abbrev pub part_admits : List ℕ → ℕ → Option Place → Read Bool
 part_admits body hash None = known false
 part_admits body hash (Some place) = block_admits body hash place
-
--- where the first handle leads that reaches a key at a bound
-abbrev pub place_in : List Handle → List ℕ → ℕ → Option Place
-place_in handles key bound = option_map place_of (find (reaches key bound) handles)
 
 -- whether a table's filter may have a key of a hash: with a top level its partition is asked, which the key
 -- at the highest bound leads to; else its one block, which stays loaded or is loaded by each read; without
@@ -50,25 +46,7 @@ admission body parts key bound =
     then filter_admits body pinned.filter_tops pinned.filter parts.regions.filter key (hash_of key)
     else known false
 
--- where the handle leads that the index block at a place has for a key at a bound
-abbrev pub handle_at : List ℕ → List ℕ → ℕ → Place → Read (Option Place)
-handle_at body key bound place =
-    read_map (λ block. place_in (handles_of block) key bound) (block_read body place Index)
-
--- the same of an index's partition: where there is none, nowhere
-abbrev pub handle_in_part : List ℕ → List ℕ → ℕ → Option Place → Read (Option Place)
-handle_in_part body key bound None = known None
-handle_in_part body key bound (Some place) = handle_at body key bound place
-
--- where the first data block lies that reaches a key at a bound: by the handles that stay loaded, by the
--- one block of the index, or by the one partition that the top level leads to
-abbrev pub handle_by : List ℕ → PinnedIndex → Place → List ℕ → ℕ → Read (Option Place)
-handle_by body (full handles) tli key bound = known (place_in handles key bound)
-handle_by body volatile tli key bound = handle_at body key bound tli
-handle_by body (two_level tops) tli key bound =
-    handle_in_part body key bound (place_in tops key bound)
-
--- the same of a key that is admitted
+-- where the first data block lies that reaches a key at a bound, if the key is admitted
 abbrev pub handle_for : List ℕ → Parts → List ℕ → ℕ → Bool → Read (Option Place)
 handle_for body parts key bound false = known None
 handle_for body parts key bound true = handle_by body parts.pinned.index parts.regions.tli key bound
@@ -98,12 +76,6 @@ answer body g parts key bound =
 -- a point read of an opened table
 abbrev pub table_answer : OpenTable → List ℕ → ℕ → Read (Option Entry)
 table_answer t key bound = answer (body_of t.bytes) t.global_seqno t.parts key bound
-
--- how many index blocks a point read loads at most: none where the whole index stays loaded
-abbrev pub most_index_loads : PinnedIndex → ℕ
-most_index_loads (full handles) = 0
-most_index_loads volatile = 1
-most_index_loads (two_level tops) = 1
 
 -- how many filter blocks: none where a full filter stays loaded, or there is no filter
 abbrev pub most_filter_loads : Option (List Handle) → Option BloomFilter → Option Place → ℕ

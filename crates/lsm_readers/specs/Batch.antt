@@ -2,7 +2,7 @@
 use Rattle.std.specs.Prelude.{◌≡◌, ℕ, ◌-◌, ◌<◌, Bool, true, false, List, length, slice_index_or, Option, None, Result, Ok}
 use Rattle.sst_entries.specs.declared.error.Error.{Error}
 use Rattle.sst_entries.specs.Entry.{Entry}
-use Rattle.lsm_readers.specs.declared.batch.Placed.{Placed}
+use Rattle.lsm_readers.specs.declared.batch.Lookup.{Lookup}
 use Rattle.lsm_readers.specs.declared.table.queries.Query.{Query}
 use Rattle.lsm_readers.specs.Answer.{admitted_handle, answer}
 use Rattle.lsm_readers.specs.Parts.{Parts}
@@ -11,12 +11,13 @@ use Rattle.lsm_readers.specs.Parts.{Parts}
 abbrev pub query_told : {A : Type 0} → List ℕ → ℕ → Parts → Query A → Result (Option Entry) Error
 query_told body g parts q = (answer body g parts q.key q.seqno).told
 
--- a query stands at a place of its list, and a point read for it rests on the block of a handle
-pub record IsPlaced {A : Type 0} (body : List ℕ) (g : ℕ) (parts : Parts) (queries : List (Query A))
-    (p : Placed) : Type 0 where
-  pub within : p.at < length queries
-  pub told : (q : Query A) → q ≡ slice_index_or queries p.at q →
-      (admitted_handle body parts q.key (q.seqno - g)).told ≡ Ok p.handle
+-- a lookup of a query that stands at a place of its list: a point read for it rests on the block
+-- of a handle
+pub record IsLookup {A : Type 0} (body : List ℕ) (g : ℕ) (parts : Parts) (queries : List (Query A))
+    (l : Lookup) : Type 0 where
+  pub within : l.at < length queries
+  pub told : (q : Query A) → q ≡ slice_index_or queries l.at q →
+      (admitted_handle body parts q.key (q.seqno - g)).told ≡ Ok l.handle
 
 -- of some queries, those that are marked were answered: each has what a function tells
 pub record AreFound {X Y : Type 0} (f : X → Result (Option Y) Error) (queries : List X)

@@ -1,6 +1,7 @@
 pub mod Read
 pub mod Regions
 pub mod Meta
+pub mod IndexKinds
 pub mod Parts
 pub mod Table
 pub mod Answer

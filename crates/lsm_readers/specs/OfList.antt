@@ -18,17 +18,16 @@ use Rattle.lsm_formats.specs.File.{closing_sections, filter_part, front_sections
 use Rattle.lsm_formats.specs.Filters.{filter_partitions}
 use Rattle.lsm_formats.specs.Index.{handles, data_section}
 use Rattle.lsm_formats.specs.Layout.{Sections, bytes_in}
-use Rattle.lsm_formats.specs.Partitions.{index_tops, tops_from}
+use Rattle.lsm_formats.specs.Partitions.{tops_from}
 use Rattle.lsm_formats.specs.declared.options.FilterKind.{FilterKind}
 use Rattle.lsm_formats.specs.declared.options.FilterKind.TheVariants.{Full as FullFilter, Partitioned as PartitionedFilter}
-use Rattle.lsm_formats.specs.declared.options.IndexKind.{IndexKind}
-use Rattle.lsm_formats.specs.declared.options.IndexKind.TheVariants.{Full as FullIndex, Partitioned as PartitionedIndex}
 use Rattle.lsm_formats.specs.declared.options.Options.{Options}
 use Rattle.lsm_formats.specs.declared.label.Label.{Label}
 use Rattle.lsm_formats.specs.Table.{IsTable}
 use Rattle.lsm_readers.specs.declared.regions.ParsedRegions.{ParsedRegions}
+use Rattle.lsm_readers.specs.IndexKinds.{index_said}
 use Rattle.lsm_readers.specs.Meta.{facts_said}
-use Rattle.lsm_readers.specs.Parts.{Parts, Pinned, PinnedIndex, full, two_level, volatile}
+use Rattle.lsm_readers.specs.Parts.{Parts, Pinned}
 
 -- the first and the last key of a list
 abbrev pub ends_of : List Entry → Interval
@@ -61,13 +60,6 @@ regions_said v label options c =
     ++ filter_part v options c
     ++ closing_sections v label options c in
     regions_laid (length (data_section v c.blocks)) behind
-
--- what stays loaded of an index whose blocks begin at a position: a full one where it is to, of one with
--- partitions the top level
-abbrev pub index_said : IndexKind → TableVersion → ℕ → List Handle → List (List Handle) → Bool
-    → PinnedIndex
-index_said FullIndex v at hs parts pin = if pin then full hs else volatile
-index_said (PartitionedIndex size) v at hs parts pin = two_level (index_tops v at parts)
 
 -- the top level of a filter whose blocks begin at a position: that of one with partitions
 abbrev pub filter_tops_said : FilterKind → ℕ → List (List (List ℕ)) → List BloomFilter

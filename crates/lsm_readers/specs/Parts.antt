@@ -1,12 +1,12 @@
 -- What a table is recovered to: what it says of itself, where its parts lie, and which blocks stay
 -- loaded.
 use Rattle.std.specs.Prelude.{ℕ, ◌+◌, ◌-◌, ◌^◌, ◌&&◌, nat_lt, Bool, List, [], length, map, Option}
-use Rattle.std.specs.Prelude.{Some, None, is_none, is_some, Result, Ok, Err, if◌then◌else◌}
+use Rattle.std.specs.Prelude.{Some, None, is_none, Result, Ok, Err, if◌then◌else◌}
 use Rattle.std.specs.Option.{option_or}
-use Rattle.sst_blocks.specs.declared.block_type.BlockType.TheVariants.{Index, Filter, Meta}
+use Rattle.sst_blocks.specs.declared.block_type.BlockType.TheVariants.{Filter, Meta}
 use Rattle.sst_entries.specs.declared.error.Error.{Error}
 use Rattle.sst_entries.specs.declared.error.Error.TheVariants.{GlobalSeqNoTooLarge}
-use Rattle.sst_blocks.specs.Block.{load_told, place_fault, handles_of, header_len}
+use Rattle.sst_blocks.specs.Block.{load_told, place_fault}
 use Rattle.sst_entries.specs.Error.{unless}
 use Rattle.sst_blocks.specs.Handle.{Handle}
 use Rattle.sst_blocks.specs.Place.{Place}
@@ -14,16 +14,10 @@ use Rattle.sst_filters.specs.Filter.{BloomFilter, filter_in, payload_of}
 use Rattle.sst_sections.specs.Sections.{body_of, section_in, section_names, trailer_fault}
 use Rattle.lsm_ranges.specs.KeyRange.{Interval, interval}
 use Rattle.lsm_readers.specs.declared.regions.ParsedRegions.{ParsedRegions}
+use Rattle.lsm_readers.specs.IndexKinds.{PinnedIndex, handles_told, index_told}
 use Rattle.lsm_readers.specs.Meta.{Facts, meta_told}
 use Rattle.lsm_readers.specs.Regions.{regions_told}
 use Rattle.lsm_readers.specs.Read.{◌>>=◌}
-
--- what of an index stays loaded: the handles of a full one, nothing of one that each read loads, or
--- the handles of the top level of one with partitions
-pub data PinnedIndex : Type 0 where
-  full : List Handle → PinnedIndex
-  volatile : PinnedIndex
-  two_level : List Handle → PinnedIndex
 
 -- which blocks stay loaded: those of the index, the top level of a filter with partitions, and the
 -- one block of a full filter
@@ -36,19 +30,6 @@ pub record Parts : Type 0 where
   pub facts : Facts
   pub regions : ParsedRegions
   pub pinned : Pinned
-
--- the handles of the index block at a place
-abbrev pub handles_told : List ℕ → Place → Result (List Handle) Error
-handles_told body place =
-    load_told body place.offset place.size Index >>= λ block. Ok (handles_of block)
-
--- the index: its top level where it has partitions, else the whole where it is to stay loaded
-abbrev pub index_told : List ℕ → ParsedRegions → Bool → Result PinnedIndex Error
-index_told body regions pin =
-    if is_some regions.index
-    then (handles_told body regions.tli >>= λ tops. Ok (two_level tops))
-    else (if pin then (handles_told body regions.tli >>= λ handles. Ok (full handles))
-    else Ok volatile)
 
 -- the top level of a filter, where it has one
 abbrev pub tops_told : List ℕ → Option Place → Result (Option (List Handle)) Error
@@ -128,9 +109,3 @@ place_size (Some p) = p.size
 abbrev pub filter_len : Option BloomFilter → ℕ
 filter_len None = 0
 filter_len (Some filter) = length (payload_of filter)
-
--- that of the index block that stays loaded, by its place, or 0 where none does
-abbrev pub index_len : PinnedIndex → Place → ℕ
-index_len (full handles) tli = tli.size - header_len
-index_len volatile tli = 0
-index_len (two_level tops) tli = tli.size - header_len

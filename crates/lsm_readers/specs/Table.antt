@@ -1,17 +1,10 @@
 -- An opened table without its memory.
 use Rattle.std.specs.Prelude.{◌≡◌, ℕ, ◌<◌, ◌^◌, Bool, List, length, Ok}
 use Rattle.lsm_readers.specs.declared.inner.Inner.{Inner}
-use Rattle.lsm_readers.specs.declared.inner.PinnedBlockIndex.{PinnedBlockIndex}
-use Rattle.lsm_readers.specs.declared.inner.PinnedBlockIndex.TheVariants.{Full, VolatileFull, TwoLevel}
 use Rattle.lsm_readers.specs.declared.inner.PinnedBlocks.{PinnedBlocks}
+use Rattle.lsm_readers.specs.IndexKinds.{index_of}
 use Rattle.lsm_readers.specs.Meta.{facts_of}
-use Rattle.lsm_readers.specs.Parts.{Parts, Pinned, PinnedIndex, full, volatile, two_level, recovered_told}
-
--- the index that stays loaded
-abbrev pub index_of : {A : Type 0} → PinnedBlockIndex A → PinnedIndex
-index_of (Full index) = full index
-index_of VolatileFull = volatile
-index_of (TwoLevel tops) = two_level tops
+use Rattle.lsm_readers.specs.Parts.{Parts, Pinned, recovered_told}
 
 -- which blocks stay loaded
 abbrev pub pinned_of : {A : Type 0} → PinnedBlocks A → Pinned

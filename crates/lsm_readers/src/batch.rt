@@ -2,7 +2,7 @@
 ghost use Rattle.std.specs.Prelude.{◌≡◌, ◌-◌, ◌<◌, ◌≤◌, Option, Ok, IfOk, IfSome, false};
 ghost use Rattle.std.specs.Prelude.{length, replicate, slice_set};
 ghost use Rattle.std.specs.List.{All};
-ghost use Rattle.lsm_readers.specs.Batch.{AreFound, IsPlaced, query_told};
+ghost use Rattle.lsm_readers.specs.Batch.{AreFound, IsLookup, query_told};
 ghost use Rattle.lsm_readers.specs.Words.{Entry, Gives, Place, admitted_handle, parts_of};
 ghost use Rattle.lsm_readers.specs.Words.{with_load};
 ghost use Rattle.sst_blocks.specs.declared.block_type.BlockType.TheVariants.{Data};
@@ -17,10 +17,10 @@ use std::alloc::{AllocError, Allocator, Global};
 /// processor's nearest cache has room for until they are read.
 pub(crate) const AHEAD: usize = 8;
 
-/// Where a query stands in its list, and where the data block lies that a read for it rests on, if
-/// on any.
+/// A lookup of a query, by its place in a list: where the data block lies that a read for it rests
+/// on, if on any.
 #[derive(Clone, Copy)]
-pub(crate) struct Placed {
+pub(crate) struct Lookup {
     pub(crate) at: usize,
     pub(crate) handle: Option<BlockHandle>,
 }
@@ -56,55 +56,54 @@ pub(crate) fn put<T: Drop, A: Allocator>(items: &mut Vec<T, A>, at: usize, item:
     items[at] = item;
 }
 
-/// Where the data block lies that a read for the query of a place rests on. None where that is
-/// refused, or there is no such place.
-fn place_at<S: LoadBlocks>(
+/// The lookup of the query at a place. None where it is refused, or there is no such place.
+fn lookup_at<S: LoadBlocks>(
     source: &mut S,
     inner: &Inner<S::Alloc>,
     queries: &[Query<S::Alloc>],
     at: usize,
-) -> Option<Placed>
-    ensures placed { let parts = parts_of inner.now in
+) -> Option<Lookup>
+    ensures lookup { let parts = parts_of inner.now in
         IfSome result (λ p.
-        IsPlaced (S.body source.old) inner.now.global_seqno parts queries.now p) }
+        IsLookup (S.body source.old) inner.now.global_seqno parts queries.now p) }
     ensures body { S.body source.new ≡ S.body source.old }
 {
     let query = queries.get(at)?;
     let key = query.key.as_slice();
     let low = query.seqno.saturating_sub(inner.global_seqno);
     match admitted_handle(source, inner, key, low, Builder::<S::Alloc>::get_hash(key)) {
-        Ok(handle) => Some(Placed { at, handle }),
+        Ok(handle) => Some(Lookup { at, handle }),
         Err(_) => None,
     }
 }
 
-/// Where the data blocks lie that reads for the queries of some places rest on, in the order of
-/// these places, up to the first where that is refused.
-pub(crate) fn find_places<S: LoadBlocks>(
+/// The lookups of the queries at some places, in the order of these places, up to the first that is
+/// refused.
+pub(crate) fn find_lookups<S: LoadBlocks>(
     source: &mut S,
     inner: &Inner<S::Alloc>,
     queries: &[Query<S::Alloc>],
     order: &[Headed],
     alloc: S::Alloc,
-) -> Result<Vec<Placed, S::Alloc>, AllocError>
-    ensures placed { let parts = parts_of inner.now in
-        IfOk result (λ places.
-        All (IsPlaced (S.body source.old) inner.now.global_seqno parts queries.now) places.items) }
+) -> Result<Vec<Lookup, S::Alloc>, AllocError>
+    ensures lookups { let parts = parts_of inner.now in
+        IfOk result (λ lookups.
+        All (IsLookup (S.body source.old) inner.now.global_seqno parts queries.now) lookups.items) }
     ensures body { S.body source.new ≡ S.body source.old }
 {
-    let mut places = Vec::with_capacity(alloc, order.len())?;
+    let mut lookups = Vec::with_capacity(alloc, order.len())?;
     for headed in order {
-        let Some(place) = place_at(source, inner, queries, headed.at) else {
-            return Ok(places);
+        let Some(lookup) = lookup_at(source, inner, queries, headed.at) else {
+            return Ok(lookups);
         };
-        places.push(place)?;
+        lookups.push(lookup)?;
     }
-    Ok(places)
+    Ok(lookups)
 }
 
 /// What a read for a query gives that rests on the data block of a handle. Refused as the load of
 /// that block, and [`Error::OutOfMemory`].
-fn answer_placed<S: LoadBlocks>(
+fn answer_lookup<S: LoadBlocks>(
     source: &mut S,
     inner: &Inner<S::Alloc>,
     query: &Query<S::Alloc>,
@@ -131,43 +130,43 @@ fn answer_placed<S: LoadBlocks>(
     }
 }
 
-/// Gathers the data blocks that places at the front of some name, [`AHEAD`] of them at most and
-/// none that was named just before. Gives how many places these are: at least one, where there is
+/// Gathers the data blocks that lookups at the front of some name, [`AHEAD`] of them at most and
+/// none that was named just before. Gives how many lookups these are: at least one, where there is
 /// any. Refused for want of memory alone.
 pub(crate) fn gather_blocks<A: Allocator>(
-    places: &[Placed],
+    lookups: &[Lookup],
     blocks: &mut Vec<(BlockHandle, BlockType), A>,
 ) -> Result<usize, AllocError>
-    ensures some { IfOk result (λ n. 0 < length places.now → 0 < n) }
-    ensures within { IfOk result (λ n. n ≤ length places.now) }
+    ensures some { IfOk result (λ n. 0 < length lookups.now → 0 < n) }
+    ensures within { IfOk result (λ n. n ≤ length lookups.now) }
 {
     blocks.clear();
     let mut last = None;
-    for (index, place) in places.iter().enumerate() {
-        if place.handle != last {
+    for (index, lookup) in lookups.iter().enumerate() {
+        if lookup.handle != last {
             if blocks.len() == AHEAD {
                 return Ok(index);
             }
-            if let Some(handle) = place.handle {
+            if let Some(handle) = lookup.handle {
                 blocks.push((handle, BlockType::Data))?;
             }
-            last = place.handle;
+            last = lookup.handle;
         }
     }
-    Ok(places.len())
+    Ok(lookups.len())
 }
 
-/// The data block that the read of a place rests on, where there is such a place.
-fn handle_of(places: &[Placed], index: usize) -> Option<BlockHandle> {
-    places.get(index)?.handle
+/// The data block that the read of a lookup rests on, where there is such a lookup.
+fn handle_of(lookups: &[Lookup], index: usize) -> Option<BlockHandle> {
+    lookups.get(index)?.handle
 }
 
-/// Whether the read of a place is the first of several that rest on one data block.
-fn begins_several(places: &[Placed], index: usize) -> bool {
-    let handle = handle_of(places, index);
+/// Whether the read of a lookup is the first of several that rest on one data block.
+fn begins_several(lookups: &[Lookup], index: usize) -> bool {
+    let handle = handle_of(lookups, index);
     handle.is_some()
-        && handle == handle_of(places, index.wrapping_add(1))
-        && handle != handle_of(places, index.wrapping_sub(1))
+        && handle == handle_of(lookups, index.wrapping_add(1))
+        && handle != handle_of(lookups, index.wrapping_sub(1))
 }
 
 /// Loads the data block of a handle, which a source that keeps blocks then has for the reads to
@@ -182,17 +181,17 @@ fn load_for_several<S: LoadBlocks>(source: &mut S, handle: Option<BlockHandle>)
     }
 }
 
-/// Reads for the queries of some places, one behind another, up to the first that is refused.
+/// Reads for the queries of some lookups, one behind another, up to the first that is refused.
 /// Answers whether none is.
-pub(crate) fn read_places<S: LoadBlocks>(
+pub(crate) fn read_lookups<S: LoadBlocks>(
     source: &mut S,
     inner: &Inner<S::Alloc>,
     queries: &[Query<S::Alloc>],
-    places: &[Placed],
+    lookups: &[Lookup],
     batch: &mut Batch<S::Alloc>,
 ) -> bool
-    requires placed { let parts = parts_of inner.now in
-        All (IsPlaced (S.body source.old) inner.now.global_seqno parts queries.now) places.now }
+    requires lookups { let parts = parts_of inner.now in
+        All (IsLookup (S.body source.old) inner.now.global_seqno parts queries.now) lookups.now }
     requires found { let parts = parts_of inner.now in
         let told = query_told (S.body source.old) inner.now.global_seqno parts in
         AreFound told queries.now batch.old.found.items batch.old.done.items }
@@ -201,16 +200,16 @@ pub(crate) fn read_places<S: LoadBlocks>(
         AreFound told queries.now batch.new.found.items batch.new.done.items }
     ensures body { S.body source.new ≡ S.body source.old }
 {
-    for (index, place) in places.iter().enumerate() {
-        if begins_several(places, index) {
-            load_for_several(source, place.handle);
+    for (index, lookup) in lookups.iter().enumerate() {
+        if begins_several(lookups, index) {
+            load_for_several(source, lookup.handle);
         }
-        let query = &queries[place.at];
-        let Ok(found) = answer_placed(source, inner, query, place.handle) else {
+        let query = &queries[lookup.at];
+        let Ok(found) = answer_lookup(source, inner, query, lookup.handle) else {
             return false;
         };
-        put(&mut batch.found, place.at, found);
-        batch.done[place.at] = true;
+        put(&mut batch.found, lookup.at, found);
+        batch.done[lookup.at] = true;
     }
     true
 }

@@ -1,6 +1,5 @@
 //! What the handles of a table share, but for its bytes.
-use crate::{ParsedMeta, ParsedRegions};
-use lsm_block_indexes::FullBlockIndex;
+use crate::{ParsedMeta, ParsedRegions, PinnedBlockIndex};
 use lsm_formats::TreeId;
 use sst_blocks::{Checksum, FilterBlock, IndexBlock, SeqNo};
 use std::alloc::{Allocator, Global};
@@ -24,17 +23,6 @@ pub struct Inner<A: Allocator = Global> {
     pub pinned_filter_index: Option<IndexBlock<A>>,
     /// The one block of a full filter, where it was to stay loaded.
     pub pinned_filter_block: Option<FilterBlock<A>>,
-}
-
-/// What of a table's index stays loaded.
-#[derive(Drop)]
-pub enum PinnedBlockIndex<A: Allocator = Global> {
-    /// The one block of a full index.
-    Full(FullBlockIndex<A>),
-    /// Nothing: each read loads the one block of a full index.
-    VolatileFull,
-    /// The top level of an index with partitions, whose handles lead to them.
-    TwoLevel(IndexBlock<A>),
 }
 
 /// The blocks that stay loaded while a table is open.

@@ -6,13 +6,15 @@ mod inner;
 mod keeping;
 mod meta;
 mod order;
+mod pinned;
 mod point;
 mod regions;
 mod scanner;
 mod table;
 
-pub use inner::{Inner, PinnedBlockIndex};
+pub use inner::Inner;
 pub use meta::ParsedMeta;
+pub use pinned::PinnedBlockIndex;
 pub use point::point_in;
 pub use regions::ParsedRegions;
 pub use scanner::Scanner;

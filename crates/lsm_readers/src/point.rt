@@ -4,10 +4,11 @@ ghost use Rattle.std.specs.Option.{option_map};
 ghost use Rattle.lsm_readers.specs.Words.{DoesRead, Entry, FaultsFirst, Gives, LoadsFew, Opens};
 ghost use Rattle.lsm_readers.specs.Words.{admission};
 ghost use Rattle.lsm_readers.specs.Words.{admitted_handle, answer, block_admits, filter_admits};
-ghost use Rattle.lsm_readers.specs.Words.{handle_at, handle_by, hash_of, lifted, match_at};
+ghost use Rattle.lsm_readers.specs.Words.{hash_of, lifted, match_at};
 ghost use Rattle.lsm_readers.specs.Words.{parts_of};
 
-use crate::{Inner, PinnedBlockIndex};
+use crate::Inner;
+use crate::pinned::handle_by;
 use sst_blocks::{BlockHandle, Error, InternalValue, LoadBlocks, SeqNo};
 use std::alloc::Allocator;
 
@@ -83,43 +84,6 @@ fn admission<S: LoadBlocks>(
     filter_admits(source, inner, key, key_hash)
 }
 
-// Where the handle leads that the index block at a place has for a key below a stored number.
-fn handle_at<S: LoadBlocks>(
-    source: &mut S,
-    handle: &BlockHandle,
-    key: &[u8],
-    seqno: SeqNo,
-) -> Result<Option<BlockHandle>, Error>
-    ensures read { let read = handle_at (S.body source.old) key.now seqno handle.now in
-        DoesRead result read (S.opened source.old) (S.opened source.new) }
-    ensures body { S.body source.new ≡ S.body source.old }
-{
-    source.find(handle, key, seqno)
-}
-
-// Where the first data block lies that reaches a key below a stored number.
-fn handle_for<S: LoadBlocks>(
-    source: &mut S,
-    inner: &Inner<S::Alloc>,
-    key: &[u8],
-    seqno: SeqNo,
-) -> Result<Option<BlockHandle>, Error>
-    ensures read { let parts = parts_of inner.now in
-        let read = handle_by (S.body source.old) parts.pinned.index parts.regions.tli key.now
-        seqno in
-        DoesRead result read (S.opened source.old) (S.opened source.new) }
-    ensures body { S.body source.new ≡ S.body source.old }
-{
-    match &inner.pinned_block_index {
-        PinnedBlockIndex::Full(index) => Ok(index.inner().find(key, seqno)),
-        PinnedBlockIndex::VolatileFull => handle_at(source, &inner.regions.tli, key, seqno),
-        PinnedBlockIndex::TwoLevel(tops) => match tops.find(key, seqno) {
-            Some(handle) => handle_at(source, &handle, key, seqno),
-            None => Ok(None),
-        },
-    }
-}
-
 // Where the one data block lies that a read of a key below a stored number rests on.
 pub(crate) fn admitted_handle<S: LoadBlocks>(
     source: &mut S,
@@ -135,7 +99,8 @@ pub(crate) fn admitted_handle<S: LoadBlocks>(
     ensures body { S.body source.new ≡ S.body source.old }
 {
     if admission(source, inner, key, seqno, key_hash)? {
-        handle_for(source, inner, key, seqno)
+        let (index, tli) = (&inner.pinned_block_index, &inner.regions.tli);
+        handle_by(source, index, tli, key, seqno)
     } else {
         Ok(None)
     }

@@ -9,18 +9,15 @@ ghost use Rattle.lsm_readers.specs.Words.{Loaded, LoadsFew, OpenTable, Opens, Sa
 ghost use Rattle.lsm_readers.specs.Words.{ScansList, answer_stops, body_of, early_fault, early_in};
 ghost use Rattle.lsm_readers.specs.Words.{ends_of};
 ghost use Rattle.lsm_readers.specs.Words.{facts_of, fault_of, filter_len, filter_told};
-ghost use Rattle.lsm_readers.specs.Words.{fitting_told, hash_of, handles_told, index_len, index_of};
-ghost use Rattle.lsm_readers.specs.Words.{index_told, key_bound, lift};
+ghost use Rattle.lsm_readers.specs.Words.{fitting_told, hash_of, index_len, key_bound, lift};
 ghost use Rattle.lsm_readers.specs.Words.{list_told, load_at_told, load_told, none_opened, nowhere};
 ghost use Rattle.lsm_readers.specs.Words.{number_told, overlaps_bounds, parts_of, parts_told};
 ghost use Rattle.lsm_readers.specs.Words.{AreCutAlike, OpenedWith, TellAlike, kind_for, kind_of};
-ghost use Rattle.lsm_readers.specs.Words.{on_each_read, partitioned};
 ghost use Rattle.lsm_readers.specs.Words.{index_read, pinned_filter, pinned_of, pinned_told};
 ghost use Rattle.lsm_readers.specs.Words.{place_fault, place_size, places_told, point, table_index};
 ghost use Rattle.lsm_readers.specs.Words.{position_fault, recovered_told, scan_told, table_answer};
 ghost use Rattle.lsm_readers.specs.Words.{tops_told, volatile, with_load, within};
 ghost use Rattle.std.specs.Arc.{arc_value};
-ghost use Rattle.lsm_block_indexes.specs.Index.{on_demand, two_level};
 ghost use Rattle.sst_blocks.specs.declared.block_type.BlockType.TheVariants.{Data, Index, Meta};
 ghost use Rattle.sst_entries.specs.declared.error.Error.{Error};
 ghost use Rattle.sst_entries.specs.declared.error.Error.TheVariants.{GlobalSeqNoTooLarge};
@@ -30,14 +27,15 @@ mod queries;
 mod range;
 
 use crate::inner::PinnedBlocks;
+use crate::pinned::load_handles;
 use crate::{Inner, ParsedMeta, ParsedRegions, PinnedBlockIndex, Scanner, point_in};
-use lsm_block_indexes::{BlockIndexImpl, FullBlockIndex, TwoLevelBlockIndex, VolatileBlockIndex};
+use lsm_block_indexes::BlockIndexImpl;
 use lsm_formats::{TableId, TreeId};
 use lsm_iters::beside;
 use lsm_ranges::{KeyRange, Ranged};
 pub use queries::{Query, get_many};
 use sst_blocks::{
-    BlockHandle, BlockSource, BlockType, Builder, Checksum, Counted, Error, FilterBlock, Header,
+    BlockHandle, BlockSource, BlockType, Builder, Checksum, Counted, Error, FilterBlock,
     IndexBlock, InternalValue, Opened, SeqNo, Slice,
 };
 use std::alloc::{AllocError, Allocator, Global};
@@ -123,38 +121,6 @@ impl<A: Allocator> fmt::Debug for Table<A> {
     }
 }
 
-/// The handles of the index block at a place. Refused as [`BlockSource::load`].
-fn load_handles<A: Allocator + Clone>(
-    source: &BlockSource<A>,
-    handle: &BlockHandle,
-) -> Result<IndexBlock<A>, Error>
-    ensures { Gives (λ (handles : List Handle). handles) result
-        (handles_told (body_of source.now) handle.now) }
-{
-    let mut opened = Opened::none();
-    let block = source.load(handle, BlockType::Index, &mut opened)?;
-    Ok(IndexBlock::new(block))
-}
-
-/// What of the index stays loaded: the top level where it has partitions, else the whole where
-/// `pin_index` says so. Refused as [`BlockSource::load`].
-fn load_index<A: Allocator + Clone>(
-    source: &BlockSource<A>,
-    regions: &ParsedRegions,
-    pin_index: bool,
-) -> Result<PinnedBlockIndex<A>, Error>
-    ensures { Gives index_of result (index_told (body_of source.now) regions.now pin_index) }
-{
-    if regions.index.is_some() {
-        return Ok(PinnedBlockIndex::TwoLevel(load_handles(source, &regions.tli)?));
-    }
-    if !pin_index {
-        return Ok(PinnedBlockIndex::VolatileFull);
-    }
-    let handles = load_handles(source, &regions.tli)?;
-    Ok(PinnedBlockIndex::Full(FullBlockIndex::new(handles)))
-}
-
 /// The top level of a filter, where it has one. Refused as [`BlockSource::load`].
 fn load_filter_index<A: Allocator + Clone>(
     source: &BlockSource<A>,
@@ -208,7 +174,7 @@ fn load_pinned<A: Allocator + Clone>(
     ensures { Gives pinned_of result
         (pinned_told (body_of source.now) regions.now pin_filter pin_index) }
 {
-    let index = load_index(source, regions, pin_index)?;
+    let index = PinnedBlockIndex::load(source, regions, pin_index)?;
     let (index, filter_index) = beside(index, load_filter_index(source, regions.filter_tli))?;
     let pinned = filter_to_pin(regions, pin_filter);
     let (tops, filter_block) = beside((index, filter_index), load_filter(source, pinned))?;
@@ -466,37 +432,6 @@ impl<A: Allocator + Clone> Table<A> {
     }
 }
 
-/// An index whose one block, at a place, each iterator loads. Refused [`Error::OutOfMemory`] alone.
-fn volatile_index<A: Allocator + Clone>(
-    source: &BlockSource<A>,
-    handle: BlockHandle,
-) -> Result<BlockIndexImpl<A>, Error>
-    ensures index { let read = on_demand (body_of source.now) handle in
-        IfOk result (λ index. index_read index ≡ read) }
-    ensures kind { IfOk result (λ index. kind_of index ≡ on_each_read) }
-    ensures err { IfErr result (λ e. e ≡ OutOfMemory) }
-{
-    let (alloc, source) = (source.allocator().clone()?, source.clone()?);
-    let index = VolatileBlockIndex::new(alloc, source, handle);
-    Ok(BlockIndexImpl::VolatileFull(index))
-}
-
-/// An index of partitions below a top level. Refused [`Error::OutOfMemory`] alone.
-fn two_level_index<A: Allocator + Clone>(
-    source: &BlockSource<A>,
-    tops: &IndexBlock<A>,
-) -> Result<BlockIndexImpl<A>, Error>
-    ensures index { let read = two_level (body_of source.now) tops.now in
-        IfOk result (λ index. index_read index ≡ read) }
-    ensures kind { IfOk result (λ index. kind_of index ≡ partitioned) }
-    ensures err { IfErr result (λ e. e ≡ OutOfMemory) }
-{
-    let (alloc, source) = (source.allocator().clone()?, source.clone()?);
-    let (source, tops) = beside(source, tops.clone())?;
-    let index = TwoLevelBlockIndex::new(alloc, source, tops);
-    Ok(BlockIndexImpl::TwoLevel(index))
-}
-
 impl<A: Allocator + Clone> Table<A> {
     /// The index that [`Table::recover`] chose, over the table's bytes: partitions below the top
     /// level where the table has an `index` section, else the whole index that stays loaded where
@@ -514,14 +449,9 @@ impl<A: Allocator + Clone> Table<A> {
         ensures err { IfErr result (λ e. e ≡ OutOfMemory) }
     {
         let inner: &Inner<A> = &self.inner;
-        match &inner.pinned_block_index {
-            PinnedBlockIndex::Full(index) => {
-                let handles = index.inner().clone()?;
-                Ok(BlockIndexImpl::Full(FullBlockIndex::new(handles)))
-            }
-            PinnedBlockIndex::VolatileFull => volatile_index(&self.source, inner.regions.tli),
-            PinnedBlockIndex::TwoLevel(tops) => two_level_index(&self.source, tops),
-        }
+        inner
+            .pinned_block_index
+            .over(&self.source, inner.regions.tli)
     }
 }
 
@@ -624,10 +554,7 @@ impl<A: Allocator> Table<A> {
             ≡ Ok b → parts.pinned.index ≢ volatile → result ≡ length b.payload }
     {
         let inner: &Inner<A> = &self.inner;
-        match &inner.pinned_block_index {
-            PinnedBlockIndex::VolatileFull => 0,
-            _ => inner.regions.tli.size() as usize - Header::serialized_len(),
-        }
+        inner.pinned_block_index.payload_len(&inner.regions.tli)
     }
 
     /// Whether the key range that the table says reaches past both bounds. On a table of a list,

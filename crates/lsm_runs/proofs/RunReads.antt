@@ -12,11 +12,12 @@ use Rattle.sst_blocks.specs.Handle.{Handle}
 use Rattle.sst_blocks.specs.Opened.{none_opened, one_more, with_load}
 use Rattle.sst_blocks.specs.Place.{Place}
 use Rattle.lsm_ranges.specs.Run.{IsInOrder}
-use Rattle.lsm_readers.specs.Answer.{LoadsFew, most_filter_loads, most_index_loads}
-use Rattle.lsm_readers.specs.Parts.{Parts, PinnedIndex, full, volatile, two_level}
+use Rattle.lsm_readers.specs.Answer.{LoadsFew, most_filter_loads}
+use Rattle.lsm_readers.specs.Parts.{Parts}
 use Rattle.lsm_readers.specs.Read.{DoesRead, Read, opened_by}
 use Rattle.lsm_readers.specs.Table.{OpenTable}
 use Rattle.lsm_readers.specs.Words.{BloomFilter}
+use Rattle.lsm_readers.proofs.IndexKinds.{index_one}
 use Rattle.lsm_readers.proofs.ReadLaws.{does_known, then_fails, then_goes}
 use Rattle.lsm_runs.specs.RunParts.{range_of}
 use Rattle.lsm_runs.specs.SeveralRuns.{LoadsEach, leading_of, loads_together, run_read, runs_read, sum_within}
@@ -78,11 +79,6 @@ counted_on r read old own small d =
     }
 
 -- ---- few loads
-
-index_one : (index : PinnedIndex) → most_index_loads index ≤ 1
-index_one (full handles) = omega arith
-index_one volatile = omega arith
-index_one (two_level tops) = omega arith
 
 filter_one : (tops : Option (List Handle)) (filter : Option BloomFilter) (place : Option Place) → most_filter_loads tops filter place ≤ 1
 filter_one (Some tops) filter place = omega arith

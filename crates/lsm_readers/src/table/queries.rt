@@ -1,12 +1,12 @@
 //! Many point reads of one table.
 ghost use Rattle.std.specs.Prelude.{◌≡◌, IfOk, IsOk, List, Ok, [], map};
 ghost use Rattle.std.specs.List.{All};
-ghost use Rattle.lsm_readers.specs.Batch.{AreFound, IsPlaced};
+ghost use Rattle.lsm_readers.specs.Batch.{AreFound, IsLookup};
 ghost use Rattle.lsm_readers.specs.Words.{Entry, FaultsFirst, Gives, IsTable, lift, point};
 ghost use Rattle.lsm_readers.specs.Words.{body_of, table_answer};
 ghost use Rattle.lsm_readers.specs.Many.{found_told, many_told};
 
-use crate::batch::{AHEAD, Batch, Placed, find_places, gather_blocks, put, read_places};
+use crate::batch::{AHEAD, Batch, Lookup, find_lookups, gather_blocks, put, read_lookups};
 use crate::keeping::Keeping;
 use crate::order::key_order;
 use crate::{Inner, Table};
@@ -38,18 +38,18 @@ fn get_one<A: Allocator + Clone>(
     table.get(key, query.seqno, Table::<A>::key_hash(key))
 }
 
-/// Reads for the queries of some places, whose blocks are compared several in one loop, each a
+/// Reads for the queries of some lookups, whose blocks are compared several in one loop, each a
 /// little ahead of the reads that rest on it. Ends at the first refusal.
 fn read_ahead<A: Allocator + Clone>(
     table: &Table<A>,
     source: &mut Keeping<'_, A>,
     queries: &[Query<A>],
-    places: &[Placed],
+    lookups: &[Lookup],
     batch: &mut Batch<A>,
 ) -> Result<(), AllocError>
     requires source { body_of source.old.0 ≡ body_of table.now.bytes }
-    requires placed { let body = body_of table.now.bytes in
-        All (IsPlaced body table.now.global_seqno table.now.parts queries.now) places.now }
+    requires lookups { let body = body_of table.now.bytes in
+        All (IsLookup body table.now.global_seqno table.now.parts queries.now) lookups.now }
     requires found { AreFound (found_told table.now) queries.now batch.old.found.items
         batch.old.done.items }
     ensures found { AreFound (found_told table.now) queries.now batch.new.found.items
@@ -58,11 +58,11 @@ fn read_ahead<A: Allocator + Clone>(
     let inner: &Inner<A> = &table.inner;
     let mut blocks = Vec::with_capacity(table.source.allocator().clone()?, AHEAD)?;
     let mut from = 0;
-    while from < places.len() {
-        let far = &places[from..];
+    while from < lookups.len() {
+        let far = &lookups[from..];
         let count = gather_blocks(far, &mut blocks)?;
         table.source.compare_together(&blocks);
-        if !read_places(source, inner, queries, &far[..count], batch) {
+        if !read_lookups(source, inner, queries, &far[..count], batch) {
             return Ok(());
         }
         from += count;
@@ -89,8 +89,8 @@ fn read_batch<A: Allocator + Clone>(
     let alloc = table.source.allocator();
     let order = key_order(alloc.clone()?, queries)?;
     let mut source = Keeping::new(&table.source);
-    let places = find_places(&mut source, &table.inner, queries, &order, alloc.clone()?)?;
-    read_ahead(table, &mut source, queries, &places, batch)
+    let lookups = find_lookups(&mut source, &table.inner, queries, &order, alloc.clone()?)?;
+    read_ahead(table, &mut source, queries, &lookups, batch)
 }
 
 /// What was found, with the answers of reads for those queries that nothing is known of yet, in the

@@ -1,5 +1,6 @@
 use Rattle.std.proofs.Common.{List, ℕ, true, subst}
-use Rattle.lsm_readers.specs.Answer.{admission, handle_by, handle_for}
+use Rattle.lsm_readers.specs.Answer.{admission, handle_for}
+use Rattle.lsm_readers.specs.IndexKinds.{handle_by}
 use Rattle.lsm_readers.specs.Read.{DoesRead}
 use Rattle.lsm_readers.specs.Table.{parts_of}
 use Rattle.lsm_readers.proofs.ReadLaws.{then_fails, then_goes}
@@ -19,7 +20,7 @@ returns-then-branch-clause-read g c =
     let key = c.args.key.now in
     let n = c.args.seqno in
     let o = g.S.LoadBlocks.opened c.admission.new.source in
-    let o' = g.S.LoadBlocks.opened c.handle_for.new.source in
+    let o' = g.S.LoadBlocks.opened c.handle_by.new.source in
     let yes = rw c.if-branch.true at c.in_ok-admission.ensures.read in
-    let read = subst (λ (b : List ℕ). DoesRead c.handle_for.result (handle_by b parts.pinned.index parts.regions.tli key n) o o') c.admission.ensures.body c.handle_for.ensures.read in
-    then_goes (admission body parts key n) (handle_for body parts key n) true c.handle_for.result _ _ _ yes read
+    let read = subst (λ (b : List ℕ). DoesRead c.handle_by.result (handle_by b parts.pinned.index parts.regions.tli key n) o o') c.admission.ensures.body c.handle_by.ensures.read in
+    then_goes (admission body parts key n) (handle_for body parts key n) true c.handle_by.result _ _ _ yes read

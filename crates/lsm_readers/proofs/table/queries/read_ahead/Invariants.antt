@@ -8,8 +8,8 @@ abbrev pub invariant-loop-from : goal.invariant-loop-from
 invariant-loop-from g l = record {
   same : body_of l.source.0 ≡ body_of l.table.bytes;
   are_found : AreFound (found_told l.table) l.queries l.batch.found.items l.batch.done.items;
-  within : l.from ≤ length l.places;
+  within : l.from ≤ length l.lookups;
 }
 
 abbrev pub decreases-loop-from : goal.decreases-loop-from
-decreases-loop-from g l = length l.places - l.from
+decreases-loop-from g l = length l.lookups - l.from

@@ -1,7 +1,7 @@
 use Rattle.sst_blocks.specs.Asked.{place_for}
 use Rattle.sst_blocks.specs.declared.block_type.BlockType.TheVariants.{Index}
 use Rattle.lsm_readers.proofs.AskedReads.{asked}
-use Rattle.lsm_readers.proofs.point.handle_at.Goals as goal
+use Rattle.lsm_readers.proofs.pinned.handle_at.Goals as goal
 
 pub returns-clause-read : goal.returns-clause-read
 returns-clause-read g c =

@@ -1,7 +1,7 @@
 use Rattle.std.proofs.Common.{◌≡◌}
 use Rattle.lsm_readers.specs.Batch.{AreFound, query_told}
 use Rattle.lsm_readers.specs.Table.{parts_of}
-use Rattle.lsm_readers.proofs.batch.read_places.Given as goal
+use Rattle.lsm_readers.proofs.batch.read_lookups.Given as goal
 
 abbrev pub invariant-loop-index : goal.invariant-loop-index
 invariant-loop-index g l =
