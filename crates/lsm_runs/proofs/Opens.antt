@@ -1,5 +1,5 @@
 -- Opening the next table at an end, as a load of a part of a walk.
-use Rattle.std.proofs.Common.{◌≡◌, ℕ, suc, ◌-◌, ◌<◌, ◌≤◌, List, [], drop, get_or}
+use Rattle.std.proofs.Common.{◌≡◌, ℕ, suc, ◌-◌, ◌<◌, ◌≤◌, List, drop, get_or}
 use Rattle.std.proofs.Common.{length, take, Bool, true, false, refl, sym, ap, subst, ◌∙◌, arith}
 use Rattle.std.specs.Prelude.{Option, Some, None, Result, Ok, Err, IfOk, if◌then◌else◌}
 use Rattle.std.specs.declared.ops.Bound.{Bound}
@@ -23,17 +23,12 @@ use Rattle.lsm_runs.specs.RunParts.{Part, RunSpan, is_edge, part_loads, part_tol
 use Rattle.lsm_runs.specs.RunParts.{span_parts_between, span_parts_from}
 use Rattle.lsm_runs.specs.RunRange.{Unopened}
 use Rattle.lsm_runs.specs.Tables.{KeepsTables, coming_tables, none_unopened, place_taken, table_named}
-use Rattle.lsm_runs.proofs.Places.{first_between, last_between, none_between, part_there}
+use Rattle.lsm_runs.proofs.Places.{first_between, last_between, part_there}
 use Rattle.lsm_runs.proofs.Places.{same_there, table_at}
 
 -- the tables from one place up to another
 abbrev pub held : RunSpan → List OpenTable → ℕ → ℕ → ℕ → Unopened
 held span ts lo hi opened = record { parts = span_parts_between span ts lo hi; opened = opened }
-
--- none is left
-pub none_held : (span : RunSpan) (ts : List OpenTable) (lo hi opened : ℕ) → lo ≡ hi
-    → held span ts lo hi opened ≡ record { parts = []; opened = opened }
-none_held span ts lo hi opened same = ap (λ (ps : List Part). record { parts = ps; opened = opened }) (none_between (span_parts_from span 0 ts) lo hi same)
 
 module _ {A : Type 0} where
   -- ---- the reader of the table at a place
