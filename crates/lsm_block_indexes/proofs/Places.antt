@@ -10,17 +10,31 @@ use Rattle.sst_blocks.specs.Place.{Place, place_of}
 use Rattle.sst_blocks.proofs.SpanLemmas.{gives_front, gives_back, left_empty}
 use Rattle.lsm_block_indexes.specs.Seen.{PlaceGives}
 
-pub place_front : (s : Span Handle) (o : Option Handle) (p : Place) → slice_get s.list s.from ≡ o → option_map place_of o ≡ Some p → s.from < s.to → PlaceGives front_of s (Some p) (record s { from = s.from + 1 })
+pub place_front : (s : Span Handle) (o : Option Handle) (p : Place) → slice_get s.list s.from ≡ o
+    → option_map place_of o ≡ Some p → s.from < s.to
+    → PlaceGives front_of s (Some p) (record s { from = s.from + 1 })
 place_front s None p is at some = let wrong : None ≡ Some p = at in absurd cc
 place_front s (Some h) p is at some =
     let gives = gives_front s h some is in
-    record { told = sym at ∙ ap (option_map place_of) (sym gives.answer.0); rest = gives.answer.1; list = gives.list }
+    record {
+      told = sym at ∙ ap (option_map place_of) (sym gives.answer.0);
+      rest =
+          gives.answer.1;
+      list = gives.list;
+    }
 
-pub place_back : (s : Span Handle) (o : Option Handle) (p : Place) → slice_get s.list (s.to - 1) ≡ o → option_map place_of o ≡ Some p → s.from < s.to → PlaceGives back_of s (Some p) (record s { to = s.to - 1 })
+pub place_back : (s : Span Handle) (o : Option Handle) (p : Place) → slice_get s.list (s.to - 1) ≡ o
+    → option_map place_of o ≡ Some p → s.from < s.to
+    → PlaceGives back_of s (Some p) (record s { to = s.to - 1 })
 place_back s None p is at some = let wrong : None ≡ Some p = at in absurd cc
 place_back s (Some h) p is at some =
     let gives = gives_back s h some is in
-    record { told = sym at ∙ ap (option_map place_of) (sym gives.answer.0); rest = gives.answer.1; list = gives.list }
+    record {
+      told = sym at ∙ ap (option_map place_of) (sym gives.answer.0);
+      rest =
+          gives.answer.1;
+      list = gives.list;
+    }
 
 pub no_place_front : (s : Span Handle) → s.to ≤ s.from → PlaceGives front_of s None s
 no_place_front s none =

@@ -8,15 +8,18 @@ use Rattle.sst_blocks.specs.Seeking.{whole_span, KeepsUpperEdge}
 use Rattle.sst_blocks.proofs.Reaching.{left_whole}
 
 -- no edge was sought
-pub all_of : (s : Span Handle) (hs : List Handle) → s ≡ whole_span hs → rest_in s ≡ window hs None None
+pub all_of : (s : Span Handle) (hs : List Handle) → s ≡ whole_span hs
+    → rest_in s ≡ window hs None None
 all_of s hs is = ap (λ (x : Span Handle). rest_in x) is ∙ left_whole hs
 
 -- the lower edge was sought
-pub lower_of : (s t : Span Handle) (hs : List Handle) (edge : List ℕ × ℕ) → s ≡ whole_span hs → KeepsUpperEdge edge s t → rest_in t ≡ window hs (Some edge) None
+pub lower_of : (s t : Span Handle) (hs : List Handle) (edge : List ℕ × ℕ) → s ≡ whole_span hs
+    → KeepsUpperEdge edge s t → rest_in t ≡ window hs (Some edge) None
 lower_of s t hs edge is keeps = keeps None hs (all_of s hs is)
 
 -- a seek answers false where nothing is left
-pub none_left : {X : Type 0} (xs : List X) (b : Bool) → IsTrue b ↔ (xs ≡ [] → ⊥) → b ≡ false → xs ≡ []
+pub none_left : {X : Type 0} (xs : List X) (b : Bool) → IsTrue b ↔ (xs ≡ [] → ⊥) → b ≡ false
+    → xs ≡ []
 none_left [] b left false_now = refl
 none_left (x ∷ xs) b left false_now =
     let some : b ≡ true = left.1 (λ e. cc) in

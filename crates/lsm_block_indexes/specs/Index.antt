@@ -1,4 +1,5 @@
--- An index over any bytes gives a list of results between two edges: the handles in order, and an error in the place of those
+-- An index over any bytes gives a list of results between two edges: the handles in order, and an
+-- error in the place of those
 -- of a block that cannot be loaded.
 use Rattle.std.specs.Prelude.{ℕ, List, [], ◌∷◌, length, Option, Result, Ok, Err}
 use Rattle.std.specs.List.{flat_map}
@@ -10,28 +11,34 @@ use Rattle.sst_blocks.specs.Handle.{Handle}
 use Rattle.sst_blocks.specs.Handles.{window}
 use Rattle.sst_blocks.specs.Place.{Place, place_of}
 
--- from the first handle that reaches the lower edge up to the first that ends above the upper one; a side without an edge takes
+-- from the first handle that reaches the lower edge up to the first that ends above the upper one;
+-- a side without an edge takes
 -- all. And how many blocks are loaded for them, if all are dealt
 pub record Index : Type 0 where
   pub told : Option (List ℕ × ℕ) → Option (List ℕ) → List (Result Handle Error)
   pub loads : Option (List ℕ × ℕ) → Option (List ℕ) → ℕ
 
 -- the handles of a block between the edges, or the one error of loading it
-abbrev pub between : Option (List ℕ × ℕ) → Option (List ℕ) → Result Loaded Error → List (Result Handle Error)
+abbrev pub between : Option (List ℕ × ℕ) → Option (List ℕ) → Result Loaded Error
+    → List (Result Handle Error)
 between lower upper (Ok block) = ok_results (window (handles_of block) lower upper)
 between lower upper (Err e) = Err e ∷ []
 
 -- those of the index block at a place
-abbrev pub block_between : List ℕ → Option (List ℕ × ℕ) → Option (List ℕ) → Place → List (Result Handle Error)
-block_between body lower upper place = between lower upper (load_told body place.offset place.size IndexBlock)
+abbrev pub block_between : List ℕ → Option (List ℕ × ℕ) → Option (List ℕ) → Place
+    → List (Result Handle Error)
+block_between body lower upper place = between lower upper
+    (load_told body place.offset place.size IndexBlock)
 
 -- the fault of that block that is found before memory is taken
 abbrev pub block_early : List ℕ → Place → Option Error
 block_early body place = place_fault body place.offset place.size IndexBlock
 
 -- those of the partitions that some handles of the top level name, one behind another
-abbrev pub parts_between : List ℕ → Option (List ℕ × ℕ) → Option (List ℕ) → List Handle → List (Result Handle Error)
-parts_between body lower upper tops = flat_map (λ top. block_between body lower upper (place_of top)) tops
+abbrev pub parts_between : List ℕ → Option (List ℕ × ℕ) → Option (List ℕ) → List Handle
+    → List (Result Handle Error)
+parts_between body lower upper tops = flat_map
+    (λ top. block_between body lower upper (place_of top)) tops
 
 -- one block that stays loaded
 abbrev pub full : List Handle → Index

@@ -9,12 +9,18 @@ use Rattle.sst_blocks.specs.Handles.{window}
 use Rattle.sst_blocks.specs.Opened.{none_opened}
 use Rattle.lsm_block_indexes.specs.Answers.{AnswersAny, AnswersTrue}
 use Rattle.lsm_block_indexes.specs.declared.kinds.BlockIndexImpl.{BlockIndexImpl}
-use Rattle.lsm_block_indexes.specs.declared.kinds.BlockIndexImpl.TheVariants.{Full as FullIndex, VolatileFull, TwoLevel as LevelsIndex}
+use Rattle.lsm_block_indexes.specs.declared.kinds.BlockIndexImpl.TheVariants.{Full as FullIndex}
+use Rattle.lsm_block_indexes.specs.declared.kinds.BlockIndexImpl.TheVariants.{VolatileFull}
+use Rattle.lsm_block_indexes.specs.declared.kinds.BlockIndexImpl.TheVariants.{TwoLevel as LevelsIndex}
 use Rattle.lsm_block_indexes.specs.declared.kinds.BlockIndexIterImpl.{BlockIndexIterImpl}
-use Rattle.lsm_block_indexes.specs.declared.kinds.BlockIndexIterImpl.TheVariants.{Full, Volatile, TwoLevel as Levels}
+use Rattle.lsm_block_indexes.specs.declared.kinds.BlockIndexIterImpl.TheVariants.{Full, Volatile}
+use Rattle.lsm_block_indexes.specs.declared.kinds.BlockIndexIterImpl.TheVariants.{TwoLevel as Levels}
 use Rattle.lsm_block_indexes.specs.Dealt.{DealsEnding}
 use Rattle.lsm_block_indexes.specs.Index.{Index, full, on_demand, two_level}
-use Rattle.lsm_block_indexes.specs.Left.{CountsUpTo, Left, OnDemandGives, TwoLevelGives, IsBetween, IsDemandSought, IsSpanSought, IsTwoLevelSought, back_early, back_needs, front_early, front_needs, on_demand_left, span_left, two_level_left}
+use Rattle.lsm_block_indexes.specs.Left.{CountsUpTo, Left, OnDemandGives, TwoLevelGives, IsBetween}
+use Rattle.lsm_block_indexes.specs.Left.{IsDemandSought, IsSpanSought, IsTwoLevelSought, back_early}
+use Rattle.lsm_block_indexes.specs.Left.{back_needs, front_early, front_needs, on_demand_left}
+use Rattle.lsm_block_indexes.specs.Left.{span_left, two_level_left}
 
 -- the index of each kind
 abbrev pub index_of : {A : Type 0} → BlockIndexImpl A → Index
@@ -22,7 +28,8 @@ index_of (FullIndex handles) = full handles
 index_of (VolatileFull i) = on_demand i.0 i.1
 index_of (LevelsIndex i) = two_level i.0 i.1
 
--- whether there is a reader from an edge on: of a block that stays loaded where it has a handle there, and else always
+-- whether there is a reader from an edge on: of a block that stays loaded where it has a handle
+-- there, and else always
 abbrev pub HasReader : {A : Type 0} → BlockIndexImpl A → Option (List ℕ × ℕ) → Type 0
 HasReader (FullIndex handles) edge = window handles edge None ≡ [] → ⊥
 HasReader (VolatileFull i) edge = Unit {0}
@@ -35,7 +42,8 @@ left_of (Volatile s) = on_demand_left s
 left_of (Levels s) = two_level_left s
 
 -- these edges were sought, and no step was made
-abbrev pub IsSought : {A : Type 0} → BlockIndexIterImpl A → Option (List ℕ × ℕ) → Option (List ℕ) → Type 0
+abbrev pub IsSought : {A : Type 0} → BlockIndexIterImpl A → Option (List ℕ × ℕ) → Option (List ℕ)
+    → Type 0
 IsSought (Full s) lower upper = IsSpanSought s lower upper
 IsSought (Volatile s) lower upper = IsDemandSought s lower upper
 IsSought (Levels s) lower upper = IsTwoLevelSought s lower upper
@@ -53,25 +61,30 @@ TakesMemory (Volatile s) = Unit {0}
 TakesMemory (Levels s) = Unit {0}
 
 -- one call at the front, and at the back
-abbrev pub FrontGives : {A : Type 0} → BlockIndexIterImpl A → Option (Result Handle Error) → BlockIndexIterImpl A → Type 0
+abbrev pub FrontGives : {A : Type 0} → BlockIndexIterImpl A → Option (Result Handle Error)
+    → BlockIndexIterImpl A → Type 0
 FrontGives (Full s) r (Full t) = SpanGives front_of s r t
 FrontGives (Volatile s) r (Volatile t) = OnDemandGives front_of s r t
 FrontGives (Levels s) r (Levels t) = TwoLevelGives front_of front_needs front_early s r t
 FrontGives _ r _ = ⊥
 
-abbrev pub BackGives : {A : Type 0} → BlockIndexIterImpl A → Option (Result Handle Error) → BlockIndexIterImpl A → Type 0
+abbrev pub BackGives : {A : Type 0} → BlockIndexIterImpl A → Option (Result Handle Error)
+    → BlockIndexIterImpl A → Type 0
 BackGives (Full s) r (Full t) = SpanGives back_of s r t
 BackGives (Volatile s) r (Volatile t) = OnDemandGives back_of s r t
 BackGives (Levels s) r (Levels t) = TwoLevelGives back_of back_needs back_early s r t
 BackGives _ r _ = ⊥
 
--- an iterator over what an index has between two edges, which has loaded nothing; whatever ends are asked, it counts no more
+-- an iterator over what an index has between two edges, which has loaded nothing; whatever ends are
+-- asked, it counts no more
 -- blocks than the index has between them
-pub record IsReader {A : Type 0} (i : BlockIndexIterImpl A) (index : Index) (low : Option (List ℕ × ℕ)) (high : Option (List ℕ)) : Type 0 where
+pub record IsReader {A : Type 0} (i : BlockIndexIterImpl A) (index : Index)
+    (low : Option (List ℕ × ℕ)) (high : Option (List ℕ)) : Type 0 where
   pub sought : IsSought i low high
   pub between : IsBetween (left_of i) low high
   pub index_is : (left_of i).index ≡ index
   pub opened : (left_of i).opened ≡ none_opened
   pub deals : DealsEnding FrontGives BackGives (λ _. Unit {0}) (λ _. Unit {0}) i (left_of i).results
-  pub counts : (ends : List Direction) (rs : List (Option (Result Handle Error))) (t : BlockIndexIterImpl A)
+  pub counts : (ends : List Direction) (rs : List (Option (Result Handle Error)))
+      (t : BlockIndexIterImpl A)
       → Runs FrontGives BackGives i ends rs t → CountsUpTo (index.loads low high) (left_of t)

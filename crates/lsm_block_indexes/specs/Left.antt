@@ -1,5 +1,7 @@
 -- What an index iterator still deals, and one call of it.
-use Rattle.std.specs.Prelude.{◌≡◌, ℕ, zero, suc, ◌+◌, ◌<◌, ◌≤◌, false, List, [], ◌∷◌, ◌++◌, length, Option, Some, None, Result, Ok, Err, MatchOption, MatchResult, map, reverse}
+use Rattle.std.specs.Prelude.{◌≡◌, ℕ, zero, suc, ◌+◌, ◌<◌, ◌≤◌, false, List, [], ◌∷◌, ◌++◌, length}
+use Rattle.std.specs.Prelude.{Option, Some, None, Result, Ok, Err, MatchOption, MatchResult, map}
+use Rattle.std.specs.Prelude.{reverse}
 use Rattle.std.specs.List.{AllByRecursion}
 use Rattle.std.specs.Option.{option_or}
 use Rattle.sst_blocks.specs.declared.block_type.BlockType.TheVariants.{Index as IndexBlock}
@@ -15,9 +17,11 @@ use Rattle.sst_blocks.specs.Handles.{window}
 use Rattle.sst_blocks.specs.Opened.{with_load, none_opened}
 use Rattle.sst_blocks.specs.Place.{Place, place_of}
 pub use Rattle.lsm_walks.specs.Parts.{early_behind, none_behind}
-use Rattle.lsm_block_indexes.specs.Index.{Index, full, on_demand, two_level, block_between, block_early, parts_between}
+use Rattle.lsm_block_indexes.specs.Index.{Index, full, on_demand, two_level, block_between}
+use Rattle.lsm_block_indexes.specs.Index.{block_early, parts_between}
 
--- the results still to be dealt, how many blocks may still be loaded for them, the index that they are of, and what was loaded
+-- the results still to be dealt, how many blocks may still be loaded for them, the index that they
+-- are of, and what was loaded
 pub record Left : Type 0 where
   pub results : List (Result Handle Error)
   pub loads : ℕ
@@ -30,7 +34,8 @@ pub record IsEnded (l : Left) : Type 0 where
   pub loads : l.loads ≡ 0
 
 -- whatever ends are asked, each call answers `None`, and nothing is loaded
-pub record StaysEnded {S : Type 0} (front back : S → Option (Result Handle Error) → S → Type 0) (left : S → Left) (s : S) : Type 0 where
+pub record StaysEnded {S : Type 0} (front back : S → Option (Result Handle Error) → S → Type 0)
+    (left : S → Left) (s : S) : Type 0 where
   pub answers : (ends : List Direction) (rs : List (Option (Result Handle Error))) (t : S)
       → Runs front back s ends rs t → AllByRecursion (λ r. r ≡ None) rs
   pub ended : (ends : List Direction) (rs : List (Option (Result Handle Error))) (t : S)
@@ -52,12 +57,16 @@ abbrev pub loaded : ℕ → Opened → Opened
 loaded zero o = o
 loaded (suc n) o = with_load IndexBlock (loaded n o)
 
--- an answer at an end: the result that stands there, and the others are left; nothing, where nothing is left; want of memory
+-- an answer at an end: the result that stands there, and the others are left; nothing, where
+-- nothing is left; want of memory
 -- stands in the place of any answer, except once all is over
-abbrev pub AtEnd : (List (Result Handle Error) → Option (Result Handle Error) × List (Result Handle Error)) → Left → Option (Result Handle Error) → Left → Type 0
+abbrev pub AtEnd : (List (Result Handle Error)
+    → Option (Result Handle Error) × List (Result Handle Error)) → Left
+    → Option (Result Handle Error) → Left → Type 0
 AtEnd end s None t = (s.results ≡ []) × IsEnded t
 AtEnd end s (Some (Ok h)) t = end s.results ≡ (Some (Ok h), t.results)
-AtEnd end s (Some (Err e)) t = (is_memory e ≡ false → (end s.results).0 ≡ Some (Err e)) × (IsEnded s → ⊥)
+AtEnd end s (Some (Err e)) t = (is_memory e ≡ false → (end s.results).0 ≡ Some (Err e))
+    × (IsEnded s → ⊥)
 
 -- the blocks that a call loads are counted, and are among those that may be loaded
 pub record CountsLoads (s t : Left) : Type 0 where
@@ -65,14 +74,17 @@ pub record CountsLoads (s t : Left) : Type 0 where
   pub counts : t.opened ≡ loaded count s.opened
   pub within : count + t.loads ≤ s.loads
 
--- from an iterator that had loaded nothing: what was loaded is counted, and with what may still be loaded it is at most so much
+-- from an iterator that had loaded nothing: what was loaded is counted, and with what may still be
+-- loaded it is at most so much
 pub record CountsUpTo (most : ℕ) (l : Left) : Type 0 where
   pub count : ℕ
   pub counts : l.opened ≡ loaded count none_opened
   pub within : count + l.loads ≤ most
 
 -- one call at an end; an error ends the iterator
-pub record LeftGives (end : List (Result Handle Error) → Option (Result Handle Error) × List (Result Handle Error)) (s : Left) (r : Option (Result Handle Error)) (t : Left) : Type 0 where
+pub record LeftGives (end : List (Result Handle Error)
+    → Option (Result Handle Error) × List (Result Handle Error)) (s : Left)
+    (r : Option (Result Handle Error)) (t : Left) : Type 0 where
   pub answer : AtEnd end s r t
   pub ends : MatchOption r (Unit {0}) (λ x. MatchResult x (λ _. Unit {0}) (λ _. IsEnded t))
   pub index : t.index ≡ s.index
@@ -95,7 +107,8 @@ IsSpanSought s lower upper = rest_in s ≡ window s.list lower upper
 
 -- ---- of a block that is loaded on demand
 
--- the bytes before the trailer, the block's place, the edges, what is left of the block once it is loaded, and what was loaded
+-- the bytes before the trailer, the block's place, the edges, what is left of the block once it is
+-- loaded, and what was loaded
 pub record OnDemand : Type 0 where
   pub body : List ℕ
   pub place : Place
@@ -134,7 +147,8 @@ on_demand_left s = record {
 }
 
 -- these edges were sought, and the block is not loaded
-pub record IsDemandSought (s : OnDemand) (low : Option (List ℕ × ℕ)) (high : Option (List ℕ)) : Type 0 where
+pub record IsDemandSought (s : OnDemand) (low : Option (List ℕ × ℕ))
+    (high : Option (List ℕ)) : Type 0 where
   pub part : s.part ≡ None
   pub lower : s.lower ≡ low
   pub upper : s.upper ≡ high
@@ -144,8 +158,11 @@ abbrev pub demand_early : OnDemand → Option (List Handle) → Option Error
 demand_early s None = block_early s.body s.place
 demand_early s (Some hs) = None
 
--- one call of it: the first one loads the block, once; and a fault that needs no memory to be found comes before any want of it
-pub record OnDemandGives (end : List (Result Handle Error) → Option (Result Handle Error) × List (Result Handle Error)) (s : OnDemand) (r : Option (Result Handle Error)) (t : OnDemand) : Type 0 where
+-- one call of it: the first one loads the block, once; and a fault that needs no memory to be found
+-- comes before any want of it
+pub record OnDemandGives (end : List (Result Handle Error)
+    → Option (Result Handle Error) × List (Result Handle Error)) (s : OnDemand)
+    (r : Option (Result Handle Error)) (t : OnDemand) : Type 0 where
   pub gives : LeftGives end (on_demand_left s) r (on_demand_left t)
   pub once : gives.loads.count ≡ demands s.part
   pub kept : demands t.part ≡ 0
@@ -153,7 +170,8 @@ pub record OnDemandGives (end : List (Result Handle Error) → Option (Result Ha
 
 -- ---- of two levels
 
--- the bytes before the trailer, the handles of the top level, those of the partitions that are not loaded, the edges, what is
+-- the bytes before the trailer, the handles of the top level, those of the partitions that are not
+-- loaded, the edges, what is
 -- left of the partitions that are loaded at the front and at the back, and what was loaded
 pub record TwoLevel : Type 0 where
   pub body : List ℕ
@@ -181,21 +199,24 @@ new_two_level body whole = record {
 -- what an iterator of two levels still deals
 abbrev pub two_level_left : TwoLevel → Left
 two_level_left s = record {
-  results = ok_results s.front ++ (parts_between s.body s.lower s.upper s.tops ++ ok_results s.back);
+  results = ok_results s.front ++ (parts_between s.body s.lower s.upper s.tops
+      ++ ok_results s.back);
   loads = length s.tops;
   index = two_level s.body s.whole;
   opened = s.opened;
 }
 
 -- these edges were sought, and no partition is loaded
-pub record IsTwoLevelSought (s : TwoLevel) (low : Option (List ℕ × ℕ)) (high : Option (List ℕ)) : Type 0 where
+pub record IsTwoLevelSought (s : TwoLevel) (low : Option (List ℕ × ℕ))
+    (high : Option (List ℕ)) : Type 0 where
   pub tops : s.tops ≡ window s.whole low high
   pub lower : s.lower ≡ low
   pub upper : s.upper ≡ high
   pub front : s.front ≡ []
   pub back : s.back ≡ []
 
--- how many of these partitions, the next one first, an end loads for its answer: those up to the first that has an item
+-- how many of these partitions, the next one first, an end loads for its answer: those up to the
+-- first that has an item
 abbrev pub needs : List (List (Result Handle Error)) → ℕ
 needs [] = 0
 needs (p ∷ ps) = suc (none_behind p (needs ps))
@@ -207,7 +228,8 @@ part_at s place = block_between s.body s.lower s.upper place
 abbrev pub part_of : TwoLevel → Handle → List (Result Handle Error)
 part_of s top = part_at s (place_of top)
 
--- how many an end loads, at the front and at the back: none where a handle of a partition that was loaded stands there
+-- how many an end loads, at the front and at the back: none where a handle of a partition that was
+-- loaded stands there
 
 abbrev pub front_needs : TwoLevel → ℕ
 front_needs s = none_behind s.front (needs (map (part_of s) s.tops))
@@ -215,11 +237,13 @@ front_needs s = none_behind s.front (needs (map (part_of s) s.tops))
 abbrev pub back_needs : TwoLevel → ℕ
 back_needs s = none_behind s.back (needs (reverse (map (part_of s) s.tops)))
 
--- of these partitions, the next one first, up to the first that has an item: the fault that is found before memory is taken
+-- of these partitions, the next one first, up to the first that has an item: the fault that is
+-- found before memory is taken
 abbrev pub tops_early : List ℕ → (Handle → List (Result Handle Error)) → List Handle → Option Error
 tops_early body part [] = None
 tops_early body part (top ∷ tops) =
-    option_or (block_early body (place_of top)) (early_behind (part top) (tops_early body part tops))
+    option_or (block_early body (place_of top)) (early_behind (part top)
+    (tops_early body part tops))
 
 -- the same at the front and at the back
 abbrev pub front_early : TwoLevel → Option Error
@@ -236,9 +260,14 @@ abbrev pub fault_at : Direction → TwoLevel → Option Error
 fault_at Front s = front_early s
 fault_at Back s = back_early s
 
--- one call of it: it loads the partitions that it needs, and no more where it wants memory, which it does not before it loads
--- one; and where it loads them all, a fault that needs no memory to be found comes before any want of it
-pub record TwoLevelGives (end : List (Result Handle Error) → Option (Result Handle Error) × List (Result Handle Error)) (needed : TwoLevel → ℕ) (early : TwoLevel → Option Error) (s : TwoLevel) (r : Option (Result Handle Error)) (t : TwoLevel) : Type 0 where
+-- one call of it: it loads the partitions that it needs, and no more where it wants memory, which
+-- it does not before it loads
+-- one; and where it loads them all, a fault that needs no memory to be found comes before any want
+-- of it
+pub record TwoLevelGives (end : List (Result Handle Error)
+    → Option (Result Handle Error) × List (Result Handle Error)) (needed : TwoLevel → ℕ)
+    (early : TwoLevel → Option Error) (s : TwoLevel) (r : Option (Result Handle Error))
+    (t : TwoLevel) : Type 0 where
   pub gives : LeftGives end (two_level_left s) r (two_level_left t)
   pub most : gives.loads.count ≤ needed s
   pub some : 0 < needed s → 0 < gives.loads.count

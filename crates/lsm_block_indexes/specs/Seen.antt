@@ -8,15 +8,19 @@ pub use Rattle.lsm_walks.specs.Ends.{rest_of}
 use Rattle.sst_blocks.specs.Handle.{Handle}
 use Rattle.sst_blocks.specs.Place.{Place, place_of}
 
--- the handle at the end, and the others are left; want of memory where there is a handle, and nothing is left; or nothing, where
+-- the handle at the end, and the others are left; want of memory where there is a handle, and
+-- nothing is left; or nothing, where
 -- nothing is left
-abbrev pub PartGives : (List Handle → Option Handle × List Handle) → List Handle → Option (Result Handle Error) → List Handle → Type 0
+abbrev pub PartGives : (List Handle → Option Handle × List Handle) → List Handle
+    → Option (Result Handle Error) → List Handle → Type 0
 PartGives end hs None ts = (hs ≡ []) × (ts ≡ [])
 PartGives end hs (Some (Ok h)) ts = ((end hs).0 ≡ Some h) × (ts ≡ (end hs).1)
 PartGives end hs (Some (Err e)) ts = (e ≡ OutOfMemory) × (hs ≡ [] → ⊥) × (ts ≡ [])
 
--- the handle at the end was taken and its place is told, and the others are left; or nothing, where nothing is left
-pub record PlaceGives (end : List Handle → Option Handle × List Handle) (s : Span Handle) (place : Option Place) (t : Span Handle) : Type 0 where
+-- the handle at the end was taken and its place is told, and the others are left; or nothing, where
+-- nothing is left
+pub record PlaceGives (end : List Handle → Option Handle × List Handle) (s : Span Handle)
+    (place : Option Place) (t : Span Handle) : Type 0 where
   pub told : place ≡ option_map place_of (end (rest_in s)).0
   pub rest : rest_in t ≡ (end (rest_in s)).1
   pub list : t.list ≡ s.list

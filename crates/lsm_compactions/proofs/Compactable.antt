@@ -20,7 +20,8 @@ use Rattle.lsm_compactions.proofs.RunBack.{run_held, union_is}
 one_some : (label : Label) (us : List Entry) (g : ℕ) (t : OpenTable) (es : List Entry)
     → IsOpenedOf label us g t → HoldsList t es → 0 < length es
 one_some label us g t es o h =
-    let own : HoldsList t (lift us t.global_seqno) = record { stored = us; opened = o.opened; table = o.is.table; lifted_is = refl } in
+    let own : HoldsList t (lift us t.global_seqno) =
+    record { stored = us; opened = o.opened; table = o.is.table; lifted_is = refl } in
     let same = one_list t es (lift us t.global_seqno) h own in
     let some = some_length us o.is.some in
     omega (arith, ap length same, length-map us (lifted t.global_seqno), some)
@@ -32,7 +33,8 @@ each_some label us g [] [] o h = tt
 each_some label us g [] (es ∷ ls) o h = absurd h
 each_some label us g (t ∷ ts) [] o h = absurd h
 each_some label [] g (t ∷ ts) (es ∷ ls) o h = absurd o
-each_some label (u ∷ us) g (t ∷ ts) (es ∷ ls) o h = (one_some label u g t es o.0 h.0, each_some (next_label label) us g ts ls o.1 h.1)
+each_some label (u ∷ us) g (t ∷ ts) (es ∷ ls) o h =
+    (one_some label u g t es o.0 h.0, each_some (next_label label) us g ts ls o.1 h.1)
 
 some_lists : (ts : List OpenTable) (ls : List (List Entry)) → HoldLists ts ls → (ts ≡ [] → ⊥)
     → 0 < length ls
@@ -43,7 +45,11 @@ some_lists (t ∷ ts) (es ∷ ls) h some = omega arith
 -- its tables have entries
 pub run_entries : (label : Label) (target : ℕ) (es : List Entry) (g : ℕ) (run : List OpenTable)
     (h : IsRunOfList es g run) → AreCutOf label target es g run → HaveEntries h.lists
-run_entries label target es g run h cut = (some_lists run h.lists h.hold h.some, each_some label cut.lists g run h.lists cut.opened h.hold)
+run_entries label target es g run h cut = (
+  some_lists run h.lists h.hold h.some,
+  each_some label
+      cut.lists g run h.lists cut.opened h.hold,
+)
 
 joined_some : (ls : List (List Entry)) → HaveEntries ls → joined ls ≡ [] → ⊥
 joined_some [] have none = absurd (omega (arith, have.0))
@@ -54,7 +60,8 @@ joined_some ((x ∷ xs) ∷ ls) have none = absurd cc
 pub some_listed : (label : Label) (target : ℕ) (es : List Entry) (g : ℕ) (run : List OpenTable)
     → IsRunOfList es g run → AreCutOf label target es g run → es ≡ [] → ⊥
 some_listed label target es g run h cut none =
-    joined_some h.lists (run_entries label target es g run h cut) (h.whole ∙ ap (λ (xs : List Entry). lift xs g) none)
+    joined_some h.lists (run_entries label target es g run h cut)
+    (h.whole ∙ ap (λ (xs : List Entry). lift xs g) none)
 
 -- where there is a run
 pub run_listed : (label : Label) (target : ℕ) (es : List Entry) (g : ℕ)

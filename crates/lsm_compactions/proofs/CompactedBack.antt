@@ -41,34 +41,40 @@ lift_zero (e ∷ es) =
 pub unlifted : {S : Type 0} (front back : S → Option (Result Entry Error) → S → Type 0)
     (key : List ℕ) (bound : ℕ) (low high : Bound (List ℕ)) (es : List Entry)
     (read : Option Entry × S)
-    → ReadsOf front back key bound low high (lift es 0) read → ReadsOf front back key bound low high es read
-unlifted front back key bound low high es read = subst (λ (xs : List Entry). ReadsOf front back key bound low high xs read) (lift_zero es)
+    → ReadsOf front back key bound low high (lift es 0) read
+    → ReadsOf front back key bound low high es read
+unlifted front back key bound low high es read =
+    subst (λ (xs : List Entry). ReadsOf front back key bound low high xs read) (lift_zero es)
 
 -- ---- a run alone
 
 -- what is kept of a run of a list alone is kept of the list
 pub kept_alone : (rules : Rules) (es : List Entry) (run : List OpenTable) (h : IsRunOfList es 0 run)
     → kept_in rules (h.lists ∷ []) ≡ kept rules (unfiltered es)
-kept_alone rules es run h = ap (λ (xs : List Entry). kept rules (unfiltered xs)) (union_is es 0 run h ∙ lift_zero es)
+kept_alone rules es run h = ap (λ (xs : List Entry). kept rules (unfiltered xs))
+    (union_is es 0 run h ∙ lift_zero es)
 
 -- so what writing it refuses is what writing what is kept of the list refuses
 pub fault_alone : (ids : Option ℕ) (target moment : ℕ) (rules : Rules) (es : List Entry)
     (run : List OpenTable) (h : IsRunOfList es 0 run) → moment ≡ 0 → tables_fault ids target moment
     (kept_in rules (h.lists ∷ [])) ≡ tables_fault ids target 0 (kept rules (unfiltered es))
 fault_alone ids target moment rules es run h at_0 =
-    ap (λ (m : ℕ). tables_fault ids target m (kept_in rules (h.lists ∷ []))) at_0 ∙ ap (tables_fault ids target 0) (kept_alone rules es run h)
+    ap (λ (m : ℕ). tables_fault ids target m (kept_in rules (h.lists ∷ []))) at_0
+    ∙ ap (tables_fault ids target 0) (kept_alone rules es run h)
 
 -- a run that was written may be compacted
 pub written_run_is_compactable : (label : Label) (target : ℕ) (es : List Entry)
     (run : List OpenTable) → IsWritable es → IsRunOfList es 0 run → AreCutOf label target es 0 run
     → AreCompactable (run ∷ [])
-written_run_is_compactable label target es run writable is cut = run_compactable label target es 0 run is cut (subst IsWritable (sym (lift_zero es)) writable)
+written_run_is_compactable label target es run writable is cut =
+    run_compactable label target es 0 run is cut (subst IsWritable (sym (lift_zero es)) writable)
 
 pub compactable_again : (label : Label) (target : ℕ) (es : List Entry) (r : Option (List OpenTable))
     → IsWritable es → MatchOption r (es ≡ []) (λ run. IsRunOfList es 0 run)
     → IfSome r (λ run. AreCutOf label target es 0 run) → IfSome r (λ run. AreCompactable (run ∷ []))
 compactable_again label target es None writable is cut = tt
-compactable_again label target es (Some run) writable is cut = written_run_is_compactable label target es run writable is cut
+compactable_again label target es (Some run) writable is cut =
+    written_run_is_compactable label target es run writable is cut
 
 -- so it is of any global number, where the lifted list can be written
 pub put_compactable : (label : Label) (target : ℕ) (es : List Entry) (g : ℕ)
@@ -76,7 +82,8 @@ pub put_compactable : (label : Label) (target : ℕ) (es : List Entry) (g : ℕ)
     → MatchOption r (es ≡ []) (λ run. IsRunOfList es g run)
     → IfSome r (λ run. AreCutOf label target es g run) → IfSome r (λ run. AreCompactable (run ∷ []))
 put_compactable label target es g None writable is cut = tt
-put_compactable label target es g (Some run) writable is cut = run_compactable label target es g run is cut writable
+put_compactable label target es g (Some run) writable is cut =
+    run_compactable label target es g run is cut writable
 
 -- ---- what a writer that had written nothing has written
 
@@ -87,7 +94,8 @@ pub as_written : {A : Type 0} (ids : Option ℕ) (target moment : ℕ) (es : Lis
     → w ≡ new_tables ids target 0 moment → ids_fault ids ≡ None → AreWrittenBy w es fs left
     → AreWritten ids target moment es fs left
 as_written ids target moment es w fs left new fine by =
-    let n : AreWrittenBy (new_tables ids target 0 moment) es fs left = subst (λ (x : TablesWriting). AreWrittenBy x es fs left) new by in
+    let n : AreWrittenBy (new_tables ids target 0 moment) es fs left =
+    subst (λ (x : TablesWriting). AreWrittenBy x es fs left) new by in
     record {
       lists = n.lists;
       cut = n.cut;
@@ -102,7 +110,8 @@ pub new_fault : (ids : Option ℕ) (target moment : ℕ) (es : List Entry) (w : 
     → w ≡ new_tables ids target 0 moment → ids_fault ids ≡ None
     → tables_fault ids target moment es ≡ writes_fault w es
 new_fault ids target moment es w new fine =
-    ap (λ (o : Option Error). option_or o (writes_fault (new_tables ids target 0 moment) es)) fine ∙ ap (λ (x : TablesWriting). writes_fault x es) (sym new)
+    ap (λ (o : Option Error). option_or o (writes_fault (new_tables ids target 0 moment) es)) fine
+    ∙ ap (λ (x : TablesWriting). writes_fault x es) (sym new)
 
 -- ---- what fits
 
@@ -119,7 +128,13 @@ pub fits_by : (ids : Option ℕ) (target moment : ℕ) (es : List Entry) (w : Ta
 fits_by ids target moment es w new fits =
     let m = new_tables (Some fits.first) target 0 moment in
     let is : w ≡ m = new ∙ ap (λ (o : Option ℕ). new_tables o target 0 moment) fits.first_is in
-    let by : FitsBy m es = record { tables = fits.tables; cut = fits.cut; fit = fits.fit; left = fits.left } in
+    let by : FitsBy m es = record {
+      tables = fits.tables;
+      cut = fits.cut;
+      fit = fits.fit;
+      left =
+          fits.left;
+    } in
     subst (λ (x : TablesWriting). FitsBy x es) (sym is) by
 
 -- ---- behind a run that was written
@@ -131,7 +146,9 @@ behind_tables : (label : Label) (target : ℕ) (es : List Entry) (run : List Ope
     → AreTables default_options.data_block_size target es tables
     → ids ≡ ids_behind (Some 1) target (length tables)
 behind_tables label target es run ids cut is tables are =
-    let many : length run ≡ length tables = sym (many_opened label cut.lists 0 run cut.opened) ∙ ap length (one_cut_law default_options.data_block_size target es cut.lists tables cut.cut are) in
+    let many : length run ≡ length tables = sym (many_opened label cut.lists 0 run cut.opened)
+    ∙ ap length (one_cut_law default_options.data_block_size target es cut.lists tables cut.cut
+    are) in
     is ∙ ap (ids_behind (Some 1) target) many
 
 -- what fits behind these fits behind it
@@ -140,7 +157,9 @@ pub fits_behind : (label : Label) (target : ℕ) (es xs : List Entry) (run : Lis
     → ids ≡ ids_behind (Some 1) target (length run) → (first : FitsAsTables (Some 1) target es)
     → FitsAsTables (ids_behind (Some 1) target (length first.tables)) target xs
     → FitsAsTables ids target xs
-fits_behind label target es xs run ids cut is first fits = subst (λ (o : Option ℕ). FitsAsTables o target xs) (sym (behind_tables label target es run ids cut is first.tables first.cut)) fits
+fits_behind label target es xs run ids cut is first fits =
+    subst (λ (o : Option ℕ). FitsAsTables o target xs)
+    (sym (behind_tables label target es run ids cut is first.tables first.cut)) fits
 
 -- ---- the first fault of writing a list and what is kept of it
 
@@ -151,7 +170,8 @@ first_told (Some a) y z e none told = told
 
 no_tables : (size target : ℕ) (tables : List (List Entry)) → AreTables size target [] tables
     → tables ≡ []
-no_tables size target tables are = one_cut_law size target [] tables [] are (record { whole = refl; each = tt })
+no_tables size target tables are = one_cut_law size target [] tables [] are
+    (record { whole = refl; each = tt })
 
 -- what is kept of no entries is written without a fault, as no entries are
 none_again : (rules : Rules) (target : ℕ) → tables_fault (Some 1) target 0 [] ≡ None
@@ -161,27 +181,34 @@ none_again rules target fine = fine
 module _ (ids : Option ℕ) (target moment : ℕ) (es : List Entry) (from_1 : ids ≡ Some 1)
     (at_0 : moment ≡ 0) where
   first_is : chain_fault ids target moment es 0 ≡ chain_fault (Some 1) target 0 es 0
-  first_is = ap (λ (o : Option ℕ). chain_fault o target moment es 0) from_1 ∙ ap (λ (m : ℕ). chain_fault (Some 1) target m es 0) at_0
+  first_is = ap (λ (o : Option ℕ). chain_fault o target moment es 0) from_1
+      ∙ ap (λ (m : ℕ). chain_fault (Some 1) target m es 0) at_0
 
   -- the run is refused
   pub first_refused : (e : Error) (tables : List (List Entry)) (left : List Entry)
       → highest_seqno es + 0 < 2 ^ 64 → chain_fault ids target moment es 0 ≡ Some e
       → both_fault target es tables left ≡ Some e
   first_refused e tables left small told =
-      first_told (tables_fault (Some 1) target 0 es) (number_fault es 0) (tables_fault (ids_behind (Some 1) target (length tables)) target 0 left) e (small_number es 0 small) (sym first_is ∙ told)
+      first_told (tables_fault (Some 1) target 0 es) (number_fault es 0)
+      (tables_fault (ids_behind (Some 1) target (length tables)) target 0 left) e
+      (small_number es 0 small) (sym first_is ∙ told)
 
   first_taken : chain_fault ids target moment es 0 ≡ None → tables_fault (Some 1) target 0 es ≡ None
-  first_taken fine = left_none (tables_fault (Some 1) target 0 es) (number_fault es 0) (sym first_is ∙ fine)
+  first_taken fine = left_none (tables_fault (Some 1) target 0 es) (number_fault es 0)
+      (sym first_is ∙ fine)
 
   -- it is written, and what is kept is written behind it
   pub then_refused : (label : Label) (run : List OpenTable) (behind : Option ℕ)
       → AreCutOf label target es 0 run → behind ≡ ids_behind ids target (length run)
       → chain_fault ids target moment es 0 ≡ None → (tables : List (List Entry))
-      → AreTables default_options.data_block_size target es tables → (left : List Entry) → tables_fault behind target 0 left ≡ both_fault target es tables left
+      → AreTables default_options.data_block_size target es tables → (left : List Entry)
+      → tables_fault behind target 0 left ≡ both_fault target es tables left
   then_refused label run behind cut is fine tables are left =
-      let same = behind_tables label target es run behind cut (is ∙ ap (λ (o : Option ℕ). ids_behind o target (length run)) from_1) tables are in
+      let same = behind_tables label target es run behind cut
+      (is ∙ ap (λ (o : Option ℕ). ids_behind o target (length run)) from_1) tables are in
       let next = tables_fault (ids_behind (Some 1) target (length tables)) target 0 left in
-      ap (λ (o : Option ℕ). tables_fault o target 0 left) same ∙ sym (ap (λ (x : Option Error). option_or x next) (first_taken fine))
+      ap (λ (o : Option ℕ). tables_fault o target 0 left) same
+      ∙ sym (ap (λ (x : Option Error). option_or x next) (first_taken fine))
 
   -- there is none to write
   pub none_refused : (rules : Rules) (tables : List (List Entry)) → es ≡ []
@@ -189,8 +216,14 @@ module _ (ids : Option ℕ) (target moment : ℕ) (es : List Entry) (from_1 : id
       es tables → both_fault target es tables (kept rules (unfiltered es)) ≡ None
   none_refused rules tables none fine are =
       let first = first_taken fine in
-      let no = no_tables default_options.data_block_size target tables (subst (λ (xs : List Entry). AreTables default_options.data_block_size target xs tables) none are) in
-      ap (λ (x : Option Error). option_or x (tables_fault (ids_behind (Some 1) target (length tables)) target 0 (kept rules (unfiltered es)))) first
-      ∙ ap (λ (ls : List (List Entry)). tables_fault (ids_behind (Some 1) target (length ls)) target 0 (kept rules (unfiltered es))) no
-      ∙ ap (λ (xs : List Entry). tables_fault (ids_behind (Some 1) target 0) target 0 (kept rules (unfiltered xs))) none
-      ∙ none_again rules target (sym (ap (λ (xs : List Entry). tables_fault (Some 1) target 0 xs) none) ∙ first)
+      let no = no_tables default_options.data_block_size target tables
+      (subst (λ (xs : List Entry). AreTables default_options.data_block_size target xs tables)
+      none are) in
+      ap (λ (x : Option Error). option_or x (tables_fault
+      (ids_behind (Some 1) target (length tables)) target 0 (kept rules (unfiltered es)))) first
+      ∙ ap (λ (ls : List (List Entry)). tables_fault
+      (ids_behind (Some 1) target (length ls)) target 0 (kept rules (unfiltered es))) no
+      ∙ ap (λ (xs : List Entry). tables_fault (ids_behind (Some 1) target 0) target 0
+      (kept rules (unfiltered xs))) none
+      ∙ none_again rules target (sym (ap (λ (xs : List Entry). tables_fault (Some 1) target 0 xs)
+      none) ∙ first)

@@ -10,7 +10,8 @@ use Rattle.lsm_writers.specs.Writing.{IsWritable}
 pub kept_numbered : (rules : Rules) (es : List Entry)
     → AllByRecursion (λ (e : Entry). e.seqno < 2 ^ 64 - 1) es
     → AllByRecursion (λ (e : Entry). e.seqno < 2 ^ 64 - 1) (kept rules (unfiltered es))
-kept_numbered rules = all_kept rules (λ (e : Entry). e.seqno < 2 ^ 64 - 1) (λ e low. let below = zeroed_below rules e in omega (arith, below, low))
+kept_numbered rules = all_kept rules (λ (e : Entry). e.seqno < 2 ^ 64 - 1)
+    (λ e low. let below = zeroed_below rules e in omega (arith, below, low))
 
 pub stays_writable : (rules : Rules) (es : List Entry) → IsWritable es
     → IsWritable (kept rules (unfiltered es))

@@ -54,16 +54,19 @@ module _ (label : Label) (es : List Entry) (g : ℕ) where
       → opening_fault label es g ≡ None
   unfolding highest_seqno
   none_written fine none small =
-      let low : ltb (2 ^ 64 - 1) (highest_seqno [] + g) ≡ false = le-ltb _ _ (omega (arith, small)) in
+      let low : ltb (2 ^ 64 - 1) (highest_seqno [] + g) ≡ false =
+      le-ltb _ _ (omega (arith, small)) in
       or_fine (list_fault label es) (number_fault es g) fine (rw (none, low) refl)
 
   module _ (bytes : List ℕ) (t : IsTable bytes es) (written : list_fault label es ≡ None) where
     pub opens : (parts : Parts) → list_told t g true true ≡ Ok parts
         → opening_fault label es g ≡ None
-    opens parts told = or_fine (list_fault label es) (number_fault es g) written (fine_by (ltb (2 ^ 64 - 1) (highest_seqno es + g)) (parts_said t true true) parts told)
+    opens parts told = or_fine (list_fault label es) (number_fault es g) written
+        (fine_by (ltb (2 ^ 64 - 1) (highest_seqno es + g)) (parts_said t true true) parts told)
 
     pub unopened : (e : Error) → list_told t g true true ≡ Err e → opening_fault label es g ≡ Some e
-    unopened e told = or_second (list_fault label es) (number_fault es g) e written (fault_by (ltb (2 ^ 64 - 1) (highest_seqno es + g)) (parts_said t true true) e told)
+    unopened e told = or_second (list_fault label es) (number_fault es g) e written
+        (fault_by (ltb (2 ^ 64 - 1) (highest_seqno es + g)) (parts_said t true true) e told)
 
 parts_by : (large : Bool) (p q : Parts) → cond large (Err GlobalSeqNoTooLarge) (Ok p) ≡ Ok q → q ≡ p
 parts_by true p q told = absurd cc
@@ -74,9 +77,19 @@ pub opened : (label : Label) (es : List Entry) (g id sum : ℕ) (bytes : List �
     (f : IsTableOf label es id sum bytes) → t.bytes ≡ bytes → t.global_seqno ≡ g → t.tree_id ≡ 0
     → t.checksum ≡ sum → list_told f.table g true true ≡ Ok t.parts → IsOpened label es g t
 opened label es g id sum bytes t f same number tree check told =
-    let P : List ℕ → Type 0 = λ b. (x : IsTable b es) × (x.label ≡ label) × (x.options ≡ default_options) × (x.version ≡ V4) × (x.spills ≡ []) × (t.parts ≡ parts_said x true true) in
-    let parts = parts_by (ltb (2 ^ 64 - 1) (highest_seqno es + g)) (parts_said f.table true true) t.parts told in
-    let table : P t.bytes = subst P (sym same) (f.table, f.label_is, f.options_are, f.version_is, f.spills_are, parts) in
+    let P : List ℕ → Type 0 = λ b. (x : IsTable b es) × (x.label ≡ label)
+    × (x.options ≡ default_options) × (x.version ≡ V4) × (x.spills ≡ [])
+    × (t.parts ≡ parts_said x true true) in
+    let parts = parts_by (ltb (2 ^ 64 - 1) (highest_seqno es + g))
+    (parts_said f.table true true) t.parts told in
+    let table : P t.bytes = subst P (sym same) (
+      f.table,
+      f.label_is,
+      f.options_are,
+      f.version_is,
+      f.spills_are,
+      parts,
+    ) in
     record {
       some = f.some;
       table = table.0;
@@ -87,7 +100,8 @@ opened label es g id sum bytes t f same number tree check told =
       parts_are = table.5;
       number_is = number;
       tree_is = tree;
-      checksum_is = check ∙ f.checksum_is ∙ subst (λ (b : List ℕ). fnv1a b ≡ fnv1a t.bytes) same refl;
+      checksum_is = check ∙ f.checksum_is ∙ subst
+          (λ (b : List ℕ). fnv1a b ≡ fnv1a t.bytes) same refl;
     }
 
 -- ---- reading it
@@ -100,7 +114,8 @@ read_alone {X} found e fails told memory = absurd (let no : Ok found ≡ Err e =
 pub scan_alone : (es : List Entry) (e : Error) (told : Option Error) → (es ≡ [] → ⊥)
     → (0 < length es → e ≡ OutOfMemory) → is_memory e ≡ false → told ≡ Some e
 scan_alone es e told some alone memory =
-    let is : true ≡ false = sym (subst (λ (x : Error). is_memory x ≡ true) (sym (alone (some_length es some))) refl) ∙ memory in
+    let is : true ≡ false = sym (subst (λ (x : Error). is_memory x ≡ true)
+    (sym (alone (some_length es some))) refl) ∙ memory in
     absurd cc
 
 pub value_of : (a b : Option Entry) → found_is a ≡ found_is b → b ≡ a
@@ -109,8 +124,12 @@ value_of a b h = cc
 -- the answers, by the number that the table adds
 pub reads : (es : List Entry) (g n : ℕ) (key : List ℕ) (bound : ℕ) (found : Option Entry) (s : Scan)
     → n ≡ g → found_is (point (lift es n) key bound) ≡ found_is found
-    → ((stops : Error → Bool) → stops OutOfMemory ≡ true → Deals (answer_stops stops) ScansNext nowhere s (ok_results (lift es n))) → ReadsList es g key bound found s
+    → ((stops : Error → Bool) → stops OutOfMemory ≡ true
+    → Deals (answer_stops stops) ScansNext nowhere s (ok_results (lift es n)))
+    → ReadsList es g key bound found s
 reads es g n key bound found s number told deals = record {
-  point_is = subst (λ (k : ℕ). found ≡ point (lift es k) key bound) number (value_of (point (lift es n) key bound) found told);
-  scan_is = λ stops memory. subst (λ (k : ℕ). Deals (answer_stops stops) ScansNext nowhere s (ok_results (lift es k))) number (deals stops memory);
+  point_is = subst (λ (k : ℕ). found ≡ point (lift es k) key bound) number
+      (value_of (point (lift es n) key bound) found told);
+  scan_is = λ stops memory. subst (λ (k : ℕ). Deals (answer_stops stops) ScansNext nowhere s
+      (ok_results (lift es k))) number (deals stops memory);
 }

@@ -34,7 +34,8 @@ list_of t = entries_among (range_told t Unbounded Unbounded)
 
 pub list_is : (t : OpenTable) (es : List Entry) → HoldsList t es → list_of t ≡ es
 unfolding list_of
-list_is t es h = ap entries_among (held_told t es h Unbounded Unbounded ∙ ap ok_results (all_within es)) ∙ entries_of es
+list_is t es h = ap entries_among (held_told t es h Unbounded Unbounded
+    ∙ ap ok_results (all_within es)) ∙ entries_of es
 
 pub record Holds (t : OpenTable) : Type 0 where
   pub list : HoldsList t (list_of t)
@@ -45,14 +46,18 @@ lists_are [] [] h = refl
 lists_are [] (es ∷ ls) h = absurd h
 lists_are (t ∷ ts) [] h = absurd h
 lists_are (t ∷ ts) (es ∷ ls) h =
-    ap (λ (xs : List Entry). xs ∷ ls) (sym (list_is t es h.0)) ∙ ap (λ (xs : List (List Entry)). list_of t ∷ xs) (lists_are ts ls h.1)
+    ap (λ (xs : List Entry). xs ∷ ls) (sym (list_is t es h.0))
+    ∙ ap (λ (xs : List (List Entry)). list_of t ∷ xs) (lists_are ts ls h.1)
 
 pub all_hold : (ts : List OpenTable) (ls : List (List Entry)) → HoldLists ts ls
     → AllByRecursion Holds ts
 all_hold [] [] h = tt
 all_hold [] (es ∷ ls) h = absurd h
 all_hold (t ∷ ts) [] h = absurd h
-all_hold (t ∷ ts) (es ∷ ls) h = (record { list = subst (HoldsList t) (sym (list_is t es h.0)) h.0 }, all_hold ts ls h.1)
+all_hold (t ∷ ts) (es ∷ ls) h = (
+  record { list = subst (HoldsList t) (sym (list_is t es h.0)) h.0 },
+  all_hold ts ls h.1,
+)
 
 hold_all : (ts : List OpenTable) → AllByRecursion Holds ts → HoldLists ts (map list_of ts)
 hold_all [] h = tt
@@ -77,13 +82,17 @@ pub runs_all_hold : (runs : List (List OpenTable)) (lists : List (List (List Ent
 runs_all_hold [] [] h = tt
 runs_all_hold [] (ls ∷ lists) h = absurd h
 runs_all_hold (run ∷ runs) [] h = absurd h
-runs_all_hold (run ∷ runs) (ls ∷ lists) h = all_append Holds run (tables_in runs) (all_hold run ls h.0.1) (runs_all_hold runs lists h.1)
+runs_all_hold (run ∷ runs) (ls ∷ lists) h = all_append Holds run (tables_in runs)
+    (all_hold run ls h.0.1) (runs_all_hold runs lists h.1)
 
 runs_hold_all : (runs : List (List OpenTable)) → AreInOrder range_of runs
     → AllByRecursion Holds (tables_in runs) → RunsHoldLists runs (lists_of runs)
 runs_hold_all [] order h = tt
-runs_hold_all (run ∷ runs) order h =
-    ((order.0, hold_all run (all_front Holds run (tables_in runs) h)), runs_hold_all runs order.1 (all_behind Holds run (tables_in runs) h))
+runs_hold_all (run ∷ runs) order h = (
+  (order.0, hold_all run (all_front Holds run (tables_in runs) h)),
+  runs_hold_all runs order.1
+      (all_behind Holds run (tables_in runs) h),
+)
 
 -- ---- all entries, table by table
 
@@ -98,7 +107,8 @@ entries_in : (runs : List (List OpenTable))
     → all_entries (results_of (lists_of runs)) ≡ flat_map list_of (tables_in runs)
 entries_in [] = refl
 entries_in (run ∷ runs) =
-    ap (λ (xs : List Entry). xs ++ all_entries (results_of (lists_of runs))) (entries_of (joined (map list_of run)) ∙ join_lists run)
+    ap (λ (xs : List Entry). xs ++ all_entries (results_of (lists_of runs)))
+    (entries_of (joined (map list_of run)) ∙ join_lists run)
     ∙ ap (λ (xs : List Entry). flat_map list_of run ++ xs) (entries_in runs)
     ∙ sym (flat_map-append list_of run (tables_in runs))
 
@@ -111,7 +121,8 @@ union_sorts runs = ap sort_entries (entries_in runs)
 pub same_hold : (runs packed : List (List OpenTable)) → SameTables runs packed
     → AllByRecursion Holds (tables_in runs) → AllByRecursion Holds (tables_in packed)
 same_hold runs packed same h =
-    recursion_from_All Holds (tables_in packed) (All-permutation Holds (tables_in runs) (tables_in packed) same (All-from_recursion Holds (tables_in runs) h))
+    recursion_from_All Holds (tables_in packed) (All-permutation Holds (tables_in runs)
+    (tables_in packed) same (All-from_recursion Holds (tables_in runs) h))
 
 -- whatever lists they hold, the entries are to be compared alone
 pub packed_union : (runs packed : List (List OpenTable)) (lists : List (List (List Entry)))
@@ -134,7 +145,9 @@ count_in p (t ∷ ts) =
 
 count_same : (p : Entry → Bool) (ts us : List OpenTable) → IsPermutation ts us
     → count_by p (flat_map list_of ts) ≡ count_by p (flat_map list_of us)
-count_same p ts us same = count_in p ts ∙ sym (sum_by-IsPermutation (λ (t : OpenTable). count_by p (list_of t)) ts us same) ∙ sym (count_in p us)
+count_same p ts us same = count_in p ts ∙ sym
+    (sum_by-IsPermutation (λ (t : OpenTable). count_by p (list_of t)) ts us same)
+    ∙ sym (count_in p us)
 
 same_union : (runs packed : List (List OpenTable)) → SameTables runs packed
     → IsUnion (results_of (lists_of packed)) (union_in (lists_of runs))
@@ -153,5 +166,7 @@ same_union runs packed same =
 pub packed_alike : PackedLaw
 packed_alike runs packed lists h strict same order =
     packed_union runs packed lists h same order (λ are.
-    let own : IsStrict (union_in (lists_of runs)) = subst (λ (ls : List (List (List Entry))). IsStrict (union_in ls)) are strict in
-    sym (only_union (results_of (lists_of packed)) (union_in (lists_of runs)) (same_union runs packed same) own) ∙ sym (ap union_in are))
+    let own : IsStrict (union_in (lists_of runs)) =
+    subst (λ (ls : List (List (List Entry))). IsStrict (union_in ls)) are strict in
+    sym (only_union (results_of (lists_of packed)) (union_in (lists_of runs))
+    (same_union runs packed same) own) ∙ sym (ap union_in are))

@@ -42,7 +42,8 @@ has k e = key_le k e.user_key && key_le e.user_key k
 -- ---- sorted lists that have the same entries of each key are the same
 
 has_own : (e : Entry) → has e.user_key e ≡ true
-has_own e = and_from (key_le e.user_key e.user_key) (key_le e.user_key e.user_key) (le_refl e.user_key) (le_refl e.user_key)
+has_own e = and_from (key_le e.user_key e.user_key) (key_le e.user_key e.user_key)
+    (le_refl e.user_key) (le_refl e.user_key)
 
 taken : (k : List ℕ) (e : Entry) (es : List Entry) → has k e ≡ true
     → of_key k (e ∷ es) ≡ e ∷ of_key k es
@@ -63,17 +64,20 @@ at_most_key : (x y : Entry) → AtMost x y → key_le x.user_key y.user_key ≡ 
 at_most_key x y h =
     le_to x.user_key y.user_key
     (ap is_lt (nat_list_cmp_total.antisymm y.user_key x.user_key)
-    ∙ not_greater (slice_cmp nat_cmp x.user_key y.user_key) (ordering_then (nat_cmp y.seqno x.seqno) (nat_cmp (tag_of x.kind) (tag_of y.kind))) h)
+    ∙ not_greater (slice_cmp nat_cmp x.user_key y.user_key)
+    (ordering_then (nat_cmp y.seqno x.seqno) (nat_cmp (tag_of x.kind) (tag_of y.kind))) h)
 
 above_key : (k : List ℕ) (e : Entry) → key_lt k e.user_key ≡ true → has k e ≡ false
-above_key k e h = is_false (has k e) (λ yes. both_ways (key_le e.user_key k) (not_le e.user_key k h) (and_parts (key_le k e.user_key) (key_le e.user_key k) yes).1)
+above_key k e h = is_false (has k e) (λ yes. both_ways (key_le e.user_key k) (not_le e.user_key k h)
+    (and_parts (key_le k e.user_key) (key_le e.user_key k) yes).1)
 
 -- a sorted list that starts above a key has none of it
 none_above : (k : List ℕ) (x : Entry) (es : List Entry) → key_lt k x.user_key ≡ true
     → AllByRecursion (AtMost x) es → of_key k es ≡ []
 none_above k x [] low up = refl
 none_above k x (e ∷ es) low up =
-    left k e es (above_key k e (lt_then_le k x.user_key e.user_key low (at_most_key x e up.0))) ∙ none_above k x es low up.1
+    left k e es (above_key k e (lt_then_le k x.user_key e.user_key low (at_most_key x e up.0)))
+    ∙ none_above k x es low up.1
 
 starts_above : (k : List ℕ) (x : Entry) (es : List Entry) → key_lt k x.user_key ≡ true
     → Ascends (x ∷ es) → of_key k (x ∷ es) ≡ []
@@ -90,7 +94,8 @@ first_key x y xs ys up same =
       | inl e ↦ e
       | inr e ↦
           absurd (not_none x (of_key x.user_key xs)
-          (sym (taken x.user_key x xs (has_own x)) ∙ same ∙ starts_above x.user_key y ys (above y.user_key x.user_key e) up))
+          (sym (taken x.user_key x xs (has_own x)) ∙ same
+          ∙ starts_above x.user_key y ys (above y.user_key x.user_key e) up))
     ]
 
 rest_same : (x : Entry) (xs ys : List Entry)
@@ -105,32 +110,40 @@ rest_same x xs ys same k =
 same_sorted : (xs ys : List Entry) → Ascends xs → Ascends ys
     → ((k : List ℕ) → of_key k xs ≡ of_key k ys) → xs ≡ ys
 same_sorted [] [] up vp same = refl
-same_sorted [] (y ∷ ys) up vp same = absurd (not_none y (of_key y.user_key ys) (sym (taken y.user_key y ys (has_own y)) ∙ sym (same y.user_key)))
-same_sorted (x ∷ xs) [] up vp same = absurd (not_none x (of_key x.user_key xs) (sym (taken x.user_key x xs (has_own x)) ∙ same x.user_key))
+same_sorted [] (y ∷ ys) up vp same = absurd (not_none y (of_key y.user_key ys)
+    (sym (taken y.user_key y ys (has_own y)) ∙ sym (same y.user_key)))
+same_sorted (x ∷ xs) [] up vp same = absurd (not_none x (of_key x.user_key xs)
+    (sym (taken x.user_key x xs (has_own x)) ∙ same x.user_key))
 same_sorted (x ∷ xs) (y ∷ ys) up vp same =
     let kx = x.user_key in
-    let one : has kx y ≡ true = and_from (key_le kx y.user_key) (key_le y.user_key kx) (first_key y x ys xs up (sym (same y.user_key))) (first_key x y xs ys vp (same kx)) in
+    let one : has kx y ≡ true = and_from (key_le kx y.user_key) (key_le y.user_key kx)
+    (first_key y x ys xs up (sym (same y.user_key))) (first_key x y xs ys vp (same kx)) in
     let e : x ≡ y = head_eq (sym (taken kx x xs (has_own x)) ∙ same kx ∙ taken kx y ys one) in
-    let more : (k : List ℕ) → of_key k (x ∷ xs) ≡ of_key k (x ∷ ys) = λ k. same k ∙ ap (λ (z : Entry). of_key k (z ∷ ys)) (sym e) in
-    ap (λ (zs : List Entry). x ∷ zs) (same_sorted xs ys up.1 vp.1 (rest_same x xs ys more)) ∙ ap (λ (z : Entry). z ∷ ys) e
+    let more : (k : List ℕ) → of_key k (x ∷ xs) ≡ of_key k (x ∷ ys) = λ k. same k
+    ∙ ap (λ (z : Entry). of_key k (z ∷ ys)) (sym e) in
+    ap (λ (zs : List Entry). x ∷ zs) (same_sorted xs ys up.1 vp.1 (rest_same x xs ys more))
+    ∙ ap (λ (z : Entry). z ∷ ys) e
 
 -- lists that have the same entries of each key, in the same order
 sorts_alike : (xs ys : List Entry) → ((k : List ℕ) → of_key k xs ≡ of_key k ys)
     → sort_entries xs ≡ sort_entries ys
 sorts_alike xs ys same =
     same_sorted (sort_entries xs) (sort_entries ys) (ascends_in_order xs) (ascends_in_order ys)
-    (λ k. within_sorted (Included k) (Included k) xs ∙ ap sort_entries (same k) ∙ sym (within_sorted (Included k) (Included k) ys))
+    (λ k. within_sorted (Included k) (Included k) xs ∙ ap sort_entries (same k)
+    ∙ sym (within_sorted (Included k) (Included k) ys))
 
 -- ---- the entries of a key lie in the tables whose range has it
 
 outside : (k : List ℕ) (r : Interval) → has_key r k ≡ false → IsOutside (Included k) (Included k) r
 outside k r miss other inside from to =
     let p = and_parts (key_le r.min other) (key_le other r.max) inside in
-    both_ways (has_key r k) miss (and_from (key_le r.min k) (key_le k r.max) (le_trans r.min other k p.0 to) (le_trans k other r.max from p.1))
+    both_ways (has_key r k) miss (and_from (key_le r.min k) (key_le k r.max)
+    (le_trans r.min other k p.0 to) (le_trans k other r.max from p.1))
 
 none_of_key : (k : List ℕ) (t : OpenTable) → Holds t → has_key (range_of t) k ≡ false
     → of_key k (list_of t) ≡ []
-none_of_key k t h miss = nothing_within (list_of t) (Included k) (Included k) (range_of t) (held_keys t (list_of t) h.list) (outside k (range_of t) miss)
+none_of_key k t h miss = nothing_within (list_of t) (Included k) (Included k) (range_of t)
+    (held_keys t (list_of t) h.list) (outside k (range_of t) miss)
 
 abbrev holding : List ℕ → List OpenTable → List OpenTable
 holding k ts = filter (λ (t : OpenTable). has_key (range_of t) k) ts
@@ -143,7 +156,8 @@ key_entries k (t ∷ ts) h =
     let own = of_key k (list_of t) in
     let rest = flat_map (λ (u : OpenTable). of_key k (list_of u)) (holding k ts) in
     let parts : of_key k (flat_map list_of (t ∷ ts)) ≡ own ++ rest =
-    filter-append (has k) (list_of t) (flat_map list_of ts) ∙ ap (λ (xs : List Entry). own ++ xs) (key_entries k ts h.1) in
+    filter-append (has k) (list_of t) (flat_map list_of ts)
+    ∙ ap (λ (xs : List Entry). own ++ xs) (key_entries k ts h.1) in
     elim (cases_Bool (has_key (range_of t) k)) [
       | inl e ↦ rw e parts
       | inr e ↦ rw e (parts ∙ ap (λ (xs : List Entry). xs ++ rest) (none_of_key k t h.0 e))

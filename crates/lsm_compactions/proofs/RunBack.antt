@@ -33,21 +33,26 @@ sorted_same (e ∷ es) up = ap (insert_sorted e) (sorted_same es up.1) ∙ inser
 one_run : (ls : List (List Entry)) (es : List Entry) → joined ls ≡ es → Ascends es
     → union_in (ls ∷ []) ≡ es
 one_run ls es whole up =
-    ap sort_entries (append-nil (entries_among (ok_results (joined ls))) ∙ entries_of (joined ls) ∙ whole) ∙ sorted_same es up
+    ap sort_entries (append-nil (entries_among (ok_results (joined ls))) ∙ entries_of (joined ls)
+    ∙ whole) ∙ sorted_same es up
 
 module _ (es : List Entry) (g : ℕ) (run : List OpenTable) (h : IsRunOfList es g run) where
   pub union_is : union_in (h.lists ∷ []) ≡ lift es g
-  union_is = one_run h.lists (lift es g) h.whole (ascends_of (lift es g) (subst Strict h.whole (run_strict run h.lists h.hold h.order)))
+  union_is = one_run h.lists (lift es g) h.whole
+      (ascends_of (lift es g) (subst Strict h.whole (run_strict run h.lists h.hold h.order)))
 
   pub run_held : (runs : List (List OpenTable)) → runs ≡ run ∷ []
       → RunsHoldLists runs (h.lists ∷ [])
-  run_held runs is = subst (λ (x : List (List OpenTable)). RunsHoldLists x (h.lists ∷ [])) (sym is) ((h.order, h.hold), tt)
+  run_held runs is = subst (λ (x : List (List OpenTable)). RunsHoldLists x (h.lists ∷ [])) (sym is)
+      ((h.order, h.hold), tt)
 
   -- what is read of the run alone is read of the list
   pub reads_back : {S : Type 0} (front back : S → Option (Result Entry Error) → S → Type 0)
       (key : List ℕ) (bound : ℕ) (low high : Bound (List ℕ)) (r : Result (Option Entry × S) Error)
-      → IfOk r (ReadsOf front back key bound low high (union_in (h.lists ∷ []))) → IfOk r (ReadsOf front back key bound low high (lift es g))
-  reads_back front back key bound low high r = subst (λ (xs : List Entry). IfOk r (ReadsOf front back key bound low high xs)) union_is
+      → IfOk r (ReadsOf front back key bound low high (union_in (h.lists ∷ [])))
+      → IfOk r (ReadsOf front back key bound low high (lift es g))
+  reads_back front back key bound low high r = subst
+      (λ (xs : List Entry). IfOk r (ReadsOf front back key bound low high xs)) union_is
 
 -- a read that tells a value is refused for want of memory alone
 pub told_alone : (found : Option Entry) (e : Error) → (is_memory e ≡ false → found_is found ≡ Err e)
@@ -66,4 +71,6 @@ fails_refusal (Err y) e told is fails = subst (λ (x : Error). Fails x told) (sy
 
 pub memory_fails : {X Y : Type 0} (r : Result X Error) (e : Error) (told : Result Y Error)
     → IsErrAnd r (λ y. y ≡ e) → e ≡ OutOfMemory → IfErr r (λ x. Fails x told)
-memory_fails r e told is memory = fails_refusal r e told is (λ fine. absurd (let both : is_memory e ≡ true = ap is_memory memory in let no : false ≡ true = sym fine ∙ both in cc))
+memory_fails r e told is memory = fails_refusal r e told is
+    (λ fine. absurd (let both : is_memory e ≡ true = ap is_memory memory in let no : false ≡ true =
+    sym fine ∙ both in cc))

@@ -57,7 +57,8 @@ use Rattle.lsm_compactions.specs.Written.{number_fault}
 
 one_more : (ts : List (List Entry)) (t : List Entry) → (t ≡ [] → ⊥)
     → length (ts ++ rest_chunk t) ≡ length ts + 1
-one_more ts t some = ap (λ (c : List (List Entry)). length (ts ++ c)) (rest_is t (some_length t some)) ∙ length-append ts (t ∷ [])
+one_more ts t some = ap (λ (c : List (List Entry)). length (ts ++ c))
+    (rest_is t (some_length t some)) ∙ length-append ts (t ∷ [])
 
 pub first_is : (fault : Option ℕ) → ids_fault fault ≡ None → (first : ℕ) × (fault ≡ Some first)
 first_is None h = absurd cc
@@ -70,11 +71,13 @@ next_by id first false is h = let n : None ≡ Some first = sym (rw is refl) ∙
 
 -- no entry was taken, and the first table stands as it began
 abbrev Begun : ℕ → ℕ → TablesWriting → Type 0
-Begun first moment m = (m.tables ≡ []) × (m.present ≡ fresh_writing (label_of first 0 moment) default_options)
+Begun first moment m = (m.tables ≡ []) × (m.present
+    ≡ fresh_writing (label_of first 0 moment) default_options)
 
 -- the present table has entries, and its id is that of its place behind the first that has
 abbrev Going : ℕ → ℕ → ℕ → TablesWriting → Type 0
-Going first target moment m = (m.present.label ≡ label_of (first_id target first + length m.tables) 0 moment) × (written m.present ≡ [] → ⊥)
+Going first target moment m = (m.present.label
+    ≡ label_of (first_id target first + length m.tables) 0 moment) × (written m.present ≡ [] → ⊥)
 
 pub record Draws (ids : Option ℕ) (target : ℕ) (moment : ℕ) (m : TablesWriting) : Type 0 where
   pub first : ℕ
@@ -89,7 +92,17 @@ pub new_draws : (ids : Option ℕ) (target moment : ℕ) (m : TablesWriting)
     → m ≡ new_tables ids target 0 moment → ids_fault ids ≡ None → Draws ids target moment m
 new_draws None target moment m is fine = absurd cc
 new_draws (Some first) target moment m is fine =
-    subst (Draws (Some first) target moment) (sym is) (record { first = first; first_is = refl; target_is = refl; options_are = refl; works = refl; next = refl; stands = inl (refl, refl) })
+    subst (Draws (Some first) target moment) (sym is)
+    (record {
+      first = first;
+      first_is = refl;
+      target_is = refl;
+      options_are = refl;
+      works =
+          refl;
+      next = refl;
+      stands = inl (refl, refl);
+    })
 
 -- before the first entry a table is due at target 0 alone
 due_fresh : (target : ℕ) (label : Label) (e : Entry)
@@ -111,12 +124,14 @@ left_none (Some x) b h = absurd cc
 
 named : (l : Label) (k id n moment : ℕ) → l ≡ label_of k 0 moment → id ≡ n
     → record l { table_id = id } ≡ label_of n 0 moment
-named l k id n moment is same = ap (λ (x : Label). record x { table_id = id }) is ∙ ap (λ (i : ℕ). label_of i 0 moment) same
+named l k id n moment is same = ap (λ (x : Label). record x { table_id = id }) is
+    ∙ ap (λ (i : ℕ). label_of i 0 moment) same
 
 module _ (ids : Option ℕ) (target moment : ℕ) (m : TablesWriting) (e : Entry)
     (h : Draws ids target moment m) where
   first_due : Begun h.first moment m → is_due m.target m.present e ≡ nat_le target 0
-  first_due b = ap (λ (w : Writing). is_due m.target w e) b.1 ∙ due_fresh m.target (label_of h.first 0 moment) e ∙ ap (λ (t : ℕ). nat_le t 0) h.target_is
+  first_due b = ap (λ (w : Writing). is_due m.target w e) b.1
+      ∙ due_fresh m.target (label_of h.first 0 moment) e ∙ ap (λ (t : ℕ). nat_le t 0) h.target_is
 
   more_written : (w : Writing) → written (gained w e) ≡ [] → ⊥
   more_written w none = no_end (written w) e (sym (written_gained w e) ∙ none)
@@ -127,7 +142,8 @@ module _ (ids : Option ℕ) (target moment : ℕ) (m : TablesWriting) (e : Entry
       → m.present.label ≡ label_of (first_id target h.first + length m.tables) 0 moment
   open_label due (inl b) =
       let some : 0 < target = leb-false _ _ (sym (first_due b) ∙ due) in
-      let id : h.first ≡ first_id target h.first + length m.tables = omega (arith, first_else target h.first some, ap length b.0) in
+      let id : h.first ≡ first_id target h.first + length m.tables =
+      omega (arith, first_else target h.first some, ap length b.0) in
       ap (λ (w : Writing). w.label) b.1 ∙ ap (λ (i : ℕ). label_of i 0 moment) id
   open_label due (inr g) = g.0
 
@@ -146,7 +162,8 @@ module _ (ids : Option ℕ) (target moment : ℕ) (m : TablesWriting) (e : Entry
         stands = inr (kept.0 ∙ open_label due h.stands, more_written w);
       } in
       let same : standing m e ≡ m = rw due refl in
-      subst (Draws ids target moment) (sym (ap (λ (x : TablesWriting). record x { present = gained x.present e }) same)) made
+      subst (Draws ids target moment) (sym (ap (λ (x : TablesWriting). record x
+      { present = gained x.present e }) same)) made
 
   -- the first entry of the next table
   due_label : (id : ℕ) → id ≡ m.present.label.table_id + 1 → is_due m.target m.present e ≡ true
@@ -156,24 +173,52 @@ module _ (ids : Option ℕ) (target moment : ℕ) (m : TablesWriting) (e : Entry
   due_label id is due (inl b) =
       let none : target ≡ 0 = omega (arith, leb-true _ _ (sym (first_due b) ∙ due)) in
       let label : m.present.label ≡ label_of h.first 0 moment = ap (λ (w : Writing). w.label) b.1 in
-      let all : length (tables_of m) ≡ length m.tables = ap (λ (w : Writing). length (m.tables ++ rest_chunk (written w))) b.1 ∙ ap length (append-nil m.tables) in
-      named m.present.label h.first id _ moment label (omega (arith, is, ap (λ (l : Label). l.table_id) label, first_at target h.first none, all, ap length b.0))
+      let all : length (tables_of m) ≡ length m.tables =
+      ap (λ (w : Writing). length (m.tables ++ rest_chunk (written w))) b.1
+      ∙ ap length (append-nil m.tables) in
+      named m.present.label h.first id _ moment label
+      (omega (
+        arith,
+        is,
+        ap (λ (l : Label). l.table_id) label,
+        first_at target h.first none,
+        all,
+        ap length b.0,
+      ))
   due_label id is due (inr g) =
-      named m.present.label _ id _ moment g.0 (omega (arith, is, ap (λ (l : Label). l.table_id) g.0, one_more m.tables (written m.present) g.1))
+      named m.present.label _ id _ moment g.0 (omega (
+        arith,
+        is,
+        ap (λ (l : Label). l.table_id) g.0,
+        one_more m.tables
+            (written m.present) g.1,
+      ))
 
   draws_due : is_due m.target m.present e ≡ true → took_fault m e ≡ None
       → Draws ids target moment (took m e)
   draws_due due fine =
       let w = m.present in
-      let turns : option_or (turn_fault m.target m.ids w e) (write_fault (standing m e).present e) ≡ None =
-      sym (ap (λ (b : Bool). cond b (Some WriterFailed) (option_or (turn_fault m.target m.ids w e) (write_fault (standing m e).present e))) h.works) ∙ fine in
-      let turn : rotation_fault m.ids w ≡ None = sym (ap (λ (b : Bool). cond b (rotation_fault m.ids w) None) due) ∙ left_none _ _ turns in
+      let turns : option_or (turn_fault m.target m.ids w e) (write_fault (standing m e).present e)
+      ≡ None =
+      sym (ap (λ (b : Bool). cond b (Some WriterFailed)
+      (option_or (turn_fault m.target m.ids w e) (write_fault (standing m e).present e)))
+      h.works) ∙ fine in
+      let turn : rotation_fault m.ids w ≡ None = sym
+      (ap (λ (b : Bool). cond b (rotation_fault m.ids w) None) due) ∙ left_none _ _ turns in
       let left = first_is m.ids (left_none _ _ turn) in
       let id = left.0 in
-      let is : id ≡ w.label.table_id + 1 = next_by w.label.table_id id _ refl (sym h.next ∙ left.1) in
+      let is : id ≡ w.label.table_id + 1 = next_by w.label.table_id id _ refl
+      (sym h.next ∙ left.1) in
       let N : Label = record w.label { table_id = id } in
       let kept = same_label (fresh_writing N w.options) e in
-      let n : TablesWriting = record { target = m.target; ids = next_id id; tables = tables_of m; present = gained (fresh_writing N w.options) e; failed = m.failed } in
+      let n : TablesWriting = record {
+        target = m.target;
+        ids = next_id id;
+        tables =
+            tables_of m;
+        present = gained (fresh_writing N w.options) e;
+        failed = m.failed;
+      } in
       let made : Draws ids target moment n = record {
         first = h.first;
         first_is = h.first_is;
@@ -181,12 +226,23 @@ module _ (ids : Option ℕ) (target moment : ℕ) (m : TablesWriting) (e : Entry
         options_are = kept.1 ∙ h.options_are;
         works = h.works;
         next = ap (λ (l : Label). next_id l.table_id) (sym kept.0);
-        stands = inr (kept.0 ∙ due_label id is due h.stands, more_written (fresh_writing N w.options));
+        stands = inr (
+          kept.0 ∙ due_label id is due h.stands,
+          more_written
+              (fresh_writing N w.options),
+        );
       } in
       let turned : standing m e ≡ rotated m = rw due refl in
       let there : took m e ≡ n =
       ap (λ (x : TablesWriting). record x { present = gained x.present e }) turned
-      ∙ ap (λ (i : Option ℕ). record { target = m.target; ids = drawn i; tables = tables_of m; present = gained (next_writing i w) e; failed = m.failed }) left.1 in
+      ∙ ap (λ (i : Option ℕ). record {
+        target = m.target;
+        ids = drawn i;
+        tables =
+            tables_of m;
+        present = gained (next_writing i w) e;
+        failed = m.failed;
+      }) left.1 in
       subst (Draws ids target moment) (sym there) made
 
   pub draws_more : took_fault m e ≡ None → Draws ids target moment (took m e)
@@ -207,7 +263,8 @@ other_label options k l (t ∷ ts) fs none h = absurd cc
 module _ (ids : Option ℕ) (target moment : ℕ) (m : TablesWriting) (h : Draws ids target moment m)
   where
     begun_none : Begun h.first moment m → tables_of m ≡ []
-    begun_none b = ap (λ (ts : List (List Entry)). ts ++ rest_chunk (written m.present)) b.0 ∙ ap (λ (w : Writing). rest_chunk (written w)) b.1
+    begun_none b = ap (λ (ts : List (List Entry)). ts ++ rest_chunk (written m.present)) b.0
+        ∙ ap (λ (w : Writing). rest_chunk (written w)) b.1
 
     behind_run : Begun h.first moment m ⊎ Going h.first target moment m
         → m.ids ≡ ids_behind ids target (length (tables_of m))
@@ -217,33 +274,45 @@ module _ (ids : Option ℕ) (target moment : ℕ) (m : TablesWriting) (h : Draws
         ∙ ap drawn (sym h.first_is)
         ∙ ap (λ (ts : List (List Entry)). ids_behind ids target (length ts)) (sym (begun_none b))
     behind_run (inr g) =
-        let more : suc (length m.tables) ≡ length (tables_of m) = omega (arith, one_more m.tables (written m.present) g.1) in
+        let more : suc (length m.tables) ≡ length (tables_of m) =
+        omega (arith, one_more m.tables (written m.present) g.1) in
         h.next
         ∙ ap (λ (l : Label). next_id l.table_id) g.0
         ∙ ap (λ (o : Option ℕ). ids_behind o target (suc (length m.tables))) (sym h.first_is)
         ∙ ap (ids_behind ids target) more
 
     finished_run : {A : Type 0} (fs : List (FinishedTable A)) → Begun h.first moment m
-        ⊎ Going h.first target moment m → AreFinished default_options (first_label m) (tables_of m) fs
+        ⊎ Going h.first target moment m → AreFinished default_options (first_label m)
+        (tables_of m) fs
         → AreFinished default_options (run_label ids target moment) (tables_of m) fs
-    finished_run fs (inl b) f = other_label default_options (first_label m) (run_label ids target moment) (tables_of m) fs (begun_none b) f
+    finished_run fs (inl b) f = other_label default_options (first_label m)
+        (run_label ids target moment) (tables_of m) fs (begun_none b) f
     finished_run fs (inr g) f =
-        let id : (first_label m).table_id ≡ first_id target h.first = omega (arith, ap (λ (l : Label). l.table_id) g.0) in
-        let is : first_label m ≡ run_label ids target moment = named m.present.label (first_id target h.first + length m.tables) (first_label m).table_id (first_id target h.first) moment g.0 id ∙ ap (λ (o : Option ℕ). run_label o target moment) (sym h.first_is) in
+        let id : (first_label m).table_id ≡ first_id target h.first =
+        omega (arith, ap (λ (l : Label). l.table_id) g.0) in
+        let is : first_label m ≡ run_label ids target moment =
+        named m.present.label (first_id target h.first + length m.tables)
+        (first_label m).table_id (first_id target h.first) moment g.0 id
+        ∙ ap (λ (o : Option ℕ). run_label o target moment) (sym h.first_is) in
         subst (λ (l : Label). AreFinished default_options l (tables_of m) fs) is f
 
-    pub all_finished : {A : Type 0} (es : List Entry) (fs : List (FinishedTable A)) (left : Option ℕ)
+    pub all_finished : {A : Type 0} (es : List Entry) (fs : List (FinishedTable A))
+        (left : Option ℕ)
         → all_written m ≡ es → left ≡ m.ids → AreTables m.present.options.data_block_size m.target
         (all_written m) (tables_of m) → AreInKeyOrder (tables_of m) → AreFinished m.present.options
         (first_label m) (tables_of m) fs → AreWritten ids target moment es fs left
     all_finished es fs left all is cut order finished = record {
       lists = tables_of m;
       cut =
-          subst (λ (x : List Entry). AreTables default_options.data_block_size target x (tables_of m)) all
-          (subst (λ (o : Options). AreTables o.data_block_size target (all_written m) (tables_of m)) h.options_are
-          (subst (λ (t : ℕ). AreTables m.present.options.data_block_size t (all_written m) (tables_of m)) h.target_is cut));
+          subst (λ (x : List Entry). AreTables default_options.data_block_size target x
+          (tables_of m)) all
+          (subst (λ (o : Options). AreTables o.data_block_size target (all_written m) (tables_of m))
+          h.options_are
+          (subst (λ (t : ℕ). AreTables m.present.options.data_block_size t (all_written m)
+          (tables_of m)) h.target_is cut));
       order = order;
-      finished = finished_run fs h.stands (subst (λ (o : Options). AreFinished o (first_label m) (tables_of m) fs) h.options_are finished);
+      finished = finished_run fs h.stands (subst (λ (o : Options). AreFinished o (first_label m)
+          (tables_of m) fs) h.options_are finished);
       left_is = is ∙ behind_run h.stands;
     }
 
@@ -260,8 +329,10 @@ pub takes_new : (ids : Option ℕ) (target moment : ℕ) (es rest : List Entry) 
     → Takes fits.tables (label_of (first_id target fits.first) 0 moment) m rest
 takes_new ids target moment es rest m fits is same h =
     let label = label_of (first_id target fits.first) 0 moment in
-    let new : m ≡ new_tables (Some fits.first) target 0 moment = is ∙ ap (λ (o : Option ℕ). new_tables o target 0 moment) fits.first_is in
-    subst (λ (x : List Entry). Takes fits.tables label m x) (sym same) (subst (λ (x : TablesWriting). Takes fits.tables label x es) (sym new) h)
+    let new : m ≡ new_tables (Some fits.first) target 0 moment = is
+    ∙ ap (λ (o : Option ℕ). new_tables o target 0 moment) fits.first_is in
+    subst (λ (x : List Entry). Takes fits.tables label m x) (sym same)
+    (subst (λ (x : TablesWriting). Takes fits.tables label x es) (sym new) h)
 
 -- a refusal for want of memory that is passed on
 pub wants : {X : Type 0} (r : Result X Error) (e : Error) → IsErrAnd r (λ y. y ≡ e)
@@ -290,7 +361,8 @@ module _ (es : List Entry) (g : ℕ) (bytes : List ℕ) (t : IsTable bytes es) w
 pub small_number : (es : List Entry) (g : ℕ) → highest_seqno es + g < 2 ^ 64
     → number_fault es g ≡ None
 small_number es g small =
-    let low : nat_lt (2 ^ 64 - 1) (highest_seqno es + g) ≡ false = le-ltb _ _ (omega (arith, small)) in
+    let low : nat_lt (2 ^ 64 - 1) (highest_seqno es + g) ≡ false =
+    le-ltb _ _ (omega (arith, small)) in
     rw low refl
 
 highest_joined : (xs ys : List Entry)
@@ -309,20 +381,25 @@ all_small g (es ∷ ls) small =
 -- the highest number of two lists passes u64 where that of one does
 fault_else : (m n g : ℕ) → nat_lt (2 ^ 64 - 1) (m + g) ≡ false → (b : Bool)
     → nat_lt (2 ^ 64 - 1) (n + g) ≡ b → nat_lt (2 ^ 64 - 1) (max m n + g) ≡ b
-fault_else m n g small true large = lt-ltb (2 ^ 64 - 1) (max m n + g) (omega (arith, ltb-true _ _ large))
-fault_else m n g small false low = le-ltb (2 ^ 64 - 1) (max m n + g) (omega (arith, ltb-false _ _ small, ltb-false _ _ low))
+fault_else m n g small true large = lt-ltb (2 ^ 64 - 1) (max m n + g)
+    (omega (arith, ltb-true _ _ large))
+fault_else m n g small false low = le-ltb (2 ^ 64 - 1) (max m n + g)
+    (omega (arith, ltb-false _ _ small, ltb-false _ _ low))
 
 fault_by : (m n g : ℕ) (b : Bool) → nat_lt (2 ^ 64 - 1) (m + g) ≡ b
     → cond (nat_lt (2 ^ 64 - 1) (max m n + g)) (Some GlobalSeqNoTooLarge) None ≡ option_or
     (cond b (Some GlobalSeqNoTooLarge) None)
     (cond (nat_lt (2 ^ 64 - 1) (n + g)) (Some GlobalSeqNoTooLarge) None)
-fault_by m n g true large = ap (λ (b : Bool). cond b (Some GlobalSeqNoTooLarge) None) (lt-ltb (2 ^ 64 - 1) (max m n + g) (omega (arith, ltb-true _ _ large)))
-fault_by m n g false small = ap (λ (b : Bool). cond b (Some GlobalSeqNoTooLarge) None) (fault_else m n g small (nat_lt (2 ^ 64 - 1) (n + g)) refl)
+fault_by m n g true large = ap (λ (b : Bool). cond b (Some GlobalSeqNoTooLarge) None)
+    (lt-ltb (2 ^ 64 - 1) (max m n + g) (omega (arith, ltb-true _ _ large)))
+fault_by m n g false small = ap (λ (b : Bool). cond b (Some GlobalSeqNoTooLarge) None)
+    (fault_else m n g small (nat_lt (2 ^ 64 - 1) (n + g)) refl)
 
 number_joined : (xs ys : List Entry) (g : ℕ)
     → number_fault (xs ++ ys) g ≡ option_or (number_fault xs g) (number_fault ys g)
 number_joined xs ys g =
-    ap (λ (n : ℕ). cond (nat_lt (2 ^ 64 - 1) (n + g)) (Some GlobalSeqNoTooLarge) None) (highest_joined xs ys) ∙ fault_by (highest_seqno xs) (highest_seqno ys) g _ refl
+    ap (λ (n : ℕ). cond (nat_lt (2 ^ 64 - 1) (n + g)) (Some GlobalSeqNoTooLarge) None)
+    (highest_joined xs ys) ∙ fault_by (highest_seqno xs) (highest_seqno ys) g _ refl
 
 no_number : (g : ℕ) → g < 2 ^ 64 → number_fault [] g ≡ None
 unfolding highest_seqno
@@ -333,7 +410,8 @@ abbrev pub OpenSoFar : {A : Type 0} → Label → List (List Entry) → ℕ → 
     → List (FinishedTable A) → Type 0
 OpenSoFar label lists g [] fs = AreFinished default_options label lists fs
 OpenSoFar label [] g (t ∷ ts) fs = ⊥
-OpenSoFar label (es ∷ ls) g (t ∷ ts) fs = IsOpenedOf label es g t × (number_fault es g ≡ None) × OpenSoFar (next_label label) ls g ts fs
+OpenSoFar label (es ∷ ls) g (t ∷ ts) fs = IsOpenedOf label es g t × (number_fault es g ≡ None)
+    × OpenSoFar (next_label label) ls g ts fs
 
 module _ {A : Type 0} (g : ℕ) where
   module _ (f : FinishedTable A) (fs : List (FinishedTable A)) where
@@ -345,7 +423,8 @@ module _ {A : Type 0} (g : ℕ) where
     opened_next label [] [] t h opens = absurd h
     opened_next label (es ∷ ls) [] t h opens = let is = opens label es h.0 in (is.0, is.1, h.1)
     opened_next label [] (x ∷ ts) t h opens = absurd h
-    opened_next label (es ∷ ls) (x ∷ ts) t h opens = (h.0, h.1, opened_next (next_label label) ls ts t h.2 opens)
+    opened_next label (es ∷ ls) (x ∷ ts) t h opens =
+        (h.0, h.1, opened_next (next_label label) ls ts t h.2 opens)
 
     -- the next of them is one whose number passes u64, and so does the highest of all
     pub next_large : (e : Error) (label : Label) (lists : List (List Entry)) (ts : List OpenTable)
@@ -353,10 +432,12 @@ module _ {A : Type 0} (g : ℕ) where
         → ((l : Label) (es : List Entry) → IsTableOf l es f.id f.checksum.0 f.bytes
         → number_fault es g ≡ Some e) → number_fault (joined lists) g ≡ Some e
     next_large e label [] [] h large = absurd h
-    next_large e label (es ∷ ls) [] h large = number_joined es (joined ls) g ∙ ap (λ (x : Option Error). option_or x (number_fault (joined ls) g)) (large label es h.0)
+    next_large e label (es ∷ ls) [] h large = number_joined es (joined ls) g
+        ∙ ap (λ (x : Option Error). option_or x (number_fault (joined ls) g)) (large label es h.0)
     next_large e label [] (x ∷ ts) h large = absurd h
     next_large e label (es ∷ ls) (x ∷ ts) h large =
-        number_joined es (joined ls) g ∙ ap (λ (x : Option Error). option_or x (number_fault (joined ls) g)) h.1 ∙ next_large e (next_label label) ls ts h.2 large
+        number_joined es (joined ls) g ∙ ap (λ (x : Option Error). option_or x
+        (number_fault (joined ls) g)) h.1 ∙ next_large e (next_label label) ls ts h.2 large
 
     -- the next of them is one of a list whose numbers fit
     pub next_fits : (label : Label) (lists : List (List Entry)) (ts : List OpenTable)
@@ -374,7 +455,8 @@ module _ {A : Type 0} (g : ℕ) where
   opened_all [] none label [] [] h = tt
   opened_all [] none label (es ∷ ls) [] h = absurd h
   opened_all [] none label [] (t ∷ ts) h = absurd h
-  opened_all [] none label (es ∷ ls) (t ∷ ts) h = (h.0, opened_all [] none (next_label label) ls ts h.2)
+  opened_all [] none label (es ∷ ls) (t ∷ ts) h =
+      (h.0, opened_all [] none (next_label label) ls ts h.2)
   opened_all (f ∷ fs) none label ls ts h = absurd cc
 
   pub numbers_fit : g < 2 ^ 64 → (fs : List (FinishedTable A)) → fs ≡ []
@@ -384,7 +466,8 @@ module _ {A : Type 0} (g : ℕ) where
   numbers_fit small [] none label (es ∷ ls) [] h = absurd h
   numbers_fit small [] none label [] (t ∷ ts) h = absurd h
   numbers_fit small [] none label (es ∷ ls) (t ∷ ts) h =
-      number_joined es (joined ls) g ∙ ap (λ (x : Option Error). option_or x (number_fault (joined ls) g)) h.1 ∙ numbers_fit small [] none (next_label label) ls ts h.2
+      number_joined es (joined ls) g ∙ ap (λ (x : Option Error). option_or x
+      (number_fault (joined ls) g)) h.1 ∙ numbers_fit small [] none (next_label label) ls ts h.2
   numbers_fit small (f ∷ fs) none label ls ts h = absurd cc
 
 -- ---- the run
@@ -401,7 +484,8 @@ lifted_lists ls g = map (λ (es : List Entry). lift es g) ls
 
 lift_joined : (ls : List (List Entry)) (g : ℕ) → joined (lifted_lists ls g) ≡ lift (joined ls) g
 lift_joined [] g = refl
-lift_joined (es ∷ ls) g = ap (λ (xs : List Entry). lift es g ++ xs) (lift_joined ls g) ∙ sym (map-append (lifted g) es (joined ls))
+lift_joined (es ∷ ls) g = ap (λ (xs : List Entry). lift es g ++ xs) (lift_joined ls g)
+    ∙ sym (map-append (lifted g) es (joined ls))
 
 hold_lists : (label : Label) (lists : List (List Entry)) (g : ℕ) (ts : List OpenTable)
     → AreOpened label lists g ts → HoldLists ts (lifted_lists lists g)
@@ -426,7 +510,8 @@ ranges_are label [] g (t ∷ ts) h = absurd h
 ranges_are label (es ∷ ls) g [] h = absurd h
 ranges_are label (es ∷ ls) g (t ∷ ts) h =
     let rest = ranges_are (next_label label) ls g ts h.1 in
-    ap (λ (r : Interval). r ∷ ranges_of ts) h.0.range ∙ ap (λ (rs : List Interval). ends_of es ∷ rs) rest
+    ap (λ (r : Interval). r ∷ ranges_of ts) h.0.range
+    ∙ ap (λ (rs : List Interval). ends_of es ∷ rs) rest
 
 -- a list with entries, which are strict
 abbrev IsKept : List Entry → Type 0
@@ -437,16 +522,22 @@ all_kept : (label : Label) (lists : List (List Entry)) (g : ℕ) (ts : List Open
 all_kept label [] g [] h = tt
 all_kept label [] g (t ∷ ts) h = absurd h
 all_kept label (es ∷ ls) g [] h = absurd h
-all_kept label (es ∷ ls) g (t ∷ ts) h = ((h.0.is.some, h.0.is.table.strict), all_kept (next_label label) ls g ts h.1)
+all_kept label (es ∷ ls) g (t ∷ ts) h = (
+  (h.0.is.some, h.0.is.table.strict),
+  all_kept
+      (next_label label) ls g ts h.1,
+)
 
 last_max : (e : Entry) (es : List Entry) → (ends_of (e ∷ es)).max ≡ (last_entry (e ∷ es)).user_key
-last_max e es = ap (λ (o : Option Entry). unwrap_or (option_map (λ (x : Entry). x.user_key) o) []) (last_is_some None (e ∷ es) (omega arith))
+last_max e es = ap (λ (o : Option Entry). unwrap_or (option_map (λ (x : Entry). x.user_key) o) [])
+    (last_is_some None (e ∷ es) (omega arith))
 
 formed : (e : Entry) (es : List Entry) → IsStrict (e ∷ es)
     → is_well_formed (ends_of (e ∷ es)) ≡ true
 formed e es strict =
     let r = ends_of (e ∷ es) in
-    (and_parts (key_le r.min e.user_key) (key_le e.user_key r.max) (keys_within (e ∷ es) strict).0).1
+    (and_parts (key_le r.min e.user_key) (key_le e.user_key r.max)
+    (keys_within (e ∷ es) strict).0).1
 
 -- what is below the first key of the next list is below all later ones
 all_later : (key : List ℕ) (ls : List (List Entry)) → AllByRecursion IsKept ls → AreInKeyOrder ls
@@ -458,9 +549,12 @@ all_later key ([] ∷ ls) kept order low = absurd (kept.0.0 refl)
 all_later key ((e ∷ es) ∷ ls) kept order low =
     let here : key_lt key e.user_key ≡ true = low e es ls refl in
     let last = (last_entry (e ∷ es)).user_key in
-    let up : key_le e.user_key last ≡ true = subst (λ (k : List ℕ). key_le e.user_key k ≡ true) (last_max e es) (formed e es kept.0.1) in
+    let up : key_le e.user_key last ≡ true = subst (λ (k : List ℕ). key_le e.user_key k ≡ true)
+    (last_max e es) (formed e es kept.0.1) in
     let to : key_lt key last ≡ true = lt_then_le key e.user_key last here up in
-    and_both _ _ here (all_later key ls kept.1 order.1 (λ x xs rest is. lt_trans key last x.user_key to (subst (λ (us : List (List Entry)). IsBelow (e ∷ es) us) is order.0)))
+    and_both _ _ here (all_later key ls kept.1 order.1
+    (λ x xs rest is. lt_trans key last x.user_key to
+    (subst (λ (us : List (List Entry)). IsBelow (e ∷ es) us) is order.0)))
 
 lists_in_order : (ls : List (List Entry)) → AllByRecursion IsKept ls → AreInKeyOrder ls
     → are_in_order (map ends_of ls) ≡ true
@@ -469,15 +563,24 @@ lists_in_order ([] ∷ ls) kept order = absurd (kept.0.0 refl)
 lists_in_order ((e ∷ es) ∷ ls) kept order =
     let r = ends_of (e ∷ es) in
     let before : list_all (λ (later : Interval). key_lt r.max later.min) (map ends_of ls) ≡ true =
-    all_later r.max ls kept.1 order.1 (λ x xs rest is. subst (λ (k : List ℕ). key_lt k x.user_key ≡ true) (sym (last_max e es)) (subst (λ (us : List (List Entry)). IsBelow (e ∷ es) us) is order.0)) in
-    in_order_from r (map ends_of ls) (record { formed = formed e es kept.0.1; before = before; rest = lists_in_order ls kept.1 order.1 })
+    all_later r.max ls kept.1 order.1 (λ x xs rest is. subst
+    (λ (k : List ℕ). key_lt k x.user_key ≡ true) (sym (last_max e es))
+    (subst (λ (us : List (List Entry)). IsBelow (e ∷ es) us) is order.0)) in
+    in_order_from r (map ends_of ls) (record {
+      formed = formed e es kept.0.1;
+      before =
+          before;
+      rest = lists_in_order ls kept.1 order.1;
+    })
 
 -- the numbers of each table fit where the highest does
 pub all_fit : {A : Type 0} (ids : Option ℕ) (target moment : ℕ) (es : List Entry)
     (fs : List (FinishedTable A)) (left : Option ℕ) (g : ℕ)
     (w : AreWritten ids target moment es fs left) → highest_seqno es + g < 2 ^ 64
     → AllByRecursion (λ (xs : List Entry). highest_seqno xs + g < 2 ^ 64) w.lists
-all_fit ids target moment es fs left g w small = all_small g w.lists (subst (λ (xs : List Entry). highest_seqno xs + g < 2 ^ 64) (sym w.cut.whole) small)
+all_fit ids target moment es fs left g w small =
+    all_small g w.lists (subst (λ (xs : List Entry). highest_seqno xs + g < 2 ^ 64)
+    (sym w.cut.whole) small)
 
 -- what putting the opened tables in a run answers
 abbrev pub IsPut : List OpenTable → Option (List OpenTable) → Type 0
@@ -495,13 +598,15 @@ module _ {A : Type 0} (ids : Option ℕ) (target moment : ℕ) (es : List Entry)
     lists = lifted_lists w.lists g;
     whole = lift_joined w.lists g ∙ ap (λ (xs : List Entry). lift xs g) w.cut.whole;
     hold = hold_lists the_label w.lists g ts h;
-    order = ap are_in_order (ranges_are the_label w.lists g ts h) ∙ lists_in_order w.lists (all_kept the_label w.lists g ts h) w.order;
+    order = ap are_in_order (ranges_are the_label w.lists g ts h)
+        ∙ lists_in_order w.lists (all_kept the_label w.lists g ts h) w.order;
     some = some;
   }
 
   none_of : ts ≡ [] → es ≡ []
   none_of none =
-      let no : w.lists ≡ [] = nil_from_length w.lists (many_opened the_label w.lists g ts h ∙ ap length none) in
+      let no : w.lists ≡ [] = nil_from_length w.lists
+      (many_opened the_label w.lists g ts h ∙ ap length none) in
       sym w.cut.whole ∙ ap joined no
 
   cut_of : AreCutOf the_label target es g ts
@@ -519,5 +624,7 @@ module _ {A : Type 0} (ids : Option ℕ) (target moment : ℕ) (es : List Entry)
 
   pub ids_put : (r : Option (List OpenTable)) → IsPut ts r
       → left ≡ ids_behind ids target (option_map_or length r 0)
-  ids_put None none = w.left_is ∙ ap (ids_behind ids target) (many_opened the_label w.lists g ts h ∙ ap length none)
-  ids_put (Some run) p = w.left_is ∙ ap (ids_behind ids target) (many_opened the_label w.lists g ts h ∙ ap length (sym p.0))
+  ids_put None none = w.left_is ∙ ap (ids_behind ids target)
+      (many_opened the_label w.lists g ts h ∙ ap length none)
+  ids_put (Some run) p = w.left_is ∙ ap (ids_behind ids target)
+      (many_opened the_label w.lists g ts h ∙ ap length (sym p.0))

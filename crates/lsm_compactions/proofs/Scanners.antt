@@ -65,9 +65,11 @@ pub scan_wants : {X : Type 0} (ts : List OpenTable) (ls : List (List Entry)) →
     → IfErr r (λ e. e ≡ OutOfMemory)
 scan_wants ts ls h some (Ok x) told = tt
 scan_wants {X} ts ls h some (Err e) told =
-    let left : tables_scan ts ≡ ok_results (joined ls) = ap (λ (rs : List R). up_to_error rs) (held_scans ts ls h some.1) ∙ all_values (joined ls) in
+    let left : tables_scan ts ≡ ok_results (joined ls) =
+    ap (λ (rs : List R). up_to_error rs) (held_scans ts ls h some.1) ∙ all_values (joined ls) in
     let refusal : Result X Error = Err e in
-    memory_alone refusal None refl (λ fine. absurd (fault_first (joined ls) e (ap first (sym left) ∙ told fine)))
+    memory_alone refusal None refl (λ fine. absurd
+    (fault_first (joined ls) e (ap first (sym left) ∙ told fine)))
 
 -- a scan may always be asked
 pub scan_asked : (s : RunScan) → CanDeal RunScansNext nowhere (λ _. Unit {0}) (λ _. Unit {0}) s
@@ -108,8 +110,17 @@ module _ {X : Type 0} (f : X → List OpenTable) (xs : List X) (able : AreCompac
     pub scanned_all : (sources : List S) → ScannedSoFar sources i → length xs ≤ i
         → DealTogether front back sources (map joined able.lists)
     scanned_all sources d past =
-        let many : length (map joined able.lists) ≤ i = omega (arith, length-map able.lists joined, AllZip-long Held (map f xs) able.lists able.hold, length-map xs f, past) in
-        subst (λ (found : List (List Entry)). DealTogether front back sources found) (take_all i (map joined able.lists) many) d
+        let many : length (map joined able.lists) ≤ i =
+        omega (
+          arith,
+          length-map able.lists joined,
+          AllZip-long Held
+              (map f xs) able.lists able.hold,
+          length-map xs f,
+          past,
+        ) in
+        subst (λ (found : List (List Entry)). DealTogether front back sources found)
+        (take_all i (map joined able.lists) many) d
 
     pub scanned_more : (x : X) (less : i < length xs) (is : x ≡ get_or xs i x) (sources : List S)
         (d : ScannedSoFar sources i) (s : S)
@@ -117,11 +128,15 @@ module _ {X : Type 0} (f : X → List OpenTable) (xs : List X) (able : AreCompac
         → DealsList front back (joined ls) s) → ScannedSoFar (sources ++ s ∷ []) (i + 1)
     scanned_more x less is sources d s deals =
         let o = own x less is in
-        let one : take (i + 1) (map joined able.lists) ≡ take i (map joined able.lists) ++ joined o.0 ∷ [] =
+        let one : take (i + 1) (map joined able.lists) ≡ take i (map joined able.lists)
+        ++ joined o.0 ∷ [] =
         take_next (map joined able.lists) i (joined o.0) (mapped_at joined able.lists i o.0 o.1) in
-        let up : Ascends (joined o.0) = ascends_of (joined o.0) (run_strict (f x) o.0 o.2.1 o.2.0) in
-        subst (λ (found : List (List Entry)). DealTogether front back (sources ++ s ∷ []) found) (sym one)
-        (one_more front back sources (take i (map joined able.lists)) s (joined o.0) d up (deals o.0 o.2.1 (own_some x less is)))
+        let up : Ascends (joined o.0) = ascends_of (joined o.0)
+        (run_strict (f x) o.0 o.2.1 o.2.0) in
+        subst (λ (found : List (List Entry)). DealTogether front back (sources ++ s ∷ []) found)
+        (sym one)
+        (one_more front back sources (take i (map joined able.lists)) s (joined o.0) d up
+        (deals o.0 o.2.1 (own_some x less is)))
 
 -- ---- all of them, merged
 
@@ -130,7 +145,8 @@ module _ {S T : Type 0} (front back : S → Option R → S → Type 0)
   all_lists : (lists : List (List (List Entry)))
       → all_entries (map (λ (run : List (List Entry)). ok_results (joined run)) lists) ≡ joined
       (map joined lists)
-  all_lists lists = ap all_entries (sym (map-map (λ (es : List Entry). ok_results es) joined lists)) ∙ entries_joined (map joined lists)
+  all_lists lists = ap all_entries (sym (map-map (λ (es : List Entry). ok_results es) joined lists))
+      ∙ entries_joined (map joined lists)
 
   pub merged_together : (lists : List (List (List Entry))) (sources : List S) (t : T)
       → DealTogether front back sources (map joined lists)
@@ -142,8 +158,10 @@ module _ {S T : Type 0} (front back : S → Option R → S → Type 0)
         deal = each_deals front back stops memory sources d.dealt d.deal;
         ascend = each_ascends front back d.dealt d.ascend;
       } in
-      let same : union_of results ≡ union_in lists = ap sort_entries (entries_joined d.dealt ∙ d.same ∙ sym (all_lists lists)) in
-      subst (λ (es : List Entry). Deals (answer_stops stops) next next_back t (ok_results es)) same (law.deals stops results sorted (no_errors_joined d.dealt))
+      let same : union_of results ≡ union_in lists =
+      ap sort_entries (entries_joined d.dealt ∙ d.same ∙ sym (all_lists lists)) in
+      subst (λ (es : List Entry). Deals (answer_stops stops) next next_back t (ok_results es)) same
+      (law.deals stops results sorted (no_errors_joined d.dealt))
 
 -- ---- and compacted
 
@@ -151,7 +169,8 @@ module _ {S F C : Type 0} (front : S → Option R → S → Type 0) where
   -- a stream over the source of another may be called as that one may
   pub may_still : (can : S → Type 0) (left : S → Count) (s u : CompactionStream S F C R)
       → source_of s ≡ source_of u → MayCompact front can left u → MayCompact front can left s
-  may_still can left s u same may = subst (λ (a : Ahead S R). Goes front nowhere can can left a.source) (sym same) may
+  may_still can left s u same may = subst (λ (a : Ahead S R). Goes front nowhere can can left
+      a.source) (sym same) may
 
   -- and deals, by its own rules
   pub compacted_deals : (next : CompactionStream S F C R → Option R → CompactionStream S F C R
@@ -160,5 +179,7 @@ module _ {S F C : Type 0} (front : S → Option R → S → Type 0) where
       → ((stops : Error → Bool) → stops OutOfMemory ≡ true → Compacts stops front u (ok_results xs))
       → DealsKept front next s → DealsList next nowhere (kept rules (unfiltered xs)) s
   compacted_deals next s u rules xs same is holds law stops memory =
-      subst (λ (r : Rules). Deals (answer_stops stops) next nowhere s (ok_results (kept r (unfiltered xs)))) is
-      (law stops xs (subst (λ (a : Ahead S R). HoldsAhead stops front a (ok_results xs)) (sym same) (holds stops memory)))
+      subst (λ (r : Rules). Deals (answer_stops stops) next nowhere s
+      (ok_results (kept r (unfiltered xs)))) is
+      (law stops xs (subst (λ (a : Ahead S R). HoldsAhead stops front a (ok_results xs)) (sym same)
+      (holds stops memory)))

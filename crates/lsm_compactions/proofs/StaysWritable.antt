@@ -27,12 +27,15 @@ AreLow es = AllByRecursion (λ (e : Entry). e.seqno < 2 ^ 64 - 1) es
 no_last : (es : List Entry) → AreLow es → count_by is_last es ≡ 0
 unfolding is_last
 no_last [] low = refl
-no_last (e ∷ es) low = count_no is_last e es (ap not (lt-ltb e.seqno (2 ^ 64 - 1) low.0)) ∙ no_last es low.1
+no_last (e ∷ es) low = count_no is_last e es (ap not (lt-ltb e.seqno (2 ^ 64 - 1) low.0))
+    ∙ no_last es low.1
 
 all_low : (es : List Entry) → count_by is_last es ≡ 0 → AreLow es
 unfolding is_last
 all_low es none =
-    all_more (λ e. is_last e ≡ false) (λ e. e.seqno < 2 ^ 64 - 1) (λ e h. ltb-true e.seqno (2 ^ 64 - 1) (not_not (nat_lt e.seqno (2 ^ 64 - 1)) h)) es (none_counted is_last es none)
+    all_more (λ e. is_last e ≡ false) (λ e. e.seqno < 2 ^ 64 - 1)
+    (λ e h. ltb-true e.seqno (2 ^ 64 - 1) (not_not (nat_lt e.seqno (2 ^ 64 - 1)) h)) es
+    (none_counted is_last es none)
 
 -- ---- a part is compacted
 
@@ -42,7 +45,8 @@ pub writable_after : (rules : Rules) (part rest before after : List (List (List 
 writable_after rules part rest before after h w =
     let had = no_last (union_in before) w.numbered in
     let each = count_had rules part rest before after h is_last in
-    let kept = no_last (kept_in rules part) (kept_numbered rules (union_in part) (all_low (union_in part) (omega (arith, had, each)))) in
+    let kept = no_last (kept_in rules part) (kept_numbered rules (union_in part)
+    (all_low (union_in part) (omega (arith, had, each)))) in
     let has = count_has rules part rest before after h is_last in
     record {
       strict = strict_after rules part rest before after h;

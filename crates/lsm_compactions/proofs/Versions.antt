@@ -27,7 +27,8 @@ abbrev pub at : List ℕ → ℕ → Entry → Bool
 at key number e = same_key e.user_key key && (e.seqno == number)
 
 at_itself : (e : Entry) → at e.user_key e.seqno e ≡ true
-at_itself e = and_both (same_key e.user_key e.user_key) (e.seqno == e.seqno) (same_itself e.user_key) (eq-eqb e.seqno e.seqno refl)
+at_itself e = and_both (same_key e.user_key e.user_key) (e.seqno == e.seqno)
+    (same_itself e.user_key) (eq-eqb e.seqno e.seqno refl)
 
 at_is : (key : List ℕ) (number : ℕ) (e : Entry) → at key number e ≡ true → (e.user_key ≡ key)
     × (e.seqno ≡ number)
@@ -37,7 +38,8 @@ at_is key number e h =
 
 at_of : (key : List ℕ) (number : ℕ) (e : Entry) → e.user_key ≡ key → e.seqno ≡ number
     → at key number e ≡ true
-at_of key number e k n = subst (λ (j : List ℕ). at j number e ≡ true) k (subst (λ (m : ℕ). at e.user_key m e ≡ true) n (at_itself e))
+at_of key number e k n = subst (λ (j : List ℕ). at j number e ≡ true) k
+    (subst (λ (m : ℕ). at e.user_key m e ≡ true) n (at_itself e))
 
 -- at most one entry of each version
 abbrev pub Once : List Entry → Type 0
@@ -47,7 +49,12 @@ once_rest : (x : Entry) (xs : List Entry) → Once (x ∷ xs) → Once xs
 once_rest x xs once key number = omega (arith, once key number, count_cons (at key number) x xs)
 
 once_first : (x : Entry) (xs : List Entry) → Once (x ∷ xs) → count_by (at x.user_key x.seqno) xs ≡ 0
-once_first x xs once = omega (arith, once x.user_key x.seqno, count_yes (at x.user_key x.seqno) x xs (at_itself x))
+once_first x xs once = omega (
+  arith,
+  once x.user_key x.seqno,
+  count_yes (at x.user_key x.seqno) x xs
+      (at_itself x),
+)
 
 -- none of them, one by one
 none_at : (key : List ℕ) (number : ℕ) (es : List Entry) → count_by (at key number) es ≡ 0
@@ -72,18 +79,28 @@ not_again x y key number here h = is_false (at key number y) (λ there.
     let b = at_is key number y there in
     elim h [
       | inl lower ↦ no_less x.user_key y.user_key lower (a.0 ∙ sym b.0)
-      | inr newer ↦ let less = newer.1 in let m = a.1 in let n = b.1 in absurd (omega (arith, less, m, n))
+      | inr newer ↦ let less = newer.1 in let m = a.1 in let n = b.1 in
+          absurd (omega (arith, less, m, n))
     ])
 
 none_again : (x : Entry) (key : List ℕ) (number : ℕ) → at key number x ≡ true → (es : List Entry)
     → AllByRecursion (Precedes x) es → AllByRecursion (λ (e : Entry). at key number e ≡ false) es
 none_again x key number here [] h = tt
-none_again x key number here (e ∷ es) h = (not_again x e key number here h.0, none_again x key number here es h.1)
+none_again x key number here (e ∷ es) h = (
+  not_again x e key number here h.0,
+  none_again x key
+      number here es h.1,
+)
 
 pub strict_once : (es : List Entry) → Strict es → Once es
 strict_once [] h key number = omega arith
 strict_once (x ∷ xs) h key number = elim (cases_Bool (at key number x)) [
-  | inl here ↦ omega (arith, count_yes (at key number) x xs here, count_none key number xs (none_again x key number here xs h.0))
+  | inl here ↦ omega (
+    arith,
+    count_yes (at key number) x xs here,
+    count_none key number xs
+        (none_again x key number here xs h.0),
+  )
   | inr other ↦ omega (arith, count_no (at key number) x xs other, strict_once xs h.1 key number)
 ]
 
@@ -96,7 +113,8 @@ precedes_or x y h other =
     by_number : (o : Ordering) → x.user_key ≡ y.user_key → MatchOrdering o (y.seqno < x.seqno)
         (y.seqno ≡ x.seqno) (x.seqno < y.seqno) → is_gt o ≡ false → Precedes x y
     by_number Less same m fine = inr (same, m)
-    by_number Equal same m fine = absurd (apart (at x.user_key x.seqno y) (at_of x.user_key x.seqno y (sym same) m) other)
+    by_number Equal same m fine = absurd (apart (at x.user_key x.seqno y)
+        (at_of x.user_key x.seqno y (sym same) m) other)
     by_number Greater same m fine = absurd cc
 
     by_key : (o : Ordering) → slice_cmp nat_cmp x.user_key y.user_key ≡ o
@@ -105,7 +123,8 @@ precedes_or x y h other =
         → Precedes x y
     by_key Less e fine = inl (ap is_lt e)
     by_key Equal e fine =
-        by_number (nat_cmp y.seqno x.seqno) (tie_same x.user_key y.user_key e) (ranked y.seqno x.seqno (nat_cmp y.seqno x.seqno) refl)
+        by_number (nat_cmp y.seqno x.seqno) (tie_same x.user_key y.user_key e)
+        (ranked y.seqno x.seqno (nat_cmp y.seqno x.seqno) refl)
         (gt_first (nat_cmp y.seqno x.seqno) (nat_cmp (tag_of x.kind) (tag_of y.kind)) fine)
     by_key Greater e fine = absurd cc
 
@@ -125,25 +144,45 @@ once_strict (x ∷ xs) up once = (
 -- ---- two lists
 
 abbrev pub OnceIn : List Entry → List Entry → Type 0
-OnceIn xs ys = (key : List ℕ) (number : ℕ) → count_by (at key number) xs + count_by (at key number) ys ≤ 1
+OnceIn xs ys = (key : List ℕ) (number : ℕ) → count_by (at key number) xs
+    + count_by (at key number) ys ≤ 1
 
 others_of : (key : List ℕ) (number : ℕ) (ys : List Entry)
     → AllByRecursion (λ (e : Entry). at key number e ≡ false) ys
     → AllByRecursion (λ (y : Entry). key ≡ y.user_key → number ≢ y.seqno) ys
 others_of key number [] h = tt
-others_of key number (y ∷ ys) h = (λ k n. apart (at key number y) (at_of key number y (sym k) (sym n)) h.0, others_of key number ys h.1)
+others_of key number (y ∷ ys) h = (
+  λ k n. apart (at key number y)
+      (at_of key number y (sym k) (sym n)) h.0,
+  others_of key number ys h.1,
+)
 
 of_others : (key : List ℕ) (number : ℕ) (ys : List Entry)
     → AllByRecursion (λ (y : Entry). key ≡ y.user_key → number ≢ y.seqno) ys
     → AllByRecursion (λ (e : Entry). at key number e ≡ false) ys
 of_others key number [] h = tt
-of_others key number (y ∷ ys) h = (is_false (at key number y) (λ yes. let i = at_is key number y yes in h.0 (sym i.0) (sym i.1)), of_others key number ys h.1)
+of_others key number (y ∷ ys) h = (
+  is_false (at key number y)
+      (λ yes. let i = at_is key number y yes in h.0 (sym i.0) (sym i.1)),
+  of_others key number ys h.1,
+)
 
 pub once_distinct : (xs ys : List Entry) → OnceIn xs ys → Distinct xs ys
 once_distinct [] ys once = tt
 once_distinct (x ∷ xs) ys once = (
-  others_of x.user_key x.seqno ys (none_at x.user_key x.seqno ys (omega (arith, once x.user_key x.seqno, count_yes (at x.user_key x.seqno) x xs (at_itself x)))),
-  once_distinct xs ys (λ key number. omega (arith, once key number, count_cons (at key number) x xs)),
+  others_of x.user_key x.seqno ys (none_at x.user_key x.seqno ys
+      (omega (
+        arith,
+        once x.user_key x.seqno,
+        count_yes (at x.user_key x.seqno) x xs
+            (at_itself x),
+      ))),
+  once_distinct xs ys (λ key number. omega (
+    arith,
+    once key number,
+    count_cons
+        (at key number) x xs,
+  )),
 )
 
 pub distinct_once : (xs ys : List Entry) → Strict xs → Strict ys → Distinct xs ys → OnceIn xs ys
@@ -152,10 +191,22 @@ distinct_once (x ∷ xs) ys sx sy h key number = elim (cases_Bool (at key number
   | inl here ↦
       let is = at_is key number x here in
       let none : AllByRecursion (λ (y : Entry). key ≡ y.user_key → number ≢ y.seqno) ys =
-      subst (λ (k : List ℕ). AllByRecursion (λ (y : Entry). k ≡ y.user_key → number ≢ y.seqno) ys) is.0
-      (subst (λ (n : ℕ). AllByRecursion (λ (y : Entry). x.user_key ≡ y.user_key → n ≢ y.seqno) ys) is.1 h.0) in
-      omega (arith, strict_once (x ∷ xs) sx key number, count_none key number ys (of_others key number ys none))
-  | inr other ↦ omega (arith, count_no (at key number) x xs other, distinct_once xs ys sx.1 sy h.1 key number)
+      subst (λ (k : List ℕ). AllByRecursion (λ (y : Entry). k ≡ y.user_key → number ≢ y.seqno) ys)
+      is.0
+      (subst (λ (n : ℕ). AllByRecursion (λ (y : Entry). x.user_key ≡ y.user_key → n ≢ y.seqno) ys)
+      is.1 h.0) in
+      omega (
+        arith,
+        strict_once (x ∷ xs) sx key number,
+        count_none key number ys
+            (of_others key number ys none),
+      )
+  | inr other ↦ omega (
+    arith,
+    count_no (at key number) x xs other,
+    distinct_once xs ys sx.1 sy h.1
+        key number,
+  )
 ]
 
 pub count_join : (p : Entry → Bool) (xs ys : List Entry)

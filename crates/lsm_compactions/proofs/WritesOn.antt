@@ -30,28 +30,38 @@ module _ {S : Type 0} (next : S → Option R → S → Type 0) where
   deals_one : (rest : List Entry) (s t : S) (e : Entry) → DealsRest rest s → next s (Some (Ok e)) t
       → (more : List Entry) × (rest ≡ e ∷ more) × DealsRest more t
   deals_one [] s t e d step =
-      let h = deals_front (answer_stops is_memory) next nowhere s [] (Some (Ok e)) t (d is_memory refl) step refl in
+      let h = deals_front (answer_stops is_memory) next nowhere s [] (Some (Ok e)) t
+      (d is_memory refl) step refl in
       let no : Some (Ok e) ≡ None = h.0 in absurd cc
   deals_one (x ∷ rest) s t e d step =
-      let h = deals_front (answer_stops is_memory) next nowhere s (ok_results (x ∷ rest)) (Some (Ok e)) t (d is_memory refl) step refl in
+      let h = deals_front (answer_stops is_memory) next nowhere s (ok_results (x ∷ rest))
+      (Some (Ok e)) t (d is_memory refl) step refl in
       let same : Some (Ok e) ≡ Some (Ok x) = h.0 in
-      let is : x ≡ e = cc in
-      (rest, ap (λ (y : Entry). y ∷ rest) is, λ stops memory. (deals_front (answer_stops stops) next nowhere s (ok_results (x ∷ rest)) (Some (Ok e)) t (d stops memory) step refl).1)
+      let is : x ≡ e = cc in (
+        rest,
+        ap (λ (y : Entry). y ∷ rest) is,
+        λ stops memory.
+            (deals_front (answer_stops stops) next nowhere s (ok_results (x ∷ rest)) (Some (Ok e)) t
+            (d stops memory) step refl).1,
+      )
 
   deals_none : (rest : List Entry) (s t : S) → DealsRest rest s → next s None t → rest ≡ []
   deals_none [] s t d step = refl
   deals_none (x ∷ rest) s t d step =
-      let h = deals_front (answer_stops is_memory) next nowhere s (ok_results (x ∷ rest)) None t (d is_memory refl) step refl in
+      let h = deals_front (answer_stops is_memory) next nowhere s (ok_results (x ∷ rest)) None t
+      (d is_memory refl) step refl in
       let no : None ≡ Some (Ok x) = h.0 in absurd cc
 
   -- it refuses nothing but for want of memory
   pub deals_fine : (rest : List Entry) (s t : S) (e : Error) → DealsRest rest s
       → next s (Some (Err e)) t → is_memory e ≡ false → ⊥
   deals_fine [] s t e d step fine =
-      let h = deals_front (answer_stops is_memory) next nowhere s [] (Some (Err e)) t (d is_memory refl) step fine in
+      let h = deals_front (answer_stops is_memory) next nowhere s [] (Some (Err e)) t
+      (d is_memory refl) step fine in
       let no : Some (Err e) ≡ None = h.0 in absurd cc
   deals_fine (x ∷ rest) s t e d step fine =
-      let h = deals_front (answer_stops is_memory) next nowhere s (ok_results (x ∷ rest)) (Some (Err e)) t (d is_memory refl) step fine in
+      let h = deals_front (answer_stops is_memory) next nowhere s (ok_results (x ∷ rest))
+      (Some (Err e)) t (d is_memory refl) step fine in
       let no : Some (Err e) ≡ Some (Ok x) = h.0 in absurd cc
 
   -- ---- a list that is written, entry by entry
@@ -66,7 +76,13 @@ module _ {S : Type 0} (next : S → Option R → S → Type 0) where
 
   pub nothing_written_yet : (w : TablesWriting) (es : List Entry) (s : S) → all_written w ≡ []
       → DealsRest es s → WritesOn w es w s
-  nothing_written_yet w es s none d = record { rest = es; whole = ap (λ (xs : List Entry). xs ++ es) (sym none); deals = d; fault = refl }
+  nothing_written_yet w es s none d = record {
+    rest = es;
+    whole =
+        ap (λ (xs : List Entry). xs ++ es) (sym none);
+    deals = d;
+    fault = refl;
+  }
 
   module _ (w : TablesWriting) (es : List Entry) (m : TablesWriting) (s t : S) (e : Entry)
       (h : WritesOn w es m s) (step : next s (Some (Ok e)) t) where
@@ -77,7 +93,8 @@ module _ {S : Type 0} (next : S → Option R → S → Type 0) where
     whole_one = h.whole ∙ ap (λ (xs : List Entry). all_written m ++ xs) one.1
 
     pub may_follow_on : IsWritable es → IsTrue (may_be_written (all_written m) e.user_key e.seqno)
-    may_follow_on writable = listed_follows (all_written m) e one.0 (subst IsWritable whole_one writable)
+    may_follow_on writable = listed_follows (all_written m) e one.0
+        (subst IsWritable whole_one writable)
 
     fault_one : writes_fault w es ≡ option_or (took_fault m e) (writes_fault (took m e) one.0)
     fault_one = h.fault ∙ ap (writes_fault m) one.1
@@ -86,9 +103,11 @@ module _ {S : Type 0} (next : S → Option R → S → Type 0) where
         → all_written n ≡ all_written m ++ e ∷ [] → WritesOn w es n t
     writes_more n is fine listed = record {
       rest = one.0;
-      whole = whole_one ∙ sym (ap (λ (xs : List Entry). xs ++ one.0) listed ∙ append_assoc (all_written m) (e ∷ []) one.0);
+      whole = whole_one ∙ sym (ap (λ (xs : List Entry). xs ++ one.0) listed
+          ∙ append_assoc (all_written m) (e ∷ []) one.0);
       deals = one.2;
-      fault = fault_one ∙ none_refused (took_fault m e) (writes_fault (took m e) one.0) fine ∙ ap (λ (x : TablesWriting). writes_fault x one.0) (sym is);
+      fault = fault_one ∙ none_refused (took_fault m e) (writes_fault (took m e) one.0) fine
+          ∙ ap (λ (x : TablesWriting). writes_fault x one.0) (sym is);
     }
 
     pub refused_one : (f : Error) → took_fault m e ≡ Some f → writes_fault w es ≡ Some f
@@ -100,7 +119,8 @@ module _ {S : Type 0} (next : S → Option R → S → Type 0) where
     none_left = deals_none h.rest s t h.deals step
 
     pub all_taken : all_written m ≡ es
-    all_taken = sym (h.whole ∙ ap (λ (xs : List Entry). all_written m ++ xs) none_left ∙ append-nil (all_written m))
+    all_taken = sym (h.whole ∙ ap (λ (xs : List Entry). all_written m ++ xs) none_left
+        ∙ append-nil (all_written m))
 
     pub fault_left : writes_fault w es ≡ run_fault m
     fault_left = h.fault ∙ ap (writes_fault m) none_left

@@ -14,7 +14,8 @@ length-mark V3 = refl
 length-mark V4 = refl
 
 -- a block is its header and its payload
-pub length-block : (v : TableVersion) (kind : BlockType) (bytes : List ℕ) → length (block_bytes v kind bytes) ≡ 24 + length bytes
+pub length-block : (v : TableVersion) (kind : BlockType) (bytes : List ℕ)
+    → length (block_bytes v kind bytes) ≡ 24 + length bytes
 length-block v kind bytes =
     let n = length bytes in
     let fixed = kind_tag kind ∷ 0 ∷ 0 ∷ 0 ∷ [] in

@@ -1,5 +1,6 @@
 -- What is counted of a list, and of its chunks.
-use Rattle.std.proofs.Common.{◌≡◌, ℕ, ◌+◌, ◌≤◌, Bool, true, false, List, [], ◌∷◌, length, refl, arith}
+use Rattle.std.proofs.Common.{◌≡◌, ℕ, ◌+◌, ◌≤◌, Bool, true, false, List, [], ◌∷◌, length, refl}
+use Rattle.std.proofs.Common.{arith}
 use Rattle.std.specs.Prelude.{Option, Some}
 use Rattle.sst_sections.specs.declared.version.TableVersion.{TableVersion}
 use Rattle.sst_entries.specs.Entry.{Entry}
@@ -14,7 +15,12 @@ pub after_within : (test : Option Entry → Entry → Bool) (before : Option Ent
     → count_after test before es ≤ length es
 unfolding count_after
 after_within test before [] = omega arith
-after_within test before (e ∷ es) = omega (arith, one_small (test before e), after_within test (Some e) es)
+after_within test before (e ∷ es) = omega (
+  arith,
+  one_small (test before e),
+  after_within test
+      (Some e) es,
+)
 
 -- each chunk has a handle
 pub length-handles : (v : TableVersion) (at : ℕ) (cs : List (List Entry))

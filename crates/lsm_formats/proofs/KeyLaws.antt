@@ -34,7 +34,8 @@ lt_first Greater p h apart = absurd cc
 -- an entry behind one with another key has a greater key
 pub key_above : (a b : Entry) → is_before a b ≡ true → same_key a.user_key b.user_key ≡ false
     → key_lt a.user_key b.user_key ≡ true
-key_above a b h other = lt_first (slice_cmp nat_cmp a.user_key b.user_key) _ h (sym (texts_ties a.user_key b.user_key) ∙ other)
+key_above a b h other = lt_first (slice_cmp nat_cmp a.user_key b.user_key) _ h
+    (sym (texts_ties a.user_key b.user_key) ∙ other)
 
 keys_line : (x : Entry) (es : List Entry) → IsStrictAfter (Some x) es
     → IsStrictAfter (Some (key_end x.user_key)) (map key_end (keys_after (Some x) es))
@@ -42,9 +43,17 @@ unfolding IsStrictAfter keys_after
 keys_line x [] h = tt
 keys_line x (e ∷ es) h =
     let more = keys_line e es h.1 in
-    elim (starts_key (Some x) e) as (λ (b : Bool). starts_key (Some x) e ≡ b → IsStrictAfter (Some (key_end x.user_key)) (map key_end (cond b (e.user_key ∷ keys_after (Some e) es) (keys_after (Some e) es)))) [
-      | true ↦ λ s. (sym (before_is x.user_key e.user_key) ∙ key_above x e h.0 (not-true (same_key x.user_key e.user_key) s), more)
-      | false ↦ λ s. subst (λ (k : List ℕ). IsStrictAfter (Some (key_end k)) (map key_end (keys_after (Some e) es))) (sym (same_is x.user_key e.user_key (not-false (same_key x.user_key e.user_key) s))) more
+    elim (starts_key (Some x) e) as (λ (b : Bool). starts_key (Some x) e ≡ b
+    → IsStrictAfter (Some (key_end x.user_key))
+    (map key_end (cond b (e.user_key ∷ keys_after (Some e) es) (keys_after (Some e) es)))) [
+      | true ↦ λ s. (
+        sym (before_is x.user_key e.user_key)
+            ∙ key_above x e h.0 (not-true (same_key x.user_key e.user_key) s),
+        more,
+      )
+      | false ↦ λ s. subst (λ (k : List ℕ). IsStrictAfter (Some (key_end k))
+          (map key_end (keys_after (Some e) es))) (sym
+          (same_is x.user_key e.user_key (not-false (same_key x.user_key e.user_key) s))) more
     ] refl
 
 pub keys_strict : (es : List Entry) → IsStrict es → IsStrict (map key_end (keys_of es))

@@ -1,5 +1,6 @@
 -- The items of a meta block: they are strict, and all but the two keys are short.
-use Rattle.std.proofs.Common.{◌≡◌, refl, ℕ, ◌+◌, ◌*◌, ◌≤◌, Bool, true, List, [], ◌∷◌, ◌++◌, length, arith}
+use Rattle.std.proofs.Common.{◌≡◌, refl, ℕ, ◌+◌, ◌*◌, ◌≤◌, Bool, true, List, [], ◌∷◌, ◌++◌, length}
+use Rattle.std.proofs.Common.{arith}
 use Rattle.std.specs.Prelude.{None, nat_le, ◌&&◌, ◌==◌, sum_by}
 use Rattle.std.specs.List.{AllByRecursion, list_all}
 use Rattle.std.proofs.lemmas.Bool.{eqb-true, leb-true}
@@ -12,7 +13,8 @@ use Rattle.sst_entries.proofs.Booleans.{and_parts}
 use Rattle.sst_entries.proofs.Lists.{all_append}
 use Rattle.sst_entries.proofs.Strictness.{strict_from_test}
 use Rattle.lsm_formats.specs.Facts.{ListFacts}
-use Rattle.lsm_formats.specs.MetaBlock.{Blocks, block_items, count_items, level_items, meta_entry, meta_items, name_of, option_items}
+use Rattle.lsm_formats.specs.MetaBlock.{Blocks, block_items, count_items, level_items, meta_entry}
+use Rattle.lsm_formats.specs.MetaBlock.{meta_items, name_of, option_items}
 use Rattle.lsm_formats.specs.declared.item_name.ItemName.TheVariants as item
 use Rattle.lsm_formats.specs.declared.label.Label.{Label}
 use Rattle.lsm_formats.specs.declared.options.Options.{Options}
@@ -42,16 +44,24 @@ shorts (e ∷ es) h =
     (short_from_test e both.0, shorts es both.1)
 
 -- what holds of all short items holds of each of some
-each : (P : Entry → Type 0) (es : List Entry) → AreShort es → ((e : Entry) → IsShort e → P e) → AllByRecursion P es
+each : (P : Entry → Type 0) (es : List Entry) → AreShort es → ((e : Entry) → IsShort e → P e)
+    → AllByRecursion P es
 each P [] h holds = tt
 each P (e ∷ es) h holds = (holds e h.0, each P es h.1 holds)
 
 -- and a bound of all bounds their sum
-bounded : (size : Entry → ℕ) (most : ℕ) (es : List Entry) → AreShort es → ((e : Entry) → IsShort e → size e ≤ most) → sum_by size es ≤ most * length es
+bounded : (size : Entry → ℕ) (most : ℕ) (es : List Entry) → AreShort es
+    → ((e : Entry) → IsShort e → size e ≤ most) → sum_by size es ≤ most * length es
 bounded size most [] h small = omega arith
-bounded size most (e ∷ es) h small = omega (arith, bounded size most es h.1 small, small e h.0, sum_by-cons size e es)
+bounded size most (e ∷ es) h small = omega (
+  arith,
+  bounded size most es h.1 small,
+  small e h.0,
+  sum_by-cons size e es,
+)
 
-module _ (v : TableVersion) (label : Label) (options : Options) (counted : Blocks) (f : ListFacts) (blocks size user : ℕ) where
+module _ (v : TableVersion) (label : Label) (options : Options) (counted : Blocks) (f : ListFacts)
+    (blocks size user : ℕ) where
   abbrev es : List Entry
   es = meta_items v label options counted f blocks size user
 
@@ -95,13 +105,15 @@ module _ (v : TableVersion) (label : Label) (options : Options) (counted : Block
   low = meta_entry item.KeyMin f.min_key
 
   -- what holds of short items and of those of the keys holds of all
-  pub items_each : (P : Entry → Type 0) → ((e : Entry) → IsShort e → P e) → P top → P low → AllByRecursion P es
+  pub items_each : (P : Entry → Type 0) → ((e : Entry) → IsShort e → P e) → P top → P low
+      → AllByRecursion P es
   items_each P holds at_top at_low =
       all_append P first_items (top ∷ (low ∷ last_items)) (each P first_items first_short holds)
       (at_top, (at_low, each P last_items last_short holds))
 
   -- and what bounds short items bounds the sum of all, but for the keys
-  pub items_sum : (cost : Entry → ℕ) (most : ℕ) → ((e : Entry) → IsShort e → cost e ≤ most) → sum_by cost es ≤ most * 99 + cost top + cost low
+  pub items_sum : (cost : Entry → ℕ) (most : ℕ) → ((e : Entry) → IsShort e → cost e ≤ most)
+      → sum_by cost es ≤ most * 99 + cost top + cost low
   items_sum cost most small =
       omega (
         arith,

@@ -1,5 +1,6 @@
 -- Choices by a test; and ends of lists, by what they leave.
-use Rattle.std.proofs.Common.{◌≡◌, Bool, true, false, suc, List, [], ◌∷◌, ◌++◌, length, refl, ap, ◌∙◌, arith}
+use Rattle.std.proofs.Common.{◌≡◌, Bool, true, false, suc, List, [], ◌∷◌, ◌++◌, length, refl, ap}
+use Rattle.std.proofs.Common.{◌∙◌, arith}
 use Rattle.std.proofs.lemmas.List.{length-append}
 use Rattle.std.specs.Prelude.{Option, Some}
 use Rattle.sst_entries.specs.Stream.{front_of, back_of}
@@ -20,11 +21,13 @@ module _ {X : Type 0} where
 
   pub front_split : (xs ys : List X) (x : X) → Takes front_of xs x ys → xs ≡ x ∷ ys
   front_split xs ys x e =
-      first_split xs x (ap (λ (p : Option X × List X). p.0) e) ∙ ap (λ (zs : List X). x ∷ zs) (ap (λ (p : Option X × List X). p.1) e)
+      first_split xs x (ap (λ (p : Option X × List X). p.0) e)
+      ∙ ap (λ (zs : List X). x ∷ zs) (ap (λ (p : Option X × List X). p.1) e)
 
   pub back_split : (xs ys : List X) (x : X) → Takes back_of xs x ys → xs ≡ ys ++ x ∷ []
   back_split xs ys x e =
-      last_split xs x (ap (λ (p : Option X × List X). p.0) e) ∙ ap (λ (zs : List X). zs ++ x ∷ []) (ap (λ (p : Option X × List X). p.1) e)
+      last_split xs x (ap (λ (p : Option X × List X). p.0) e)
+      ∙ ap (λ (zs : List X). zs ++ x ∷ []) (ap (λ (p : Option X × List X). p.1) e)
 
   -- the others are fewer
   abbrev pub Shortens : (List X → Option X × List X) → Type 0
@@ -34,4 +37,9 @@ module _ {X : Type 0} where
   front_shortens xs ys x e = ap length (front_split xs ys x e)
 
   pub back_shortens : Shortens back_of
-  back_shortens xs ys x e = omega (arith, ap length (back_split xs ys x e), length-append ys (x ∷ []))
+  back_shortens xs ys x e = omega (
+    arith,
+    ap length (back_split xs ys x e),
+    length-append ys
+        (x ∷ []),
+  )

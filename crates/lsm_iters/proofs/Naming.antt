@@ -27,55 +27,103 @@ named_in b (Some x) = Some (block_named b x)
 abbrev coming_in : Bounded → Left → Coming Entry
 coming_in b l = record { parts = map (block_named b) l.results; loads = l.loads }
 
-names_by : (at : Direction) (b : Bounded) (s t : Left) (x : Option H) → LeftGives (taken_at at) s x t → Names at (coming_in b s) (named_in b x) (coming_in b t)
-names_by at b s t None step =
-    (ap (map (block_named b)) step.answer.0, record { parts = ap (map (block_named b)) step.answer.1.results; loads = step.answer.1.loads })
-names_by at b s t (Some (Ok h)) step = map_taken (block_named b) at s.results t.results (Ok h) step.answer
+names_by : (at : Direction) (b : Bounded) (s t : Left) (x : Option H)
+    → LeftGives (taken_at at) s x t → Names at (coming_in b s) (named_in b x) (coming_in b t)
+names_by at b s t None step = (
+  ap (map (block_named b)) step.answer.0,
+  record
+      { parts = ap (map (block_named b)) step.answer.1.results; loads = step.answer.1.loads },
+)
+names_by at b s t (Some (Ok h)) step = map_taken (block_named b) at s.results t.results
+    (Ok h) step.answer
 names_by at b s t (Some (Err e)) step = (
   λ fine. map_first (block_named b) at s.results (Err e) (step.answer.0 fine),
-  λ done. step.answer.1 (record { results = map_none (block_named b) s.results done.parts; loads = done.loads }),
+  λ done. step.answer.1 (record {
+    results = map_none (block_named b) s.results done.parts;
+    loads =
+        done.loads;
+  }),
   record { parts = ap (map (block_named b)) step.ends.results; loads = step.ends.loads },
 )
 
-tells_block : (b : Bounded) (h : Handle) (r : Result (Span Entry) Error) → IfOk r (λ es. ok_results (rest_in es) ≡ stored_rows b h) → IfErr r (λ e. is_memory e ≡ false → Err e ∷ [] ≡ stored_rows b h) → Tells span_remains (Some (block_named b (Ok h))) (Some r)
+tells_block : (b : Bounded) (h : Handle) (r : Result (Span Entry) Error)
+    → IfOk r (λ es. ok_results (rest_in es) ≡ stored_rows b h)
+    → IfErr r (λ e. is_memory e ≡ false → Err e ∷ [] ≡ stored_rows b h)
+    → Tells span_remains (Some (block_named b (Ok h))) (Some r)
 tells_block b h (Ok es) ok err = ok
 tells_block b h (Err e) ok err = err
 
-module _ {A : Type 0} (at : Direction) (s m : Blocks A) (is : m ≡ record s { handles = m.handles }) (sought : m.handles.sought ≡ true) where
+module _ {A : Type 0} (at : Direction) (s m : Blocks A) (is : m ≡ record s { handles = m.handles })
+    (sought : m.handles.sought ≡ true) where
   same_of : m.of ≡ s.of
   same_of = ap (λ (x : Blocks A). x.of) is
 
-  names : (x : Option H) → LeftGives (taken_at at) (left_in s.handles) x (left_in m.handles) → Names at (coming_blocks s) (named_in s.of x) (coming_blocks m)
+  names : (x : Option H) → LeftGives (taken_at at) (left_in s.handles) x (left_in m.handles)
+      → Names at (coming_blocks s) (named_in s.of x) (coming_blocks m)
   names x step =
-      subst (λ (b : Bounded). Names at (coming_blocks s) (named_in s.of x) (coming_in b (left_in m.handles))) (sym same_of) (names_by at s.of (left_in s.handles) (left_in m.handles) x step)
+      subst (λ (b : Bounded). Names at (coming_blocks s) (named_in s.of x)
+      (coming_in b (left_in m.handles))) (sym same_of)
+      (names_by at s.of (left_in s.handles) (left_in m.handles) x step)
 
-  pub block_taken : (t : Blocks A) (h : Handle) (r : Result (Span Entry) Error) → LeftGives (taken_at at) (left_in s.handles) (Some (Ok h)) (left_in m.handles) → IfOk r (λ es. ok_results (rest_in es) ≡ stored_rows m.of h) → IfErr r (λ e. is_memory e ≡ false → Err e ∷ [] ≡ stored_rows m.of h) → FaultsFirst r (place_fault m.of.body h.offset h.size Data) → t ≡ record m { opened = data_loaded 1 m.opened } → LoadGives span_remains coming_blocks KeepsBlocks at s (Some r) t
+  pub block_taken : (t : Blocks A) (h : Handle) (r : Result (Span Entry) Error)
+      → LeftGives (taken_at at) (left_in s.handles) (Some (Ok h)) (left_in m.handles)
+      → IfOk r (λ es. ok_results (rest_in es) ≡ stored_rows m.of h)
+      → IfErr r (λ e. is_memory e ≡ false → Err e ∷ [] ≡ stored_rows m.of h)
+      → FaultsFirst r (place_fault m.of.body h.offset h.size Data)
+      → t ≡ record m { opened = data_loaded 1 m.opened }
+      → LoadGives span_remains coming_blocks KeepsBlocks at s (Some r) t
   block_taken t h r step ok err first last =
-      subst (λ (x : Blocks A). LoadGives span_remains coming_blocks KeepsBlocks at s (Some r) x) (sym last) (record {
+      subst (λ (x : Blocks A). LoadGives span_remains coming_blocks KeepsBlocks at s (Some r) x)
+      (sym last) (record {
         named = named_in s.of (Some (Ok h));
         names = names (Some (Ok h)) step;
-        told = subst (λ (b : Bounded). Tells span_remains (Some (block_named b (Ok h))) (Some r)) same_of (tells_block m.of h r ok err);
+        told = subst (λ (b : Bounded). Tells span_remains (Some (block_named b (Ok h))) (Some r))
+            same_of (tells_block m.of h r ok err);
         loads = omega (arith, none_own r, step.loads.within);
-        first = λ f early. refused_first r f (first f (ap (λ (b : Bounded). place_fault b.body h.offset h.size Data) same_of ∙ early));
-        kept = record { of = same_of; index = step.index; sought = sought; counts = ap (λ (x : Blocks A). data_loaded 1 x.opened) is; loads = step.loads };
+        first = λ f early. refused_first r f (first f
+            (ap (λ (b : Bounded). place_fault b.body h.offset h.size Data) same_of ∙ early));
+        kept = record {
+          of = same_of;
+          index = step.index;
+          sought = sought;
+          counts =
+              ap (λ (x : Blocks A). data_loaded 1 x.opened) is;
+          loads = step.loads;
+        };
       })
 
-  pub index_failed : (e : Error) → LeftGives (taken_at at) (left_in s.handles) (Some (Err e)) (left_in m.handles) → LoadGives span_remains coming_blocks KeepsBlocks at s (Some (Err e)) m
+  pub index_failed : (e : Error) → LeftGives (taken_at at) (left_in s.handles) (Some (Err e))
+      (left_in m.handles) → LoadGives span_remains coming_blocks KeepsBlocks at s (Some (Err e)) m
   index_failed e step = record {
     named = named_in s.of (Some (Err e));
     names = names (Some (Err e)) step;
     told = refl;
     loads = omega (arith, step.loads.within);
     first = λ f early. let wrong : None ≡ Some f = early in absurd cc;
-    kept = record { of = same_of; index = step.index; sought = sought; counts = ap (λ (x : Blocks A). x.opened) is; loads = step.loads };
+    kept = record {
+      of = same_of;
+      index = step.index;
+      sought = sought;
+      counts =
+          ap (λ (x : Blocks A). x.opened) is;
+      loads = step.loads;
+    };
   }
 
-  pub none_named : LeftGives (taken_at at) (left_in s.handles) None (left_in m.handles) → LoadGives span_remains coming_blocks KeepsBlocks at s None m
+  pub none_named : LeftGives (taken_at at) (left_in s.handles) None (left_in m.handles)
+      → LoadGives span_remains coming_blocks KeepsBlocks at s None m
   none_named step = record {
     named = None;
     names = names None step;
     told = refl;
     loads = omega (arith, step.loads.within);
     first = λ f early. let wrong : None ≡ Some f = early in absurd cc;
-    kept = record { of = same_of; index = step.index; sought = sought; counts = ap (λ (x : Blocks A). x.opened) is; loads = step.loads };
+    kept = record {
+      of = same_of;
+      index = step.index;
+      sought = sought;
+      counts =
+          ap (λ (x : Blocks A). x.opened) is;
+      loads = step.loads;
+    };
   }

@@ -1,5 +1,6 @@
 -- A step of the walk over data blocks, as a call of an iterator over a range.
-use Rattle.std.proofs.Common.{◌≡◌, ℕ, suc, ◌+◌, false, true, List, [], ◌∷◌, ◌++◌, length, map, refl, sym, ap, subst, ◌∙◌, arith}
+use Rattle.std.proofs.Common.{◌≡◌, ℕ, suc, ◌+◌, false, true, List, [], ◌∷◌, ◌++◌, length, map, refl}
+use Rattle.std.proofs.Common.{sym, ap, subst, ◌∙◌, arith}
 use Rattle.std.proofs.lemmas.List.{length-map, map-append}
 use Rattle.std.specs.Prelude.{Option, Some, None, Result, Ok, Err}
 use Rattle.std.specs.Option.{option_or}
@@ -17,19 +18,25 @@ use Rattle.sst_blocks.specs.Handle.{Handle}
 use Rattle.lsm_block_indexes.specs.Left.{CountsLoads, early_behind, loaded, none_behind}
 use Rattle.lsm_block_indexes.proofs.TwoLevels.{loaded_more}
 use Rattle.lsm_walks.specs.declared.walk.Walk.{Walk}
-use Rattle.lsm_walks.specs.Ends.{IsOver as IsWalkOver, Remains, StepAnswers, remains_in, seen_from, span_remains, taken_at}
-use Rattle.lsm_walks.specs.Parts.{Loading, Loads, all_results, early_among, loads_in, needed, results_of}
+use Rattle.lsm_walks.specs.Ends.{IsOver as IsWalkOver, Remains, StepAnswers, remains_in, seen_from}
+use Rattle.lsm_walks.specs.Ends.{span_remains, taken_at}
+use Rattle.lsm_walks.specs.Parts.{Loading, Loads, all_results, early_among, loads_in, needed}
+use Rattle.lsm_walks.specs.Parts.{results_of}
 use Rattle.lsm_walks.specs.Walks.{Ended, WalkTakes, early_at, near, needed_at, walk_left}
 use Rattle.lsm_walks.proofs.Instances.{loads_one, no_part_loads, part_behind, part_early}
-use Rattle.lsm_walks.proofs.AtEnds.{early_map, behind_map, map_first, map_none, map_seen, map_taken, none_at}
+use Rattle.lsm_walks.proofs.AtEnds.{early_map, behind_map, map_first, map_none, map_seen, map_taken}
+use Rattle.lsm_walks.proofs.AtEnds.{none_at}
 use Rattle.lsm_walks.proofs.Reaching.{all_over}
-use Rattle.lsm_iters.specs.Blocks.{Blocks, EndsBlocks, KeepsBlocks, block_named, coming_blocks, range_of, stored_in, stored_rows}
+use Rattle.lsm_iters.specs.Blocks.{Blocks, EndsBlocks, KeepsBlocks, block_named, coming_blocks}
+use Rattle.lsm_iters.specs.Blocks.{range_of, stored_in, stored_rows}
 use Rattle.lsm_iters.specs.Bounds.{lower_edge, upper_edge}
 use Rattle.lsm_iters.specs.Lift.{lift_told, lifted_told}
-use Rattle.lsm_iters.specs.Range.{Range, RangeGives, blocks_early, blocks_needed, data_loaded, left_in, next_at}
+use Rattle.lsm_iters.specs.Range.{Range, RangeGives, blocks_early, blocks_needed, data_loaded}
+use Rattle.lsm_iters.specs.Range.{left_in, next_at}
 use Rattle.lsm_iters.specs.Rows.{Bounded, block_rows, handle_rows, rows, rows_in}
 use Rattle.lsm_iters.specs.Steps.{LoadsNone, SeeksOnce, lifted_answer, over, rest_of, stopped}
-use Rattle.lsm_iters.proofs.Ranges.{From, H, IsOver, Moves, R, Reached, back_starts, coming, data_more, front_starts, gives_all, left_rows, refused}
+use Rattle.lsm_iters.proofs.Ranges.{From, H, IsOver, Moves, R, Reached, back_starts, coming}
+use Rattle.lsm_iters.proofs.Ranges.{data_more, front_starts, gives_all, left_rows, refused}
 
 -- ---- results with their numbers lifted
 
@@ -41,28 +48,35 @@ told_ok : (g : ℕ) (es : List Entry) → map (told g) (ok_results es) ≡ lift_
 told_ok g [] = refl
 told_ok g (e ∷ es) = ap (λ (rs : List R). lifted_told g e ∷ rs) (told_ok g es)
 
-told_stored : (b : Bounded) (block : Result Loaded Error) → map (told b.global_seqno) (stored_in b block) ≡ rows_in b block
+told_stored : (b : Bounded) (block : Result Loaded Error)
+    → map (told b.global_seqno) (stored_in b block) ≡ rows_in b block
 told_stored b (Ok block) = told_ok b.global_seqno _
 told_stored b (Err e) = refl
 
-told_named : (b : Bounded) (x : H) → map (told b.global_seqno) (results_of (block_named b x)) ≡ handle_rows b x
+told_named : (b : Bounded) (x : H) → map (told b.global_seqno) (results_of (block_named b x))
+    ≡ handle_rows b x
 told_named b (Ok h) = told_stored b (load_told b.body h.offset h.size Data)
 told_named b (Err e) = refl
 
-told_rows : (b : Bounded) (hs : List H) → map (told b.global_seqno) (all_results (map (block_named b) hs)) ≡ rows b hs
+told_rows : (b : Bounded) (hs : List H) → map (told b.global_seqno)
+    (all_results (map (block_named b) hs)) ≡ rows b hs
 told_rows b [] = refl
 told_rows b (x ∷ hs) =
-    map-append (told b.global_seqno) (results_of (block_named b x)) (all_results (map (block_named b) hs))
-    ∙ ap (λ (rs : List R). rs ++ map (told b.global_seqno) (all_results (map (block_named b) hs))) (told_named b x)
+    map-append (told b.global_seqno) (results_of (block_named b x))
+    (all_results (map (block_named b) hs))
+    ∙ ap (λ (rs : List R). rs ++ map (told b.global_seqno) (all_results (map (block_named b) hs)))
+    (told_named b x)
     ∙ ap (λ (rs : List R). handle_rows b x ++ rs) (told_rows b hs)
 
-told_part : (g : ℕ) (o : Option (Span Entry)) → map (told g) (remains_in span_remains o).results ≡ lift_told g (rest_of o)
+told_part : (g : ℕ) (o : Option (Span Entry))
+    → map (told g) (remains_in span_remains o).results ≡ lift_told g (rest_of o)
 told_part g None = refl
 told_part g (Some s) = told_ok g _
 
 -- ---- how many blocks an answer needs, and the fault that is found before memory is taken
 
-same_needs : (b : Bounded) (h : Handle) (n : ℕ) → none_behind (stored_rows b h) n ≡ none_behind (block_rows b h) n
+same_needs : (b : Bounded) (h : Handle) (n : ℕ)
+    → none_behind (stored_rows b h) n ≡ none_behind (block_rows b h) n
 same_needs b h n =
     sym (behind_map (told b.global_seqno) (stored_rows b h) n)
     ∙ ap (λ (rs : List R). none_behind rs n) (told_stored b (load_told b.body h.offset h.size Data))
@@ -74,10 +88,12 @@ needs_is b (Ok h ∷ hs) =
     ∙ ap suc (same_needs b h (blocks_needed b hs))
 needs_is b (Err e ∷ hs) = refl
 
-same_early : (b : Bounded) (h : Handle) (o : Option Error) → early_behind (stored_rows b h) o ≡ early_behind (block_rows b h) o
+same_early : (b : Bounded) (h : Handle) (o : Option Error)
+    → early_behind (stored_rows b h) o ≡ early_behind (block_rows b h) o
 same_early b h o =
     sym (early_map (told b.global_seqno) (stored_rows b h) o)
-    ∙ ap (λ (rs : List R). early_behind rs o) (told_stored b (load_told b.body h.offset h.size Data))
+    ∙ ap (λ (rs : List R). early_behind rs o) (told_stored b
+    (load_told b.body h.offset h.size Data))
 
 early_is : (b : Bounded) (hs : List H) → early_among (map (block_named b) hs) ≡ blocks_early b hs
 early_is b [] = refl
@@ -106,12 +122,14 @@ module _ {A : Type 0} where
     loads = record { count = 0; counts = refl; within = omega arith };
   }
 
-  moved_more : (m : ℕ) (s u t : Blocks A) (named : Option (Result (Loading Entry) Error)) → Moved m s u → KeepsBlocks u named t → Moved (loads_in (named ∷ []) + m) s t
+  moved_more : (m : ℕ) (s u t : Blocks A) (named : Option (Result (Loading Entry) Error))
+      → Moved m s u → KeepsBlocks u named t → Moved (loads_in (named ∷ []) + m) s t
   moved_more m s u t named was keeps = record {
     of = keeps.of ∙ was.of;
     index = keeps.index ∙ was.index;
     sought = keeps.sought;
-    counts = keeps.counts ∙ ap (data_loaded (loads_in (named ∷ []))) was.counts ∙ data_more (loads_in (named ∷ [])) m s.opened;
+    counts = keeps.counts ∙ ap (data_loaded (loads_in (named ∷ []))) was.counts
+        ∙ data_more (loads_in (named ∷ [])) m s.opened;
     loads = record {
       count = keeps.loads.count + was.loads.count;
       counts = keeps.loads.counts
@@ -121,17 +139,20 @@ module _ {A : Type 0} where
     };
   }
 
-  moved : (named : List (Option (Result (Loading Entry) Error))) (s t : Blocks A) → s.handles.sought ≡ true → Loads KeepsBlocks s named t → Moved (loads_in named) s t
+  moved : (named : List (Option (Result (Loading Entry) Error))) (s t : Blocks A)
+      → s.handles.sought ≡ true → Loads KeepsBlocks s named t → Moved (loads_in named) s t
   moved [] s t sought is = subst (λ (x : Blocks A). Moved 0 s x) (sym is) (not_moved s sought)
   moved (x ∷ named) s t sought loads =
-      subst (λ (n : ℕ). Moved n s t) (loads_one x named) (moved_more (loads_in named) s loads.0 t x (moved named s loads.0 sought loads.1) loads.2)
+      subst (λ (n : ℕ). Moved n s t) (loads_one x named)
+      (moved_more (loads_in named) s loads.0 t x (moved named s loads.0 sought loads.1) loads.2)
 
 -- ---- a walk and its range
 
 abbrev W : Type 0 → Type 0
 W A = Walk (Blocks A) (Span Entry)
 
-fine_before : (g : ℕ) (r : Option R) → answer_stops is_memory (lifted_answer g r) ≡ false → answer_stops is_memory r ≡ false
+fine_before : (g : ℕ) (r : Option R) → answer_stops is_memory (lifted_answer g r) ≡ false
+    → answer_stops is_memory r ≡ false
 fine_before g None fine = refl
 fine_before g (Some (Ok e)) fine = refl
 fine_before g (Some (Err e)) fine = fine
@@ -143,7 +164,8 @@ module _ {A : Type 0} where
   abbrev handles_in : W A → List H
   handles_in w = (left_in w.parts.handles).results
 
-  told_left : (w : W A) → map (told w.parts.of.global_seqno) (left_of_walk w).results ≡ left_rows (range_of w)
+  told_left : (w : W A) → map (told w.parts.of.global_seqno) (left_of_walk w).results
+      ≡ left_rows (range_of w)
   told_left w =
       let b : Bounded = w.parts.of in
       let f = told b.global_seqno in
@@ -153,34 +175,49 @@ module _ {A : Type 0} where
       map-append f fs (ms ++ bs)
       ∙ ap (λ (rs : List R). map f fs ++ rs) (map-append f ms bs)
       ∙ ap (λ (rs : List R). rs ++ (map f ms ++ map f bs)) (told_part b.global_seqno w.front)
-      ∙ ap (λ (rs : List R). lift_told b.global_seqno (rest_of w.front) ++ (rs ++ map f bs)) (told_rows b (handles_in w))
-      ∙ ap (λ (rs : List R). lift_told b.global_seqno (rest_of w.front) ++ (rows b (handles_in w) ++ rs)) (told_part b.global_seqno w.back)
+      ∙ ap (λ (rs : List R). lift_told b.global_seqno (rest_of w.front) ++ (rs ++ map f bs))
+      (told_rows b (handles_in w))
+      ∙ ap (λ (rs : List R). lift_told b.global_seqno (rest_of w.front)
+      ++ (rows b (handles_in w) ++ rs)) (told_part b.global_seqno w.back)
 
-  near_behind : (at : Direction) (w : W A) (n : ℕ) → none_behind (remains_in span_remains (near at w)).results n ≡ none_behind (next_at at (range_of w)).entries n
+  near_behind : (at : Direction) (w : W A) (n : ℕ)
+      → none_behind (remains_in span_remains (near at w)).results n
+      ≡ none_behind (next_at at (range_of w)).entries n
   near_behind Front w n = part_behind w.front n
   near_behind Back w n = part_behind w.back n
 
-  near_early : (at : Direction) (w : W A) (f : Option Error) → early_behind (remains_in span_remains (near at w)).results f ≡ early_behind (next_at at (range_of w)).entries f
+  near_early : (at : Direction) (w : W A) (f : Option Error)
+      → early_behind (remains_in span_remains (near at w)).results f
+      ≡ early_behind (next_at at (range_of w)).entries f
   near_early Front w f = part_early w.front f
   near_early Back w f = part_early w.back f
 
-  allowed : (at : Direction) (w : W A) → needed_at span_remains coming_blocks at w ≡ none_behind (next_at at (range_of w)).entries (blocks_needed w.parts.of (seen_from at (handles_in w)))
+  allowed : (at : Direction) (w : W A) → needed_at span_remains coming_blocks at w
+      ≡ none_behind (next_at at (range_of w)).entries
+      (blocks_needed w.parts.of (seen_from at (handles_in w)))
   allowed at w =
       let xs : List R = (remains_in span_remains (near at w)).results in
       let b : Bounded = w.parts.of in
-      ap (λ (ps : List (Result (Loading Entry) Error)). none_behind xs (needed ps)) (map_seen (block_named b) at (handles_in w))
+      ap (λ (ps : List (Result (Loading Entry) Error)). none_behind xs (needed ps))
+      (map_seen (block_named b) at (handles_in w))
       ∙ ap (λ (n : ℕ). none_behind xs n) (needs_is b (seen_from at (handles_in w)))
       ∙ near_behind at w (blocks_needed b (seen_from at (handles_in w)))
 
-  early_allowed : (at : Direction) (w : W A) → early_at span_remains coming_blocks at w ≡ early_behind (next_at at (range_of w)).entries (blocks_early w.parts.of (seen_from at (handles_in w)))
+  early_allowed : (at : Direction) (w : W A) → early_at span_remains coming_blocks at w
+      ≡ early_behind (next_at at (range_of w)).entries
+      (blocks_early w.parts.of (seen_from at (handles_in w)))
   early_allowed at w =
       let xs : List R = (remains_in span_remains (near at w)).results in
       let b : Bounded = w.parts.of in
-      ap (λ (ps : List (Result (Loading Entry) Error)). early_behind xs (early_among ps)) (map_seen (block_named b) at (handles_in w))
+      ap (λ (ps : List (Result (Loading Entry) Error)). early_behind xs (early_among ps))
+      (map_seen (block_named b) at (handles_in w))
       ∙ ap (λ (f : Option Error). early_behind xs f) (early_is b (seen_from at (handles_in w)))
       ∙ near_early at w (blocks_early b (seen_from at (handles_in w)))
 
-  moves : (at : Direction) (w v : W A) (r : Option R) → w.parts.handles.sought ≡ true → WalkTakes span_remains coming_blocks KeepsBlocks at w r v → Moves (none_behind (next_at at (range_of w)).entries (blocks_needed w.parts.of (seen_from at (handles_in w)))) (range_of w) (range_of v)
+  moves : (at : Direction) (w v : W A) (r : Option R) → w.parts.handles.sought ≡ true
+      → WalkTakes span_remains coming_blocks KeepsBlocks at w r v
+      → Moves (none_behind (next_at at (range_of w)).entries
+      (blocks_needed w.parts.of (seen_from at (handles_in w)))) (range_of w) (range_of v)
   moves at w v r sought takes =
       let m = moved takes.named w.parts v.parts sought takes.loads in
       record {
@@ -189,7 +226,13 @@ module _ {A : Type 0} where
         sought = m.sought;
         blocks = loads_in takes.named;
         counts = m.counts;
-        within = omega (arith, takes.within, length-map (handles_in w) (block_named w.parts.of), length-map (handles_in v) (block_named v.parts.of));
+        within = omega (
+          arith,
+          takes.within,
+          length-map (handles_in w)
+              (block_named w.parts.of),
+          length-map (handles_in v) (block_named v.parts.of),
+        );
         most = omega (arith, takes.most, allowed at w);
         loads = m.loads;
       }
@@ -199,12 +242,17 @@ module _ {A : Type 0} where
       let parts = (all_over span_remains coming_blocks at v over).done in
       record {
         rows = sym (told_left v) ∙ ap (map (told v.parts.of.global_seqno)) over.results;
-        index = record { results = map_none (block_named v.parts.of) (handles_in v) parts.parts; loads = parts.loads };
+        index = record {
+          results = map_none (block_named v.parts.of)
+              (handles_in v) parts.parts;
+          loads = parts.loads;
+        };
       }
 
   over_walk : (w : W A) → IsOver (range_of w) → IsWalkOver (left_of_walk w)
   over_walk w over = record {
-    results = map_none (told w.parts.of.global_seqno) (left_of_walk w).results (told_left w ∙ over.rows);
+    results = map_none (told w.parts.of.global_seqno) (left_of_walk w).results
+        (told_left w ∙ over.rows);
     loads = omega (
       arith,
       no_part_loads w.front,
@@ -215,41 +263,58 @@ module _ {A : Type 0} where
     );
   }
 
-  from_item : (at : Direction) (u t : Range A) (x : R) → taken_at at (left_rows u) ≡ (Some x, left_rows t) → From (taken_at at) u (Some x) t
+  from_item : (at : Direction) (u t : Range A) (x : R)
+      → taken_at at (left_rows u) ≡ (Some x, left_rows t) → From (taken_at at) u (Some x) t
   from_item at u t (Ok e) gives = gives
   from_item at u t (Err e) gives = (
     λ fine. ap (λ (p : Option R × List R). p.0) gives,
     λ over. none_at at (left_rows u) (Err e) over.rows (ap (λ (p : Option R × List R). p.0) gives),
   )
 
-  from_walk : (at : Direction) (w v : W A) (r : Option R) → StepAnswers at (left_of_walk w) r (left_of_walk v) → v.parts.of ≡ w.parts.of → From (taken_at at) (range_of w) (lifted_answer w.parts.of.global_seqno r) (range_of v)
+  from_walk : (at : Direction) (w v : W A) (r : Option R)
+      → StepAnswers at (left_of_walk w) r (left_of_walk v) → v.parts.of ≡ w.parts.of
+      → From (taken_at at) (range_of w) (lifted_answer w.parts.of.global_seqno r) (range_of v)
   from_walk at w v None gives same =
       (sym (told_left w) ∙ ap (map (told w.parts.of.global_seqno)) gives.0, over_range at v gives.1)
   from_walk at w v (Some (Ok e)) gives same =
       let g : ℕ = w.parts.of.global_seqno in
       let rest : map (told g) (left_of_walk v).results ≡ left_rows (range_of v) =
-      ap (λ (b : Bounded). map (told b.global_seqno) (left_of_walk v).results) (sym same) ∙ told_left v in
+      ap (λ (b : Bounded). map (told b.global_seqno) (left_of_walk v).results) (sym same)
+      ∙ told_left v in
       from_item at (range_of w) (range_of v) (lifted_told g e)
       (ap (taken_at at) (sym (told_left w))
       ∙ map_taken (told g) at (left_of_walk w).results (left_of_walk v).results (Ok e) gives
       ∙ ap (λ (rs : List R). (Some (lifted_told g e), rs)) rest)
   from_walk at w v (Some (Err e)) gives same = (
-    λ fine. ap (λ (rs : List R). (taken_at at rs).0) (sym (told_left w)) ∙ map_first (told w.parts.of.global_seqno) at (left_of_walk w).results (Err e) (gives.0 fine),
+    λ fine. ap (λ (rs : List R). (taken_at at rs).0) (sym (told_left w))
+        ∙ map_first (told w.parts.of.global_seqno) at (left_of_walk w).results (Err e)
+        (gives.0 fine),
     λ over. gives.1 (over_walk w over),
   )
 
   -- before the walk's step the edges are sought
-  pub starts_at : (at : Direction) (s t : Range A) → t ≡ record s { handles = t.handles } → LoadsNone (left_in s.handles) (left_in t.handles) → t.handles.sought ≡ true → SeeksOnce s.handles t.handles (lower_edge s.of.low) (upper_edge s.of.high) → Reached (next_at at t).entries (seen_from at (coming t)) (next_at at s) s t
+  pub starts_at : (at : Direction) (s t : Range A) → t ≡ record s { handles = t.handles }
+      → LoadsNone (left_in s.handles) (left_in t.handles) → t.handles.sought ≡ true
+      → SeeksOnce s.handles t.handles (lower_edge s.of.low) (upper_edge s.of.high)
+      → Reached (next_at at t).entries (seen_from at (coming t)) (next_at at s) s t
   starts_at Front s t is none sought seeks = front_starts s t is none sought seeks
   starts_at Back s t is none sought seeks = back_starts s t is none sought seeks
 
-  pub walked : (at : Direction) (s : Range A) (w v : W A) (r : Option R) → Reached (next_at at (range_of w)).entries (seen_from at (handles_in w)) (next_at at s) s (range_of w) → w.parts.handles.sought ≡ true → WalkTakes span_remains coming_blocks KeepsBlocks at w r v → RangeGives (taken_at at) (next_at at) s (lifted_answer w.parts.of.global_seqno r) (stopped (lifted_answer w.parts.of.global_seqno r) (range_of v))
+  pub walked : (at : Direction) (s : Range A) (w v : W A) (r : Option R)
+      → Reached (next_at at (range_of w)).entries (seen_from at (handles_in w)) (next_at at s) s
+      (range_of w) → w.parts.handles.sought ≡ true
+      → WalkTakes span_remains coming_blocks KeepsBlocks at w r v
+      → RangeGives (taken_at at) (next_at at) s (lifted_answer w.parts.of.global_seqno r)
+      (stopped (lifted_answer w.parts.of.global_seqno r) (range_of v))
   unfolding moves
   walked at s w v r reached sought takes =
       let g : ℕ = w.parts.of.global_seqno in
-      gives_all (taken_at at) (next_at at) (next_at at (range_of w)).entries (seen_from at (handles_in w)) s (range_of w) (range_of v) (lifted_answer g r) reached (moves at w v r sought takes)
+      gives_all (taken_at at) (next_at at) (next_at at (range_of w)).entries
+      (seen_from at (handles_in w)) s (range_of w) (range_of v) (lifted_answer g r) reached
+      (moves at w v r sought takes)
       (λ fine. takes.exact (fine_before g r fine) ∙ allowed at w)
-      (λ f early all. ap (lifted_answer g) (takes.first f (early_allowed at w ∙ early) (all ∙ sym (allowed at w))))
+      (λ f early all. ap (lifted_answer g) (takes.first f (early_allowed at w ∙ early)
+      (all ∙ sym (allowed at w))))
       (from_walk at w v r takes.answer (moved takes.named w.parts v.parts sought takes.loads).of)
 
   -- ---- the iterator's own calls
@@ -257,20 +322,37 @@ module _ {A : Type 0} where
   abbrev with_parts : W A → Blocks A → W A
   with_parts w p = record w { parts = p }
 
-  pub walk_refused : (at : Direction) (w : W A) (p : Blocks A) (e : Error) → p ≡ record w.parts { handles = p.handles } → LoadsNone (left_in w.parts.handles) (left_in p.handles) → p.handles.sought ≡ true → e ≡ OutOfMemory → w.parts.handles.sought ≡ false → RangeGives (taken_at at) (next_at at) (range_of w) (Some (Err e)) (over (range_of (with_parts w p)))
+  pub walk_refused : (at : Direction) (w : W A) (p : Blocks A) (e : Error)
+      → p ≡ record w.parts { handles = p.handles }
+      → LoadsNone (left_in w.parts.handles) (left_in p.handles) → p.handles.sought ≡ true
+      → e ≡ OutOfMemory → w.parts.handles.sought ≡ false
+      → RangeGives (taken_at at) (next_at at) (range_of w) (Some (Err e))
+      (over (range_of (with_parts w p)))
   walk_refused at w p e is none sought memory once =
-      refused (range_of w) (range_of (with_parts w p)) (ap (λ (q : Blocks A). range_of (with_parts w q)) is) none sought (taken_at at) (next_at at) e memory once
+      refused (range_of w) (range_of (with_parts w p))
+      (ap (λ (q : Blocks A). range_of (with_parts w q)) is) none sought (taken_at at)
+      (next_at at) e memory once
 
-  pub walk_steps : (at : Direction) (w : W A) (p : Blocks A) (v : W A) (r q : Option R) → p ≡ record w.parts { handles = p.handles } → LoadsNone (left_in w.parts.handles) (left_in p.handles) → p.handles.sought ≡ true → SeeksOnce w.parts.handles p.handles (lower_edge w.parts.of.low) (upper_edge w.parts.of.high) → WalkTakes span_remains coming_blocks KeepsBlocks at (with_parts w p) r v → q ≡ lifted_answer v.parts.of.global_seqno r → RangeGives (taken_at at) (next_at at) (range_of w) q (stopped q (range_of v))
+  pub walk_steps : (at : Direction) (w : W A) (p : Blocks A) (v : W A) (r q : Option R)
+      → p ≡ record w.parts { handles = p.handles }
+      → LoadsNone (left_in w.parts.handles) (left_in p.handles) → p.handles.sought ≡ true
+      → SeeksOnce w.parts.handles p.handles (lower_edge w.parts.of.low) (upper_edge w.parts.of.high)
+      → WalkTakes span_remains coming_blocks KeepsBlocks at (with_parts w p) r v
+      → q ≡ lifted_answer v.parts.of.global_seqno r
+      → RangeGives (taken_at at) (next_at at) (range_of w) q (stopped q (range_of v))
   walk_steps at w p v r q is none sought seeks takes lifted =
       let u : W A = with_parts w p in
-      let reached = starts_at at (range_of w) (range_of u) (ap (λ (b : Blocks A). range_of (with_parts w b)) is) none sought seeks in
+      let reached = starts_at at (range_of w) (range_of u)
+      (ap (λ (b : Blocks A). range_of (with_parts w b)) is) none sought seeks in
       let same : q ≡ lifted_answer p.of.global_seqno r =
-      lifted ∙ ap (λ (b : Bounded). lifted_answer b.global_seqno r) (moved takes.named p v.parts sought takes.loads).of in
-      subst (λ (x : Option R). RangeGives (taken_at at) (next_at at) (range_of w) x (stopped x (range_of v))) (sym same) (walked at (range_of w) u v r reached sought takes)
+      lifted ∙ ap (λ (b : Bounded). lifted_answer b.global_seqno r)
+      (moved takes.named p v.parts sought takes.loads).of in
+      subst (λ (x : Option R). RangeGives (taken_at at) (next_at at) (range_of w) x
+      (stopped x (range_of v))) (sym same) (walked at (range_of w) u v r reached sought takes)
 
   pub walk_over : (w v : W A) → Ended coming_blocks EndsBlocks w v → range_of v ≡ over (range_of w)
   walk_over w v ended =
       ap (λ (p : Blocks A). range_of (with_parts v p)) ended.kept
-      ∙ ap (λ (o : Option (Span Entry)). record (over (range_of w)) { front = rest_of o; back = rest_of v.back }) ended.front
+      ∙ ap (λ (o : Option (Span Entry)). record (over (range_of w))
+      { front = rest_of o; back = rest_of v.back }) ended.front
       ∙ ap (λ (o : Option (Span Entry)). record (over (range_of w)) { back = rest_of o }) ended.back

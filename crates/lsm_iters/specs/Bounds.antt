@@ -3,7 +3,8 @@ use Rattle.std.specs.Prelude.{ℕ, ◌-◌, ◌^◌, List, Option, Some, None}
 use Rattle.std.specs.declared.ops.Bound.{Bound as Edge}
 use Rattle.std.specs.declared.ops.Bound.TheVariants.{Included, Excluded, Unbounded}
 use Rattle.lsm_iters.specs.declared.bound.Bound.{Bound}
-use Rattle.lsm_iters.specs.declared.bound.Bound.TheVariants.{Included as AtKey, Excluded as BesideKey}
+use Rattle.lsm_iters.specs.declared.bound.Bound.TheVariants.{Included as AtKey}
+use Rattle.lsm_iters.specs.declared.bound.Bound.TheVariants.{Excluded as BesideKey}
 
 -- a bound, which takes its key in or leaves it out, and all where there is none
 abbrev pub edge_of : {A : Type 0} → Bound A → Edge (List ℕ)
@@ -14,7 +15,8 @@ abbrev pub edge_in : {A : Type 0} → Option (Bound A) → Edge (List ℕ)
 edge_in None = Unbounded
 edge_in (Some bound) = edge_of bound
 
--- the first handle of a range is the first that may hold an entry of the lower bound's key, whatever its number
+-- the first handle of a range is the first that may hold an entry of the lower bound's key,
+-- whatever its number
 abbrev pub lower_edge : Edge (List ℕ) → Option (List ℕ × ℕ)
 lower_edge (Included key) = Some (key, 2 ^ 64 - 1)
 lower_edge (Excluded key) = Some (key, 2 ^ 64 - 1)

@@ -1,5 +1,7 @@
 -- What an iterator over a range of a table still deals, and one call of it.
-use Rattle.std.specs.Prelude.{◌≡◌, ℕ, zero, suc, ◌+◌, ◌≤◌, Bool, true, false, List, [], ◌∷◌, ◌++◌, length, reverse, Option, Some, None, Result, Ok, Err, MatchOption, MatchResult, if◌then◌else◌}
+use Rattle.std.specs.Prelude.{◌≡◌, ℕ, zero, suc, ◌+◌, ◌≤◌, Bool, true, false, List, [], ◌∷◌, ◌++◌}
+use Rattle.std.specs.Prelude.{length, reverse, Option, Some, None, Result, Ok, Err, MatchOption}
+use Rattle.std.specs.Prelude.{MatchResult, if◌then◌else◌}
 use Rattle.std.specs.declared.ops.Bound.TheVariants.{Unbounded}
 use Rattle.std.specs.Option.{option_or}
 use Rattle.sst_blocks.specs.declared.block_type.BlockType.TheVariants.{Data}
@@ -38,7 +40,8 @@ left_unless false l = l
 abbrev pub left_in : {A : Type 0} → Handles A → Left
 left_in h = left_unless h.ended (left_of h.iter)
 
--- what it reads within which bounds, what its index still deals, the entries within the bounds that are left of the blocks loaded
+-- what it reads within which bounds, what its index still deals, the entries within the bounds that
+-- are left of the blocks loaded
 -- at the front and at the back, and how many blocks it loaded beside its index
 pub record Range (A : Type 0) : Type 0 where
   pub of : Bounded
@@ -57,8 +60,10 @@ new_range body g iter = record {
   opened = none_opened;
 }
 
--- the handles of the blocks that are not loaded; before the first step those that the index has between two edges
-abbrev pub to_seek : {A : Type 0} → Handles A → Option (List ℕ × ℕ) → Option (List ℕ) → List (Result Handle Error)
+-- the handles of the blocks that are not loaded; before the first step those that the index has
+-- between two edges
+abbrev pub to_seek : {A : Type 0} → Handles A → Option (List ℕ × ℕ) → Option (List ℕ)
+    → List (Result Handle Error)
 to_seek h low high = if h.sought then (left_in h).results else (left_in h).index.told low high
 
 abbrev pub to_come : {A : Type 0} → Range A → List (Result Handle Error)
@@ -94,22 +99,26 @@ range_remains s = record { results = range_left s; loads = range_loads s }
 abbrev pub IsEnded : {A : Type 0} → Range A → Type 0
 IsEnded s = range_size s ≡ 0
 
--- how many of the blocks of these handles, the next one first, an end loads for its answer: those up to the first that has an item
+-- how many of the blocks of these handles, the next one first, an end loads for its answer: those
+-- up to the first that has an item
 abbrev pub blocks_needed : Bounded → List (Result Handle Error) → ℕ
 blocks_needed b [] = 0
 blocks_needed b (Ok h ∷ hs) = suc (none_behind (block_rows b h) (blocks_needed b hs))
 blocks_needed b (Err e ∷ hs) = 0
 
--- the fault of a block that is found before memory is taken, and of the first of some blocks that has an item
+-- the fault of a block that is found before memory is taken, and of the first of some blocks that
+-- has an item
 abbrev pub handle_early : Bounded → Result Handle Error → Option Error
 handle_early b (Ok h) = place_fault b.body h.offset h.size Data
 handle_early b (Err e) = None
 
 abbrev pub blocks_early : Bounded → List (Result Handle Error) → Option Error
 blocks_early b [] = None
-blocks_early b (x ∷ hs) = option_or (handle_early b x) (early_behind (handle_rows b x) (blocks_early b hs))
+blocks_early b (x ∷ hs) = option_or (handle_early b x)
+    (early_behind (handle_rows b x) (blocks_early b hs))
 
--- what stands next at an end: the entries of the block that is loaded there, and then the handles to come, the next one first
+-- what stands next at an end: the entries of the block that is loaded there, and then the handles
+-- to come, the next one first
 pub record Next : Type 0 where
   pub entries : List Entry
   pub handles : List (Result Handle Error)
@@ -141,9 +150,12 @@ data_loaded (suc n) o = with_load Data (data_loaded n o)
 abbrev pub opened_in : {A : Type 0} → Range A → Opened
 opened_in s = record (left_in s.handles).opened { data_loads = s.opened.data_loads }
 
--- an answer at an end: the result that stands there, and the others are left; nothing, where nothing is left; want of memory
+-- an answer at an end: the result that stands there, and the others are left; nothing, where
+-- nothing is left; want of memory
 -- stands in the place of any answer, except once all is over
-abbrev pub RangeAnswer : {A : Type 0} → (List (Result Entry Error) → Option (Result Entry Error) × List (Result Entry Error)) → Range A → Option (Result Entry Error) → Range A → Type 0
+abbrev pub RangeAnswer : {A : Type 0} → (List (Result Entry Error)
+    → Option (Result Entry Error) × List (Result Entry Error)) → Range A
+    → Option (Result Entry Error) → Range A → Type 0
 RangeAnswer end s None t = (range_left s ≡ []) × IsEnded t
 RangeAnswer end s (Some (Ok e)) t = end (range_left s) ≡ (Some (Ok e), range_left t)
 RangeAnswer end s (Some (Err e)) t =
@@ -159,9 +171,12 @@ pub record CountsBlocks {A : Type 0} (needed : ℕ) (s t : Range A) : Type 0 whe
   pub index_counts : (left_in t.handles).opened ≡ loaded index (left_in s.handles).opened
   pub index_within : index + index_to_come t ≤ index_to_come s
 
--- one call at an end; an error ends the iterator; it loads the blocks that it needs, and no more where it wants memory; where all of
+-- one call at an end; an error ends the iterator; it loads the blocks that it needs, and no more
+-- where it wants memory; where all of
 -- them were loaded, a fault that needs no memory to be found comes before any want of it
-pub record RangeGives {A : Type 0} (end : List (Result Entry Error) → Option (Result Entry Error) × List (Result Entry Error)) (next : Range A → Next) (s : Range A) (r : Option (Result Entry Error)) (t : Range A) : Type 0 where
+pub record RangeGives {A : Type 0} (end : List (Result Entry Error)
+    → Option (Result Entry Error) × List (Result Entry Error)) (next : Range A → Next) (s : Range A)
+    (r : Option (Result Entry Error)) (t : Range A) : Type 0 where
   pub answer : RangeAnswer end s r t
   pub ends : MatchOption r (Unit {0}) (λ x. MatchResult x (λ _. Unit {0}) (λ _. IsEnded t))
   pub of : t.of ≡ s.of
@@ -169,4 +184,5 @@ pub record RangeGives {A : Type 0} (end : List (Result Entry Error) → Option (
   pub initialized : t.handles.sought ≡ true
   pub loads : CountsBlocks (blocks_for s.of (next s)) s t
   pub exact : answer_stops is_memory r ≡ false → loads.blocks ≡ blocks_for s.of (next s)
-  pub first : (f : Error) → early_for s.of (next s) ≡ Some f → loads.blocks ≡ blocks_for s.of (next s) → r ≡ Some (Err f)
+  pub first : (f : Error) → early_for s.of (next s) ≡ Some f
+      → loads.blocks ≡ blocks_for s.of (next s) → r ≡ Some (Err f)

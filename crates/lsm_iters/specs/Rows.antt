@@ -17,7 +17,8 @@ pub record Bounded : Type 0 where
   pub low : Bound (List ℕ)
   pub high : Bound (List ℕ)
 
--- the entries of a loaded block that lie within the bounds, their numbers lifted; or the one error of loading it
+-- the entries of a loaded block that lie within the bounds, their numbers lifted; or the one error
+-- of loading it
 abbrev pub rows_in : Bounded → Result Loaded Error → List (Result Entry Error)
 rows_in b (Ok block) = lift_told b.global_seqno (within b.low b.high (entries_of block))
 rows_in b (Err e) = Err e ∷ []

@@ -16,7 +16,8 @@ lifted_answer g (Some (Err e)) = Some (Err e)
 -- ---- the handles that an index still deals
 
 -- the edges are sought, once
-pub record SeeksOnce {A : Type 0} (s t : Handles A) (low : Option (List ℕ × ℕ)) (high : Option (List ℕ)) : Type 0 where
+pub record SeeksOnce {A : Type 0} (s t : Handles A) (low : Option (List ℕ × ℕ))
+    (high : Option (List ℕ)) : Type 0 where
   pub results : (left_in t).results ≡ to_seek s low high
   pub loads : (left_in t).loads ≡ index_to_seek s low high
 

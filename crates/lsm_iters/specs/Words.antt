@@ -6,15 +6,18 @@ pub use Rattle.sst_entries.specs.Strict.{IsStrict}
 pub use Rattle.sst_entries.specs.Error.{FaultsFirst}
 pub use Rattle.sst_sections.specs.Sections.{body_of}
 pub use Rattle.sst_blocks.specs.Block.{place_fault}
-pub use Rattle.sst_blocks.specs.Seeking.{DealsLeft, KeepsLower, KeepsUpper, span_from, span_to, whole_span}
+pub use Rattle.sst_blocks.specs.Seeking.{DealsLeft, KeepsLower, KeepsUpper, span_from, span_to}
+pub use Rattle.sst_blocks.specs.Seeking.{whole_span}
 pub use Rattle.lsm_block_indexes.specs.Dealt.{DealsEnding}
 pub use Rattle.lsm_block_indexes.specs.Kinds.{IsSought, TakesMemory, left_of}
 pub use Rattle.lsm_block_indexes.specs.Left.{LeftGives}
 pub use Rattle.lsm_iters.specs.Bounds.{edge_in, edge_of, key_of, lower_edge, upper_edge}
 pub use Rattle.lsm_iters.specs.Lift.{lift, lift_told, lifted, lifted_told, number_told}
-pub use Rattle.lsm_iters.specs.Range.{Range, RangeGives, back_next, data_loaded, front_next, left_in, new_range, next_at}
+pub use Rattle.lsm_iters.specs.Range.{Range, RangeGives, back_next, data_loaded, front_next}
+pub use Rattle.lsm_iters.specs.Range.{left_in, new_range, next_at}
 pub use Rattle.lsm_iters.specs.Range.{opened_in, range_left, range_remains, range_size}
 pub use Rattle.lsm_iters.specs.Rows.{Bounded, block_rows, rows}
 pub use Rattle.lsm_iters.specs.Steps.{LoadsNone, SeeksOnce, all_over, lifted_answer, over, stopped}
 pub use Rattle.lsm_walks.specs.Ends.{span_remains, taken_at}
-pub use Rattle.lsm_iters.specs.Blocks.{EndsBlocks, KeepsBlocks, coming_blocks, range_of, stored_rows}
+pub use Rattle.lsm_iters.specs.Blocks.{EndsBlocks, KeepsBlocks, coming_blocks, range_of}
+pub use Rattle.lsm_iters.specs.Blocks.{stored_rows}

@@ -10,7 +10,14 @@ use Rattle.lsm_merge.specs.Tournament.{rematches, total_height}
 
 -- over so much room
 abbrev pub contest_of : {T Z : Type 0} → List T → ℕ → Brackets Z → Contest T
-contest_of xs room b = record { items = xs; room = room; steps = b.steps; plays_front = b.front.is_played; plays_back = b.back.is_played }
+contest_of xs room b = record {
+  items = xs;
+  room = room;
+  steps = b.steps;
+  plays_front =
+      b.front.is_played;
+  plays_back = b.back.is_played;
+}
 
 module _ {T Z : Type 0} (xs ys : List T) (room room' : ℕ) (b b' : Brackets Z) where
   pub plays_from : (end : Direction) → PlaysEnd end b b'
@@ -26,9 +33,11 @@ module _ {T Z : Type 0} (xs ys : List T) (room room' : ℕ) (b b' : Brackets Z) 
       (contest_of xs room b) (contest_of ys room' b')
   plays_at_most Front leaves e rises bound =
       let again : ℕ = total_height b.front.is_played b.back.is_played (height room) in
-      let all = subst (λ (n : ℕ). b'.steps ≤ b.steps + again + (if b.front.is_played then 0 else n - 1)) e bound in
+      let all = subst (λ (n : ℕ). b'.steps ≤ b.steps + again
+      + (if b.front.is_played then 0 else n - 1)) e bound in
       record { rises = rises; bound = omega (arith, all) }
   plays_at_most Back leaves e rises bound =
       let again : ℕ = total_height b.front.is_played b.back.is_played (height room) in
-      let all = subst (λ (n : ℕ). b'.steps ≤ b.steps + again + (if b.back.is_played then 0 else n - 1)) e bound in
+      let all = subst (λ (n : ℕ). b'.steps ≤ b.steps + again
+      + (if b.back.is_played then 0 else n - 1)) e bound in
       record { rises = rises; bound = omega (arith, all) }

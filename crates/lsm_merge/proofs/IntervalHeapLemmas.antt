@@ -55,7 +55,8 @@ module _ {T : Type 0} (side : Direction) (cmp : T → T → Ordering) (o : IsTot
       (cases_eq b at))
 
   pub risen_to_root : (at : ℕ) → at ≤ 1 → IsRisingAt side cmp xs at → IsIntervalHeap cmp xs
-  risen_to_root at low r = risen at r (λ a p. absurd (none_above_root side (length xs) a at r.end low p))
+  risen_to_root at low r = risen at r (λ a p. absurd
+      (none_above_root side (length xs) a at r.end low p))
 
   pub risen_below : (at : ℕ) → IsRisingAt side cmp xs at → InOrder side cmp xs (above_of side at) at
       → IsIntervalHeap cmp xs
@@ -70,9 +71,11 @@ module _ {T : Type 0} (side : Direction) (cmp : T → T → Ordering) (o : IsTot
       → IsChildEnd side (length xs) u b → InOrder side cmp xs left b
   first_alone u left low ends node past b child = ⊎_elim
       (λ (e : b / 2 ≡ u / 2 * 2 + 1).
-      let same = one_end side (length xs) b left (child_is_end side (length xs) u b child) ends (child_within side (length xs) u b child) low (e ∙ sym node) in
+      let same = one_end side (length xs) b left (child_is_end side (length xs) u b child) ends
+      (child_within side (length xs) u b child) low (e ∙ sym node) in
       rw same (in_order_itself left))
-      (λ (e : b / 2 ≡ u / 2 * 2 + 1 + 1). let inside = child_within side (length xs) u b child in absurd (omega arith))
+      (λ (e : b / 2 ≡ u / 2 * 2 + 1 + 1). let inside = child_within side (length xs) u b child in
+      absurd (omega arith))
       (child_nodes side (length xs) u b child)
 
   -- of both, the first in order
@@ -85,8 +88,10 @@ module _ {T : Type 0} (side : Direction) (cmp : T → T → Ordering) (o : IsTot
       let end_b = child_is_end side (length xs) u b child in
       let low_b = child_within side (length xs) u b child in
       ⊎_elim
-      (λ (e : b / 2 ≡ u / 2 * 2 + 1). let same = one_end side (length xs) b left end_b ends low_b low (e ∙ sym node) in rw same h)
-      (λ (e : b / 2 ≡ u / 2 * 2 + 1 + 1). let same = one_end side (length xs) b right end_b ends' low_b low' (e ∙ sym node') in rw same h')
+      (λ (e : b / 2 ≡ u / 2 * 2 + 1). let same = one_end side
+      (length xs) b left end_b ends low_b low (e ∙ sym node) in rw same h)
+      (λ (e : b / 2 ≡ u / 2 * 2 + 1 + 1). let same =
+      one_end side (length xs) b right end_b ends' low_b low' (e ∙ sym node') in rw same h')
       (child_nodes side (length xs) u b child)
 
   -- no second place, or the item there does not come before
@@ -99,7 +104,8 @@ module _ {T : Type 0} (side : Direction) (cmp : T → T → Ordering) (o : IsTot
 
   pub node_kept : (u v : ℕ) → IsOther u v → InOrder side cmp xs u v → (b : ℕ)
       → PrecedesOn side (length xs) u b → b / 2 ≡ u / 2 → InOrder side cmp xs u b
-  node_kept u v other h b p same = let e = one_other u v b other (other_is side (length xs) u b p same) in rw e h
+  node_kept u v other h b p same = let e = one_other u v b other
+      (other_is side (length xs) u b p same) in rw e h
 
   module _ (u : ℕ) (r : IsSinkingAt side cmp xs u)
       (ordered : (b : ℕ) → PrecedesOn side (length xs) u b → b / 2 ≡ u / 2
@@ -110,7 +116,8 @@ module _ {T : Type 0} (side : Direction) (cmp : T → T → Ordering) (o : IsTot
     sunk children = heap_from side cmp xs (λ a b p. ⊎_elim
         (λ (e : a ≡ u).
         let p' : PrecedesOn side (length xs) u b = rw (← e) p in
-        rw e (⊎_elim (λ same. ordered b p' same) (λ rest. ⊎_elim (λ child. children b child) (λ other. r.below_other b other) rest) (after_end side (length xs) u b p')))
+        rw e (⊎_elim (λ same. ordered b p' same) (λ rest. ⊎_elim (λ child. children b child)
+        (λ other. r.below_other b other) rest) (after_end side (length xs) u b p')))
         (λ (ne : a ≢ u). r.others a b p ne)
         (cases_eq a u))
 
@@ -120,7 +127,8 @@ module _ {T : Type 0} (side : Direction) (cmp : T → T → Ordering) (o : IsTot
     pub sunk_first : (v : ℕ) → InOrder side cmp xs u v
         → ((b : ℕ) → IsChildEnd side (length xs) u b → InOrder side cmp xs v b)
         → IsIntervalHeap cmp xs
-    sunk_first v h first = sunk (λ b child d. upto (toward_total side o) _ _ _ (h d) (first b child d))
+    sunk_first v h first = sunk (λ b child d. upto (toward_total side o) _ _ _ (h d)
+        (first b child d))
 
   module _ (ys : List T) (u v : ℕ) (is : ys ≡ swap xs u v) (low_u : u < length xs)
       (low_v : v < length xs) (strict : Strict u v) where
@@ -134,45 +142,64 @@ module _ {T : Type 0} (side : Direction) (cmp : T → T → Ordering) (o : IsTot
         → IsRisingAt side cmp ys u
     rising_more e some r =
         let n : ℕ = length xs in
-        let uv : PrecedesOn side (length xs) u v = rw e (above_precedes side (length xs) v r.end some low_v) in
-        let only = λ (a : ℕ) (p : PrecedesOn side (length xs) a v). one_above side (length xs) a v r.end p ∙ sym e in
+        let uv : PrecedesOn side (length xs) u v =
+        rw e (above_precedes side (length xs) v r.end some low_v) in
+        let only = λ (a : ℕ) (p : PrecedesOn side (length xs) a v). one_above side
+        (length xs) a v r.end p ∙ sym e in
         record {
           within = rw size low_u;
           end = rw (size, e) (above_is_end side (length xs) v);
-          others = λ a b p ne d. rise_others (toward side cmp) (toward_total side o) (λ k. get_or xs k d) (λ k. get_or ys k d) u v (swapped d) (strict d)
-              (PrecedesOn side (length xs)) (on_apart side (length xs)) (on_one_way side (length xs)) uv only (λ a b p ne. r.others a b p ne d) (λ a b p q. r.around a b p q d)
+          others = λ a b p ne d. rise_others (toward side cmp) (toward_total side o)
+              (λ k. get_or xs k d) (λ k. get_or ys k d) u v (swapped d) (strict d)
+              (PrecedesOn side (length xs)) (on_apart side (length xs))
+              (on_one_way side (length xs)) uv only (λ a b p ne. r.others a b p ne d)
+              (λ a b p q. r.around a b p q d)
               a b (rw size at p) ne;
-          around = λ a b p q d. rise_around (toward side cmp) (toward_total side o) (λ k. get_or xs k d) (λ k. get_or ys k d) u v (swapped d) (strict d)
-              (PrecedesOn side (length xs)) (on_apart side (length xs)) (on_one_way side (length xs)) uv only (λ a b p ne. r.others a b p ne d) (λ a b p q. r.around a b p q d)
+          around = λ a b p q d. rise_around (toward side cmp) (toward_total side o)
+              (λ k. get_or xs k d) (λ k. get_or ys k d) u v (swapped d) (strict d)
+              (PrecedesOn side (length xs)) (on_apart side (length xs))
+              (on_one_way side (length xs)) uv only (λ a b p ne. r.others a b p ne d)
+              (λ a b p q. r.around a b p q d)
               a b (rw size at p) (rw size at q);
         }
 
     -- the ends of one node
     pub sinking_still : IsOther u v → IsSinkingAt side cmp xs u → IsSinkingAt side cmp ys u
     sinking_still other r =
-        let uv : PrecedesOn side (length xs) u v = other_precedes side (length xs) u v r.end other low_u low_v in
-        let below = λ (d : T) (b : ℕ) (p : PrecedesOn side (length xs) v b). r.below_other b (after_other side (length xs) u v b r.end low_u other p) d in
+        let uv : PrecedesOn side (length xs) u v =
+        other_precedes side (length xs) u v r.end other low_u low_v in
+        let below = λ (d : T) (b : ℕ) (p : PrecedesOn side (length xs) v b). r.below_other b
+        (after_other side (length xs) u v b r.end low_u other p) d in
         record {
           within = rw size low_u;
           end = rw size r.end;
-          others = λ a b p ne d. node_others (toward side cmp) (toward_total side o) (λ k. get_or xs k d) (λ k. get_or ys k d) u v (swapped d) (strict d)
-              (PrecedesOn side (length xs)) (on_apart side (length xs)) (on_one_way side (length xs)) uv (λ a b p ne. r.others a b p ne d) (λ a b p q. r.around a b p q d) (below d)
+          others = λ a b p ne d. node_others (toward side cmp) (toward_total side o)
+              (λ k. get_or xs k d) (λ k. get_or ys k d) u v (swapped d) (strict d)
+              (PrecedesOn side (length xs)) (on_apart side (length xs))
+              (on_one_way side (length xs)) uv (λ a b p ne. r.others a b p ne d)
+              (λ a b p q. r.around a b p q d) (below d)
               a b (rw size at p) ne;
-          around = λ a b p q d. node_around (toward side cmp) (toward_total side o) (λ k. get_or xs k d) (λ k. get_or ys k d) u v (swapped d) (strict d)
-              (PrecedesOn side (length xs)) (on_apart side (length xs)) (on_one_way side (length xs)) uv (λ a b p ne. r.others a b p ne d) (λ a b p q. r.around a b p q d) (below d)
+          around = λ a b p q d. node_around (toward side cmp) (toward_total side o)
+              (λ k. get_or xs k d) (λ k. get_or ys k d) u v (swapped d) (strict d)
+              (PrecedesOn side (length xs)) (on_apart side (length xs))
+              (on_one_way side (length xs)) uv (λ a b p ne. r.others a b p ne d)
+              (λ a b p q. r.around a b p q d) (below d)
               a b (rw size at p) (rw size at q);
           below_other = λ b p d.
               let vb = other_above_after side (length xs) u v b r.end low_u low_v other p in
               let b_u : b ≢ u = λ x. on_one_way side (length xs) u v uv (rw (← x) vb) in
-              u_rest (toward side cmp) (toward_total side o) (λ k. get_or xs k d) (λ k. get_or ys k d) u v (swapped d) (strict d) b b_u
-              (λ x. on_apart side (length xs) v b vb (sym x)) (r.others v b vb (λ x. on_apart side (length xs) u v uv (sym x)) d);
+              u_rest (toward side cmp) (toward_total side o) (λ k. get_or xs k d)
+              (λ k. get_or ys k d) u v (swapped d) (strict d) b b_u
+              (λ x. on_apart side (length xs) v b vb (sym x))
+              (r.others v b vb (λ x. on_apart side (length xs) u v uv (sym x)) d);
         }
 
     pub node_ordered : IsOther u v → (b : ℕ) → PrecedesOn side (length ys) u b → b / 2 ≡ u / 2
         → InOrder side cmp ys u b
     node_ordered other b p same d =
         let e : b ≡ v = one_other u v b other (other_is side (length ys) u b p same) in
-        rw e (ordered_now (toward side cmp) (toward_total side o) (λ k. get_or xs k d) (λ k. get_or ys k d) u v (swapped d) (strict d))
+        rw e (ordered_now (toward side cmp) (toward_total side o) (λ k. get_or xs k d)
+        (λ k. get_or ys k d) u v (swapped d) (strict d))
 
     -- the first of the ends below
     pub sinking_more : IsChildEnd side (length xs) u v
@@ -182,28 +209,39 @@ module _ {T : Type 0} (side : Direction) (cmp : T → T → Ordering) (o : IsTot
     sinking_more child ordered first r =
         let uv = child.precedes in
         let ends = child_is_end side (length xs) u v child in
-        let only = λ (a : ℕ) (p : PrecedesOn side (length xs) a v). one_above side (length xs) a v ends p ∙ sym (one_above side (length xs) u v ends uv) in
-        let back = λ (d : T). not_both (toward side cmp) (toward_total side o) (get_or xs u d) (get_or xs v d) (strict d) in
+        let only = λ (a : ℕ) (p : PrecedesOn side (length xs) a v). one_above side
+        (length xs) a v ends p ∙ sym (one_above side (length xs) u v ends uv) in
+        let back = λ (d : T). not_both (toward side cmp) (toward_total side o) (get_or xs u d)
+        (get_or xs v d) (strict d) in
         let before = λ (d : T) (b : ℕ) (p : PrecedesOn side (length xs) u b) (ne : b ≢ v). ⊎_elim
         (λ (same : b / 2 ≡ u / 2). upto (toward_total side o) _ _ _ (back d) (ordered b p same d))
         (λ (rest : IsChildEnd side (length xs) u b ⊎ IsOtherAbove side u b). ⊎_elim
         (λ (k : IsChildEnd side (length xs) u b). first b k d)
-        (λ (other : IsOtherAbove side u b). absurd (no_other_above_full side (length xs) u v b child p other))
+        (λ (other : IsOtherAbove side u b). absurd
+        (no_other_above_full side (length xs) u v b child p other))
         rest)
         (after_end side (length xs) u b p) in
         record {
           within = rw size low_v;
           end = rw size ends;
-          others = λ a b p ne d. sink_others (toward side cmp) (toward_total side o) (λ k. get_or xs k d) (λ k. get_or ys k d) u v (swapped d) (strict d)
-              (PrecedesOn side (length xs)) (on_apart side (length xs)) (on_one_way side (length xs)) uv (λ a b p ne. r.others a b p ne d) (λ a b p q. r.around a b p q d) only (before d)
+          others = λ a b p ne d. sink_others (toward side cmp) (toward_total side o)
+              (λ k. get_or xs k d) (λ k. get_or ys k d) u v (swapped d) (strict d)
+              (PrecedesOn side (length xs)) (on_apart side (length xs))
+              (on_one_way side (length xs)) uv (λ a b p ne. r.others a b p ne d)
+              (λ a b p q. r.around a b p q d) only (before d)
               a b (rw size at p) ne;
-          around = λ a b p q d. sink_around (toward side cmp) (toward_total side o) (λ k. get_or xs k d) (λ k. get_or ys k d) u v (swapped d) (strict d)
-              (PrecedesOn side (length xs)) (on_apart side (length xs)) (on_one_way side (length xs)) uv (λ a b p ne. r.others a b p ne d) (λ a b p q. r.around a b p q d) only (before d)
+          around = λ a b p q d. sink_around (toward side cmp) (toward_total side o)
+              (λ k. get_or xs k d) (λ k. get_or ys k d) u v (swapped d) (strict d)
+              (PrecedesOn side (length xs)) (on_apart side (length xs))
+              (on_one_way side (length xs)) uv (λ a b p ne. r.others a b p ne d)
+              (λ a b p q. r.around a b p q d) only (before d)
               a b (rw size at p) (rw size at q);
           below_other = λ b p d.
               let full = full_above_child side (length xs) u v b r.end child p in
-              let b_v : b ≢ v = λ x. let low = child.below in omega (arith, full.1, ap (λ (k : ℕ). k / 2) x) in
-              v_rest (toward side cmp) (toward_total side o) (λ k. get_or xs k d) (λ k. get_or ys k d) u v (swapped d) (strict d) b
+              let b_v : b ≢ v = λ x. let low = child.below in
+              omega (arith, full.1, ap (λ (k : ℕ). k / 2) x) in
+              v_rest (toward side cmp) (toward_total side o) (λ k. get_or xs k d)
+              (λ k. get_or ys k d) u v (swapped d) (strict d) b
               (λ x. on_apart side (length xs) u b full.0 (sym x)) b_v (ordered b full.0 full.1 d);
         }
 
@@ -242,7 +280,8 @@ module _ {T : Type 0} (cmp : T → T → Ordering) (o : IsTotalOrder cmp) (xs : 
       (is_low : low ≡ 2 * ((last - 2) / 4)) where
     -- the interval above the last item
     above_order : (d : T) → is_gt (cmp (get_or xs low d) (get_or xs (low + 1) d)) ≡ false
-    above_order d = old low (low + 1) (rw is_low (above_single last even some)) (omega arith) (omega arith) d
+    above_order d = old low (low + 1) (rw is_low (above_single last even some)) (omega arith)
+        (omega arith) d
 
     after_is : (b : ℕ) → Precedes (last + 1) last b → b ≡ low + 1
     after_is b p = rw is_low (after_single last b even p)
@@ -264,7 +303,8 @@ module _ {T : Type 0} (cmp : T → T → Ordering) (o : IsTotalOrder cmp) (xs : 
               ⊎_elim
               (λ (e : a ≡ last).
               let there : b ≡ low + 1 = after_is b (from_at (last + 1) a last b e q) in
-              rw (e, there) (upto o _ _ _ (not_both cmp o (get_or xs low d) (get_or xs last d) (strict d)) (above_order d)))
+              rw (e, there) (upto o _ _ _ (not_both cmp o (get_or xs low d) (get_or xs last d)
+              (strict d)) (above_order d)))
               (λ (ne' : a ≢ last). old a b q (below_last a inside.0 ne') low_b d)
               (cases_eq a last);
           around = λ a b p q d.
@@ -284,7 +324,8 @@ module _ {T : Type 0} (cmp : T → T → Ordering) (o : IsTotalOrder cmp) (xs : 
               let inside = on_within Front (last + 1) b a q in
               let low_b : b < last = below_last b inside.0 ne in
               ⊎_elim
-              (λ (e : a ≡ last). let there : b ≡ low = before_is b (to_at (last + 1) b a last e q) in rw (e, there) (upto_last d))
+              (λ (e : a ≡ last). let there : b ≡ low =
+              before_is b (to_at (last + 1) b a last e q) in rw (e, there) (upto_last d))
               (λ (ne' : a ≢ last). old b a q low_b (below_last a inside.1 ne') d)
               (cases_eq a last);
           around = λ a b p q d.
@@ -313,7 +354,9 @@ module _ {T : Type 0} (cmp : T → T → Ordering) (o : IsTotalOrder cmp) (xs : 
               let inside = on_within Front (last + 1) b a q in
               let low_b : b < last = below_last b inside.0 ne in
               ⊎_elim
-              (λ (e : a ≡ last). let there = before_pair last b odd (to_at (last + 1) b a last e q) in let same : b ≡ first = omega arith in rw (e, same) (upto_last d))
+              (λ (e : a ≡ last). let there = before_pair last b odd
+              (to_at (last + 1) b a last e q) in let same : b ≡ first = omega arith in
+              rw (e, same) (upto_last d))
               (λ (ne' : a ≢ last). old b a q low_b (below_last a inside.1 ne') d)
               (cases_eq a last);
           around = λ a b p q d.
@@ -340,12 +383,17 @@ module _ {T : Type 0} (cmp : T → T → Ordering) (o : IsTotalOrder cmp) (xs : 
               (λ (e : b ≡ last).
               let there = before_pair last a odd (to_at (last + 1) a b last e q) in
               let same : a ≡ first = omega arith in
-              rw (e, same) (ordered_now cmp o (λ k. get_or xs k d) (λ k. get_or ys k d) first last (s d) (strict d)))
+              rw (e, same) (ordered_now cmp o (λ k. get_or xs k d) (λ k. get_or ys k d) first last
+              (s d) (strict d)))
               (λ (b_last : b ≢ last). ⊎_elim
-              (λ (e : a ≡ last). rw e (v_rest cmp o (λ k. get_or xs k d) (λ k. get_or ys k d) first last (s d) (strict d) b ne b_last (single_order b (from_at (last + 1) a last b e q) d)))
+              (λ (e : a ≡ last). rw e (v_rest cmp o (λ k. get_or xs k d)
+              (λ k. get_or ys k d) first last (s d) (strict d) b ne b_last
+              (single_order b (from_at (last + 1) a last b e q) d)))
               (λ (a_last : a ≢ last). ⊎_elim
-              (λ (e : a ≡ first). absurd (b_last (after_low_pair last b odd (from_at (last + 1) a (last - 1) b (e ∙ is_first) q))))
-              (λ (a_first : a ≢ first). rest_rest cmp o (λ k. get_or xs k d) (λ k. get_or ys k d) first last (s d) (strict d) a b a_first a_last ne b_last
+              (λ (e : a ≡ first). absurd (b_last (after_low_pair last b odd
+              (from_at (last + 1) a (last - 1) b (e ∙ is_first) q))))
+              (λ (a_first : a ≢ first). rest_rest cmp o (λ k. get_or xs k d)
+              (λ k. get_or ys k d) first last (s d) (strict d) a b a_first a_last ne b_last
               (old a b q (below_last a inside.0 a_last) (below_last b inside.1 b_last) d))
               (cases_eq a first))
               (cases_eq a last))
@@ -353,11 +401,14 @@ module _ {T : Type 0} (cmp : T → T → Ordering) (o : IsTotalOrder cmp) (xs : 
           around = λ a b p q d.
               let pa : Precedes (last + 1) a first = rw (← size_y) p in
               let qb : Precedes (last + 1) first b = rw (← size_y) q in
-              let at_b : b ≡ last = after_low_pair last b odd (from_at (last + 1) first (last - 1) b is_first qb) in
+              let at_b : b ≡ last = after_low_pair last b odd
+              (from_at (last + 1) first (last - 1) b is_first qb) in
               let inside = on_within Front (last + 1) a first pa in
               let a_first = on_apart Front (last + 1) a first pa in
-              let a_last : a ≢ last = λ e. let there = after_pair_first last first a odd is_first e pa in absurd there in
-              rw at_b (rest_v cmp o (λ k. get_or xs k d) (λ k. get_or ys k d) first last (s d) (strict d) a a_first a_last
+              let a_last : a ≢ last = λ e. let there =
+              after_pair_first last first a odd is_first e pa in absurd there in
+              rw at_b (rest_v cmp o (λ k. get_or xs k d) (λ k. get_or ys k d) first last (s d)
+              (strict d) a a_first a_last
               (old a first pa (below_last a inside.0 a_last) (omega arith) d));
         }
 
@@ -384,19 +435,33 @@ root_past Back m k e past = omega arith
 end_is_root : (side : Direction) (n k root : ℕ) → IsRoot side n root → IsEnd side n k → k < n
     → k ≤ 1 → k ≡ root
 end_is_root Front n k root e h low one = omega arith
-end_is_root Back n k root e h low one = ⊎_elim (λ (z : k ≡ 0). let last = h (ap (λ (j : ℕ). j % 2) z) in omega arith) (λ (nz : k ≢ 0). omega arith) (cases_eq k 0)
+end_is_root Back n k root e h low one = ⊎_elim
+    (λ (z : k ≡ 0). let last = h (ap (λ (j : ℕ). j % 2) z) in omega arith)
+    (λ (nz : k ≢ 0). omega arith) (cases_eq k 0)
 
 -- each place is an end, or right after the end of its node
 end_or_after : (side : Direction) (n k : ℕ) → k < n
     → IsEnd side n k ⊎ ((j : ℕ) × (j < n) × IsEnd side n j × PrecedesOn side n j k)
 end_or_after Front n k low = ⊎_elim
     (λ (even : k % 2 ≡ 0). inl even)
-    (λ (odd : k % 2 ≢ 0). inr (k - 1, omega arith, omega arith, inr (inl (record { low = omega arith; high = omega arith; within = low }))))
+    (λ (odd : k % 2 ≢ 0). inr (
+      k - 1,
+      omega arith,
+      omega arith,
+      inr
+          (inl (record { low = omega arith; high = omega arith; within = low })),
+    ))
     (cases_eq (k % 2) 0)
 end_or_after Back n k low = ⊎_elim
     (λ (even : k % 2 ≡ 0). ⊎_elim
     (λ (last : k + 1 ≡ n). inl (λ e. last))
-    (λ (full : k + 1 ≢ n). inr (k + 1, omega arith, (λ e. absurd (omega arith)), inr (inl (record { low = even; high = refl; within = omega arith }))))
+    (λ (full : k + 1 ≢ n). inr (
+      k + 1,
+      omega arith,
+      (λ e. absurd (omega arith)),
+      inr
+          (inl (record { low = even; high = refl; within = omega arith })),
+    ))
     (cases_eq (k + 1) n))
     (λ (odd : k % 2 ≢ 0). inl (λ e. absurd (odd e)))
     (cases_eq (k % 2) 0)
@@ -405,22 +470,29 @@ module _ {T : Type 0} (side : Direction) (cmp : T → T → Ordering) (o : IsTot
     (xs : List T) (heap : IsIntervalHeap cmp xs) (root : ℕ) where
   ends_after_root : IsRoot side (length xs) root → (f k : ℕ) → k ≤ f → k < length xs
       → IsEnd side (length xs) k → InOrder side cmp xs root k
-  ends_after_root is zero k enough low ends = rw (end_is_root side (length xs) k root is ends low (omega arith)) (in_order_itself side cmp o xs root)
+  ends_after_root is zero k enough low ends = rw
+      (end_is_root side (length xs) k root is ends low (omega arith))
+      (in_order_itself side cmp o xs root)
   ends_after_root is (suc f) k enough low ends = ⊎_elim
-      (λ (near : k < 2). rw (end_is_root side (length xs) k root is ends low (omega arith)) (in_order_itself side cmp o xs root))
+      (λ (near : k < 2). rw (end_is_root side (length xs) k root is ends low (omega arith))
+      (in_order_itself side cmp o xs root))
       (λ (far : 2 ≤ k).
       let above : ℕ = above_of side k in
       let below = above_below side k far in
       let p = above_precedes side (length xs) k ends far low in
-      let up = ends_after_root is f (above_of side k) (omega arith) (omega arith) (above_is_end side (length xs) k) in
-      λ d. upto (toward_total side o) _ _ _ (up d) (heap_to side cmp xs heap (above_of side k) k p d))
+      let up = ends_after_root is f (above_of side k) (omega arith) (omega arith)
+      (above_is_end side (length xs) k) in
+      λ d. upto (toward_total side o) _ _ _ (up d)
+      (heap_to side cmp xs heap (above_of side k) k p d))
       (cases_lt k 2)
 
   pub root_first : IsRoot side (length xs) root → (k : ℕ) → k < length xs
       → InOrder side cmp xs root k
   root_first is k low = ⊎_elim
       (λ (ends : IsEnd side (length xs) k). ends_after_root is k k (omega arith) low ends)
-      (λ after. λ d. upto (toward_total side o) _ _ _ (ends_after_root is after.0 after.0 (omega arith) after.1 after.2 d) (heap_to side cmp xs heap after.0 k after.3 d))
+      (λ after. λ d. upto (toward_total side o) _ _ _
+      (ends_after_root is after.0 after.0 (omega arith) after.1 after.2 d)
+      (heap_to side cmp xs heap after.0 k after.3 d))
       (end_or_after side (length xs) k low)
 
   -- the last item has taken the root's place
@@ -430,7 +502,9 @@ module _ {T : Type 0} (side : Direction) (cmp : T → T → Ordering) (o : IsTot
         → is_gt (cmp (get_or xs a d) (get_or xs b d)) ≡ false
     longer a b p d = ⊎_elim
         (λ (q : Precedes (length ys + 1) a b). heap d a b (rw (← size) q))
-        (λ (q : Precedes (length ys + 1) a (length ys) × Precedes (length ys + 1) (length ys) b). upto o _ _ _ (heap d a (length ys) (rw (← size) q.0)) (heap d (length ys) b (rw (← size) q.1)))
+        (λ (q : Precedes (length ys + 1) a (length ys) × Precedes (length ys + 1) (length ys) b).
+        upto o _ _ _ (heap d a (length ys) (rw (← size) q.0))
+        (heap d (length ys) b (rw (← size) q.1)))
         (precedes_longer (length ys) a b p)
 
     longer_on : (side' : Direction) (a b : ℕ) → PrecedesOn side' (length ys) a b
@@ -450,12 +524,14 @@ module _ {T : Type 0} (side : Direction) (cmp : T → T → Ordering) (o : IsTot
                 end = ends;
                 others = λ a b p ne d.
                     let inside = on_within side (length ys) a b p in
-                    let b_root : b ≢ root = λ e. none_above_root side (length ys) a root ends one (rw (← e) p) in
+                    let b_root : b ≢ root = λ e. none_above_root side (length ys) a root ends one
+                    (rw (← e) p) in
                     let at_a = kept a d ne (omega (arith, inside.0)) in
                     let at_b = kept b d b_root (omega (arith, inside.1)) in
                     rw (at_a, at_b) (longer_on side a b p d);
                 around = λ a b p q. absurd (none_above_root side (length ys) a root ends one p);
                 below_other = λ b p. absurd (no_other_above_root side root b one p);
               };
-          past = λ past. let few = root_past side (length ys) root is' past in λ d a b p. absurd (none_among_one (length ys) a b few p);
+          past = λ past. let few = root_past side (length ys) root is' past in
+              λ d a b p. absurd (none_among_one (length ys) a b few p);
         }

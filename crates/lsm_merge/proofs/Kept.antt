@@ -1,5 +1,7 @@
 -- What a merger stands for while some entries of its sources are held.
-use Rattle.std.specs.Prelude.{◌≡◌, ℕ, ◌<◌, ◌≤◌, ◌==◌, ◌&&◌, Bool, true, false, List, [], ◌∷◌, ◌++◌, map, All, Contains, count_by, slice_index_or, Option, Some, None, Ok, Err}
+use Rattle.std.specs.Prelude.{◌≡◌, ℕ, ◌<◌, ◌≤◌, ◌==◌, ◌&&◌, Bool, true, false, List, [], ◌∷◌, ◌++◌}
+use Rattle.std.specs.Prelude.{map, All, Contains, count_by, slice_index_or, Option, Some, None, Ok}
+use Rattle.std.specs.Prelude.{Err}
 use Rattle.std.specs.List.{AllZip, AllByRecursion}
 use Rattle.sst_entries.specs.Entry.{Entry}
 use Rattle.sst_entries.specs.Stream.{answer_stops}
@@ -27,7 +29,8 @@ is_same_end Back Back = true
 abbrev pub is_from : {A : Type 0} → ℕ → Direction → HeapItem A → Bool
 is_from k end h = (h.source == k) && is_same_end end h.end
 
--- an entry that was taken from the front, what was not taken yet, and an entry that was taken from the back
+-- an entry that was taken from the front, what was not taken yet, and an entry that was taken from
+-- the back
 pub record Kept : Type 0 where
   pub front : Option Entry
   pub rest : List R
@@ -78,7 +81,8 @@ module _ {S : Type 0} (stops : Error → Bool) (front back : S → Option R → 
     pub heap : HeapHolds m.heap.items ks
 
   -- the entries that it still deals in this order, and the errors among them
-  pub record Merging {A : Type 0} (m : Merger S A) (xs : List Entry) (errors : List Error) : Type 0 where
+  pub record Merging {A : Type 0} (m : Merger S A) (xs : List Entry)
+      (errors : List Error) : Type 0 where
     pub kept : List Kept
     pub stands : Stands m kept
     pub ready : (end : Direction) → Ready (is_ready end m) end kept
@@ -90,11 +94,13 @@ module _ {S : Type 0} (stops : Error → Bool) (front back : S → Option R → 
   LeavesIf false m xs errors = Merging m xs errors
 
   -- the same, where after an error nothing is left
-  pub record Leaves {A : Type 0} (m : Merger S A) (xs : List Entry) (errors : List Error) : Type 0 where
+  pub record Leaves {A : Type 0} (m : Merger S A) (xs : List Entry)
+      (errors : List Error) : Type 0 where
     pub parts : LeavesIf m.failed m xs errors
 
   -- after one was taken from an end of source i
-  pub record Took {A : Type 0} (end : Direction) (i : ℕ) (ks : List Kept) (m : Merger S A) : Type 0 where
+  pub record Took {A : Type 0} (end : Direction) (i : ℕ) (ks : List Kept)
+      (m : Merger S A) : Type 0 where
     pub kept : List Kept
     pub stands : Stands m kept
     pub wholes : map whole kept ≡ map whole ks
@@ -103,7 +109,8 @@ module _ {S : Type 0} (stops : Error → Bool) (front back : S → Option R → 
     pub shrinks : (k : ℕ) → (kept_at ks k).rest ≡ [] → (kept_at kept k).rest ≡ []
 
   -- after one was taken from an end of each source below i
-  pub record Filled {A : Type 0} (end : Direction) (i : ℕ) (ks : List Kept) (m : Merger S A) : Type 0 where
+  pub record Filled {A : Type 0} (end : Direction) (i : ℕ) (ks : List Kept)
+      (m : Merger S A) : Type 0 where
     pub kept : List Kept
     pub stands : Stands m kept
     pub wholes : map whole kept ≡ map whole ks
@@ -112,15 +119,20 @@ module _ {S : Type 0} (stops : Error → Bool) (front back : S → Option R → 
     pub other : (k : ℕ) → taken kept k (opposite end) ≡ taken ks k (opposite end)
     pub shrinks : (k : ℕ) → (kept_at ks k).rest ≡ [] → (kept_at kept k).rest ≡ []
 
--- an entry: the one of that end, and the others are left; an error: one of those to come, and nothing is left; `None`: nothing was left, no error either
-abbrev pub MergeAnswer : {T : Type 0} → (T → List Entry → List Error → Type 0) → Option Entry × List Entry → List Error → Option R → T → Type 0
+-- an entry: the one of that end, and the others are left; an error: one of those to come, and
+-- nothing is left; `None`: nothing was left, no error either
+abbrev pub MergeAnswer : {T : Type 0} → (T → List Entry → List Error → Type 0)
+    → Option Entry × List Entry → List Error → Option R → T → Type 0
 MergeAnswer Has step errors None t = (step.0 ≡ None) × (errors ≡ []) × Has t [] []
 MergeAnswer Has step errors (Some (Ok x)) t = (step.0 ≡ Some x) × Has t step.1 errors
 MergeAnswer Has step errors (Some (Err e)) t = Contains errors e × Has t [] []
 
 -- one call of a merger. An error ends it: from then on it gives `None`
-pub record Merges {T : Type 0} (May Ended : T → Type 0) (Has : (Error → Bool) → T → List Entry → List Error → Type 0) (end : List Entry → Option Entry × List Entry) (s : T) (r : Option R) (t : T) : Type 0 where
+pub record Merges {T : Type 0} (May Ended : T → Type 0)
+    (Has : (Error → Bool) → T → List Entry → List Error → Type 0)
+    (end : List Entry → Option Entry × List Entry) (s : T) (r : Option R) (t : T) : Type 0 where
   pub may : May t
-  pub gives : (stops : Error → Bool) (xs : List Entry) (errors : List Error) → Has stops s xs errors → answer_stops stops r ≡ false → MergeAnswer (Has stops) (end xs) errors r t
+  pub gives : (stops : Error → Bool) (xs : List Entry) (errors : List Error) → Has stops s xs errors
+      → answer_stops stops r ≡ false → MergeAnswer (Has stops) (end xs) errors r t
   pub ends : (e : Error) → r ≡ Some (Err e) → Ended t
   pub ended : Ended s → (r ≡ None) × Ended t

@@ -26,23 +26,29 @@ module _ {T : Type 0} (cmp : T → T → Ordering) (o : IsTotalOrder cmp) (f g :
   turned_back = not_both cmp o (f u) (f v) strict
 
   pub ordered_now : Upto cmp g u v
-  ordered_now = at_u (λ x. is_gt (cmp x (g v)) ≡ false) (at_v (λ y. is_gt (cmp (f v) y) ≡ false) turned_back)
+  ordered_now = at_u (λ x. is_gt (cmp x (g v)) ≡ false)
+      (at_v (λ y. is_gt (cmp (f v) y) ≡ false) turned_back)
 
   -- a that is neither, before b that is neither
   pub rest_rest : (a b : ℕ) → a ≢ u → a ≢ v → b ≢ u → b ≢ v → Upto cmp f a b → Upto cmp g a b
-  rest_rest a b p q r t h = at_rest (λ x. is_gt (cmp x (g b)) ≡ false) a p q (at_rest (λ y. is_gt (cmp (f a) y) ≡ false) b r t h)
+  rest_rest a b p q r t h = at_rest (λ x. is_gt (cmp x (g b)) ≡ false) a p q
+      (at_rest (λ y. is_gt (cmp (f a) y) ≡ false) b r t h)
 
   pub u_rest : (b : ℕ) → b ≢ u → b ≢ v → Upto cmp f v b → Upto cmp g u b
-  u_rest b r t h = at_u (λ x. is_gt (cmp x (g b)) ≡ false) (at_rest (λ y. is_gt (cmp (f v) y) ≡ false) b r t h)
+  u_rest b r t h = at_u (λ x. is_gt (cmp x (g b)) ≡ false)
+      (at_rest (λ y. is_gt (cmp (f v) y) ≡ false) b r t h)
 
   pub v_rest : (b : ℕ) → b ≢ u → b ≢ v → Upto cmp f u b → Upto cmp g v b
-  v_rest b r t h = at_v (λ x. is_gt (cmp x (g b)) ≡ false) (at_rest (λ y. is_gt (cmp (f u) y) ≡ false) b r t h)
+  v_rest b r t h = at_v (λ x. is_gt (cmp x (g b)) ≡ false)
+      (at_rest (λ y. is_gt (cmp (f u) y) ≡ false) b r t h)
 
   pub rest_u : (a : ℕ) → a ≢ u → a ≢ v → Upto cmp f a v → Upto cmp g a u
-  rest_u a p q h = at_rest (λ x. is_gt (cmp x (g u)) ≡ false) a p q (at_u (λ y. is_gt (cmp (f a) y) ≡ false) h)
+  rest_u a p q h = at_rest (λ x. is_gt (cmp x (g u)) ≡ false) a p q
+      (at_u (λ y. is_gt (cmp (f a) y) ≡ false) h)
 
   pub rest_v : (a : ℕ) → a ≢ u → a ≢ v → Upto cmp f a u → Upto cmp g a v
-  rest_v a p q h = at_rest (λ x. is_gt (cmp x (g v)) ≡ false) a p q (at_v (λ y. is_gt (cmp (f a) y) ≡ false) h)
+  rest_v a p q h = at_rest (λ x. is_gt (cmp x (g v)) ≡ false) a p q
+      (at_v (λ y. is_gt (cmp (f a) y) ≡ false) h)
 
   module _ (E : ℕ → ℕ → Type 0) (apart : (a b : ℕ) → E a b → a ≢ b)
       (one_way : (a b : ℕ) → E a b → E b a → ⊥) (uv : E u v) where
@@ -53,9 +59,11 @@ module _ {T : Type 0} (cmp : T → T → Ordering) (o : IsTotalOrder cmp) (f g :
       rise_others a b e b_u = ⊎_elim
           (λ (bv : b ≡ v). let au : a ≡ u = only a (rw (← bv) e) in rw (au, bv) ordered_now)
           (λ (b_v : b ≢ v). ⊎_elim
-          (λ (au : a ≡ u). let ub : E u b = rw (← au) e in rw au (u_rest b b_u b_v (upto o _ _ _ turned_back (others u b ub b_v))))
+          (λ (au : a ≡ u). let ub : E u b = rw (← au) e in
+          rw au (u_rest b b_u b_v (upto o _ _ _ turned_back (others u b ub b_v))))
           (λ (a_u : a ≢ u). ⊎_elim
-          (λ (av : a ≡ v). let vb : E v b = rw (← av) e in rw av (v_rest b b_u b_v (around u b uv vb)))
+          (λ (av : a ≡ v). let vb : E v b = rw (← av) e in
+          rw av (v_rest b b_u b_v (around u b uv vb)))
           (λ (a_v : a ≢ v). rest_rest a b a_u a_v b_u b_v (others a b e b_v))
           (cases_eq a v))
           (cases_eq a u))
@@ -69,7 +77,8 @@ module _ {T : Type 0} (cmp : T → T → Ordering) (o : IsTotalOrder cmp) (f g :
           let b_u : b ≢ u = λ e. apart u b ub (sym e) in
           ⊎_elim
           (λ (bv : b ≡ v). rw bv (rest_v a a_u a_v (others a u au u_v)))
-          (λ (b_v : b ≢ v). rest_rest a b a_u a_v b_u b_v (upto o _ _ _ (others a u au u_v) (others u b ub b_v)))
+          (λ (b_v : b ≢ v). rest_rest a b a_u a_v b_u b_v
+          (upto o _ _ _ (others a u au u_v) (others u b ub b_v)))
           (cases_eq b v)
 
     module _ (others : (a b : ℕ) → E a b → a ≢ u → Upto cmp f a b)
@@ -84,7 +93,8 @@ module _ {T : Type 0} (cmp : T → T → Ordering) (o : IsTotalOrder cmp) (f g :
             (λ (b_v : b ≢ v). rw au (u_rest b (λ x. apart u b ub (sym x)) b_v (first b ub b_v)))
             (cases_eq b v))
             (λ (a_u : a ≢ u). ⊎_elim
-            (λ (bu : b ≡ u). let eu : E a u = rw (← bu) e in rw bu (rest_u a a_u a_v (around a v eu uv)))
+            (λ (bu : b ≡ u). let eu : E a u = rw (← bu) e in
+            rw bu (rest_u a a_u a_v (around a v eu uv)))
             (λ (b_u : b ≢ u). ⊎_elim
             (λ (bv : b ≡ v). absurd (a_u (only a (rw (← bv) e))))
             (λ (b_v : b ≢ v). rest_rest a b a_u a_v b_u b_v (others a b e a_u))
@@ -107,9 +117,11 @@ module _ {T : Type 0} (cmp : T → T → Ordering) (o : IsTotalOrder cmp) (f g :
             let b_u : b ≢ u = λ x. one_way u v uv (rw (← x) vb) in
             rw av (v_rest b b_u (λ x. apart v b vb (sym x)) (below b vb)))
             (λ (a_v : a ≢ v). ⊎_elim
-            (λ (bv : b ≡ v). rw bv (rest_v a a_u a_v (upto o _ _ _ (others a v (rw (← bv) e) a_u) turned_back)))
+            (λ (bv : b ≡ v). rw bv (rest_v a a_u a_v
+            (upto o _ _ _ (others a v (rw (← bv) e) a_u) turned_back)))
             (λ (b_v : b ≢ v). ⊎_elim
-            (λ (bu : b ≡ u). let eu : E a u = rw (← bu) e in rw bu (rest_u a a_u a_v (around a v eu uv)))
+            (λ (bu : b ≡ u). let eu : E a u = rw (← bu) e in
+            rw bu (rest_u a a_u a_v (around a v eu uv)))
             (λ (b_u : b ≢ u). rest_rest a b a_u a_v b_u b_v (others a b e a_u))
             (cases_eq b u))
             (cases_eq b v))

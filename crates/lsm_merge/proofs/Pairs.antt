@@ -1,5 +1,6 @@
 -- A strict list, pair by pair.
-use Rattle.std.proofs.Common.{◌≡◌, refl, ◌∙◌, ap, subst, ℕ, ◌<◌, ◌⊎◌, inl, inr, true, List, [], ◌∷◌, arith, rules}
+use Rattle.std.proofs.Common.{◌≡◌, refl, ◌∙◌, ap, subst, ℕ, ◌<◌, ◌⊎◌, inl, inr, true, List, [], ◌∷◌}
+use Rattle.std.proofs.Common.{arith, rules}
 use Rattle.std.specs.Prelude.{Option, Some, None}
 use Rattle.std.specs.List.{AllByRecursion}
 use Rattle.std.specs.declared.cmp.Ordering.{Ordering}
@@ -17,12 +18,15 @@ abbrev pub AllBefore : List Entry → Type 0
 AllBefore [] = Unit {0}
 AllBefore (x ∷ xs) = AllByRecursion (λ y. is_before x y ≡ true) xs × AllBefore xs
 
-after_all : (x : Entry) (es : List Entry) → IsStrictAfter (Some x) es → AllByRecursion (λ y. is_before x y ≡ true) es
+after_all : (x : Entry) (es : List Entry) → IsStrictAfter (Some x) es
+    → AllByRecursion (λ y. is_before x y ≡ true) es
 unfolding IsStrictAfter
 after_all x [] h = tt
 after_all x (e ∷ es) h = (h.0, beyond x e es h.0 (after_all e es h.1))
   where
-    beyond : (x e : Entry) (es : List Entry) → is_before x e ≡ true → AllByRecursion (λ y. is_before e y ≡ true) es → AllByRecursion (λ y. is_before x y ≡ true) es
+    beyond : (x e : Entry) (es : List Entry) → is_before x e ≡ true
+        → AllByRecursion (λ y. is_before e y ≡ true) es
+        → AllByRecursion (λ y. is_before x y ≡ true) es
     beyond x e [] h k = tt
     beyond x e (f ∷ es) h k = (before_trans x e f h k.0, beyond x e es h k.1)
 
@@ -34,7 +38,8 @@ before_all before (e ∷ es) h = (after_all e es h.1, before_all (Some e) es h.1
 pub pairs_of : (es : List Entry) → IsStrict es → AllBefore es
 pairs_of es h = before_all None es h
 
-chained : (x : Entry) (es : List Entry) → AllByRecursion (λ y. is_before x y ≡ true) es → AllBefore es → IsStrictAfter (Some x) es
+chained : (x : Entry) (es : List Entry) → AllByRecursion (λ y. is_before x y ≡ true) es
+    → AllBefore es → IsStrictAfter (Some x) es
 unfolding IsStrictAfter
 chained x [] h k = tt
 chained x (e ∷ es) h k = (h.0, chained e es k.0 k.1)
@@ -46,7 +51,8 @@ strict_from (e ∷ es) h = (refl, chained e es h.0 h.1)
 
 -- an entry comes before another: its key is smaller, or it is a newer version of the same key
 abbrev pub Precedes : Entry → Entry → Type 0
-Precedes x y = (key_lt x.user_key y.user_key ≡ true) ⊎ ((x.user_key ≡ y.user_key) × (y.seqno < x.seqno))
+Precedes x y = (key_lt x.user_key y.user_key ≡ true)
+    ⊎ ((x.user_key ≡ y.user_key) × (y.seqno < x.seqno))
 
 abbrev pub Strict : List Entry → Type 0
 Strict [] = Unit {0}
@@ -59,28 +65,36 @@ pub nat_is_less : (a b : ℕ) → a < b → is_lt (nat_cmp a b) ≡ true
 nat_is_less a b h = grind (arith, rules)
 
 pub precedes_of : (x y : Entry) → is_before x y ≡ true → Precedes x y
-precedes_of x y h = elim (slice_cmp nat_cmp x.user_key y.user_key) as (λ o. slice_cmp nat_cmp x.user_key y.user_key ≡ o → is_lt (ordering_then o (nat_cmp y.seqno x.seqno)) ≡ true → Precedes x y) [
-  | Less ↦ λ e k. inl (ap is_lt e)
-  | Equal ↦ λ e k. inr (tie_same x.user_key y.user_key e, nat_less y.seqno x.seqno k)
-  | Greater ↦ λ e k. absurd cc
-] refl h
+precedes_of x y h = elim (slice_cmp nat_cmp x.user_key y.user_key) as
+    (λ o. slice_cmp nat_cmp x.user_key y.user_key ≡ o
+    → is_lt (ordering_then o (nat_cmp y.seqno x.seqno)) ≡ true → Precedes x y) [
+      | Less ↦ λ e k. inl (ap is_lt e)
+      | Equal ↦ λ e k. inr (tie_same x.user_key y.user_key e, nat_less y.seqno x.seqno k)
+      | Greater ↦ λ e k. absurd cc
+    ] refl h
 
 pub tied : (xs : List ℕ) → slice_cmp nat_cmp xs xs ≡ Equal
 tied xs = search (comparing, rules)
 
 pub before_of : (x y : Entry) → Precedes x y → is_before x y ≡ true
 before_of x y h = elim h [
-  | inl lower ↦ ap (λ (o : Ordering). is_lt (ordering_then o (nat_cmp y.seqno x.seqno))) (less_of (slice_cmp nat_cmp x.user_key y.user_key) lower)
+  | inl lower ↦ ap (λ (o : Ordering). is_lt (ordering_then o (nat_cmp y.seqno x.seqno)))
+      (less_of (slice_cmp nat_cmp x.user_key y.user_key) lower)
   | inr newer ↦
-      let tie : slice_cmp nat_cmp x.user_key y.user_key ≡ Equal = subst (λ (k : List ℕ). slice_cmp nat_cmp x.user_key k ≡ Equal) newer.0 (tied x.user_key) in
-      ap (λ (o : Ordering). is_lt (ordering_then o (nat_cmp y.seqno x.seqno))) tie ∙ nat_is_less y.seqno x.seqno newer.1
+      let tie : slice_cmp nat_cmp x.user_key y.user_key ≡ Equal =
+      subst (λ (k : List ℕ). slice_cmp nat_cmp x.user_key k ≡ Equal) newer.0
+      (tied x.user_key) in
+      ap (λ (o : Ordering). is_lt (ordering_then o (nat_cmp y.seqno x.seqno))) tie
+      ∙ nat_is_less y.seqno x.seqno newer.1
 ]
 
-all_precede : (x : Entry) (es : List Entry) → AllByRecursion (λ y. is_before x y ≡ true) es → AllByRecursion (Precedes x) es
+all_precede : (x : Entry) (es : List Entry) → AllByRecursion (λ y. is_before x y ≡ true) es
+    → AllByRecursion (Precedes x) es
 all_precede x [] h = tt
 all_precede x (e ∷ es) h = (precedes_of x e h.0, all_precede x es h.1)
 
-all_before : (x : Entry) (es : List Entry) → AllByRecursion (Precedes x) es → AllByRecursion (λ y. is_before x y ≡ true) es
+all_before : (x : Entry) (es : List Entry) → AllByRecursion (Precedes x) es
+    → AllByRecursion (λ y. is_before x y ≡ true) es
 all_before x [] h = tt
 all_before x (e ∷ es) h = (before_of x e h.0, all_before x es h.1)
 

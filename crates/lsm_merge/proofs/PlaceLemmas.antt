@@ -14,7 +14,8 @@ pub record IsOther (k b : ℕ) : Type 0 where
 
 -- the high end of a full node
 odd_end : (n u v : ℕ) → IsEnd Back n u → IsOther u v → v < n → u % 2 ≡ 1
-odd_end n u v e h low = ⊎_elim (λ (even : u % 2 ≡ 0). let last = e even in absurd (omega arith)) (λ (odd : u % 2 ≢ 0). omega arith) (cases_eq (u % 2) 0)
+odd_end n u v e h low = ⊎_elim (λ (even : u % 2 ≡ 0). let last = e even in absurd (omega arith))
+    (λ (odd : u % 2 ≢ 0). omega arith) (cases_eq (u % 2) 0)
 
 precedes_apart : (n a b : ℕ) → Precedes n a b → a ≢ b
 precedes_apart n a b (inl r) e = omega arith
@@ -70,8 +71,17 @@ one_above Back n a k e (inr (inr r)) = omega arith
 
 pub above_precedes : (side : Direction) (n k : ℕ) → IsEnd side n k → 2 ≤ k → k < n
     → PrecedesOn side n (above_of side k) k
-above_precedes Front n k e some low = inl (record { above = omega arith; low = e; from = omega arith; upto = omega arith; within = low })
-above_precedes Back n k e some low = inr (inr (record { above = omega arith; high = e; from = omega arith; upto = omega arith; within = low }))
+above_precedes Front n k e some low = inl (record
+    { above = omega arith; low = e; from = omega arith; upto = omega arith; within = low })
+above_precedes Back n k e some low = inr (inr
+    (record {
+      above = omega arith;
+      high = e;
+      from = omega arith;
+      upto = omega arith;
+      within =
+          low;
+    }))
 
 pub above_is_end : (side : Direction) (n k : ℕ) → IsEnd side n (above_of side k)
 above_is_end Front n k = omega arith
@@ -84,8 +94,10 @@ above_below Back k h = omega arith
 -- the two ends of a node, seen from either
 pub other_precedes : (side : Direction) (n u v : ℕ) → IsEnd side n u → IsOther u v → u < n → v < n
     → PrecedesOn side n u v
-other_precedes Front n u v e h low low' = inr (inl (record { low = e; high = omega arith; within = low' }))
-other_precedes Back n u v e h low low' = let odd = odd_end n u v e h low' in inr (inl (record { low = omega arith; high = omega arith; within = low }))
+other_precedes Front n u v e h low low' = inr
+    (inl (record { low = e; high = omega arith; within = low' }))
+other_precedes Back n u v e h low low' = let odd = odd_end n u v e h low' in
+    inr (inl (record { low = omega arith; high = omega arith; within = low }))
 
 pub other_is : (side : Direction) (n u b : ℕ) → PrecedesOn side n u b → b / 2 ≡ u / 2 → IsOther u b
 other_is Front n u b (inl r) e = absurd (omega arith)
@@ -104,14 +116,31 @@ pub after_other : (side : Direction) (n u v b : ℕ) → IsEnd side n u → u < 
 after_other Front n u v b e low h (inl r) = absurd (omega arith)
 after_other Front n u v b e low h (inr (inl r)) = absurd (omega arith)
 after_other Front n u v b e low h (inr (inr r)) = (omega arith, omega arith, omega arith)
-after_other Back n u v b e low h (inl r) = let odd = odd_end n u v e h (omega arith) in (omega arith, omega arith, omega arith)
+after_other Back n u v b e low h (inl r) = let odd = odd_end n u v e h (omega arith) in
+    (omega arith, omega arith, omega arith)
 after_other Back n u v b e low h (inr (inl r)) = absurd (omega arith)
 after_other Back n u v b e low h (inr (inr r)) = absurd (omega arith)
 
 pub other_above_after : (side : Direction) (n u v b : ℕ) → IsEnd side n u → u < n → v < n
     → IsOther u v → IsOtherAbove side u b → PrecedesOn side n v b
-other_above_after Front n u v b e low low' h r = inr (inr (record { above = r.0; high = λ x. absurd (omega arith); from = omega arith; upto = omega arith; within = low' }))
-other_above_after Back n u v b e low low' h r = let odd = odd_end n u v e h low' in inl (record { above = r.0; low = omega arith; from = omega arith; upto = omega arith; within = low' })
+other_above_after Front n u v b e low low' h r =
+    inr (inr (record {
+      above = r.0;
+      high = λ x. absurd (omega arith);
+      from = omega arith;
+      upto =
+          omega arith;
+      within = low';
+    }))
+other_above_after Back n u v b e low low' h r = let odd = odd_end n u v e h low' in
+    inl (record {
+      above = r.0;
+      low = omega arith;
+      from = omega arith;
+      upto = omega arith;
+      within =
+          low';
+    })
 
 -- the root has no other end above it
 pub no_other_above_root : (side : Direction) (k b : ℕ) → k ≤ 1 → IsOtherAbove side k b → ⊥
@@ -127,7 +156,8 @@ after_end Front n u b (inr (inl r)) = inl (omega arith)
 after_end Front n u b (inr (inr r)) = inr (inr (r.above, r.from, r.upto))
 after_end Back n u b (inl r) = inr (inr (r.above, r.from, r.upto))
 after_end Back n u b (inr (inl r)) = inl (omega arith)
-after_end Back n u b (inr (inr r)) = inr (inl (record { precedes = inr (inr r); below = omega arith }))
+after_end Back n u b (inr (inr r)) = inr (inl
+    (record { precedes = inr (inr r); below = omega arith }))
 
 pub child_is_end : (side : Direction) (n u c : ℕ) → IsChildEnd side n u c → IsEnd side n c
 child_is_end side n u c k = child_is_end_at side n u c k.precedes k.below
@@ -149,7 +179,8 @@ pub one_end : (side : Direction) (n j k : ℕ) → IsEnd side n j → IsEnd side
 one_end Front n j k e f low low' same = omega arith
 one_end Back n j k e f low low' same = ⊎_elim
     (λ (even : j % 2 ≡ 0). let last = e even in omega arith)
-    (λ (odd : j % 2 ≢ 0). ⊎_elim (λ (even : k % 2 ≡ 0). let last = f even in omega arith) (λ (odd' : k % 2 ≢ 0). omega arith) (cases_eq (k % 2) 0))
+    (λ (odd : j % 2 ≢ 0). ⊎_elim (λ (even : k % 2 ≡ 0). let last = f even in omega arith)
+    (λ (odd' : k % 2 ≢ 0). omega arith) (cases_eq (k % 2) 0))
     (cases_eq (j % 2) 0)
 
 -- the nodes right below
@@ -159,7 +190,8 @@ child_nodes side n u c k = child_nodes_at side n u c k.precedes k.below
   where
     second : (u c : ℕ) → u / 2 * 2 + 1 ≤ c / 2 → c / 2 ≤ u / 2 * 2 + 2
         → (c / 2 ≡ u / 2 * 2 + 1) ⊎ (c / 2 ≡ u / 2 * 2 + 1 + 1)
-    second u c low high = ⊎_elim (λ e. inl e) (λ (ne : c / 2 ≢ u / 2 * 2 + 1). inr (omega arith)) (cases_eq (c / 2) (u / 2 * 2 + 1))
+    second u c low high = ⊎_elim (λ e. inl e) (λ (ne : c / 2 ≢ u / 2 * 2 + 1). inr (omega arith))
+        (cases_eq (c / 2) (u / 2 * 2 + 1))
 
     child_nodes_at : (side : Direction) (n u c : ℕ) → PrecedesOn side n u c → u / 2 < c / 2
         → (c / 2 ≡ u / 2 * 2 + 1) ⊎ (c / 2 ≡ u / 2 * 2 + 1 + 1)
@@ -177,12 +209,17 @@ full_above_child side n u c b e k r = full_at side n u c b e k.precedes k.below 
   where
     full_at : (side : Direction) (n u c b : ℕ) → IsEnd side n u → PrecedesOn side n u c
         → u / 2 < c / 2 → IsOtherAbove side c b → PrecedesOn side n u b × (b / 2 ≡ u / 2)
-    full_at Front n u c b e (inl q) low r = (inr (inl (record { low = e; high = omega arith; within = omega arith })), omega arith)
+    full_at Front n u c b e (inl q) low r = (
+      inr
+          (inl (record { low = e; high = omega arith; within = omega arith })),
+      omega arith,
+    )
     full_at Front n u c b e (inr (inl q)) low r = absurd (omega arith)
     full_at Front n u c b e (inr (inr q)) low r = absurd (omega arith)
     full_at Back n u c b e (inl q) low r = absurd (omega arith)
     full_at Back n u c b e (inr (inl q)) low r = absurd (omega arith)
-    full_at Back n u c b e (inr (inr q)) low r = (inr (inl (record { low = r.0; high = omega arith; within = omega arith })), omega arith)
+    full_at Back n u c b e (inr (inr q)) low r =
+        (inr (inl (record { low = r.0; high = omega arith; within = omega arith })), omega arith)
 
 pub no_other_above_full : (side : Direction) (n u c b : ℕ) → IsChildEnd side n u c
     → PrecedesOn side n u b → IsOtherAbove side u b → ⊥
@@ -204,9 +241,19 @@ no_other_above_full side n u c b k p r = none_at side n u c b k.precedes k.below
 -- among one place less
 pub precedes_shorter : (last a b : ℕ) → Precedes (last + 1) a b → a < last → b < last
     → Precedes last a b
-precedes_shorter last a b (inl r) low low' = inl (record { above = r.above; low = r.low; from = r.from; upto = r.upto; within = low' })
-precedes_shorter last a b (inr (inl r)) low low' = inr (inl (record { low = r.low; high = r.high; within = low' }))
-precedes_shorter last a b (inr (inr r)) low low' = inr (inr (record { above = r.above; high = λ e. absurd (last_only last a (r.high e) low); from = r.from; upto = r.upto; within = low }))
+precedes_shorter last a b (inl r) low low' = inl
+    (record { above = r.above; low = r.low; from = r.from; upto = r.upto; within = low' })
+precedes_shorter last a b (inr (inl r)) low low' =
+    inr (inl (record { low = r.low; high = r.high; within = low' }))
+precedes_shorter last a b (inr (inr r)) low low' =
+    inr (inr (record {
+      above = r.above;
+      high = λ e. absurd (last_only last a (r.high e) low);
+      from =
+          r.from;
+      upto = r.upto;
+      within = low;
+    }))
   where
     last_only : (last a : ℕ) → a + 1 ≡ last + 1 → a < last → ⊥
     last_only last a e low = omega arith
@@ -220,7 +267,8 @@ after_single last b even (inr (inr r)) = omega arith
 
 pub above_single : (last : ℕ) → last % 2 ≡ 0 → 0 < last
     → Precedes (last + 1) (2 * ((last - 2) / 4)) (2 * ((last - 2) / 4) + 1)
-above_single last even some = inr (inl (record { low = omega arith; high = omega arith; within = omega arith }))
+above_single last even some = inr (inl (record
+    { low = omega arith; high = omega arith; within = omega arith }))
 
 -- the last place, as the high end of its node
 pub before_pair : (last a : ℕ) → last % 2 ≡ 1 → Precedes (last + 1) a last → a + 1 ≡ last
@@ -237,7 +285,15 @@ pub after_pair : (last b : ℕ) → last % 2 ≡ 1 → Precedes (last + 1) last 
     → Precedes last (last - 1) b
 after_pair last b odd (inl r) = absurd (omega arith)
 after_pair last b odd (inr (inl r)) = absurd (omega arith)
-after_pair last b odd (inr (inr r)) = inr (inr (record { above = r.above; high = λ e. omega arith; from = omega arith; upto = omega arith; within = omega arith }))
+after_pair last b odd (inr (inr r)) = inr (inr
+    (record {
+      above = r.above;
+      high = λ e. omega arith;
+      from = omega arith;
+      upto =
+          omega arith;
+      within = omega arith;
+    }))
 
 pub none_among_one : (n a b : ℕ) → n ≤ 1 → Precedes n a b → ⊥
 none_among_one n a b low (inl r) = omega arith
@@ -247,13 +303,29 @@ none_among_one n a b low (inr (inr r)) = omega arith
 -- among one place more, with a place between for the item that was single
 pub precedes_longer : (m a b : ℕ) → Precedes m a b
     → Precedes (m + 1) a b ⊎ (Precedes (m + 1) a m × Precedes (m + 1) m b)
-precedes_longer m a b (inl r) = inl (inl (record { above = r.above; low = r.low; from = r.from; upto = r.upto; within = omega arith }))
-precedes_longer m a b (inr (inl r)) = inl (inr (inl (record { low = r.low; high = r.high; within = omega arith })))
+precedes_longer m a b (inl r) = inl (inl (record
+    { above = r.above; low = r.low; from = r.from; upto = r.upto; within = omega arith }))
+precedes_longer m a b (inr (inl r)) = inl (inr
+    (inl (record { low = r.low; high = r.high; within = omega arith })))
 precedes_longer m a b (inr (inr r)) = ⊎_elim
     (λ (even : a % 2 ≡ 0). let last = r.high even in
     inr (
       inr (inl (record { low = even; high = omega arith; within = omega arith })),
-      inr (inr (record { above = r.above; high = λ e. absurd (omega arith); from = omega arith; upto = omega arith; within = omega arith })),
+      inr (inr (record {
+        above = r.above;
+        high = λ e. absurd (omega arith);
+        from =
+            omega arith;
+        upto = omega arith;
+        within = omega arith;
+      })),
     ))
-    (λ (odd : a % 2 ≢ 0). inl (inr (inr (record { above = r.above; high = λ e. absurd (odd e); from = r.from; upto = r.upto; within = omega arith }))))
+    (λ (odd : a % 2 ≢ 0). inl (inr (inr (record {
+      above = r.above;
+      high =
+          λ e. absurd (odd e);
+      from = r.from;
+      upto = r.upto;
+      within = omega arith;
+    }))))
     (cases_eq (a % 2) 0)

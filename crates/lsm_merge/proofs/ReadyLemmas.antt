@@ -8,7 +8,14 @@ use Rattle.lsm_merge.specs.Asks.{made_ready}
 use Rattle.lsm_merge.proofs.Kept.{opposite}
 
 pub same_room : {S A : Type 0} (m : Merger S A) → SameRoom m m
-same_room m = record { count = refl; room = refl; front_ready = refl; back_ready = refl; failed = refl }
+same_room m = record {
+  count = refl;
+  room = refl;
+  front_ready = refl;
+  back_ready = refl;
+  failed =
+      refl;
+}
 
 pub same_twice : {S A : Type 0} (s m t : Merger S A) → SameRoom s m → SameRoom m t → SameRoom s t
 same_twice s m t one two = record {
@@ -19,11 +26,13 @@ same_twice s m t one two = record {
   failed = two.failed ∙ one.failed;
 }
 
-pub ready_same : {S A : Type 0} (end : Direction) (s t : Merger S A) → SameRoom s t → is_ready end t ≡ is_ready end s
+pub ready_same : {S A : Type 0} (end : Direction) (s t : Merger S A) → SameRoom s t
+    → is_ready end t ≡ is_ready end s
 ready_same Back s t same = same.back_ready
 ready_same Front s t same = same.front_ready
 
-pub made_sources : {S A : Type 0} (end : Direction) (m : Merger S A) → (made_ready end m).sources ≡ m.sources
+pub made_sources : {S A : Type 0} (end : Direction) (m : Merger S A)
+    → (made_ready end m).sources ≡ m.sources
 made_sources Back m = refl
 made_sources Front m = refl
 
@@ -31,17 +40,21 @@ pub made_heap : {S A : Type 0} (end : Direction) (m : Merger S A) → (made_read
 made_heap Back m = refl
 made_heap Front m = refl
 
-pub made_now : {S A : Type 0} (end : Direction) (m : Merger S A) → is_ready end (made_ready end m) ≡ true
+pub made_now : {S A : Type 0} (end : Direction) (m : Merger S A)
+    → is_ready end (made_ready end m) ≡ true
 made_now Back m = refl
 made_now Front m = refl
 
-pub made_other : {S A : Type 0} (end : Direction) (m : Merger S A) → is_ready (opposite end) (made_ready end m) ≡ is_ready (opposite end) m
+pub made_other : {S A : Type 0} (end : Direction) (m : Merger S A)
+    → is_ready (opposite end) (made_ready end m) ≡ is_ready (opposite end) m
 made_other Back m = refl
 made_other Front m = refl
 
-pub made_failed : {S A : Type 0} (end : Direction) (m : Merger S A) → (made_ready end m).failed ≡ m.failed
+pub made_failed : {S A : Type 0} (end : Direction) (m : Merger S A)
+    → (made_ready end m).failed ≡ m.failed
 made_failed Back m = refl
 made_failed Front m = refl
 
-pub made_at : {S A : Type 0} (end e : Direction) (m t : Merger S A) → e ≡ end → t ≡ made_ready e m → made_ready end m ≡ t
+pub made_at : {S A : Type 0} (end e : Direction) (m t : Merger S A) → e ≡ end → t ≡ made_ready e m
+    → made_ready end m ≡ t
 made_at end e m t same made = ap (λ (d : Direction). made_ready d m) (sym same) ∙ sym made

@@ -24,7 +24,8 @@ pub all_behind : {T : Type 0} (cmp : T → T → Ordering) (x : T) (places : Lis
     → All (λ y. is_gt (cmp x y) ≡ false) (occupants places)
 all_behind cmp x [] h = All-nil (λ y. is_gt (cmp x y) ≡ false)
 all_behind cmp x (None ∷ places) h = all_behind cmp x places (λ k low. h (suc k) (omega arith))
-all_behind cmp x (Some y ∷ places) h = All-cons (λ y. is_gt (cmp x y) ≡ false) y (occupants places) (h 0 (omega arith)) (all_behind cmp x places (λ k low. h (suc k) (omega arith)))
+all_behind cmp x (Some y ∷ places) h = All-cons (λ y. is_gt (cmp x y) ≡ false) y (occupants places)
+    (h 0 (omega arith)) (all_behind cmp x places (λ k low. h (suc k) (omega arith)))
 
 -- where an empty place is not beaten, all are empty
 all_empty : {T : Type 0} (cmp : T → T → Ordering) (places : List (Option T))
@@ -37,11 +38,14 @@ all_empty cmp (Some y ∷ places) h = let wrong = h 0 (omega arith) in cc
 pub none_left : {T : Type 0} (cmp : T → T → Ordering) (places : List (Option T)) (o : Option T)
     → None ≡ o → ((k : ℕ) → k < length places → is_beaten cmp o (slot_at places k) ≡ false)
     → occupants places ≡ []
-none_left {T} cmp places o e h = all_empty cmp places (λ k low. subst (λ (x : Option T). is_beaten cmp x (slot_at places k) ≡ false) (sym e) (h k low))
+none_left {T} cmp places o e h = all_empty cmp places
+    (λ k low. subst (λ (x : Option T). is_beaten cmp x (slot_at places k) ≡ false) (sym e)
+    (h k low))
 
 last_same : (xs ys : List ℕ) (x y : ℕ) → xs ++ x ∷ [] ≡ ys ++ y ∷ [] → x ≡ y
 last_same xs ys x y e =
-    let turned : x ∷ reverse xs ≡ y ∷ reverse ys = sym (reverse-append xs (x ∷ [])) ∙ ap reverse e ∙ reverse-append ys (y ∷ []) in
+    let turned : x ∷ reverse xs ≡ y ∷ reverse ys = sym (reverse-append xs (x ∷ [])) ∙ ap reverse e
+    ∙ reverse-append ys (y ∷ []) in
     cc
 
 -- a slot that may have changed is this one
@@ -64,15 +68,24 @@ module _ {T Z : Type 0} (cmp : T → T → Ordering) where
       record {
         nodes = rw size un.nodes;
         decided = λ m inside low.
-            let empty : (k : ℕ) → k < n → slot_at slots k ≡ None = λ k h. ap (λ l. slot_at l k) e ∙ get_or-replicate n k None None h in
-            let left = empty (get_or b.nodes.items (2 * m) 0) (un.nodes.within (2 * m) (omega (arith, un.nodes.size))) in
-            let right = empty (get_or b.nodes.items (2 * m + 1) 0) (un.nodes.within (2 * m + 1) (omega (arith, un.nodes.size))) in
-            record { from = inl (un.first m inside (omega arith)); first = rw left refl; second = rw right refl };
+            let empty : (k : ℕ) → k < n → slot_at slots k ≡ None = λ k h. ap (λ l. slot_at l k) e
+            ∙ get_or-replicate n k None None h in
+            let left = empty (get_or b.nodes.items (2 * m) 0)
+            (un.nodes.within (2 * m) (omega (arith, un.nodes.size))) in
+            let right = empty (get_or b.nodes.items (2 * m + 1) 0)
+            (un.nodes.within (2 * m + 1) (omega (arith, un.nodes.size))) in
+            record {
+              from = inl (un.first m inside (omega arith));
+              first = rw left refl;
+              second =
+                  rw right refl;
+            };
       }
 
   pub kept_unplayed : (slots : List (Option T)) (n : ℕ) (b : Bracket Z) → slots ≡ replicate n None
       → IsUnplayed n b → IsKept None cmp slots b
-  kept_unplayed slots n b e un = let won = won_unplayed slots n b e un in record { nodes = won.nodes; won = λ _. won }
+  kept_unplayed slots n b e un = let won = won_unplayed slots n b e un in
+      record { nodes = won.nodes; won = λ _. won }
 
   pub kept_won : (slots : List (Option T)) (b : Bracket Z) → IsWon cmp slots b
       → IsKept None cmp slots b
@@ -85,12 +98,14 @@ module _ {T Z : Type 0} (cmp : T → T → Ordering) where
     won_set None b a won = record {
       within = rw length-set low;
       was = slot_at slots s;
-      won = subst (λ (ps : List (Option T)). IsWon cmp ps b) (sym (set-set slots s x (slot_at slots s) ∙ set-get_or slots s None)) won;
+      won = subst (λ (ps : List (Option T)). IsWon cmp ps b)
+          (sym (set-set slots s x (slot_at slots s) ∙ set-get_or slots s None)) won;
     }
     won_set (Some k) b same w = record {
       within = rw length-set low;
       was = w.was;
-      won = subst (λ (ps : List (Option T)). IsWon cmp ps b) (sym (set-set slots s x w.was ∙ ap (λ j. set slots j w.was) (sym same))) w.won;
+      won = subst (λ (ps : List (Option T)). IsWon cmp ps b)
+          (sym (set-set slots s x w.was ∙ ap (λ j. set slots j w.was) (sym same))) w.won;
     }
 
     kept_set : (o : Option ℕ) (b : Bracket Z) → Agrees o s → IsKept o cmp slots b
@@ -109,4 +124,10 @@ module _ {T Z : Type 0} (cmp : T → T → Ordering) where
   -- which slot was emptied last does not matter to what is won
   pub are_kept_open : (changed o : Option ℕ) (slots : List (Option T)) (b : Brackets Z)
       → AreKept changed cmp slots b → AreKept changed cmp slots (record b { emptied = o })
-  are_kept_open changed o slots b k = record { front_end = k.front_end; back_end = k.back_end; front = k.front; back = k.back }
+  are_kept_open changed o slots b k = record {
+    front_end = k.front_end;
+    back_end =
+        k.back_end;
+    front = k.front;
+    back = k.back;
+  }

@@ -8,19 +8,29 @@ use Rattle.lsm_merge.specs.Ends.{R}
 use Rattle.lsm_merge.specs.Merge.{Follows, DealsUntil}
 use Rattle.lsm_merge.specs.MergeLaws.{every_error}
 
-fine_for : (stops : Error → Bool) (rs : List (Option R)) → NoneStops (answer_stops every_error) rs → NoneStops (answer_stops stops) rs
+fine_for : (stops : Error → Bool) (rs : List (Option R)) → NoneStops (answer_stops every_error) rs
+    → NoneStops (answer_stops stops) rs
 fine_for stops [] h = tt
 fine_for stops (None ∷ rs) h = (refl, fine_for stops rs h.1)
 fine_for stops (Some (Ok x) ∷ rs) h = (refl, fine_for stops rs h.1)
 fine_for stops (Some (Err e) ∷ rs) h = absurd cc
 
 -- where no answer is an error, what follows is what is told
-told_by_all : (errors : List Error) (told rs : List (Option R)) → NoneStops (answer_stops every_error) rs → Follows errors told rs → rs ≡ told
+told_by_all : (errors : List Error) (told rs : List (Option R))
+    → NoneStops (answer_stops every_error) rs → Follows errors told rs → rs ≡ told
 told_by_all errors told [] h f = sym f
 told_by_all errors [] (r ∷ rs) h f = absurd f
-told_by_all errors (d ∷ told) (None ∷ rs) h f = let one = f.0 in let more = told_by_all errors told rs h.1 f.2 in cc (one, more)
-told_by_all errors (d ∷ told) (Some (Ok x) ∷ rs) h f = let one = f.0 in let more = told_by_all errors told rs h.1 f.1 in cc (one, more)
+told_by_all errors (d ∷ told) (None ∷ rs) h f = let one = f.0 in let more =
+    told_by_all errors told rs h.1 f.2 in cc (one, more)
+told_by_all errors (d ∷ told) (Some (Ok x) ∷ rs) h f = let one = f.0 in let more =
+    told_by_all errors told rs h.1 f.1 in cc (one, more)
 told_by_all errors (d ∷ told) (Some (Err e) ∷ rs) h f = absurd cc
 
-pub deals_until_error : {S : Type 0} (stops : Error → Bool) (front back : S → Option R → S → Type 0) (s : S) (xs : List Entry) (errors : List Error) → DealsUntil stops front back s xs errors → Deals (answer_stops every_error) front back s (ok_results xs)
-deals_until_error stops front back s xs errors d = record { answers = λ ends rs t runs fine. told_by_all errors _ rs fine (d.answers ends rs t runs (fine_for stops rs fine)) }
+pub deals_until_error : {S : Type 0} (stops : Error → Bool) (front back : S → Option R → S → Type 0)
+    (s : S) (xs : List Entry) (errors : List Error) → DealsUntil stops front back s xs errors
+    → Deals (answer_stops every_error) front back s (ok_results xs)
+deals_until_error stops front back s xs errors d =
+    record {
+      answers = λ ends rs t runs fine. told_by_all errors _ rs fine
+          (d.answers ends rs t runs (fine_for stops rs fine));
+    }

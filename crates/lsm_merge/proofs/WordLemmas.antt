@@ -1,7 +1,10 @@
 -- Bytes compared as numbers, of which the first byte is the highest.
-use Rattle.std.proofs.Common.{◌≡◌, refl, sym, ◌∙◌, ap, subst, ℕ, suc, ◌+◌, ◌*◌, ◌<◌, ◌≤◌, true, false, List, [], ◌∷◌, ◌++◌, length, get_or, take, drop, arith, inl, inr}
+use Rattle.std.proofs.Common.{◌≡◌, refl, sym, ◌∙◌, ap, subst, ℕ, suc, ◌+◌, ◌*◌, ◌<◌, ◌≤◌, true}
+use Rattle.std.proofs.Common.{false, List, [], ◌∷◌, ◌++◌, length, get_or, take, drop, arith, inl}
+use Rattle.std.proofs.Common.{inr}
 use Rattle.std.proofs.lemmas.Bool.{cases_lt}
-use Rattle.std.proofs.lemmas.List.{take-append-drop, length-take, length-take-le, get_or-drop, get_or-take, get_or_past}
+use Rattle.std.proofs.lemmas.List.{take-append-drop, length-take, length-take-le, get_or-drop}
+use Rattle.std.proofs.lemmas.List.{get_or-take, get_or_past}
 use Rattle.std.specs.declared.cmp.Ordering.{Ordering}
 use Rattle.std.specs.declared.cmp.Ordering.TheVariants.{Less, Equal, Greater}
 use Rattle.std.specs.Cmp.Lexicographic.{slice_cmp}
@@ -17,20 +20,26 @@ abbrev number : ℕ → List ℕ → ℕ
 number p [] = p
 number p (x ∷ xs) = number (p * 256 + x) xs
 
-stays_below : (p q : ℕ) (xs ys : List ℕ) → length xs ≡ length ys → IsBytes xs → p < q → number p xs < number q ys
+stays_below : (p q : ℕ) (xs ys : List ℕ) → length xs ≡ length ys → IsBytes xs → p < q
+    → number p xs < number q ys
 stays_below p q [] [] same fits h = h
 stays_below p q [] (y ∷ ys) same fits h = cc
 stays_below p q (x ∷ xs) [] same fits h = cc
 stays_below p q (x ∷ xs) (y ∷ ys) same fits h =
-    stays_below (p * 256 + x) (q * 256 + y) xs ys (omega (arith, same)) (λ i. fits (suc i)) (omega (arith, fits 0, h))
+    stays_below (p * 256 + x) (q * 256 + y) xs ys (omega (arith, same)) (λ i. fits (suc i))
+    (omega (arith, fits 0, h))
 
-fronts : (p : ℕ) (xs ys : List ℕ) → length xs ≡ length ys → IsBytes xs → IsBytes ys → (us vs : List ℕ)
-    → slice_cmp nat_cmp (xs ++ us) (ys ++ vs) ≡ ordering_then (nat_cmp (number p xs) (number p ys)) (slice_cmp nat_cmp us vs)
-fronts p [] [] same fx fy us vs = ap (λ o. ordering_then o (slice_cmp nat_cmp us vs)) (nat_cmp_is p p Equal refl)
+fronts : (p : ℕ) (xs ys : List ℕ) → length xs ≡ length ys → IsBytes xs → IsBytes ys
+    → (us vs : List ℕ)
+    → slice_cmp nat_cmp (xs ++ us) (ys ++ vs) ≡ ordering_then (nat_cmp (number p xs) (number p ys))
+    (slice_cmp nat_cmp us vs)
+fronts p [] [] same fx fy us vs = ap (λ o. ordering_then o (slice_cmp nat_cmp us vs))
+    (nat_cmp_is p p Equal refl)
 fronts p [] (y ∷ ys) same fx fy us vs = cc
 fronts p (x ∷ xs) [] same fx fy us vs = cc
 fronts p (x ∷ xs) (y ∷ ys) same fx fy us vs =
-    by_first (fronts (p * 256 + x) xs ys (omega (arith, same)) (λ i. fx (suc i)) (λ i. fy (suc i)) us vs) (nat_cmp x y) refl
+    by_first (fronts (p * 256 + x) xs ys (omega (arith, same)) (λ i. fx (suc i))
+    (λ i. fy (suc i)) us vs) (nat_cmp x y) refl
   where
     rest : Ordering
     rest = slice_cmp nat_cmp (xs ++ us) (ys ++ vs)
@@ -41,17 +50,24 @@ fronts p (x ∷ xs) (y ∷ ys) same fx fy us vs =
     shorter : length xs ≡ length ys
     shorter = omega (arith, same)
 
-    by_first : rest ≡ ordering_then (nat_cmp (number (p * 256 + x) xs) (number (p * 256 + x) ys)) tail
+    by_first : rest ≡ ordering_then (nat_cmp (number (p * 256 + x) xs) (number (p * 256 + x) ys))
+        tail
         → (r : Ordering) → r ≡ nat_cmp x y
-        → ordering_then r rest ≡ ordering_then (nat_cmp (number (p * 256 + x) xs) (number (p * 256 + y) ys)) tail
+        → ordering_then r rest ≡ ordering_then (nat_cmp (number (p * 256 + x) xs)
+        (number (p * 256 + y) ys)) tail
     by_first more Less e =
-        ap (λ o. ordering_then o tail) (nat_cmp_is (number (p * 256 + x) xs) (number (p * 256 + y) ys) Less
-        (stays_below (p * 256 + x) (p * 256 + y) xs ys shorter (λ i. fx (suc i)) (omega (arith, ranked x y Less e))))
+        ap (λ o. ordering_then o tail) (nat_cmp_is (number (p * 256 + x) xs)
+        (number (p * 256 + y) ys) Less
+        (stays_below (p * 256 + x) (p * 256 + y) xs ys shorter (λ i. fx (suc i))
+        (omega (arith, ranked x y Less e))))
     by_first more Greater e =
-        ap (λ o. ordering_then o tail) (nat_cmp_is (number (p * 256 + x) xs) (number (p * 256 + y) ys) Greater
-        (stays_below (p * 256 + y) (p * 256 + x) ys xs (sym shorter) (λ i. fy (suc i)) (omega (arith, ranked x y Greater e))))
+        ap (λ o. ordering_then o tail) (nat_cmp_is (number (p * 256 + x) xs)
+        (number (p * 256 + y) ys) Greater
+        (stays_below (p * 256 + y) (p * 256 + x) ys xs (sym shorter) (λ i. fy (suc i))
+        (omega (arith, ranked x y Greater e))))
     by_first more Equal e =
-        subst (λ (n : ℕ). rest ≡ ordering_then (nat_cmp (number (p * 256 + x) xs) (number (p * 256 + n) ys)) tail) (ranked x y Equal e) more
+        subst (λ (n : ℕ). rest ≡ ordering_then (nat_cmp (number (p * 256 + x) xs)
+        (number (p * 256 + n) ys)) tail) (ranked x y Equal e) more
 
 big_endian : (xs : List ℕ) → length xs ≡ 8 → from_be_bytes w64 xs ≡ number 0 xs
 big_endian [] l = cc
@@ -67,7 +83,8 @@ big_endian (a ∷ b ∷ c ∷ d ∷ e ∷ f ∷ g ∷ h ∷ i ∷ xs) l = omega 
 
 -- eight bytes before the rest decide as their numbers do, unless these are equal
 pub words_first : (xs ys us vs : List ℕ) → length xs ≡ 8 → length ys ≡ 8 → IsBytes xs → IsBytes ys
-    → slice_cmp nat_cmp (xs ++ us) (ys ++ vs) ≡ ordering_then (nat_cmp (from_be_bytes w64 xs) (from_be_bytes w64 ys)) (slice_cmp nat_cmp us vs)
+    → slice_cmp nat_cmp (xs ++ us) (ys ++ vs) ≡ ordering_then
+    (nat_cmp (from_be_bytes w64 xs) (from_be_bytes w64 ys)) (slice_cmp nat_cmp us vs)
 words_first xs ys us vs lx ly fx fy =
     rw (big_endian xs lx, big_endian ys ly) (fronts 0 xs ys (lx ∙ sym ly) fx fy us vs)
 
@@ -75,21 +92,28 @@ IsBytes-take : (n : ℕ) (bytes : List ℕ) → IsBytes bytes → IsBytes (take 
 IsBytes-take n bytes h i =
     elim (cases_lt i n) [
       | inl lt ↦ rw (get_or-take n bytes i 0 lt) (h i)
-      | inr le ↦ rw (get_or_past (take n bytes) i 0 (omega (arith, length-take n bytes))) (omega arith)
+      | inr le ↦ rw (get_or_past (take n bytes) i 0 (omega (arith, length-take n bytes)))
+          (omega arith)
     ]
 
 pub IsBytes-drop : (n : ℕ) (bytes : List ℕ) → IsBytes bytes → IsBytes (drop n bytes)
 IsBytes-drop n bytes h i = rw get_or-drop (h (n + i))
 
 -- the numbers of the first eight bytes of each list, and how they compare
-module _ (xs ys : List ℕ) (m n : ℕ) (o : Ordering) (lx : 8 ≤ length xs) (ly : 8 ≤ length ys) (fx : IsBytes xs) (fy : IsBytes ys)
-    (is_m : m ≡ from_be_bytes w64 (take 8 xs)) (is_n : n ≡ from_be_bytes w64 (take 8 ys)) (is_o : o ≡ nat_cmp m n) where
+module _ (xs ys : List ℕ) (m n : ℕ) (o : Ordering) (lx : 8 ≤ length xs) (ly : 8 ≤ length ys)
+    (fx : IsBytes xs) (fy : IsBytes ys)
+    (is_m : m ≡ from_be_bytes w64 (take 8 xs)) (is_n : n ≡ from_be_bytes w64 (take 8 ys))
+    (is_o : o ≡ nat_cmp m n) where
   word_first : slice_cmp nat_cmp xs ys ≡ ordering_then o (slice_cmp nat_cmp (drop 8 xs) (drop 8 ys))
   word_first =
-      let w = words_first (take 8 xs) (take 8 ys) (drop 8 xs) (drop 8 ys) (length-take-le 8 xs lx) (length-take-le 8 ys ly) (IsBytes-take 8 xs fx) (IsBytes-take 8 ys fy) in
-      let same : o ≡ nat_cmp (from_be_bytes w64 (take 8 xs)) (from_be_bytes w64 (take 8 ys)) = is_o ∙ ap (λ k. nat_cmp k n) is_m ∙ ap (nat_cmp (from_be_bytes w64 (take 8 xs))) is_n in
-      let whole : slice_cmp nat_cmp xs ys ≡ slice_cmp nat_cmp (take 8 xs ++ drop 8 xs) (take 8 ys ++ drop 8 ys) =
-      sym (ap (λ zs. slice_cmp nat_cmp zs (take 8 ys ++ drop 8 ys)) (take-append-drop 8 xs) ∙ ap (slice_cmp nat_cmp xs) (take-append-drop 8 ys)) in
+      let w = words_first (take 8 xs) (take 8 ys) (drop 8 xs) (drop 8 ys) (length-take-le 8 xs lx)
+      (length-take-le 8 ys ly) (IsBytes-take 8 xs fx) (IsBytes-take 8 ys fy) in
+      let same : o ≡ nat_cmp (from_be_bytes w64 (take 8 xs)) (from_be_bytes w64 (take 8 ys)) = is_o
+      ∙ ap (λ k. nat_cmp k n) is_m ∙ ap (nat_cmp (from_be_bytes w64 (take 8 xs))) is_n in
+      let whole : slice_cmp nat_cmp xs ys ≡ slice_cmp nat_cmp (take 8 xs ++ drop 8 xs)
+      (take 8 ys ++ drop 8 ys) =
+      sym (ap (λ zs. slice_cmp nat_cmp zs (take 8 ys ++ drop 8 ys)) (take-append-drop 8 xs)
+      ∙ ap (slice_cmp nat_cmp xs) (take-append-drop 8 ys)) in
       whole ∙ w ∙ ap (λ r. ordering_then r (slice_cmp nat_cmp (drop 8 xs) (drop 8 ys))) (sym same)
 
   decides : (r : Ordering) (tail : Ordering) → is_ne r ≡ true → ordering_then r tail ≡ r
@@ -107,5 +131,6 @@ module _ (xs ys : List ℕ) (m n : ℕ) (o : Ordering) (lx : 8 ≤ length xs) (l
   words_decide e = sym (word_first ∙ decides o (slice_cmp nat_cmp (drop 8 xs) (drop 8 ys)) e)
 
   -- else the rest does
-  pub words_leave : is_ne o ≡ false → slice_cmp nat_cmp xs ys ≡ slice_cmp nat_cmp (drop 8 xs) (drop 8 ys)
+  pub words_leave : is_ne o ≡ false → slice_cmp nat_cmp xs ys
+      ≡ slice_cmp nat_cmp (drop 8 xs) (drop 8 ys)
   words_leave e = word_first ∙ leaves o (slice_cmp nat_cmp (drop 8 xs) (drop 8 ys)) e

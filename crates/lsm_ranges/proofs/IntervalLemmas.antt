@@ -44,7 +44,8 @@ not_above Equal h = absurd cc
 not_above Greater h = absurd cc
 
 pub lt_to_le : (a b : List ℕ) → key_lt a b ≡ true → key_le a b ≡ true
-lt_to_le a b h = ap (λ o. not (is_lt o)) (nat_list_cmp_total.antisymm b a) ∙ not_above (slice_cmp nat_cmp a b) h
+lt_to_le a b h = ap (λ o. not (is_lt o)) (nat_list_cmp_total.antisymm b a)
+    ∙ not_above (slice_cmp nat_cmp a b) h
 
 pub lt_then_le : (a b c : List ℕ) → key_lt a b ≡ true → key_le b c ≡ true → key_lt a c ≡ true
 lt_then_le a b c p q = lt_le a b c p (le_from b c q)
@@ -56,7 +57,8 @@ pub le_trans : (a b c : List ℕ) → key_le a b ≡ true → key_le b c ≡ tru
 le_trans a b c p q =
     elim (cases_Bool (key_le a c)) [
       | inl e ↦ e
-      | inr e ↦ let up : key_lt c b ≡ true = lt_then_le c a b (above a c e) p in absurd (both_ways (key_lt c b) (le_from b c q) up)
+      | inr e ↦ let up : key_lt c b ≡ true = lt_then_le c a b (above a c e) p in
+          absurd (both_ways (key_lt c b) (le_from b c q) up)
     ]
 
 -- intervals that share a key overlap
@@ -64,7 +66,8 @@ pub shared_overlap : (a b : Interval) → ShareKey a b → overlaps a b ≡ true
 shared_overlap a b (k, p, q) =
     let x = and_parts (key_le a.min k) (key_le k a.max) p in
     let y = and_parts (key_le b.min k) (key_le k b.max) q in
-    and_from (key_le b.min a.max) (key_le a.min b.max) (le_trans b.min k a.max y.0 x.1) (le_trans a.min k b.max x.0 y.1)
+    and_from (key_le b.min a.max) (key_le a.min b.max) (le_trans b.min k a.max y.0 x.1)
+    (le_trans a.min k b.max x.0 y.1)
 
 -- well-formed intervals that overlap share the greater of their minima
 pub overlap_shared : (a b : Interval) → is_well_formed a ≡ true → is_well_formed b ≡ true
@@ -72,13 +75,27 @@ pub overlap_shared : (a b : Interval) → is_well_formed a ≡ true → is_well_
 overlap_shared a b wa wb h =
     let x = and_parts (key_le b.min a.max) (key_le a.min b.max) h in
     elim (cases_Bool (key_le a.min b.min)) [
-      | inl e ↦ (b.min, and_from (key_le a.min b.min) (key_le b.min a.max) e x.0, and_from (key_le b.min b.min) (key_le b.min b.max) (le_refl b.min) wb)
-      | inr e ↦ (a.min, and_from (key_le a.min a.min) (key_le a.min a.max) (le_refl a.min) wa, and_from (key_le b.min a.min) (key_le a.min b.max) (lt_to_le b.min a.min (above a.min b.min e)) x.1)
+      | inl e ↦ (
+        b.min,
+        and_from (key_le a.min b.min) (key_le b.min a.max) e x.0,
+        and_from
+            (key_le b.min b.min) (key_le b.min b.max) (le_refl b.min) wb,
+      )
+      | inr e ↦ (
+        a.min,
+        and_from (key_le a.min a.min) (key_le a.min a.max)
+            (le_refl a.min) wa,
+        and_from (key_le b.min a.min) (key_le a.min b.max)
+            (lt_to_le b.min a.min (above a.min b.min e)) x.1,
+      )
     ]
 
 pub overlap_says : (a b : Interval) (r : Bool) → r ≡ overlaps a b → IsTrue (is_well_formed a)
     → IsTrue (is_well_formed b) → (IsTrue r ↔ ShareKey a b)
-overlap_says a b r is wa wb = ((λ t. overlap_shared a b wa wb (sym is ∙ t)), (λ s. is ∙ shared_overlap a b s))
+overlap_says a b r is wa wb = (
+  (λ t. overlap_shared a b wa wb (sym is ∙ t)),
+  (λ s. is ∙ shared_overlap a b s),
+)
 
 pub lower_up : (lower : Bound (List ℕ)) (k m : List ℕ) → is_from lower k ≡ true → key_le k m ≡ true
     → is_from lower m ≡ true
@@ -98,4 +115,5 @@ pub none_within : (r : Interval) (lower upper : Bound (List ℕ)) (b : Bool)
     → IsTrue (is_from lower k) → IsTrue (is_to upper k) → ⊥
 none_within r lower upper b is no_overlap k inside low high =
     let x = and_parts (key_le r.min k) (key_le k r.max) inside in
-    both_ways b no_overlap (is ∙ and_from (is_from lower r.max) (is_to upper r.min) (lower_up lower k r.max low x.1) (upper_down upper k r.min high x.0))
+    both_ways b no_overlap (is ∙ and_from (is_from lower r.max) (is_to upper r.min)
+    (lower_up lower k r.max low x.1) (upper_down upper k r.min high x.0))

@@ -30,7 +30,11 @@ use Rattle.lsm_ranges.proofs.RunLemmas.{none_count}
 module _ {X : Type 0} where
   pub mem-append_left : (xs ys : List X) (x : X) → IsElement x xs → IsElement x (xs ++ ys)
   mem-append_left [] ys x h = absurd h
-  mem-append_left (z ∷ zs) ys x h = elim h [ inl e ↦ inl e | inr m ↦ inr (mem-append_left zs ys x m) ]
+  mem-append_left (z ∷ zs) ys x h = elim h [
+    | inl e ↦ inl e
+    | inr m ↦
+        inr (mem-append_left zs ys x m)
+  ]
 
   pub mem-append_right : (xs ys : List X) (x : X) → IsElement x ys → IsElement x (xs ++ ys)
   mem-append_right [] ys x h = h
@@ -82,7 +86,8 @@ module _ {X : Type 0} where
   filter_none : (p : X → Bool) (xs : List X) → ((x : X) → IsElement x xs → p x ≡ false)
       → filter p xs ≡ []
   filter_none p [] h = refl
-  filter_none p (y ∷ ys) h = let e : p y ≡ false = h y (inl refl) in rw e (filter_none p ys (λ x m. h x (inr m)))
+  filter_none p (y ∷ ys) h = let e : p y ≡ false = h y (inl refl) in
+      rw e (filter_none p ys (λ x m. h x (inr m)))
 
   none_parts : (xs ys : List X) → xs ++ ys ≡ [] → (xs ≡ []) × (ys ≡ [])
   none_parts [] ys h = (refl, h)
@@ -113,7 +118,9 @@ module _ {X : Type 0} where
   filter-insert_alone : (p : X → Bool) (xs : List X) (n : ℕ) (x : X) → p x ≡ true → filter p xs ≡ []
       → filter p (insert xs n x) ≡ x ∷ []
   filter-insert_alone p xs n x e none =
-      let k = none_parts (filter p (take n xs)) (filter p (drop n xs)) (sym (filter-append p (take n xs) (drop n xs)) ∙ ap (filter p) (take_and_drop n xs) ∙ none) in
+      let k = none_parts (filter p (take n xs)) (filter p (drop n xs))
+      (sym (filter-append p (take n xs) (drop n xs)) ∙ ap (filter p) (take_and_drop n xs)
+      ∙ none) in
       filter-append p (take n xs) (x ∷ drop n xs)
       ∙ ap (λ l. filter p (take n xs) ++ l) (filter-cons_yes p x (drop n xs) e)
       ∙ ap (λ l. l ++ x ∷ filter p (drop n xs)) k.0
@@ -135,7 +142,8 @@ module _ {T : Type 0} (range : T → Interval) where
       → has_key (range x) k ≡ false
   no_holder t ts k has apart x m =
       elim (cases_Bool (has_key (range x) k)) [
-        | inl e ↦ absurd (both_ways (overlaps (range x) (range t)) (apart x m) (shared_overlap (range x) (range t) (k, e, has)))
+        | inl e ↦ absurd (both_ways (overlaps (range x) (range t)) (apart x m)
+            (shared_overlap (range x) (range t) (k, e, has)))
         | inr e ↦ e
       ]
 
@@ -175,22 +183,34 @@ module _ {T : Type 0} (range : T → Interval) where
             ∙ sym (append_assoc (filter p run) (filter p (tables_in runs)) (filter p (t ∷ [])))
             ∙ ap (λ l. l ++ filter p (t ∷ [])) (sym (filter-append p run (tables_in runs)))
         | inr e ↦
-            let parted = or_parts (touches range (range t) run) (list_any (touches range (range t)) runs) e in
+            let parted = or_parts (touches range (range t) run)
+            (list_any (touches range (range t)) runs) e in
             ap (λ rs. holders range rs k) (put_here t run runs e)
             ∙ filter-append p (with_table range t run) (tables_in runs)
             ∙ elim (cases_Bool (has_key (range t) k)) [
               | inl has ↦
-                  let none_here : filter p run ≡ [] = filter_none p run (no_holder t run k has (any_fails (λ x. overlaps (range x) (range t)) run parted.0)) in
-                  let none_later : filter p (tables_in runs) ≡ [] = filter_none p (tables_in runs) (no_holder t (tables_in runs) k has (untouched (range t) runs parted.1)) in
-                  ap (λ l. l ++ filter p (tables_in runs)) (filter-insert_alone p run (how_many (λ r. key_le r.min (range t).min) (map range run)) t has none_here)
+                  let none_here : filter p run ≡ [] = filter_none p run
+                  (no_holder t run k has (any_fails (λ x. overlaps (range x) (range t)) run
+                  parted.0)) in
+                  let none_later : filter p (tables_in runs) ≡ [] =
+                  filter_none p (tables_in runs) (no_holder t (tables_in runs) k has
+                  (untouched (range t) runs parted.1)) in
+                  ap (λ l. l ++ filter p (tables_in runs))
+                  (filter-insert_alone p run (how_many (λ r. key_le r.min (range t).min)
+                  (map range run)) t has none_here)
                   ∙ ap (λ l. t ∷ l) none_later
                   ∙ sym (filter-cons_yes p t [] has)
-                  ∙ ap (λ l. l ++ filter p (t ∷ [])) (sym (filter-append p run (tables_in runs) ∙ ap (λ l. l ++ filter p (tables_in runs)) none_here ∙ none_later))
+                  ∙ ap (λ l. l ++ filter p (t ∷ [])) (sym
+                  (filter-append p run (tables_in runs)
+                  ∙ ap (λ l. l ++ filter p (tables_in runs)) none_here ∙ none_later))
               | inr has ↦
-                  ap (λ l. l ++ filter p (tables_in runs)) (filter-insert_no p run (how_many (λ r. key_le r.min (range t).min) (map range run)) t has)
+                  ap (λ l. l ++ filter p (tables_in runs))
+                  (filter-insert_no p run (how_many (λ r. key_le r.min (range t).min)
+                  (map range run)) t has)
                   ∙ sym (filter-append p run (tables_in runs))
                   ∙ sym (append-nil (filter p (run ++ tables_in runs)))
-                  ∙ ap (λ l. filter p (run ++ tables_in runs) ++ l) (sym (filter-cons_no p t [] has))
+                  ∙ ap (λ l. filter p (run ++ tables_in runs) ++ l)
+                  (sym (filter-cons_no p t [] has))
             ]
       ]
 
@@ -212,7 +232,8 @@ any_filter p [] = refl
 any_filter p (x ∷ xs) =
     elim (cases_Bool (p x)) [
       | inl e ↦
-          let some : (suc (length (filter p xs)) == 0) ≡ false = ne_eqb (suc (length (filter p xs))) 0 (λ h. absurd (omega arith)) in
+          let some : (suc (length (filter p xs)) == 0) ≡ false =
+          ne_eqb (suc (length (filter p xs))) 0 (λ h. absurd (omega arith)) in
           rw e (ap not some)
       | inr e ↦ rw e (any_filter p xs)
     ]
@@ -228,9 +249,12 @@ module _ {T : Type 0} (range : T → Interval) where
   with_table_is t [] h = refl
   with_table_is t (x ∷ xs) h =
       elim (cases_Bool (key_le (range x).min (range t).min)) [
-        | inl e ↦ rw e (ap (λ l. x ∷ l) (with_table_is t xs (parts (range x) (map range xs) h).rest))
+        | inl e ↦ rw e (ap (λ l. x ∷ l) (with_table_is t xs
+            (parts (range x) (map range xs) h).rest))
         | inr e ↦
-            let none : how_many (λ r. key_le r.min (range t).min) (map range xs) ≡ 0 = none_count range (λ r. key_le r.min (range t).min) (falls-starts_within (Included (range t).min)) x xs h e in
+            let none : how_many (λ r. key_le r.min (range t).min) (map range xs) ≡ 0 =
+            none_count range (λ r. key_le r.min (range t).min)
+            (falls-starts_within (Included (range t).min)) x xs h e in
             rw (e, none) refl
       ]
 
@@ -240,7 +264,8 @@ module _ {T : Type 0} (range : T → Interval) where
   all-ins p t (x ∷ xs) h all =
       let k = and_parts (p (range x)) (list_all p (map range xs)) all in
       elim (cases_Bool (key_le (range x).min (range t).min)) [
-        | inl e ↦ rw e (and_from (p (range x)) (list_all p (map range (ins t xs))) k.0 (all-ins p t xs h k.1))
+        | inl e ↦ rw e (and_from (p (range x)) (list_all p (map range (ins t xs))) k.0
+            (all-ins p t xs h k.1))
         | inr e ↦ rw e (and_from (p (range t)) (p (range x) && list_all p (map range xs)) h all)
       ]
 
@@ -248,27 +273,48 @@ module _ {T : Type 0} (range : T → Interval) where
       → is_well_formed (range t) ≡ true
       → ((x : T) → IsElement x xs → overlaps (range x) (range t) ≡ false)
       → are_in_order (map range (ins t xs)) ≡ true
-  ins_in_order t [] h wt apart = in_order_from (range t) [] (record { formed = wt; before = refl; rest = refl })
+  ins_in_order t [] h wt apart = in_order_from (range t) []
+      (record { formed = wt; before = refl; rest = refl })
   ins_in_order t (x ∷ xs) h wt apart =
       let k = parts (range x) (map range xs) h in
       let beside = apart x (inl refl) in
       elim (cases_Bool (key_le (range x).min (range t).min)) [
         | inl e ↦
-            let reaches : key_le (range x).min (range t).max ≡ true = le_trans (range x).min (range t).min (range t).max e wt in
-            let ends : key_le (range t).min (range x).max ≡ false = elim (and_cases (key_le (range t).min (range x).max) (key_le (range x).min (range t).max) beside) [ inl a ↦ a | inr b ↦ absurd (both_ways (key_le (range x).min (range t).max) b reaches) ] in
+            let reaches : key_le (range x).min (range t).max ≡ true =
+            le_trans (range x).min (range t).min (range t).max e wt in
+            let ends : key_le (range t).min (range x).max ≡ false =
+            elim (and_cases (key_le (range t).min (range x).max)
+            (key_le (range x).min (range t).max) beside) [
+              | inl a ↦ a
+              | inr b ↦ absurd (both_ways
+                  (key_le (range x).min (range t).max) b reaches)
+            ] in
             rw e (in_order_from (range x) (map range (ins t xs)) (record {
               formed = k.formed;
-              before = all-ins (λ later. key_lt (range x).max later.min) t xs (above (range t).min (range x).max ends) k.before;
+              before = all-ins (λ later. key_lt (range x).max later.min) t xs
+                  (above (range t).min (range x).max ends) k.before;
               rest = ins_in_order t xs k.rest wt (λ y m. apart y (inr m));
             }))
         | inr e ↦
-            let starts : key_lt (range t).min (range x).min ≡ true = above (range x).min (range t).min e in
-            let reaches : key_le (range t).min (range x).max ≡ true = lt_to_le (range t).min (range x).max (lt_then_le (range t).min (range x).min (range x).max starts k.formed) in
-            let ends : key_le (range x).min (range t).max ≡ false = elim (and_cases (key_le (range t).min (range x).max) (key_le (range x).min (range t).max) beside) [ inl a ↦ absurd (both_ways (key_le (range t).min (range x).max) a reaches) | inr b ↦ b ] in
-            let before : key_lt (range t).max (range x).min ≡ true = above (range x).min (range t).max ends in
+            let starts : key_lt (range t).min (range x).min ≡ true =
+            above (range x).min (range t).min e in
+            let reaches : key_le (range t).min (range x).max ≡ true =
+            lt_to_le (range t).min (range x).max (lt_then_le (range t).min (range x).min
+            (range x).max starts k.formed) in
+            let ends : key_le (range x).min (range t).max ≡ false =
+            elim (and_cases (key_le (range t).min (range x).max)
+            (key_le (range x).min (range t).max) beside) [
+              | inl a ↦ absurd (both_ways (key_le (range t).min (range x).max) a reaches)
+              | inr
+                  b ↦ b
+            ] in
+            let before : key_lt (range t).max (range x).min ≡ true =
+            above (range x).min (range t).max ends in
             rw e (in_order_from (range t) (map range (x ∷ xs)) (record {
               formed = wt;
-              before = and_from (key_lt (range t).max (range x).min) (list_all (λ later. key_lt (range t).max later.min) (map range xs)) before (further (range t).max (range x) (map range xs) k.formed before k.before);
+              before = and_from (key_lt (range t).max (range x).min)
+                  (list_all (λ later. key_lt (range t).max later.min) (map range xs)) before
+                  (further (range t).max (range x) (map range xs) k.formed before k.before);
               rest = h;
             }))
       ]
@@ -277,7 +323,8 @@ module _ {T : Type 0} (range : T → Interval) where
       → is_well_formed (range t) ≡ true
       → ((x : T) → IsElement x run → overlaps (range x) (range t) ≡ false)
       → are_in_order (map range (with_table range t run)) ≡ true
-  with_table_in_order t run h wt apart = subst (λ (l : List T). are_in_order (map range l) ≡ true) (sym (with_table_is t run h)) (ins_in_order t run h wt apart)
+  with_table_in_order t run h wt apart = subst (λ (l : List T). are_in_order (map range l) ≡ true)
+      (sym (with_table_is t run h)) (ins_in_order t run h wt apart)
 
   some_more : (xs : List T) (n : ℕ) (t : T) → insert xs n t ≢ []
   some_more xs n t e = go (take n xs) e
@@ -288,20 +335,37 @@ module _ {T : Type 0} (range : T → Interval) where
 
   pub put_packed : (t : T) (runs : List (List T)) → is_well_formed (range t) ≡ true
       → ArePacked range runs → ArePacked range (put range t runs)
-  put_packed t [] wt h = ((in_order_from (range t) [] (record { formed = wt; before = refl; rest = refl }), (λ e. absurd cc)), tt)
+  put_packed t [] wt h = (
+    (
+      in_order_from (range t) []
+          (record { formed = wt; before = refl; rest = refl }),
+      (λ e. absurd cc),
+    ),
+    tt,
+  )
   put_packed t (run ∷ runs) wt h =
       elim (cases_Bool (touches range (range t) run || list_any (touches range (range t)) runs)) [
-        | inl e ↦ subst (ArePacked range) (sym (put_behind range t run runs e)) (h.0, put_packed t runs wt h.1)
+        | inl e ↦ subst (ArePacked range) (sym (put_behind range t run runs e))
+            (h.0, put_packed t runs wt h.1)
         | inr e ↦
-            let parted = or_parts (touches range (range t) run) (list_any (touches range (range t)) runs) e in
-            subst (ArePacked range) (sym (put_here range t run runs e))
-            ((with_table_in_order t run h.0.0 wt (any_fails (λ x. overlaps (range x) (range t)) run parted.0), some_more run (how_many (λ r. key_le r.min (range t).min) (map range run)) t), h.1)
+            let parted = or_parts (touches range (range t) run)
+            (list_any (touches range (range t)) runs) e in
+            subst (ArePacked range) (sym (put_here range t run runs e)) (
+              (
+                with_table_in_order t run h.0.0 wt (any_fails
+                    (λ x. overlaps (range x) (range t)) run parted.0),
+                some_more run
+                    (how_many (λ r. key_le r.min (range t).min) (map range run)) t,
+              ),
+              h.1,
+            )
       ]
 
   pub put_all_packed : (ts : List T) (runs : List (List T)) → AreTablesWellFormed range ts
       → ArePacked range runs → ArePacked range (put_all range ts runs)
   put_all_packed [] runs wf h = h
-  put_all_packed (t ∷ ts) runs wf h = put_all_packed ts (put range t runs) wf.1 (put_packed t runs wf.0 h)
+  put_all_packed (t ∷ ts) runs wf h = put_all_packed ts (put range t runs) wf.1
+      (put_packed t runs wf.0 h)
 
   pub put_all-append : (ts us : List T) (runs : List (List T))
       → put_all range (ts ++ us) runs ≡ put_all range us (put_all range ts runs)
@@ -326,7 +390,8 @@ module _ {X : Type 0} (p : X → Bool) where
       let e : (p x || list_any p xs) ≡ true = or_left (p x) (list_any p xs) h in
       rw e (ap suc (count-none xs none))
   count-suc (x ∷ xs) (suc k) d lt h none =
-      let e : (p x || list_any p xs) ≡ true = or_right (p x) (list_any p xs) (any_at xs k d (omega arith) h) in
+      let e : (p x || list_any p xs) ≡ true = or_right (p x) (list_any p xs)
+      (any_at xs k d (omega arith) h) in
       rw e (ap suc (count-suc xs k d (omega arith) h none))
 
   -- the walk down from the end: the element before place n is the last that passes
@@ -335,7 +400,8 @@ module _ {X : Type 0} (p : X → Bool) where
       → n - 1 + 1 ≡ count_to_last p xs
   count_found xs n x r some le at is h none =
       let place : suc (n - 1) ≡ n = omega arith in
-      sym (count-suc xs (n - 1) x (omega arith) (ap p (sym at) ∙ sym is ∙ h) (subst (λ (m : ℕ). list_any p (drop m xs) ≡ false) (sym place) none) ∙ omega arith)
+      sym (count-suc xs (n - 1) x (omega arith) (ap p (sym at) ∙ sym is ∙ h)
+      (subst (λ (m : ℕ). list_any p (drop m xs) ≡ false) (sym place) none) ∙ omega arith)
 
   pub count_past : (xs : List X) (n : ℕ) (x : X) (r : Bool) → 0 < n → n ≤ length xs
       → x ≡ get_or xs (n - 1) x → r ≡ p x → r ≡ false → list_any p (drop n xs) ≡ false
@@ -343,11 +409,14 @@ module _ {X : Type 0} (p : X → Bool) where
   count_past xs n x r some le at is h none =
       let place : n - 1 + 1 ≡ n = omega arith in
       at_drop_more (list_any p) xs (n - 1) x (omega arith)
-      ∙ or_from (p (get_or xs (n - 1) x)) (list_any p (drop (n - 1 + 1) xs)) (ap p (sym at) ∙ sym is ∙ h) (subst (λ (m : ℕ). list_any p (drop m xs) ≡ false) (sym place) none)
+      ∙ or_from (p (get_or xs (n - 1) x)) (list_any p (drop (n - 1 + 1) xs))
+      (ap p (sym at) ∙ sym is ∙ h) (subst (λ (m : ℕ). list_any p (drop m xs) ≡ false)
+      (sym place) none)
 
   pub count_nothing : (xs : List X) (n : ℕ) → n ≡ 0 → list_any p (drop n xs) ≡ false
       → 0 ≡ count_to_last p xs
-  count_nothing xs n is none = sym (count-none xs (subst (λ (m : ℕ). list_any p (drop m xs) ≡ false) is none))
+  count_nothing xs n is none = sym (count-none xs
+      (subst (λ (m : ℕ). list_any p (drop m xs) ≡ false) is none))
 
   pub count_start : (xs : List X) → list_any p (drop (length xs) xs) ≡ false
   count_start xs = ap (list_any p) (drop_of_length-le xs (omega arith))
@@ -370,11 +439,14 @@ module _ {T : Type 0} (range : T → Interval) where
         | inl e ↦
             let n_is : n ≡ suc tail = rw e at is in
             let below : tail < length runs = omega arith in
-            subst (λ (m : ℕ). set (run ∷ runs) m (with_table range t (get_or (run ∷ runs) m d)) ≡ put range t (run ∷ runs)) (sym n_is)
-            (ap (λ rs. run ∷ rs) (put_set t runs tail d refl below) ∙ sym (put_behind range t run runs e))
+            subst (λ (m : ℕ). set (run ∷ runs) m (with_table range t (get_or (run ∷ runs) m d))
+            ≡ put range t (run ∷ runs)) (sym n_is)
+            (ap (λ rs. run ∷ rs) (put_set t runs tail d refl below)
+            ∙ sym (put_behind range t run runs e))
         | inr e ↦
             let n_is : n ≡ 0 = rw e at is in
-            subst (λ (m : ℕ). set (run ∷ runs) m (with_table range t (get_or (run ∷ runs) m d)) ≡ put range t (run ∷ runs)) (sym n_is) (sym (put_here range t run runs e))
+            subst (λ (m : ℕ). set (run ∷ runs) m (with_table range t (get_or (run ∷ runs) m d))
+            ≡ put range t (run ∷ runs)) (sym n_is) (sym (put_here range t run runs e))
       ]
 
   -- a table that touches the last run starts a new one
@@ -388,7 +460,8 @@ module _ {T : Type 0} (range : T → Interval) where
         | inl e ↦
             let n_is : n ≡ suc tail = rw e at is in
             let past : length runs ≤ tail = omega arith in
-            ap (λ rs. run ∷ rs) (put_new t runs tail refl past) ∙ sym (put_behind range t run runs e)
+            ap (λ rs. run ∷ rs) (put_new t runs tail refl past)
+            ∙ sym (put_behind range t run runs e)
         | inr e ↦ let n_is : n ≡ 0 = rw e at is in absurd (omega arith)
       ]
 
@@ -408,7 +481,9 @@ module _ {T : Type 0} (range : T → Interval) where
       → (are_in_order (map range old) ≡ true → new ≡ with_table range t old)
       → AreInOrder range items → set items n new ≡ put range t items
   placed_in t view items r n old new same is counted lt at more ordered =
-      let here : are_in_order (map range old) ≡ true = subst (λ (run : List T). are_in_order (map range run) ≡ true) (sym at) (order_at items n old lt ordered) in
+      let here : are_in_order (map range old) ≡ true =
+      subst (λ (run : List T). are_in_order (map range run) ≡ true) (sym at)
+      (order_at items n old lt ordered) in
       ap (λ run. set items n run) (more here ∙ ap (λ run. with_table range t run) at)
       ∙ put_set t items n old (count_at t view items r n same is counted ordered) lt
 
@@ -439,12 +514,14 @@ module _ {T : Type 0} (range : T → Interval) where
   put_more ts t start now next before put_one formed packed =
       let k = formed_parts ts t formed in
       let is = before k.0 packed in
-      let ordered : AreInOrder range now = subst (AreInOrder range) (sym is) (in_order_of (put_all range ts start) (put_all_packed range ts start k.0 packed)) in
+      let ordered : AreInOrder range now = subst (AreInOrder range) (sym is)
+      (in_order_of (put_all range ts start) (put_all_packed range ts start k.0 packed)) in
       put_one ordered ∙ ap (λ rs. put range t rs) is ∙ sym (put_all-append range ts (t ∷ []) start)
 
   pub tables_in-push : (runs : List (List T)) (run : List T)
       → tables_in (runs ++ run ∷ []) ≡ tables_in runs ++ run
-  tables_in-push runs run = flat_map-append (λ (ts : List T). ts) runs (run ∷ []) ∙ ap (λ l. tables_in runs ++ l) (append-nil run)
+  tables_in-push runs run = flat_map-append (λ (ts : List T). ts) runs (run ∷ [])
+      ∙ ap (λ l. tables_in runs ++ l) (append-nil run)
 
   formed_both : (ts us : List T) → AreTablesWellFormed range (ts ++ us)
       → AreTablesWellFormed range ts × AreTablesWellFormed range us
@@ -458,9 +535,11 @@ module _ {T : Type 0} (range : T → Interval) where
       → AreWellFormed range (runs ++ run ∷ [])
       → next ≡ put_all range (tables_in (runs ++ run ∷ [])) []
   put_run runs run now next before put_tables formed =
-      let k = formed_both (tables_in runs) run (subst (AreTablesWellFormed range) (tables_in-push runs run) formed) in
+      let k = formed_both (tables_in runs) run (subst (AreTablesWellFormed range)
+      (tables_in-push runs run) formed) in
       let is = before k.0 in
-      let packed : ArePacked range now = subst (ArePacked range) (sym is) (put_all_packed range (tables_in runs) [] k.0 tt) in
+      let packed : ArePacked range now = subst (ArePacked range) (sym is)
+      (put_all_packed range (tables_in runs) [] k.0 tt) in
       put_tables k.1 packed ∙ ap (λ rs. put_all range run rs) is
       ∙ sym (put_all-append range (tables_in runs) run [])
       ∙ ap (λ ts. put_all range ts []) (sym (tables_in-push runs run))
@@ -478,20 +557,28 @@ module _ {T : Type 0} where
       → IsPermutation (tables_in items ++ t ∷ []) (tables_in (set items n new))
   permutes_in t [] n old new lt at same = absurd (omega arith)
   permutes_in t (run ∷ runs) zero old new lt at same =
-      let here : IsPermutation (run ++ t ∷ []) new = subst (λ (l : List T). IsPermutation (l ++ t ∷ []) new) at same in
-      IsPermutation-trans ((run ++ tables_in runs) ++ t ∷ []) ((run ++ t ∷ []) ++ tables_in runs) (new ++ tables_in runs)
-      (IsPermutation-trans ((run ++ tables_in runs) ++ t ∷ []) (t ∷ (run ++ tables_in runs)) ((run ++ t ∷ []) ++ tables_in runs)
+      let here : IsPermutation (run ++ t ∷ []) new =
+      subst (λ (l : List T). IsPermutation (l ++ t ∷ []) new) at same in
+      IsPermutation-trans ((run ++ tables_in runs) ++ t ∷ []) ((run ++ t ∷ []) ++ tables_in runs)
+      (new ++ tables_in runs)
+      (IsPermutation-trans ((run ++ tables_in runs) ++ t ∷ []) (t ∷ (run ++ tables_in runs))
+      ((run ++ t ∷ []) ++ tables_in runs)
       (IsPermutation-to_front (run ++ tables_in runs) t)
-      (IsPermutation-append_left (tables_in runs) (t ∷ run) (run ++ t ∷ []) (IsPermutation-sym (run ++ t ∷ []) (t ∷ run) (IsPermutation-to_front run t))))
+      (IsPermutation-append_left (tables_in runs) (t ∷ run) (run ++ t ∷ [])
+      (IsPermutation-sym (run ++ t ∷ []) (t ∷ run) (IsPermutation-to_front run t))))
       (IsPermutation-append_left (tables_in runs) (run ++ t ∷ []) new here)
   permutes_in t (run ∷ runs) (suc n) old new lt at same =
-      subst (λ (l : List T). IsPermutation l (run ++ tables_in (set runs n new))) (sym (append_assoc run (tables_in runs) (t ∷ [])))
-      (IsPermutation-append_right run (tables_in runs ++ t ∷ []) (tables_in (set runs n new)) (permutes_in t runs n old new (omega arith) at same))
+      subst (λ (l : List T). IsPermutation l (run ++ tables_in (set runs n new)))
+      (sym (append_assoc run (tables_in runs) (t ∷ [])))
+      (IsPermutation-append_right run (tables_in runs ++ t ∷ []) (tables_in (set runs n new))
+      (permutes_in t runs n old new (omega arith) at same))
 
   pub permutes_behind : (t : T) (items after : List (List T)) (run : List T) → run ≡ t ∷ []
       → after ≡ items ++ run ∷ [] → IsPermutation (tables_in items ++ t ∷ []) (tables_in after)
   permutes_behind t items after run only is =
-      subst (λ (l : List T). IsPermutation (tables_in items ++ t ∷ []) l) (sym (ap tables_in is ∙ flat_map-append (λ (ts : List T). ts) items (run ∷ []) ∙ ap (λ l. tables_in items ++ l) (append-nil run ∙ only)))
+      subst (λ (l : List T). IsPermutation (tables_in items ++ t ∷ []) l)
+      (sym (ap tables_in is ∙ flat_map-append (λ (ts : List T). ts) items (run ∷ [])
+      ∙ ap (λ l. tables_in items ++ l) (append-nil run ∙ only)))
       (IsPermutation-refl (tables_in items ++ t ∷ []))
 
   -- a list with one element more, in any order, is not empty
@@ -519,19 +606,24 @@ module _ {T : Type 0} where
       → IsPermutation (now ++ t ∷ []) next → IsPermutation (start ++ (done ++ t ∷ [])) next
   permutes_more start done now next t before one =
       IsPermutation-trans (start ++ (done ++ t ∷ [])) (now ++ t ∷ []) next
-      (subst (λ (l : List T). IsPermutation l (now ++ t ∷ [])) (append_assoc start done (t ∷ [])) (IsPermutation-append_left (t ∷ []) (start ++ done) now before))
+      (subst (λ (l : List T). IsPermutation l (now ++ t ∷ [])) (append_assoc start done (t ∷ []))
+      (IsPermutation-append_left (t ∷ []) (start ++ done) now before))
       one
 
   pub permutes_run : (done : List (List T)) (run : List T) (now next : List T)
       → IsPermutation (tables_in done) now → IsPermutation (now ++ run) next
       → IsPermutation (tables_in (done ++ run ∷ [])) next
   permutes_run done run now next before one =
-      subst (λ (l : List T). IsPermutation l next) (sym (flat_map-append (λ (ts : List T). ts) done (run ∷ []) ∙ ap (λ l. tables_in done ++ l) (append-nil run)))
-      (IsPermutation-trans (tables_in done ++ run) (now ++ run) next (IsPermutation-append_left run (tables_in done) now before) one)
+      subst (λ (l : List T). IsPermutation l next)
+      (sym (flat_map-append (λ (ts : List T). ts) done (run ∷ [])
+      ∙ ap (λ l. tables_in done ++ l) (append-nil run)))
+      (IsPermutation-trans (tables_in done ++ run) (now ++ run) next
+      (IsPermutation-append_left run (tables_in done) now before) one)
 
   pub permutes_inserted : (old items new : List T) (n : ℕ) (t : T) → items ≡ old
       → new ≡ insert items n t → IsPermutation (old ++ t ∷ []) new
   permutes_inserted old items new n t same is =
       subst (λ (l : List T). IsPermutation (l ++ t ∷ []) new) same
       (subst (λ (l : List T). IsPermutation (items ++ t ∷ []) l) (sym is)
-      (IsPermutation-trans (items ++ t ∷ []) (t ∷ items) (insert items n t) (IsPermutation-to_front items t) (IsPermutation-insert items n t)))
+      (IsPermutation-trans (items ++ t ∷ []) (t ∷ items) (insert items n t)
+      (IsPermutation-to_front items t) (IsPermutation-insert items n t)))

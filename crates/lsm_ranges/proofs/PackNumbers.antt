@@ -59,15 +59,20 @@ module _ {X : Type 0} (f : X → Interval) (at : X → ℕ) where
   mem-put_cases t (l ∷ ls) x h =
       elim (cases_Bool (touches f (f t) l || list_any (touches f (f t)) ls)) [
         | inl e ↦
-            let h' : IsElement x (l ++ tables_in (put f t ls)) = subst (λ (k : List (List X)). IsElement x (tables_in k)) (put_behind f t l ls e) h in
+            let h' : IsElement x (l ++ tables_in (put f t ls)) =
+            subst (λ (k : List (List X)). IsElement x (tables_in k))
+            (put_behind f t l ls e) h in
             elim (mem-append_cases l (tables_in (put f t ls)) x h') [
               | inl a ↦ inl (mem-append_left l (tables_in ls) x a)
-              | inr b ↦ elim (mem-put_cases t ls x b) [ inl m ↦ inl (mem-append_right l (tables_in ls) x m) | inr n ↦ inr n ]
+              | inr b ↦ elim (mem-put_cases t ls x b)
+                  [ inl m ↦ inl (mem-append_right l (tables_in ls) x m) | inr n ↦ inr n ]
             ]
         | inr e ↦
-            let h' : IsElement x (with_table f t l ++ tables_in ls) = subst (λ (k : List (List X)). IsElement x (tables_in k)) (put_here f t l ls e) h in
+            let h' : IsElement x (with_table f t l ++ tables_in ls) =
+            subst (λ (k : List (List X)). IsElement x (tables_in k)) (put_here f t l ls e) h in
             elim (mem-append_cases (with_table f t l) (tables_in ls) x h') [
-              | inl a ↦ elim (mem-insert_cases l (how_many (λ r. key_le r.min (f t).min) (map f l)) t x a) [ inl m ↦ inl (mem-append_left l (tables_in ls) x m) | inr n ↦ inr n ]
+              | inl a ↦ elim (mem-insert_cases l (how_many (λ r. key_le r.min (f t).min) (map f l))
+                  t x a) [ inl m ↦ inl (mem-append_left l (tables_in ls) x m) | inr n ↦ inr n ]
               | inr b ↦ inl (mem-append_right l (tables_in ls) x b)
             ]
       ]
@@ -76,8 +81,12 @@ module _ {X : Type 0} (f : X → Interval) (at : X → ℕ) where
   mem-put_new t [] = inl refl
   mem-put_new t (l ∷ ls) =
       elim (cases_Bool (touches f (f t) l || list_any (touches f (f t)) ls)) [
-        | inl e ↦ subst (λ (k : List (List X)). IsElement t (tables_in k)) (sym (put_behind f t l ls e)) (mem-append_right l (tables_in (put f t ls)) t (mem-put_new t ls))
-        | inr e ↦ subst (λ (k : List (List X)). IsElement t (tables_in k)) (sym (put_here f t l ls e)) (mem-append_left (with_table f t l) (tables_in ls) t (mem-insert_new l (how_many (λ r. key_le r.min (f t).min) (map f l)) t))
+        | inl e ↦ subst (λ (k : List (List X)). IsElement t (tables_in k))
+            (sym (put_behind f t l ls e)) (mem-append_right l (tables_in (put f t ls)) t
+            (mem-put_new t ls))
+        | inr e ↦ subst (λ (k : List (List X)). IsElement t (tables_in k))
+            (sym (put_here f t l ls e)) (mem-append_left (with_table f t l) (tables_in ls) t
+            (mem-insert_new l (how_many (λ r. key_le r.min (f t).min) (map f l)) t))
       ]
 
   mem-put_old : (t : X) (ls : List (List X)) (x : X) → IsElement x (tables_in ls)
@@ -85,14 +94,17 @@ module _ {X : Type 0} (f : X → Interval) (at : X → ℕ) where
   mem-put_old t [] x h = absurd h
   mem-put_old t (l ∷ ls) x h =
       elim (cases_Bool (touches f (f t) l || list_any (touches f (f t)) ls)) [
-        | inl e ↦ subst (λ (k : List (List X)). IsElement x (tables_in k)) (sym (put_behind f t l ls e))
+        | inl e ↦ subst (λ (k : List (List X)). IsElement x (tables_in k))
+            (sym (put_behind f t l ls e))
             (elim (mem-append_cases l (tables_in ls) x h) [
               | inl a ↦ mem-append_left l (tables_in (put f t ls)) x a
               | inr b ↦ mem-append_right l (tables_in (put f t ls)) x (mem-put_old t ls x b)
             ])
-        | inr e ↦ subst (λ (k : List (List X)). IsElement x (tables_in k)) (sym (put_here f t l ls e))
+        | inr e ↦ subst (λ (k : List (List X)). IsElement x (tables_in k))
+            (sym (put_here f t l ls e))
             (elim (mem-append_cases l (tables_in ls) x h) [
-              | inl a ↦ mem-append_left (with_table f t l) (tables_in ls) x (mem-insert_old l (how_many (λ r. key_le r.min (f t).min) (map f l)) t x a)
+              | inl a ↦ mem-append_left (with_table f t l) (tables_in ls) x
+                  (mem-insert_old l (how_many (λ r. key_le r.min (f t).min) (map f l)) t x a)
               | inr b ↦ mem-append_right (with_table f t l) (tables_in ls) x b
             ])
       ]
@@ -114,24 +126,30 @@ module _ {X : Type 0} (f : X → Interval) (at : X → ℕ) where
         | inl e ↦ subst (KeepRunOrder f at) (sym (put_behind f t l ls e)) (
           (λ x y m n o. elim (mem-put_cases t ls y n) [
             | inl k ↦ h.0 x y m k o
-            | inr is ↦ subst (λ (v : X). at x < at v) (sym is) (later x (mem-append_left l (tables_in ls) x m) (subst (λ (v : X). overlaps (f x) (f v) ≡ true) is o))
+            | inr is ↦ subst (λ (v : X). at x < at v) (sym is)
+                (later x (mem-append_left l (tables_in ls) x m)
+                (subst (λ (v : X). overlaps (f x) (f v) ≡ true) is o))
           ]),
           put_apart t ls (λ y m o. later y (mem-append_right l (tables_in ls) y m) o) h.1,
         )
         | inr e ↦
             let parted = or_parts (touches f (f t) l) (list_any (touches f (f t)) ls) e in
             subst (KeepRunOrder f at) (sym (put_here f t l ls e)) (
-              (λ x y m n o. elim (mem-insert_cases l (how_many (λ r. key_le r.min (f t).min) (map f l)) t x m) [
-                | inl k ↦ h.0 x y k n o
-                | inr is ↦ absurd (both_ways (overlaps (f y) (f t)) (untouched f (f t) ls parted.1 y n) (overlaps_comm (f y) (f t) ∙ subst (λ (v : X). overlaps (f v) (f y) ≡ true) is o))
-              ]),
+              (λ x y m n o. elim (mem-insert_cases l (how_many (λ r. key_le r.min (f t).min)
+                  (map f l)) t x m) [
+                    | inl k ↦ h.0 x y k n o
+                    | inr is ↦ absurd (both_ways (overlaps (f y) (f t))
+                        (untouched f (f t) ls parted.1 y n) (overlaps_comm (f y) (f t)
+                        ∙ subst (λ (v : X). overlaps (f v) (f y) ≡ true) is o))
+                  ]),
               h.1,
             )
       ]
 
   touched : (t : X) (l : List X) → After t l → touches f (f t) l ≡ true
       → (x : X) × IsElement x l × (overlaps (f x) (f t) ≡ true) × (at x < at t)
-  touched t l later e = let k = any_found (λ x. overlaps (f x) (f t)) l e in (k.0, k.1, k.2, later k.0 k.1 k.2)
+  touched t l later e = let k = any_found (λ x. overlaps (f x) (f t)) l e in
+      (k.0, k.1, k.2, later k.0 k.1 k.2)
 
   one_of : (a b : Bool) → (a || b) ≡ true → b ≡ false → a ≡ true
   one_of true b h k = refl
@@ -143,19 +161,33 @@ module _ {X : Type 0} (f : X → Interval) (at : X → ℕ) where
   steps_put t l [] later e h =
       λ y m. elim m [
         | inl is ↦
-            let k = touched t l (λ x n o. later x (mem-append_left l [] x n) o) (one_of (touches f (f t) l) false e refl) in
-            (k.0, k.1, ap (λ v. overlaps (f k.0) (f v)) is ∙ k.2, subst (λ (v : X). at k.0 < at v) (sym is) k.3)
+            let k = touched t l (λ x n o. later x (mem-append_left l [] x n) o)
+            (one_of (touches f (f t) l) false e refl) in (
+              k.0,
+              k.1,
+              ap (λ v. overlaps (f k.0) (f v)) is
+                  ∙ k.2,
+              subst (λ (v : X). at k.0 < at v) (sym is) k.3,
+            )
         | inr n ↦ absurd n
       ]
   steps_put t l (m ∷ ms) later e h =
       elim (cases_Bool (touches f (f t) m || list_any (touches f (f t)) ms)) [
         | inl e2 ↦ subst (CarriesNext f at l) (sym (put_behind f t m ms e2)) h
         | inr e2 ↦ subst (CarriesNext f at l) (sym (put_here f t m ms e2))
-            (λ y n. elim (mem-insert_cases m (how_many (λ r. key_le r.min (f t).min) (map f m)) t y n) [
+            (λ y n. elim (mem-insert_cases m (how_many (λ r. key_le r.min (f t).min) (map f m)) t y
+            n) [
               | inl old ↦ h y old
               | inr is ↦
-                  let k = touched t l (λ x n o. later x (mem-append_left l (tables_in (m ∷ ms)) x n) o) (one_of (touches f (f t) l) (list_any (touches f (f t)) (m ∷ ms)) e e2) in
-                  (k.0, k.1, ap (λ v. overlaps (f k.0) (f v)) is ∙ k.2, subst (λ (v : X). at k.0 < at v) (sym is) k.3)
+                  let k = touched t l (λ x n o. later x
+                  (mem-append_left l (tables_in (m ∷ ms)) x n) o)
+                  (one_of (touches f (f t) l) (list_any (touches f (f t)) (m ∷ ms)) e e2) in (
+                    k.0,
+                    k.1,
+                    ap (λ v. overlaps (f k.0) (f v)) is
+                        ∙ k.2,
+                    subst (λ (v : X). at k.0 < at v) (sym is) k.3,
+                  )
             ])
       ]
 
@@ -164,14 +196,23 @@ module _ {X : Type 0} (f : X → Interval) (at : X → ℕ) where
   put_steps t [] later h = (tt, tt)
   put_steps t (l ∷ ls) later h =
       elim (cases_Bool (touches f (f t) l || list_any (touches f (f t)) ls)) [
-        | inl e ↦ subst (EachCarriesNext f at) (sym (put_behind f t l ls e))
-            (steps_put t l ls later e h.0, put_steps t ls (λ y m o. later y (mem-append_right l (tables_in ls) y m) o) h.1)
+        | inl e ↦ subst (EachCarriesNext f at) (sym (put_behind f t l ls e)) (
+          steps_put t l ls later e h.0,
+          put_steps t ls
+              (λ y m o. later y (mem-append_right l (tables_in ls) y m) o) h.1,
+        )
         | inr e ↦ subst (EachCarriesNext f at) (sym (put_here f t l ls e)) (wider ls h.0, h.1)
       ]
     where
       wider : (ms : List (List X)) → CarriesNext f at l ms → CarriesNext f at (with_table f t l) ms
       wider [] k = tt
-      wider (m ∷ ms) k = λ y n. let s = k y n in (s.0, mem-insert_old l (how_many (λ r. key_le r.min (f t).min) (map f l)) t s.0 s.1, s.2, s.3)
+      wider (m ∷ ms) k = λ y n. let s = k y n in (
+        s.0,
+        mem-insert_old l
+            (how_many (λ r. key_le r.min (f t).min) (map f l)) t s.0 s.1,
+        s.2,
+        s.3,
+      )
 
   -- what holds of the levels once all elements are put in
   pub record Stacked (ts : List X) (ls : List (List X)) : Type 0 where
@@ -188,10 +229,18 @@ module _ {X : Type 0} (f : X → Interval) (at : X → ℕ) where
       let next : Stacked (done ++ t ∷ []) (put f t ls) = record {
         keeps_order = put_apart t ls after s.keeps_order;
         carries = put_steps t ls after s.carries;
-        from = λ x m. elim (mem-put_cases t ls x m) [ inl k ↦ mem-append_left done (t ∷ []) x (s.from x k) | inr e ↦ mem-append_right done (t ∷ []) x (inl e) ];
+        from = λ x m. elim (mem-put_cases t ls x m) [
+          | inl k ↦ mem-append_left done (t ∷ []) x (s.from x k)
+          | inr e ↦
+              mem-append_right done (t ∷ []) x (inl e)
+        ];
         has = λ x m. elim (mem-append_cases done (t ∷ []) x m) [
           | inl k ↦ mem-put_old t ls x (s.has x k)
-          | inr k ↦ elim k [ inl e ↦ subst (λ (v : X). IsElement v (tables_in (put f t ls))) (sym e) (mem-put_new t ls) | inr n ↦ absurd n ]
+          | inr k ↦ elim k [
+            | inl e ↦ subst (λ (v : X). IsElement v (tables_in (put f t ls))) (sym e)
+                (mem-put_new t ls)
+            | inr n ↦ absurd n
+          ]
         ];
       } in
       subst (λ (k : List X). Stacked k (put_all f ts (put f t ls))) (append_assoc done (t ∷ []) ts)
@@ -199,10 +248,17 @@ module _ {X : Type 0} (f : X → Interval) (at : X → ℕ) where
       (λ u m y n o. elim (mem-append_cases done (t ∷ []) y n) [
         | inl k ↦ later u (inr m) y k o
         | inr k ↦ elim k [
-          | inl e ↦ subst (λ (v : X). at v < at u) (sym e) (r.0 u m (subst (λ (v : X). overlaps (f v) (f u) ≡ true) e o))
+          | inl e ↦ subst (λ (v : X). at v < at u) (sym e)
+              (r.0 u m (subst (λ (v : X). overlaps (f v) (f u) ≡ true) e o))
           | inr z ↦ absurd z
         ]
       ]))
 
   pub stacked : (ts : List X) → Rises ts → Stacked ts (put_all f ts [])
-  stacked ts r = stack [] ts [] (record { keeps_order = tt; carries = tt; from = λ x m. absurd m; has = λ x m. absurd m }) r (λ t m y n o. absurd n)
+  stacked ts r = stack [] ts [] (record {
+    keeps_order = tt;
+    carries = tt;
+    from =
+        λ x m. absurd m;
+    has = λ x m. absurd m;
+  }) r (λ t m y n o. absurd n)

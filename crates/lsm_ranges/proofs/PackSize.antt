@@ -43,7 +43,8 @@ upto-more [] a b le = omega arith
 upto-more (n ∷ ns) a b le =
     let h = upto-more ns a b le in
     elim (cases_Bool (nat_le n a)) [
-      | inl e ↦ let f : nat_le n b ≡ true = le-leb n b (omega (arith, leb-true n a e)) in rw (e, f) (omega (arith, h))
+      | inl e ↦ let f : nat_le n b ≡ true = le-leb n b (omega (arith, leb-true n a e)) in
+          rw (e, f) (omega (arith, h))
       | inr e ↦
           elim (cases_Bool (nat_le n b)) [
             | inl f ↦ rw (e, f) (omega (arith, h))
@@ -64,7 +65,8 @@ upto-grows (n ∷ ns) a b zero lt within at =
 upto-grows (n ∷ ns) a b (suc k) lt within at =
     let h = upto-grows ns a b k lt (omega arith) at in
     elim (cases_Bool (nat_le n a)) [
-      | inl e ↦ let f : nat_le n b ≡ true = le-leb n b (omega (arith, leb-true n a e)) in rw (e, f) (omega (arith, h))
+      | inl e ↦ let f : nat_le n b ≡ true = le-leb n b (omega (arith, leb-true n a e)) in
+          rw (e, f) (omega (arith, h))
       | inr e ↦
           elim (cases_Bool (nat_le n b)) [
             | inl f ↦ rw (e, f) (omega (arith, h))
@@ -103,7 +105,8 @@ module _ {X : Type 0} (f : X → Interval) (at : X → ℕ) where
   climb N ns l (m ∷ ms) k grows among counted some packed steps rest =
       let next : suc k + length ms ≤ length ns =
       climb N ns m ms (suc k)
-      (λ x y p q. grows x y (mem-append_right l (m ++ tables_in ms) x p) (mem-append_right l (m ++ tables_in ms) y q))
+      (λ x y p q. grows x y (mem-append_right l (m ++ tables_in ms) x p)
+      (mem-append_right l (m ++ tables_in ms) y q))
       (λ x p. among x (mem-append_right l (m ++ tables_in ms) x p))
       (λ y p.
       let s = steps y p in
@@ -125,14 +128,16 @@ module _ {X : Type 0} (f : X → Interval) (at : X → ℕ) where
   at_least N ns (l ∷ ls) grows among packed steps =
       let up : 1 + length ls ≤ length ns =
       climb N ns l ls 1 grows among
-      (λ x p. let x_in = among x (mem-append_left l (tables_in ls) x p) in upto-some ns (N x) x_in.0 x_in.1 x_in.2)
+      (λ x p. let x_in = among x (mem-append_left l (tables_in ls) x p) in
+      upto-some ns (N x) x_in.0 x_in.1 x_in.2)
       packed.0.1 packed.1 steps.0 steps.1 in
       omega (arith, up)
 
 any-append : {X : Type 0} (p : X → Bool) (xs ys : List X)
     → list_any p (xs ++ ys) ≡ (list_any p xs || list_any p ys)
 any-append p [] ys = refl
-any-append p (x ∷ xs) ys = ap (λ b. p x || b) (any-append p xs ys) ∙ sym (or_assoc (p x) (list_any p xs) (list_any p ys))
+any-append p (x ∷ xs) ys = ap (λ b. p x || b) (any-append p xs ys)
+    ∙ sym (or_assoc (p x) (list_any p xs) (list_any p ys))
 
 module _ {X : Type 0} (f : X → Interval) (at : X → ℕ) where
   all_later : (p : Interval → Bool) (xs : List X) → list_all p (map f xs) ≡ true → (y : X)
@@ -143,7 +148,9 @@ module _ {X : Type 0} (f : X → Interval) (at : X → ℕ) where
       elim m [ inl e ↦ ap (λ v. p (f v)) e ∙ k.0 | inr n ↦ all_later p xs k.1 y n ]
 
   clash : (x y : X) → key_lt (f x).max (f y).min ≡ true → overlaps (f x) (f y) ≡ true → ⊥
-  clash x y lt o = both_ways (key_lt (f x).max (f y).min) (le_from (f y).min (f x).max (and_parts (key_le (f y).min (f x).max) (key_le (f x).min (f y).max) o).0) lt
+  clash x y lt o = both_ways (key_lt (f x).max (f y).min)
+      (le_from (f y).min (f x).max (and_parts (key_le (f y).min (f x).max)
+      (key_le (f x).min (f y).max) o).0) lt
 
   -- in a run that is in order, only a table itself overlaps it
   same_in_order : (l : List X) → are_in_order (map f l) ≡ true → (x y : X) → IsElement x l
@@ -155,11 +162,14 @@ module _ {X : Type 0} (f : X → Interval) (at : X → ℕ) where
         | inl e ↦
             elim n [
               | inl g ↦ e ∙ sym g
-              | inr b ↦ absurd (clash z y (all_later (λ later. key_lt (f z).max later.min) zs k.before y b) (subst (λ (v : X). overlaps (f v) (f y) ≡ true) e o))
+              | inr b ↦ absurd (clash z y (all_later (λ later. key_lt (f z).max later.min) zs
+                  k.before y b) (subst (λ (v : X). overlaps (f v) (f y) ≡ true) e o))
             ]
         | inr a ↦
             elim n [
-              | inl g ↦ absurd (clash z x (all_later (λ later. key_lt (f z).max later.min) zs k.before x a) (overlaps_comm (f z) (f x) ∙ subst (λ (v : X). overlaps (f x) (f v) ≡ true) g o))
+              | inl g ↦ absurd (clash z x (all_later (λ later. key_lt (f z).max later.min) zs
+                  k.before x a) (overlaps_comm (f z) (f x)
+                  ∙ subst (λ (v : X). overlaps (f x) (f v) ≡ true) g o))
               | inr b ↦ same_in_order zs k.rest x y a b o
             ]
       ]
@@ -177,7 +187,8 @@ module _ {X : Type 0} (f : X → Interval) (at : X → ℕ) where
       elim (cases_Bool (list_any p l)) [
         | inl e ↦ rw e (omega arith)
         | inr e ↦
-            let there : list_any p (tables_in ls) ≡ true = rw e at (sym (any-append p l (tables_in ls)) ∙ h) in
+            let there : list_any p (tables_in ls) ≡ true =
+            rw e at (sym (any-append p l (tables_in ls)) ∙ h) in
             let low = level_below p ls there in
             rw e (omega (arith, low))
       ]
@@ -197,23 +208,29 @@ module _ {X : Type 0} (f : X → Interval) (at : X → ℕ) where
               | inl g ↦
                   let x = any_found p l e in
                   let y = any_found q l g in
-                  let k = pairs x.0 y.0 (mem-append_left l (tables_in ls) x.0 x.1) (mem-append_left l (tables_in ls) y.0 y.1) x.2 y.2 in
+                  let k = pairs x.0 y.0 (mem-append_left l (tables_in ls) x.0 x.1)
+                  (mem-append_left l (tables_in ls) y.0 y.1) x.2 y.2 in
                   let same = same_in_order l packed.0.0 x.0 y.0 x.1 y.1 k.0 in
                   absurd (omega (arith, k.1, ap at same))
               | inr g ↦ rw (e, g) (omega arith)
             ]
         | inr e ↦
-            let p_there : list_any p (tables_in ls) ≡ true = rw e at (sym (any-append p l (tables_in ls)) ∙ hp) in
+            let p_there : list_any p (tables_in ls) ≡ true =
+            rw e at (sym (any-append p l (tables_in ls)) ∙ hp) in
             elim (cases_Bool (list_any q l)) [
               | inl g ↦
                   let x = any_found p (tables_in ls) p_there in
                   let y = any_found q l g in
-                  let k = pairs x.0 y.0 (mem-append_right l (tables_in ls) x.0 x.1) (mem-append_left l (tables_in ls) y.0 y.1) x.2 y.2 in
+                  let k = pairs x.0 y.0 (mem-append_right l (tables_in ls) x.0 x.1)
+                  (mem-append_left l (tables_in ls) y.0 y.1) x.2 y.2 in
                   let back = apart.0 y.0 x.0 y.1 x.1 (overlaps_comm (f y.0) (f x.0) ∙ k.0) in
                   absurd (omega (arith, k.1, back))
               | inr g ↦
-                  let q_there : list_any q (tables_in ls) ≡ true = rw g at (sym (any-append q l (tables_in ls)) ∙ hq) in
-                  let low = level_rises p q ls (λ x y m n. pairs x y (mem-append_right l (tables_in ls) x m) (mem-append_right l (tables_in ls) y n)) apart.1 packed.1 p_there q_there in
+                  let q_there : list_any q (tables_in ls) ≡ true =
+                  rw g at (sym (any-append q l (tables_in ls)) ∙ hq) in
+                  let low = level_rises p q ls (λ x y m n. pairs x y
+                  (mem-append_right l (tables_in ls) x m)
+                  (mem-append_right l (tables_in ls) y n)) apart.1 packed.1 p_there q_there in
                   rw (e, g) (omega (arith, low))
             ]
       ]
@@ -229,7 +246,15 @@ module _ {T : Type 0} where
   in_run i j [] x h = absurd h
   in_run i j (t ∷ ts) x h =
       elim h [
-        | inl e ↦ (ap (λ v. v.run) e, (0, ap (λ v. v.place) e ∙ omega arith, ap (λ v. Some v.table) (sym e)))
+        | inl e ↦ (
+          ap (λ v. v.run) e,
+          (
+            0,
+            ap (λ v. v.place) e
+                ∙ omega arith,
+            ap (λ v. Some v.table) (sym e),
+          ),
+        )
         | inr m ↦ let k = in_run i (suc j) ts x m in (k.0, (suc k.1.0, k.1.1 ∙ omega arith, k.1.2))
       ]
 
@@ -257,8 +282,11 @@ module _ {T : Type 0} where
   has_in_run : (i j m : ℕ) (ts : List T) (t : T) → slice_get ts m ≡ Some t
       → IsElement (table_with_place t i (j + m)) (run_with_places i j ts)
   has_in_run i j m [] t h = absurd cc
-  has_in_run i j zero (x ∷ xs) t h = let e : x ≡ t = cc in let n : j + 0 ≡ j = omega arith in inl (ap (λ v. table_with_place v i (j + 0)) (sym e) ∙ ap (λ v. table_with_place x i v) n)
-  has_in_run i j (suc m) (x ∷ xs) t h = let n : suc j + m ≡ j + suc m = omega arith in inr (subst (λ (v : ℕ). IsElement (table_with_place t i v) (run_with_places i (suc j) xs)) n (has_in_run i (suc j) m xs t h))
+  has_in_run i j zero (x ∷ xs) t h = let e : x ≡ t = cc in let n : j + 0 ≡ j = omega arith in
+      inl (ap (λ v. table_with_place v i (j + 0)) (sym e) ∙ ap (λ v. table_with_place x i v) n)
+  has_in_run i j (suc m) (x ∷ xs) t h = let n : suc j + m ≡ j + suc m = omega arith in
+      inr (subst (λ (v : ℕ). IsElement (table_with_place t i v) (run_with_places i (suc j) xs)) n
+      (has_in_run i (suc j) m xs t h))
 
   has_in_runs : (i n m : ℕ) (runs : List (List T)) (t : T) → table_at runs n m ≡ Some t
       → IsElement (table_with_place t (i + n) m) (runs_with_places i runs)
@@ -266,16 +294,23 @@ module _ {T : Type 0} where
   has_in_runs i zero m (run ∷ runs) t h =
       let a : i ≡ i + 0 = omega arith in
       let b : 0 + m ≡ m = omega arith in
-      mem-append_left (run_with_places i 0 run) (runs_with_places (suc i) runs) (table_with_place t (i + 0) m)
-      (subst (λ (v : ℕ). IsElement (table_with_place t v m) (run_with_places i 0 run)) a (subst (λ (v : ℕ). IsElement (table_with_place t i v) (run_with_places i 0 run)) b (has_in_run i 0 m run t h)))
+      mem-append_left (run_with_places i 0 run) (runs_with_places (suc i) runs)
+      (table_with_place t (i + 0) m)
+      (subst (λ (v : ℕ). IsElement (table_with_place t v m) (run_with_places i 0 run)) a
+      (subst (λ (v : ℕ). IsElement (table_with_place t i v) (run_with_places i 0 run)) b
+      (has_in_run i 0 m run t h)))
   has_in_runs i (suc n) m (run ∷ runs) t h =
       let a : suc i + n ≡ i + suc n = omega arith in
-      mem-append_right (run_with_places i 0 run) (runs_with_places (suc i) runs) (table_with_place t (i + suc n) m)
-      (subst (λ (v : ℕ). IsElement (table_with_place t v m) (runs_with_places (suc i) runs)) a (has_in_runs (suc i) n m runs t h))
+      mem-append_right (run_with_places i 0 run) (runs_with_places (suc i) runs)
+      (table_with_place t (i + suc n) m)
+      (subst (λ (v : ℕ). IsElement (table_with_place t v m) (runs_with_places (suc i) runs)) a
+      (has_in_runs (suc i) n m runs t h))
 
   pub has_table : (runs : List (List T)) (i j : ℕ) (t : T) → table_at runs i j ≡ Some t
       → IsElement (table_with_place t i j) (runs_with_places 0 runs)
-  has_table runs i j t h = let a : 0 + i ≡ i = omega arith in subst (λ (v : ℕ). IsElement (table_with_place t v j) (runs_with_places 0 runs)) a (has_in_runs 0 i j runs t h)
+  has_table runs i j t h = let a : 0 + i ≡ i = omega arith in
+      subst (λ (v : ℕ). IsElement (table_with_place t v j) (runs_with_places 0 runs)) a
+      (has_in_runs 0 i j runs t h)
 
   without_places : (i j : ℕ) (ts : List T) → map (λ x. x.table) (run_with_places i j ts) ≡ ts
   without_places i j [] = refl
@@ -285,7 +320,8 @@ module _ {T : Type 0} where
       → map (λ x. x.table) (runs_with_places i runs) ≡ tables_in runs
   tables_with_places i [] = refl
   tables_with_places i (run ∷ runs) =
-      map-append (λ (x : TableWithPlace T). x.table) (run_with_places i 0 run) (runs_with_places (suc i) runs)
+      map-append (λ (x : TableWithPlace T). x.table) (run_with_places i 0 run)
+      (runs_with_places (suc i) runs)
       ∙ ap (λ l. l ++ map (λ x. x.table) (runs_with_places (suc i) runs)) (without_places i 0 run)
       ∙ ap (λ l. run ++ l) (tables_with_places (suc i) runs)
 
@@ -299,14 +335,22 @@ module _ {T : Type 0} (range : T → Interval) where
   mem_range : (i j : ℕ) (ts : List T) (x : TableWithPlace T) → IsElement x (run_with_places i j ts)
       → IsElement (range x.table) (map range ts)
   mem_range i j [] x h = absurd h
-  mem_range i j (t ∷ ts) x h = elim h [ inl e ↦ inl (ap (λ v. range v.table) e) | inr m ↦ inr (mem_range i (suc j) ts x m) ]
+  mem_range i j (t ∷ ts) x h = elim h [
+    | inl e ↦ inl (ap (λ v. range v.table) e)
+    | inr m ↦
+        inr (mem_range i (suc j) ts x m)
+  ]
 
   rises_in : (i j : ℕ) (ts : List T) → are_disjoint (map range ts) ≡ true
       → Rises range_of run_of (run_with_places i j ts)
   rises_in i j [] h = tt
   rises_in i j (t ∷ ts) h =
-      let k = and_parts (not (list_any (overlaps (range t)) (map range ts))) (are_disjoint (map range ts)) h in (
-        (λ y m o. absurd (both_ways (overlaps (range t) (range y.table)) (any_fails (overlaps (range t)) (map range ts) (not-true (list_any (overlaps (range t)) (map range ts)) k.0) (range y.table) (mem_range i (suc j) ts y m)) o)),
+      let k = and_parts (not (list_any (overlaps (range t)) (map range ts)))
+      (are_disjoint (map range ts)) h in (
+        (λ y m o. absurd (both_ways (overlaps (range t) (range y.table))
+            (any_fails (overlaps (range t)) (map range ts)
+            (not-true (list_any (overlaps (range t)) (map range ts)) k.0) (range y.table)
+            (mem_range i (suc j) ts y m)) o)),
         rises_in i (suc j) ts k.1,
       )
 
@@ -316,7 +360,11 @@ module _ {T : Type 0} (range : T → Interval) where
       → Rises range_of run_of (xs ++ ys)
   rises-append [] ys rx ry later = ry
   rises-append (x ∷ xs) ys rx ry later = (
-    (λ y m o. elim (mem-append_cases xs ys y m) [ inl a ↦ rx.0 y a o | inr b ↦ later x y (inl refl) b ]),
+    (λ y m o. elim (mem-append_cases xs ys y m) [
+      | inl a ↦ rx.0 y a o
+      | inr b ↦
+          later x y (inl refl) b
+    ]),
     rises-append xs ys rx.1 ry (λ u v m n. later u v (inr m) n),
   )
 
@@ -325,8 +373,10 @@ module _ {T : Type 0} (range : T → Interval) where
       → Rises range_of run_of (runs_with_places i runs)
   rises_all i [] h = tt
   rises_all i (run ∷ runs) h =
-      rises-append (run_with_places i 0 run) (runs_with_places (suc i) runs) (rises_in i 0 run h.0) (rises_all (suc i) runs h.1)
-      (λ x y m n. let a = in_run i 0 run x m in let b = in_runs (suc i) runs y n in omega (arith, a.0, b.1))
+      rises-append (run_with_places i 0 run) (runs_with_places (suc i) runs) (rises_in i 0 run h.0)
+      (rises_all (suc i) runs h.1)
+      (λ x y m n. let a = in_run i 0 run x m in let b = in_runs (suc i) runs y n in
+      omega (arith, a.0, b.1))
 
   pub formed-map : {X : Type 0} (g : X → T) (xs : List X) → AreTablesWellFormed range (map g xs)
       → AreTablesWellFormed (λ x. range (g x)) xs
@@ -355,7 +405,8 @@ module _ {X T : Type 0} (g : X → T) (range : T → Interval) where
       map-append g (take n run) (x ∷ drop n run)
       ∙ ap (λ l. l ++ g x ∷ map g (drop n run)) (map-take n run)
       ∙ ap (λ l. take n (map g run) ++ g x ∷ l) (map-drop n run)
-      ∙ ap (λ rs. insert (map g run) (how_many (λ r. key_le r.min (range (g x)).min) rs) (g x)) (sym (map-map run))
+      ∙ ap (λ rs. insert (map g run) (how_many (λ r. key_le r.min (range (g x)).min) rs) (g x))
+      (sym (map-map run))
 
   touches-map : (r : Interval) (run : List X)
       → touches (λ v. range (g v)) r run ≡ touches range r (map g run)
@@ -365,16 +416,20 @@ module _ {X T : Type 0} (g : X → T) (range : T → Interval) where
   any_touches-map : (r : Interval) (ls : List (List X))
       → list_any (touches (λ v. range (g v)) r) ls ≡ list_any (touches range r) (map (map g) ls)
   any_touches-map r [] = refl
-  any_touches-map r (l ∷ ls) = ap (λ b. b || list_any (touches (λ v. range (g v)) r) ls) (touches-map r l) ∙ ap (λ b. touches range r (map g l) || b) (any_touches-map r ls)
+  any_touches-map r (l ∷ ls) = ap (λ b. b || list_any (touches (λ v. range (g v)) r) ls)
+      (touches-map r l) ∙ ap (λ b. touches range r (map g l) || b) (any_touches-map r ls)
 
   put-map : (x : X) (ls : List (List X))
       → map (map g) (put (λ v. range (g v)) x ls) ≡ put range (g x) (map (map g) ls)
   put-map x [] = refl
   put-map x (l ∷ ls) =
       let r = range (g x) in
-      let same : (touches (λ v. range (g v)) r l || list_any (touches (λ v. range (g v)) r) ls) ≡ (touches range r (map g l) || list_any (touches range r) (map (map g) ls)) =
-      ap (λ b. b || list_any (touches (λ v. range (g v)) r) ls) (touches-map r l) ∙ ap (λ b. touches range r (map g l) || b) (any_touches-map r ls) in
-      elim (cases_Bool (touches (λ v. range (g v)) (range (g x)) l || list_any (touches (λ v. range (g v)) (range (g x))) ls)) [
+      let same : (touches (λ v. range (g v)) r l || list_any (touches (λ v. range (g v)) r) ls)
+      ≡ (touches range r (map g l) || list_any (touches range r) (map (map g) ls)) =
+      ap (λ b. b || list_any (touches (λ v. range (g v)) r) ls) (touches-map r l)
+      ∙ ap (λ b. touches range r (map g l) || b) (any_touches-map r ls) in
+      elim (cases_Bool (touches (λ v. range (g v)) (range (g x)) l
+      || list_any (touches (λ v. range (g v)) (range (g x))) ls)) [
         | inl e ↦
             ap (map (map g)) (put_behind (λ v. range (g v)) x l ls e)
             ∙ ap (λ rs. map g l ∷ rs) (put-map x ls)
@@ -388,7 +443,8 @@ module _ {X T : Type 0} (g : X → T) (range : T → Interval) where
   pub put_all-map : (xs : List X) (ls : List (List X))
       → map (map g) (put_all (λ v. range (g v)) xs ls) ≡ put_all range (map g xs) (map (map g) ls)
   put_all-map [] ls = refl
-  put_all-map (x ∷ xs) ls = put_all-map xs (put (λ v. range (g v)) x ls) ∙ ap (λ rs. put_all range (map g xs) rs) (put-map x ls)
+  put_all-map (x ∷ xs) ls = put_all-map xs (put (λ v. range (g v)) x ls)
+      ∙ ap (λ rs. put_all range (map g xs) rs) (put-map x ls)
 
 module _ {T : Type 0} (range : T → Interval) (runs : List (List T))
     (h : AreDisjointRuns range runs) where
@@ -397,19 +453,23 @@ module _ {T : Type 0} (range : T → Interval) (runs : List (List T))
 
   levels_stacked : Stacked (range_of range) (run_of range) (runs_with_places 0 runs) levels
   unfolding levels
-  levels_stacked = stacked (range_of range) (run_of range) (runs_with_places 0 runs) (rises_all range 0 runs h.apart)
+  levels_stacked = stacked (range_of range) (run_of range) (runs_with_places 0 runs)
+      (rises_all range 0 runs h.apart)
 
   levels_packed : ArePacked (range_of range) levels
   unfolding levels
   levels_packed =
       put_all_packed (range_of range) (runs_with_places 0 runs) []
-      (formed-map range (λ (x : TableWithPlace T). x.table) (runs_with_places 0 runs) (subst (AreTablesWellFormed range) (sym (tables_with_places 0 runs)) h.formed)) tt
+      (formed-map range (λ (x : TableWithPlace T). x.table) (runs_with_places 0 runs)
+      (subst (AreTablesWellFormed range) (sym (tables_with_places 0 runs)) h.formed)) tt
 
   size_is : length levels ≡ length (put_all range (tables_in runs) [])
   unfolding levels
   size_is =
-      sym (length-map (put_all (range_of range) (runs_with_places 0 runs) []) (map (λ (x : TableWithPlace T). x.table)))
-      ∙ ap length (put_all-map (λ (x : TableWithPlace T). x.table) range (runs_with_places 0 runs) [] ∙ ap (λ ts. put_all range ts []) (tables_with_places 0 runs))
+      sym (length-map (put_all (range_of range) (runs_with_places 0 runs) [])
+      (map (λ (x : TableWithPlace T). x.table)))
+      ∙ ap length (put_all-map (λ (x : TableWithPlace T). x.table) range
+      (runs_with_places 0 runs) [] ∙ ap (λ ts. put_all range ts []) (tables_with_places 0 runs))
 
   is_at : ℕ → ℕ → TableWithPlace T → Bool
   is_at i j x = (x.run == i) && (x.place == j)
@@ -427,18 +487,22 @@ module _ {T : Type 0} (range : T → Interval) (runs : List (List T))
       let run : x.run ≡ i = eqb-true x.run i k.0 in
       let place : x.place ≡ j = eqb-true x.place j k.1 in
       let found = is_at_place runs x m in
-      let there : Some x.table ≡ Some t = sym found ∙ ap (λ v. table_at runs v x.place) run ∙ ap (λ v. table_at runs i v) place ∙ a in
+      let there : Some x.table ≡ Some t = sym found ∙ ap (λ v. table_at runs v x.place) run
+      ∙ ap (λ v. table_at runs i v) place ∙ a in
       (cc, run)
 
   found_at : (i j : ℕ) (t : T) → table_at runs i j ≡ Some t
       → list_any (is_at i j) (tables_in levels) ≡ true
-  found_at i j t a = any_from (is_at i j) (tables_in levels) (table_with_place t i j) (levels_stacked.has (table_with_place t i j) (has_table runs i j t a)) (is_at_itself t i j)
+  found_at i j t a = any_from (is_at i j) (tables_in levels) (table_with_place t i j)
+      (levels_stacked.has (table_with_place t i j) (has_table runs i j t a)) (is_at_itself t i j)
 
   least_levels : IsLeastSize range runs (length levels)
   least_levels = record {
     at_least = λ number ns placement holds.
         at_least (range_of range) (run_of range) (λ x. number x.run x.place) ns levels
-        (λ x y p q o lt. placement.keeps x.run x.place y.run y.place x.table y.table lt (is_at_place runs x (levels_stacked.from x p)) (is_at_place runs y (levels_stacked.from y q)) o)
+        (λ x y p q o lt. placement.keeps x.run x.place y.run y.place x.table y.table lt
+        (is_at_place runs x (levels_stacked.from x p))
+        (is_at_place runs y (levels_stacked.from y q)) o)
         (λ x p. holds x.run x.place x.table (is_at_place runs x (levels_stacked.from x p)))
         levels_packed levels_stacked.carries;
     reached = (
@@ -448,11 +512,15 @@ module _ {T : Type 0} (range : T → Interval) (runs : List (List T))
             level_rises (range_of range) (run_of range) (is_at i j) (is_at i' j') levels
             (λ x y m n px qy.
             let k = table_is x i j t (levels_stacked.from x m) px a in
-            let l = table_is y i' j' t' (levels_stacked.from y n) qy b in
-            (ap (λ v. overlaps (range v) (range y.table)) k.0 ∙ ap (λ v. overlaps (range t) (range v)) l.0 ∙ o, omega (arith, k.1, l.1, lt)))
+            let l = table_is y i' j' t' (levels_stacked.from y n) qy b in (
+              ap (λ v. overlaps (range v) (range y.table)) k.0
+                  ∙ ap (λ v. overlaps (range t) (range v)) l.0 ∙ o,
+              omega (arith, k.1, l.1, lt),
+            ))
             levels_stacked.keeps_order levels_packed (found_at i j t a) (found_at i' j' t' b);
       },
-      (λ i j t a. level_below (range_of range) (run_of range) (is_at i j) levels (found_at i j t a)),
+      (λ i j t a. level_below (range_of range) (run_of range) (is_at i j) levels
+          (found_at i j t a)),
     );
   }
 
@@ -464,12 +532,23 @@ pub least_single : {T : Type 0} (range : T → Interval) (runs : List (List T)) 
     → AreDisjointRuns range runs → IsLeastSize range runs (length runs)
 least_single range [] le h = record {
   at_least = λ number ns placement holds. omega arith;
-  reached = ((λ i j. 0), record { keeps = λ i j i' j' t t' lt a b o. absurd cc }, (λ i j t a. absurd cc));
+  reached = (
+    (λ i j. 0),
+    record { keeps = λ i j i' j' t t' lt a b o. absurd cc },
+    (λ i j t a. absurd cc),
+  );
 }
 least_single range ([] ∷ []) le h = absurd (h.some.0 refl)
 least_single {T = T} range ((t ∷ ts) ∷ []) le h = record {
   at_least = λ number ns placement holds. let k = holds 0 0 t refl in omega (arith, k.1);
-  reached = ((λ i j. 0), record { keeps = λ i j i' j' u u' lt a b o. absurd (past i i' j' u' lt b) }, (λ i j u a. omega arith));
+  reached = (
+    (λ i j. 0),
+    record {
+      keeps = λ i j i' j' u u' lt a b o. absurd
+          (past i i' j' u' lt b);
+    },
+    (λ i j u a. omega arith),
+  );
 }
   where
     past : (i i' j' : ℕ) (u' : T) → i < i' → table_at ((t ∷ ts) ∷ []) i' j' ≡ Some u' → ⊥

@@ -36,18 +36,22 @@ module _ {X : Type 0} (p : List X → Bool) where
   top_passes (run ∷ runs) n is =
       elim (cases_Bool (list_any p runs)) [
         | inl e ↦
-            let one : count_to_last p (run ∷ runs) ≡ suc (count_to_last p runs) = rw (or_right (p run) (list_any p runs) e) refl in
+            let one : count_to_last p (run ∷ runs) ≡ suc (count_to_last p runs) =
+            rw (or_right (p run) (list_any p runs) e) refl in
             let some = some_counted runs e in
             let place : n ≡ suc some.0 = omega (arith, is, one, some.1) in
-            subst (λ (m : ℕ). p (get_or (run ∷ runs) m []) ≡ true) (sym place) (top_passes runs some.0 some.1)
+            subst (λ (m : ℕ). p (get_or (run ∷ runs) m []) ≡ true) (sym place)
+            (top_passes runs some.0 some.1)
         | inr e ↦
             elim (cases_Bool (p run)) [
               | inl h ↦
-                  let one : count_to_last p (run ∷ runs) ≡ suc (count_to_last p runs) = rw (or_left (p run) (list_any p runs) h) refl in
+                  let one : count_to_last p (run ∷ runs) ≡ suc (count_to_last p runs) =
+                  rw (or_left (p run) (list_any p runs) h) refl in
                   let rest = none_counted runs e in
                   let place : n ≡ 0 = omega (arith, is, one, rest) in
                   subst (λ (m : ℕ). p (get_or (run ∷ runs) m []) ≡ true) (sym place) h
-              | inr h ↦ let none : count_to_last p (run ∷ runs) ≡ 0 = rw (h, e) refl in absurd (omega (arith, is, none))
+              | inr h ↦ let none : count_to_last p (run ∷ runs) ≡ 0 = rw (h, e) refl in
+                  absurd (omega (arith, is, none))
             ]
       ]
 
@@ -56,11 +60,13 @@ module _ {X : Type 0} (p : List X → Bool) where
       → n < count_to_last p runs
   passing_below none [] n h = absurd (both_ways (p []) none h)
   passing_below none (run ∷ runs) zero h =
-      let one : count_to_last p (run ∷ runs) ≡ suc (count_to_last p runs) = rw (or_left (p run) (list_any p runs) h) refl in
+      let one : count_to_last p (run ∷ runs) ≡ suc (count_to_last p runs) =
+      rw (or_left (p run) (list_any p runs) h) refl in
       omega (arith, one)
   passing_below none (run ∷ runs) (suc n) h =
       let rest = passing_below none runs n h in
-      let one : count_to_last p (run ∷ runs) ≡ suc (count_to_last p runs) = rw (or_right (p run) (list_any p runs) (any_at runs n h)) refl in
+      let one : count_to_last p (run ∷ runs) ≡ suc (count_to_last p runs) =
+      rw (or_right (p run) (list_any p runs) (any_at runs n h)) refl in
       omega (arith, one, rest)
     where
       any_at : (ls : List (List X)) (k : ℕ) → p (get_or ls k []) ≡ true → list_any p ls ≡ true
@@ -89,12 +95,14 @@ module _ {T : Type 0} (range : T → Interval) where
   put_beside t (run ∷ runs) zero other =
       elim (cases_Bool (touches range (range t) run || list_any (touches range (range t)) runs)) [
         | inl e ↦ rw e refl
-        | inr e ↦ let count : count_to_last (touches range (range t)) (run ∷ runs) ≡ 0 = rw e refl in absurd (other count)
+        | inr e ↦ let count : count_to_last (touches range (range t)) (run ∷ runs) ≡ 0 =
+            rw e refl in absurd (other count)
       ]
   put_beside t (run ∷ runs) (suc n) other =
       elim (cases_Bool (touches range (range t) run || list_any (touches range (range t)) runs)) [
         | inl e ↦
-            let count : count_to_last (touches range (range t)) (run ∷ runs) ≡ suc (count_to_last (touches range (range t)) runs) = rw e refl in
+            let count : count_to_last (touches range (range t)) (run ∷ runs)
+            ≡ suc (count_to_last (touches range (range t)) runs) = rw e refl in
             rw e (put_beside t runs n (λ same. other (count ∙ ap suc same)))
         | inr e ↦ rw e refl
       ]
@@ -105,7 +113,8 @@ module _ {T : Type 0} (range : T → Interval) where
   put_length t [] = refl
   put_length t (run ∷ runs) =
       elim (cases_Bool (touches range (range t) run || list_any (touches range (range t)) runs)) [
-        | inl e ↦ rw e (ap suc (put_length t runs) ∙ sym (max_suc (suc (count_to_last (touches range (range t)) runs)) (length runs)))
+        | inl e ↦ rw e (ap suc (put_length t runs)
+            ∙ sym (max_suc (suc (count_to_last (touches range (range t)) runs)) (length runs)))
         | inr e ↦ rw e (sym (max_suc 0 (length runs) ∙ ap suc (zero-max (length runs))))
       ]
 
@@ -121,7 +130,9 @@ module _ {T : Type 0} (range : T → Interval) where
         | inl e ↦
             let at : x.number ≡ n = eqb-true x.number n e in
             elim (cases_Bool (overlaps (range x.table) r)) [
-              | inl k ↦ rw k (let top = le-max_left (suc x.number) (least_above (numbers_of (filter (λ y. overlaps (range y.table) r) xs))) in omega (arith, top, at))
+              | inl k ↦ rw k (let top = le-max_left (suc x.number)
+                  (least_above (numbers_of (filter (λ y. overlaps (range y.table) r) xs))) in
+                  omega (arith, top, at))
               | inr k ↦
                   let more : touches range r (x.table ∷ tables_of_number xs n) ≡ true = rw e at h in
                   let rest : touches range r (tables_of_number xs n) ≡ true = rw k at more in
@@ -131,7 +142,9 @@ module _ {T : Type 0} (range : T → Interval) where
             let rest : touches range r (tables_of_number xs n) ≡ true = rw e at h in
             let below = found r xs n rest in
             elim (cases_Bool (overlaps (range x.table) r)) [
-              | inl k ↦ rw k (let top = le-max_right (suc x.number) (least_above (numbers_of (filter (λ y. overlaps (range y.table) r) xs))) in omega (arith, top, below))
+              | inl k ↦ rw k (let top = le-max_right (suc x.number)
+                  (least_above (numbers_of (filter (λ y. overlaps (range y.table) r) xs))) in
+                  omega (arith, top, below))
               | inr k ↦ rw k below
             ]
       ]
@@ -143,7 +156,8 @@ module _ {T : Type 0} (range : T → Interval) where
   bounded r (x ∷ xs) k h =
       let rest = bounded r xs k (λ n q. h n (more n q)) in
       elim (cases_Bool (overlaps (range x.table) r)) [
-        | inl e ↦ let own = h x.number (self e) in rw e (max-le {a = suc x.number} (omega (arith, own)) rest)
+        | inl e ↦ let own = h x.number (self e) in
+            rw e (max-le {a = suc x.number} (omega (arith, own)) rest)
         | inr e ↦ rw e rest
       ]
     where
@@ -151,13 +165,16 @@ module _ {T : Type 0} (range : T → Interval) where
           → touches range r (tables_of_number (x ∷ xs) n) ≡ true
       more n q =
           elim (cases_Bool (x.number == n)) [
-            | inl e ↦ rw e (or_right (overlaps (range x.table) r) (touches range r (tables_of_number xs n)) q)
+            | inl e ↦ rw e (or_right (overlaps (range x.table) r)
+                (touches range r (tables_of_number xs n)) q)
             | inr e ↦ rw e q
           ]
 
       self : overlaps (range x.table) r ≡ true
           → touches range r (tables_of_number (x ∷ xs) x.number) ≡ true
-      self e = let same = eq-eqb x.number x.number refl in rw same (or_left (overlaps (range x.table) r) (touches range r (tables_of_number xs x.number)) e)
+      self e = let same = eq-eqb x.number x.number refl in
+          rw same (or_left (overlaps (range x.table) r)
+          (touches range r (tables_of_number xs x.number)) e)
 
   -- runs of numbered tables, by every number
   record Stand (xs : List (NumberedTable T)) (runs : List (List T)) : Type 0 where
@@ -168,14 +185,20 @@ module _ {T : Type 0} (range : T → Interval) where
       → count_to_last (touches range (range t)) runs ≡ number_behind range xs t
   number_is t xs runs h =
       let p = touches range (range t) in
-      let low : number_behind range xs t ≤ count_to_last p runs = bounded (range t) xs (count_to_last p runs) (λ n q. passing_below p refl runs n (sym (list_any-IsPermutation (λ x. overlaps (range x) (range t)) (tables_of_number xs n) (get_or runs n []) (h.members n)) ∙ q)) in
+      let low : number_behind range xs t ≤ count_to_last p runs =
+      bounded (range t) xs (count_to_last p runs)
+      (λ n q. passing_below p refl runs n (sym (list_any-IsPermutation
+      (λ x. overlaps (range x) (range t)) (tables_of_number xs n) (get_or runs n [])
+      (h.members n)) ∙ q)) in
       let high : count_to_last p runs ≤ number_behind range xs t = up (count_to_last p runs) refl in
       omega (arith, low, high)
     where
       up : (k : ℕ) → count_to_last (touches range (range t)) runs ≡ k → k ≤ number_behind range xs t
       up zero is = omega arith
       up (suc k) is =
-          let below = found (range t) xs k (list_any-IsPermutation (λ x. overlaps (range x) (range t)) (tables_of_number xs k) (get_or runs k []) (h.members k) ∙ top_passes (touches range (range t)) runs k is) in
+          let below = found (range t) xs k (list_any-IsPermutation
+          (λ x. overlaps (range x) (range t)) (tables_of_number xs k) (get_or runs k [])
+          (h.members k) ∙ top_passes (touches range (range t)) runs k is) in
           omega (arith, below)
 
   stand_more : (t : T) (xs : List (NumberedTable T)) (runs : List (List T)) → Stand xs runs
@@ -184,17 +207,24 @@ module _ {T : Type 0} (range : T → Interval) where
       let k = count_to_last (touches range (range t)) runs in
       let is : k ≡ number_behind range xs t = number_is t xs runs h in
       record {
-        count = put_length t runs ∙ ap (λ n. max (suc n) (length runs)) is ∙ ap (λ n. max (suc (number_behind range xs t)) n) h.count;
+        count = put_length t runs ∙ ap (λ n. max (suc n) (length runs)) is
+            ∙ ap (λ n. max (suc (number_behind range xs t)) n) h.count;
         members = λ n. elim (cases_Bool (number_behind range xs t == n)) [
           | inl e ↦
               let at : k ≡ n = is ∙ eqb-true (number_behind range xs t) n e in
-              let run_is : get_or (put range t runs) n [] ≡ with_table range t (get_or runs n []) = subst (λ (m : ℕ). get_or (put range t runs) m [] ≡ with_table range t (get_or runs m [])) at (put_at t runs) in
+              let run_is : get_or (put range t runs) n [] ≡ with_table range t (get_or runs n []) =
+              subst (λ (m : ℕ). get_or (put range t runs) m []
+              ≡ with_table range t (get_or runs m [])) at (put_at t runs) in
               rw (e, run_is)
-              (IsPermutation-trans (t ∷ tables_of_number xs n) (t ∷ get_or runs n []) (with_table range t (get_or runs n []))
+              (IsPermutation-trans (t ∷ tables_of_number xs n) (t ∷ get_or runs n [])
+              (with_table range t (get_or runs n []))
               (IsPermutation-cons t (tables_of_number xs n) (get_or runs n []) (h.members n))
-              (IsPermutation-insert (get_or runs n []) (how_many (λ r. key_le r.min (range t).min) (map range (get_or runs n []))) t))
+              (IsPermutation-insert (get_or runs n [])
+              (how_many (λ r. key_le r.min (range t).min) (map range (get_or runs n []))) t))
           | inr e ↦
-              let run_is : get_or (put range t runs) n [] ≡ get_or runs n [] = put_beside t runs n (λ same. both_ways (number_behind range xs t == n) e (eq-eqb (number_behind range xs t) n (sym is ∙ same))) in
+              let run_is : get_or (put range t runs) n [] ≡ get_or runs n [] =
+              put_beside t runs n (λ same. both_ways (number_behind range xs t == n) e
+              (eq-eqb (number_behind range xs t) n (sym is ∙ same))) in
               rw (e, run_is) (h.members n)
         ];
       }
@@ -202,13 +232,21 @@ module _ {T : Type 0} (range : T → Interval) where
   stand_all : (ts : List T) (xs : List (NumberedTable T)) (runs : List (List T)) → Stand xs runs
       → Stand (numbering_after range xs ts) (put_all range ts runs)
   stand_all [] xs runs h = h
-  stand_all (t ∷ ts) xs runs h = stand_all ts (record { table = t; number = number_behind range xs t } ∷ xs) (put range t runs) (stand_more t xs runs h)
+  stand_all (t ∷ ts) xs runs h = stand_all ts (record
+      { table = t; number = number_behind range xs t } ∷ xs) (put range t runs)
+      (stand_more t xs runs h)
 
   -- tables that are put in one after the other stand by the rule
   pub placed_by_rule : (ts : List T) → ArePlaced range ts (put_all range ts [])
   placed_by_rule ts =
-      let stand = stand_all ts [] [] (record { count = refl; members = λ n. IsPermutation-refl [] }) in
+      let stand = stand_all ts [] [] (record {
+        count = refl;
+        members =
+            λ n. IsPermutation-refl [];
+      }) in
       record {
         count = stand.count;
-        members = λ n run at. subst (λ (l : List T). IsPermutation (tables_of_number (numbering_after range [] ts) n) l) (get_or_from_slice_get (put_all range ts []) n run [] at) (stand.members n);
+        members = λ n run at. subst (λ (l : List T). IsPermutation
+            (tables_of_number (numbering_after range [] ts) n) l)
+            (get_or_from_slice_get (put_all range ts []) n run [] at) (stand.members n);
       }

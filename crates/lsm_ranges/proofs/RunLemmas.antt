@@ -44,13 +44,22 @@ not_by : (b : Bool) → (b ≡ true → ⊥) → not b ≡ true
 not_by b h = not_from_false b (false_from_ne_true b h)
 
 pub falls-ends_before : (lower : Bound (List ℕ)) → Falls (ends_before lower)
-falls-ends_before lower = record { at = λ a b wa wb h p. not_by (is_from lower a.max) (λ q. not_not (is_from lower b.max) p (lower_up lower a.max b.max q (maxs a b wb h))) }
+falls-ends_before lower = record {
+  at = λ a b wa wb h p. not_by (is_from lower a.max)
+      (λ q. not_not (is_from lower b.max) p (lower_up lower a.max b.max q (maxs a b wb h)));
+}
 
 pub falls-starts_within : (upper : Bound (List ℕ)) → Falls (starts_within upper)
-falls-starts_within upper = record { at = λ a b wa wb h p. upper_down upper b.min a.min p (mins a b wa h) }
+falls-starts_within upper = record {
+  at = λ a b wa wb h p. upper_down upper b.min a.min p
+      (mins a b wa h);
+}
 
 pub falls-starts_before : (key : List ℕ) → Falls (λ r. key_lt r.min key)
-falls-starts_before key = record { at = λ a b wa wb h p. le_then_lt a.min b.min key (mins a b wa h) p }
+falls-starts_before key = record {
+  at = λ a b wa wb h p. le_then_lt a.min b.min key
+      (mins a b wa h) p;
+}
 
 pub falls-ends_within : (key : List ℕ) → Falls (λ r. key_le r.max key)
 falls-ends_within key = record { at = λ a b wa wb h p. le_trans a.max b.max key (maxs a b wb h) p }
@@ -63,14 +72,16 @@ pub record Parts (r : Interval) (rs : List Interval) : Type 0 where
 
 pub parts : (r : Interval) (rs : List Interval) → are_in_order (r ∷ rs) ≡ true → Parts r rs
 parts r rs h =
-    let x = and_parts (is_well_formed r && list_all (λ later. key_lt r.max later.min) rs) (are_in_order rs) h in
+    let x = and_parts (is_well_formed r && list_all (λ later. key_lt r.max later.min) rs)
+    (are_in_order rs) h in
     let y = and_parts (is_well_formed r) (list_all (λ later. key_lt r.max later.min) rs) x.0 in
     record { formed = y.0; before = y.1; rest = x.1 }
 
 pub in_order_from : (r : Interval) (rs : List Interval) → Parts r rs → are_in_order (r ∷ rs) ≡ true
 in_order_from r rs h =
     and_from (is_well_formed r && list_all (λ later. key_lt r.max later.min) rs) (are_in_order rs)
-    (and_from (is_well_formed r) (list_all (λ later. key_lt r.max later.min) rs) h.formed h.before) h.rest
+    (and_from (is_well_formed r) (list_all (λ later. key_lt r.max later.min) rs) h.formed h.before)
+    h.rest
 
 module _ {T : Type 0} (f : T → Interval) where
   -- what holds of each of a list holds of the one at a place
@@ -78,7 +89,8 @@ module _ {T : Type 0} (f : T → Interval) where
       → j < length xs → p (f (get_or xs j d)) ≡ true
   all_at p [] h j d lt = absurd (omega arith)
   all_at p (x ∷ xs) h zero d lt = (and_parts (p (f x)) (list_all p (map f xs)) h).0
-  all_at p (x ∷ xs) h (suc j) d lt = all_at p xs (and_parts (p (f x)) (list_all p (map f xs)) h).1 j d (omega arith)
+  all_at p (x ∷ xs) h (suc j) d lt = all_at p xs
+      (and_parts (p (f x)) (list_all p (map f xs)) h).1 j d (omega arith)
 
   formed_at : (xs : List T) → are_in_order (map f xs) ≡ true → (j : ℕ) (d : T) → j < length xs
       → is_well_formed (f (get_or xs j d)) ≡ true
@@ -92,9 +104,11 @@ module _ {T : Type 0} (f : T → Interval) where
   partitioned p falls (x ∷ xs) h zero zero d le lt q = q
   partitioned p falls (x ∷ xs) h zero (suc j) d le lt q =
       let k = parts (f x) (map f xs) h in
-      falls.at (f x) (f (get_or xs j d)) k.formed (formed_at xs k.rest j d (omega arith)) (all_at (λ later. key_lt (f x).max later.min) xs k.before j d (omega arith)) q
+      falls.at (f x) (f (get_or xs j d)) k.formed (formed_at xs k.rest j d (omega arith))
+      (all_at (λ later. key_lt (f x).max later.min) xs k.before j d (omega arith)) q
   partitioned p falls (x ∷ xs) h (suc i) zero d le lt q = absurd (omega arith)
-  partitioned p falls (x ∷ xs) h (suc i) (suc j) d le lt q = partitioned p falls xs (parts (f x) (map f xs) h).rest i j d (omega arith) (omega arith) q
+  partitioned p falls (x ∷ xs) h (suc i) (suc j) d le lt q =
+      partitioned p falls xs (parts (f x) (map f xs) h).rest i j d (omega arith) (omega arith) q
 
   pub how_many-map : (p : Interval → Bool) (xs : List T)
       → how_many p (map f xs) ≡ length (filter (λ t. p (f t)) xs)
@@ -111,7 +125,8 @@ module _ {T : Type 0} (f : T → Interval) where
       → are_in_order (map f xs) ≡ true → list_all (λ t. not (p (f t))) xs ≡ true
   later_fails p falls r wr no_pass [] before ordered = refl
   later_fails p falls r wr no_pass (x ∷ xs) before ordered =
-      let b = and_parts (key_lt r.max (f x).min) (list_all (λ later. key_lt r.max later.min) (map f xs)) before in
+      let b = and_parts (key_lt r.max (f x).min) (list_all (λ later. key_lt r.max later.min)
+      (map f xs)) before in
       let k = parts (f x) (map f xs) ordered in
       and_from (not (p (f x))) (list_all (λ t. not (p (f t))) xs)
       (not_by (p (f x)) (λ q. both_ways (p r) no_pass (falls.at r (f x) wr k.formed b.0 q)))
@@ -130,11 +145,18 @@ module _ {T : Type 0} where
   point_count q (x ∷ xs) zero le h =
       let e : q x ≡ false = h.1 0 x (omega arith) (omega arith) in
       rw e
-      (point_count q xs zero (omega arith) ((λ k d lo hi. absurd (omega arith)), (λ k d lo hi. h.1 (suc k) d (omega arith) (omega arith))))
+      (point_count q xs zero (omega arith) (
+        (λ k d lo hi. absurd (omega arith)),
+        (λ k d lo hi. h.1 (suc k) d (omega arith) (omega arith)),
+      ))
   point_count q (x ∷ xs) (suc i) le h =
       let e : q x ≡ true = h.0 0 x (omega arith) (omega arith) in
       rw e
-      (ap suc (point_count q xs i (omega arith) ((λ k d lo hi. h.0 (suc k) d (omega arith) (omega arith)), (λ k d lo hi. h.1 (suc k) d (omega arith) (omega arith)))))
+      (ap suc (point_count q xs i (omega arith) (
+        (λ k d lo hi. h.0 (suc k) d (omega arith)
+            (omega arith)),
+        (λ k d lo hi. h.1 (suc k) d (omega arith) (omega arith)),
+      )))
 
   none_pass : (q : T → Bool) (xs : List T) → list_all (λ t. not (q t)) xs ≡ true
       → (filter q xs ≡ []) × (filter (λ t. not (q t)) xs ≡ xs)
@@ -170,7 +192,8 @@ module _ {T : Type 0} (f : T → Interval) (p : Interval → Bool) (falls : Fall
       → how_many p (map f xs) ≡ 0
   none_count x xs h e =
       let k = parts (f x) (map f xs) h in
-      how_many-map f p xs ∙ ap length (none_pass (λ t. p (f t)) xs (later_fails f p falls (f x) k.formed e xs k.before k.rest)).0
+      how_many-map f p xs ∙ ap length (none_pass (λ t. p (f t)) xs
+      (later_fails f p falls (f x) k.formed e xs k.before k.rest)).0
 
   pub splits : (xs : List T) → are_in_order (map f xs) ≡ true → Splits xs
   splits [] h = record { front = refl; back = refl }
@@ -184,7 +207,8 @@ module _ {T : Type 0} (f : T → Interval) (p : Interval → Bool) (falls : Fall
               back = rw e rest.back;
             }
         | inr e ↦
-            let none = none_pass (λ t. p (f t)) xs (later_fails f p falls (f x) k.formed e xs k.before k.rest) in
+            let none = none_pass (λ t. p (f t)) xs (later_fails f p falls
+            (f x) k.formed e xs k.before k.rest) in
             let zero_of : how_many p (map f xs) ≡ 0 = how_many-map f p xs ∙ ap length none.0 in
             record {
               front = rw (e, zero_of) (sym none.0);
@@ -199,15 +223,19 @@ module _ {T : Type 0} (f : T → Interval) where
       → are_in_order (map f xs) ≡ true → n ≡ how_many e (map f xs) → rest ≡ drop n xs
       → m ≡ how_many s (map f rest) → part ≡ take m rest → part ≡ filter (λ t. q (f t)) xs
   middle e s q falls_e falls_s agree xs rest part n m ordered n_is rest_is m_is part_is =
-      let back : rest ≡ filter (λ t. not (e (f t))) xs = rest_is ∙ ap (λ k. drop k xs) n_is ∙ (splits f e falls_e xs ordered).back in
-      let rest_ordered : are_in_order (map f rest) ≡ true = subst (λ (ys : List T). are_in_order (map f ys) ≡ true) (sym rest_is) (in_order-drop f n xs ordered) in
+      let back : rest ≡ filter (λ t. not (e (f t))) xs = rest_is ∙ ap (λ k. drop k xs) n_is
+      ∙ (splits f e falls_e xs ordered).back in
+      let rest_ordered : are_in_order (map f rest) ≡ true =
+      subst (λ (ys : List T). are_in_order (map f ys) ≡ true) (sym rest_is)
+      (in_order-drop f n xs ordered) in
       part_is ∙ ap (λ k. take k rest) m_is ∙ (splits f s falls_s rest rest_ordered).front
       ∙ ap (λ ys. filter (λ t. s (f t)) ys) back
       ∙ filter_both (λ t. e (f t)) (λ t. s (f t)) (λ t. q (f t)) (λ t. agree (f t)) xs
 
   pub rest_in_order : (xs rest : List T) (n : ℕ) → rest ≡ drop n xs → are_in_order (map f xs) ≡ true
       → are_in_order (map f rest) ≡ true
-  rest_in_order xs rest n is ordered = subst (λ (ys : List T). are_in_order (map f ys) ≡ true) (sym is) (in_order-drop f n xs ordered)
+  rest_in_order xs rest n is ordered = subst (λ (ys : List T). are_in_order (map f ys) ≡ true)
+      (sym is) (in_order-drop f n xs ordered)
 
   map-drop : (n : ℕ) (xs : List T) → map f (drop n xs) ≡ drop n (map f xs)
   map-drop zero xs = refl
@@ -220,7 +248,8 @@ module _ {T : Type 0} (f : T → Interval) where
       → overlap_indexes lower upper (map f xs) ≡ first_and_last n m
   indexes lower upper xs rest n m n_is rest_is m_is =
       ap (λ k. first_and_last k (how_many (starts_within upper) (drop k (map f xs)))) (sym n_is)
-      ∙ ap (λ rs. first_and_last n (how_many (starts_within upper) rs)) (sym (map-drop n xs) ∙ ap (λ ys. map f ys) (sym rest_is))
+      ∙ ap (λ rs. first_and_last n (how_many (starts_within upper) rs))
+      (sym (map-drop n xs) ∙ ap (λ ys. map f ys) (sym rest_is))
       ∙ ap (λ k. first_and_last n k) (sym m_is)
 
   -- the first that passes is the first of those that pass
@@ -241,7 +270,8 @@ module _ {T : Type 0} (f : T → Interval) where
       → first (filter (λ x. s (f x)) (t ∷ ts)) ≡ None
   none_after s falls t ts ordered e =
       let k = parts (f t) (map f ts) ordered in
-      let none = none_pass (λ x. s (f x)) ts (later_fails f s falls (f t) k.formed e ts k.before k.rest) in
+      let none = none_pass (λ x. s (f x)) ts (later_fails f s falls
+      (f t) k.formed e ts k.before k.rest) in
       rw e (ap first none.0)
 
   swapped : (a b : Bool) → (b && a) ≡ (not (not a) && b)
@@ -256,9 +286,13 @@ module _ {T : Type 0} (f : T → Interval) where
       (rest_is : rest ≡ drop n xs) where
     key_among : find (λ t. has_key (f t) key) xs ≡ first (filter (λ t. key_le (f t).min key) rest)
     key_among =
-        let back : rest ≡ filter (λ t. not (ends_before (Included key) (f t))) xs = rest_is ∙ ap (λ k. drop k xs) n_is ∙ (splits f (ends_before (Included key)) (falls-ends_before (Included key)) xs ordered).back in
+        let back : rest ≡ filter (λ t. not (ends_before (Included key) (f t))) xs = rest_is
+        ∙ ap (λ k. drop k xs) n_is ∙ (splits f (ends_before (Included key))
+        (falls-ends_before (Included key)) xs ordered).back in
         find_first (λ t. has_key (f t) key) xs
-        ∙ ap first (sym (filter_both (λ t. ends_before (Included key) (f t)) (λ t. key_le (f t).min key) (λ t. has_key (f t) key) (λ t. swapped (key_le key (f t).max) (key_le (f t).min key)) xs))
+        ∙ ap first (sym (filter_both (λ t. ends_before (Included key) (f t))
+        (λ t. key_le (f t).min key) (λ t. has_key (f t) key)
+        (λ t. swapped (key_le key (f t).max) (key_le (f t).min key)) xs))
         ∙ ap (λ ys. first (filter (λ t. key_le (f t).min key) ys)) (sym back)
 
     pub key_found : (t : T) → Some t ≡ slice_get rest 0 → key_le (f t).min key ≡ true
@@ -268,7 +302,9 @@ module _ {T : Type 0} (f : T → Interval) where
         go : (ys : List T) → Some t ≡ slice_get ys 0
             → first (filter (λ x. key_le (f x).min key) ys) ≡ Some t
         go [] h = absurd cc
-        go (y ∷ ys) h = let e : t ≡ y = cc in subst (λ (v : T). first (filter (λ x. key_le (f x).min key) (v ∷ ys)) ≡ Some t) e (passes_first (λ r. key_le r.min key) t ys starts)
+        go (y ∷ ys) h = let e : t ≡ y = cc in subst
+            (λ (v : T). first (filter (λ x. key_le (f x).min key) (v ∷ ys)) ≡ Some t) e
+            (passes_first (λ r. key_le r.min key) t ys starts)
 
     pub key_past : (t : T) → Some t ≡ slice_get rest 0 → key_le (f t).min key ≡ false
         → None ≡ find (λ t'. has_key (f t') key) xs
@@ -277,7 +313,9 @@ module _ {T : Type 0} (f : T → Interval) where
         go : (ys : List T) → Some t ≡ slice_get ys 0 → are_in_order (map f ys) ≡ true
             → first (filter (λ x. key_le (f x).min key) ys) ≡ None
         go [] h o = absurd cc
-        go (y ∷ ys) h o = let e : t ≡ y = cc in none_after (λ r. key_le r.min key) (falls-starts_within (Included key)) y ys o (subst (λ (v : T). key_le (f v).min key ≡ false) e starts)
+        go (y ∷ ys) h o = let e : t ≡ y = cc in none_after (λ r. key_le r.min key)
+            (falls-starts_within (Included key)) y ys o
+            (subst (λ (v : T). key_le (f v).min key ≡ false) e starts)
 
     pub key_none : None ≡ slice_get rest 0 → None ≡ find (λ t'. has_key (f t') key) xs
     key_none at = sym (key_among ∙ go rest at)
@@ -300,14 +338,16 @@ module _ {T : Type 0} (f : T → Interval) where
   ends_at (x ∷ xs) a b some p q =
       let low : x ≡ a = sym p in
       let place : length (x ∷ xs) - 1 ≡ length xs = omega arith in
-      let high : get_or (x ∷ xs) (length xs) b ≡ b = ap (λ k. get_or (x ∷ xs) k b) (sym place) ∙ sym q in
+      let high : get_or (x ∷ xs) (length xs) b ≡ b = ap (λ k. get_or (x ∷ xs) k b) (sym place)
+      ∙ sym q in
       ap (λ k. Some (interval (f x).min k)) (last_at x xs b ∙ ap (λ t. (f t).max) high)
       ∙ ap (λ t. Some (interval (f t).min (f b).max)) low
 
 -- after the last greatest key, each interval is well-formed and starts above the one before it
 abbrev pub ascends_after : Option (List ℕ) → List Interval → Bool
 ascends_after last [] = true
-ascends_after last (r ∷ rs) = is_well_formed r && option_map_or (λ k. key_lt k r.min) last true && ascends_after (Some r.max) rs
+ascends_after last (r ∷ rs) = is_well_formed r && option_map_or (λ k. key_lt k r.min) last true
+    && ascends_after (Some r.max) rs
 
 pub further : (k : List ℕ) (r : Interval) (rs : List Interval) → is_well_formed r ≡ true
     → key_lt k r.min ≡ true → list_all (λ later. key_lt r.max later.min) rs ≡ true
@@ -315,7 +355,8 @@ pub further : (k : List ℕ) (r : Interval) (rs : List Interval) → is_well_for
 further k r [] w e all = refl
 further k r (s ∷ rs) w e all =
     let x = and_parts (key_lt r.max s.min) (list_all (λ later. key_lt r.max later.min) rs) all in
-    and_from (key_lt k s.min) (list_all (λ later. key_lt k later.min) rs) (lt_trans k r.max s.min (lt_then_le k r.min r.max e w) x.0) (further k r rs w e x.1)
+    and_from (key_lt k s.min) (list_all (λ later. key_lt k later.min) rs)
+    (lt_trans k r.max s.min (lt_then_le k r.min r.max e w) x.0) (further k r rs w e x.1)
 
 ascends_is : (k : List ℕ) (rs : List Interval)
     → ascends_after (Some k) rs ≡ (list_all (λ r. key_lt k r.min) rs && are_in_order rs)
@@ -327,11 +368,13 @@ ascends_is k (r ∷ rs) =
             | inl e ↦
                 elim (cases_Bool (list_all (λ later. key_lt r.max later.min) rs)) [
                   | inl all ↦ rw (w, e, ascends_is r.max rs, all, further k r rs w e all) refl
-                  | inr some ↦ rw (w, e, ascends_is r.max rs, some) (sym (and_right (list_all (λ later. key_lt k later.min) rs) false refl))
+                  | inr some ↦ rw (w, e, ascends_is r.max rs, some)
+                      (sym (and_right (list_all (λ later. key_lt k later.min) rs) false refl))
                 ]
             | inr e ↦ rw (w, e) refl
           ]
-      | inr w ↦ rw w (sym (and_right (key_lt k r.min && list_all (λ later. key_lt k later.min) rs) false refl))
+      | inr w ↦ rw w (sym (and_right (key_lt k r.min && list_all (λ later. key_lt k later.min) rs)
+          false refl))
     ]
 
 -- tables in order ascend from the first on
@@ -358,12 +401,16 @@ module _ {T : Type 0} (f : T → Interval) where
       → rest ≡ drop n tables
       → (are_in_order (map f rest) ≡ true → m ≡ how_many (s high) (map f rest)) → part ≡ take m rest
       → are_in_order (map f whole) ≡ true → part ≡ filter (λ t. q kr (f t)) whole
-  found_between e s q falls_e falls_s agree kr whole tables rest part low high n m same low_is high_is n_is rest_is m_is part_is whole_ordered =
-      let ordered : are_in_order (map f tables) ≡ true = subst (λ (ys : List T). are_in_order (map f ys) ≡ true) (sym same) whole_ordered in
-      middle f (e kr.min) (s kr.max) (q kr) (falls_e kr.min) (falls_s kr.max) (agree kr) tables rest part n m ordered
+  found_between e s q falls_e falls_s agree kr whole tables rest part low high n m same low_is
+      high_is n_is rest_is m_is part_is whole_ordered =
+      let ordered : are_in_order (map f tables) ≡ true =
+      subst (λ (ys : List T). are_in_order (map f ys) ≡ true) (sym same) whole_ordered in
+      middle f (e kr.min) (s kr.max) (q kr) (falls_e kr.min) (falls_s kr.max)
+      (agree kr) tables rest part n m ordered
       (n_is ordered ∙ ap (λ k. how_many (e k) (map f tables)) low_is)
       rest_is
-      (m_is (rest_in_order f tables rest n rest_is ordered) ∙ ap (λ k. how_many (s k) (map f rest)) high_is)
+      (m_is (rest_in_order f tables rest n rest_is ordered)
+      ∙ ap (λ k. how_many (s k) (map f rest)) high_is)
       part_is
       ∙ ap (λ ys. filter (λ t. q kr (f t)) ys) same
 
@@ -374,7 +421,10 @@ module _ {T : Type 0} (f : T → Interval) where
       → (are_in_order (map f rest) ≡ true
       → m ≡ how_many (starts_within (Included high)) (map f rest)) → part ≡ take m rest
       → are_in_order (map f whole) ≡ true → part ≡ filter (λ t. overlaps (f t) kr) whole
-  overlapping = found_between (λ k r. ends_before (Included k) r) (λ k r. starts_within (Included k) r) (λ kr r. overlaps r kr) (λ k. falls-ends_before (Included k)) (λ k. falls-starts_within (Included k)) (λ kr r. kept_twice (key_le kr.min r.max) (key_le r.min kr.max))
+  overlapping = found_between (λ k r. ends_before (Included k) r)
+      (λ k r. starts_within (Included k) r) (λ kr r. overlaps r kr)
+      (λ k. falls-ends_before (Included k)) (λ k. falls-starts_within (Included k))
+      (λ kr r. kept_twice (key_le kr.min r.max) (key_le r.min kr.max))
 
   pub contained : (kr : Interval) (whole tables rest part : List T) (low high : List ℕ) (n m : ℕ)
       → tables ≡ whole → low ≡ kr.min → high ≡ kr.max
@@ -383,7 +433,9 @@ module _ {T : Type 0} (f : T → Interval) where
       → (are_in_order (map f rest) ≡ true → m ≡ how_many (λ r. key_le r.max high) (map f rest))
       → part ≡ take m rest → are_in_order (map f whole) ≡ true
       → part ≡ filter (λ t. has_range kr (f t)) whole
-  contained = found_between (λ k r. key_lt r.min k) (λ k r. key_le r.max k) (λ kr r. has_range kr r) falls-starts_before falls-ends_within (λ kr r. ap (λ b. b && key_le r.max kr.max) (le_not kr.min r.min))
+  contained = found_between (λ k r. key_lt r.min k) (λ k r. key_le r.max k)
+      (λ kr r. has_range kr r) falls-starts_before falls-ends_within
+      (λ kr r. ap (λ b. b && key_le r.max kr.max) (le_not kr.min r.min))
 
   pub indexes_found : (lower upper : Bound (List ℕ)) (whole tables rest : List T) (n m : ℕ)
       → tables ≡ whole
@@ -393,9 +445,11 @@ module _ {T : Type 0} (f : T → Interval) where
       → are_in_order (map f whole) ≡ true
       → overlap_indexes lower upper (map f whole) ≡ first_and_last n m
   indexes_found lower upper whole tables rest n m same n_is rest_is m_is whole_ordered =
-      let ordered : are_in_order (map f tables) ≡ true = subst (λ (ys : List T). are_in_order (map f ys) ≡ true) (sym same) whole_ordered in
+      let ordered : are_in_order (map f tables) ≡ true =
+      subst (λ (ys : List T). are_in_order (map f ys) ≡ true) (sym same) whole_ordered in
       ap (λ ys. overlap_indexes lower upper (map f ys)) (sym same)
-      ∙ indexes f lower upper tables rest n m (n_is ordered) rest_is (m_is (rest_in_order f tables rest n rest_is ordered))
+      ∙ indexes f lower upper tables rest n m (n_is ordered) rest_is
+      (m_is (rest_in_order f tables rest n rest_is ordered))
 
 pub first_and_last-none : (n m : ℕ) → m ≡ 0 → first_and_last n m ≡ None
 first_and_last-none n m h = rw h refl
@@ -422,14 +476,16 @@ module _ {T : Type 0} (f : T → Interval) where
       → ascends_after last (map f (drop i xs))
       ≡ ascends_after (Some r.max) (map f (drop (i + 1) xs))
   goes_on last xs i x r b lt at r_is b_is h =
-      step last xs i x r b lt at r_is b_is ∙ ap (λ v. v && ascends_after (Some r.max) (map f (drop (i + 1) xs))) h
+      step last xs i x r b lt at r_is b_is ∙ ap (λ v. v
+      && ascends_after (Some r.max) (map f (drop (i + 1) xs))) h
 
   pub stops : (last : Option (List ℕ)) (xs : List T) (i : ℕ) (x : T) (r : Interval) (b : Bool)
       → i < length xs → x ≡ get_or xs i x → r ≡ f x
       → b ≡ (is_well_formed r && option_map_or (λ k. key_lt k r.min) last true) → b ≡ false
       → ascends_after last (map f (drop i xs)) ≡ false
   stops last xs i x r b lt at r_is b_is h =
-      step last xs i x r b lt at r_is b_is ∙ ap (λ v. v && ascends_after (Some r.max) (map f (drop (i + 1) xs))) h
+      step last xs i x r b lt at r_is b_is ∙ ap (λ v. v
+      && ascends_after (Some r.max) (map f (drop (i + 1) xs))) h
 
   -- no table is left
   pub ended : (last : Option (List ℕ)) (xs : List T) (i : ℕ) → length xs ≤ i

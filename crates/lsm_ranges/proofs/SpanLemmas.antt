@@ -36,10 +36,23 @@ low_of : (xs : List Interval) (y : Interval) (low : List ℕ) → Contains (map 
     → (key_le low' low ≡ true) × (key_le low' y.min ≡ true)
     × Contains (map (λ x. x.min) (xs ++ y ∷ [])) low'
 low_of xs y low has low' is =
-    let P : List ℕ → Type 0 = λ k. (key_le k low ≡ true) × (key_le k y.min ≡ true) × Contains (map (λ x. x.min) (xs ++ y ∷ [])) k in
+    let P : List ℕ → Type 0 = λ k. (key_le k low ≡ true) × (key_le k y.min ≡ true)
+    × Contains (map (λ x. x.min) (xs ++ y ∷ [])) k in
     elim (cases_Bool (key_lt y.min low)) [
-      | inl e ↦ subst P (sym (is ∙ cond-true (key_lt y.min low) y.min low e)) (lt_to_le y.min low e, le_refl y.min, subst (λ (ks : List (List ℕ)). Contains ks y.min) (sym (map-push (λ (x : Interval). x.min) xs y)) (Contains-push (map (λ x. x.min) xs) y.min))
-      | inr e ↦ subst P (sym (is ∙ cond-false (key_lt y.min low) y.min low e)) (le_refl low, le_to low y.min e, subst (λ (ks : List (List ℕ)). Contains ks low) (sym (map-push (λ (x : Interval). x.min) xs y)) (Contains-append_left (map (λ x. x.min) xs) (y.min ∷ []) low has))
+      | inl e ↦ subst P (sym (is ∙ cond-true (key_lt y.min low) y.min low e)) (
+        lt_to_le y.min low e,
+        le_refl y.min,
+        subst (λ (ks : List (List ℕ)). Contains ks y.min)
+            (sym (map-push (λ (x : Interval). x.min) xs y))
+            (Contains-push (map (λ x. x.min) xs) y.min),
+      )
+      | inr e ↦ subst P (sym (is ∙ cond-false (key_lt y.min low) y.min low e)) (
+        le_refl low,
+        le_to low y.min e,
+        subst (λ (ks : List (List ℕ)). Contains ks low)
+            (sym (map-push (λ (x : Interval). x.min) xs y))
+            (Contains-append_left (map (λ x. x.min) xs) (y.min ∷ []) low has),
+      )
     ]
 
 high_of : (xs : List Interval) (y : Interval) (high : List ℕ) → Contains (map (λ x. x.max) xs) high
@@ -47,10 +60,23 @@ high_of : (xs : List Interval) (y : Interval) (high : List ℕ) → Contains (ma
     → (key_le high high' ≡ true) × (key_le y.max high' ≡ true)
     × Contains (map (λ x. x.max) (xs ++ y ∷ [])) high'
 high_of xs y high has high' is =
-    let P : List ℕ → Type 0 = λ k. (key_le high k ≡ true) × (key_le y.max k ≡ true) × Contains (map (λ x. x.max) (xs ++ y ∷ [])) k in
+    let P : List ℕ → Type 0 = λ k. (key_le high k ≡ true) × (key_le y.max k ≡ true)
+    × Contains (map (λ x. x.max) (xs ++ y ∷ [])) k in
     elim (cases_Bool (key_lt high y.max)) [
-      | inl e ↦ subst P (sym (is ∙ cond-true (key_lt high y.max) y.max high e)) (lt_to_le high y.max e, le_refl y.max, subst (λ (ks : List (List ℕ)). Contains ks y.max) (sym (map-push (λ (x : Interval). x.max) xs y)) (Contains-push (map (λ x. x.max) xs) y.max))
-      | inr e ↦ subst P (sym (is ∙ cond-false (key_lt high y.max) y.max high e)) (le_refl high, le_to y.max high e, subst (λ (ks : List (List ℕ)). Contains ks high) (sym (map-push (λ (x : Interval). x.max) xs y)) (Contains-append_left (map (λ x. x.max) xs) (y.max ∷ []) high has))
+      | inl e ↦ subst P (sym (is ∙ cond-true (key_lt high y.max) y.max high e)) (
+        lt_to_le high y.max e,
+        le_refl y.max,
+        subst (λ (ks : List (List ℕ)). Contains ks y.max)
+            (sym (map-push (λ (x : Interval). x.max) xs y))
+            (Contains-push (map (λ x. x.max) xs) y.max),
+      )
+      | inr e ↦ subst P (sym (is ∙ cond-false (key_lt high y.max) y.max high e)) (
+        le_refl high,
+        le_to y.max high e,
+        subst (λ (ks : List (List ℕ)). Contains ks high)
+            (sym (map-push (λ (x : Interval). x.max) xs y))
+            (Contains-append_left (map (λ x. x.max) xs) (y.max ∷ []) high has),
+      )
     ]
 
 hull_push : (xs : List Interval) (low high : List ℕ) (y : Interval) → IsHull xs (interval low high)
@@ -59,24 +85,30 @@ hull_push xs low high y h =
     let l = low_of xs y low h.has_min (lesser low y.min) refl in
     let u = high_of xs y high h.has_max (greater high y.max) refl in
     record {
-      below = All-push (λ (x : Interval). key_le (lesser low y.min) x.min ≡ true) xs y (λ k d lt. le_trans (lesser low y.min) low _ l.0 (h.below k d lt)) l.1;
-      above = All-push (λ (x : Interval). key_le x.max (greater high y.max) ≡ true) xs y (λ k d lt. le_trans _ high (greater high y.max) (h.above k d lt) u.0) u.1;
+      below = All-push (λ (x : Interval). key_le (lesser low y.min) x.min ≡ true) xs y
+          (λ k d lt. le_trans (lesser low y.min) low _ l.0 (h.below k d lt)) l.1;
+      above = All-push (λ (x : Interval). key_le x.max (greater high y.max) ≡ true) xs y
+          (λ k d lt. le_trans _ high (greater high y.max) (h.above k d lt) u.0) u.1;
       has_min = l.2;
       has_max = u.2;
     }
 
 hull_all : (xs ys : List Interval) (low high : List ℕ) → IsHull xs (interval low high)
     → IsHull (xs ++ ys) (span_from low high ys)
-hull_all xs [] low high h = subst (λ (l : List Interval). IsHull l (interval low high)) (sym (append-nil xs)) h
+hull_all xs [] low high h = subst (λ (l : List Interval). IsHull l (interval low high))
+    (sym (append-nil xs)) h
 hull_all xs (y ∷ ys) low high h =
-    subst (λ (l : List Interval). IsHull l (span_from (lesser low y.min) (greater high y.max) ys)) (append_assoc xs (y ∷ []) ys)
+    subst (λ (l : List Interval). IsHull l (span_from (lesser low y.min) (greater high y.max) ys))
+    (append_assoc xs (y ∷ []) ys)
     (hull_all (xs ++ y ∷ []) ys (lesser low y.min) (greater high y.max) (hull_push xs low high y h))
 
 hull_one : (x : Interval) → IsHull (x ∷ []) (interval x.min x.max)
 hull_one x =
     record {
-      below = All-push (λ (y : Interval). key_le x.min y.min ≡ true) [] x (λ k d lt. absurd (omega arith)) (le_refl x.min);
-      above = All-push (λ (y : Interval). key_le y.max x.max ≡ true) [] x (λ k d lt. absurd (omega arith)) (le_refl x.max);
+      below = All-push (λ (y : Interval). key_le x.min y.min ≡ true) [] x
+          (λ k d lt. absurd (omega arith)) (le_refl x.min);
+      above = All-push (λ (y : Interval). key_le y.max x.max ≡ true) [] x
+          (λ k d lt. absurd (omega arith)) (le_refl x.max);
       has_min = Contains-push [] x.min;
       has_max = Contains-push [] x.max;
     }
@@ -84,7 +116,8 @@ hull_one x =
 -- from the ends of the first
 pub aggregate_of : (x : Interval) (xs : List Interval) (r : Interval) → r ≡ span_from x.min x.max xs
     → IsAggregate (x ∷ xs) r
-aggregate_of x xs r is = subst (λ (q : Interval). IsHull (x ∷ xs) q) (sym is) (hull_all (x ∷ []) xs x.min x.max (hull_one x))
+aggregate_of x xs r is = subst (λ (q : Interval). IsHull (x ∷ xs) q) (sym is)
+    (hull_all (x ∷ []) xs x.min x.max (hull_one x))
 
 any-map : {X Y : Type 0} (p : Y → Bool) (f : X → Y) (xs : List X)
     → list_any p (map f xs) ≡ list_any (λ x. p (f x)) xs
@@ -97,9 +130,12 @@ rest_of : (xs : List (Bor Interval)) (i : ℕ) (x : Bor Interval) (later : List 
     ≡ (not (list_any (λ y. overlaps x.now y.now) later) && are_disjoint (intervals later))
 rest_of xs i x later lt is rest =
     at_drop_more (λ rs. are_disjoint (intervals rs)) xs i x lt
-    ∙ subst (λ (y : Bor Interval). are_disjoint (intervals (y ∷ drop (i + 1) xs)) ≡ (not (list_any (λ z. overlaps x.now z.now) later) && are_disjoint (intervals later))) is
-    (subst (λ (ys : List (Bor Interval)). are_disjoint (intervals (x ∷ ys)) ≡ (not (list_any (λ z. overlaps x.now z.now) later) && are_disjoint (intervals later))) rest
-    (ap (λ b. not b && are_disjoint (intervals later)) (any-map (overlaps x.now) (λ (r : Bor Interval). r.now) later)))
+    ∙ subst (λ (y : Bor Interval). are_disjoint (intervals (y ∷ drop (i + 1) xs))
+    ≡ (not (list_any (λ z. overlaps x.now z.now) later) && are_disjoint (intervals later))) is
+    (subst (λ (ys : List (Bor Interval)). are_disjoint (intervals (x ∷ ys))
+    ≡ (not (list_any (λ z. overlaps x.now z.now) later) && are_disjoint (intervals later))) rest
+    (ap (λ b. not b && are_disjoint (intervals later))
+    (any-map (overlaps x.now) (λ (r : Bor Interval). r.now) later)))
 
 -- an interval that overlaps no later one may be left out
 pub disjoint_rest : (xs : List (Bor Interval)) (i : ℕ) (x : Bor Interval)
@@ -116,7 +152,8 @@ pub disjoint_stops : (xs : List (Bor Interval)) (i : ℕ) (x : Bor Interval)
     → later ≡ drop (i + 1) xs → r ≡ list_any (λ y. overlaps x.now y.now) later → r ≡ true
     → are_disjoint (intervals (drop i xs)) ≡ false
 disjoint_stops xs i x later r lt is rest says h =
-    rest_of xs i x later lt is rest ∙ ap (λ b. not b && are_disjoint (intervals later)) (sym says ∙ h)
+    rest_of xs i x later lt is rest ∙ ap (λ b. not b && are_disjoint (intervals later))
+    (sym says ∙ h)
 
 -- after the last range, the ends are those of the span of all
 pub aggregate_at_end : (ranges : List (Bor Interval)) (first : Bor Interval)
@@ -124,7 +161,8 @@ pub aggregate_at_end : (ranges : List (Bor Interval)) (first : Bor Interval)
     → ranges ≡ first ∷ others → low₀ ≡ first.now.min → high₀ ≡ first.now.max
     → span_from low₀ high₀ (intervals others) ≡ span_from low high (intervals (drop i others))
     → length others ≤ i → min ≡ low → max ≡ high → IsAggregate (intervals ranges) (interval min max)
-aggregate_at_end ranges first others low₀ high₀ low high i min max split is_low is_high along past min_is max_is =
+aggregate_at_end ranges first others low₀ high₀ low high i min max split is_low is_high along past
+    min_is max_is =
     subst (λ (rs : List (Bor Interval)). IsAggregate (intervals rs) (interval min max)) (sym split)
     (aggregate_of first.now (intervals others) (interval min max)
     (ap (λ k. interval k max) min_is ∙ ap (λ k. interval low k) max_is

@@ -1,5 +1,6 @@
 -- A point read of chunks is decided by the first chunk whose last entry reaches the key.
-use Rattle.std.proofs.Common.{◌≡◌, ℕ, ◌+◌, ◌<◌, Bool, true, false, cond, List, [], ◌∷◌, ◌++◌, length, refl, sym, ap, subst, ◌∙◌, length-append, arith}
+use Rattle.std.proofs.Common.{◌≡◌, ℕ, ◌+◌, ◌<◌, Bool, true, false, cond, List, [], ◌∷◌, ◌++◌}
+use Rattle.std.proofs.Common.{length, refl, sym, ap, subst, ◌∙◌, length-append, arith}
 use Rattle.std.proofs.Math.Bool.{or-false}
 use Rattle.std.specs.Prelude.{Option, Some, None, find, ◌&&◌, ◌||◌, nat_lt}
 use Rattle.std.specs.declared.cmp.Ordering.{Ordering}
@@ -20,7 +21,8 @@ use Rattle.sst_entries.specs.Strict.{is_before, IsStrictAfter, last_of}
 use Rattle.sst_blocks.proofs.Reaching.{reaches_after, above_reaches}
 use Rattle.lsm_formats.proofs.BlockLengths.{length-block}
 use Rattle.lsm_formats.specs.Chunks.{joined}
-use Rattle.lsm_formats.specs.Index.{last_entry, handle_of, handles_from, block_size, data_block, data_section}
+use Rattle.lsm_formats.specs.Index.{last_entry, handle_of, handles_from, block_size, data_block}
+use Rattle.lsm_formats.specs.Index.{data_section}
 
 -- the entry comes after a read of the key at the bound
 abbrev after : List ℕ → ℕ → Entry → Bool
@@ -30,68 +32,99 @@ after key bound e = is_before (entry key [] bound Value) e
 abbrev ending : Entry → Handle
 ending e = record { end_key = e.user_key; seqno = e.seqno; offset = 0; size = 0 }
 
-after_is : (key : List ℕ) (bound : ℕ) (e : Entry) → (key_lt key e.user_key || is_hit key bound e) ≡ after key bound e
+after_is : (key : List ℕ) (bound : ℕ) (e : Entry)
+    → (key_lt key e.user_key || is_hit key bound e) ≡ after key bound e
 after_is key bound e = reaches_after key bound (ending e)
 
 above_is : (key : List ℕ) (e : Entry) → key_lt key e.user_key ≡ after key 0 e
 above_is key e = above_reaches key (ending e) ∙ reaches_after key 0 (ending e)
 
-hit_after : (key : List ℕ) (bound : ℕ) (e : Entry) → is_hit key bound e ≡ true → after key bound e ≡ true
-hit_after key bound e h = sym (after_is key bound e) ∙ or_right (key_lt key e.user_key) (is_hit key bound e) h
+hit_after : (key : List ℕ) (bound : ℕ) (e : Entry) → is_hit key bound e ≡ true
+    → after key bound e ≡ true
+hit_after key bound e h = sym (after_is key bound e)
+    ∙ or_right (key_lt key e.user_key) (is_hit key bound e) h
 
 -- what does not come after the read is not hit
-not_hit : (key : List ℕ) (bound : ℕ) (e : Entry) → after key bound e ≡ false → is_hit key bound e ≡ false
-not_hit key bound e early = is_false (is_hit key bound e) (λ h. apart (after key bound e) (hit_after key bound e h) early)
+not_hit : (key : List ℕ) (bound : ℕ) (e : Entry) → after key bound e ≡ false
+    → is_hit key bound e ≡ false
+not_hit key bound e early = is_false (is_hit key bound e)
+    (λ h. apart (after key bound e) (hit_after key bound e h) early)
 
 -- nothing before an entry that does not come after the read does
-pub not_before : (key : List ℕ) (bound : ℕ) (e l : Entry) → is_before e l ≡ true → after key bound l ≡ false → after key bound e ≡ false
-not_before key bound e l before early = is_false (after key bound e) (λ late. apart (after key bound l) (before_trans (entry key [] bound Value) e l late before) early)
+pub not_before : (key : List ℕ) (bound : ℕ) (e l : Entry) → is_before e l ≡ true
+    → after key bound l ≡ false → after key bound e ≡ false
+not_before key bound e l before early = is_false (after key bound e)
+    (λ late. apart (after key bound l) (before_trans (entry key [] bound Value) e l late before)
+    early)
 
 -- an entry above the key is not hit
-above_apart : (key : List ℕ) (bound : ℕ) (e : Entry) → key_lt key e.user_key ≡ true → is_hit key bound e ≡ false
+above_apart : (key : List ℕ) (bound : ℕ) (e : Entry) → key_lt key e.user_key ≡ true
+    → is_hit key bound e ≡ false
 above_apart key bound e above =
-    let tie : same_key e.user_key key ≡ is_eq (ordering_reverse (slice_cmp nat_cmp key e.user_key)) = texts_ties e.user_key key ∙ ap is_eq (nat_list_cmp_total.antisymm e.user_key key) in
-    let apart : same_key e.user_key key ≡ false = tie ∙ ap (λ (o : Ordering). is_eq (ordering_reverse o)) (less_of (slice_cmp nat_cmp key e.user_key) above) in
+    let tie : same_key e.user_key key ≡ is_eq (ordering_reverse
+    (slice_cmp nat_cmp key e.user_key)) = texts_ties e.user_key key
+    ∙ ap is_eq (nat_list_cmp_total.antisymm e.user_key key) in
+    let apart : same_key e.user_key key ≡ false = tie
+    ∙ ap (λ (o : Ordering). is_eq (ordering_reverse o))
+    (less_of (slice_cmp nat_cmp key e.user_key) above) in
     ap (λ (b : Bool). b && nat_lt e.seqno bound) apart
 
 -- ---- a chunk before the one that is read
 
-pub later : (x y : Entry) (ys : List Entry) → IsStrictAfter (Some x) (y ∷ ys) → is_before x (last_entry (y ∷ ys)) ≡ true
+pub later : (x y : Entry) (ys : List Entry) → IsStrictAfter (Some x) (y ∷ ys)
+    → is_before x (last_entry (y ∷ ys)) ≡ true
 unfolding IsStrictAfter last_of
 later x y [] strict = strict.0
 later x y (z ∷ zs) strict = before_trans x y (last_entry (z ∷ zs)) strict.0 (later y z zs strict.1)
 
-passed_one : (p : Entry → Bool) (x : Entry) (o : Option Entry) → p x ≡ false → cond (p x) (Some x) o ≡ o
+passed_one : (p : Entry → Bool) (x : Entry) (o : Option Entry) → p x ≡ false
+    → cond (p x) (Some x) o ≡ o
 passed_one p x o h = rw h refl
 
-passed : (key : List ℕ) (bound : ℕ) (last : Option Entry) (x : Entry) (xs rest : List Entry) → IsStrictAfter last (x ∷ xs) → after key bound (last_entry (x ∷ xs)) ≡ false → find (is_hit key bound) ((x ∷ xs) ++ rest) ≡ find (is_hit key bound) rest
+passed : (key : List ℕ) (bound : ℕ) (last : Option Entry) (x : Entry) (xs rest : List Entry)
+    → IsStrictAfter last (x ∷ xs) → after key bound (last_entry (x ∷ xs)) ≡ false
+    → find (is_hit key bound) ((x ∷ xs) ++ rest) ≡ find (is_hit key bound) rest
 unfolding IsStrictAfter last_of
-passed key bound last x [] rest strict early = passed_one (is_hit key bound) x (find (is_hit key bound) rest) (not_hit key bound x early)
+passed key bound last x [] rest strict early =
+    passed_one (is_hit key bound) x (find (is_hit key bound) rest) (not_hit key bound x early)
 passed key bound last x (y ∷ ys) rest strict early =
-    passed_one (is_hit key bound) x (find (is_hit key bound) ((y ∷ ys) ++ rest)) (not_hit key bound x (not_before key bound x (last_entry (y ∷ ys)) (later x y ys strict.1) early))
+    passed_one (is_hit key bound) x (find (is_hit key bound) ((y ∷ ys) ++ rest))
+    (not_hit key bound x (not_before key bound x (last_entry (y ∷ ys))
+    (later x y ys strict.1) early))
     ∙ passed key bound (Some x) y ys rest strict.1 early
 
 -- ---- the chunk that is read
 
 -- nothing behind an entry above the key is hit
-none_above : (key : List ℕ) (bound : ℕ) (x : Entry) (rest : List Entry) → IsStrictAfter (Some x) rest → key_lt key x.user_key ≡ true → find (is_hit key bound) rest ≡ None
+none_above : (key : List ℕ) (bound : ℕ) (x : Entry) (rest : List Entry)
+    → IsStrictAfter (Some x) rest → key_lt key x.user_key ≡ true
+    → find (is_hit key bound) rest ≡ None
 unfolding IsStrictAfter
 none_above key bound x [] strict above = refl
 none_above key bound x (y ∷ ys) strict above =
-    let up : key_lt key y.user_key ≡ true = above_is key y ∙ before_trans (entry key [] 0 Value) x y (sym (above_is key x) ∙ above) strict.0 in
-    passed_one (is_hit key bound) y (find (is_hit key bound) ys) (above_apart key bound y up) ∙ none_above key bound y ys strict.1 up
+    let up : key_lt key y.user_key ≡ true = above_is key y
+    ∙ before_trans (entry key [] 0 Value) x y (sym (above_is key x) ∙ above) strict.0 in
+    passed_one (is_hit key bound) y (find (is_hit key bound) ys) (above_apart key bound y up)
+    ∙ none_above key bound y ys strict.1 up
 
-read_last : (key : List ℕ) (bound : ℕ) (x : Entry) (rest : List Entry) (hit : Bool) → is_hit key bound x ≡ hit → IsStrictAfter (Some x) rest → after key bound x ≡ true → cond hit (Some x) (find (is_hit key bound) rest) ≡ cond hit (Some x) None
+read_last : (key : List ℕ) (bound : ℕ) (x : Entry) (rest : List Entry) (hit : Bool)
+    → is_hit key bound x ≡ hit → IsStrictAfter (Some x) rest → after key bound x ≡ true
+    → cond hit (Some x) (find (is_hit key bound) rest) ≡ cond hit (Some x) None
 read_last key bound x rest true e strict late = refl
 read_last key bound x rest false e strict late =
     let above = key_lt key x.user_key in
-    none_above key bound x rest strict (sym (or-false above) ∙ ap (λ (b : Bool). above || b) (sym e) ∙ after_is key bound x ∙ late)
+    none_above key bound x rest strict (sym (or-false above) ∙ ap (λ (b : Bool). above || b) (sym e)
+    ∙ after_is key bound x ∙ late)
 
-read_here : (key : List ℕ) (bound : ℕ) (last : Option Entry) (x : Entry) (xs rest : List Entry) → IsStrictAfter last ((x ∷ xs) ++ rest) → after key bound (last_entry (x ∷ xs)) ≡ true → find (is_hit key bound) ((x ∷ xs) ++ rest) ≡ find (is_hit key bound) (x ∷ xs)
+read_here : (key : List ℕ) (bound : ℕ) (last : Option Entry) (x : Entry) (xs rest : List Entry)
+    → IsStrictAfter last ((x ∷ xs) ++ rest) → after key bound (last_entry (x ∷ xs)) ≡ true
+    → find (is_hit key bound) ((x ∷ xs) ++ rest) ≡ find (is_hit key bound) (x ∷ xs)
 unfolding IsStrictAfter last_of
-read_here key bound last x [] rest strict late = read_last key bound x rest (is_hit key bound x) refl strict.1 late
+read_here key bound last x [] rest strict late =
+    read_last key bound x rest (is_hit key bound x) refl strict.1 late
 read_here key bound last x (y ∷ ys) rest strict late =
-    ap (λ (o : Option Entry). cond (is_hit key bound x) (Some x) o) (read_here key bound (Some x) y ys rest strict.1 late)
+    ap (λ (o : Option Entry). cond (is_hit key bound x) (Some x) o)
+    (read_here key bound (Some x) y ys rest strict.1 late)
 
 -- ---- all the chunks
 
@@ -101,18 +134,21 @@ AreSome [] = Unit {0}
 AreSome (c ∷ cs) = (0 < length c) × AreSome cs
 
 -- what comes after the entries of a strict list is strict
-pub strict_after : (last : Option Entry) (es rest : List Entry) → IsStrictAfter last (es ++ rest) → IsStrictAfter (last_of last es) rest
+pub strict_after : (last : Option Entry) (es rest : List Entry) → IsStrictAfter last (es ++ rest)
+    → IsStrictAfter (last_of last es) rest
 unfolding IsStrictAfter last_of
 strict_after last [] rest strict = strict
 strict_after last (e ∷ es) rest strict = strict_after (Some e) es rest strict.1
 
-pub strict_front : (last : Option Entry) (es rest : List Entry) → IsStrictAfter last (es ++ rest) → IsStrictAfter last es
+pub strict_front : (last : Option Entry) (es rest : List Entry) → IsStrictAfter last (es ++ rest)
+    → IsStrictAfter last es
 unfolding IsStrictAfter
 strict_front last [] rest strict = tt
 strict_front last (e ∷ es) rest strict = (strict.0, strict_front (Some e) es rest strict.1)
 
 -- the chunk that a read rests on, among the others
-pub record ReadsChunk (v : TableVersion) (offset : ℕ) (cs : List (List Entry)) (key : List ℕ) (bound : ℕ) (h : Handle) : Type 0 where
+pub record ReadsChunk (v : TableVersion) (offset : ℕ) (cs : List (List Entry)) (key : List ℕ)
+    (bound : ℕ) (h : Handle) : Type 0 where
   pub before : List (List Entry)
   pub chunk : List Entry
   pub behind : List (List Entry)
@@ -125,14 +161,21 @@ abbrev pub ReadsBy : TableVersion → ℕ → List (List Entry) → List ℕ →
 ReadsBy v offset cs key bound None = find (is_hit key bound) (joined cs) ≡ None
 ReadsBy v offset cs key bound (Some h) = ReadsChunk v offset cs key bound h
 
-end_after : (v : TableVersion) (offset : ℕ) (c : List Entry) (key : List ℕ) (bound : ℕ) → reaches key bound (handle_of v offset c) ≡ after key bound (last_entry c)
+end_after : (v : TableVersion) (offset : ℕ) (c : List Entry) (key : List ℕ) (bound : ℕ)
+    → reaches key bound (handle_of v offset c) ≡ after key bound (last_entry c)
 end_after v offset c key bound = reaches_after key bound (handle_of v offset c)
 
 -- a chunk that is passed by stands before the others
-behind_passed : (v : TableVersion) (offset : ℕ) (c : List Entry) (cs : List (List Entry)) (key : List ℕ) (bound : ℕ) (o : Option Handle) → find (is_hit key bound) (c ++ joined cs) ≡ find (is_hit key bound) (joined cs) → ReadsBy v (offset + length (data_block v c)) cs key bound o → ReadsBy v offset (c ∷ cs) key bound o
+behind_passed : (v : TableVersion) (offset : ℕ) (c : List Entry) (cs : List (List Entry))
+    (key : List ℕ) (bound : ℕ) (o : Option Handle)
+    → find (is_hit key bound) (c ++ joined cs) ≡ find (is_hit key bound) (joined cs)
+    → ReadsBy v (offset + length (data_block v c)) cs key bound o
+    → ReadsBy v offset (c ∷ cs) key bound o
 behind_passed v offset c cs key bound None passes reads = passes ∙ reads
 behind_passed v offset c cs key bound (Some h) passes reads =
-    let place : offset + length (data_block v c) + length (data_section v reads.before) ≡ offset + length (data_block v c ++ data_section v reads.before) = omega (arith, length-append (data_block v c) (data_section v reads.before)) in
+    let place : offset + length (data_block v c) + length (data_section v reads.before)
+    ≡ offset + length (data_block v c ++ data_section v reads.before) =
+    omega (arith, length-append (data_block v c) (data_section v reads.before)) in
     record {
       before = c ∷ reads.before;
       chunk = reads.chunk;
@@ -142,25 +185,38 @@ behind_passed v offset c cs key bound (Some h) passes reads =
       answer = passes ∙ reads.answer;
     }
 
-decided : (v : TableVersion) (offset : ℕ) (last : Option Entry) (x : Entry) (xs : List Entry) (cs : List (List Entry)) (key : List ℕ) (bound : ℕ) (o : Option Handle) (b : Bool) → IsStrictAfter last ((x ∷ xs) ++ joined cs)
-    → reaches key bound (handle_of v offset (x ∷ xs)) ≡ b → ReadsBy v (offset + block_size v (x ∷ xs)) cs key bound o → ReadsBy v offset ((x ∷ xs) ∷ cs) key bound (cond b (Some (handle_of v offset (x ∷ xs))) o)
+decided : (v : TableVersion) (offset : ℕ) (last : Option Entry) (x : Entry) (xs : List Entry)
+    (cs : List (List Entry)) (key : List ℕ) (bound : ℕ) (o : Option Handle) (b : Bool)
+    → IsStrictAfter last ((x ∷ xs) ++ joined cs)
+    → reaches key bound (handle_of v offset (x ∷ xs)) ≡ b
+    → ReadsBy v (offset + block_size v (x ∷ xs)) cs key bound o
+    → ReadsBy v offset ((x ∷ xs) ∷ cs) key bound (cond b (Some (handle_of v offset (x ∷ xs))) o)
 decided v offset last x xs cs key bound o true strict late more = record {
   before = [];
   chunk = x ∷ xs;
   behind = cs;
   parts = refl;
-  handle = let place : offset ≡ offset + 0 = omega arith in ap (λ (n : ℕ). handle_of v n (x ∷ xs)) place;
-  answer = read_here key bound last x xs (joined cs) strict (sym (end_after v offset (x ∷ xs) key bound) ∙ late);
+  handle = let place : offset ≡ offset + 0 = omega arith in
+      ap (λ (n : ℕ). handle_of v n (x ∷ xs)) place;
+  answer = read_here key bound last x xs (joined cs) strict
+      (sym (end_after v offset (x ∷ xs) key bound) ∙ late);
 }
 decided v offset last x xs cs key bound o false strict early more =
-    let place : offset + block_size v (x ∷ xs) ≡ offset + length (data_block v (x ∷ xs)) = ap (λ (n : ℕ). offset + n) (sym (length-block v Data (payload v (x ∷ xs)))) in
+    let place : offset + block_size v (x ∷ xs) ≡ offset + length (data_block v (x ∷ xs)) =
+    ap (λ (n : ℕ). offset + n) (sym (length-block v Data (payload v (x ∷ xs)))) in
     behind_passed v offset (x ∷ xs) cs key bound o
-    (passed key bound last x xs (joined cs) (strict_front last (x ∷ xs) (joined cs) strict) (sym (end_after v offset (x ∷ xs) key bound) ∙ early))
+    (passed key bound last x xs (joined cs) (strict_front last (x ∷ xs) (joined cs) strict)
+    (sym (end_after v offset (x ∷ xs) key bound) ∙ early))
     (subst (λ (n : ℕ). ReadsBy v n cs key bound o) place more)
 
-pub chunk_read : (v : TableVersion) (offset : ℕ) (last : Option Entry) (cs : List (List Entry)) (key : List ℕ) (bound : ℕ) → AreSome cs → IsStrictAfter last (joined cs) → ReadsBy v offset cs key bound (find (reaches key bound) (handles_from v offset cs))
+pub chunk_read : (v : TableVersion) (offset : ℕ) (last : Option Entry) (cs : List (List Entry))
+    (key : List ℕ) (bound : ℕ) → AreSome cs → IsStrictAfter last (joined cs)
+    → ReadsBy v offset cs key bound (find (reaches key bound) (handles_from v offset cs))
 chunk_read v offset last [] key bound some strict = refl
 chunk_read v offset last ([] ∷ cs) key bound some strict = absurd (omega (arith, some.0))
 chunk_read v offset last ((x ∷ xs) ∷ cs) key bound some strict =
-    decided v offset last x xs cs key bound (find (reaches key bound) (handles_from v (offset + block_size v (x ∷ xs)) cs)) (reaches key bound (handle_of v offset (x ∷ xs))) strict refl
-    (chunk_read v (offset + block_size v (x ∷ xs)) (last_of last (x ∷ xs)) cs key bound some.1 (strict_after last (x ∷ xs) (joined cs) strict))
+    decided v offset last x xs cs key bound (find (reaches key bound)
+    (handles_from v (offset + block_size v (x ∷ xs)) cs))
+    (reaches key bound (handle_of v offset (x ∷ xs))) strict refl
+    (chunk_read v (offset + block_size v (x ∷ xs)) (last_of last (x ∷ xs)) cs key bound some.1
+    (strict_after last (x ∷ xs) (joined cs) strict))

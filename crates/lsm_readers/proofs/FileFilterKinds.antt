@@ -1,6 +1,9 @@
--- The filter of a table of a list, by the kind that it was written with: it loads where it lies, what of it stays loaded, and what
+-- The filter of a table of a list, by the kind that it was written with: it loads where it lies,
+-- what of it stays loaded, and what
 -- it answers for a key.
-use Rattle.std.proofs.Common.{◌≡◌, ℕ, ◌+◌, ◌-◌, ◌^◌, ◌<◌, Bool, true, false, List, [], ◌∷◌, ◌++◌, length, map, refl, sym, subst, ◌∙◌, append_assoc, length-append, arith, if◌then◌else◌}
+use Rattle.std.proofs.Common.{◌≡◌, ℕ, ◌+◌, ◌-◌, ◌^◌, ◌<◌, Bool, true, false, List, [], ◌∷◌, ◌++◌}
+use Rattle.std.proofs.Common.{length, map, refl, sym, subst, ◌∙◌, append_assoc, length-append}
+use Rattle.std.proofs.Common.{arith, if◌then◌else◌}
 use Rattle.std.specs.Prelude.{Ok, find, nat_lt, Option, Some, None, Result}
 use Rattle.std.specs.List.{AllByRecursion, flat_map}
 use Rattle.std.proofs.lemmas.List.{append-nil}
@@ -15,21 +18,27 @@ use Rattle.sst_filters.specs.Filter.{BloomFilter, payload_of, admits}
 use Rattle.sst_filters.specs.Policy.{tenths_of}
 use Rattle.lsm_formats.proofs.BlockLengths.{length-block}
 use Rattle.lsm_formats.specs.declared.options.FilterKind.{FilterKind}
-use Rattle.lsm_formats.specs.declared.options.FilterKind.TheVariants.{Full as FullFilter, Partitioned as PartitionedFilter}
-use Rattle.lsm_formats.specs.Filters.{AreFiltersFor, IsFilterFor, filter_block, filter_partitions, filtered_keys, full_filter, is_full_filter, keys_of, partitioned_filter}
+use Rattle.lsm_formats.specs.declared.options.FilterKind.TheVariants.{Full as FullFilter}
+use Rattle.lsm_formats.specs.declared.options.FilterKind.TheVariants.{Partitioned as PartitionedFilter}
+use Rattle.lsm_formats.specs.Filters.{AreFiltersFor, IsFilterFor, filter_block, filter_partitions}
+use Rattle.lsm_formats.specs.Filters.{filtered_keys, full_filter, is_full_filter, keys_of}
+use Rattle.lsm_formats.specs.Filters.{partitioned_filter}
 use Rattle.lsm_formats.specs.Fits.{SectionFits}
 use Rattle.lsm_formats.specs.Kinds.{AreFilterParts, filter_sections}
 use Rattle.lsm_formats.specs.Layout.{bytes_in}
 use Rattle.lsm_formats.specs.Partitions.{handles_block, tops_from}
 use Rattle.lsm_formats.specs.Parts.{ArePartsOf, joined_parts, rest_part}
 use Rattle.lsm_formats.proofs.FilterLaws.{is_built}
-use Rattle.lsm_readers.proofs.FileFilters.{Asked, KeyFits, LoadsFilter, filter_asked, filter_loads, filter_told as part_told, filter_tops_load, filters_asked, no_key}
+use Rattle.lsm_readers.proofs.FileFilters.{Asked, KeyFits, LoadsFilter, filter_asked, filter_loads}
+use Rattle.lsm_readers.proofs.FileFilters.{filter_told as part_told, filter_tops_load}
+use Rattle.lsm_readers.proofs.FileFilters.{filters_asked, no_key}
 use Rattle.lsm_readers.proofs.FileIndexes.{LoadsHandles, handles_at}
 use Rattle.lsm_formats.proofs.KeyLaws.{key_end}
 use Rattle.lsm_readers.proofs.PartEnds.{no_parts, some_parts}
 use Rattle.lsm_readers.proofs.PartReads.{AreSomeParts}
 use Rattle.std.specs.Option.{option_map}
-use Rattle.sst_sections.specs.declared.section.SectionName.TheVariants.{Filter as FilterSection, FilterTli}
+use Rattle.sst_sections.specs.declared.section.SectionName.TheVariants.{Filter as FilterSection}
+use Rattle.sst_sections.specs.declared.section.SectionName.TheVariants.{FilterTli}
 use Rattle.sst_filters.specs.KeyHash.{hash_of}
 use Rattle.sst_entries.specs.declared.error.Error.{Error}
 use Rattle.sst_blocks.specs.Place.{Place, place_of}
@@ -41,45 +50,67 @@ use Rattle.lsm_readers.specs.Parts.{filter_told, pinned_filter, tops_told}
 -- ---- it loads
 
 -- where there is a filter, the keys that filters have are those of the list
-no_filters : (k : FilterKind) (policy : BloomConstructionPolicy) (parts : List (List (List ℕ))) → AreFilterParts k policy [] parts → parts ≡ []
+no_filters : (k : FilterKind) (policy : BloomConstructionPolicy) (parts : List (List (List ℕ)))
+    → AreFilterParts k policy [] parts → parts ≡ []
 no_filters FullFilter policy parts are = are
-no_filters (PartitionedFilter size) policy parts are = no_parts parts (some_parts (is_full_filter policy size) parts are.each) are.whole
+no_filters (PartitionedFilter size) policy parts are =
+    no_parts parts (some_parts (is_full_filter policy size) parts are.each) are.whole
 
-has_keys : (k : FilterKind) (policy : BloomConstructionPolicy) (es : List Entry) (parts : List (List (List ℕ))) (f : BloomFilter) (fs : List BloomFilter) → AreFilterParts k policy (filtered_keys policy es) parts → AreFiltersFor policy parts (f ∷ fs)
+has_keys : (k : FilterKind) (policy : BloomConstructionPolicy) (es : List Entry)
+    (parts : List (List (List ℕ))) (f : BloomFilter) (fs : List BloomFilter)
+    → AreFilterParts k policy (filtered_keys policy es) parts → AreFiltersFor policy parts (f ∷ fs)
     → filtered_keys policy es ≡ keys_of es
 has_keys k policy es parts f fs are filters =
-    elim (nat_lt 0 (tenths_of policy)) as (λ (b : Bool). AreFilterParts k policy (if b then keys_of es else []) parts → (if b then keys_of es else []) ≡ keys_of es) [
+    elim (nat_lt 0 (tenths_of policy)) as (λ (b : Bool). AreFilterParts k policy
+    (if b then keys_of es else []) parts → (if b then keys_of es else []) ≡ keys_of es) [
       | true ↦ λ _. refl
-      | false ↦ λ none. absurd (subst (λ (ps : List (List (List ℕ))). AreFiltersFor policy ps (f ∷ fs)) (no_filters k policy parts none) filters)
+      | false ↦ λ none. absurd (subst (λ (ps : List (List (List ℕ))). AreFiltersFor policy ps
+          (f ∷ fs)) (no_filters k policy parts none) filters)
     ] are
 
 -- the one filter of all keys
-record IsOne (policy : BloomConstructionPolicy) (keys : List (List ℕ)) (f : BloomFilter) (fs : List BloomFilter) : Type 0 where
+record IsOne (policy : BloomConstructionPolicy) (keys : List (List ℕ)) (f : BloomFilter)
+    (fs : List BloomFilter) : Type 0 where
   is : IsFilterFor policy keys f
   none : fs ≡ []
 
-one_of : (policy : BloomConstructionPolicy) (keys : List (List ℕ)) (f : BloomFilter) (fs : List BloomFilter) → AreFiltersFor policy (rest_part keys) (f ∷ fs) → IsOne policy keys f fs
+one_of : (policy : BloomConstructionPolicy) (keys : List (List ℕ)) (f : BloomFilter)
+    (fs : List BloomFilter) → AreFiltersFor policy (rest_part keys) (f ∷ fs)
+    → IsOne policy keys f fs
 one_of policy [] f fs h = absurd h
 one_of policy (k ∷ ks) f [] h = record { is = h.0; none = refl }
 one_of policy (k ∷ ks) f (g ∷ fs) h = absurd h.1
 
-module _ (v : TableVersion) (policy : BloomConstructionPolicy) (es : List Entry) (parts : List (List (List ℕ))) (f : BloomFilter) (fs : List BloomFilter) (filters : AreFiltersFor policy parts (f ∷ fs)) where
+module _ (v : TableVersion) (policy : BloomConstructionPolicy) (es : List Entry)
+    (parts : List (List (List ℕ))) (f : BloomFilter) (fs : List BloomFilter)
+    (filters : AreFiltersFor policy parts (f ∷ fs)) where
   -- a full filter is that of all keys, and loads
-  pub full_is : AreFilterParts FullFilter policy (filtered_keys policy es) parts → IsFilterFor policy (keys_of es) f
+  pub full_is : AreFilterParts FullFilter policy (filtered_keys policy es) parts
+      → IsFilterFor policy (keys_of es) f
   full_is are =
-      let one = one_of policy (filtered_keys policy es) f fs (subst (λ (ps : List (List (List ℕ))). AreFiltersFor policy ps (f ∷ fs)) are filters) in
-      subst (λ (ks : List (List ℕ)). IsFilterFor policy ks f) (has_keys FullFilter policy es parts f fs are filters) one.is
+      let one = one_of policy (filtered_keys policy es) f fs
+      (subst (λ (ps : List (List (List ℕ))). AreFiltersFor policy ps (f ∷ fs)) are filters) in
+      subst (λ (ks : List (List ℕ)). IsFilterFor policy ks f)
+      (has_keys FullFilter policy es parts f fs are filters) one.is
 
-  pub full_filter_loads : AreFilterParts FullFilter policy (filtered_keys policy es) parts → (pre post body : List ℕ) (at : ℕ) → at ≡ length pre → AllByRecursion SectionFits (full_filter v (f ∷ fs)) → body ≡ pre ++ (bytes_in (full_filter v (f ∷ fs)) ++ post)
+  pub full_filter_loads : AreFilterParts FullFilter policy (filtered_keys policy es) parts
+      → (pre post body : List ℕ) (at : ℕ) → at ≡ length pre
+      → AllByRecursion SectionFits (full_filter v (f ∷ fs))
+      → body ≡ pre ++ (bytes_in (full_filter v (f ∷ fs)) ++ post)
       → LoadsFilter body at (length (filter_block v f)) f
   full_filter_loads are pre post body at from fits lies =
       let size = length-block v Filter (payload_of f) in
       let whole : body ≡ pre ++ filter_block v f ++ post = lies ∙ simp (append_assoc, append-nil) in
-      filter_loads v f pre post body at (length (filter_block v f)) (is_built policy (keys_of es) f (full_is are) (omega (arith, (fits.0).short, size))) from size whole
+      filter_loads v f pre post body at (length (filter_block v f))
+      (is_built policy (keys_of es) f (full_is are) (omega (arith, (fits.0).short, size))) from
+      size whole
 
   -- of a partitioned filter the top level loads, and the filter of one part is asked
-  module _ (size : ℕ) (are : ArePartsOf (is_full_filter policy size) (filtered_keys policy es) parts) (strict : IsStrict (map key_end (keys_of es))) (at : ℕ) (pre post body : List ℕ) (from : at ≡ length pre)
-      (fits : AllByRecursion SectionFits (partitioned_filter v at parts (f ∷ fs))) (lies : body ≡ pre ++ (bytes_in (partitioned_filter v at parts (f ∷ fs)) ++ post)) where
+  module _ (size : ℕ) (are : ArePartsOf (is_full_filter policy size)
+      (filtered_keys policy es) parts) (strict : IsStrict (map key_end (keys_of es))) (at : ℕ)
+      (pre post body : List ℕ) (from : at ≡ length pre)
+      (fits : AllByRecursion SectionFits (partitioned_filter v at parts (f ∷ fs)))
+      (lies : body ≡ pre ++ (bytes_in (partitioned_filter v at parts (f ∷ fs)) ++ post)) where
     abbrev tops : List Handle
     tops = tops_from at (filter_partitions parts (f ∷ fs))
 
@@ -95,22 +126,34 @@ module _ (v : TableVersion) (policy : BloomConstructionPolicy) (es : List Entry)
     keys_line : IsStrict (map key_end (joined_parts parts))
     keys_line = subst (λ (ks : List (List ℕ)). IsStrict (map key_end ks)) (sym keys_whole) strict
 
-    pub filter_top_loads : AllByRecursion (KeyFits v) (keys_of es) → at + length (bytes_in (partitioned_filter v at parts (f ∷ fs))) < 2 ^ 64 → LoadsHandles body (at + length each) (length (handles_block v tops)) tops
+    pub filter_top_loads : AllByRecursion (KeyFits v) (keys_of es)
+        → at + length (bytes_in (partitioned_filter v at parts (f ∷ fs))) < 2 ^ 64
+        → LoadsHandles body (at + length each) (length (handles_block v tops)) tops
     filter_top_loads fit within =
-        let whole : body ≡ (pre ++ each) ++ handles_block v tops ++ post = lies ∙ simp (append_assoc, append-nil) in
-        let keys_fit = subst (λ (ks : List (List ℕ)). AllByRecursion (KeyFits v) ks) (sym keys_whole) fit in
-        filter_tops_load v policy at parts (f ∷ fs) all_some filters keys_line (fits.0).short (pre ++ each) post body (at + length each) (length (handles_block v tops)) keys_fit
-        (omega (arith, within, length-append each (handles_block v tops ++ []))) ((fits.1.0).short) (omega (arith, from, length-append pre each)) (length-block v Index (handles_payload v tops)) whole
+        let whole : body ≡ (pre ++ each) ++ handles_block v tops ++ post = lies
+        ∙ simp (append_assoc, append-nil) in
+        let keys_fit = subst (λ (ks : List (List ℕ)). AllByRecursion (KeyFits v) ks)
+        (sym keys_whole) fit in
+        filter_tops_load v policy at parts (f ∷ fs) all_some filters keys_line (fits.0).short
+        (pre ++ each) post body (at + length each) (length (handles_block v tops)) keys_fit
+        (omega (arith, within, length-append each (handles_block v tops ++ []))) ((fits.1.0).short)
+        (omega (arith, from, length-append pre each))
+        (length-block v Index (handles_payload v tops)) whole
 
-    pub filter_parts_asked : (key : List ℕ) → Asked (part_told body key (find (reaches key (2 ^ 64 - 1)) tops)) (keys_of es) key
+    pub filter_parts_asked : (key : List ℕ) → Asked
+        (part_told body key (find (reaches key (2 ^ 64 - 1)) tops)) (keys_of es) key
     filter_parts_asked key =
-        let whole : body ≡ pre ++ (each ++ ((handles_block v tops ++ []) ++ post)) = lies ∙ simp append_assoc in
-        subst (λ (ks : List (List ℕ)). Asked (part_told body key (find (reaches key (2 ^ 64 - 1)) tops)) ks key) keys_whole
-        (filters_asked v policy at parts (f ∷ fs) all_some filters keys_line (fits.0).short pre ((handles_block v tops ++ []) ++ post) body from whole key)
+        let whole : body ≡ pre ++ (each ++ ((handles_block v tops ++ []) ++ post)) = lies
+        ∙ simp append_assoc in
+        subst (λ (ks : List (List ℕ)). Asked (part_told body key
+        (find (reaches key (2 ^ 64 - 1)) tops)) ks key) keys_whole
+        (filters_asked v policy at parts (f ∷ fs) all_some filters keys_line (fits.0).short pre
+        ((handles_block v tops ++ []) ++ post) body from whole key)
 
 -- ---- what stays loaded of it, and what it answers
 
-by_part : (body key : List ℕ) (o : Option Handle) → (part_admits body (hash_of key) (option_map place_of o)).told ≡ part_told body key o
+by_part : (body key : List ℕ) (o : Option Handle)
+    → (part_admits body (hash_of key) (option_map place_of o)).told ≡ part_told body key o
 by_part body key None = refl
 by_part body key (Some top) = refl
 
@@ -118,23 +161,39 @@ by_part body key (Some top) = refl
 all_admitted : (keys : List (List ℕ)) (key : List ℕ) → Asked (Ok true) keys key
 all_admitted keys key = record { answer = true; told_is = refl; no = λ wrong. absurd cc }
 
-module _ (v : TableVersion) (policy : BloomConstructionPolicy) (es : List Entry) (at : ℕ) (pre post body : List ℕ) (from : at ≡ length pre) (strict : IsStrict (map key_end (keys_of es))) (fit : AllByRecursion (KeyFits v) (keys_of es)) where
+module _ (v : TableVersion) (policy : BloomConstructionPolicy) (es : List Entry) (at : ℕ)
+    (pre post body : List ℕ) (from : at ≡ length pre) (strict : IsStrict (map key_end (keys_of es)))
+    (fit : AllByRecursion (KeyFits v) (keys_of es)) where
   -- what stays loaded of it: its top level
-  pub tops_here : (k : FilterKind) (keys : List (List (List ℕ))) (fs : List BloomFilter) (regions : ParsedRegions) → AreFilterParts k policy (filtered_keys policy es) keys → AreFiltersFor policy keys fs → AllByRecursion SectionFits (filter_sections k v at keys fs)
-      → at + length (bytes_in (filter_sections k v at keys fs)) < 2 ^ 64 → body ≡ pre ++ (bytes_in (filter_sections k v at keys fs) ++ post) → regions.filter_tli ≡ place_from at (filter_sections k v at keys fs) FilterTli
+  pub tops_here : (k : FilterKind) (keys : List (List (List ℕ))) (fs : List BloomFilter)
+      (regions : ParsedRegions) → AreFilterParts k policy (filtered_keys policy es) keys
+      → AreFiltersFor policy keys fs → AllByRecursion SectionFits (filter_sections k v at keys fs)
+      → at + length (bytes_in (filter_sections k v at keys fs)) < 2 ^ 64
+      → body ≡ pre ++ (bytes_in (filter_sections k v at keys fs) ++ post)
+      → regions.filter_tli ≡ place_from at (filter_sections k v at keys fs) FilterTli
       → tops_told body regions.filter_tli ≡ Ok (filter_tops_said k at keys fs)
   tops_here FullFilter keys [] regions are for fits within lies place = rw place refl
   tops_here FullFilter keys (f ∷ fs) regions are for fits within lies place = rw place refl
   tops_here (PartitionedFilter size) keys [] regions are for fits within lies place = rw place refl
   tops_here (PartitionedFilter size) keys (f ∷ fs) regions are for fits within lies place =
       let tops = tops_from at (filter_partitions keys (f ∷ fs)) in
-      let lie : Place = record { offset = at + length (flat_map (filter_block v) (f ∷ fs)); size = length (handles_block v tops) } in
-      let told = handles_at body lie tops (filter_top_loads v policy es keys f fs for size are strict at pre post body from fits lies fit within) in
+      let lie : Place = record {
+        offset = at + length (flat_map (filter_block v) (f ∷ fs));
+        size =
+            length (handles_block v tops);
+      } in
+      let told = handles_at body lie tops (filter_top_loads v policy es keys f fs for size are
+      strict at pre post body from fits lies fit within) in
       rw (place, told) refl
 
   -- and a full filter, where it is to
-  pub filter_here : (k : FilterKind) (keys : List (List (List ℕ))) (fs : List BloomFilter) (regions : ParsedRegions) (pin : Bool) → AreFilterParts k policy (filtered_keys policy es) keys → AreFiltersFor policy keys fs → AllByRecursion SectionFits (filter_sections k v at keys fs)
-      → body ≡ pre ++ (bytes_in (filter_sections k v at keys fs) ++ post) → regions.filter_tli ≡ place_from at (filter_sections k v at keys fs) FilterTli → regions.filter ≡ place_from at (filter_sections k v at keys fs) FilterSection
+  pub filter_here : (k : FilterKind) (keys : List (List (List ℕ))) (fs : List BloomFilter)
+      (regions : ParsedRegions) (pin : Bool) → AreFilterParts k policy
+      (filtered_keys policy es) keys → AreFiltersFor policy keys fs
+      → AllByRecursion SectionFits (filter_sections k v at keys fs)
+      → body ≡ pre ++ (bytes_in (filter_sections k v at keys fs) ++ post)
+      → regions.filter_tli ≡ place_from at (filter_sections k v at keys fs) FilterTli
+      → regions.filter ≡ place_from at (filter_sections k v at keys fs) FilterSection
       → filter_told body (pinned_filter regions pin) ≡ Ok (filter_said k fs pin)
   filter_here FullFilter keys [] regions true are for fits lies top place = rw (top, place) refl
   filter_here FullFilter keys [] regions false are for fits lies top place = refl
@@ -142,22 +201,41 @@ module _ (v : TableVersion) (policy : BloomConstructionPolicy) (es : List Entry)
       let l = full_filter_loads v policy es keys f fs for are pre post body at from fits lies in
       rw (top, place, l.loads, l.filter) refl
   filter_here FullFilter keys (f ∷ fs) regions false are for fits lies top place = refl
-  filter_here (PartitionedFilter size) keys [] regions true are for fits lies top place = rw (top, place) refl
+  filter_here (PartitionedFilter size) keys [] regions true are for fits lies top place =
+      rw (top, place) refl
   filter_here (PartitionedFilter size) keys [] regions false are for fits lies top place = refl
-  filter_here (PartitionedFilter size) keys (f ∷ fs) regions true are for fits lies top place = rw top refl
-  filter_here (PartitionedFilter size) keys (f ∷ fs) regions false are for fits lies top place = refl
+  filter_here (PartitionedFilter size) keys (f ∷ fs) regions true are for fits lies top place =
+      rw top refl
+  filter_here (PartitionedFilter size) keys (f ∷ fs) regions false are for fits lies top place =
+      refl
 
   -- it answers, and a no says that no entry has the key
-  pub filter_answers : (k : FilterKind) (keys : List (List (List ℕ))) (fs : List BloomFilter) (place : Option Place) (pin : Bool) → AreFilterParts k policy (filtered_keys policy es) keys → AreFiltersFor policy keys fs → AllByRecursion SectionFits (filter_sections k v at keys fs)
-      → body ≡ pre ++ (bytes_in (filter_sections k v at keys fs) ++ post) → place ≡ place_from at (filter_sections k v at keys fs) FilterSection → (key : List ℕ)
-      → Asked (filter_admits body (filter_tops_said k at keys fs) (filter_said k fs pin) place key (hash_of key)).told (keys_of es) key
-  filter_answers FullFilter keys [] place true are for fits lies is key = rw is (all_admitted (keys_of es) key)
-  filter_answers FullFilter keys [] place false are for fits lies is key = rw is (all_admitted (keys_of es) key)
+  pub filter_answers : (k : FilterKind) (keys : List (List (List ℕ))) (fs : List BloomFilter)
+      (place : Option Place) (pin : Bool) → AreFilterParts k policy (filtered_keys policy es) keys
+      → AreFiltersFor policy keys fs → AllByRecursion SectionFits (filter_sections k v at keys fs)
+      → body ≡ pre ++ (bytes_in (filter_sections k v at keys fs) ++ post)
+      → place ≡ place_from at (filter_sections k v at keys fs) FilterSection → (key : List ℕ)
+      → Asked (filter_admits body (filter_tops_said k at keys fs) (filter_said k fs pin) place key
+      (hash_of key)).told (keys_of es) key
+  filter_answers FullFilter keys [] place true are for fits lies is key =
+      rw is (all_admitted (keys_of es) key)
+  filter_answers FullFilter keys [] place false are for fits lies is key =
+      rw is (all_admitted (keys_of es) key)
   filter_answers FullFilter keys (f ∷ fs) place true are for fits lies is key =
-      record { answer = admits f (hash_of key); told_is = refl; no = no_key policy (keys_of es) f key (full_is v policy es keys f fs for are) }
+      record {
+        answer = admits f (hash_of key);
+        told_is = refl;
+        no =
+            no_key policy (keys_of es) f key (full_is v policy es keys f fs for are);
+      }
   filter_answers FullFilter keys (f ∷ fs) place false are for fits lies is key =
-      rw is (filter_asked policy (keys_of es) f key body at (length (filter_block v f)) (full_is v policy es keys f fs for are) (full_filter_loads v policy es keys f fs for are pre post body at from fits lies))
-  filter_answers (PartitionedFilter size) keys [] place pin are for fits lies is key = rw is (all_admitted (keys_of es) key)
+      rw is (filter_asked policy (keys_of es) f key body at (length (filter_block v f))
+      (full_is v policy es keys f fs for are) (full_filter_loads v policy es keys f fs for are
+      pre post body at from fits lies))
+  filter_answers (PartitionedFilter size) keys [] place pin are for fits lies is key =
+      rw is (all_admitted (keys_of es) key)
   filter_answers (PartitionedFilter size) keys (f ∷ fs) place pin are for fits lies is key =
       let o = find (reaches key (2 ^ 64 - 1)) (tops_from at (filter_partitions keys (f ∷ fs))) in
-      subst (λ (told : Result Bool Error). Asked told (keys_of es) key) (sym (by_part body key o)) (filter_parts_asked v policy es keys f fs for size are strict at pre post body from fits lies key)
+      subst (λ (told : Result Bool Error). Asked told (keys_of es) key) (sym (by_part body key o))
+      (filter_parts_asked v policy es keys f fs for size are strict at pre post body from fits
+      lies key)

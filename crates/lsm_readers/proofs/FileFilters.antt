@@ -1,5 +1,8 @@
--- The filters of a table: each of them loads, and a no of the one that is asked says that none of the keys is the one that is sought.
-use Rattle.std.proofs.Common.{◌≡◌, ℕ, ◌+◌, ◌*◌, ◌/◌, ◌-◌, ◌^◌, ◌<◌, ◌≤◌, Bool, true, false, cond, List, [], ◌∷◌, ◌++◌, length, map, refl, sym, ap, subst, ◌∙◌, length-append, arith}
+-- The filters of a table: each of them loads, and a no of the one that is asked says that none of
+-- the keys is the one that is sought.
+use Rattle.std.proofs.Common.{◌≡◌, ℕ, ◌+◌, ◌*◌, ◌/◌, ◌-◌, ◌^◌, ◌<◌, ◌≤◌, Bool, true, false, cond}
+use Rattle.std.proofs.Common.{List, [], ◌∷◌, ◌++◌, length, map, refl, sym, ap, subst, ◌∙◌}
+use Rattle.std.proofs.Common.{length-append, arith}
 use Rattle.std.specs.Prelude.{Option, Some, None, Result, Ok, find, unwrap_or}
 use Rattle.std.specs.List.{AllByRecursion, flat_map}
 use Rattle.std.proofs.lemmas.List.Concat.{flat_map-append}
@@ -22,7 +25,8 @@ use Rattle.sst_filters.specs.Policy.{tenths_of}
 use Rattle.sst_filters.proofs.Probes.{admits_its_hashes}
 use Rattle.lsm_formats.proofs.BlockLengths.{length-block}
 use Rattle.lsm_formats.specs.Facts.{starts_key}
-use Rattle.lsm_formats.specs.Filters.{AreFiltersFor, IsFilterFor, filter_block, filter_partitions, keys_after, last_of_keys}
+use Rattle.lsm_formats.specs.Filters.{AreFiltersFor, IsFilterFor, filter_block, filter_partitions}
+use Rattle.lsm_formats.specs.Filters.{keys_after, last_of_keys}
 use Rattle.lsm_formats.specs.Fits.{EntryFits}
 use Rattle.lsm_formats.specs.Index.{last_entry}
 use Rattle.lsm_formats.specs.Parts.{joined_parts}
@@ -44,14 +48,17 @@ use Rattle.lsm_readers.proofs.PartReads.{AreSomeParts}
 pub record KeyFits (v : TableVersion) (key : List ℕ) : Type 0 where
   pub short : length key ≤ longest_key v
 
-keys_fit_by : (v : TableVersion) (b : Bool) (k : List ℕ) (ks : List (List ℕ)) → KeyFits v k → AllByRecursion (KeyFits v) ks → AllByRecursion (KeyFits v) (cond b (k ∷ ks) ks)
+keys_fit_by : (v : TableVersion) (b : Bool) (k : List ℕ) (ks : List (List ℕ)) → KeyFits v k
+    → AllByRecursion (KeyFits v) ks → AllByRecursion (KeyFits v) (cond b (k ∷ ks) ks)
 keys_fit_by v true k ks h hs = (h, hs)
 keys_fit_by v false k ks h hs = hs
 
-pub keys_fit : (v : TableVersion) (before : Option Entry) (es : List Entry) → AllByRecursion (EntryFits v) es → AllByRecursion (KeyFits v) (keys_after before es)
+pub keys_fit : (v : TableVersion) (before : Option Entry) (es : List Entry)
+    → AllByRecursion (EntryFits v) es → AllByRecursion (KeyFits v) (keys_after before es)
 unfolding keys_after
 keys_fit v before [] h = tt
-keys_fit v before (e ∷ es) h = keys_fit_by v (starts_key before e) e.user_key (keys_after (Some e) es) (record { short = (h.0).key }) (keys_fit v (Some e) es h.1)
+keys_fit v before (e ∷ es) h = keys_fit_by v (starts_key before e) e.user_key
+    (keys_after (Some e) es) (record { short = (h.0).key }) (keys_fit v (Some e) es h.1)
 
 -- ---- one filter
 
@@ -61,7 +68,9 @@ pub record LoadsFilter (body : List ℕ) (offset size : ℕ) (f : BloomFilter) :
   pub loads : load_told body offset size Filter ≡ Ok block
   pub filter : filter_in block.payload ≡ f
 
-pub filter_loads : (v : TableVersion) (f : BloomFilter) (pre post body : List ℕ) (offset size : ℕ) → IsBuilt f → offset ≡ length pre → size ≡ 24 + length (payload_of f) → body ≡ pre ++ filter_block v f ++ post → LoadsFilter body offset size f
+pub filter_loads : (v : TableVersion) (f : BloomFilter) (pre post body : List ℕ) (offset size : ℕ)
+    → IsBuilt f → offset ≡ length pre → size ≡ 24 + length (payload_of f)
+    → body ≡ pre ++ filter_block v f ++ post → LoadsFilter body offset size f
 filter_loads v f pre post body offset size built at len e =
     let loads = built_load v f built in
     record {
@@ -80,12 +89,19 @@ pub record Asked (told : Result Bool Error) (keys : List (List ℕ)) (key : List
   pub told_is : told ≡ Ok answer
   pub no : answer ≡ false → has_key key keys ≡ false
 
-pub no_key : (policy : BloomConstructionPolicy) (keys : List (List ℕ)) (f : BloomFilter) (key : List ℕ) → IsFilterFor policy keys f → admits f (hash_of key) ≡ false → has_key key keys ≡ false
+pub no_key : (policy : BloomConstructionPolicy) (keys : List (List ℕ)) (f : BloomFilter)
+    (key : List ℕ) → IsFilterFor policy keys f → admits f (hash_of key) ≡ false
+    → has_key key keys ≡ false
 no_key policy keys f key is denied =
-    let some : 8 ≤ length f.bits = rw (is.size) (wide ((length keys * tenths_of policy + 79) / 80)) in
-    is_false (has_key key keys) (λ here. apart (admits f (hash_of key)) (admits_its_hashes f (map hash_of keys) (hash_of key) (omega (arith, some)) is.hashes (hash_in key keys here)) denied)
+    let some : 8 ≤ length f.bits = rw (is.size) (wide
+    ((length keys * tenths_of policy + 79) / 80)) in
+    is_false (has_key key keys) (λ here. apart (admits f (hash_of key))
+    (admits_its_hashes f (map hash_of keys) (hash_of key) (omega (arith, some)) is.hashes
+    (hash_in key keys here)) denied)
 
-pub filter_asked : (policy : BloomConstructionPolicy) (keys : List (List ℕ)) (f : BloomFilter) (key body : List ℕ) (offset size : ℕ) → IsFilterFor policy keys f → LoadsFilter body offset size f
+pub filter_asked : (policy : BloomConstructionPolicy) (keys : List (List ℕ)) (f : BloomFilter)
+    (key body : List ℕ) (offset size : ℕ) → IsFilterFor policy keys f
+    → LoadsFilter body offset size f
     → Asked (load_told body offset size Filter >>= λ b. Ok (says key b)) keys key
 filter_asked policy keys f key body offset size is l = record {
   answer = admits f (hash_of key);
@@ -95,39 +111,62 @@ filter_asked policy keys f key body offset size is l = record {
 
 -- ---- the top level
 
-tops_end : (policy : BloomConstructionPolicy) (at : ℕ) (parts : List (List (List ℕ))) (fs : List BloomFilter) → AreSomeParts parts → AreFiltersFor policy parts fs → map end_of (tops_from at (filter_partitions parts fs)) ≡ map (λ (p : List (List ℕ)). last_entry (map key_end p)) parts
+tops_end : (policy : BloomConstructionPolicy) (at : ℕ) (parts : List (List (List ℕ)))
+    (fs : List BloomFilter) → AreSomeParts parts → AreFiltersFor policy parts fs
+    → map end_of (tops_from at (filter_partitions parts fs))
+    ≡ map (λ (p : List (List ℕ)). last_entry (map key_end p)) parts
 tops_end policy at [] [] some are = refl
 tops_end policy at [] (f ∷ fs) some are = absurd are
 tops_end policy at (p ∷ ps) [] some are = absurd are
 tops_end policy at ([] ∷ ps) (f ∷ fs) some are = absurd (omega (arith, some.0))
 tops_end policy at ((x ∷ xs) ∷ ps) (f ∷ fs) some are =
-    let last : last_entry (map key_end (x ∷ xs)) ≡ key_end (last_of_keys (x ∷ xs)) = ap (λ (o : Option Entry). unwrap_or o (entry [] [] 0 Value)) (last_end_is None x xs) in
+    let last : last_entry (map key_end (x ∷ xs)) ≡ key_end (last_of_keys (x ∷ xs)) =
+    ap (λ (o : Option Entry). unwrap_or o (entry [] [] 0 Value)) (last_end_is None x xs) in
     rw (last, tops_end policy (at + (24 + length (payload_of f))) ps fs some.1 are.1) refl
 
-tops_strict : (policy : BloomConstructionPolicy) (at : ℕ) (parts : List (List (List ℕ))) (fs : List BloomFilter) → AreSomeParts parts → AreFiltersFor policy parts fs → IsStrict (map key_end (joined_parts parts)) → AreStrictHandles (tops_from at (filter_partitions parts fs))
-tops_strict policy at parts fs some are strict = subst IsStrict (sym (tops_end policy at parts fs some are)) (ends_strict key_end None parts some strict)
+tops_strict : (policy : BloomConstructionPolicy) (at : ℕ) (parts : List (List (List ℕ)))
+    (fs : List BloomFilter) → AreSomeParts parts → AreFiltersFor policy parts fs
+    → IsStrict (map key_end (joined_parts parts))
+    → AreStrictHandles (tops_from at (filter_partitions parts fs))
+tops_strict policy at parts fs some are strict =
+    subst IsStrict (sym (tops_end policy at parts fs some are))
+    (ends_strict key_end None parts some strict)
 
-last_fits : (v : TableVersion) (x : List ℕ) (xs : List (List ℕ)) → AllByRecursion (KeyFits v) (x ∷ xs) → length (last_of_keys (x ∷ xs)) ≤ longest_key v
+last_fits : (v : TableVersion) (x : List ℕ) (xs : List (List ℕ))
+    → AllByRecursion (KeyFits v) (x ∷ xs) → length (last_of_keys (x ∷ xs)) ≤ longest_key v
 last_fits v x [] h = (h.0).short
 last_fits v x (y ∷ ys) h = last_fits v y ys h.1
 
-front : (v : TableVersion) (ks more : List (List ℕ)) → AllByRecursion (KeyFits v) (ks ++ more) → AllByRecursion (KeyFits v) ks × AllByRecursion (KeyFits v) more
+front : (v : TableVersion) (ks more : List (List ℕ)) → AllByRecursion (KeyFits v) (ks ++ more)
+    → AllByRecursion (KeyFits v) ks × AllByRecursion (KeyFits v) more
 front v [] more h = (tt, h)
 front v (k ∷ ks) more h = let rest = front v ks more h.1 in ((h.0, rest.0), rest.1)
 
-tops_spelled : (v : TableVersion) (policy : BloomConstructionPolicy) (at : ℕ) (parts : List (List (List ℕ))) (fs : List BloomFilter) → AreSomeParts parts → AreFiltersFor policy parts fs → AllByRecursion (KeyFits v) (joined_parts parts)
-    → length (flat_map (filter_block v) fs) < 2 ^ 32 → at + length (flat_map (filter_block v) fs) < 2 ^ 64 → AllByRecursion (IsSpellableHandle v) (tops_from at (filter_partitions parts fs))
+tops_spelled : (v : TableVersion) (policy : BloomConstructionPolicy) (at : ℕ)
+    (parts : List (List (List ℕ))) (fs : List BloomFilter) → AreSomeParts parts
+    → AreFiltersFor policy parts fs → AllByRecursion (KeyFits v) (joined_parts parts)
+    → length (flat_map (filter_block v) fs) < 2 ^ 32
+    → at + length (flat_map (filter_block v) fs) < 2 ^ 64
+    → AllByRecursion (IsSpellableHandle v) (tops_from at (filter_partitions parts fs))
 tops_spelled v policy at [] [] some are fit short within = tt
 tops_spelled v policy at [] (f ∷ fs) some are fit short within = absurd are
 tops_spelled v policy at (p ∷ ps) [] some are fit short within = absurd are
-tops_spelled v policy at ([] ∷ ps) (f ∷ fs) some are fit short within = absurd (omega (arith, some.0))
+tops_spelled v policy at ([] ∷ ps) (f ∷ fs) some are fit short within =
+    absurd (omega (arith, some.0))
 tops_spelled v policy at ((x ∷ xs) ∷ ps) (f ∷ fs) some are fit short within =
     let each = front v (x ∷ xs) (joined_parts ps) fit in
     let last = last_fits v x xs each.0 in
     let size = length-block v Filter (payload_of f) in
     let whole = length-append (filter_block v f) (flat_map (filter_block v) fs) in (
-      record { number = omega arith; offset = omega (arith, within, whole); size = omega (arith, short, whole, size); key_len = omega (arith, last, longest_short v) },
-      tops_spelled v policy (at + (24 + length (payload_of f))) ps fs some.1 are.1 each.1 (omega (arith, short, whole)) (omega (arith, within, whole, size)),
+      record {
+        number = omega arith;
+        offset = omega (arith, within, whole);
+        size =
+            omega (arith, short, whole, size);
+        key_len = omega (arith, last, longest_short v);
+      },
+      tops_spelled v policy (at + (24 + length (payload_of f))) ps fs some.1 are.1 each.1
+          (omega (arith, short, whole)) (omega (arith, within, whole, size)),
     )
 
 -- what the filter of a partition says that a handle of the top level tells: no handle is a no
@@ -135,34 +174,63 @@ abbrev pub filter_told : List ℕ → List ℕ → Option Handle → Result Bool
 filter_told body key None = Ok false
 filter_told body key (Some top) = load_told body top.offset top.size Filter >>= λ b. Ok (says key b)
 
-module _ (v : TableVersion) (policy : BloomConstructionPolicy) (at : ℕ) (parts : List (List (List ℕ))) (fs : List BloomFilter) (some : AreSomeParts parts) (are : AreFiltersFor policy parts fs) (strict : IsStrict (map key_end (joined_parts parts)))
+module _ (v : TableVersion) (policy : BloomConstructionPolicy) (at : ℕ)
+    (parts : List (List (List ℕ))) (fs : List BloomFilter) (some : AreSomeParts parts)
+    (are : AreFiltersFor policy parts fs) (strict : IsStrict (map key_end (joined_parts parts)))
     (short : length (flat_map (filter_block v) fs) < 2 ^ 32) where
   -- the top level loads
-  pub filter_tops_load : (pre post body : List ℕ) (offset size : ℕ) → AllByRecursion (KeyFits v) (joined_parts parts) → at + length (flat_map (filter_block v) fs) < 2 ^ 64
+  pub filter_tops_load : (pre post body : List ℕ) (offset size : ℕ)
+      → AllByRecursion (KeyFits v) (joined_parts parts)
+      → at + length (flat_map (filter_block v) fs) < 2 ^ 64
       → length (handles_block v (tops_from at (filter_partitions parts fs))) < 2 ^ 32
-      → offset ≡ length pre → size ≡ 24 + length (handles_payload v (tops_from at (filter_partitions parts fs))) → body ≡ pre ++ handles_block v (tops_from at (filter_partitions parts fs)) ++ post
+      → offset ≡ length pre → size ≡ 24 + length (handles_payload v
+      (tops_from at (filter_partitions parts fs)))
+      → body ≡ pre ++ handles_block v (tops_from at (filter_partitions parts fs)) ++ post
       → LoadsHandles body offset size (tops_from at (filter_partitions parts fs))
   filter_tops_load pre post body offset size fit within top_short from len e =
-      handles_load v (tops_from at (filter_partitions parts fs)) pre post body offset size (tops_spelled v policy at parts fs some are fit short within) (tops_strict policy at parts fs some are strict) top_short from len e
+      handles_load v (tops_from at (filter_partitions parts fs)) pre post body offset size
+      (tops_spelled v policy at parts fs some are fit short within)
+      (tops_strict policy at parts fs some are strict) top_short from len e
 
-  module _ (pre post body : List ℕ) (from : at ≡ length pre) (lies : body ≡ pre ++ (flat_map (filter_block v) fs ++ post)) where
+  module _ (pre post body : List ℕ) (from : at ≡ length pre)
+      (lies : body ≡ pre ++ (flat_map (filter_block v) fs ++ post)) where
     -- and so does each filter
-    pub each_loads : (before : List BloomFilter) (f : BloomFilter) (behind : List BloomFilter) (part : List (List ℕ)) → fs ≡ before ++ f ∷ behind → IsFilterFor policy part f
-        → LoadsFilter body (at + length (flat_map (filter_block v) before)) (24 + length (payload_of f)) f
+    pub each_loads : (before : List BloomFilter) (f : BloomFilter) (behind : List BloomFilter)
+        (part : List (List ℕ)) → fs ≡ before ++ f ∷ behind → IsFilterFor policy part f
+        → LoadsFilter body (at + length (flat_map (filter_block v) before))
+        (24 + length (payload_of f)) f
     each_loads before f behind part fs_are is =
         let b = filter_block v in
-        let cut : length (flat_map b fs) ≡ length (flat_map b before ++ (b f ++ flat_map b behind)) = ap length (ap (flat_map b) fs_are ∙ flat_map-append b before (f ∷ behind)) in
-        let small : 25 + length f.bits < 2 ^ 32 = omega (arith, short, cut, length-append (flat_map b before) (b f ++ flat_map b behind), length-append (b f) (flat_map b behind), length-block v Filter (payload_of f)) in
-        filter_loads v f (pre ++ flat_map b before) (flat_map b behind ++ post) body (at + length (flat_map b before)) (24 + length (payload_of f)) (is_built policy part f is small)
+        let cut : length (flat_map b fs) ≡ length (flat_map b before
+        ++ (b f ++ flat_map b behind)) = ap length
+        (ap (flat_map b) fs_are ∙ flat_map-append b before (f ∷ behind)) in
+        let small : 25 + length f.bits < 2 ^ 32 = omega (
+          arith,
+          short,
+          cut,
+          length-append (flat_map b before)
+              (b f ++ flat_map b behind),
+          length-append (b f)
+              (flat_map b behind),
+          length-block v Filter (payload_of f),
+        ) in
+        filter_loads v f (pre ++ flat_map b before) (flat_map b behind ++ post) body
+        (at + length (flat_map b before)) (24 + length (payload_of f))
+        (is_built policy part f is small)
         (omega (arith, from, length-append pre (flat_map b before))) refl
-        (lies ∙ ap (λ (xs : List BloomFilter). pre ++ (flat_map b xs ++ post)) fs_are ∙ block_of b before f behind pre post)
+        (lies ∙ ap (λ (xs : List BloomFilter). pre ++ (flat_map b xs ++ post)) fs_are
+        ∙ block_of b before f behind pre post)
 
-    by_part : (key : List ℕ) (o : Option Handle) → AsksPartBy v policy at parts fs key o → Asked (filter_told body key o) (joined_parts parts) key
+    by_part : (key : List ℕ) (o : Option Handle) → AsksPartBy v policy at parts fs key o
+        → Asked (filter_told body key o) (joined_parts parts) key
     by_part key None none = record { answer = false; told_is = refl; no = λ _. none }
     by_part key (Some top) a =
         let b = filter_block v in
-        let l = each_loads a.filters_before a.asked a.filters_behind a.part a.filters_are a.is_for in
-        let one = filter_asked policy a.part a.asked key body (at + length (flat_map b a.filters_before)) (24 + length (payload_of a.asked)) a.is_for l in
+        let l = each_loads a.filters_before a.asked a.filters_behind a.part a.filters_are
+        a.is_for in
+        let one = filter_asked policy a.part a.asked key body
+        (at + length (flat_map b a.filters_before))
+        (24 + length (payload_of a.asked)) a.is_for l in
         record {
           answer = one.answer;
           told_is = ap (λ (h : Handle). filter_told body key (Some h)) a.top_is ∙ one.told_is;
@@ -170,5 +238,9 @@ module _ (v : TableVersion) (policy : BloomConstructionPolicy) (at : ℕ) (parts
         }
 
     -- the filter of the partition that the top level tells for the key is asked
-    pub filters_asked : (key : List ℕ) → Asked (filter_told body key (find (reaches key (2 ^ 64 - 1)) (tops_from at (filter_partitions parts fs)))) (joined_parts parts) key
-    filters_asked key = by_part key (find (reaches key (2 ^ 64 - 1)) (tops_from at (filter_partitions parts fs))) (part_asked v policy at None parts fs key some are strict)
+    pub filters_asked : (key : List ℕ) → Asked (filter_told body key
+        (find (reaches key (2 ^ 64 - 1)) (tops_from at (filter_partitions parts fs))))
+        (joined_parts parts) key
+    filters_asked key = by_part key (find (reaches key (2 ^ 64 - 1))
+        (tops_from at (filter_partitions parts fs)))
+        (part_asked v policy at None parts fs key some are strict)

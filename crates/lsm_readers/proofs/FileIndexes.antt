@@ -1,5 +1,7 @@
--- The blocks of an index: each of them loads, and the first handle that reaches a key is found through the top level.
-use Rattle.std.proofs.Common.{◌≡◌, ℕ, ◌+◌, ◌^◌, ◌<◌, List, [], ◌∷◌, ◌++◌, length, map, refl, sym, ap, subst, ◌∙◌, length-append, arith}
+-- The blocks of an index: each of them loads, and the first handle that reaches a key is found
+-- through the top level.
+use Rattle.std.proofs.Common.{◌≡◌, ℕ, ◌+◌, ◌^◌, ◌<◌, List, [], ◌∷◌, ◌++◌, length, map, refl, sym}
+use Rattle.std.proofs.Common.{ap, subst, ◌∙◌, length-append, arith}
 use Rattle.std.specs.Prelude.{Option, Some, None, Result, Ok, find, is_some, unwrap_or}
 use Rattle.std.specs.List.{AllByRecursion, flat_map}
 use Rattle.std.proofs.lemmas.List.Concat.{flat_map-append}
@@ -12,7 +14,8 @@ use Rattle.sst_entries.specs.Strict.{IsStrict, last_of}
 use Rattle.sst_blocks.specs.declared.block_type.BlockType.TheVariants.{Index}
 use Rattle.sst_blocks.specs.Block.{Loaded, handles_of, load_told}
 use Rattle.sst_blocks.specs.Handle.{Handle}
-use Rattle.sst_blocks.specs.Handles.{AreStrictHandles, IsSpellableHandle, end_of, handles_in, handles_payload, reaches}
+use Rattle.sst_blocks.specs.Handles.{AreStrictHandles, IsSpellableHandle, end_of, handles_in}
+use Rattle.sst_blocks.specs.Handles.{handles_payload, reaches}
 use Rattle.sst_blocks.specs.Place.{Place}
 use Rattle.sst_blocks.proofs.BlockLaws.{written_loads}
 use Rattle.sst_blocks.proofs.HandleLaws.{handles_read}
@@ -33,50 +36,85 @@ pub record LoadsHandles (body : List ℕ) (offset size : ℕ) (hs : List Handle)
   pub handles : handles_of block ≡ hs
 
 -- what is found in its handles
-pub found_in : {X : Type 0} (body : List ℕ) (offset size : ℕ) (hs : List Handle) (f : List Handle → X) → LoadsHandles body offset size hs → (load_told body offset size Index >>= λ b. Ok (f (handles_of b))) ≡ Ok (f hs)
+pub found_in : {X : Type 0} (body : List ℕ) (offset size : ℕ) (hs : List Handle)
+    (f : List Handle → X) → LoadsHandles body offset size hs
+    → (load_told body offset size Index >>= λ b. Ok (f (handles_of b))) ≡ Ok (f hs)
 found_in body offset size hs f h = rw (h.loads, h.handles) refl
 
 -- the handles of a place where they lie
-pub handles_at : (body : List ℕ) (place : Place) (hs : List Handle) → LoadsHandles body place.offset place.size hs → handles_told body place ≡ Ok hs
+pub handles_at : (body : List ℕ) (place : Place) (hs : List Handle)
+    → LoadsHandles body place.offset place.size hs → handles_told body place ≡ Ok hs
 handles_at body place hs l = found_in body place.offset place.size hs (λ (xs : List Handle). xs) l
 
 -- ---- one block
 
-handles_read_back : (v : TableVersion) (hs : List Handle) → AllByRecursion (IsSpellableHandle v) hs → AreStrictHandles hs → length (handles_block v hs) < 2 ^ 32 → handles_in v (handles_payload v hs) ≡ Some hs
-handles_read_back v hs spelled strict short = handles_read v hs (omega (arith, short, length-block v Index (handles_payload v hs), handles_short v hs), spelled) strict
+handles_read_back : (v : TableVersion) (hs : List Handle) → AllByRecursion (IsSpellableHandle v) hs
+    → AreStrictHandles hs → length (handles_block v hs) < 2 ^ 32
+    → handles_in v (handles_payload v hs) ≡ Some hs
+handles_read_back v hs spelled strict short =
+    handles_read v hs (
+      omega (
+        arith,
+        short,
+        length-block v Index
+            (handles_payload v hs),
+        handles_short v hs,
+      ),
+      spelled,
+    ) strict
 
-pub handles_load : (v : TableVersion) (hs : List Handle) (pre post body : List ℕ) (offset size : ℕ) → AllByRecursion (IsSpellableHandle v) hs → AreStrictHandles hs → length (handles_block v hs) < 2 ^ 32
-    → offset ≡ length pre → size ≡ 24 + length (handles_payload v hs) → body ≡ pre ++ handles_block v hs ++ post → LoadsHandles body offset size hs
+pub handles_load : (v : TableVersion) (hs : List Handle) (pre post body : List ℕ) (offset size : ℕ)
+    → AllByRecursion (IsSpellableHandle v) hs → AreStrictHandles hs
+    → length (handles_block v hs) < 2 ^ 32
+    → offset ≡ length pre → size ≡ 24 + length (handles_payload v hs)
+    → body ≡ pre ++ handles_block v hs ++ post → LoadsHandles body offset size hs
 handles_load v hs pre post body offset size spelled strict short at len e =
     let reads = handles_read_back v hs spelled strict short in
     record {
       block = record { version = v; kind = Index; payload = handles_payload v hs };
-      loads = ap (λ (n : ℕ). load_told body offset n Index) len ∙ written_loads v Index pre (handles_payload v hs) post body offset (omega (arith, short, length-block v Index (handles_payload v hs))) (ap is_some reads) at e;
+      loads = ap (λ (n : ℕ). load_told body offset n Index) len
+          ∙ written_loads v Index pre (handles_payload v hs) post body offset
+          (omega (arith, short, length-block v Index (handles_payload v hs)))
+          (ap is_some reads) at e;
       handles = ap (λ (o : Option (List Handle)). unwrap_or o []) reads;
     }
 
 -- ---- the top level
 
 -- the last entry of a part's handles is as the top level tells it
-end_is : (x : Handle) (xs : List Handle) → entry (last_end (x ∷ xs)).user_key [] (last_end (x ∷ xs)).seqno Value ≡ last_entry (map end_of (x ∷ xs))
+end_is : (x : Handle) (xs : List Handle) → entry (last_end (x ∷ xs)).user_key []
+    (last_end (x ∷ xs)).seqno Value ≡ last_entry (map end_of (x ∷ xs))
 unfolding last_of
 end_is x [] = refl
 end_is x (y ∷ ys) = end_is y ys
 
-tops_end : (v : TableVersion) (at : ℕ) (parts : List (List Handle)) → AreSomeParts parts → map end_of (index_tops v at parts) ≡ map (λ (p : List Handle). last_entry (map end_of p)) parts
+tops_end : (v : TableVersion) (at : ℕ) (parts : List (List Handle)) → AreSomeParts parts
+    → map end_of (index_tops v at parts) ≡ map (λ (p : List Handle). last_entry (map end_of p))
+    parts
 tops_end v at [] some = refl
 tops_end v at ([] ∷ ps) some = absurd (omega (arith, some.0))
-tops_end v at ((x ∷ xs) ∷ ps) some = rw (end_is x xs, tops_end v (at + (24 + length (handles_payload v (x ∷ xs)))) ps some.1) refl
+tops_end v at ((x ∷ xs) ∷ ps) some = rw (
+  end_is x xs,
+  tops_end v
+      (at + (24 + length (handles_payload v (x ∷ xs)))) ps some.1,
+) refl
 
-tops_strict : (v : TableVersion) (at : ℕ) (parts : List (List Handle)) → AreSomeParts parts → AreStrictHandles (joined_parts parts) → AreStrictHandles (index_tops v at parts)
-tops_strict v at parts some strict = subst IsStrict (sym (tops_end v at parts some)) (ends_strict end_of None parts some strict)
+tops_strict : (v : TableVersion) (at : ℕ) (parts : List (List Handle)) → AreSomeParts parts
+    → AreStrictHandles (joined_parts parts) → AreStrictHandles (index_tops v at parts)
+tops_strict v at parts some strict = subst IsStrict (sym (tops_end v at parts some))
+    (ends_strict end_of None parts some strict)
 
-last_spelled : (v : TableVersion) (x : Handle) (xs : List Handle) → AllByRecursion (IsSpellableHandle v) (x ∷ xs) → ((last_end (x ∷ xs)).seqno < 2 ^ 64) × (length (last_end (x ∷ xs)).user_key < key_limit v)
+last_spelled : (v : TableVersion) (x : Handle) (xs : List Handle)
+    → AllByRecursion (IsSpellableHandle v) (x ∷ xs)
+    → ((last_end (x ∷ xs)).seqno < 2 ^ 64) × (length (last_end (x ∷ xs)).user_key < key_limit v)
 unfolding last_of
 last_spelled v x [] h = ((h.0).number, (h.0).key_len)
 last_spelled v x (y ∷ ys) h = last_spelled v y ys h.1
 
-tops_spelled : (v : TableVersion) (at : ℕ) (parts : List (List Handle)) → AreSomeParts parts → AllByRecursion (IsSpellableHandle v) (joined_parts parts) → length (flat_map (handles_block v) parts) < 2 ^ 32 → at + length (flat_map (handles_block v) parts) < 2 ^ 64
+tops_spelled : (v : TableVersion) (at : ℕ) (parts : List (List Handle)) → AreSomeParts parts
+    → AllByRecursion (IsSpellableHandle v) (joined_parts parts)
+    → length (flat_map (handles_block v) parts) < 2 ^ 32
+    → at + length (flat_map (handles_block v) parts) < 2 ^ 64
     → AllByRecursion (IsSpellableHandle v) (index_tops v at parts)
 tops_spelled v at [] some spelled short within = tt
 tops_spelled v at ([] ∷ ps) some spelled short within = absurd (omega (arith, some.0))
@@ -85,12 +123,21 @@ tops_spelled v at ((x ∷ xs) ∷ ps) some spelled short within =
     let last = last_spelled v x xs (part_all (IsSpellableHandle v) [] p ps spelled) in
     let size = length-block v Index (handles_payload v p) in
     let whole = length-append (handles_block v p) (flat_map (handles_block v) ps) in
-    let others : AllByRecursion (IsSpellableHandle v) (joined_parts ps) = behind p (joined_parts ps) spelled in (
-      record { number = last.0; offset = omega (arith, within, whole); size = omega (arith, short, whole, size); key_len = last.1 },
-      tops_spelled v (at + (24 + length (handles_payload v p))) ps some.1 others (omega (arith, short, whole)) (omega (arith, within, whole, size)),
+    let others : AllByRecursion (IsSpellableHandle v) (joined_parts ps) =
+    behind p (joined_parts ps) spelled in (
+      record {
+        number = last.0;
+        offset = omega (arith, within, whole);
+        size =
+            omega (arith, short, whole, size);
+        key_len = last.1;
+      },
+      tops_spelled v (at + (24 + length (handles_payload v p))) ps some.1 others
+          (omega (arith, short, whole)) (omega (arith, within, whole, size)),
     )
   where
-    behind : (q hs : List Handle) → AllByRecursion (IsSpellableHandle v) (q ++ hs) → AllByRecursion (IsSpellableHandle v) hs
+    behind : (q hs : List Handle) → AllByRecursion (IsSpellableHandle v) (q ++ hs)
+        → AllByRecursion (IsSpellableHandle v) hs
     behind [] hs h = h
     behind (y ∷ q) hs h = behind q hs h.1
 
@@ -99,38 +146,71 @@ tops_spelled v at ((x ∷ xs) ∷ ps) some spelled short within =
 -- what a partition that a handle of the top level tells has: the first handle that reaches
 abbrev pub partition_told : List ℕ → List ℕ → ℕ → Option Handle → Result (Option Handle) Error
 partition_told body key bound None = Ok None
-partition_told body key bound (Some top) = load_told body top.offset top.size Index >>= λ b. Ok (find (reaches key bound) (handles_of b))
+partition_told body key bound (Some top) = load_told body top.offset top.size Index >>= λ b. Ok
+    (find (reaches key bound) (handles_of b))
 
-module _ (v : TableVersion) (at : ℕ) (parts : List (List Handle)) (some : AreSomeParts parts) (strict : AreStrictHandles (joined_parts parts)) (spelled : AllByRecursion (IsSpellableHandle v) (joined_parts parts))
+module _ (v : TableVersion) (at : ℕ) (parts : List (List Handle)) (some : AreSomeParts parts)
+    (strict : AreStrictHandles (joined_parts parts))
+    (spelled : AllByRecursion (IsSpellableHandle v) (joined_parts parts))
     (short : length (flat_map (handles_block v) parts) < 2 ^ 32) where
   -- the top level loads
-  pub tops_load : (pre post body : List ℕ) (offset size : ℕ) → at + length (flat_map (handles_block v) parts) < 2 ^ 64 → length (handles_block v (index_tops v at parts)) < 2 ^ 32
-      → offset ≡ length pre → size ≡ 24 + length (handles_payload v (index_tops v at parts)) → body ≡ pre ++ handles_block v (index_tops v at parts) ++ post → LoadsHandles body offset size (index_tops v at parts)
+  pub tops_load : (pre post body : List ℕ) (offset size : ℕ)
+      → at + length (flat_map (handles_block v) parts) < 2 ^ 64
+      → length (handles_block v (index_tops v at parts)) < 2 ^ 32
+      → offset ≡ length pre → size ≡ 24 + length (handles_payload v (index_tops v at parts))
+      → body ≡ pre ++ handles_block v (index_tops v at parts) ++ post
+      → LoadsHandles body offset size (index_tops v at parts)
   tops_load pre post body offset size within top_short from len e =
-      handles_load v (index_tops v at parts) pre post body offset size (tops_spelled v at parts some spelled short within) (tops_strict v at parts some strict) top_short from len e
+      handles_load v (index_tops v at parts) pre post body offset size
+      (tops_spelled v at parts some spelled short within)
+      (tops_strict v at parts some strict) top_short from len e
 
-  module _ (pre post body : List ℕ) (from : at ≡ length pre) (lies : body ≡ pre ++ (flat_map (handles_block v) parts ++ post)) where
+  module _ (pre post body : List ℕ) (from : at ≡ length pre)
+      (lies : body ≡ pre ++ (flat_map (handles_block v) parts ++ post)) where
     -- and so does each part
-    pub part_loads : (before : List (List Handle)) (part : List Handle) (behind : List (List Handle)) → parts ≡ before ++ part ∷ behind
-        → LoadsHandles body (at + length (flat_map (handles_block v) before)) (24 + length (handles_payload v part)) part
+    pub part_loads : (before : List (List Handle)) (part : List Handle)
+        (behind : List (List Handle)) → parts ≡ before ++ part ∷ behind
+        → LoadsHandles body (at + length (flat_map (handles_block v) before))
+        (24 + length (handles_payload v part)) part
     part_loads before part behind are =
         let b = handles_block v in
-        let all : AllByRecursion (IsSpellableHandle v) part = part_all (IsSpellableHandle v) before part behind (subst (λ (ps : List (List Handle)). AllByRecursion (IsSpellableHandle v) (joined_parts ps)) are spelled) in
-        let line : AreStrictHandles part = part_strict end_of None before part behind (subst (λ (ps : List (List Handle)). AreStrictHandles (joined_parts ps)) are strict) in
-        let cut : length (flat_map b parts) ≡ length (flat_map b before ++ (b part ++ flat_map b behind)) = ap length (ap (flat_map b) are ∙ flat_map-append b before (part ∷ behind)) in
-        handles_load v part (pre ++ flat_map b before) (flat_map b behind ++ post) body (at + length (flat_map b before)) (24 + length (handles_payload v part)) all line
-        (omega (arith, short, cut, length-append (flat_map b before) (b part ++ flat_map b behind), length-append (b part) (flat_map b behind)))
+        let all : AllByRecursion (IsSpellableHandle v) part =
+        part_all (IsSpellableHandle v) before part behind
+        (subst (λ (ps : List (List Handle)). AllByRecursion (IsSpellableHandle v)
+        (joined_parts ps)) are spelled) in
+        let line : AreStrictHandles part = part_strict end_of None before part behind
+        (subst (λ (ps : List (List Handle)). AreStrictHandles (joined_parts ps)) are strict) in
+        let cut : length (flat_map b parts) ≡ length
+        (flat_map b before ++ (b part ++ flat_map b behind)) =
+        ap length (ap (flat_map b) are ∙ flat_map-append b before (part ∷ behind)) in
+        handles_load v part (pre ++ flat_map b before) (flat_map b behind ++ post) body
+        (at + length (flat_map b before)) (24 + length (handles_payload v part)) all line
+        (omega (
+          arith,
+          short,
+          cut,
+          length-append (flat_map b before)
+              (b part ++ flat_map b behind),
+          length-append (b part) (flat_map b behind),
+        ))
         (omega (arith, from, length-append pre (flat_map b before))) refl
-        (lies ∙ ap (λ (ps : List (List Handle)). pre ++ (flat_map b ps ++ post)) are ∙ block_of b before part behind pre post)
+        (lies ∙ ap (λ (ps : List (List Handle)). pre ++ (flat_map b ps ++ post)) are
+        ∙ block_of b before part behind pre post)
 
-    by_part : (key : List ℕ) (bound : ℕ) (o : Option Handle) → ReadsPartBy v at parts key bound o → partition_told body key bound o ≡ Ok (find (reaches key bound) (joined_parts parts))
+    by_part : (key : List ℕ) (bound : ℕ) (o : Option Handle) → ReadsPartBy v at parts key bound o
+        → partition_told body key bound o ≡ Ok (find (reaches key bound) (joined_parts parts))
     by_part key bound None none = ap (λ (o : Option Handle). Ok o) (sym none)
     by_part key bound (Some top) r =
         let b = handles_block v in
         ap (λ (h : Handle). partition_told body key bound (Some h)) r.top_is
-        ∙ found_in body (at + length (flat_map b r.before)) (24 + length (handles_payload v r.part)) r.part (find (reaches key bound)) (part_loads r.before r.part r.behind r.parts_are)
+        ∙ found_in body (at + length (flat_map b r.before))
+        (24 + length (handles_payload v r.part)) r.part (find (reaches key bound))
+        (part_loads r.before r.part r.behind r.parts_are)
         ∙ ap (λ (o : Option Handle). Ok o) (sym r.answer)
 
     -- through the top level the first handle of all that reaches is found
-    pub parts_asked : (key : List ℕ) (bound : ℕ) → partition_told body key bound (find (reaches key bound) (index_tops v at parts)) ≡ Ok (find (reaches key bound) (joined_parts parts))
-    parts_asked key bound = by_part key bound (find (reaches key bound) (index_tops v at parts)) (part_read v at None parts key bound some strict)
+    pub parts_asked : (key : List ℕ) (bound : ℕ)
+        → partition_told body key bound (find (reaches key bound) (index_tops v at parts))
+        ≡ Ok (find (reaches key bound) (joined_parts parts))
+    parts_asked key bound = by_part key bound (find (reaches key bound) (index_tops v at parts))
+        (part_read v at None parts key bound some strict)

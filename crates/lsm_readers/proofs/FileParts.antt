@@ -1,9 +1,11 @@
 -- What the bytes of a table of a list are recovered to.
-use Rattle.std.proofs.Common.{◌≡◌, ℕ, ◌+◌, ◌-◌, ◌^◌, ◌<◌, Bool, cond, ltb, List, ◌++◌, length, refl, sym, ap, subst, ◌∙◌, append_assoc, length-append, arith, inl, inr}
+use Rattle.std.proofs.Common.{◌≡◌, ℕ, ◌+◌, ◌-◌, ◌^◌, ◌<◌, Bool, cond, ltb, List, ◌++◌, length, refl}
+use Rattle.std.proofs.Common.{sym, ap, subst, ◌∙◌, append_assoc, length-append, arith, inl, inr}
 use Rattle.std.specs.Prelude.{Option, None, Result, Ok, Err, map, unwrap_or}
 use Rattle.std.specs.List.{AllByRecursion}
 use Rattle.std.proofs.lemmas.Bool.{cases_Bool}
-use Rattle.sst_sections.specs.declared.section.SectionName.TheVariants.{Filter as FilterSection, FilterTli}
+use Rattle.sst_sections.specs.declared.section.SectionName.TheVariants.{Filter as FilterSection}
+use Rattle.sst_sections.specs.declared.section.SectionName.TheVariants.{FilterTli}
 use Rattle.sst_sections.specs.declared.version.TableVersion.{TableVersion}
 use Rattle.sst_sections.specs.Sections.{body_of, finished}
 use Rattle.sst_sections.proofs.SectionLaws.{finished_fine}
@@ -26,14 +28,21 @@ use Rattle.lsm_formats.specs.declared.options.Options.{Options}
 use Rattle.lsm_formats.proofs.KeyLaws.{key_end, keys_strict}
 use Rattle.lsm_readers.specs.declared.regions.ParsedRegions.{ParsedRegions}
 use Rattle.lsm_readers.specs.Meta.{Facts, facts_said, facts_told, meta_told}
-use Rattle.lsm_readers.specs.OfList.{filter_said, filter_tops_said, list_told, no_place, parts_said, pinned_said, place_from, regions_said}
+use Rattle.lsm_readers.specs.OfList.{filter_said, filter_tops_said, list_told, no_place, parts_said}
+use Rattle.lsm_readers.specs.OfList.{pinned_said, place_from, regions_said}
 use Rattle.lsm_readers.specs.IndexKinds.{index_said, index_told}
-use Rattle.lsm_readers.specs.Parts.{Parts, Pinned, filter_told, parts_told, pinned_filter, pinned_told, places_told, recovered_told, tops_told}
-use Rattle.lsm_readers.proofs.FileContent.{body_short, entries_fit, facts_fit, filter_within, first_short, handles_fit, handles_line, index_within, last_short, longest_below, meta_block_short, meta_short, whole}
+use Rattle.lsm_readers.specs.Parts.{Parts, Pinned, filter_told, parts_told, pinned_filter}
+use Rattle.lsm_readers.specs.Parts.{pinned_told, places_told, recovered_told, tops_told}
+use Rattle.lsm_readers.proofs.FileContent.{body_short, entries_fit, facts_fit, filter_within}
+use Rattle.lsm_readers.proofs.FileContent.{first_short, handles_fit, handles_line, index_within}
+use Rattle.lsm_readers.proofs.FileContent.{last_short, longest_below, meta_block_short, meta_short}
+use Rattle.lsm_readers.proofs.FileContent.{whole}
 use Rattle.lsm_readers.proofs.FileFilters.{KeyFits, keys_fit}
 use Rattle.lsm_readers.proofs.FileFilterKinds.{filter_here, tops_here}
 use Rattle.lsm_readers.proofs.FileIndexKinds.{index_here, top_place}
-use Rattle.lsm_readers.proofs.FileSections.{ascending, body_is, data_len, filter_at, filter_top_at, index_at, meta_items_read, regions_read, the_end, the_filter, the_index, the_items, top_at, written}
+use Rattle.lsm_readers.proofs.FileSections.{ascending, body_is, data_len, filter_at, filter_top_at}
+use Rattle.lsm_readers.proofs.FileSections.{index_at, meta_items_read, regions_read, the_end}
+use Rattle.lsm_readers.proofs.FileSections.{the_filter, the_index, the_items, top_at, written}
 use Rattle.lsm_readers.proofs.MetaBlocks.{meta_reads}
 use Rattle.lsm_readers.proofs.MetaReads.{facts_read, interval_read, written_facts}
 use Rattle.lsm_readers.proofs.Recovered.{Steps, steps}
@@ -43,14 +52,25 @@ ok_same (Ok x) a b p q = let pa : x ≡ a = cc in let qb : x ≡ b = cc in sym p
 ok_same (Err e) a b p q = absurd cc
 
 abbrev pub written_parts : TableVersion → Label → Options → Content → Bool → Bool → Parts
-written_parts v label options c pin_filter pin_index = record { facts = written_facts v label c.blocks (counted_blocks options c); regions = regions_said v label options c; pinned = pinned_said v options c pin_filter pin_index }
+written_parts v label options c pin_filter pin_index =
+    record {
+      facts = written_facts v label c.blocks (counted_blocks options c);
+      regions =
+          regions_said v label options c;
+      pinned = pinned_said v options c pin_filter pin_index;
+    }
 
 parts_eta : (p q : Parts) → p.facts ≡ q.facts → p.regions ≡ q.regions → p.pinned ≡ q.pinned → p ≡ q
 parts_eta p q f r i =
-    let made : Facts → ParsedRegions → Pinned → Parts = λ f r i. record { facts = f; regions = r; pinned = i } in
-    ap (λ (x : Facts). made x p.regions p.pinned) f ∙ ap (λ (x : ParsedRegions). made q.facts x p.pinned) r ∙ ap (λ (x : Pinned). made q.facts q.regions x) i
+    let made : Facts → ParsedRegions → Pinned → Parts =
+    λ f r i. record { facts = f; regions = r; pinned = i } in
+    ap (λ (x : Facts). made x p.regions p.pinned) f
+    ∙ ap (λ (x : ParsedRegions). made q.facts x p.pinned) r
+    ∙ ap (λ (x : Pinned). made q.facts q.regions x) i
 
-module _ (v : TableVersion) (label : Label) (options : Options) (spills : List ℕ) (es : List Entry) (c : Content) (is : IsContent v options spills es c) (fits : Fits v label options c) (strict : IsStrict es)
+module _ (v : TableVersion) (label : Label) (options : Options) (spills : List ℕ) (es : List Entry)
+    (c : Content) (is : IsContent v options spills es c) (fits : Fits v label options c)
+    (strict : IsStrict es)
     (short : length (finished (written v label options c)) < 2 ^ 63) where
   abbrev pub the_bytes : List ℕ
   the_bytes = finished (written v label options c)
@@ -72,23 +92,32 @@ module _ (v : TableVersion) (label : Label) (options : Options) (spills : List �
   abbrev pub behind_index : List ℕ
   behind_index = bytes_in (the_filter v label options c) ++ behind_filter
 
-  pub filter_lies : the_body ≡ before_filter ++ (bytes_in (the_filter v label options c) ++ behind_filter)
-  filter_lies = body_is v label options c ∙ sym (append_assoc (data_section v c.blocks) (bytes_in (the_index v label options c)) behind_index)
+  pub filter_lies : the_body ≡ before_filter ++ (bytes_in (the_filter v label options c)
+      ++ behind_filter)
+  filter_lies = body_is v label options c ∙ sym
+      (append_assoc (data_section v c.blocks) (bytes_in (the_index v label options c)) behind_index)
 
   -- the filter begins behind the front sections
   abbrev pub filter_start : ℕ
   filter_start = length (bytes_in (front_sections v options c))
 
-  filter_from : data_len v label options c + length (bytes_in (the_index v label options c)) ≡ filter_start
-  filter_from = sym (length-append (data_section v c.blocks) (bytes_in (the_index v label options c)))
+  filter_from : data_len v label options c + length (bytes_in (the_index v label options c))
+      ≡ filter_start
+  filter_from = sym (length-append (data_section v c.blocks)
+      (bytes_in (the_index v label options c)))
 
-  pub filter_place : regions.filter ≡ place_from filter_start (the_filter v label options c) FilterSection
-  filter_place = filter_at v label options c ∙ ap (λ (n : ℕ). place_from n (the_filter v label options c) FilterSection) filter_from
+  pub filter_place : regions.filter ≡ place_from filter_start
+      (the_filter v label options c) FilterSection
+  filter_place = filter_at v label options c ∙ ap
+      (λ (n : ℕ). place_from n (the_filter v label options c) FilterSection) filter_from
 
-  pub filter_top_place : regions.filter_tli ≡ place_from filter_start (the_filter v label options c) FilterTli
-  filter_top_place = filter_top_at v label options c ∙ ap (λ (n : ℕ). place_from n (the_filter v label options c) FilterTli) filter_from
+  pub filter_top_place : regions.filter_tli ≡ place_from filter_start
+      (the_filter v label options c) FilterTli
+  filter_top_place = filter_top_at v label options c
+      ∙ ap (λ (n : ℕ). place_from n (the_filter v label options c) FilterTli) filter_from
 
-  pub tli_place : regions.tli ≡ top_place options.index_kind v (length (data_section v c.blocks)) (handles v c.blocks) c.index
+  pub tli_place : regions.tli ≡ top_place options.index_kind v (length (data_section v c.blocks))
+      (handles v c.blocks) c.index
   tli_place = ap (λ (o : Option Place). unwrap_or o no_place) (top_at v label options c)
 
   pub keys_line : IsStrict (map key_end (keys_of es))
@@ -100,7 +129,10 @@ module _ (v : TableVersion) (label : Label) (options : Options) (spills : List �
   -- ---- what is told
 
   regions_here : places_told the_bytes ≡ Ok regions
-  regions_here = regions_read v label options c (let small = body_short v label options spills es c is fits strict short in omega (arith, small)) fits.index fits.filter (meta_block_short v label options spills es c is fits strict short)
+  regions_here = regions_read v label options c
+      (let small = body_short v label options spills es c is fits strict short in
+      omega (arith, small)) fits.index fits.filter
+      (meta_block_short v label options spills es c is fits strict short)
 
   items_here : meta_told the_body regions.metadata ≡ facts_told (the_items v label options c)
   items_here =
@@ -108,71 +140,123 @@ module _ (v : TableVersion) (label : Label) (options : Options) (spills : List �
       let small = meta_short v label options spills es c is fits strict short in
       let first = first_short v (joined c.blocks) fits.entries in
       let last = last_short v (joined c.blocks) fits.entries in
-      meta_items_read v label options c (omega (arith, small)) (meta_reads v label options c.blocks (counted_blocks options c) (omega (arith, first, key)) (omega (arith, last, key)))
+      meta_items_read v label options c (omega (arith, small))
+      (meta_reads v label options c.blocks (counted_blocks options c)
+      (omega (arith, first, key)) (omega (arith, last, key)))
 
-  facts_here : options.index_block_restart_interval ≡ 1 → meta_told the_body regions.metadata ≡ Ok (written_facts v label c.blocks (counted_blocks options c))
-  facts_here one = items_here ∙ facts_read v label options c.blocks (counted_blocks options c) (facts_fit v label options spills es c is fits strict short one)
+  facts_here : options.index_block_restart_interval ≡ 1
+      → meta_told the_body regions.metadata ≡ Ok (written_facts v label c.blocks
+      (counted_blocks options c))
+  facts_here one = items_here ∙ facts_read v label options c.blocks (counted_blocks options c)
+      (facts_fit v label options spills es c is fits strict short one)
 
-  index_told_here : (pin : Bool) → index_told the_body regions pin ≡ Ok (index_said options.index_kind v (length (data_section v c.blocks)) (handles v c.blocks) c.index pin)
+  index_told_here : (pin : Bool) → index_told the_body regions pin
+      ≡ Ok (index_said options.index_kind v (length (data_section v c.blocks))
+      (handles v c.blocks) c.index pin)
   index_told_here pin =
-      index_here v (length (data_section v c.blocks)) (handles v c.blocks) c.index (handles_line v label options spills es c is fits strict short) (handles_fit v label options spills es c is fits strict short)
-      (data_section v c.blocks) behind_index the_body refl options.index_kind regions pin is.index fits.index (index_within v label options spills es c is fits strict short) (body_is v label options c) (index_at v label options c) tli_place
+      index_here v (length (data_section v c.blocks)) (handles v c.blocks) c.index
+      (handles_line v label options spills es c is fits strict short)
+      (handles_fit v label options spills es c is fits strict short)
+      (data_section v c.blocks) behind_index the_body refl options.index_kind regions pin is.index
+      fits.index (index_within v label options spills es c is fits strict short)
+      (body_is v label options c) (index_at v label options c) tli_place
 
-  tops_told_here : tops_told the_body regions.filter_tli ≡ Ok (filter_tops_said options.filter_kind filter_start c.keys c.filters)
+  tops_told_here : tops_told the_body regions.filter_tli
+      ≡ Ok (filter_tops_said options.filter_kind filter_start c.keys c.filters)
   tops_told_here =
       let room = filter_within v label options spills es c is fits strict short in
-      tops_here v options.bloom_policy es filter_start before_filter behind_filter the_body refl keys_line keys_short options.filter_kind c.keys c.filters regions is.keys is.filters fits.filter (omega (arith, room, filter_from)) filter_lies filter_top_place
+      tops_here v options.bloom_policy es filter_start before_filter behind_filter the_body refl
+      keys_line keys_short options.filter_kind c.keys c.filters regions is.keys is.filters
+      fits.filter (omega (arith, room, filter_from)) filter_lies filter_top_place
 
-  filter_told_here : (pin : Bool) → filter_told the_body (pinned_filter regions pin) ≡ Ok (filter_said options.filter_kind c.filters pin)
+  filter_told_here : (pin : Bool) → filter_told the_body (pinned_filter regions pin)
+      ≡ Ok (filter_said options.filter_kind c.filters pin)
   filter_told_here pin =
-      filter_here v options.bloom_policy es filter_start before_filter behind_filter the_body refl keys_line keys_short options.filter_kind c.keys c.filters regions pin is.keys is.filters fits.filter filter_lies filter_top_place filter_place
+      filter_here v options.bloom_policy es filter_start before_filter behind_filter the_body refl
+      keys_line keys_short options.filter_kind c.keys c.filters regions pin is.keys is.filters
+      fits.filter filter_lies filter_top_place filter_place
 
-  pinned_here : (pin_filter pin_index : Bool) → pinned_told the_body regions pin_filter pin_index ≡ Ok (pinned_said v options c pin_filter pin_index)
+  pinned_here : (pin_filter pin_index : Bool) → pinned_told the_body regions pin_filter pin_index
+      ≡ Ok (pinned_said v options c pin_filter pin_index)
   unfolding pinned_told
-  pinned_here pin_filter pin_index = rw (index_told_here pin_index, tops_told_here, filter_told_here pin_filter) refl
+  pinned_here pin_filter pin_index = rw (
+    index_told_here pin_index,
+    tops_told_here,
+    filter_told_here
+        pin_filter,
+  ) refl
 
   -- the table is recovered where the global number fits
-  pub written_recovers : (g : ℕ) (pin_filter pin_index : Bool) → options.index_block_restart_interval ≡ 1 → recovered_told the_bytes g pin_filter pin_index ≡ cond (ltb (2 ^ 64 - 1) (highest_seqno (joined c.blocks) + g)) (Err GlobalSeqNoTooLarge) (Ok (written_parts v label options c pin_filter pin_index))
+  pub written_recovers : (g : ℕ) (pin_filter pin_index : Bool)
+      → options.index_block_restart_interval ≡ 1 → recovered_told the_bytes g pin_filter pin_index
+      ≡ cond (ltb (2 ^ 64 - 1) (highest_seqno (joined c.blocks) + g)) (Err GlobalSeqNoTooLarge)
+      (Ok (written_parts v label options c pin_filter pin_index))
   unfolding parts_told
   written_recovers g pin_filter pin_index one =
       let small = body_short v label options spills es c is fits strict short in
-      let fine = finished_fine (written v label options c) (omega (arith, small)) (ascending v label options c) in
+      let fine = finished_fine (written v label options c) (omega (arith, small))
+      (ascending v label options c) in
       elim (cases_Bool (ltb (2 ^ 64 - 1) (highest_seqno (joined c.blocks) + g))) [
         | inl large ↦ rw (fine, regions_here, facts_here one, large) refl
-        | inr below ↦ rw (fine, regions_here, facts_here one, below, pinned_here pin_filter pin_index) refl
+        | inr below ↦ rw (
+          fine,
+          regions_here,
+          facts_here one,
+          below,
+          pinned_here pin_filter
+              pin_index,
+        ) refl
       ]
 
-  module _ (g : ℕ) (pin_filter pin_index : Bool) (parts : Parts) (told : recovered_told (finished (written v label options c)) g pin_filter pin_index ≡ Ok parts) where
+  module _ (g : ℕ) (pin_filter pin_index : Bool) (parts : Parts)
+      (told : recovered_told (finished (written v label options c)) g pin_filter pin_index
+      ≡ Ok parts) where
     the_steps : Steps the_bytes g pin_filter pin_index parts
     the_steps = steps the_bytes g pin_filter pin_index parts told
 
     regions_are : parts.regions ≡ regions
-    regions_are = ok_same (places_told the_bytes) parts.regions regions (the_steps.regions) regions_here
+    regions_are = ok_same (places_told the_bytes) parts.regions regions
+        (the_steps.regions) regions_here
 
     items_told : meta_told the_body regions.metadata ≡ Ok parts.facts
-    items_told = ap (λ (r : ParsedRegions). meta_told the_body r.metadata) (sym regions_are) ∙ the_steps.facts
+    items_told = ap (λ (r : ParsedRegions). meta_told the_body r.metadata) (sym regions_are)
+        ∙ the_steps.facts
 
     interval_is : options.index_block_restart_interval ≡ 1
-    interval_is = interval_read v label options c.blocks (counted_blocks options c) parts.facts (sym items_here ∙ items_told)
+    interval_is = interval_read v label options c.blocks (counted_blocks options c) parts.facts
+        (sym items_here ∙ items_told)
 
     pub facts_are : parts.facts ≡ written_facts v label c.blocks (counted_blocks options c)
-    facts_are = ok_same (meta_told the_body regions.metadata) parts.facts (written_facts v label c.blocks (counted_blocks options c)) items_told (facts_here interval_is)
+    facts_are = ok_same (meta_told the_body regions.metadata) parts.facts
+        (written_facts v label c.blocks (counted_blocks options c)) items_told
+        (facts_here interval_is)
 
     pinned_is : parts.pinned ≡ pinned_said v options c pin_filter pin_index
     pinned_is =
-        let e = ap (λ (r : ParsedRegions). pinned_told the_body r pin_filter pin_index) regions_are in
-        ok_same (pinned_told the_body parts.regions pin_filter pin_index) parts.pinned (pinned_said v options c pin_filter pin_index) (the_steps.pinned) (e ∙ pinned_here pin_filter pin_index)
+        let e = ap (λ (r : ParsedRegions). pinned_told the_body r pin_filter pin_index)
+        regions_are in
+        ok_same (pinned_told the_body parts.regions pin_filter pin_index) parts.pinned
+        (pinned_said v options c pin_filter pin_index) (the_steps.pinned)
+        (e ∙ pinned_here pin_filter pin_index)
 
     pub parts_are : parts ≡ written_parts v label options c pin_filter pin_index
-    parts_are = parts_eta parts (written_parts v label options c pin_filter pin_index) facts_are regions_are pinned_is
+    parts_are = parts_eta parts (written_parts v label options c pin_filter pin_index) facts_are
+        regions_are pinned_is
 
 -- ---- a table of a list
 
 abbrev parts_by : TableVersion → Label → Options → Content → Bool → Bool → List Entry → Parts
 parts_by v label options c pin_filter pin_index es =
-    record { facts = facts_said v label es (length c.blocks) (length c.index) (length (data_section v c.blocks)); regions = regions_said v label options c; pinned = pinned_said v options c pin_filter pin_index }
+    record {
+      facts = facts_said v label es (length c.blocks) (length c.index)
+          (length (data_section v c.blocks));
+      regions = regions_said v label options c;
+      pinned =
+          pinned_said v options c pin_filter pin_index;
+    }
 
-module _ (stored : List ℕ) (es : List Entry) (t : IsTable stored es) (short : length stored < 2 ^ 63) where
+module _ (stored : List ℕ) (es : List Entry) (t : IsTable stored es)
+    (short : length stored < 2 ^ 63) where
   abbrev c : Content
   c = (t.file).content
 
@@ -182,20 +266,35 @@ module _ (stored : List ℕ) (es : List Entry) (t : IsTable stored es) (short : 
   list_whole : joined c.blocks ≡ es
   list_whole = whole t.version t.label t.options t.spills es c t.file.is t.fits t.strict short_file
 
-  by_list : (pin_filter pin_index : Bool) → written_parts t.version t.label t.options c pin_filter pin_index ≡ parts_said t pin_filter pin_index
-  by_list pin_filter pin_index = ap (parts_by t.version t.label t.options c pin_filter pin_index) list_whole
+  by_list : (pin_filter pin_index : Bool) → written_parts t.version t.label t.options c pin_filter
+      pin_index ≡ parts_said t pin_filter pin_index
+  by_list pin_filter pin_index = ap (parts_by t.version t.label t.options c pin_filter pin_index)
+      list_whole
 
-  pub told_file : (g : ℕ) (pin_filter pin_index : Bool) (parts : Parts) → recovered_told stored g pin_filter pin_index ≡ Ok parts → recovered_told (finished (written t.version t.label t.options c)) g pin_filter pin_index ≡ Ok parts
-  told_file g pin_filter pin_index parts told = subst (λ (b : List ℕ). recovered_told b g pin_filter pin_index ≡ Ok parts) t.file.are told
+  pub told_file : (g : ℕ) (pin_filter pin_index : Bool) (parts : Parts)
+      → recovered_told stored g pin_filter pin_index ≡ Ok parts
+      → recovered_told (finished (written t.version t.label t.options c)) g pin_filter pin_index
+      ≡ Ok parts
+  told_file g pin_filter pin_index parts told =
+      subst (λ (b : List ℕ). recovered_told b g pin_filter pin_index ≡ Ok parts) t.file.are told
 
   -- what is recovered is what the list says
-  pub table_parts : (g : ℕ) (pin_filter pin_index : Bool) (parts : Parts) → recovered_told stored g pin_filter pin_index ≡ Ok parts → parts ≡ parts_said t pin_filter pin_index
+  pub table_parts : (g : ℕ) (pin_filter pin_index : Bool) (parts : Parts)
+      → recovered_told stored g pin_filter pin_index ≡ Ok parts
+      → parts ≡ parts_said t pin_filter pin_index
   table_parts g pin_filter pin_index parts told =
-      parts_are t.version t.label t.options t.spills es c t.file.is t.fits t.strict short_file g pin_filter pin_index parts (told_file g pin_filter pin_index parts told) ∙ by_list pin_filter pin_index
+      parts_are t.version t.label t.options t.spills es c t.file.is t.fits t.strict short_file g
+      pin_filter pin_index parts (told_file g pin_filter pin_index parts told)
+      ∙ by_list pin_filter pin_index
 
   -- what opening it tells
-  pub table_told : (g : ℕ) (pin_filter pin_index : Bool) → t.options.index_block_restart_interval ≡ 1 → recovered_told stored g pin_filter pin_index ≡ list_told t g pin_filter pin_index
+  pub table_told : (g : ℕ) (pin_filter pin_index : Bool)
+      → t.options.index_block_restart_interval ≡ 1
+      → recovered_told stored g pin_filter pin_index ≡ list_told t g pin_filter pin_index
   table_told g pin_filter pin_index one =
       ap (λ (b : List ℕ). recovered_told b g pin_filter pin_index) t.file.are
-      ∙ written_recovers t.version t.label t.options t.spills es c t.file.is t.fits t.strict short_file g pin_filter pin_index one
-      ∙ ap (λ (xs : List Entry). cond (ltb (2 ^ 64 - 1) (highest_seqno xs + g)) (Err GlobalSeqNoTooLarge) (Ok (parts_by t.version t.label t.options c pin_filter pin_index xs))) list_whole
+      ∙ written_recovers t.version t.label t.options t.spills es c t.file.is t.fits t.strict
+      short_file g pin_filter pin_index one
+      ∙ ap (λ (xs : List Entry). cond (ltb (2 ^ 64 - 1) (highest_seqno xs + g))
+      (Err GlobalSeqNoTooLarge) (Ok (parts_by t.version t.label t.options c pin_filter pin_index
+      xs))) list_whole

@@ -1,5 +1,6 @@
 -- The index of a table of a list has the window of its handles, whatever of it stays loaded.
-use Rattle.std.proofs.Common.{◌≡◌, ℕ, ◌+◌, ◌^◌, ◌<◌, Bool, true, false, List, [], ◌∷◌, ◌++◌, length, map, refl, sym, ap, subst, ◌∙◌, append_assoc, length-append, arith}
+use Rattle.std.proofs.Common.{◌≡◌, ℕ, ◌+◌, ◌^◌, ◌<◌, Bool, true, false, List, [], ◌∷◌, ◌++◌, length}
+use Rattle.std.proofs.Common.{map, refl, sym, ap, subst, ◌∙◌, append_assoc, length-append, arith}
 use Rattle.std.specs.Prelude.{Option, Some, None, Result, Ok}
 use Rattle.std.specs.List.{AllByRecursion, flat_map}
 use Rattle.std.proofs.lemmas.List.{map-append}
@@ -14,7 +15,9 @@ use Rattle.sst_entries.proofs.Booleans.{apart, is_false}
 use Rattle.sst_entries.proofs.OrderLemmas.{before_trans}
 use Rattle.sst_blocks.specs.declared.block_type.BlockType.TheVariants.{Index}
 use Rattle.sst_blocks.specs.Handle.{Handle}
-use Rattle.sst_blocks.specs.Handles.{AreStrictHandles, IsSpellableHandle, end_of, from_edge, from_first, handles_payload, is_above, reaches, to_edge, up_to_first, window}
+use Rattle.sst_blocks.specs.Handles.{AreStrictHandles, IsSpellableHandle, end_of, from_edge}
+use Rattle.sst_blocks.specs.Handles.{from_first, handles_payload, is_above, reaches, to_edge}
+use Rattle.sst_blocks.specs.Handles.{up_to_first, window}
 use Rattle.sst_blocks.specs.Place.{Place, place_of}
 use Rattle.sst_blocks.proofs.Reaching.{above_reaches, reaches_after}
 use Rattle.lsm_formats.proofs.BlockLengths.{length-block}
@@ -37,14 +40,18 @@ reach_edge : (key : List ℕ) (bound : ℕ) → IsEdge (reaches key bound)
 reach_edge key bound =
     let read = entry key [] bound Value in
     record {
-      upward = λ a b lt hit. reaches_after key bound b ∙ before_trans read (end_of a) (end_of b) (sym (reaches_after key bound a) ∙ hit) lt;
-      by_end = λ a b same. reaches_after key bound a ∙ ap (is_before read) same ∙ sym (reaches_after key bound b);
+      upward = λ a b lt hit. reaches_after key bound b
+          ∙ before_trans read (end_of a) (end_of b) (sym (reaches_after key bound a) ∙ hit) lt;
+      by_end = λ a b same. reaches_after key bound a ∙ ap (is_before read) same
+          ∙ sym (reaches_after key bound b);
     }
 
 above_edge : (key : List ℕ) → IsEdge (is_above key)
 above_edge key = record {
-  upward = λ a b lt hit. above_reaches key b ∙ (reach_edge key 0).upward a b lt (sym (above_reaches key a) ∙ hit);
-  by_end = λ a b same. above_reaches key a ∙ (reach_edge key 0).by_end a b same ∙ sym (above_reaches key b);
+  upward = λ a b lt hit. above_reaches key b ∙ (reach_edge key 0).upward a b lt
+      (sym (above_reaches key a) ∙ hit);
+  by_end = λ a b same. above_reaches key a ∙ (reach_edge key 0).by_end a b same
+      ∙ sym (above_reaches key b);
 }
 
 abbrev pub from_test : Option (List ℕ × ℕ) → Handle → Bool
@@ -63,7 +70,8 @@ to_is_edge : (hi : Option (List ℕ)) → IsEdge (to_test hi)
 to_is_edge None = record { upward = λ a b lt hit. hit; by_end = λ a b same. refl }
 to_is_edge (Some key) = above_edge key
 
-from_is : (lo : Option (List ℕ × ℕ)) (hs : List Handle) → from_edge lo hs ≡ from_first (from_test lo) hs
+from_is : (lo : Option (List ℕ × ℕ)) (hs : List Handle)
+    → from_edge lo hs ≡ from_first (from_test lo) hs
 from_is None [] = refl
 from_is None (h ∷ hs) = refl
 from_is (Some edge) hs = refl
@@ -74,93 +82,141 @@ to_is None (h ∷ hs) = ap (λ (xs : List Handle). h ∷ xs) (to_is None hs)
 to_is (Some key) hs = refl
 
 -- a window is cut by the two tests
-pub window_is : (hs : List Handle) (lo : Option (List ℕ × ℕ)) (hi : Option (List ℕ)) → window hs lo hi ≡ from_first (from_test lo) (up_to_first (to_test hi) hs)
+pub window_is : (hs : List Handle) (lo : Option (List ℕ × ℕ)) (hi : Option (List ℕ))
+    → window hs lo hi ≡ from_first (from_test lo) (up_to_first (to_test hi) hs)
 window_is hs lo hi = from_is lo (to_edge hi hs) ∙ ap (from_first (from_test lo)) (to_is hi hs)
 
 -- ---- strict handles
 
-end_is : (x : Handle) (xs : List Handle) → entry (last_end (x ∷ xs)).user_key [] (last_end (x ∷ xs)).seqno Value ≡ last_end (x ∷ xs)
+end_is : (x : Handle) (xs : List Handle) → entry (last_end (x ∷ xs)).user_key []
+    (last_end (x ∷ xs)).seqno Value ≡ last_end (x ∷ xs)
 unfolding last_of
 end_is x [] = refl
 end_is x (y ∷ ys) = end_is y ys
 
-split : (last : Option Entry) (part : List Handle) (parts : List (List Handle)) → IsStrictAfter last (map end_of (joined_parts (part ∷ parts))) → IsStrictAfter last (map end_of part ++ map end_of (joined_parts parts))
-split last part parts h = subst (λ (es : List Entry). IsStrictAfter last es) (map-append end_of part (joined_parts parts)) h
+split : (last : Option Entry) (part : List Handle) (parts : List (List Handle))
+    → IsStrictAfter last (map end_of (joined_parts (part ∷ parts)))
+    → IsStrictAfter last (map end_of part ++ map end_of (joined_parts parts))
+split last part parts h = subst (λ (es : List Entry). IsStrictAfter last es)
+    (map-append end_of part (joined_parts parts)) h
 
 module _ (p : Handle → Bool) (edge : IsEdge p) where
-  behind : (x : Handle) (xs : List Handle) → IsStrictAfter (Some (end_of x)) (map end_of xs) → p x ≡ true → AllByRecursion (λ y. p y ≡ true) xs
+  behind : (x : Handle) (xs : List Handle) → IsStrictAfter (Some (end_of x)) (map end_of xs)
+      → p x ≡ true → AllByRecursion (λ y. p y ≡ true) xs
   unfolding IsStrictAfter
   behind x [] strict hit = tt
-  behind x (y ∷ ys) strict hit = let here = edge.upward x y strict.0 hit in (here, behind y ys strict.1 here)
+  behind x (y ∷ ys) strict hit = let here = edge.upward x y strict.0 hit in
+      (here, behind y ys strict.1 here)
 
   rises : (last : Option Entry) (hs : List Handle) → IsStrictAfter last (map end_of hs) → Rises p hs
   unfolding IsStrictAfter
   rises last [] strict = tt
   rises last (x ∷ xs) strict = (behind x xs strict.1, rises (Some (end_of x)) xs strict.1)
 
-  none_pass : (last : Option Entry) (top x : Handle) (xs : List Handle) → end_of top ≡ last_end (x ∷ xs) → IsStrictAfter last (map end_of (x ∷ xs)) → p top ≡ false → AllByRecursion (λ y. p y ≡ false) (x ∷ xs)
+  none_pass : (last : Option Entry) (top x : Handle) (xs : List Handle)
+      → end_of top ≡ last_end (x ∷ xs) → IsStrictAfter last (map end_of (x ∷ xs)) → p top ≡ false
+      → AllByRecursion (λ y. p y ≡ false) (x ∷ xs)
   unfolding IsStrictAfter last_of
   none_pass last top x [] ends strict early = (sym (edge.by_end top x ends) ∙ early, tt)
   none_pass last top x (y ∷ ys) ends strict early =
-      let more : AllByRecursion (λ y. p y ≡ false) (y ∷ ys) = none_pass (Some (end_of x)) top y ys ends strict.1 early in
+      let more : AllByRecursion (λ y. p y ≡ false) (y ∷ ys) =
+      none_pass (Some (end_of x)) top y ys ends strict.1 early in
       (is_false (p x) (λ hit. apart (p y) (edge.upward x y strict.1.0 hit) more.0), more)
 
-  some_pass : (top x : Handle) (xs rest : List Handle) → end_of top ≡ last_end (x ∷ xs) → p top ≡ true → up_to_first p ((x ∷ xs) ++ rest) ≡ up_to_first p (x ∷ xs)
+  some_pass : (top x : Handle) (xs rest : List Handle) → end_of top ≡ last_end (x ∷ xs)
+      → p top ≡ true → up_to_first p ((x ∷ xs) ++ rest) ≡ up_to_first p (x ∷ xs)
   unfolding last_of
   some_pass top x [] rest ends hit =
       let here : p x ≡ true = sym (edge.by_end top x ends) ∙ hit in
       to_here p x rest here ∙ sym (to_here p x [] here)
   some_pass top x (y ∷ ys) rest ends hit =
-      elim (p x) as (λ b. p x ≡ b → up_to_first p ((x ∷ y ∷ ys) ++ rest) ≡ up_to_first p (x ∷ y ∷ ys)) [
+      elim (p x) as (λ b. p x ≡ b → up_to_first p ((x ∷ y ∷ ys) ++ rest)
+      ≡ up_to_first p (x ∷ y ∷ ys)) [
         | true ↦ λ t. to_here p x ((y ∷ ys) ++ rest) t ∙ sym (to_here p x (y ∷ ys) t)
-        | false ↦ λ f. to_later p x ((y ∷ ys) ++ rest) f ∙ ap (λ (hs : List Handle). x ∷ hs) (some_pass top y ys rest ends hit) ∙ sym (to_later p x (y ∷ ys) f)
+        | false ↦ λ f. to_later p x ((y ∷ ys) ++ rest) f
+            ∙ ap (λ (hs : List Handle). x ∷ hs) (some_pass top y ys rest ends hit)
+            ∙ sym (to_later p x (y ∷ ys) f)
       ] refl
 
   -- a handle of the top level tells of its part
-  tell : (last : Option Entry) (top x : Handle) (xs : List Handle) → end_of top ≡ last_end (x ∷ xs) → IsStrictAfter last (map end_of (x ∷ xs)) → Tells p top (x ∷ xs)
-  tell last top x xs ends strict = record { none = none_pass last top x xs ends strict; some = λ hit rest. some_pass top x xs rest ends hit }
+  tell : (last : Option Entry) (top x : Handle) (xs : List Handle) → end_of top ≡ last_end (x ∷ xs)
+      → IsStrictAfter last (map end_of (x ∷ xs)) → Tells p top (x ∷ xs)
+  tell last top x xs ends strict = record {
+    none = none_pass last top x xs ends strict;
+    some =
+        λ hit rest. some_pass top x xs rest ends hit;
+  }
 
-  tells : (v : TableVersion) (at : ℕ) (last : Option Entry) (parts : List (List Handle)) → AreSomeParts parts → IsStrictAfter last (map end_of (joined_parts parts)) → AllTell p (index_tops v at parts) parts
+  tells : (v : TableVersion) (at : ℕ) (last : Option Entry) (parts : List (List Handle))
+      → AreSomeParts parts → IsStrictAfter last (map end_of (joined_parts parts))
+      → AllTell p (index_tops v at parts) parts
   tells v at last [] some strict = tt
   tells v at last ([] ∷ ps) some strict = absurd (omega (arith, some.0))
   tells v at last ((x ∷ xs) ∷ ps) some strict =
       let part = x ∷ xs in
       let whole = split last part ps strict in (
-        tell last (top_at v at part) x xs (end_is x xs) (strict_front last (map end_of part) (map end_of (joined_parts ps)) whole),
-        tells v (at + (24 + length (handles_payload v part))) (last_of last (map end_of part)) ps some.1 (strict_after last (map end_of part) (map end_of (joined_parts ps)) whole),
+        tell last (top_at v at part) x xs (end_is x xs)
+            (strict_front last (map end_of part) (map end_of (joined_parts ps)) whole),
+        tells v (at + (24 + length (handles_payload v part)))
+            (last_of last (map end_of part)) ps some.1
+            (strict_after last (map end_of part) (map end_of (joined_parts ps)) whole),
       )
 
 -- ---- what a block and what partitions have between the edges
 
-pub between_here : (body : List ℕ) (place : Place) (hs : List Handle) (lo : Option (List ℕ × ℕ)) (hi : Option (List ℕ)) → LoadsHandles body place.offset place.size hs → block_between body lo hi place ≡ ok_results (window hs lo hi)
+pub between_here : (body : List ℕ) (place : Place) (hs : List Handle) (lo : Option (List ℕ × ℕ))
+    (hi : Option (List ℕ)) → LoadsHandles body place.offset place.size hs
+    → block_between body lo hi place ≡ ok_results (window hs lo hi)
 between_here body place hs lo hi l = rw (l.loads, l.handles) refl
 
-module _ (v : TableVersion) (at : ℕ) (parts : List (List Handle)) (some : AreSomeParts parts) (strict : AreStrictHandles (joined_parts parts)) (spelled : AllByRecursion (IsSpellableHandle v) (joined_parts parts))
-    (short : length (flat_map (handles_block v) parts) < 2 ^ 32) (pre post body : List ℕ) (from : at ≡ length pre) (lies : body ≡ pre ++ (flat_map (handles_block v) parts ++ post)) (lo : Option (List ℕ × ℕ)) (hi : Option (List ℕ)) where
+module _ (v : TableVersion) (at : ℕ) (parts : List (List Handle)) (some : AreSomeParts parts)
+    (strict : AreStrictHandles (joined_parts parts))
+    (spelled : AllByRecursion (IsSpellableHandle v) (joined_parts parts))
+    (short : length (flat_map (handles_block v) parts) < 2 ^ 32) (pre post body : List ℕ)
+    (from : at ≡ length pre) (lies : body ≡ pre ++ (flat_map (handles_block v) parts ++ post))
+    (lo : Option (List ℕ × ℕ)) (hi : Option (List ℕ)) where
   abbrev result : Handle → Result Handle Error
   result h = Ok h
 
   abbrev results : Handle → List (Result Handle Error)
   results top = block_between body lo hi (place_of top)
 
-  cuts : (before behind : List (List Handle)) → parts ≡ before ++ behind → AllCut (from_test lo) (to_test hi) result results (index_tops v (at + length (flat_map (handles_block v) before)) behind) behind
+  cuts : (before behind : List (List Handle)) → parts ≡ before ++ behind
+      → AllCut (from_test lo) (to_test hi) result results
+      (index_tops v (at + length (flat_map (handles_block v) before)) behind) behind
   cuts before [] are = tt
   cuts before (part ∷ behind) are =
       let n = at + length (flat_map (handles_block v) before) in
       let front = before ++ part ∷ [] in
-      let next : at + length (flat_map (handles_block v) front) ≡ n + (24 + length (handles_payload v part)) =
-      omega (arith, ap length (flat_map-append (handles_block v) before (part ∷ [])), length-append (flat_map (handles_block v) before) (handles_block v part ++ []), length-append {A = ℕ} (handles_block v part) [], length-block v Index (handles_payload v part)) in
+      let next : at + length (flat_map (handles_block v) front)
+      ≡ n + (24 + length (handles_payload v part)) =
+      omega (
+        arith,
+        ap length (flat_map-append (handles_block v) before (part ∷ [])),
+        length-append
+            (flat_map (handles_block v) before) (handles_block v part ++ []),
+        length-append {A = ℕ}
+            (handles_block v part) [],
+        length-block v Index (handles_payload v part),
+      ) in
       let more = cuts front behind (are ∙ sym (append_assoc before (part ∷ []) behind)) in (
-        between_here body (place_of (top_at v n part)) part lo hi (part_loads v at parts some strict spelled short pre post body from lies before part behind are) ∙ ap (map result) (window_is part lo hi),
-        subst (λ (m : ℕ). AllCut (from_test lo) (to_test hi) result results (index_tops v m behind) behind) next more,
+        between_here body (place_of (top_at v n part)) part lo hi
+            (part_loads v at parts some strict spelled short pre post body from lies before part
+            behind are) ∙ ap (map result) (window_is part lo hi),
+        subst (λ (m : ℕ). AllCut (from_test lo) (to_test hi) result results
+            (index_tops v m behind) behind) next more,
       )
 
-  pub parts_window : parts_between body lo hi (window (index_tops v at parts) lo hi) ≡ ok_results (window (joined_parts parts) lo hi)
+  pub parts_window : parts_between body lo hi (window (index_tops v at parts) lo hi)
+      ≡ ok_results (window (joined_parts parts) lo hi)
   parts_window =
       let tops = index_tops v at parts in
       let start : at + 0 ≡ at = omega arith in
-      let all = subst (λ (m : ℕ). AllCut (from_test lo) (to_test hi) result results (index_tops v m parts) parts) start (cuts [] parts refl) in
+      let all = subst (λ (m : ℕ). AllCut (from_test lo) (to_test hi) result results
+      (index_tops v m parts) parts) start (cuts [] parts refl) in
       ap (flat_map results) (window_is tops lo hi)
-      ∙ parts_cut (from_test lo) (to_test hi) result results tops parts (tells (from_test lo) (from_is_edge lo) v at None parts some strict) (tells (to_test hi) (to_is_edge hi) v at None parts some strict) all
+      ∙ parts_cut (from_test lo) (to_test hi) result results tops parts
+      (tells (from_test lo) (from_is_edge lo) v at None parts some strict)
+      (tells (to_test hi) (to_is_edge hi) v at None parts some strict) all
       (rises (from_test lo) (from_is_edge lo) None (joined_parts parts) strict)
       ∙ ap (map result) (sym (window_is (joined_parts parts) lo hi))

@@ -11,9 +11,12 @@ use Rattle.lsm_readers.specs.Table.{IsOpen, OpenTable}
 use Rattle.lsm_readers.proofs.FilePoints.{file_answers}
 use Rattle.lsm_readers.proofs.ManyReads.{all_answered}
 
-pub many_of_list : {A : Type 0} (t : OpenTable) (held : IsOpen t) (es : List Entry) → IsTable t.bytes es → (queries : List (Query A)) → many_told t queries ≡ Ok (map (λ q. point (lift es t.global_seqno) q.key q.seqno) queries)
+pub many_of_list : {A : Type 0} (t : OpenTable) (held : IsOpen t) (es : List Entry)
+    → IsTable t.bytes es → (queries : List (Query A))
+    → many_told t queries ≡ Ok (map (λ q. point (lift es t.global_seqno) q.key q.seqno) queries)
 many_of_list {A} t held es is queries =
     let told = held.recovered in
     all_answered (found_told t) (λ (q : Query A). point (lift es t.global_seqno) q.key q.seqno)
-    (λ q. file_answers t.bytes es is t.global_seqno told.pin_filter told.pin_index t.parts held.short told.told q.key q.seqno)
+    (λ q. file_answers t.bytes es is t.global_seqno told.pin_filter told.pin_index t.parts
+    held.short told.told q.key q.seqno)
     queries

@@ -1,5 +1,6 @@
 -- What a written meta block tells.
-use Rattle.std.proofs.Common.{◌≡◌, ℕ, ◌^◌, ◌<◌, cond, List, [], ◌∷◌, ◌++◌, length, refl, sym, ap, ◌∙◌, arith, inl, inr}
+use Rattle.std.proofs.Common.{◌≡◌, ℕ, ◌^◌, ◌<◌, cond, List, [], ◌∷◌, ◌++◌, length, refl, sym, ap}
+use Rattle.std.proofs.Common.{◌∙◌, arith, inl, inr}
 use Rattle.std.specs.Prelude.{None, Ok, Err}
 use Rattle.std.proofs.lemmas.List.{append-nil}
 use Rattle.std.proofs.lemmas.List.Sums.{count_by-le-length}
@@ -22,19 +23,26 @@ use Rattle.lsm_formats.specs.declared.item_name.ItemName.TheVariants as item
 use Rattle.std.specs.Prelude.{nat_eq, ◌||◌, ◌==◌, false}
 use Rattle.std.specs.Cmp.Lexicographic.{pointwise}
 use Rattle.byteorder.specs.Numbers.{little_number-reads_back}
-use Rattle.sst_entries.specs.declared.error.Error.TheVariants.{UnsupportedTableVersion, UnsupportedIndexInterval}
+use Rattle.sst_entries.specs.declared.error.Error.TheVariants.{UnsupportedTableVersion}
+use Rattle.sst_entries.specs.declared.error.Error.TheVariants.{UnsupportedIndexInterval}
 use Rattle.lsm_ranges.specs.KeyRange.{interval}
-use Rattle.lsm_readers.specs.Meta.{Facts, facts_said, item_told, u64_told, version_told, kinds_told, byte_told, first_told, compressions_told, created_told, keys_told, seqnos_told, numbers_said, numbers_told, rest_told, facts_told}
+use Rattle.lsm_readers.specs.Meta.{Facts, facts_said, item_told, u64_told, version_told, kinds_told}
+use Rattle.lsm_readers.specs.Meta.{byte_told, first_told, compressions_told, created_told}
+use Rattle.lsm_readers.specs.Meta.{keys_told, seqnos_told, numbers_said, numbers_told, rest_told}
+use Rattle.lsm_readers.specs.Meta.{facts_told}
 
 -- a number that was written is read
-pub u64_read : (es : List Entry) (name : ItemName) (n : ℕ) → item_told es name ≡ Ok (le8 n) → n < 2 ^ 64 → u64_told es name ≡ Ok n
+pub u64_read : (es : List Entry) (name : ItemName) (n : ℕ) → item_told es name ≡ Ok (le8 n)
+    → n < 2 ^ 64 → u64_told es name ≡ Ok n
 unfolding u64_told
 u64_read es name n e fits =
     let whole : num8 (le8 n) ≡ n = ap num8 (sym (append-nil (le8 n))) ∙ wide8.again n [] fits in
     let long = le-ltb (length (le8 n)) 8 (omega (arith, wide8.len n)) in
     rw (e, long, whole) refl
 
-known_version : (v : TableVersion) → cond (pointwise nat_eq (version_number v ∷ []) (3 ∷ []) || pointwise nat_eq (version_number v ∷ []) (4 ∷ [])) (Ok (version_number v)) (Err UnsupportedTableVersion) ≡ Ok (version_number v)
+known_version : (v : TableVersion) → cond (pointwise nat_eq (version_number v ∷ []) (3 ∷ [])
+    || pointwise nat_eq (version_number v ∷ []) (4 ∷ [])) (Ok (version_number v))
+    (Err UnsupportedTableVersion) ≡ Ok (version_number v)
 known_version V3 = refl
 known_version V4 = refl
 
@@ -48,10 +56,12 @@ wide16-again n rest lt = little_number-reads_back 16 n rest lt
 
 -- what the table of a written list says of itself
 abbrev pub written_facts : TableVersion → Label → List (List Entry) → Blocks → Facts
-written_facts v label cs blocks = facts_said v label (joined cs) (length cs) blocks.index (length (data_section v cs))
+written_facts v label cs blocks = facts_said v label (joined cs) (length cs) blocks.index
+    (length (data_section v cs))
 
 -- what a written table says fits its fields
-pub record FactsFit (label : Label) (options : Options) (cs : List (List Entry)) (v : TableVersion) (blocks : Blocks) : Type 0 where
+pub record FactsFit (label : Label) (options : Options) (cs : List (List Entry)) (v : TableVersion)
+    (blocks : Blocks) : Type 0 where
   pub id : label.table_id < 2 ^ 64
   pub created_at : label.created_at < 2 ^ 128
   pub interval : options.index_block_restart_interval ≡ 1
@@ -63,7 +73,8 @@ pub record FactsFit (label : Label) (options : Options) (cs : List (List Entry))
   pub filter_blocks : blocks.filter < 2 ^ 64
   pub file_size : length (data_section v cs) < 2 ^ 64
 
-module _ (v : TableVersion) (label : Label) (options : Options) (cs : List (List Entry)) (blocks : Blocks) where
+module _ (v : TableVersion) (label : Label) (options : Options) (cs : List (List Entry))
+    (blocks : Blocks) where
   abbrev es : List Entry
   es = meta_entries v label options cs blocks
 
@@ -78,17 +89,20 @@ module _ (v : TableVersion) (label : Label) (options : Options) (cs : List (List
   unfolding kinds_told byte_told first_told item_told point name_of
   kinds_read one = rw one refl
 
-  kinds_refused : (options.index_block_restart_interval == 1) ≡ false → kinds_told es ≡ Err UnsupportedIndexInterval
+  kinds_refused : (options.index_block_restart_interval == 1) ≡ false
+      → kinds_told es ≡ Err UnsupportedIndexInterval
   unfolding kinds_told byte_told first_told item_told point name_of
   kinds_refused other = rw other refl
 
   -- where the items are read, the interval is 1
-  pub interval_read : (said : Facts) → facts_told es ≡ Ok said → options.index_block_restart_interval ≡ 1
+  pub interval_read : (said : Facts) → facts_told es ≡ Ok said
+      → options.index_block_restart_interval ≡ 1
   unfolding facts_told
   interval_read said told = elim (cases_Bool (options.index_block_restart_interval == 1)) [
     | inl one ↦ eqb-true _ _ one
     | inr other ↦
-        let refused : facts_told es ≡ Err UnsupportedIndexInterval = rw (version_read, kinds_refused other) refl in
+        let refused : facts_told es ≡ Err UnsupportedIndexInterval =
+        rw (version_read, kinds_refused other) refl in
         let no : Err UnsupportedIndexInterval ≡ Ok said = sym refused ∙ told in
         absurd cc
   ]
@@ -105,7 +119,8 @@ module _ (v : TableVersion) (label : Label) (options : Options) (cs : List (List
   unfolding created_told
   created_read fits =
       let n = label.created_at in
-      let whole : num16 (le16 n) ≡ n = ap num16 (sym (append-nil (le16 n))) ∙ wide16-again n [] fits in
+      let whole : num16 (le16 n) ≡ n = ap num16 (sym (append-nil (le16 n)))
+      ∙ wide16-again n [] fits in
       let long = le-ltb (length (le16 n)) 16 (omega (arith, wide16-len n)) in
       rw (created_at, long, whole) refl
 
@@ -115,25 +130,44 @@ module _ (v : TableVersion) (label : Label) (options : Options) (cs : List (List
 
   seqnos_read : FactsFit label options cs v blocks → seqnos_told es ≡ Ok (f.lowest, f.highest)
   unfolding seqnos_told item_told point name_of
-  seqnos_read fit = rw (u64_read es item.SeqnoMin f.lowest refl fit.lowest, u64_read es item.SeqnoMax f.highest refl fit.highest) refl
+  seqnos_read fit = rw (
+    u64_read es item.SeqnoMin f.lowest refl fit.lowest,
+    u64_read es
+        item.SeqnoMax f.highest refl fit.highest,
+  ) refl
 
-  numbers_read : FactsFit label options cs v blocks → numbers_told es ≡ Ok (numbers_said label f (length cs) blocks.index (length (data_section v cs)))
+  numbers_read : FactsFit label options cs v blocks
+      → numbers_told es ≡ Ok (numbers_said label f (length cs) blocks.index
+      (length (data_section v cs)))
   unfolding numbers_told item_told point name_of
   numbers_read fit =
       let few = fit.items in
       rw (
         u64_read es item.TableId label.table_id refl fit.id,
         u64_read es item.ItemCount f.item_count refl few,
-        u64_read es item.TombstoneCount f.tombstone_count refl (omega (arith, few, count_by-le-length is_tombstone (joined cs))),
+        u64_read es item.TombstoneCount f.tombstone_count refl
+            (omega (arith, few, count_by-le-length is_tombstone (joined cs))),
         u64_read es item.BlockCountData (length cs) refl fit.data_blocks,
         u64_read es item.BlockCountIndex blocks.index refl fit.index_blocks,
         u64_read es item.BlockCountFilter blocks.filter refl fit.filter_blocks,
         u64_read es item.FileSize (length (data_section v cs)) refl fit.file_size,
-        u64_read es item.WeakTombstoneCount f.weak_tombstone_count refl (omega (arith, few, count_by-le-length is_weak (joined cs))),
-        u64_read es item.WeakTombstoneReclaimable f.weak_tombstone_reclaimable refl (omega (arith, few, after_within is_reclaimable None (joined cs))),
+        u64_read es item.WeakTombstoneCount f.weak_tombstone_count refl
+            (omega (arith, few, count_by-le-length is_weak (joined cs))),
+        u64_read es item.WeakTombstoneReclaimable f.weak_tombstone_reclaimable refl
+            (omega (arith, few, after_within is_reclaimable None (joined cs))),
       ) refl
 
   -- the facts of the written list
-  pub facts_read : FactsFit label options cs v blocks → facts_told es ≡ Ok (written_facts v label cs blocks)
+  pub facts_read : FactsFit label options cs v blocks
+      → facts_told es ≡ Ok (written_facts v label cs blocks)
   unfolding facts_told rest_told
-  facts_read fit = rw (version_read, kinds_read fit.interval, numbers_read fit, created_read fit.created_at, keys_read, seqnos_read fit, compressions_read) refl
+  facts_read fit = rw (
+    version_read,
+    kinds_read fit.interval,
+    numbers_read fit,
+    created_read
+        fit.created_at,
+    keys_read,
+    seqnos_read fit,
+    compressions_read,
+  ) refl

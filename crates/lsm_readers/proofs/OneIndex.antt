@@ -13,23 +13,32 @@ use Rattle.lsm_readers.specs.Table.{IsOpen, OpenTable}
 use Rattle.lsm_readers.proofs.FileRanges.{file_index}
 
 -- the index of an open table of a list
-pub names_blocks : (t : OpenTable) → IsOpen t → (es : List Entry) (file : IsTable t.bytes es) → NamesBlocksOf file (table_index t)
+pub names_blocks : (t : OpenTable) → IsOpen t → (es : List Entry) (file : IsTable t.bytes es)
+    → NamesBlocksOf file (table_index t)
 names_blocks t held es file lower upper =
-    file_index t.bytes es file t.global_seqno held.recovered.pin_filter held.recovered.pin_index t.parts held.short held.recovered.told lower upper
+    file_index t.bytes es file t.global_seqno held.recovered.pin_filter held.recovered.pin_index
+    t.parts held.short held.recovered.told lower upper
 
-same_blocks : (a b : List ℕ) (es : List Entry) (t : IsTable a es) (u : IsTable b es) → AreCutAlike t u → (t.file).content.blocks ≡ (u.file).content.blocks
+same_blocks : (a b : List ℕ) (es : List Entry) (t : IsTable a es) (u : IsTable b es)
+    → AreCutAlike t u → (t.file).content.blocks ≡ (u.file).content.blocks
 same_blocks a b es t u alike =
     let cs = (t.file).content.blocks in
     let ds = (u.file).content.blocks in
     let size = (t.options).data_block_size in
-    let of_its_spills : AreChunks (u.options).data_block_size t.spills es ds = subst (λ (spills : List ℕ). AreChunks (u.options).data_block_size spills es ds) (sym alike.spills) (u.file).is.chunks in
-    let of_its_size : AreChunks size t.spills es ds = subst (λ (n : ℕ). AreChunks n t.spills es ds) (sym alike.size) of_its_spills in
+    let of_its_spills : AreChunks (u.options).data_block_size t.spills es ds =
+    subst (λ (spills : List ℕ). AreChunks (u.options).data_block_size spills es ds)
+    (sym alike.spills) (u.file).is.chunks in
+    let of_its_size : AreChunks size t.spills es ds =
+    subst (λ (n : ℕ). AreChunks n t.spills es ds) (sym alike.size) of_its_spills in
     one_cut size t.spills es cs ds (t.file).is.chunks of_its_size
 
-pub tell_alike : (one other : OpenTable) → IsOpen one → IsOpen other → (es : List Entry) (t : IsTable one.bytes es) (u : IsTable other.bytes es) → AreCutAlike t u → TellAlike (table_index one) (table_index other)
+pub tell_alike : (one other : OpenTable) → IsOpen one → IsOpen other
+    → (es : List Entry) (t : IsTable one.bytes es) (u : IsTable other.bytes es) → AreCutAlike t u
+    → TellAlike (table_index one) (table_index other)
 tell_alike one other held also es t u alike lower upper =
     let ds = (u.file).content.blocks in
     names_blocks one held es t lower upper
-    ∙ (ap (λ (cs : List (List Entry)). ok_results (window (handles t.version cs) lower upper)) (same_blocks one.bytes other.bytes es t u alike)
+    ∙ (ap (λ (cs : List (List Entry)). ok_results (window (handles t.version cs) lower upper))
+    (same_blocks one.bytes other.bytes es t u alike)
     ∙ (ap (λ (v : TableVersion). ok_results (window (handles v ds) lower upper)) alike.version
     ∙ sym (names_blocks other also es u lower upper)))

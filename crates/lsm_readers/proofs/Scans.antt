@@ -1,5 +1,7 @@
 -- What is left of a scan: one step of it, and what it deals.
-use Rattle.std.proofs.Common.{◌≡◌, ℕ, zero, suc, ◌+◌, ◌-◌, ◌^◌, ◌<◌, Bool, true, false, List, [], ◌∷◌, ◌++◌, length, drop, get_or, map, max, refl, sym, ap, subst, ◌∙◌, arith, inl, inr}
+use Rattle.std.proofs.Common.{◌≡◌, ℕ, zero, suc, ◌+◌, ◌-◌, ◌^◌, ◌<◌, Bool, true, false, List, []}
+use Rattle.std.proofs.Common.{◌∷◌, ◌++◌, length, drop, get_or, map, max, refl, sym, ap, subst, ◌∙◌}
+use Rattle.std.proofs.Common.{arith, inl, inr}
 use Rattle.std.specs.Prelude.{Option, Some, None, Result, Ok, Err, ◌⊎◌}
 use Rattle.std.specs.Iterator.{MakesProgress, at_most}
 use Rattle.std.specs.List.{flat_map, slice_get}
@@ -8,7 +10,20 @@ use Rattle.std.proofs.lemmas.List.{drop_more}
 use Rattle.std.proofs.lemmas.Option.{slice_get_within, get_or_from_slice_get}
 use Rattle.sst_blocks.specs.declared.block_type.BlockType.TheVariants.{Data}
 use Rattle.sst_entries.specs.declared.error.Error.{Error}
-use Rattle.sst_entries.specs.declared.error.Error.TheVariants.{OutOfMemory, SeqNoOverflow, Truncated, InvalidHeader, InvalidTag, ChecksumMismatch, InvalidBlock, KeyTooLong, ValueTooLong, BlockTooLarge, SectionTooLarge, InvalidTrailer, MissingSection, MetaKeyMissing, InvalidMetaValue, UnsupportedTableVersion, UnsupportedHashType, UnsupportedChecksumType, UnsupportedIndexInterval, UnsupportedCompression, GlobalSeqNoTooLarge, TableIdsSpent, WriterFailed, Source}
+use Rattle.sst_entries.specs.declared.error.Error.TheVariants.{OutOfMemory, SeqNoOverflow}
+use Rattle.sst_entries.specs.declared.error.Error.TheVariants.{Truncated, InvalidHeader, InvalidTag}
+use Rattle.sst_entries.specs.declared.error.Error.TheVariants.{ChecksumMismatch, InvalidBlock}
+use Rattle.sst_entries.specs.declared.error.Error.TheVariants.{KeyTooLong, ValueTooLong}
+use Rattle.sst_entries.specs.declared.error.Error.TheVariants.{BlockTooLarge, SectionTooLarge}
+use Rattle.sst_entries.specs.declared.error.Error.TheVariants.{InvalidTrailer, MissingSection}
+use Rattle.sst_entries.specs.declared.error.Error.TheVariants.{MetaKeyMissing, InvalidMetaValue}
+use Rattle.sst_entries.specs.declared.error.Error.TheVariants.{UnsupportedTableVersion}
+use Rattle.sst_entries.specs.declared.error.Error.TheVariants.{UnsupportedHashType}
+use Rattle.sst_entries.specs.declared.error.Error.TheVariants.{UnsupportedChecksumType}
+use Rattle.sst_entries.specs.declared.error.Error.TheVariants.{UnsupportedIndexInterval}
+use Rattle.sst_entries.specs.declared.error.Error.TheVariants.{UnsupportedCompression}
+use Rattle.sst_entries.specs.declared.error.Error.TheVariants.{GlobalSeqNoTooLarge, TableIdsSpent}
+use Rattle.sst_entries.specs.declared.error.Error.TheVariants.{WriterFailed, Source}
 use Rattle.sst_blocks.specs.Block.{Loaded, load_at_told, position_fault, entries_of}
 use Rattle.sst_entries.specs.Entry.{Entry}
 use Rattle.sst_blocks.specs.Reading.{key_and_number}
@@ -16,10 +31,15 @@ use Rattle.std.specs.Option.{option_map}
 use Rattle.sst_entries.specs.Error.{FaultsFirst, Refuses, is_memory}
 use Rattle.sst_blocks.specs.declared.opened.Opened.{Opened}
 use Rattle.sst_blocks.specs.Opened.{with_load}
-use Rattle.sst_entries.specs.Stream.{Answers, Deals, first, but_first, front_of, nowhere, answer_stops}
+use Rattle.sst_entries.specs.Stream.{Answers, Deals, first, but_first, front_of, nowhere}
+use Rattle.sst_entries.specs.Stream.{answer_stops}
 use Rattle.sst_entries.proofs.StreamLemmas.{head_eq, deals_by}
 use Rattle.lsm_readers.specs.Answer.{lifted}
-use Rattle.lsm_readers.specs.Scan.{FaultsAtBlock, FaultsAtEntry, IsEnded, Scan, ScanHas, ScansNext, TakesEntry, behind, block_told, blocks_told, ended, entries_from, entries_told, fault_of, lifted_told, loads, scan_loads_behind, loads_from, loads_of, scan_left, scan_size, scan_told, then_blocks, unless_left, up_to_error}
+use Rattle.lsm_readers.specs.Scan.{FaultsAtBlock, FaultsAtEntry, IsEnded, Scan, ScanHas, ScansNext}
+use Rattle.lsm_readers.specs.Scan.{TakesEntry, behind, block_told, blocks_told, ended, entries_from}
+use Rattle.lsm_readers.specs.Scan.{entries_told, fault_of, lifted_told, loads, scan_loads_behind}
+use Rattle.lsm_readers.specs.Scan.{loads_from, loads_of, scan_left, scan_size, scan_told}
+use Rattle.lsm_readers.specs.Scan.{then_blocks, unless_left, up_to_error}
 use Rattle.lsm_readers.specs.Read.{◌>>=◌}
 
 abbrev R : Type 0
@@ -62,17 +82,22 @@ pub lifted_ok : (g : ℕ) (e : Entry) → e.seqno + g < 2 ^ 64 → lifted_told g
 lifted_ok g e fits = rw (le-ltb (2 ^ 64 - 1) (e.seqno + g) (omega (arith, fits))) refl
 
 -- the entry of a place is the first of those from there on
-pub entry_is : (xs : List Entry) (i : ℕ) (x e : Entry) (es : List Entry) → slice_get xs i ≡ Some x → drop i xs ≡ e ∷ es → x ≡ e
+pub entry_is : (xs : List Entry) (i : ℕ) (x e : Entry) (es : List Entry) → slice_get xs i ≡ Some x
+    → drop i xs ≡ e ∷ es → x ≡ e
 entry_is xs i x e es here some =
     let within : i < length xs = slice_get_within xs i x here in
     sym (get_or_from_slice_get xs i x x here) ∙ head_eq (sym (drop_more xs i x within) ∙ some)
 
 -- and so its number, which is looked at before the entry is shared
-pub number_is : (xs : List Entry) (i : ℕ) (o : Option Entry) (k : List ℕ) (n : ℕ) (e : Entry) (es : List Entry) → slice_get xs i ≡ o → option_map key_and_number o ≡ Some (k, n) → drop i xs ≡ e ∷ es → n ≡ e.seqno
+pub number_is : (xs : List Entry) (i : ℕ) (o : Option Entry) (k : List ℕ) (n : ℕ) (e : Entry)
+    (es : List Entry) → slice_get xs i ≡ o → option_map key_and_number o ≡ Some (k, n)
+    → drop i xs ≡ e ∷ es → n ≡ e.seqno
 number_is xs i None k n e es here told some = let wrong : None ≡ Some (k, n) = told in absurd cc
 number_is xs i (Some x) k n e es here told some =
-    let same : ◌≡◌ {A = List ℕ × ℕ} (x.user_key, x.seqno) (k, n) = some_same (x.user_key, x.seqno) (k, n) told in
-    sym (ap (λ (p : List ℕ × ℕ). p.1) same) ∙ ap (λ (y : Entry). y.seqno) (entry_is xs i x e es here some)
+    let same : ◌≡◌ {A = List ℕ × ℕ} (x.user_key, x.seqno) (k, n) =
+    some_same (x.user_key, x.seqno) (k, n) told in
+    sym (ap (λ (p : List ℕ × ℕ). p.1) same) ∙ ap (λ (y : Entry). y.seqno)
+    (entry_is xs i x e es here some)
   where
     some_same : {X : Type 0} (p q : X) → Some p ≡ Some q → p ≡ q
     some_same p q h = cc
@@ -107,28 +132,37 @@ up_to_first : (r : R) (rs : List R) → up_to_error (r ∷ rs) ≡ first_entry r
 up_to_first (Ok x) rs = refl
 up_to_first (Err e) rs = refl
 
-pub entry_left : (body : List ℕ) (g : ℕ) (e : Entry) (es : List Entry) (position count : ℕ) → entries_from body g (e ∷ es) position count ≡ first_entry (lifted_told g e) (entries_from body g es position count)
+pub entry_left : (body : List ℕ) (g : ℕ) (e : Entry) (es : List Entry) (position count : ℕ)
+    → entries_from body g (e ∷ es) position count
+    ≡ first_entry (lifted_told g e) (entries_from body g es position count)
 unfolding entries_from
-entry_left body g e es position count = up_to_first (lifted_told g e) (map (lifted_told g) es ++ flat_map (entries_told g) (blocks_told body position count))
+entry_left body g e es position count = up_to_first (lifted_told g e)
+    (map (lifted_told g) es ++ flat_map (entries_told g) (blocks_told body position count))
 
 -- what is left behind the present block, by what the next block is
 abbrev next_left : List ℕ → ℕ → ℕ → Result (List Entry × ℕ) Error → List R
 next_left body g n (Ok x) = entries_from body g x.0 x.1 n
 next_left body g n (Err e) = Err e ∷ []
 
-next_blocks : (body : List ℕ) (g n position : ℕ) (r : Result Loaded Error) → up_to_error (flat_map (entries_told g) (then_blocks r (λ b. blocks_told body (behind position b) n))) ≡ next_left body g n (r >>= λ b. Ok (entries_of b, behind position b))
+next_blocks : (body : List ℕ) (g n position : ℕ) (r : Result Loaded Error)
+    → up_to_error (flat_map (entries_told g) (then_blocks r
+    (λ b. blocks_told body (behind position b) n)))
+    ≡ next_left body g n (r >>= λ b. Ok (entries_of b, behind position b))
 unfolding entries_from
 next_blocks body g n position (Ok b) = refl
 next_blocks body g n position (Err e) = refl
 
-pub block_left : (body : List ℕ) (g position n : ℕ) → entries_from body g [] position (suc n) ≡ next_left body g n (block_told body position)
+pub block_left : (body : List ℕ) (g position n : ℕ)
+    → entries_from body g [] position (suc n) ≡ next_left body g n (block_told body position)
 unfolding entries_from blocks_told
 block_left body g position n = next_blocks body g n position (load_at_told body position Data)
 
 -- ---- what a call gives
 
-still : (s t : Scan) (x : Entry) (stops : Error → Bool) → scan_left s ≡ Ok x ∷ scan_left t → IsEnded s ⊎ (stops OutOfMemory ≡ true) → IsEnded t ⊎ (stops OutOfMemory ≡ true)
-still s t x stops left (inl e) = absurd (let no : [] ≡ Ok x ∷ scan_left t = sym (ended_left s e) ∙ left in cc)
+still : (s t : Scan) (x : Entry) (stops : Error → Bool) → scan_left s ≡ Ok x ∷ scan_left t
+    → IsEnded s ⊎ (stops OutOfMemory ≡ true) → IsEnded t ⊎ (stops OutOfMemory ≡ true)
+still s t x stops left (inl e) = absurd (let no : [] ≡ Ok x ∷ scan_left t = sym (ended_left s e)
+    ∙ left in cc)
 still s t x stops left (inr m) = inr m
 
 -- the first entry
@@ -140,20 +174,30 @@ gave_entry s t x left = record {
       (sym (ap first whole), (ap but_first whole, still s t x stops left has.1));
 }
 
-no_memory : (s : Scan) (e : Error) (stops : Error → Bool) → e ≡ OutOfMemory → (IsEnded s → ⊥) → stops e ≡ false → IsEnded s ⊎ (stops OutOfMemory ≡ true) → ⊥
+no_memory : (s : Scan) (e : Error) (stops : Error → Bool) → e ≡ OutOfMemory → (IsEnded s → ⊥)
+    → stops e ≡ false → IsEnded s ⊎ (stops OutOfMemory ≡ true) → ⊥
 no_memory s e stops is going fine (inl done) = going done
-no_memory s e stops is going fine (inr m) = let wrong : true ≡ false = sym m ∙ sym (ap stops is) ∙ fine in absurd cc
+no_memory s e stops is going fine (inr m) = let wrong : true ≡ false = sym m ∙ sym (ap stops is)
+    ∙ fine in absurd cc
 
-error_gives : (s t : Scan) (e : Error) (stops : Error → Bool) (xs : List R) → (is_memory e ≡ false → scan_left s ≡ Err e ∷ []) → (IsEnded s → ⊥) → IsEnded t → (b : Bool) → is_memory e ≡ b → ScanHas stops s xs → stops e ≡ false
+error_gives : (s t : Scan) (e : Error) (stops : Error → Bool) (xs : List R)
+    → (is_memory e ≡ false → scan_left s ≡ Err e ∷ []) → (IsEnded s → ⊥) → IsEnded t → (b : Bool)
+    → is_memory e ≡ b → ScanHas stops s xs → stops e ≡ false
     → (Some (Err e) ≡ first xs) × ScanHas stops t (but_first xs)
-error_gives s t e stops xs left going done true m has fine = absurd (no_memory s e stops (memory_is e m) going fine has.1)
+error_gives s t e stops xs left going done true m has fine =
+    absurd (no_memory s e stops (memory_is e m) going fine has.1)
 error_gives s t e stops xs left going done false m has fine =
     let whole : xs ≡ Err e ∷ [] = has.0 ∙ left m in
     (sym (ap first whole), (ap but_first whole ∙ sym (ended_left t done), inl done))
 
 -- the error in front, or want of memory
-gave_error : (s t : Scan) (e : Error) → (is_memory e ≡ false → scan_left s ≡ Err e ∷ []) → (IsEnded s → ⊥) → IsEnded t → Answer s (Some (Err e)) t
-gave_error s t e left going done = record { may = tt; gives = λ stops xs has fine. error_gives s t e stops xs left going done (is_memory e) refl has fine }
+gave_error : (s t : Scan) (e : Error) → (is_memory e ≡ false → scan_left s ≡ Err e ∷ [])
+    → (IsEnded s → ⊥) → IsEnded t → Answer s (Some (Err e)) t
+gave_error s t e left going done = record {
+  may = tt;
+  gives =
+      λ stops xs has fine. error_gives s t e stops xs left going done (is_memory e) refl has fine;
+}
 
 -- nothing
 gave_none : (s : Scan) → IsEnded s → Answer s None s
@@ -170,7 +214,8 @@ gave_none s done = record {
 abbrev HasNoFault : Scan → Type 0
 HasNoFault s = (e : Error) → position_fault s.body s.position Data ≡ Some e → ⊥
 
--- from s the call has come to u, of which as much is left; either no block was read yet, or the first had no fault
+-- from s the call has come to u, of which as much is left; either no block was read yet, or the
+-- first had no fault
 pub record Reached (s u : Scan) : Type 0 where
   pub left : scan_left u ≡ scan_left s
   pub start : (s ≡ u) ⊎ HasNoFault s
@@ -188,32 +233,51 @@ ended_too s u m on (inr h) = inr h
 answers_from : (s u t : Scan) (r : Option R) → Reached s u → Answer u r t → Answer s r t
 answers_from s u t r reached answer = record {
   may = tt;
-  gives = λ stops xs has fine. answer.gives stops xs (has.0 ∙ sym reached.left, ended_too s u (stops OutOfMemory ≡ true) reached.ended has.1) fine;
+  gives = λ stops xs has fine. answer.gives stops xs
+      (has.0 ∙ sym reached.left, ended_too s u (stops OutOfMemory ≡ true) reached.ended has.1) fine;
 }
 
 -- the next block was loaded
 abbrev pub moved : Scan → List Entry → ℕ → Scan
-moved u es next = record u { entries = es; position = next; blocks = u.blocks - 1; opened = with_load Data u.opened }
+moved u es next = record u {
+  entries = es;
+  position = next;
+  blocks = u.blocks - 1;
+  opened =
+      with_load Data u.opened;
+}
 
-pub moved_is : (u s : Scan) (es : List Entry) (next : ℕ) (o : Opened) → u ≡ s → o ≡ with_load Data u.opened → record (moved u es next) { opened = o } ≡ moved s es next
-moved_is u s es next o same counts = ap (λ (p : Opened). record (moved u es next) { opened = p }) counts ∙ ap (λ (v : Scan). moved v es next) same
+pub moved_is : (u s : Scan) (es : List Entry) (next : ℕ) (o : Opened) → u ≡ s
+    → o ≡ with_load Data u.opened → record (moved u es next) { opened = o } ≡ moved s es next
+moved_is u s es next o same counts = ap (λ (p : Opened). record (moved u es next) { opened = p })
+    counts ∙ ap (λ (v : Scan). moved v es next) same
 
-next_is : (u : Scan) (n : ℕ) → u.entries ≡ [] → u.blocks ≡ suc n → scan_left u ≡ next_left u.body u.global_seqno n (block_told u.body u.position)
-next_is u n none some = ap (λ (es : List Entry). entries_from u.body u.global_seqno es u.position u.blocks) none ∙ ap (λ (k : ℕ). entries_from u.body u.global_seqno [] u.position k) some ∙ block_left u.body u.global_seqno u.position n
+next_is : (u : Scan) (n : ℕ) → u.entries ≡ [] → u.blocks ≡ suc n
+    → scan_left u ≡ next_left u.body u.global_seqno n (block_told u.body u.position)
+next_is u n none some = ap (λ (es : List Entry). entries_from u.body u.global_seqno es u.position
+    u.blocks) none ∙ ap (λ (k : ℕ). entries_from u.body u.global_seqno [] u.position k) some
+    ∙ block_left u.body u.global_seqno u.position n
 
-needs_first : (u : Scan) (n : ℕ) → u.entries ≡ [] → u.blocks ≡ suc n → loads_of u ≡ suc (scan_loads_behind (block_told u.body u.position) (λ next. loads_from u.body next n))
+needs_first : (u : Scan) (n : ℕ) → u.entries ≡ [] → u.blocks ≡ suc n
+    → loads_of u ≡ suc (scan_loads_behind (block_told u.body u.position)
+    (λ next. loads_from u.body next n))
 unfolding loads_from
 needs_first u n none some = rw (none, some) refl
 
-needs_next : (u : Scan) (n : ℕ) (es : List Entry) (next : ℕ) → u.entries ≡ [] → u.blocks ≡ suc n → block_told u.body u.position ≡ Ok (es, next) → loads_of u ≡ suc (unless_left es (loads_from u.body next n))
+needs_next : (u : Scan) (n : ℕ) (es : List Entry) (next : ℕ) → u.entries ≡ [] → u.blocks ≡ suc n
+    → block_told u.body u.position ≡ Ok (es, next)
+    → loads_of u ≡ suc (unless_left es (loads_from u.body next n))
 needs_next u n es next none some told =
-    needs_first u n none some ∙ ap (λ (r : Result (List Entry × ℕ) Error). suc (scan_loads_behind r (λ next. loads_from u.body next n))) told
+    needs_first u n none some ∙ ap (λ (r : Result (List Entry × ℕ) Error). suc
+    (scan_loads_behind r (λ next. loads_from u.body next n))) told
 
 abbrev loaded : Result (Unit {0}) Error
 loaded = Ok tt
 
-no_fault : (s u : Scan) → (s ≡ u) ⊎ HasNoFault s → FaultsFirst loaded (position_fault u.body u.position Data) → HasNoFault s
-no_fault s u (inl same) ahead = subst HasNoFault (sym same) (λ e h. let wrong : Some e ≡ None = ahead e h in cc)
+no_fault : (s u : Scan) → (s ≡ u) ⊎ HasNoFault s
+    → FaultsFirst loaded (position_fault u.body u.position Data) → HasNoFault s
+no_fault s u (inl same) ahead = subst HasNoFault (sym same)
+    (λ e h. let wrong : Some e ≡ None = ahead e h in cc)
 no_fault s u (inr none) ahead = none
 
 -- a block is read only where no entry is left
@@ -221,7 +285,9 @@ none_stood : (s u : Scan) → (s ≡ u) ⊎ (s.entries ≡ []) → u.entries ≡
 none_stood s u (inl same) none = ap (λ (v : Scan). v.entries) same ∙ none
 none_stood s u (inr none) _ = none
 
-pub reached_next : (s u : Scan) (es : List Entry) (next : ℕ) → Reached s u → u.entries ≡ [] → 0 < u.blocks → block_told u.body u.position ≡ Ok (es, next) → FaultsFirst loaded (position_fault u.body u.position Data) → Reached s (moved u es next)
+pub reached_next : (s u : Scan) (es : List Entry) (next : ℕ) → Reached s u → u.entries ≡ []
+    → 0 < u.blocks → block_told u.body u.position ≡ Ok (es, next)
+    → FaultsFirst loaded (position_fault u.body u.position Data) → Reached s (moved u es next)
 reached_next s u es next reached none some told ahead =
     let n = u.blocks - 1 in
     let k : u.blocks ≡ suc n = omega (arith, some) in
@@ -245,55 +311,77 @@ has_block : (s : Scan) → 0 < s.blocks → IsEnded s → ⊥
 has_block s some done = omega (arith, some, done.1)
 
 -- where an entry is left, no more blocks are needed
-all_loaded : (s u : Scan) (e : Entry) (es : List Entry) (reached : Reached s u) → u.entries ≡ e ∷ es → reached.count ≡ loads_of s
+all_loaded : (s u : Scan) (e : Entry) (es : List Entry) (reached : Reached s u) → u.entries ≡ e ∷ es
+    → reached.count ≡ loads_of s
 all_loaded s u e es reached some =
-    let none : loads_of u ≡ 0 = ap (λ (xs : List Entry). unless_left xs (loads_from u.body u.position u.blocks)) some in
+    let none : loads_of u ≡ 0 = ap (λ (xs : List Entry). unless_left xs
+    (loads_from u.body u.position u.blocks)) some in
     omega (arith, reached.needs, none)
 
 abbrev refused : Error → Result (Unit {0}) Error
 refused e = Err e
 
--- where an entry is left, and where nothing is left to read, no block was asked for or the first had no fault
-early_entry : (s u : Scan) (e : Entry) (es : List Entry) (r : Option R) → (s ≡ u) ⊎ HasNoFault s → u.entries ≡ e ∷ es → FaultsAtBlock s r
-early_entry s u e es r (inl same) some none more fault h = absurd (let wrong : [] ≡ e ∷ es = sym none ∙ ap (λ (v : Scan). v.entries) same ∙ some in cc)
+-- where an entry is left, and where nothing is left to read, no block was asked for or the first
+-- had no fault
+early_entry : (s u : Scan) (e : Entry) (es : List Entry) (r : Option R) → (s ≡ u) ⊎ HasNoFault s
+    → u.entries ≡ e ∷ es → FaultsAtBlock s r
+early_entry s u e es r (inl same) some none more fault h =
+    absurd (let wrong : [] ≡ e ∷ es = sym none ∙ ap (λ (v : Scan). v.entries) same ∙ some in cc)
 early_entry s u e es r (inr calm) some none more fault h = absurd (calm fault h)
 
 early_none : (s u : Scan) (r : Option R) → (s ≡ u) ⊎ HasNoFault s → u.blocks ≡ 0 → FaultsAtBlock s r
-early_none s u r (inl same) last none more fault h = absurd (omega (arith, more, ap (λ (v : Scan). v.blocks) same, last))
+early_none s u r (inl same) last none more fault h =
+    absurd (omega (arith, more, ap (λ (v : Scan). v.blocks) same, last))
 early_none s u r (inr calm) last none more fault h = absurd (calm fault h)
 
 -- the refusal of the block that was reached
-early_block : (s u : Scan) (e : Error) → (s ≡ u) ⊎ HasNoFault s → FaultsFirst (refused e) (position_fault u.body u.position Data) → FaultsAtBlock s (Some (Err e))
+early_block : (s u : Scan) (e : Error) → (s ≡ u) ⊎ HasNoFault s
+    → FaultsFirst (refused e) (position_fault u.body u.position Data)
+    → FaultsAtBlock s (Some (Err e))
 early_block s u e (inl same) ahead none more fault h =
-    let is : Some fault ≡ Some e = ahead fault (ap (λ (v : Scan). position_fault v.body v.position Data) (sym same) ∙ h) in
+    let is : Some fault ≡ Some e = ahead fault (ap
+    (λ (v : Scan). position_fault v.body v.position Data) (sym same) ∙ h) in
     cc
 early_block s u e (inr calm) ahead none more fault h = absurd (calm fault h)
 
 -- the number of the entry that stands there was looked at first
-own_entry : (u : Scan) (e : Entry) (es : List Entry) (r : R) → u.entries ≡ e ∷ es → FaultsFirst r (fault_of (lifted_told u.global_seqno e)) → FaultsAtEntry u (Some r)
+own_entry : (u : Scan) (e : Entry) (es : List Entry) (r : R) → u.entries ≡ e ∷ es
+    → FaultsFirst r (fault_of (lifted_told u.global_seqno e)) → FaultsAtEntry u (Some r)
 own_entry u e es r some early x xs stands f told =
     let same : e ≡ x = head_eq (sym some ∙ stands) in
-    ap (λ (y : R). Some y) (refused_first r f (early f (ap (λ (y : Entry). fault_of (lifted_told u.global_seqno y)) same ∙ ap fault_of told)))
+    ap (λ (y : R). Some y) (refused_first r f (early f
+    (ap (λ (y : Entry). fault_of (lifted_told u.global_seqno y)) same ∙ ap fault_of told)))
   where
     refused_first : (r : R) (f : Error) → Refuses r (Some f) → r ≡ Err f
     refused_first (Ok x) f h = absurd cc
     refused_first (Err g) f h = let same : f ≡ g = cc in ap (λ (x : Error). Err x) (sym same)
 
-lifts_entry : (s u : Scan) (e : Entry) (es : List Entry) (r : R) → (s ≡ u) ⊎ (s.entries ≡ []) → u.entries ≡ e ∷ es → FaultsFirst r (fault_of (lifted_told u.global_seqno e)) → FaultsAtEntry s (Some r)
-lifts_entry s u e es r (inl same) some early = subst (λ (v : Scan). FaultsAtEntry v (Some r)) (sym same) (own_entry u e es r some early)
-lifts_entry s u e es r (inr none) some early = λ x xs stands f told. absurd (let wrong : [] ≡ x ∷ xs = sym none ∙ stands in cc)
+lifts_entry : (s u : Scan) (e : Entry) (es : List Entry) (r : R) → (s ≡ u) ⊎ (s.entries ≡ [])
+    → u.entries ≡ e ∷ es → FaultsFirst r (fault_of (lifted_told u.global_seqno e))
+    → FaultsAtEntry s (Some r)
+lifts_entry s u e es r (inl same) some early =
+    subst (λ (v : Scan). FaultsAtEntry v (Some r)) (sym same) (own_entry u e es r some early)
+lifts_entry s u e es r (inr none) some early =
+    λ x xs stands f told. absurd (let wrong : [] ≡ x ∷ xs = sym none ∙ stands in cc)
 
-lifts_none : (s u : Scan) (r : Option R) → (s ≡ u) ⊎ (s.entries ≡ []) → u.entries ≡ [] → FaultsAtEntry s r
-lifts_none s u r stood none x xs stands f told = absurd (let wrong : [] ≡ x ∷ xs = sym (none_stood s u stood none) ∙ stands in cc)
+lifts_none : (s u : Scan) (r : Option R) → (s ≡ u) ⊎ (s.entries ≡ []) → u.entries ≡ []
+    → FaultsAtEntry s r
+lifts_none s u r stood none x xs stands f told =
+    absurd (let wrong : [] ≡ x ∷ xs = sym (none_stood s u stood none) ∙ stands in cc)
 
-entry_ok : (s u : Scan) (e : Entry) (es : List Entry) (x : Entry) → Reached s u → u.entries ≡ e ∷ es → lifted_told u.global_seqno e ≡ Ok x → FaultsFirst {X = Entry} (Ok x) (fault_of (lifted_told u.global_seqno e)) → ScansNext s (Some (Ok x)) (record u { entries = es })
+entry_ok : (s u : Scan) (e : Entry) (es : List Entry) (x : Entry) → Reached s u → u.entries ≡ e ∷ es
+    → lifted_told u.global_seqno e ≡ Ok x → FaultsFirst {X = Entry} (Ok x)
+    (fault_of (lifted_told u.global_seqno e)) → ScansNext s (Some (Ok x))
+    (record u { entries = es })
 entry_ok s u e es x reached some told first =
     let left : scan_left u ≡ Ok x ∷ scan_left (record u { entries = es }) =
     ap (λ (ys : List Entry). entries_from u.body u.global_seqno ys u.position u.blocks) some
     ∙ entry_left u.body u.global_seqno e es u.position u.blocks
-    ∙ ap (λ (r : R). first_entry r (entries_from u.body u.global_seqno es u.position u.blocks)) told in
+    ∙ ap (λ (r : R). first_entry r (entries_from u.body u.global_seqno es u.position u.blocks))
+    told in
     record {
-      answers = answers_from s u (record u { entries = es }) (Some (Ok x)) reached (gave_entry u (record u { entries = es }) x left);
+      answers = answers_from s u (record u { entries = es }) (Some (Ok x)) reached
+          (gave_entry u (record u { entries = es }) x left);
       ends = tt;
       early = early_entry s u e es (Some (Ok x)) reached.start some;
       lifts = lifts_entry s u e es (Ok x) reached.stands some first;
@@ -306,13 +394,19 @@ entry_ok s u e es x reached some told first =
       falls = reached.falls;
     }
 
-entry_err : (s u : Scan) (e : Entry) (es : List Entry) (fault : Error) → Reached s u → u.entries ≡ e ∷ es → (is_memory fault ≡ false → lifted_told u.global_seqno e ≡ Err fault) → FaultsFirst {X = Entry} (Err fault) (fault_of (lifted_told u.global_seqno e)) → ScansNext s (Some (Err fault)) (ended u)
+entry_err : (s u : Scan) (e : Entry) (es : List Entry) (fault : Error) → Reached s u
+    → u.entries ≡ e ∷ es → (is_memory fault ≡ false → lifted_told u.global_seqno e ≡ Err fault)
+    → FaultsFirst {X = Entry} (Err fault) (fault_of (lifted_told u.global_seqno e))
+    → ScansNext s (Some (Err fault)) (ended u)
 entry_err s u e es fault reached some told first =
-    let left = λ (m : is_memory fault ≡ false). ap (λ (ys : List Entry). entries_from u.body u.global_seqno ys u.position u.blocks) some
+    let left = λ (m : is_memory fault ≡ false). ap
+    (λ (ys : List Entry). entries_from u.body u.global_seqno ys u.position u.blocks) some
     ∙ entry_left u.body u.global_seqno e es u.position u.blocks
-    ∙ ap (λ (r : R). first_entry r (entries_from u.body u.global_seqno es u.position u.blocks)) (told m) in
+    ∙ ap (λ (r : R). first_entry r (entries_from u.body u.global_seqno es u.position u.blocks))
+    (told m) in
     record {
-      answers = answers_from s u (ended u) (Some (Err fault)) reached (gave_error u (ended u) fault left (has_entry u e es some) (refl, refl));
+      answers = answers_from s u (ended u) (Some (Err fault)) reached
+          (gave_error u (ended u) fault left (has_entry u e es some) (refl, refl));
       ends = (refl, refl);
       early = early_entry s u e es (Some (Err fault)) reached.start some;
       lifts = lifts_entry s u e es (Err fault) reached.stands some first;
@@ -327,37 +421,56 @@ entry_err s u e es fault reached some told first =
 
 -- an entry was taken from the block that was reached
 pub scans_entry : (s u t : Scan) (r : R) → Reached s u → TakesEntry u r t → ScansNext s (Some r) t
-scans_entry s u t (Ok x) reached taken = subst (ScansNext s (Some (Ok x))) (sym taken.took) (entry_ok s u taken.entry taken.others x reached taken.some taken.told taken.first)
-scans_entry s u t (Err fault) reached taken = subst (ScansNext s (Some (Err fault))) (sym taken.took) (entry_err s u taken.entry taken.others fault reached taken.some taken.told taken.first)
+scans_entry s u t (Ok x) reached taken = subst (ScansNext s (Some (Ok x))) (sym taken.took)
+    (entry_ok s u taken.entry taken.others x reached taken.some taken.told taken.first)
+scans_entry s u t (Err fault) reached taken =
+    subst (ScansNext s (Some (Err fault))) (sym taken.took)
+    (entry_err s u taken.entry taken.others fault reached taken.some taken.told taken.first)
 
 -- a block could not be loaded
 abbrev pub halted : Scan → Scan
 halted u = record (ended u) { opened = with_load Data u.opened }
 
-pub halted_is : (u s : Scan) (o : Opened) → u ≡ s → o ≡ with_load Data u.opened → record (ended u) { opened = o } ≡ halted s
-halted_is u s o same counts = ap (λ (p : Opened). record (ended u) { opened = p }) counts ∙ ap halted same
+pub halted_is : (u s : Scan) (o : Opened) → u ≡ s → o ≡ with_load Data u.opened
+    → record (ended u) { opened = o } ≡ halted s
+halted_is u s o same counts = ap (λ (p : Opened). record (ended u) { opened = p }) counts
+    ∙ ap halted same
 
 fault_is : {X : Type 0} (r : Result X Error) (e : Error) → fault_of r ≡ Some e → r ≡ Err e
 fault_is (Ok x) e h = absurd cc
 fault_is (Err f) e h = let same : f ≡ e = cc in ap (λ (x : Error). Err x) same
 
-one_load : (u : Scan) (n : ℕ) {e : Error} → block_told u.body u.position ≡ Err e → scan_loads_behind (block_told u.body u.position) (λ next. loads_from u.body next n) ≡ 0
-one_load u n told = ap (λ (r : Result (List Entry × ℕ) Error). scan_loads_behind r (λ next. loads_from u.body next n)) told
+one_load : (u : Scan) (n : ℕ) {e : Error} → block_told u.body u.position ≡ Err e
+    → scan_loads_behind (block_told u.body u.position) (λ next. loads_from u.body next n) ≡ 0
+one_load u n told = ap (λ (r : Result (List Entry × ℕ) Error). scan_loads_behind r
+    (λ next. loads_from u.body next n)) told
 
-pub scans_fault : (s u t : Scan) (e : Error) → Reached s u → u.entries ≡ [] → 0 < u.blocks → (is_memory e ≡ false → fault_of (block_told u.body u.position) ≡ Some e) → FaultsFirst (refused e) (position_fault u.body u.position Data) → t ≡ halted u → ScansNext s (Some (Err e)) t
+pub scans_fault : (s u t : Scan) (e : Error) → Reached s u → u.entries ≡ [] → 0 < u.blocks
+    → (is_memory e ≡ false → fault_of (block_told u.body u.position) ≡ Some e)
+    → FaultsFirst (refused e) (position_fault u.body u.position Data) → t ≡ halted u
+    → ScansNext s (Some (Err e)) t
 scans_fault s u t e reached none some told ahead is =
     let n = u.blocks - 1 in
     let k : u.blocks ≡ suc n = omega (arith, some) in
-    let left = λ (m : is_memory e ≡ false). next_is u n none k ∙ ap (next_left u.body u.global_seqno n) (fault_is (block_told u.body u.position) e (told m)) in
+    let left = λ (m : is_memory e ≡ false). next_is u n none k
+    ∙ ap (next_left u.body u.global_seqno n) (fault_is (block_told u.body u.position) e
+    (told m)) in
     let step : ScansNext s (Some (Err e)) (halted u) = record {
-      answers = answers_from s u (halted u) (Some (Err e)) reached (gave_error u (halted u) e left (has_block u some) (refl, refl));
+      answers = answers_from s u (halted u) (Some (Err e)) reached
+          (gave_error u (halted u) e left (has_block u some) (refl, refl));
       ends = (refl, refl);
       early = early_block s u e reached.start ahead;
       lifts = lifts_none s u (Some (Err e)) reached.stands none;
       count = suc reached.count;
       counts = ap (with_load Data) reached.counts;
       within = omega (arith, reached.falls, some);
-      exact = λ m. omega (arith, reached.needs, needs_first u n none k, one_load u n (fault_is (block_told u.body u.position) e (told m)));
+      exact = λ m. omega (
+        arith,
+        reached.needs,
+        needs_first u n none k,
+        one_load u n
+            (fault_is (block_told u.body u.position) e (told m)),
+      );
       most = omega (arith, reached.needs, needs_first u n none k);
       some = λ _. omega arith;
       falls = tt;
@@ -370,7 +483,8 @@ pub record AtEnd (s t : Scan) : Type 0 where
   pub none : t.entries ≡ []
 
 pub at_end : (s u t : Scan) → Reached s u → (u.entries ≡ []) × (t ≡ u) → AtEnd s t
-at_end s u t reached none = subst (AtEnd s) (sym none.1) (record { reached = reached; none = none.0 })
+at_end s u t reached none = subst (AtEnd s) (sym none.1)
+    (record { reached = reached; none = none.0 })
 
 not_some : (n : ℕ) → (0 < n → ⊥) → n ≡ 0
 not_some zero h = refl
@@ -404,10 +518,17 @@ some_left : (r : R) (rs : List R) → 0 < length (first_entry r rs)
 some_left (Ok x) rs = omega arith
 some_left (Err e) rs = omega arith
 
-none_left : (body : List ℕ) (g : ℕ) (es : List Entry) (position count : ℕ) → length (entries_from body g es position count) ≡ 0 → es ≡ []
+none_left : (body : List ℕ) (g : ℕ) (es : List Entry) (position count : ℕ)
+    → length (entries_from body g es position count) ≡ 0 → es ≡ []
 none_left body g [] position count none = refl
 none_left body g (e ∷ es) position count none =
-    absurd (omega (arith, none, ap length (entry_left body g e es position count), some_left (lifted_told g e) (entries_from body g es position count)))
+    absurd (omega (
+      arith,
+      none,
+      ap length (entry_left body g e es position count),
+      some_left
+          (lifted_told g e) (entries_from body g es position count),
+    ))
 
 no_error : (s t : Scan) (e : Error) → ScansNext s (Some (Err e)) t → IsEnded s → ⊥
 no_error s t e step done =
@@ -427,7 +548,11 @@ scan_falls s t (Ok x) step =
 scan_falls s t (Err e) step =
     let none = ap length (ended_left t step.ends) in
     elim (zero_or (scan_size s)) [
-      | inl small ↦ absurd (no_error s t e step (none_left s.body s.global_seqno s.entries s.position s.blocks (omega (arith, small)), omega (arith, small)))
+      | inl small ↦ absurd (no_error s t e step (
+        none_left s.body s.global_seqno s.entries
+            s.position s.blocks (omega (arith, small)),
+        omega (arith, small),
+      ))
       | inr large ↦ omega (arith, large, none, (step.ends).1)
     ]
   where
@@ -435,30 +560,46 @@ scan_falls s t (Err e) step =
     zero_or zero = inl refl
     zero_or (suc n) = inr (omega arith)
 
-pub progress : (s t : Scan) (r : R) → ScansNext s (Some r) t → MakesProgress (λ _. Unit {0}) (λ u. at_most (scan_size u)) s (Some r) t
-progress s t r step = record { on = λ _. (tt, tt, scan_falls s t r step); keeps = tt; rests = λ _. tt }
+pub progress : (s t : Scan) (r : R) → ScansNext s (Some r) t
+    → MakesProgress (λ _. Unit {0}) (λ u. at_most (scan_size u)) s (Some r) t
+progress s t r step = record {
+  on = λ _. (tt, tt, scan_falls s t r step);
+  keeps = tt;
+  rests =
+      λ _. tt;
+}
 
 -- ---- what a scan deals
 
-pub scan_deals : (stops : Error → Bool) (s : Scan) (xs : List R) → ScanHas stops s xs → Deals (answer_stops stops) ScansNext nowhere s xs
-scan_deals stops s xs has = deals_by (answer_stops stops) ScansNext nowhere (ScanHas stops) (λ s xs r t has step fine. (step.answers).gives stops xs has fine) (λ s xs r t has step fine. absurd step) s xs has
+pub scan_deals : (stops : Error → Bool) (s : Scan) (xs : List R) → ScanHas stops s xs
+    → Deals (answer_stops stops) ScansNext nowhere s xs
+scan_deals stops s xs has = deals_by (answer_stops stops) ScansNext nowhere (ScanHas stops)
+    (λ s xs r t has step fine. (step.answers).gives stops xs has fine)
+    (λ s xs r t has step fine. absurd step) s xs has
 
-pub scan_ends : (stops : Error → Bool) (s t : Scan) (e : Error) → ScansNext s (Some (Err e)) t → Deals (answer_stops stops) ScansNext nowhere t []
+pub scan_ends : (stops : Error → Bool) (s t : Scan) (e : Error) → ScansNext s (Some (Err e)) t
+    → Deals (answer_stops stops) ScansNext nowhere t []
 scan_ends stops s t e step = scan_deals stops t [] (sym (ended_left t step.ends), inl step.ends)
 
 -- the first block was read
-pub first_left : (body : List ℕ) (g count : ℕ) (es : List Entry) (next : ℕ) → block_told body 0 ≡ Ok (es, next) → scan_told body count g ≡ entries_from body g es next (count - 1)
+pub first_left : (body : List ℕ) (g count : ℕ) (es : List Entry) (next : ℕ)
+    → block_told body 0 ≡ Ok (es, next) → scan_told body count g
+    ≡ entries_from body g es next (count - 1)
 first_left body g count es next told =
     let k : max 1 count ≡ suc (count - 1) = omega arith in
-    ap (entries_from body g [] 0) k ∙ block_left body g 0 (count - 1) ∙ ap (next_left body g (count - 1)) told
+    ap (entries_from body g [] 0) k ∙ block_left body g 0 (count - 1)
+    ∙ ap (next_left body g (count - 1)) told
 
 -- it could not be read
-pub fault_left : (body : List ℕ) (g count : ℕ) (e : Error) → fault_of (load_at_told body 0 Data) ≡ Some e → scan_told body count g ≡ Err e ∷ []
+pub fault_left : (body : List ℕ) (g count : ℕ) (e : Error)
+    → fault_of (load_at_told body 0 Data) ≡ Some e → scan_told body count g ≡ Err e ∷ []
 fault_left body g count e fault =
     let k : max 1 count ≡ suc (count - 1) = omega arith in
     ap (entries_from body g [] 0) k
     ∙ block_left body g 0 (count - 1)
-    ∙ ap (λ (r : Result Loaded Error). next_left body g (count - 1) (r >>= λ b. Ok (entries_of b, behind 0 b))) (fault_is (load_at_told body 0 Data) e fault)
+    ∙ ap (λ (r : Result Loaded Error). next_left body g (count - 1)
+    (r >>= λ b. Ok (entries_of b, behind 0 b))) (fault_is (load_at_told body 0 Data) e fault)
 
-pub same_left : (b d : List ℕ) (g : ℕ) (es fs : List Entry) (next m n : ℕ) → b ≡ d → es ≡ fs → m ≡ n → entries_from b g es next m ≡ entries_from d g fs next n
+pub same_left : (b d : List ℕ) (g : ℕ) (es fs : List Entry) (next m n : ℕ) → b ≡ d → es ≡ fs → m ≡ n
+    → entries_from b g es next m ≡ entries_from d g fs next n
 same_left b d g es fs next m n p q r = rw (p, q, r) refl

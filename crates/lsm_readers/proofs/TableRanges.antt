@@ -1,5 +1,6 @@
 -- What a range of an opened table deals and loads.
-use Rattle.std.proofs.Common.{◌≡◌, ℕ, zero, suc, ◌+◌, ◌≤◌, Bool, true, false, List, [], ◌∷◌, ◌++◌, length, reverse, refl, sym, ap, subst, ◌∙◌, append-nil, arith}
+use Rattle.std.proofs.Common.{◌≡◌, ℕ, zero, suc, ◌+◌, ◌≤◌, Bool, true, false, List, [], ◌∷◌, ◌++◌}
+use Rattle.std.proofs.Common.{length, reverse, refl, sym, ap, subst, ◌∙◌, append-nil, arith}
 use Rattle.std.specs.Prelude.{IfOk, Option, Some, None, Result, Ok, Err}
 use Rattle.std.specs.declared.ops.Bound.{Bound}
 use Rattle.std.specs.declared.ops.Bound.TheVariants.{Unbounded}
@@ -10,7 +11,8 @@ use Rattle.sst_entries.specs.declared.stream.Direction.TheVariants.{Front, Back}
 use Rattle.sst_entries.specs.Entry.{Entry}
 use Rattle.sst_entries.specs.Error.{is_memory}
 use Rattle.sst_entries.specs.Point.{within}
-use Rattle.sst_entries.specs.Stream.{Deals, NoneStops, Runs, answer_stops, back_of, but_first, deal, first, front_of, ok_results}
+use Rattle.sst_entries.specs.Stream.{Deals, NoneStops, Runs, answer_stops, back_of, but_first, deal}
+use Rattle.sst_entries.specs.Stream.{first, front_of, ok_results}
 use Rattle.sst_entries.proofs.Booleans.{apart, is_false}
 use Rattle.sst_entries.proofs.StreamLemmas.{map_reverse}
 use Rattle.sst_blocks.specs.declared.opened.Opened.{Opened}
@@ -20,13 +22,15 @@ use Rattle.lsm_block_indexes.specs.Dealt.{DealsEnding, up_to_error}
 use Rattle.lsm_block_indexes.specs.Left.{loaded}
 use Rattle.lsm_iters.specs.Bounds.{lower_edge, upper_edge}
 use Rattle.lsm_iters.specs.Lift.{lift, lift_told}
-use Rattle.lsm_iters.specs.Range.{Next, Range, RangeGives, back_next, data_loaded, front_next, index_to_come, left_in, opened_in, range_left, to_come}
+use Rattle.lsm_iters.specs.Range.{Next, Range, RangeGives, back_next, data_loaded, front_next}
+use Rattle.lsm_iters.specs.Range.{index_to_come, left_in, opened_in, range_left, to_come}
 use Rattle.lsm_iters.specs.Rows.{Bounded, rows}
 use Rattle.lsm_iters.proofs.Cuts.{all_within}
 use Rattle.lsm_iters.proofs.Ends.{if_false}
 use Rattle.lsm_iters.proofs.RangeLaws.{range_deals}
 use Rattle.lsm_readers.specs.BlockIndexes.{table_index}
-use Rattle.lsm_readers.specs.Ranges.{DealsAll, DealsWithin, IsRangeOf, LoadsAtMost, blocks_within, bounded, index_within, range_told}
+use Rattle.lsm_readers.specs.Ranges.{DealsAll, DealsWithin, IsRangeOf, LoadsAtMost, blocks_within}
+use Rattle.lsm_readers.specs.Ranges.{bounded, index_within, range_told}
 use Rattle.lsm_readers.specs.Table.{IsOpen, OpenTable}
 use Rattle.lsm_readers.proofs.FileRanges.{file_blocks, file_rows}
 use Rattle.lsm_readers.proofs.Scans.{memory_is}
@@ -47,32 +51,46 @@ module _ (stops : Error → Bool) (memory : stops OutOfMemory ≡ true) where
   no_memory : (r : Option R) → answer_stops stops r ≡ false → answer_stops is_memory r ≡ false
   no_memory None fine = refl
   no_memory (Some (Ok e)) fine = refl
-  no_memory (Some (Err e)) fine = is_false (is_memory e) (λ m. apart (stops e) (subst (λ (x : Error). stops x ≡ true) (sym (memory_is e m)) memory) fine)
+  no_memory (Some (Err e)) fine = is_false (is_memory e)
+      (λ m. apart (stops e) (subst (λ (x : Error). stops x ≡ true) (sym (memory_is e m)) memory)
+      fine)
 
-  none_memory : (rs : List (Option R)) → NoneStops (answer_stops stops) rs → NoneStops (answer_stops is_memory) rs
+  none_memory : (rs : List (Option R)) → NoneStops (answer_stops stops) rs
+      → NoneStops (answer_stops is_memory) rs
   none_memory [] fine = tt
   none_memory (r ∷ rs) fine = (no_memory r fine.0, none_memory rs fine.1)
 
 -- the answers at the back, by the list in reverse
 abbrev BackOk : List R → List Direction → Type 0
-BackOk zs ends = up_to_error (first zs ∷ deal (reverse (but_first zs)) ends) ≡ first zs ∷ deal (reverse (but_first zs)) ends
+BackOk zs ends = up_to_error (first zs ∷ deal (reverse (but_first zs)) ends) ≡ first zs
+    ∷ deal (reverse (but_first zs)) ends
 
-by_back : (ys : List Entry) (ends : List Direction) → ((us : List Entry) → up_to_error (deal (ok_results us) ends) ≡ deal (ok_results us) ends) → BackOk (ok_results ys) ends
+by_back : (ys : List Entry) (ends : List Direction)
+    → ((us : List Entry) → up_to_error (deal (ok_results us) ends) ≡ deal (ok_results us) ends)
+    → BackOk (ok_results ys) ends
 by_back [] ends more = ap (λ (rs : List (Option R)). None ∷ rs) (more [])
 by_back (y ∷ ys) ends more =
     let zs = reverse (ok_results ys) in
-    let rest : up_to_error (deal zs ends) ≡ deal zs ends = subst (λ (xs : List R). up_to_error (deal xs ends) ≡ deal xs ends) (sym (map_reverse ys)) (more (reverse ys)) in
+    let rest : up_to_error (deal zs ends) ≡ deal zs ends =
+    subst (λ (xs : List R). up_to_error (deal xs ends) ≡ deal xs ends) (sym (map_reverse ys))
+    (more (reverse ys)) in
     ap (λ (rs : List (Option R)). Some (Ok y) ∷ rs) rest
 
-deal_ok : (xs : List Entry) (ends : List Direction) → up_to_error (deal (ok_results xs) ends) ≡ deal (ok_results xs) ends
+deal_ok : (xs : List Entry) (ends : List Direction)
+    → up_to_error (deal (ok_results xs) ends) ≡ deal (ok_results xs) ends
 deal_ok xs [] = refl
 deal_ok [] (Front ∷ ends) = ap (λ (rs : List (Option R)). None ∷ rs) (deal_ok [] ends)
 deal_ok (x ∷ xs) (Front ∷ ends) = ap (λ (rs : List (Option R)). Some (Ok x) ∷ rs) (deal_ok xs ends)
-deal_ok xs (Back ∷ ends) = subst (λ (zs : List R). BackOk zs ends) (sym (map_reverse xs)) (by_back (reverse xs) ends (λ us. deal_ok us ends))
+deal_ok xs (Back ∷ ends) = subst (λ (zs : List R). BackOk zs ends) (sym (map_reverse xs))
+    (by_back (reverse xs) ends (λ us. deal_ok us ends))
 
-pub deals_values : {S : Type 0} (front back : S → Option R → S → Type 0) (may may_back : S → Type 0) (s : S) (xs : List Entry) → DealsEnding front back may may_back s (ok_results xs) → (stops : Error → Bool) → stops OutOfMemory ≡ true → Deals (answer_stops stops) front back s (ok_results xs)
+pub deals_values : {S : Type 0} (front back : S → Option R → S → Type 0) (may may_back : S → Type 0)
+    (s : S) (xs : List Entry) → DealsEnding front back may may_back s (ok_results xs)
+    → (stops : Error → Bool) → stops OutOfMemory ≡ true
+    → Deals (answer_stops stops) front back s (ok_results xs)
 deals_values front back may may_back s xs d stops memory = record {
-  answers = λ ends rs t runs fine. d.answers ends rs t runs (none_memory stops memory rs fine) ∙ deal_ok xs ends;
+  answers = λ ends rs t runs fine. d.answers ends rs t runs (none_memory stops memory rs fine)
+      ∙ deal_ok xs ends;
 }
 
 -- ---- how many blocks are loaded
@@ -101,59 +119,92 @@ record IsWithin {A : Type 0} (blocks index : ℕ) (s : Range A) : Type 0 where
   no_meta : (opened_in s).meta_loads ≡ 0
 
 module _ {A : Type 0} (blocks index : ℕ) where
-  stays : (end : List R → Option R × List R) (next : Range A → Next) (s : Range A) (r : Option R) (t : Range A) → RangeGives end next s r t → IsWithin blocks index s → IsWithin blocks index t
+  stays : (end : List R → Option R × List R) (next : Range A → Next) (s : Range A) (r : Option R)
+      (t : Range A) → RangeGives end next s r t → IsWithin blocks index s → IsWithin blocks index t
   stays end next s r t step held =
       let o = (left_in s.handles).opened in
       let n = step.loads.index in
       record {
-        data_fits = omega (arith, ap (λ (x : Opened). x.data_loads) step.loads.counts, data_more step.loads.blocks s.opened, step.loads.within, held.data_fits);
-        index_fits = omega (arith, ap (λ (x : Opened). x.index_loads) step.loads.index_counts, index_more n o, step.loads.index_within, held.index_fits);
-        no_filter = ap (λ (x : Opened). x.filter_loads) step.loads.index_counts ∙ same_filter n o ∙ held.no_filter;
-        no_meta = ap (λ (x : Opened). x.meta_loads) step.loads.index_counts ∙ same_meta n o ∙ held.no_meta;
+        data_fits = omega (
+          arith,
+          ap (λ (x : Opened). x.data_loads) step.loads.counts,
+          data_more
+              step.loads.blocks s.opened,
+          step.loads.within,
+          held.data_fits,
+        );
+        index_fits = omega (
+          arith,
+          ap (λ (x : Opened). x.index_loads) step.loads.index_counts,
+          index_more n o,
+          step.loads.index_within,
+          held.index_fits,
+        );
+        no_filter = ap (λ (x : Opened). x.filter_loads) step.loads.index_counts ∙ same_filter n o
+            ∙ held.no_filter;
+        no_meta = ap (λ (x : Opened). x.meta_loads) step.loads.index_counts ∙ same_meta n o
+            ∙ held.no_meta;
       }
 
-  along : (ends : List Direction) (rs : List (Option R)) (s t : Range A) → Runs gives back_gives s ends rs t → IsWithin blocks index s → IsWithin blocks index t
+  along : (ends : List Direction) (rs : List (Option R)) (s t : Range A)
+      → Runs gives back_gives s ends rs t → IsWithin blocks index s → IsWithin blocks index t
   along [] [] s t runs held = subst (λ (x : Range A). IsWithin blocks index x) runs held
   along [] (r ∷ rs) s t runs held = absurd runs
   along (e ∷ ends) [] s t runs held = absurd runs
-  along (Front ∷ ends) (r ∷ rs) s t runs held = along ends rs runs.0 t runs.2 (stays front_of front_next s r runs.0 runs.1 held)
-  along (Back ∷ ends) (r ∷ rs) s t runs held = along ends rs runs.0 t runs.2 (stays back_of back_next s r runs.0 runs.1 held)
+  along (Front ∷ ends) (r ∷ rs) s t runs held =
+      along ends rs runs.0 t runs.2 (stays front_of front_next s r runs.0 runs.1 held)
+  along (Back ∷ ends) (r ∷ rs) s t runs held = along ends rs runs.0 t runs.2
+      (stays back_of back_next s r runs.0 runs.1 held)
 
 -- ---- a range of an opened table
 
-module _ {A : Type 0} (t : OpenTable) (low high : Bound (List ℕ)) (s : Range A) (is : IsRangeOf t low high s) where
+module _ {A : Type 0} (t : OpenTable) (low high : Bound (List ℕ)) (s : Range A)
+    (is : IsRangeOf t low high s) where
   abbrev told : List (Result Handle Error)
   told = (table_index t).told (lower_edge low) (upper_edge high)
 
   pub come : to_come s ≡ told
   come =
-      if_false s.handles.sought (left_in s.handles).results ((left_in s.handles).index.told (lower_edge s.of.low) (upper_edge s.of.high)) is.unsought
-      ∙ ap (λ (b : Bounded). (left_in s.handles).index.told (lower_edge b.low) (upper_edge b.high)) is.of
+      if_false s.handles.sought (left_in s.handles).results
+      ((left_in s.handles).index.told (lower_edge s.of.low) (upper_edge s.of.high)) is.unsought
+      ∙ ap (λ (b : Bounded). (left_in s.handles).index.told (lower_edge b.low) (upper_edge b.high))
+      is.of
       ∙ ap (λ i. i.told (lower_edge low) (upper_edge high)) is.index
 
   pub index_come : index_to_come s ≡ index_within t low high
   index_come =
-      if_false s.handles.sought (left_in s.handles).loads ((left_in s.handles).index.loads (lower_edge s.of.low) (upper_edge s.of.high)) is.unsought
-      ∙ ap (λ (b : Bounded). (left_in s.handles).index.loads (lower_edge b.low) (upper_edge b.high)) is.of
+      if_false s.handles.sought (left_in s.handles).loads
+      ((left_in s.handles).index.loads (lower_edge s.of.low) (upper_edge s.of.high)) is.unsought
+      ∙ ap (λ (b : Bounded). (left_in s.handles).index.loads (lower_edge b.low) (upper_edge b.high))
+      is.of
       ∙ ap (λ i. i.loads (lower_edge low) (upper_edge high)) is.index
 
   pub left_is : range_left s ≡ range_told t low high
   left_is =
-      ap (λ (es : List Entry). lift_told s.of.global_seqno es ++ (rows s.of (to_come s) ++ lift_told s.of.global_seqno s.back)) is.front
+      ap (λ (es : List Entry). lift_told s.of.global_seqno es
+      ++ (rows s.of (to_come s) ++ lift_told s.of.global_seqno s.back)) is.front
       ∙ ap (λ (es : List Entry). rows s.of (to_come s) ++ lift_told s.of.global_seqno es) is.back
       ∙ append-nil (rows s.of (to_come s))
       ∙ ap (λ (b : Bounded). rows b (to_come s)) is.of
       ∙ ap (rows (bounded t low high)) come
 
   -- it deals what the table tells
-  pub table_deals : DealsEnding gives back_gives (λ _. Unit {0}) (λ _. Unit {0}) s (range_told t low high)
-  table_deals = subst (λ (xs : List R). DealsEnding gives back_gives (λ _. Unit {0}) (λ _. Unit {0}) s xs) left_is (range_deals s)
+  pub table_deals : DealsEnding gives back_gives (λ _. Unit {0}) (λ _. Unit {0}) s
+      (range_told t low high)
+  table_deals = subst (λ (xs : List R). DealsEnding gives back_gives (λ _. Unit {0})
+      (λ _. Unit {0}) s xs) left_is (range_deals s)
 
-  loads_few : (blocks : ℕ) → length told ≡ blocks → LoadsAtMost gives back_gives blocks (index_within t low high) s
+  loads_few : (blocks : ℕ) → length told ≡ blocks
+      → LoadsAtMost gives back_gives blocks (index_within t low high) s
   loads_few blocks many ends rs u runs =
       let index = index_within t low high in
       let held : IsWithin blocks index s = record {
-        data_fits = omega (arith, ap (λ (o : Opened). o.data_loads) is.opened, ap length come, many);
+        data_fits = omega (
+          arith,
+          ap (λ (o : Opened). o.data_loads) is.opened,
+          ap length come,
+          many,
+        );
         index_fits = omega (arith, ap (λ (o : Opened). o.index_loads) is.opened, index_come);
         no_filter = ap (λ (o : Opened). o.filter_loads) is.opened;
         no_meta = ap (λ (o : Opened). o.meta_loads) is.opened;
@@ -171,14 +222,24 @@ module _ {A : Type 0} (t : OpenTable) (low high : Bound (List ℕ)) (s : Range A
   module _ (held : IsOpen t) (es : List Entry) (file : IsTable t.bytes es) where
     pub list_deals : DealsWithin gives back_gives low high es t.global_seqno s
     list_deals stops memory =
-        let of_list = file_rows t.bytes es file t.global_seqno held.recovered.pin_filter held.recovered.pin_index t.parts held.short held.recovered.told low high in
-        let deals = subst (λ (xs : List R). DealsEnding gives back_gives (λ _. Unit {0}) (λ _. Unit {0}) s xs) of_list table_deals in
-        deals_values gives back_gives (λ _. Unit {0}) (λ _. Unit {0}) s (within low high (lift es t.global_seqno)) deals stops memory
+        let of_list = file_rows t.bytes es file t.global_seqno held.recovered.pin_filter
+        held.recovered.pin_index t.parts held.short held.recovered.told low high in
+        let deals = subst (λ (xs : List R). DealsEnding gives back_gives (λ _. Unit {0})
+        (λ _. Unit {0}) s xs) of_list table_deals in
+        deals_values gives back_gives (λ _. Unit {0}) (λ _. Unit {0}) s
+        (within low high (lift es t.global_seqno)) deals stops memory
 
-    pub list_loads : LoadsAtMost gives back_gives (blocks_within file low high) (index_within t low high) s
+    pub list_loads : LoadsAtMost gives back_gives (blocks_within file low high)
+        (index_within t low high) s
     list_loads =
-        loads_few (blocks_within file low high) (file_blocks t.bytes es file t.global_seqno held.recovered.pin_filter held.recovered.pin_index t.parts held.short held.recovered.told (lower_edge low) (upper_edge high))
+        loads_few (blocks_within file low high) (file_blocks t.bytes es file t.global_seqno
+        held.recovered.pin_filter held.recovered.pin_index t.parts held.short
+        held.recovered.told (lower_edge low) (upper_edge high))
 
-pub deals_all : {S : Type 0} (front back : S → Option R → S → Type 0) (r : Result S Error) (es : List Entry) (g : ℕ) → IfOk r (DealsWithin front back Unbounded Unbounded es g) → IfOk r (DealsAll front back es g)
-deals_all front back (Ok s) es g deals = λ stops memory. subst (λ (xs : List Entry). Deals (answer_stops stops) front back s (ok_results xs)) (all_within (lift es g)) (deals stops memory)
+pub deals_all : {S : Type 0} (front back : S → Option R → S → Type 0) (r : Result S Error)
+    (es : List Entry) (g : ℕ) → IfOk r (DealsWithin front back Unbounded Unbounded es g)
+    → IfOk r (DealsAll front back es g)
+deals_all front back (Ok s) es g deals = λ stops memory. subst
+    (λ (xs : List Entry). Deals (answer_stops stops) front back s (ok_results xs))
+    (all_within (lift es g)) (deals stops memory)
 deals_all front back (Err e) es g deals = tt

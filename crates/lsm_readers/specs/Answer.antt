@@ -1,5 +1,6 @@
 -- A point read of a table, over any bytes: a key is admitted, its data block is found, and is read.
-use Rattle.std.specs.Prelude.{◌≡◌, ℕ, ◌+◌, ◌-◌, ◌^◌, ◌≤◌, nat_lt, Bool, true, false, List, Option, Some, None, if◌then◌else◌}
+use Rattle.std.specs.Prelude.{◌≡◌, ℕ, ◌+◌, ◌-◌, ◌^◌, ◌≤◌, nat_lt, Bool, true, false, List, Option}
+use Rattle.std.specs.Prelude.{Some, None, if◌then◌else◌}
 use Rattle.std.specs.Option.{option_map}
 use Rattle.sst_blocks.specs.declared.block_type.BlockType.TheVariants.{Data, Filter}
 use Rattle.sst_blocks.specs.declared.opened.Opened.{Opened}
@@ -27,10 +28,13 @@ abbrev pub part_admits : List ℕ → ℕ → Option Place → Read Bool
 part_admits body hash None = known false
 part_admits body hash (Some place) = block_admits body hash place
 
--- whether a table's filter may have a key of a hash: with a top level its partition is asked, which the key
--- at the highest bound leads to; else its one block, which stays loaded or is loaded by each read; without
+-- whether a table's filter may have a key of a hash: with a top level its partition is asked, which
+-- the key
+-- at the highest bound leads to; else its one block, which stays loaded or is loaded by each read;
+-- without
 -- a filter, yes
-abbrev pub filter_admits : List ℕ → Option (List Handle) → Option BloomFilter → Option Place → List ℕ
+abbrev pub filter_admits : List ℕ → Option (List Handle) → Option BloomFilter → Option Place
+    → List ℕ
     → ℕ → Read Bool
 filter_admits body (Some tops) filter place key hash =
     part_admits body hash (place_in tops key (2 ^ 64 - 1))
@@ -38,7 +42,8 @@ filter_admits body None (Some filter) place key hash = known (admits filter hash
 filter_admits body None None (Some place) key hash = block_admits body hash place
 filter_admits body None None None key hash = known true
 
--- whether a key may have an entry below a bound: a stored number is below it, and the filter may have it
+-- whether a key may have an entry below a bound: a stored number is below it, and the filter may
+-- have it
 abbrev pub admission : List ℕ → Parts → List ℕ → ℕ → Read Bool
 admission body parts key bound =
     let pinned = parts.pinned in
@@ -67,7 +72,8 @@ abbrev pub match_in : List ℕ → ℕ → List ℕ → ℕ → Option Place →
 match_in body g key bound None = known None
 match_in body g key bound (Some place) = match_at body g key bound place
 
--- a point read over the bytes before the trailer, whose numbers are below the bound once they are lifted
+-- a point read over the bytes before the trailer, whose numbers are below the bound once they are
+-- lifted
 unfoldable pub answer : List ℕ → ℕ → Parts → List ℕ → ℕ → Read (Option Entry)
 answer body g parts key bound =
     let low = bound - g in
@@ -84,7 +90,8 @@ most_filter_loads None (Some filter) place = 0
 most_filter_loads None None (Some place) = 1
 most_filter_loads None None None = 0
 
--- the counts before and after a point read: at most one data block, one index block and one filter block
+-- the counts before and after a point read: at most one data block, one index block and one filter
+-- block
 -- were loaded, and none that stays loaded
 pub record LoadsFew (parts : Parts) (old new : Opened) : Type 0 where
   pub data_few : new.data_loads ≤ old.data_loads + 1

@@ -15,13 +15,15 @@ use Rattle.lsm_readers.specs.Table.{OpenTable}
 abbrev pub table_index : OpenTable → Index
 table_index t = index_over (body_of t.bytes) t.parts.pinned.index t.parts.regions.tli
 
--- between any two edges an index has the handles of the data blocks of a table of a list, and no error
+-- between any two edges an index has the handles of the data blocks of a table of a list, and no
+-- error
 abbrev pub NamesBlocksOf : {bytes : List ℕ} {es : List Entry} → IsTable bytes es → Index → Type 0
 NamesBlocksOf t index = (lower : Option (List ℕ × ℕ)) (upper : Option (List ℕ)) →
     index.told lower upper ≡
     ok_results (window (handles t.version (t.file).content.blocks) lower upper)
 
--- two tables of a list are cut alike: in one version, for data blocks of one size, with spills in the
+-- two tables of a list are cut alike: in one version, for data blocks of one size, with spills in
+-- the
 -- same places
 pub record AreCutAlike {a b : List ℕ} {es : List Entry} (t : IsTable a es) (u : IsTable b es)
     : Type 0 where

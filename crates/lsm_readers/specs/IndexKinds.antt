@@ -1,5 +1,6 @@
 -- What depends on the kind of a table's index: what of it stays loaded, and what that gives.
-use Rattle.std.specs.Prelude.{ℕ, ◌-◌, Bool, List, find, Option, Some, None, is_some, Result, Ok, if◌then◌else◌}
+use Rattle.std.specs.Prelude.{ℕ, ◌-◌, Bool, List, find, Option, Some, None, is_some, Result, Ok}
+use Rattle.std.specs.Prelude.{if◌then◌else◌}
 use Rattle.std.specs.Option.{option_map}
 use Rattle.sst_sections.specs.declared.version.TableVersion.{TableVersion}
 use Rattle.sst_entries.specs.declared.error.Error.{Error}
@@ -10,12 +11,17 @@ use Rattle.sst_blocks.specs.Handles.{reaches}
 use Rattle.sst_blocks.specs.Place.{Place, place_of}
 use Rattle.lsm_formats.specs.Partitions.{index_tops}
 use Rattle.lsm_formats.specs.declared.options.IndexKind.{IndexKind}
-use Rattle.lsm_formats.specs.declared.options.IndexKind.TheVariants.{Full as FullIndex, Partitioned as PartitionedIndex}
+use Rattle.lsm_formats.specs.declared.options.IndexKind.TheVariants.{Full as FullIndex}
+use Rattle.lsm_formats.specs.declared.options.IndexKind.TheVariants.{Partitioned as PartitionedIndex}
 use Rattle.lsm_block_indexes.specs.declared.kinds.BlockIndexImpl.{BlockIndexImpl}
-use Rattle.lsm_block_indexes.specs.declared.kinds.BlockIndexImpl.TheVariants.{Full, VolatileFull, TwoLevel}
-use Rattle.lsm_block_indexes.specs.Index.{Index, full as full_index, on_demand, two_level as two_level_index}
+use Rattle.lsm_block_indexes.specs.declared.kinds.BlockIndexImpl.TheVariants.{Full, VolatileFull}
+use Rattle.lsm_block_indexes.specs.declared.kinds.BlockIndexImpl.TheVariants.{TwoLevel}
+use Rattle.lsm_block_indexes.specs.Index.{Index, full as full_index, on_demand}
+use Rattle.lsm_block_indexes.specs.Index.{two_level as two_level_index}
 use Rattle.lsm_readers.specs.declared.pinned.PinnedBlockIndex.{PinnedBlockIndex}
-use Rattle.lsm_readers.specs.declared.pinned.PinnedBlockIndex.TheVariants.{Full as FullKept, VolatileFull as NothingKept, TwoLevel as TopsKept}
+use Rattle.lsm_readers.specs.declared.pinned.PinnedBlockIndex.TheVariants.{Full as FullKept}
+use Rattle.lsm_readers.specs.declared.pinned.PinnedBlockIndex.TheVariants.{VolatileFull as NothingKept}
+use Rattle.lsm_readers.specs.declared.pinned.PinnedBlockIndex.TheVariants.{TwoLevel as TopsKept}
 use Rattle.lsm_readers.specs.declared.regions.ParsedRegions.{ParsedRegions}
 use Rattle.lsm_readers.specs.Read.{◌>>=◌, Read, block_read, known, read_map}
 
@@ -46,7 +52,8 @@ index_told body regions pin =
     else (if pin then (handles_told body regions.tli >>= λ handles. Ok (full handles))
     else Ok volatile)
 
--- what stays loaded of an index that was written and whose blocks begin at a position: a full one where it
+-- what stays loaded of an index that was written and whose blocks begin at a position: a full one
+-- where it
 -- is to, of one with partitions the top level
 abbrev pub index_said : IndexKind → TableVersion → ℕ → List Handle → List (List Handle) → Bool
     → PinnedIndex
@@ -75,7 +82,8 @@ abbrev pub handle_in_part : List ℕ → List ℕ → ℕ → Option Place → R
 handle_in_part body key bound None = known None
 handle_in_part body key bound (Some place) = handle_at body key bound place
 
--- where the first data block lies that reaches a key at a bound: by the handles that stay loaded, by the
+-- where the first data block lies that reaches a key at a bound: by the handles that stay loaded,
+-- by the
 -- one block of the index, or by the one partition that the top level leads to
 abbrev pub handle_by : List ℕ → PinnedIndex → Place → List ℕ → ℕ → Read (Option Place)
 handle_by body (full handles) tli key bound = known (place_in handles key bound)
@@ -91,14 +99,16 @@ most_index_loads (two_level tops) = 1
 
 -- ---- an index over it
 
--- the handles that stay loaded; or those of the one block at a place, on demand; or those of the partitions
+-- the handles that stay loaded; or those of the one block at a place, on demand; or those of the
+-- partitions
 -- that the handles of the top level name
 abbrev pub index_over : List ℕ → PinnedIndex → Place → Index
 index_over body (full handles) tli = full_index handles
 index_over body volatile tli = on_demand body tli
 index_over body (two_level tops) tli = two_level_index body tops
 
--- an index stays loaded whole, or each of its iterators loads it, or a top level leads to partitions
+-- an index stays loaded whole, or each of its iterators loads it, or a top level leads to
+-- partitions
 pub data Kind : Type 0 where
   whole : Kind
   on_each_read : Kind

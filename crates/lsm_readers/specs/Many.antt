@@ -17,5 +17,6 @@ abbrev pub found_told : {A : Type 0} → OpenTable → Query A → Result (Optio
 found_told t q = (table_answer t q.key q.seqno).told
 
 -- what point reads for some queries tell
-abbrev pub many_told : {A : Type 0} → OpenTable → List (Query A) → Result (List (Option Entry)) Error
+abbrev pub many_told : {A : Type 0} → OpenTable → List (Query A)
+    → Result (List (Option Entry)) Error
 many_told t queries = answers_to (found_told t) queries

@@ -1,7 +1,9 @@
 -- What a table of a list is recovered to.
-use Rattle.std.specs.Prelude.{◌≡◌, ℕ, ◌+◌, ◌-◌, ◌^◌, ◌==◌, nat_lt, Bool, List, [], ◌∷◌, ◌++◌, length, Option, Some, None, unwrap_or, Result, Ok, Err, if◌then◌else◌}
+use Rattle.std.specs.Prelude.{◌≡◌, ℕ, ◌+◌, ◌-◌, ◌^◌, ◌==◌, nat_lt, Bool, List, [], ◌∷◌, ◌++◌}
+use Rattle.std.specs.Prelude.{length, Option, Some, None, unwrap_or, Result, Ok, Err, if◌then◌else◌}
 use Rattle.sst_sections.specs.declared.section.SectionName.{SectionName}
-use Rattle.sst_sections.specs.declared.section.SectionName.TheVariants.{Index, Tli, Filter, FilterTli, Meta}
+use Rattle.sst_sections.specs.declared.section.SectionName.TheVariants.{Index, Tli, Filter}
+use Rattle.sst_sections.specs.declared.section.SectionName.TheVariants.{FilterTli, Meta}
 use Rattle.sst_sections.specs.declared.version.TableVersion.{TableVersion}
 use Rattle.sst_sections.specs.Sections.{slot_index}
 use Rattle.sst_entries.specs.declared.error.Error.{Error}
@@ -20,7 +22,8 @@ use Rattle.lsm_formats.specs.Index.{handles, data_section}
 use Rattle.lsm_formats.specs.Layout.{Sections, bytes_in}
 use Rattle.lsm_formats.specs.Partitions.{tops_from}
 use Rattle.lsm_formats.specs.declared.options.FilterKind.{FilterKind}
-use Rattle.lsm_formats.specs.declared.options.FilterKind.TheVariants.{Full as FullFilter, Partitioned as PartitionedFilter}
+use Rattle.lsm_formats.specs.declared.options.FilterKind.TheVariants.{Full as FullFilter}
+use Rattle.lsm_formats.specs.declared.options.FilterKind.TheVariants.{Partitioned as PartitionedFilter}
 use Rattle.lsm_formats.specs.declared.options.Options.{Options}
 use Rattle.lsm_formats.specs.declared.label.Label.{Label}
 use Rattle.lsm_formats.specs.Table.{IsTable}
@@ -102,7 +105,8 @@ pub record SaysList {bytes : List ℕ} {es : List Entry} (t : IsTable bytes es) 
   pub pin_index : Bool
   pub is : parts ≡ parts_said t pin_filter pin_index
 
--- what opening the table of a list tells: its parts, where its highest number fits once it is lifted
+-- what opening the table of a list tells: its parts, where its highest number fits once it is
+-- lifted
 abbrev pub list_told : {bytes : List ℕ} {es : List Entry} → IsTable bytes es → ℕ → Bool → Bool
     → Result Parts Error
 list_told {bytes} {es} t g pin_filter pin_index =

@@ -1,5 +1,6 @@
 -- Reading some bytes: what it gives, and which blocks are loaded for it.
-use Rattle.std.specs.Prelude.{◌≡◌, ℕ, ◌<◌, ◌≤◌, Bool, false, List, [], ◌∷◌, ◌++◌, length, take, Option, None, Result, Ok, Err, IsOk}
+use Rattle.std.specs.Prelude.{◌≡◌, ℕ, ◌<◌, ◌≤◌, Bool, false, List, [], ◌∷◌, ◌++◌, length, take}
+use Rattle.std.specs.Prelude.{Option, None, Result, Ok, Err, IsOk}
 use Rattle.std.specs.Option.{option_or}
 use Rattle.sst_entries.specs.declared.error.Error.{Error}
 use Rattle.sst_entries.specs.Error.{FaultsFirst, Gives, is_memory}
@@ -69,7 +70,8 @@ abbrev pub wants_memory : {X : Type 0} → Result X Error → Bool
 wants_memory (Ok x) = false
 wants_memory (Err e) = is_memory e
 
--- a call made the loads of a read: all of them, or where it wanted memory those up to some load, the
+-- a call made the loads of a read: all of them, or where it wanted memory those up to some load,
+-- the
 -- first in any case
 pub record Opens {X : Type 0} (r : Result X Error) (loads : List BlockType) (old new : Opened)
     : Type 0 where
@@ -79,9 +81,11 @@ pub record Opens {X : Type 0} (r : Result X Error) (loads : List BlockType) (old
   pub whole : wants_memory r ≡ false → made ≡ length loads
   pub some : 0 < length loads → 0 < made
 
--- a call did a read: it answered what the read tells, memory aside, told an early fault first, and made
+-- a call did a read: it answered what the read tells, memory aside, told an early fault first, and
+-- made
 -- its loads; without any it refuses nothing
-pub record DoesRead {X : Type 0} (r : Result X Error) (read : Read X) (old new : Opened) : Type 0 where
+pub record DoesRead {X : Type 0} (r : Result X Error) (read : Read X)
+    (old new : Opened) : Type 0 where
   pub told : Gives (λ (x : X). x) r read.told
   pub early : FaultsFirst r read.early
   pub opens : Opens r read.loads old new

@@ -1,10 +1,12 @@
 -- Where the parts of a table lie, from what its trailer says of the sections.
-use Rattle.std.specs.Prelude.{◌^◌, nat_le, List, Option, Some, None, Result, Ok, Err, slice_index_or, if◌then◌else◌}
+use Rattle.std.specs.Prelude.{◌^◌, nat_le, List, Option, Some, None, Result, Ok, Err}
+use Rattle.std.specs.Prelude.{slice_index_or, if◌then◌else◌}
 use Rattle.sst_entries.specs.declared.error.Error.{Error}
 use Rattle.sst_entries.specs.declared.error.Error.TheVariants.{SectionTooLarge, MissingSection}
 use Rattle.sst_sections.specs.declared.section.Section.{Section}
 use Rattle.sst_sections.specs.declared.section.SectionName.{SectionName}
-use Rattle.sst_sections.specs.declared.section.SectionName.TheVariants.{Index, Tli, Filter, FilterTli, Meta}
+use Rattle.sst_sections.specs.declared.section.SectionName.TheVariants.{Index, Tli, Filter}
+use Rattle.sst_sections.specs.declared.section.SectionName.TheVariants.{FilterTli, Meta}
 use Rattle.sst_blocks.specs.Place.{Place}
 use Rattle.sst_sections.specs.Sections.{slot_index}
 use Rattle.lsm_readers.specs.Read.{◌>>=◌}

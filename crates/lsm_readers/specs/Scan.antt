@@ -1,5 +1,7 @@
 -- A scan of a table: its blocks one behind another, and their entries.
-use Rattle.std.specs.Prelude.{◌≡◌, ℕ, zero, suc, ◌+◌, ◌-◌, ◌<◌, ◌≤◌, max, Bool, true, false, List, [], ◌∷◌, ◌++◌, length, map, Option, Some, None, MatchOption, Result, Ok, Err, IfErr, MatchResult, ◌⊎◌}
+use Rattle.std.specs.Prelude.{◌≡◌, ℕ, zero, suc, ◌+◌, ◌-◌, ◌<◌, ◌≤◌, max, Bool, true, false, List}
+use Rattle.std.specs.Prelude.{[], ◌∷◌, ◌++◌, length, map, Option, Some, None, MatchOption, Result}
+use Rattle.std.specs.Prelude.{Ok, Err, IfErr, MatchResult, ◌⊎◌}
 use Rattle.std.specs.List.{flat_map}
 use Rattle.sst_blocks.specs.declared.block_type.BlockType.TheVariants.{Data}
 use Rattle.sst_entries.specs.declared.error.Error.{Error}
@@ -24,7 +26,8 @@ then_blocks (Err e) more = Err e ∷ []
 abbrev pub behind : ℕ → Loaded → ℕ
 behind position b = position + header_len + length b.payload
 
--- the data blocks that lie one behind another from a position on: so many of them, or up to the first
+-- the data blocks that lie one behind another from a position on: so many of them, or up to the
+-- first
 -- that cannot be loaded
 unfoldable pub blocks_told : List ℕ → ℕ → ℕ → List (Result Loaded Error)
 blocks_told body position zero = []
@@ -62,7 +65,8 @@ abbrev pub block_told : List ℕ → ℕ → Result (List Entry × ℕ) Error
 block_told body position =
     load_at_told body position Data >>= λ b. Ok (entries_of b, behind position b)
 
--- a scan: the bytes before the trailer, the entries that are left of the present block, where the next
+-- a scan: the bytes before the trailer, the entries that are left of the present block, where the
+-- next
 -- block begins, how many blocks are still to be read, the global number, and what was loaded
 pub record Scan : Type 0 where
   pub body : List ℕ
@@ -121,21 +125,25 @@ loads_from body position (suc n) =
 abbrev pub loads_of : Scan → ℕ
 loads_of s = unless_left s.entries (loads_from s.body s.position s.blocks)
 
--- where no entry is left and a block is to be read, what its header says, its checksum and the room for
+-- where no entry is left and a block is to be read, what its header says, its checksum and the room
+-- for
 -- its count come before any want of memory
 abbrev pub FaultsAtBlock : Scan → Option (Result Entry Error) → Type 0
 FaultsAtBlock s r =
     s.entries ≡ [] → 0 < s.blocks → (e : Error) → position_fault s.body s.position Data ≡ Some e →
     r ≡ Some (Err e)
 
--- where the number of the next entry of the present block passes `u64`, that is the answer, and not want of memory
+-- where the number of the next entry of the present block passes `u64`, that is the answer, and not
+-- want of memory
 abbrev pub FaultsAtEntry : Scan → Option (Result Entry Error) → Type 0
 FaultsAtEntry s r =
     (e : Entry) (es : List Entry) → s.entries ≡ e ∷ es → (f : Error) →
     lifted_told s.global_seqno e ≡ Err f → r ≡ Some (Err f)
 
--- one call: it gives the first of what is left; an error ends it for good; each load counts, and lowers
--- the number of blocks by one. As many blocks are loaded as the next entry needs; want of memory may
+-- one call: it gives the first of what is left; an error ends it for good; each load counts, and
+-- lowers
+-- the number of blocks by one. As many blocks are loaded as the next entry needs; want of memory
+-- may
 -- stop at any of them, at the first only where its header, its checksum and its count have no fault
 pub record ScansNext (s : Scan) (r : Option (Result Entry Error)) (t : Scan) : Type 0 where
   pub answers : Answers (λ _. Unit {0}) ScanHas front_of s r t
@@ -151,7 +159,8 @@ pub record ScansNext (s : Scan) (r : Option (Result Entry Error)) (t : Scan) : T
   pub falls : MatchOption r (Unit {0})
       (λ x. MatchResult x (λ _. count + t.blocks ≡ s.blocks) (λ _. Unit {0}))
 
--- a scan of so many blocks before its first step: all that it gives is left, and all blocks but the first
+-- a scan of so many blocks before its first step: all that it gives is left, and all blocks but the
+-- first
 pub record IsNewScan (body : List ℕ) (count g : ℕ) (s : Scan) : Type 0 where
   pub left : scan_left s ≡ scan_told body count g
   pub blocks : s.blocks ≡ count - 1
@@ -160,7 +169,8 @@ pub record IsNewScan (body : List ℕ) (count g : ℕ) (s : Scan) : Type 0 where
 abbrev pub scan_size : Scan → ℕ
 scan_size s = length (scan_left s) + s.blocks
 
--- a scan of a table of a list deals it, its numbers lifted; where the list has an entry, nothing but
+-- a scan of a table of a list deals it, its numbers lifted; where the list has an entry, nothing
+-- but
 -- want of memory refuses
 abbrev pub ScansList : Result Scan Error → List Entry → ℕ → Type 0
 ScansList r es g = MatchResult r

@@ -5,7 +5,8 @@ pub use Rattle.sst_entries.specs.Point.{point, within}
 pub use Rattle.sst_entries.specs.Stream.{CanDeal, Deals, nowhere, answer_stops}
 pub use Rattle.sst_filters.specs.KeyHash.{hash_of}
 pub use Rattle.sst_sections.specs.Sections.{body_of}
-pub use Rattle.sst_blocks.specs.Block.{Loaded, entries_of, load_at_told, load_told, place_fault, position_fault}
+pub use Rattle.sst_blocks.specs.Block.{Loaded, entries_of, load_at_told, load_told, place_fault}
+pub use Rattle.sst_blocks.specs.Block.{position_fault}
 pub use Rattle.sst_blocks.specs.Handle.{Handle}
 pub use Rattle.sst_blocks.specs.Opened.{with_load, none_opened}
 pub use Rattle.sst_blocks.specs.Place.{Place, place_of}
@@ -13,20 +14,27 @@ pub use Rattle.sst_filters.specs.Filter.{BloomFilter}
 pub use Rattle.lsm_ranges.specs.KeyRange.{key_bound, overlaps_bounds}
 pub use Rattle.lsm_formats.specs.Table.{IsTable}
 pub use Rattle.lsm_block_indexes.specs.Kinds.{index_of as index_read}
-pub use Rattle.lsm_readers.specs.BlockIndexes.{AreCutAlike, NamesBlocksOf, OpenedWith, TellAlike, table_index}
-pub use Rattle.lsm_readers.specs.Answer.{LoadsFew, admission, admitted_handle, answer, block_admits, filter_admits}
+pub use Rattle.lsm_readers.specs.BlockIndexes.{AreCutAlike, NamesBlocksOf, OpenedWith, TellAlike}
+pub use Rattle.lsm_readers.specs.BlockIndexes.{table_index}
+pub use Rattle.lsm_readers.specs.Answer.{LoadsFew, admission, admitted_handle, answer, block_admits}
+pub use Rattle.lsm_readers.specs.Answer.{filter_admits}
 pub use Rattle.lsm_readers.specs.Answer.{lift, lifted, match_at, table_answer}
-pub use Rattle.lsm_readers.specs.IndexKinds.{handle_at, handle_by, handles_told, index_len, index_of, index_over, index_told}
-pub use Rattle.lsm_readers.specs.IndexKinds.{kind_for, kind_kept, kind_of, on_each_read, partitioned, volatile}
+pub use Rattle.lsm_readers.specs.IndexKinds.{handle_at, handle_by, handles_told, index_len}
+pub use Rattle.lsm_readers.specs.IndexKinds.{index_of, index_over, index_told}
+pub use Rattle.lsm_readers.specs.IndexKinds.{kind_for, kind_kept, kind_of, on_each_read}
+pub use Rattle.lsm_readers.specs.IndexKinds.{partitioned, volatile}
 pub use Rattle.lsm_readers.specs.OfList.{SaysList, ends_of, list_told}
 pub use Rattle.lsm_readers.specs.Parts.{early_fault, early_in, filter_told, fitting_told}
 pub use Rattle.lsm_readers.specs.Parts.{filter_len, number_told, parts_told}
-pub use Rattle.lsm_readers.specs.Parts.{pinned_filter, pinned_told, place_size, places_told, recovered_told}
+pub use Rattle.lsm_readers.specs.Parts.{pinned_filter, pinned_told, place_size, places_told}
+pub use Rattle.lsm_readers.specs.Parts.{recovered_told}
 pub use Rattle.lsm_readers.specs.Parts.{tops_told}
 pub use Rattle.lsm_readers.specs.Read.{DoesRead, Opens}
-pub use Rattle.lsm_readers.specs.Scan.{IsNewScan, Scan, ScansList, ScansNext, TakesEntry, block_told, ended}
+pub use Rattle.lsm_readers.specs.Scan.{IsNewScan, Scan, ScansList, ScansNext, TakesEntry}
+pub use Rattle.lsm_readers.specs.Scan.{block_told, ended}
 pub use Rattle.lsm_readers.specs.Scan.{fault_of, lifted_told, scan_size, scan_told}
 pub use Rattle.lsm_readers.specs.Meta.{facts_of}
 pub use Rattle.lsm_readers.specs.Table.{IsOpen, IsRecovered, OpenTable, parts_of, pinned_of}
 pub use Rattle.lsm_block_indexes.specs.Dealt.{DealsEnding}
-pub use Rattle.lsm_readers.specs.Ranges.{DealsAll, DealsWithin, IsRangeOf, LoadsAtMost, blocks_within, index_within, range_told}
+pub use Rattle.lsm_readers.specs.Ranges.{DealsAll, DealsWithin, IsRangeOf, LoadsAtMost}
+pub use Rattle.lsm_readers.specs.Ranges.{blocks_within, index_within, range_told}

@@ -1,5 +1,6 @@
 -- Which keys a writer of partitions stands for, step by step.
-use Rattle.std.proofs.Common.{◌≡◌, refl, ◌∙◌, ap, sym, subst, ℕ, ◌+◌, ◌<◌, nat_le, Bool, true, false, List, [], ◌∷◌, ◌++◌, length, Some, None, length-append, arith}
+use Rattle.std.proofs.Common.{◌≡◌, refl, ◌∙◌, ap, sym, subst, ℕ, ◌+◌, ◌<◌, nat_le, Bool, true}
+use Rattle.std.proofs.Common.{false, List, [], ◌∷◌, ◌++◌, length, Some, None, length-append, arith}
 use Rattle.std.specs.Prelude.{map, Option, Result, if◌then◌else◌}
 use Rattle.std.specs.List.{AllByRecursion}
 use Rattle.std.proofs.lemmas.List.{append-nil, length-map, map-append}
@@ -13,14 +14,18 @@ use Rattle.sst_filters.specs.Policy.{bound_for, fault_for, size_for, tenths_of}
 use Rattle.sst_filters.specs.declared.policy.BloomConstructionPolicy.{BloomConstructionPolicy}
 use Rattle.lsm_formats.specs.Filters.{IsFilterFor, is_full_filter, last_of_keys}
 use Rattle.lsm_formats.specs.declared.options.FilterKind.TheVariants.{Partitioned}
-use Rattle.lsm_section_writers.specs.Given.{GivenKeys, IsSomePart, KeyPart, all_keys, cut_with, key_part, keys_in, no_keys, parts_of, pending_with, rest_keys, with_key}
-use Rattle.lsm_section_writers.specs.Held.{AreFiltersOf, as_list, CutPart, CutParts, Cuts, end_keys, filters_of, HasParts, HoldsAll, HoldsParts, last_key_of}
+use Rattle.lsm_section_writers.specs.Given.{GivenKeys, IsSomePart, KeyPart, all_keys, cut_with}
+use Rattle.lsm_section_writers.specs.Given.{key_part, keys_in, no_keys, parts_of, pending_with}
+use Rattle.lsm_section_writers.specs.Given.{rest_keys, with_key}
+use Rattle.lsm_section_writers.specs.Held.{AreFiltersOf, as_list, CutPart, CutParts, Cuts, end_keys}
+use Rattle.lsm_section_writers.specs.Held.{filters_of, HasParts, HoldsAll, HoldsParts, last_key_of}
 use Rattle.lsm_section_writers.specs.FilterRefusing.{key_parts_bound, keys_fault, register_fault}
 use Rattle.lsm_section_writers.specs.Rising.{AreRising}
 use Rattle.lsm_section_writers.proofs.RisingLaws.{last_keys_rise, last_more}
 
 -- no keys
-pub holds_none : (w : CutParts) → w.parts ≡ [] → w.bound ≡ 0 → w.hashes ≡ [] → w.last ≡ None → HoldsParts w no_keys
+pub holds_none : (w : CutParts) → w.parts ≡ [] → w.bound ≡ 0 → w.hashes ≡ [] → w.last ≡ None
+    → HoldsParts w no_keys
 holds_none w parts bound hashes last = record {
   cut = record { some = tt; filters = rw parts tt; ends = rw parts refl; bound = rw bound refl };
   hashes = rw hashes refl;
@@ -32,9 +37,16 @@ no_ends [] e = refl
 no_ends (p ∷ ps) e = cc
 
 -- as a writer holds keys, so it does with other options
-pub holds_again : (w v : CutParts) (given : GivenKeys) → HoldsParts w given → v.parts ≡ w.parts → v.bound ≡ w.bound → v.hashes ≡ w.hashes → v.last ≡ w.last → HoldsParts v given
+pub holds_again : (w v : CutParts) (given : GivenKeys) → HoldsParts w given → v.parts ≡ w.parts
+    → v.bound ≡ w.bound → v.hashes ≡ w.hashes → v.last ≡ w.last → HoldsParts v given
 holds_again w v given h parts bound hashes last = record {
-  cut = record { some = h.cut.some; filters = rw parts h.cut.filters; ends = rw parts h.cut.ends; bound = bound ∙ h.cut.bound };
+  cut = record {
+    some = h.cut.some;
+    filters = rw parts h.cut.filters;
+    ends =
+        rw parts h.cut.ends;
+    bound = bound ∙ h.cut.bound;
+  };
   hashes = hashes ∙ h.hashes;
   last = last ∙ h.last;
 }
@@ -55,58 +67,82 @@ pub record Adds (key : List ℕ) (w v : CutParts) : Type 0 where
   pub hashes : v.hashes ≡ w.hashes ++ hash_of key ∷ []
 
 -- the last keys of the parts and the key rise
-pub ends_and_key : (w : CutParts) (given : GivenKeys) (key : List ℕ) → HoldsParts w given → AreRising (all_keys given ++ key ∷ []) → AreRising (end_keys w.parts ++ key ∷ [])
-ends_and_key w given key h rising = rw (h.cut.ends) (last_keys_rise given.cut given.pending key h.cut.some rising)
+pub ends_and_key : (w : CutParts) (given : GivenKeys) (key : List ℕ) → HoldsParts w given
+    → AreRising (all_keys given ++ key ∷ []) → AreRising (end_keys w.parts ++ key ∷ [])
+ends_and_key w given key h rising = rw (h.cut.ends)
+    (last_keys_rise given.cut given.pending key h.cut.some rising)
 
 last_key_more : (ks : List (List ℕ)) (key : List ℕ) → last_key_of (ks ++ key ∷ []) ≡ Some key
 last_key_more [] key = refl
 last_key_more (k ∷ ks) key = ap (λ (x : List ℕ). Some x) (last_more (k ∷ ks) key)
 
 -- one part more
-filters_more : (ps : List KeyPart) (cs : List CutPart) (p : KeyPart) (key : List ℕ) (f : BloomFilter) →
-    AreFiltersOf ps (filters_of cs) → IsFilterFor p.policy p.keys f → AreFiltersOf (ps ++ p ∷ []) (filters_of (cs ++ record { end_key = key; filter = f } ∷ []))
+filters_more : (ps : List KeyPart) (cs : List CutPart) (p : KeyPart) (key : List ℕ)
+    (f : BloomFilter) →
+    AreFiltersOf ps (filters_of cs) → IsFilterFor p.policy p.keys f
+    → AreFiltersOf (ps ++ p ∷ []) (filters_of (cs ++ record { end_key = key; filter = f } ∷ []))
 filters_more [] [] p key f h is = (is, tt)
 filters_more [] (c ∷ cs) p key f h is = absurd h
 filters_more (q ∷ ps) [] p key f h is = absurd h
 filters_more (q ∷ ps) (c ∷ cs) p key f h is = (h.0, filters_more ps cs p key f h.1 is)
 
-ends_more : (cs : List CutPart) (ps : List KeyPart) (p : KeyPart) (key : List ℕ) (f : BloomFilter) → end_keys cs ≡ map last_of_keys (keys_in ps) → last_of_keys p.keys ≡ key →
-    end_keys (cs ++ record { end_key = key; filter = f } ∷ []) ≡ map last_of_keys (keys_in (ps ++ p ∷ []))
+ends_more : (cs : List CutPart) (ps : List KeyPart) (p : KeyPart) (key : List ℕ) (f : BloomFilter)
+    → end_keys cs ≡ map last_of_keys (keys_in ps) → last_of_keys p.keys ≡ key →
+    end_keys (cs ++ record { end_key = key; filter = f } ∷ [])
+    ≡ map last_of_keys (keys_in (ps ++ p ∷ []))
 ends_more cs ps p key f e last =
     map-append (λ (c : CutPart). c.end_key) cs (record { end_key = key; filter = f } ∷ [])
-    ∙ ap (λ ks. ks ++ key ∷ []) e ∙ ap (λ (k : List ℕ). map last_of_keys (keys_in ps) ++ k ∷ []) (sym last)
+    ∙ ap (λ ks. ks ++ key ∷ []) e ∙ ap (λ (k : List ℕ). map last_of_keys (keys_in ps) ++ k ∷ [])
+    (sym last)
     ∙ sym (map-append last_of_keys (keys_in ps) (p.keys ∷ []))
-    ∙ ap (λ (ks : List (List (List ℕ))). map last_of_keys ks) (sym (map-append (λ (x : KeyPart). x.keys) ps (p ∷ [])))
+    ∙ ap (λ (ks : List (List (List ℕ))). map last_of_keys ks)
+    (sym (map-append (λ (x : KeyPart). x.keys) ps (p ∷ [])))
 
 bound_more : (ps : List KeyPart) (p : KeyPart) →
-    capped (capped (key_parts_bound ps) + bound_for (tenths_of p.policy) (length p.keys)) ≡ capped (key_parts_bound (ps ++ p ∷ []))
+    capped (capped (key_parts_bound ps) + bound_for (tenths_of p.policy) (length p.keys))
+    ≡ capped (key_parts_bound (ps ++ p ∷ []))
 bound_more ps p =
     let of : KeyPart → ℕ = λ q. bound_for (tenths_of q.policy) (length q.keys) in
-    let both : key_parts_bound (ps ++ p ∷ []) ≡ key_parts_bound ps + key_parts_bound (p ∷ []) = sum_by-append of ps (p ∷ []) in
-    let one : key_parts_bound (p ∷ []) ≡ bound_for (tenths_of p.policy) (length p.keys) + 0 = sum_by-cons of p [] in
+    let both : key_parts_bound (ps ++ p ∷ []) ≡ key_parts_bound ps + key_parts_bound (p ∷ []) =
+    sum_by-append of ps (p ∷ []) in
+    let one : key_parts_bound (p ∷ []) ≡ bound_for (tenths_of p.policy) (length p.keys) + 0 =
+    sum_by-cons of p [] in
     rw (both, one) (caps (key_parts_bound ps) (bound_for (tenths_of p.policy) (length p.keys)))
   where
     caps : (a b : ℕ) → capped (capped a + b) ≡ capped (a + (b + 0))
     caps a b = omega arith
 
-some_more : (ps : List KeyPart) (p : KeyPart) → AllByRecursion IsSomePart ps → IsSomePart p → AllByRecursion IsSomePart (ps ++ p ∷ [])
+some_more : (ps : List KeyPart) (p : KeyPart) → AllByRecursion IsSomePart ps → IsSomePart p
+    → AllByRecursion IsSomePart (ps ++ p ∷ [])
 some_more [] p all is = (is, tt)
 some_more (q ∷ ps) p all is = (all.0, some_more ps p all.1 is)
 
 -- one part more is cut off, and its last key is told
-has_more : (w v : CutParts) (ps : List KeyPart) (p : KeyPart) (key : List ℕ) (f : BloomFilter) → HasParts w ps → IsSomePart p → IsFilterFor p.policy p.keys f → last_of_keys p.keys ≡ key →
-    v.parts ≡ w.parts ++ record { end_key = key; filter = f } ∷ [] → v.bound ≡ capped (w.bound + bound_for (tenths_of p.policy) (length p.keys)) → HasParts v (ps ++ p ∷ [])
+has_more : (w v : CutParts) (ps : List KeyPart) (p : KeyPart) (key : List ℕ) (f : BloomFilter)
+    → HasParts w ps → IsSomePart p → IsFilterFor p.policy p.keys f → last_of_keys p.keys ≡ key →
+    v.parts ≡ w.parts ++ record { end_key = key; filter = f } ∷ []
+    → v.bound ≡ capped (w.bound + bound_for (tenths_of p.policy) (length p.keys))
+    → HasParts v (ps ++ p ∷ [])
 has_more w v ps p key f h some is last parts bound = record {
   some = some_more ps p h.some some;
   filters = rw parts (filters_more ps w.parts p key f h.filters is);
   ends = rw parts (ends_more w.parts ps p key f h.ends last);
-  bound = bound ∙ ap (λ (n : ℕ). capped (n + bound_for (tenths_of p.policy) (length p.keys))) h.bound ∙ bound_more ps p;
+  bound = bound ∙ ap (λ (n : ℕ). capped (n + bound_for (tenths_of p.policy) (length p.keys)))
+      h.bound ∙ bound_more ps p;
 }
 
-has_same : (w v : CutParts) (ps : List KeyPart) → HasParts w ps → v.parts ≡ w.parts → v.bound ≡ w.bound → HasParts v ps
-has_same w v ps h parts bound = record { some = h.some; filters = rw parts h.filters; ends = rw parts h.ends; bound = bound ∙ h.bound }
+has_same : (w v : CutParts) (ps : List KeyPart) → HasParts w ps → v.parts ≡ w.parts
+    → v.bound ≡ w.bound → HasParts v ps
+has_same w v ps h parts bound = record {
+  some = h.some;
+  filters = rw parts h.filters;
+  ends =
+      rw parts h.ends;
+  bound = bound ∙ h.bound;
+}
 
-module _ (w u : CutParts) (given : GivenKeys) (key : List ℕ) (h : HoldsParts w given) (adds : Adds key w u) where
+module _ (w u : CutParts) (given : GivenKeys) (key : List ℕ) (h : HoldsParts w given)
+    (adds : Adds key w u) where
   abbrev full : List (List ℕ) → Bool
   full = is_full_filter w.policy w.size
 
@@ -117,7 +153,8 @@ module _ (w u : CutParts) (given : GivenKeys) (key : List ℕ) (h : HoldsParts w
   after = with_key (Partitioned w.size) w.policy given key
 
   pub hashes_more : u.hashes ≡ map hash_of waiting
-  hashes_more = adds.hashes ∙ ap (λ hs. hs ++ hash_of key ∷ []) h.hashes ∙ sym (map-append hash_of given.pending (key ∷ []))
+  hashes_more = adds.hashes ∙ ap (λ hs. hs ++ hash_of key ∷ []) h.hashes
+      ∙ sym (map-append hash_of given.pending (key ∷ []))
 
   pub count_more : length u.hashes ≡ length waiting
   count_more = ap length hashes_more ∙ length-map waiting hash_of
@@ -126,12 +163,16 @@ module _ (w u : CutParts) (given : GivenKeys) (key : List ℕ) (h : HoldsParts w
   pub test_is : nat_le u.size (size_for (tenths_of u.policy) (length u.hashes)) ≡ full waiting
   test_is = rw (adds.size, adds.policy, count_more) refl
 
-  after_is : (b : Bool) → full waiting ≡ b → (if b then cut_with w.policy given key else pending_with given key) ≡ after
-  after_is b e = ap (λ (x : Bool). if x then cut_with w.policy given key else pending_with given key) (sym e)
+  after_is : (b : Bool) → full waiting ≡ b → (if b then cut_with w.policy given key
+      else pending_with given key) ≡ after
+  after_is b e = ap (λ (x : Bool). if x then cut_with w.policy given key
+      else pending_with given key) (sym e)
 
   -- it waits
-  pub key_waits : (v : CutParts) → nat_le u.size (size_for (tenths_of u.policy) (length u.hashes)) ≡ false →
-      v.parts ≡ u.parts → v.bound ≡ u.bound → v.hashes ≡ u.hashes → v.last ≡ Some key → HoldsParts v after
+  pub key_waits : (v : CutParts) → nat_le u.size (size_for (tenths_of u.policy) (length u.hashes))
+      ≡ false →
+      v.parts ≡ u.parts → v.bound ≡ u.bound → v.hashes ≡ u.hashes → v.last ≡ Some key
+      → HoldsParts v after
   key_waits v test parts bound hashes last =
       let waits : HoldsParts v (pending_with given key) = record {
         cut = has_same w v given.cut h.cut (parts ∙ adds.parts) (bound ∙ adds.bound);
@@ -141,15 +182,23 @@ module _ (w u : CutParts) (given : GivenKeys) (key : List ℕ) (h : HoldsParts w
       subst (λ (x : GivenKeys). HoldsParts v x) (after_is false (sym test_is ∙ test)) waits
 
   -- it fills a part
-  pub key_cuts : (v : CutParts) → nat_le u.size (size_for (tenths_of u.policy) (length u.hashes)) ≡ true → Cuts key u v → HoldsParts v after
+  pub key_cuts : (v : CutParts) → nat_le u.size (size_for (tenths_of u.policy) (length u.hashes))
+      ≡ true → Cuts key u v → HoldsParts v after
   key_cuts v test cuts =
       let part : KeyPart = key_part w.policy waiting in
-      let parts' : v.parts ≡ w.parts ++ record { end_key = key; filter = cuts.filter } ∷ [] = cuts.parts ∙ ap (λ ps. ps ++ record { end_key = key; filter = cuts.filter } ∷ []) adds.parts in
-      let is : IsFilterFor w.policy waiting cuts.filter = subst (λ p. IsFilterFor p waiting cuts.filter) adds.policy (cuts.is waiting hashes_more) in
-      let bound' : v.bound ≡ capped (w.bound + bound_for (tenths_of w.policy) (length waiting)) = cuts.bound ∙ rw (adds.bound, adds.policy, count_more) refl in
-      let long : length waiting ≡ length given.pending + 1 = length-append given.pending (key ∷ []) in
+      let parts' : v.parts ≡ w.parts ++ record { end_key = key; filter = cuts.filter } ∷ [] =
+      cuts.parts ∙ ap (λ ps. ps ++ record { end_key = key; filter = cuts.filter } ∷ [])
+      adds.parts in
+      let is : IsFilterFor w.policy waiting cuts.filter =
+      subst (λ p. IsFilterFor p waiting cuts.filter) adds.policy
+      (cuts.is waiting hashes_more) in
+      let bound' : v.bound ≡ capped (w.bound + bound_for (tenths_of w.policy) (length waiting)) =
+      cuts.bound ∙ rw (adds.bound, adds.policy, count_more) refl in
+      let long : length waiting ≡ length given.pending + 1 =
+      length-append given.pending (key ∷ []) in
       let cut : HoldsParts v (cut_with w.policy given key) = record {
-        cut = has_more w v given.cut part key cuts.filter h.cut (record { some = omega (arith, long) }) is (last_more given.pending key) parts' bound';
+        cut = has_more w v given.cut part key cuts.filter h.cut
+            (record { some = omega (arith, long) }) is (last_more given.pending key) parts' bound';
         hashes = cuts.hashes;
         last = cuts.last;
       } in
@@ -161,94 +210,153 @@ no_waiting [] e = refl
 no_waiting (k ∷ ks) e = cc
 
 -- the last of some keys is told, and they are a part
-pub record IsRest (policy : BloomConstructionPolicy) (ks : List (List ℕ)) (key : List ℕ) : Type 0 where
+pub record IsRest (policy : BloomConstructionPolicy) (ks : List (List ℕ))
+    (key : List ℕ) : Type 0 where
   pub one : rest_keys policy ks ≡ key_part policy ks ∷ []
   pub some : 0 < length ks
   pub last : last_of_keys ks ≡ key
 
-rest_of_some : (policy : BloomConstructionPolicy) (ks : List (List ℕ)) (key : List ℕ) → last_key_of ks ≡ Some key → IsRest policy ks key
+rest_of_some : (policy : BloomConstructionPolicy) (ks : List (List ℕ)) (key : List ℕ)
+    → last_key_of ks ≡ Some key → IsRest policy ks key
 rest_of_some policy [] key e = cc
 rest_of_some policy (k ∷ ks) key e = record { one = refl; some = omega arith; last = cc }
 
-pub holds_all : (w v : CutParts) (given : GivenKeys) → HoldsParts w given → w.last ≡ None → v.parts ≡ w.parts → v.bound ≡ w.bound → HoldsAll v given
+pub holds_all : (w v : CutParts) (given : GivenKeys) → HoldsParts w given → w.last ≡ None
+    → v.parts ≡ w.parts → v.bound ≡ w.bound → HoldsAll v given
 holds_all w v given h none parts bound =
     let nothing : given.pending ≡ [] = no_waiting given.pending (sym h.last ∙ none) in
-    let all : parts_of v.policy given ≡ given.cut = ap (λ (ks : List (List ℕ)). given.cut ++ rest_keys v.policy ks) nothing ∙ append-nil given.cut in
-    subst (λ (ps : List KeyPart). HasParts v ps) (sym all) (has_same w v given.cut h.cut parts bound)
+    let all : parts_of v.policy given ≡ given.cut =
+    ap (λ (ks : List (List ℕ)). given.cut ++ rest_keys v.policy ks) nothing
+    ∙ append-nil given.cut in
+    subst (λ (ps : List KeyPart). HasParts v ps) (sym all)
+    (has_same w v given.cut h.cut parts bound)
 
-pub rest_cuts : (w u v : CutParts) (given : GivenKeys) (key : List ℕ) → HoldsParts w given → w.last ≡ Some key →
-    u.policy ≡ w.policy → u.parts ≡ w.parts → u.bound ≡ w.bound → u.hashes ≡ w.hashes → v.policy ≡ w.policy → Cuts key u v → HoldsAll v given
+pub rest_cuts : (w u v : CutParts) (given : GivenKeys) (key : List ℕ) → HoldsParts w given
+    → w.last ≡ Some key →
+    u.policy ≡ w.policy → u.parts ≡ w.parts → u.bound ≡ w.bound → u.hashes ≡ w.hashes
+    → v.policy ≡ w.policy → Cuts key u v → HoldsAll v given
 rest_cuts w u v given key h some policy parts bound hashes policy' cuts =
     let left = given.pending in
     let rest = rest_of_some w.policy left key (sym h.last ∙ some) in
-    let all : parts_of w.policy given ≡ given.cut ++ key_part w.policy left ∷ [] = ap (λ (ps : List KeyPart). given.cut ++ ps) rest.one in
-    let parts' : v.parts ≡ w.parts ++ record { end_key = key; filter = cuts.filter } ∷ [] = cuts.parts ∙ ap (λ ps. ps ++ record { end_key = key; filter = cuts.filter } ∷ []) parts in
-    let is : IsFilterFor w.policy left cuts.filter = subst (λ p. IsFilterFor p left cuts.filter) policy (cuts.is left (hashes ∙ h.hashes)) in
-    let count : length u.hashes ≡ length left = ap length (hashes ∙ h.hashes) ∙ length-map left hash_of in
-    let bound' : v.bound ≡ capped (w.bound + bound_for (tenths_of w.policy) (length left)) = cuts.bound ∙ rw (bound, policy, count) refl in
+    let all : parts_of w.policy given ≡ given.cut ++ key_part w.policy left ∷ [] =
+    ap (λ (ps : List KeyPart). given.cut ++ ps) rest.one in
+    let parts' : v.parts ≡ w.parts ++ record { end_key = key; filter = cuts.filter } ∷ [] =
+    cuts.parts ∙ ap (λ ps. ps ++ record { end_key = key; filter = cuts.filter } ∷ []) parts in
+    let is : IsFilterFor w.policy left cuts.filter =
+    subst (λ p. IsFilterFor p left cuts.filter) policy (cuts.is left (hashes ∙ h.hashes)) in
+    let count : length u.hashes ≡ length left = ap length (hashes ∙ h.hashes)
+    ∙ length-map left hash_of in
+    let bound' : v.bound ≡ capped (w.bound + bound_for (tenths_of w.policy) (length left)) =
+    cuts.bound ∙ rw (bound, policy, count) refl in
     let has : HasParts v (parts_of w.policy given) =
     subst (λ (ps : List KeyPart). HasParts v ps) (sym all)
-    (has_more w v given.cut (key_part w.policy left) key cuts.filter h.cut (record { some = rest.some }) is rest.last parts' bound') in
+    (has_more w v given.cut (key_part w.policy left) key cuts.filter h.cut
+    (record { some = rest.some }) is rest.last parts' bound') in
     subst (λ (p : BloomConstructionPolicy). HasParts v (parts_of p given)) (sym policy') has
 
 -- and what it refuses is what its count tells
-pub rest_fault_none : (w : CutParts) (given : GivenKeys) → HoldsParts w given → w.last ≡ None → keys_fault w.policy given.pending ≡ None
-rest_fault_none w given h none = ap (λ ks. keys_fault w.policy ks) (no_waiting _ (sym h.last ∙ none))
+pub rest_fault_none : (w : CutParts) (given : GivenKeys) → HoldsParts w given → w.last ≡ None
+    → keys_fault w.policy given.pending ≡ None
+rest_fault_none w given h none = ap (λ ks. keys_fault w.policy ks)
+    (no_waiting _ (sym h.last ∙ none))
 
-pub rest_fault_some : (w : CutParts) (given : GivenKeys) (key : List ℕ) → HoldsParts w given → w.last ≡ Some key →
+pub rest_fault_some : (w : CutParts) (given : GivenKeys) (key : List ℕ) → HoldsParts w given
+    → w.last ≡ Some key →
     keys_fault w.policy given.pending ≡ fault_for (tenths_of w.policy) (length w.hashes)
 rest_fault_some w given key h some =
-    fault_of given.pending key (sym h.last ∙ some) ∙ ap (λ (n : ℕ). fault_for (tenths_of w.policy) n) (sym (ap length h.hashes ∙ length-map given.pending hash_of))
+    fault_of given.pending key (sym h.last ∙ some)
+    ∙ ap (λ (n : ℕ). fault_for (tenths_of w.policy) n)
+    (sym (ap length h.hashes ∙ length-map given.pending hash_of))
   where
-    fault_of : (ks : List (List ℕ)) (key : List ℕ) → last_key_of ks ≡ Some key → keys_fault w.policy ks ≡ fault_for (tenths_of w.policy) (length ks)
+    fault_of : (ks : List (List ℕ)) (key : List ℕ) → last_key_of ks ≡ Some key
+        → keys_fault w.policy ks ≡ fault_for (tenths_of w.policy) (length ks)
     fault_of [] key e = cc
     fault_of (k ∷ ks) key e = refl
 
 -- a key is pushed: it fills a part, or waits
-pub pushed_cuts : (w u v : CutParts) (given : GivenKeys) (key end_key : List ℕ) (hash : ℕ) (r : Bool) → Cuts end_key u v → HoldsParts w given → end_key ≡ key → hash ≡ hash_of key →
-    u.policy ≡ w.policy → u.size ≡ w.size → u.parts ≡ w.parts → u.bound ≡ w.bound → u.hashes ≡ w.hashes ++ hash ∷ [] →
-    r ≡ nat_le u.size (size_for (tenths_of u.policy) (length u.hashes)) → r ≡ true → HoldsParts v (with_key (Partitioned w.size) w.policy given key)
-pushed_cuts w u v given key end_key hash r cuts h same hashed policy size parts bound hashes test t =
+pub pushed_cuts : (w u v : CutParts) (given : GivenKeys) (key end_key : List ℕ) (hash : ℕ)
+    (r : Bool) → Cuts end_key u v → HoldsParts w given → end_key ≡ key → hash ≡ hash_of key →
+    u.policy ≡ w.policy → u.size ≡ w.size → u.parts ≡ w.parts → u.bound ≡ w.bound
+    → u.hashes ≡ w.hashes ++ hash ∷ [] →
+    r ≡ nat_le u.size (size_for (tenths_of u.policy) (length u.hashes)) → r ≡ true
+    → HoldsParts v (with_key (Partitioned w.size) w.policy given key)
+pushed_cuts w u v given key end_key hash r cuts h same hashed policy size parts bound hashes test
+    t =
     key_cuts w u given key h
-    (record { policy = policy; size = size; parts = parts; bound = bound; hashes = hashes ∙ ap (λ (x : ℕ). w.hashes ++ x ∷ []) hashed })
+    (record {
+      policy = policy;
+      size = size;
+      parts = parts;
+      bound = bound;
+      hashes = hashes
+          ∙ ap (λ (x : ℕ). w.hashes ++ x ∷ []) hashed;
+    })
     v (sym test ∙ t) (subst (λ (k : List ℕ). Cuts k u v) same cuts)
 
-pub pushed_waits : (w u v : CutParts) (given : GivenKeys) (key end_key : List ℕ) (hash : ℕ) (r : Bool) → HoldsParts w given → end_key ≡ key → hash ≡ hash_of key →
-    u.policy ≡ w.policy → u.size ≡ w.size → u.parts ≡ w.parts → u.bound ≡ w.bound → u.hashes ≡ w.hashes ++ hash ∷ [] →
+pub pushed_waits : (w u v : CutParts) (given : GivenKeys) (key end_key : List ℕ) (hash : ℕ)
+    (r : Bool) → HoldsParts w given → end_key ≡ key → hash ≡ hash_of key →
+    u.policy ≡ w.policy → u.size ≡ w.size → u.parts ≡ w.parts → u.bound ≡ w.bound
+    → u.hashes ≡ w.hashes ++ hash ∷ [] →
     v.parts ≡ u.parts → v.bound ≡ u.bound → v.hashes ≡ u.hashes → v.last ≡ Some end_key →
-    r ≡ nat_le u.size (size_for (tenths_of u.policy) (length u.hashes)) → r ≡ false → HoldsParts v (with_key (Partitioned w.size) w.policy given key)
-pushed_waits w u v given key end_key hash r h same hashed policy size parts bound hashes parts' bound' hashes' last test f =
+    r ≡ nat_le u.size (size_for (tenths_of u.policy) (length u.hashes)) → r ≡ false
+    → HoldsParts v (with_key (Partitioned w.size) w.policy given key)
+pushed_waits w u v given key end_key hash r h same hashed policy size parts bound hashes parts'
+    bound' hashes' last test f =
     key_waits w u given key h
-    (record { policy = policy; size = size; parts = parts; bound = bound; hashes = hashes ∙ ap (λ (x : ℕ). w.hashes ++ x ∷ []) hashed })
+    (record {
+      policy = policy;
+      size = size;
+      parts = parts;
+      bound = bound;
+      hashes = hashes
+          ∙ ap (λ (x : ℕ). w.hashes ++ x ∷ []) hashed;
+    })
     v (sym test ∙ f) parts' bound' hashes' (last ∙ ap (λ (k : List ℕ). Some k) same)
 
 -- and what pushing it refuses
-module _ (w u : CutParts) (given : GivenKeys) (key : List ℕ) (hash : ℕ) (r : Bool) (h : HoldsParts w given) (hashed : hash ≡ hash_of key)
-    (policy : u.policy ≡ w.policy) (size : u.size ≡ w.size) (parts : u.parts ≡ w.parts) (bound : u.bound ≡ w.bound) (hashes : u.hashes ≡ w.hashes ++ hash ∷ [])
+module _ (w u : CutParts) (given : GivenKeys) (key : List ℕ) (hash : ℕ) (r : Bool)
+    (h : HoldsParts w given) (hashed : hash ≡ hash_of key)
+    (policy : u.policy ≡ w.policy) (size : u.size ≡ w.size) (parts : u.parts ≡ w.parts)
+    (bound : u.bound ≡ w.bound) (hashes : u.hashes ≡ w.hashes ++ hash ∷ [])
     (test : r ≡ nat_le u.size (size_for (tenths_of u.policy) (length u.hashes))) where
   adds : Adds key w u
-  adds = record { policy = policy; size = size; parts = parts; bound = bound; hashes = hashes ∙ ap (λ (x : ℕ). w.hashes ++ x ∷ []) hashed }
+  adds = record {
+    policy = policy;
+    size = size;
+    parts = parts;
+    bound = bound;
+    hashes = hashes
+        ∙ ap (λ (x : ℕ). w.hashes ++ x ∷ []) hashed;
+  }
 
   abbrev part : List (List ℕ)
   part = given.pending ++ key ∷ []
 
-  pub cuts_fault : {X : Type 0} (result : Result X Error) → r ≡ true → Faults result (fault_for (tenths_of u.policy) (length u.hashes)) →
+  pub cuts_fault : {X : Type 0} (result : Result X Error) → r ≡ true
+      → Faults result (fault_for (tenths_of u.policy) (length u.hashes)) →
       Faults result (register_fault (Partitioned w.size) w.policy given.pending key)
   cuts_fault result t fault =
-      let filled : is_full_filter w.policy w.size part ≡ true = sym (test_is w u given key h adds) ∙ sym test ∙ t in
-      let told : register_fault (Partitioned w.size) w.policy given.pending key ≡ fault_for (tenths_of u.policy) (length u.hashes) =
+      let filled : is_full_filter w.policy w.size part ≡ true = sym (test_is w u given key h adds)
+      ∙ sym test ∙ t in
+      let told : register_fault (Partitioned w.size) w.policy given.pending key
+      ≡ fault_for (tenths_of u.policy) (length u.hashes) =
       ap (λ (b : Bool). if b then fault_for (tenths_of w.policy) (length part) else None) filled
       ∙ ap (λ (n : ℕ). fault_for (tenths_of w.policy) n) (sym (count_more w u given key h adds))
-      ∙ ap (λ (p : BloomConstructionPolicy). fault_for (tenths_of p) (length u.hashes)) (sym policy) in
+      ∙ ap (λ (p : BloomConstructionPolicy). fault_for (tenths_of p) (length u.hashes))
+      (sym policy) in
       subst (λ x. Faults result x) (sym told) fault
 
-  pub waits_fault : r ≡ false → register_fault (Partitioned w.size) w.policy given.pending key ≡ None
+  pub waits_fault : r ≡ false → register_fault (Partitioned w.size) w.policy given.pending key
+      ≡ None
   waits_fault f =
-      let waits : is_full_filter w.policy w.size part ≡ false = sym (test_is w u given key h adds) ∙ sym test ∙ f in
+      let waits : is_full_filter w.policy w.size part ≡ false = sym (test_is w u given key h adds)
+      ∙ sym test ∙ f in
       ap (λ (b : Bool). if b then fault_for (tenths_of w.policy) (length part) else None) waits
 
-pub rest_fault_for : {X : Type 0} (result : Result X Error) (w : CutParts) (given : GivenKeys) (key : List ℕ) (policy : BloomConstructionPolicy) (hashes : List ℕ) → HoldsParts w given →
-    w.last ≡ Some key → policy ≡ w.policy → hashes ≡ w.hashes → Faults result (fault_for (tenths_of policy) (length hashes)) →
+pub rest_fault_for : {X : Type 0} (result : Result X Error) (w : CutParts) (given : GivenKeys)
+    (key : List ℕ) (policy : BloomConstructionPolicy) (hashes : List ℕ) → HoldsParts w given →
+    w.last ≡ Some key → policy ≡ w.policy → hashes ≡ w.hashes
+    → Faults result (fault_for (tenths_of policy) (length hashes)) →
     Faults result (keys_fault w.policy given.pending)
 rest_fault_for result w given key policy hashes h some same held fault =
     let told : keys_fault w.policy given.pending ≡ fault_for (tenths_of policy) (length hashes) =
@@ -261,19 +369,27 @@ pub some_is_not_none : (last : Option (List ℕ)) (key : List ℕ) → last ≡ 
 some_is_not_none last key some none = let e : Some key ≡ None = sym some ∙ none in cc
 
 -- the last keys rise, with that of a part that was cut, and with that of one that waits
-pub cut_rising : (cs longer parts : List CutPart) (part : CutPart) (key : List ℕ) (last : Option (List ℕ)) → cs ≡ parts → part.end_key ≡ key → longer ≡ cs ++ part ∷ [] → last ≡ None →
+pub cut_rising : (cs longer parts : List CutPart) (part : CutPart) (key : List ℕ)
+    (last : Option (List ℕ)) → cs ≡ parts → part.end_key ≡ key → longer ≡ cs ++ part ∷ []
+    → last ≡ None →
     AreRising (end_keys parts ++ key ∷ []) → AreRising (end_keys longer ++ as_list last)
 cut_rising cs longer parts part key last same named pushed none rising =
     let keys : end_keys longer ≡ end_keys parts ++ key ∷ [] =
-    ap (λ (ps : List CutPart). end_keys ps) pushed ∙ map-append (λ (p : CutPart). p.end_key) cs (part ∷ [])
-    ∙ ap (λ (k : List ℕ). end_keys cs ++ k ∷ []) named ∙ ap (λ (ps : List CutPart). end_keys ps ++ key ∷ []) same in
+    ap (λ (ps : List CutPart). end_keys ps) pushed
+    ∙ map-append (λ (p : CutPart). p.end_key) cs (part ∷ [])
+    ∙ ap (λ (k : List ℕ). end_keys cs ++ k ∷ []) named
+    ∙ ap (λ (ps : List CutPart). end_keys ps ++ key ∷ []) same in
     let all : end_keys longer ++ as_list last ≡ end_keys parts ++ key ∷ [] =
-    ap (λ (x : Option (List ℕ)). end_keys longer ++ as_list x) none ∙ append-nil (end_keys longer) ∙ keys in
+    ap (λ (x : Option (List ℕ)). end_keys longer ++ as_list x) none ∙ append-nil (end_keys longer)
+    ∙ keys in
     subst (λ ks. AreRising ks) (sym all) rising
 
-pub waits_rising : (cs parts : List CutPart) (key end_key : List ℕ) (last : Option (List ℕ)) → cs ≡ parts → end_key ≡ key → last ≡ Some end_key →
+pub waits_rising : (cs parts : List CutPart) (key end_key : List ℕ) (last : Option (List ℕ))
+    → cs ≡ parts → end_key ≡ key → last ≡ Some end_key →
     AreRising (end_keys parts ++ key ∷ []) → AreRising (end_keys cs ++ as_list last)
 waits_rising cs parts key end_key last same named some rising =
     let all : end_keys cs ++ as_list last ≡ end_keys parts ++ key ∷ [] =
-    ap (λ (x : Option (List ℕ)). end_keys cs ++ as_list x) (some ∙ ap (λ (k : List ℕ). Some k) named) ∙ ap (λ (ps : List CutPart). end_keys ps ++ key ∷ []) same in
+    ap (λ (x : Option (List ℕ)). end_keys cs ++ as_list x)
+    (some ∙ ap (λ (k : List ℕ). Some k) named)
+    ∙ ap (λ (ps : List CutPart). end_keys ps ++ key ∷ []) same in
     subst (λ ks. AreRising ks) (sym all) rising

@@ -38,7 +38,8 @@ module _ {F C : Type 0} (gives : F → Entry → Result Verdict Error → F → 
   says_head : (x : Entry) (v : Result Verdict Error) (f g h : F) (js : List Judged)
       → Asks gives f x v g → SaysOf gives g js h → SaysOf gives f (asked_head (judged x v) ++ js) h
   says_head x v f g h js asks says =
-      elim (not (is_tombstone_kind x.kind)) as (λ b. AsksIf gives b f x v g → SaysOf gives f (cond b (judged x v ∷ []) [] ++ js) h) [
+      elim (not (is_tombstone_kind x.kind)) as (λ b. AsksIf gives b f x v g
+      → SaysOf gives f (cond b (judged x v ∷ []) [] ++ js) h) [
         | true ↦ λ a. (g, a, says)
         | false ↦ λ a. subst (λ u. SaysOf gives u js h) a.1 says
       ] asks
@@ -46,7 +47,8 @@ module _ {F C : Type 0} (gives : F → Entry → Result Verdict Error → F → 
   stays : (x : Entry) (v : Result Verdict Error) (f g : F) → Asks gives f x v g
       → StaysIfTombstone (judged x v)
   stays x v f g asks =
-      elim (is_tombstone_kind x.kind) as (λ b. AsksIf gives (not b) f x v g → b ≡ true → v ≡ Ok keep) [
+      elim (is_tombstone_kind x.kind) as (λ b. AsksIf gives (not b) f x v g → b ≡ true
+      → v ≡ Ok keep) [
         | true ↦ λ a e. a.0
         | false ↦ λ a e. absurd cc
       ] asks
@@ -57,14 +59,21 @@ module _ {F C : Type 0} (gives : F → Entry → Result Verdict Error → F → 
       → Compacted gives gets rules f c (Ok x ∷ rs) (listed r ++ gave) g d
   turn_more f h g c b d x rs zs r gave t rest =
       let v = t.verdict in
-      let e = turn_explained StaysIfTombstone (λ y _. refl) rules x v rs rest.judged (rest.over ∙ t.leaves) in
+      let e = turn_explained StaysIfTombstone (λ y _. refl) rules x v rs rest.judged
+      (rest.over ∙ t.leaves) in
       record {
         judged = e.js;
         over = e.over;
-        tombstones = to_tombstones e.js (e.each (stays x v f h t.asks) (of_tombstones rest.judged rest.tombstones));
-        answers = ap (λ (o : Option R). listed o ++ gave) t.answers ∙ ap (λ (ys : List R). listed (turned rules (told_by x v) rs).answer ++ ys) rest.answers ∙ sym e.gives;
-        says = subst (λ (js : List Judged). SaysOf gives f js g) (sym e.asks) (says_head x v f h g (asked rules rest.judged) t.asks rest.says);
-        reports = subst (λ (ys : List Entry). GetsAll gets c ys d) (sym e.reports) (gets_append gets (reports_by x v ++ (turned rules (told_by x v) rs).reports) (reported rules rest.judged) c b d t.reports rest.reports);
+        tombstones = to_tombstones e.js (e.each (stays x v f h t.asks)
+            (of_tombstones rest.judged rest.tombstones));
+        answers = ap (λ (o : Option R). listed o ++ gave) t.answers
+            ∙ ap (λ (ys : List R). listed (turned rules (told_by x v) rs).answer ++ ys) rest.answers
+            ∙ sym e.gives;
+        says = subst (λ (js : List Judged). SaysOf gives f js g) (sym e.asks)
+            (says_head x v f h g (asked rules rest.judged) t.asks rest.says);
+        reports = subst (λ (ys : List Entry). GetsAll gets c ys d) (sym e.reports)
+            (gets_append gets (reports_by x v ++ (turned rules (told_by x v) rs).reports)
+            (reported rules rest.judged) c b d t.reports rest.reports);
       }
 
   -- a call before the rest of a compaction
@@ -82,7 +91,9 @@ module _ {F C : Type 0} (gives : F → Entry → Result Verdict Error → F → 
     reports = rest.reports;
   }
   call_more g d gave f h c b xs ys r (answered t) rest = turn_more f h g c b d _ _ ys r gave t rest
-  call_more g d gave f h c b xs ys r (again t more) rest = turn_more f _ g c _ d _ _ _ None (listed r ++ gave) t (call_more g d gave _ h _ b _ ys r more rest)
+  call_more g d gave f h c b xs ys r (again t more) rest =
+      turn_more f _ g c _ d _ _ _ None (listed r ++ gave) t
+      (call_more g d gave _ h _ b _ ys r more rest)
 
   -- a call answers none only where nothing is left
   pub call_none : (f h : F) (c b : C) (xs ys : List R) (r : Option R)

@@ -17,5 +17,7 @@ lt_reverse Greater = refl
 
 pub key_le : (x y : Entry) → AtMost x y → KeyLe x.user_key y.user_key
 key_le x y h =
-    ap is_lt (nat_list_cmp_total.antisymm y.user_key x.user_key) ∙ lt_reverse (slice_cmp nat_cmp x.user_key y.user_key)
-    ∙ gt_first (slice_cmp nat_cmp x.user_key y.user_key) (ordering_then (nat_cmp y.seqno x.seqno) (nat_cmp (tag_of x.kind) (tag_of y.kind))) h
+    ap is_lt (nat_list_cmp_total.antisymm y.user_key x.user_key)
+    ∙ lt_reverse (slice_cmp nat_cmp x.user_key y.user_key)
+    ∙ gt_first (slice_cmp nat_cmp x.user_key y.user_key)
+    (ordering_then (nat_cmp y.seqno x.seqno) (nat_cmp (tag_of x.kind) (tag_of y.kind))) h

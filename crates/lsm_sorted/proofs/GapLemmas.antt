@@ -1,5 +1,6 @@
 -- What a source deals that ends at its first error.
-use Rattle.std.proofs.Common.{◌≡◌, ◌⊎◌, inl, inr, refl, sym, ◌∙◌, ap, subst, Bool, true, false, List, [], ◌∷◌, ◌++◌, reverse, append_assoc}
+use Rattle.std.proofs.Common.{◌≡◌, ◌⊎◌, inl, inr, refl, sym, ◌∙◌, ap, subst, Bool, true, false}
+use Rattle.std.proofs.Common.{List, [], ◌∷◌, ◌++◌, reverse, append_assoc}
 use Rattle.std.specs.Prelude.{Option, Some, None, Ok, Err, Contains}
 use Rattle.std.specs.List.{AllByRecursion}
 use Rattle.std.proofs.lemmas.List.{append-nil, reverse-append, reverse-reverse}
@@ -7,7 +8,8 @@ use Rattle.sst_entries.specs.Entry.{Entry}
 use Rattle.sst_entries.specs.declared.error.Error.{Error}
 use Rattle.sst_entries.specs.declared.stream.Direction.{Direction}
 use Rattle.sst_entries.specs.declared.stream.Direction.TheVariants.{Front, Back}
-use Rattle.sst_entries.specs.Stream.{Runs, Deals, answer_stops, ok_results, deal, first, but_first, last, but_last, EndsAtError}
+use Rattle.sst_entries.specs.Stream.{Runs, Deals, answer_stops, ok_results, deal, first, but_first}
+use Rattle.sst_entries.specs.Stream.{last, but_last, EndsAtError}
 use Rattle.sst_entries.proofs.StreamLemmas.{deals_front, deals_back, map_append, map_reverse}
 use Rattle.lsm_merge.specs.Ends.{R}
 use Rattle.lsm_merge.specs.Union.{all_errors, union_of}
@@ -19,17 +21,20 @@ use Rattle.lsm_sorted.specs.Gap.{HasGap, IsUpToGap, DealsUpToGap, MergesUpToGap}
 use Rattle.lsm_sorted.proofs.PeekedLemmas.{last_of, others_of}
 
 -- the first entry of several, and the last
-ok_first : (es : List Entry) (x : Entry) → Some (Ok x) ≡ first (ok_results es) → (ys : List Entry) × (es ≡ x ∷ ys)
+ok_first : (es : List Entry) (x : Entry) → Some (Ok x) ≡ first (ok_results es)
+    → (ys : List Entry) × (es ≡ x ∷ ys)
 ok_first [] x e = absurd cc
 ok_first (y ∷ ys) x e = (ys, cc e)
 
-ok_last : (es : List Entry) (x : Entry) → Some (Ok x) ≡ last (ok_results es) → (ys : List Entry) × (es ≡ ys ++ x ∷ [])
+ok_last : (es : List Entry) (x : Entry) → Some (Ok x) ≡ last (ok_results es)
+    → (ys : List Entry) × (es ≡ ys ++ x ∷ [])
 ok_last es x e =
     let w = ok_first (reverse es) x (e ∙ ap first (map_reverse es)) in
     (reverse w.0, sym (reverse-reverse es) ∙ ap reverse w.1 ∙ reverse-append (x ∷ []) w.0)
 
 module _ (stops : Error → Bool) (errors : List Error) where
-  before_gap : (x : Entry) (es : List Entry) (xs : List R) → IsUpToGap stops es errors xs → IsUpToGap stops (x ∷ es) errors (Ok x ∷ xs)
+  before_gap : (x : Entry) (es : List Entry) (xs : List R) → IsUpToGap stops es errors xs
+      → IsUpToGap stops (x ∷ es) errors (Ok x ∷ xs)
   before_gap x es xs (inl e) = inl (ap (λ (ys : List R). Ok x ∷ ys) e)
   before_gap x es xs (inr h) = inr (
     h.0,
@@ -43,8 +48,10 @@ module _ (stops : Error → Bool) (errors : List Error) where
     h.2,
   )
 
-  behind_gap : (x : Entry) (es : List Entry) (xs : List R) → IsUpToGap stops es errors xs → IsUpToGap stops (es ++ x ∷ []) errors (xs ++ Ok x ∷ [])
-  behind_gap x es xs (inl e) = inl (ap (λ (ys : List R). ys ++ Ok x ∷ []) e ∙ sym (map_append es (x ∷ [])))
+  behind_gap : (x : Entry) (es : List Entry) (xs : List R) → IsUpToGap stops es errors xs
+      → IsUpToGap stops (es ++ x ∷ []) errors (xs ++ Ok x ∷ [])
+  behind_gap x es xs (inl e) = inl (ap (λ (ys : List R). ys ++ Ok x ∷ []) e
+      ∙ sym (map_append es (x ∷ [])))
   behind_gap x es xs (inr h) =
       let g = h.1 in
       inr (
@@ -53,15 +60,32 @@ module _ (stops : Error → Bool) (errors : List Error) where
           before = g.before;
           gap = g.gap;
           behind = g.behind ++ x ∷ [];
-          parts = ap (λ (ys : List Entry). ys ++ x ∷ []) g.parts ∙ append_assoc g.before (g.gap ++ g.behind) (x ∷ []) ∙ ap (λ (ys : List Entry). g.before ++ ys) (append_assoc g.gap g.behind (x ∷ []));
-          is = ap (λ (ys : List R). ys ++ Ok x ∷ []) g.is ∙ append_assoc (ok_results g.before) (Err h.0 ∷ ok_results g.behind) (Ok x ∷ []) ∙ ap (λ (ys : List R). ok_results g.before ++ Err h.0 ∷ ys) (sym (map_append g.behind (x ∷ [])));
+          parts = ap (λ (ys : List Entry). ys ++ x ∷ []) g.parts
+              ∙ append_assoc g.before (g.gap ++ g.behind) (x ∷ [])
+              ∙ ap (λ (ys : List Entry). g.before ++ ys) (append_assoc g.gap g.behind (x ∷ []));
+          is = ap (λ (ys : List R). ys ++ Ok x ∷ []) g.is
+              ∙ append_assoc (ok_results g.before) (Err h.0 ∷ ok_results g.behind) (Ok x ∷ [])
+              ∙ ap (λ (ys : List R). ok_results g.before ++ Err h.0 ∷ ys)
+              (sym (map_append g.behind (x ∷ [])));
         },
         h.2,
       )
 
   -- all entries are in the gap
-  all_gap : (e : Error) (es : List Entry) → (stops e ≡ true) ⊎ Contains errors e → IsUpToGap stops es errors (Err e ∷ [])
-  all_gap e es h = inr (e, record { before = []; gap = es; behind = []; parts = sym (append-nil es); is = refl }, h)
+  all_gap : (e : Error) (es : List Entry) → (stops e ≡ true) ⊎ Contains errors e
+      → IsUpToGap stops es errors (Err e ∷ [])
+  all_gap e es h = inr (
+    e,
+    record {
+      before = [];
+      gap = es;
+      behind = [];
+      parts =
+          sym (append-nil es);
+      is = refl;
+    },
+    h,
+  )
 
   module _ {T : Type 0} (next next_back : T → Option R → T → Type 0) where
     -- a source that has met no error yet
@@ -70,14 +94,18 @@ module _ (stops : Error → Bool) (errors : List Error) where
       pub until : DealsUntil stops next next_back t es errors
       pub ends : EndsAtError next next_back t
 
-    none_left : (ds : List Direction) (rs : List (Option R)) (t u : T) → Runs next next_back t ds rs u → AllByRecursion (λ r. r ≡ None) rs → rs ≡ deal [] ds
+    none_left : (ds : List Direction) (rs : List (Option R)) (t u : T)
+        → Runs next next_back t ds rs u → AllByRecursion (λ r. r ≡ None) rs → rs ≡ deal [] ds
     none_left [] [] t u runs h = refl
     none_left [] (r ∷ rs) t u runs h = absurd runs
     none_left (d ∷ ds) [] t u runs h = absurd runs
-    none_left (Front ∷ ds) (r ∷ rs) t u runs h = let one = h.0 in let more = none_left ds rs runs.0 u runs.2 h.1 in cc (one, more)
-    none_left (Back ∷ ds) (r ∷ rs) t u runs h = let one = h.0 in let more = none_left ds rs runs.0 u runs.2 h.1 in cc (one, more)
+    none_left (Front ∷ ds) (r ∷ rs) t u runs h = let one = h.0 in let more =
+        none_left ds rs runs.0 u runs.2 h.1 in cc (one, more)
+    none_left (Back ∷ ds) (r ∷ rs) t u runs h = let one = h.0 in let more =
+        none_left ds rs runs.0 u runs.2 h.1 in cc (one, more)
 
-    no_ends : (ds : List Direction) (rs : List (Option R)) (t u : T) → Runs next next_back t ds rs u → rs ≡ [] → ds ≡ []
+    no_ends : (ds : List Direction) (rs : List (Option R)) (t u : T) → Runs next next_back t ds rs u
+        → rs ≡ [] → ds ≡ []
     no_ends [] rs t u runs e = refl
     no_ends (d ∷ ds) [] t u runs e = absurd runs
     no_ends (d ∷ ds) (r ∷ rs) t u runs e = absurd cc
@@ -86,74 +114,136 @@ module _ (stops : Error → Bool) (errors : List Error) where
     abbrev pub Told : List Entry → List Direction → List (Option R) → Type 0
     Told es ds rs = (xs : List R) × IsUpToGap stops es errors xs × (rs ≡ deal xs ds)
 
-    at_front : (x : Entry) (es : List Entry) (ds : List Direction) (rs : List (Option R)) → Told es ds rs → Told (x ∷ es) (Front ∷ ds) (Some (Ok x) ∷ rs)
-    at_front x es ds rs h = (Ok x ∷ h.0, before_gap x es h.0 h.1, ap (λ (qs : List (Option R)). Some (Ok x) ∷ qs) h.2)
+    at_front : (x : Entry) (es : List Entry) (ds : List Direction) (rs : List (Option R))
+        → Told es ds rs → Told (x ∷ es) (Front ∷ ds) (Some (Ok x) ∷ rs)
+    at_front x es ds rs h = (
+      Ok x ∷ h.0,
+      before_gap x es h.0 h.1,
+      ap
+          (λ (qs : List (Option R)). Some (Ok x) ∷ qs) h.2,
+    )
 
-    at_back : (x : Entry) (es : List Entry) (ds : List Direction) (rs : List (Option R)) → Told es ds rs → Told (es ++ x ∷ []) (Back ∷ ds) (Some (Ok x) ∷ rs)
+    at_back : (x : Entry) (es : List Entry) (ds : List Direction) (rs : List (Option R))
+        → Told es ds rs → Told (es ++ x ∷ []) (Back ∷ ds) (Some (Ok x) ∷ rs)
     at_back x es ds rs h =
         let xs = h.0 ++ Ok x ∷ [] in
         let one : Some (Ok x) ≡ last xs = last_of xs h.0 (Ok x) refl in
-        let more : rs ≡ deal (but_last xs) ds = h.2 ∙ ap (λ (ys : List R). deal ys ds) (sym (others_of xs h.0 (Ok x) refl)) in
+        let more : rs ≡ deal (but_last xs) ds = h.2
+        ∙ ap (λ (ys : List R). deal ys ds) (sym (others_of xs h.0 (Ok x) refl)) in
         (xs, behind_gap x es h.0 h.1, cc (one, more))
 
-    whose : (e : Error) (end : Direction) (t v : T) (es : List Entry) → Unfailed t es → Runs next next_back t (end ∷ []) (Some (Err e) ∷ []) v → (stops e ≡ true) ⊎ Contains errors e
-    whose e end t v es g runs = elim (stops e) as (λ b. stops e ≡ b → (stops e ≡ true) ⊎ Contains errors e) [ true ↦ λ h. inl h | false ↦ λ h. inr (told end runs h) ] refl
+    whose : (e : Error) (end : Direction) (t v : T) (es : List Entry) → Unfailed t es
+        → Runs next next_back t (end ∷ []) (Some (Err e) ∷ []) v
+        → (stops e ≡ true) ⊎ Contains errors e
+    whose e end t v es g runs = elim (stops e) as
+        (λ b. stops e ≡ b → (stops e ≡ true) ⊎ Contains errors e)
+        [ true ↦ λ h. inl h | false ↦ λ h. inr (told end runs h) ] refl
       where
-        told : (end : Direction) → Runs next next_back t (end ∷ []) (Some (Err e) ∷ []) v → stops e ≡ false → Contains errors e
+        told : (end : Direction) → Runs next next_back t (end ∷ []) (Some (Err e) ∷ []) v
+            → stops e ≡ false → Contains errors e
         told Front runs h = (g.until.answers (Front ∷ []) (Some (Err e) ∷ []) v runs (h, tt)).0
         told Back runs h = (g.until.answers (Back ∷ []) (Some (Err e) ∷ []) v runs (h, tt)).0
 
-    pub told_up_to_gap : (ds : List Direction) (rs : List (Option R)) (t u : T) (es : List Entry) → Unfailed t es → Runs next next_back t ds rs u → StopsAtNone false rs → Told es ds rs
+    pub told_up_to_gap : (ds : List Direction) (rs : List (Option R)) (t u : T) (es : List Entry)
+        → Unfailed t es → Runs next next_back t ds rs u → StopsAtNone false rs → Told es ds rs
     told_up_to_gap [] [] t u es g runs once = (ok_results es, inl refl, refl)
     told_up_to_gap [] (r ∷ rs) t u es g runs once = absurd runs
     told_up_to_gap (d ∷ ds) [] t u es g runs once = absurd runs
     told_up_to_gap (Front ∷ ds) (None ∷ rs) t u es g runs once =
-        let one = (deals_front (answer_stops every_error) next next_back t (ok_results es) None runs.0 g.deals runs.1 refl).0 in
+        let one = (deals_front (answer_stops every_error) next next_back t
+        (ok_results es) None runs.0 g.deals runs.1 refl).0 in
         let none : ds ≡ [] = no_ends ds rs runs.0 u runs.2 once in
-        let more : rs ≡ deal (but_first (ok_results es)) ds = once ∙ ap (deal (but_first (ok_results es))) (sym none) in
+        let more : rs ≡ deal (but_first (ok_results es)) ds = once
+        ∙ ap (deal (but_first (ok_results es))) (sym none) in
         (ok_results es, inl refl, cc (one, more))
     told_up_to_gap (Back ∷ ds) (None ∷ rs) t u es g runs once =
-        let one = (deals_back (answer_stops every_error) next next_back t (ok_results es) None runs.0 g.deals runs.1 refl).0 in
+        let one = (deals_back (answer_stops every_error) next next_back t
+        (ok_results es) None runs.0 g.deals runs.1 refl).0 in
         let none : ds ≡ [] = no_ends ds rs runs.0 u runs.2 once in
-        let more : rs ≡ deal (but_last (ok_results es)) ds = once ∙ ap (deal (but_last (ok_results es))) (sym none) in
+        let more : rs ≡ deal (but_last (ok_results es)) ds = once
+        ∙ ap (deal (but_last (ok_results es))) (sym none) in
         (ok_results es, inl refl, cc (one, more))
     told_up_to_gap (Front ∷ ds) (Some (Err e) ∷ rs) t u es g runs once =
-        let more = none_left ds rs runs.0 u runs.2 (g.ends.answers (Front ∷ ds) (Some (Err e) ∷ rs) u runs) in
-        (Err e ∷ [], all_gap e es (whose e Front t runs.0 es g (runs.0, runs.1, refl)), ap (λ (qs : List (Option R)). Some (Err e) ∷ qs) more)
+        let more = none_left ds rs runs.0 u runs.2
+        (g.ends.answers (Front ∷ ds) (Some (Err e) ∷ rs) u runs) in (
+          Err e ∷ [],
+          all_gap e es (whose e Front t runs.0 es g (runs.0, runs.1, refl)),
+          ap
+              (λ (qs : List (Option R)). Some (Err e) ∷ qs) more,
+        )
     told_up_to_gap (Back ∷ ds) (Some (Err e) ∷ rs) t u es g runs once =
-        let more = none_left ds rs runs.0 u runs.2 (g.ends.answers (Back ∷ ds) (Some (Err e) ∷ rs) u runs) in
-        (Err e ∷ [], all_gap e es (whose e Back t runs.0 es g (runs.0, runs.1, refl)), ap (λ (qs : List (Option R)). Some (Err e) ∷ qs) more)
+        let more = none_left ds rs runs.0 u runs.2
+        (g.ends.answers (Back ∷ ds) (Some (Err e) ∷ rs) u runs) in (
+          Err e ∷ [],
+          all_gap e es (whose e Back t runs.0 es g (runs.0, runs.1, refl)),
+          ap
+              (λ (qs : List (Option R)). Some (Err e) ∷ qs) more,
+        )
     told_up_to_gap (Front ∷ ds) (Some (Ok x) ∷ rs) t u es g runs once =
-        let one = deals_front (answer_stops every_error) next next_back t (ok_results es) (Some (Ok x)) runs.0 g.deals runs.1 refl in
+        let one = deals_front (answer_stops every_error) next next_back t (ok_results es)
+        (Some (Ok x)) runs.0 g.deals runs.1 refl in
         let w = ok_first es x one.0 in
         let h : Unfailed t (x ∷ w.0) = subst (Unfailed t) w.1 g in
-        let left : Deals (answer_stops every_error) next next_back runs.0 (ok_results w.0) = (deals_front (answer_stops every_error) next next_back t (ok_results (x ∷ w.0)) (Some (Ok x)) runs.0 h.deals runs.1 refl).1 in
+        let left : Deals (answer_stops every_error) next next_back runs.0 (ok_results w.0) =
+        (deals_front (answer_stops every_error) next next_back t (ok_results (x ∷ w.0))
+        (Some (Ok x)) runs.0 h.deals runs.1 refl).1 in
         let still : Unfailed runs.0 w.0 = record {
           deals = left;
-          until = record { answers = λ es qs v more fine. (h.until.answers (Front ∷ es) (Some (Ok x) ∷ qs) v (runs.0, runs.1, more) (refl, fine)).1 };
-          ends = record { answers = λ es qs v more. h.ends.answers (Front ∷ es) (Some (Ok x) ∷ qs) v (runs.0, runs.1, more) };
+          until = record {
+            answers = λ es qs v more fine.
+                (h.until.answers (Front ∷ es) (Some (Ok x) ∷ qs) v (runs.0, runs.1, more)
+                (refl, fine)).1;
+          };
+          ends = record {
+            answers = λ es qs v more. h.ends.answers (Front ∷ es) (Some (Ok x) ∷ qs) v
+                (runs.0, runs.1, more);
+          };
         } in
-        subst (λ (ys : List Entry). Told ys (Front ∷ ds) (Some (Ok x) ∷ rs)) (sym w.1) (at_front x w.0 ds rs (told_up_to_gap ds rs runs.0 u w.0 still runs.2 once))
+        subst (λ (ys : List Entry). Told ys (Front ∷ ds) (Some (Ok x) ∷ rs)) (sym w.1)
+        (at_front x w.0 ds rs (told_up_to_gap ds rs runs.0 u w.0 still runs.2 once))
     told_up_to_gap (Back ∷ ds) (Some (Ok x) ∷ rs) t u es g runs once =
-        let one = deals_back (answer_stops every_error) next next_back t (ok_results es) (Some (Ok x)) runs.0 g.deals runs.1 refl in
+        let one = deals_back (answer_stops every_error) next next_back t (ok_results es)
+        (Some (Ok x)) runs.0 g.deals runs.1 refl in
         let w = ok_last es x one.0 in
         let h : Unfailed t (w.0 ++ x ∷ []) = subst (Unfailed t) w.1 g in
-        let others : but_last (ok_results (w.0 ++ x ∷ [])) ≡ ok_results w.0 = others_of (ok_results (w.0 ++ x ∷ [])) (ok_results w.0) (Ok x) (map_append w.0 (x ∷ [])) in
+        let others : but_last (ok_results (w.0 ++ x ∷ [])) ≡ ok_results w.0 =
+        others_of (ok_results (w.0 ++ x ∷ [])) (ok_results w.0) (Ok x)
+        (map_append w.0 (x ∷ [])) in
         let left : Deals (answer_stops every_error) next next_back runs.0 (ok_results w.0) =
-        subst (Deals (answer_stops every_error) next next_back runs.0) others (deals_back (answer_stops every_error) next next_back t (ok_results (w.0 ++ x ∷ [])) (Some (Ok x)) runs.0 h.deals runs.1 refl).1 in
+        subst (Deals (answer_stops every_error) next next_back runs.0) others
+        (deals_back (answer_stops every_error) next next_back t (ok_results (w.0 ++ x ∷ []))
+        (Some (Ok x)) runs.0 h.deals runs.1 refl).1 in
         let still : Unfailed runs.0 w.0 = record {
           deals = left;
-          until = record { answers = λ es qs v more fine. subst (λ (ys : List R). Follows errors (deal ys es) qs) others (h.until.answers (Back ∷ es) (Some (Ok x) ∷ qs) v (runs.0, runs.1, more) (refl, fine)).1 };
-          ends = record { answers = λ es qs v more. h.ends.answers (Back ∷ es) (Some (Ok x) ∷ qs) v (runs.0, runs.1, more) };
+          until = record {
+            answers = λ es qs v more fine. subst
+                (λ (ys : List R). Follows errors (deal ys es) qs) others
+                (h.until.answers (Back ∷ es) (Some (Ok x) ∷ qs) v (runs.0, runs.1, more)
+                (refl, fine)).1;
+          };
+          ends = record {
+            answers = λ es qs v more. h.ends.answers (Back ∷ es) (Some (Ok x) ∷ qs) v
+                (runs.0, runs.1, more);
+          };
         } in
-        subst (λ (ys : List Entry). Told ys (Back ∷ ds) (Some (Ok x) ∷ rs)) (sym w.1) (at_back x w.0 ds rs (told_up_to_gap ds rs runs.0 u w.0 still runs.2 once))
+        subst (λ (ys : List Entry). Told ys (Back ∷ ds) (Some (Ok x) ∷ rs)) (sym w.1)
+        (at_back x w.0 ds rs (told_up_to_gap ds rs runs.0 u w.0 still runs.2 once))
 
 -- of a merger, from what it deals up to an error
-pub merges_up_to_gap : {S T : Type 0} (front back : S → Option R → S → Type 0) (its : List S) (next next_back : T → Option R → T → Type 0) (t : T)
-    → DealsBeforeErrors front back its next next_back t → DealsUntilError front back its next next_back t → EndsAtError next next_back t → MergesUpToGap front back its next next_back t
+pub merges_up_to_gap : {S T : Type 0} (front back : S → Option R → S → Type 0) (its : List S)
+    (next next_back : T → Option R → T → Type 0) (t : T)
+    → DealsBeforeErrors front back its next next_back t
+    → DealsUntilError front back its next next_back t → EndsAtError next next_back t
+    → MergesUpToGap front back its next next_back t
 merges_up_to_gap front back its next next_back t before until ends = record {
   deals = λ stops lists sorted. record {
-    answers = λ ds rs u runs once. told_up_to_gap stops (all_errors lists) next next_back ds rs t u (union_of lists)
-        (record { deals = before.deals stops lists sorted; until = until.deals stops lists sorted; ends = ends }) runs once;
+    answers = λ ds rs u runs once. told_up_to_gap stops (all_errors lists) next next_back ds rs t u
+        (union_of lists)
+        (record {
+          deals = before.deals stops lists sorted;
+          until =
+              until.deals stops lists sorted;
+          ends = ends;
+        }) runs once;
   };
 }

@@ -22,8 +22,14 @@ use Rattle.sst_entries.proofs.Lists.{all_append}
 -- an induction over what is kept: a head before others that stay, or the last head of its key
 module _ (rules : Rules) (Q : List Entry → Type 0)
     (at_end : Q [])
-    (at_open : (x : Entry) (es : List Entry) → nat_lt x.seqno rules.watermark ≡ false → kept rules (unfiltered (x ∷ es)) ≡ zeroed rules x ∷ kept rules (unfiltered es) → Q es → Q (x ∷ es))
-    (at_close : (x : Entry) (own rest : List Entry) → AllOf x.user_key own → follows_in x.user_key (ok_results (unfiltered rest)) ≡ false → (nat_lt x.seqno rules.watermark ≡ true) ⊎ (own ≡ []) → kept rules (unfiltered (x ∷ (own ++ rest))) ≡ left_alone rules x own ++ kept rules (unfiltered rest) → Q rest → Q (x ∷ (own ++ rest))) where
+    (at_open : (x : Entry) (es : List Entry) → nat_lt x.seqno rules.watermark ≡ false
+    → kept rules (unfiltered (x ∷ es)) ≡ zeroed rules x ∷ kept rules (unfiltered es) → Q es
+    → Q (x ∷ es))
+    (at_close : (x : Entry) (own rest : List Entry) → AllOf x.user_key own
+    → follows_in x.user_key (ok_results (unfiltered rest)) ≡ false
+    → (nat_lt x.seqno rules.watermark ≡ true) ⊎ (own ≡ [])
+    → kept rules (unfiltered (x ∷ (own ++ rest))) ≡ left_alone rules x own
+    ++ kept rules (unfiltered rest) → Q rest → Q (x ∷ (own ++ rest))) where
   within : (n : ℕ) (es : List Entry) → length es ≤ n → Q es
   within n [] few = at_end
   within zero (x ∷ es) few = absurd (omega arith)
@@ -31,17 +37,26 @@ module _ (rules : Rules) (Q : List Entry → Type 0)
       let s = split x.user_key es in
       let few_rest : length es ≤ n = omega arith in
       let closes : (nat_lt x.seqno rules.watermark ≡ true) ⊎ (s.own ≡ []) → Q (x ∷ es) = λ last.
-      let few' : length s.rest ≤ n = length_rest s.own s.rest n (subst (λ (ys : List Entry). length ys ≤ n) s.is few_rest) in
-      subst (λ (ys : List Entry). Q (x ∷ ys)) (sym s.is) (at_close x s.own s.rest s.all s.over last (kept_close rules x s.own s.rest s.all s.over last) (within n s.rest few')) in
-      elim (nat_lt x.seqno rules.watermark) as (λ b. nat_lt x.seqno rules.watermark ≡ b → Q (x ∷ es)) [
+      let few' : length s.rest ≤ n = length_rest s.own s.rest n
+      (subst (λ (ys : List Entry). length ys ≤ n) s.is few_rest) in
+      subst (λ (ys : List Entry). Q (x ∷ ys)) (sym s.is)
+      (at_close x s.own s.rest s.all s.over last
+      (kept_close rules x s.own s.rest s.all s.over last) (within n s.rest few')) in
+      elim (nat_lt x.seqno rules.watermark) as (λ b. nat_lt x.seqno rules.watermark ≡ b
+      → Q (x ∷ es)) [
         | true ↦ λ low. closes (inl low)
         | false ↦ λ high. elim s.own as (λ own. s.own ≡ own → Q (x ∷ es)) [
           | [] ↦ λ e. closes (inr e)
           | y ∷ ys ↦ λ e.
-              let whole : es ≡ y ∷ (ys ++ s.rest) = s.is ∙ ap (λ (zs : List Entry). zs ++ s.rest) e in
+              let whole : es ≡ y ∷ (ys ++ s.rest) = s.is
+              ∙ ap (λ (zs : List Entry). zs ++ s.rest) e in
               let its : AllOf x.user_key (y ∷ ys) = subst (AllOf x.user_key) e s.all in
-              let same_first : same_key y.user_key x.user_key ≡ true = subst (λ (k : List ℕ). same_key y.user_key k ≡ true) its.0 (same_itself y.user_key) in
-              at_open x es high (subst (λ (zs : List Entry). kept rules (unfiltered (x ∷ zs)) ≡ zeroed rules x ∷ kept rules (unfiltered zs)) (sym whole) (kept_open rules x y (ys ++ s.rest) same_first high)) (within n es few_rest)
+              let same_first : same_key y.user_key x.user_key ≡ true =
+              subst (λ (k : List ℕ). same_key y.user_key k ≡ true) its.0
+              (same_itself y.user_key) in
+              at_open x es high (subst (λ (zs : List Entry). kept rules (unfiltered (x ∷ zs))
+              ≡ zeroed rules x ∷ kept rules (unfiltered zs)) (sym whole)
+              (kept_open rules x y (ys ++ s.rest) same_first high)) (within n es few_rest)
         ] refl
       ] refl
 
@@ -52,25 +67,37 @@ module _ (rules : Rules) (Q : List Entry → Type 0)
 module _ (rules : Rules) (P : Entry → Type 0) (lowers : (e : Entry) → P e → P (zeroed rules e))
   where
     alone_all : (x : Entry) (own : List Entry) → P x → AllByRecursion P (left_alone rules x own)
-    alone_all x own h = elim (goes rules.evict x.kind (first own)) as (λ b. AllByRecursion P (cond b [] (zeroed rules x ∷ []))) [ true ↦ tt | false ↦ (lowers x h, tt) ]
+    alone_all x own h = elim (goes rules.evict x.kind (first own)) as
+        (λ b. AllByRecursion P (cond b [] (zeroed rules x ∷ [])))
+        [ true ↦ tt | false ↦ (lowers x h, tt) ]
 
     pub all_kept : (es : List Entry) → AllByRecursion P es
         → AllByRecursion P (kept rules (unfiltered es))
-    all_kept = kept_by rules (λ es. AllByRecursion P es → AllByRecursion P (kept rules (unfiltered es)))
+    all_kept = kept_by rules (λ es. AllByRecursion P es
+        → AllByRecursion P (kept rules (unfiltered es)))
         (λ h. tt)
         (λ x es high is more h. subst (AllByRecursion P) (sym is) (lowers x h.0, more h.1))
-        (λ x own rest all over last is more h. subst (AllByRecursion P) (sym is) (all_append P (left_alone rules x own) (kept rules (unfiltered rest)) (alone_all x own h.0) (more (all_rest P own rest h.1))))
+        (λ x own rest all over last is more h. subst (AllByRecursion P) (sym is)
+        (all_append P (left_alone rules x own) (kept rules (unfiltered rest))
+        (alone_all x own h.0) (more (all_rest P own rest h.1))))
 
 -- a number that becomes 0 is no greater
 pub zeroed_below : (rules : Rules) (e : Entry) → (zeroed rules e).seqno ≤ e.seqno
-zeroed_below rules e = elim (rules.zeroing && nat_lt e.seqno rules.watermark) as (λ b. cond b 0 e.seqno ≤ e.seqno) [ true ↦ omega arith | false ↦ omega arith ]
+zeroed_below rules e = elim (rules.zeroing && nat_lt e.seqno rules.watermark) as
+    (λ b. cond b 0 e.seqno ≤ e.seqno) [ true ↦ omega arith | false ↦ omega arith ]
 
 zeroed_high : (rules : Rules) (e : Entry) → nat_lt e.seqno rules.watermark ≡ false
     → (zeroed rules e).seqno ≡ e.seqno
-zeroed_high rules e h = elim rules.zeroing as (λ t. cond (t && nat_lt e.seqno rules.watermark) 0 e.seqno ≡ e.seqno) [ true ↦ ap (λ (u : Bool). cond u 0 e.seqno) h | false ↦ refl ]
+zeroed_high rules e h = elim rules.zeroing as
+    (λ t. cond (t && nat_lt e.seqno rules.watermark) 0 e.seqno ≡ e.seqno)
+    [ true ↦ ap (λ (u : Bool). cond u 0 e.seqno) h | false ↦ refl ]
 
 precedes_zeroed : (rules : Rules) (x e : Entry) → Precedes x e → Precedes x (zeroed rules e)
-precedes_zeroed rules x e h = elim h [ inl lower ↦ inl lower | inr newer ↦ inr (newer.0, let k = zeroed_below rules e in omega arith) ]
+precedes_zeroed rules x e h = elim h [
+  | inl lower ↦ inl lower
+  | inr newer ↦
+      inr (newer.0, let k = zeroed_below rules e in omega arith)
+]
 
 precedes_as : (x y e : Entry) → x.user_key ≡ y.user_key → x.seqno ≡ y.seqno → Precedes x e
     → Precedes y e
@@ -81,7 +108,9 @@ precedes_as x y e key number h = elim h [
 
 key_le_of : (x y : Entry) → Precedes x y → KeyLe x.user_key y.user_key
 key_le_of x y h = elim h [
-  | inl lower ↦ is_false (key_lt y.user_key x.user_key) (λ above. apart (key_lt x.user_key x.user_key) (lt_trans x.user_key y.user_key x.user_key lower above) (le_itself x.user_key))
+  | inl lower ↦ is_false (key_lt y.user_key x.user_key)
+      (λ above. apart (key_lt x.user_key x.user_key)
+      (lt_trans x.user_key y.user_key x.user_key lower above) (le_itself x.user_key))
   | inr newer ↦ subst (λ (k : List ℕ). KeyLe x.user_key k) newer.0 (le_itself x.user_key)
 ]
 
@@ -105,7 +134,9 @@ other_precedes x y [] key h none = tt
 other_precedes x y (e ∷ es) key h none = (
   elim h.0 [
     | inl lower ↦ inl (subst (λ (k : List ℕ). key_lt k e.user_key ≡ true) key lower)
-    | inr newer ↦ absurd (apart (same_key e.user_key x.user_key) (subst (λ (k : List ℕ). same_key e.user_key k ≡ true) (sym newer.0) (same_itself e.user_key)) none.0)
+    | inr newer ↦ absurd (apart (same_key e.user_key x.user_key)
+        (subst (λ (k : List ℕ). same_key e.user_key k ≡ true) (sym newer.0)
+        (same_itself e.user_key)) none.0)
   ],
   other_precedes x y es key h.1 none.1,
 )
@@ -116,19 +147,31 @@ pairs_stay rules = kept_by rules (λ es. Strict es → Strict (kept rules (unfil
     (λ x es high is more h.
     let number : (zeroed rules x).seqno ≡ x.seqno = zeroed_high rules x high in
     let behind : AllByRecursion (Precedes (zeroed rules x)) (kept rules (unfiltered es)) =
-    all_kept rules (Precedes (zeroed rules x)) (precedes_zeroed rules (zeroed rules x)) es (precede_all x (zeroed rules x) refl (sym number) es h.0) in
+    all_kept rules (Precedes (zeroed rules x)) (precedes_zeroed rules (zeroed rules x)) es
+    (precede_all x (zeroed rules x) refl (sym number) es h.0) in
     subst Strict (sym is) (behind, more h.1))
     (λ x own rest all over last is more h.
-    let none : NoneOf x.user_key rest = rest_none x.user_key rest (strict_up rest (strict_rest own rest h.1)) (all_rest (λ y. KeyLe x.user_key y.user_key) own rest (all_key_le x (own ++ rest) h.0)) over in
+    let none : NoneOf x.user_key rest = rest_none x.user_key rest
+    (strict_up rest (strict_rest own rest h.1))
+    (all_rest (λ y. KeyLe x.user_key y.user_key) own rest (all_key_le x (own ++ rest) h.0))
+    over in
     let behind : AllByRecursion (Precedes (zeroed rules x)) (kept rules (unfiltered rest)) =
-    all_kept rules (Precedes (zeroed rules x)) (precedes_zeroed rules (zeroed rules x)) rest (other_precedes x (zeroed rules x) rest refl (all_rest (Precedes x) own rest h.0) none) in
+    all_kept rules (Precedes (zeroed rules x)) (precedes_zeroed rules (zeroed rules x)) rest
+    (other_precedes x (zeroed rules x) rest refl (all_rest (Precedes x) own rest h.0) none) in
     let later : Strict (kept rules (unfiltered rest)) = more (strict_rest own rest h.1) in
-    subst Strict (sym is) (elim (goes rules.evict x.kind (first own)) as (λ b. Strict (cond b [] (zeroed rules x ∷ []) ++ kept rules (unfiltered rest))) [ true ↦ later | false ↦ (behind, later) ]))
+    subst Strict (sym is) (elim (goes rules.evict x.kind (first own)) as
+    (λ b. Strict (cond b [] (zeroed rules x ∷ []) ++ kept rules (unfiltered rest)))
+    [ true ↦ later | false ↦ (behind, later) ]))
   where
     precede_all : (x y : Entry) → x.user_key ≡ y.user_key → x.seqno ≡ y.seqno → (es : List Entry)
         → AllByRecursion (Precedes x) es → AllByRecursion (Precedes y) es
     precede_all x y key number [] h = tt
-    precede_all x y key number (e ∷ es) h = (precedes_as x y e key number h.0, precede_all x y key number es h.1)
+    precede_all x y key number (e ∷ es) h = (
+      precedes_as x y e key number h.0,
+      precede_all x y key
+          number es h.1,
+    )
 
 pub stays_strict : StaysStrict
-stays_strict rules es h = from_pairs (kept rules (unfiltered es)) (pairs_stay rules es (as_pairs es h))
+stays_strict rules es h = from_pairs (kept rules (unfiltered es))
+    (pairs_stay rules es (as_pairs es h))

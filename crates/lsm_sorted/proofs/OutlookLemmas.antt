@@ -10,5 +10,6 @@ never_stops None = refl
 never_stops (Some (Ok x)) = refl
 never_stops (Some (Err e)) = refl
 
-pub same_first : (r : Option R) (xs ys : List R) → IsStep front_of r xs ys → DealsFirst nothing_stops IsSame xs r ys
+pub same_first : (r : Option R) (xs ys : List R) → IsStep front_of r xs ys
+    → DealsFirst nothing_stops IsSame xs r ys
 same_first r xs ys h zs e fine = (h.0 ∙ ap first e, h.1 ∙ ap but_first e)

@@ -32,7 +32,8 @@ asked_head j = filter is_asked (j ∷ [])
 
 asked_more : (j : Judged) (hs : List Judged) → filter is_asked (j ∷ hs) ≡ asked_head j
     ++ filter is_asked hs
-asked_more j hs = elim (is_asked j) as (λ b. cond b (j ∷ filter is_asked hs) (filter is_asked hs) ≡ cond b (j ∷ []) [] ++ filter is_asked hs) [ true ↦ refl | false ↦ refl ]
+asked_more j hs = elim (is_asked j) as (λ b. cond b (j ∷ filter is_asked hs) (filter is_asked hs)
+    ≡ cond b (j ∷ []) [] ++ filter is_asked hs) [ true ↦ refl | false ↦ refl ]
 
 abbrev pub judged : Entry → Result Verdict Error → Judged
 judged x v = record { entry = x; verdict = v }
@@ -50,8 +51,11 @@ module _ {A : Type 0} (f : Versions → List A) (j : Judged) where
       → (vs : List Versions) → concat_by f (before j vs) ≡ front ++ concat_by f vs
   before_joined front one more [] = ap (λ (ys : List A). ys ++ []) one
   before_joined front one more (v ∷ vs) =
-      elim (is_version_of v.versions j) as (λ b. is_version_of v.versions j ≡ b → concat_by f (cond b (with_first j v ∷ vs) (alone j ∷ v ∷ vs)) ≡ front ++ (f v ++ concat_by f vs)) [
-        | true ↦ λ e. ap (λ (ys : List A). ys ++ concat_by f vs) (more v e) ∙ append_assoc front (f v) (concat_by f vs)
+      elim (is_version_of v.versions j) as (λ b. is_version_of v.versions j ≡ b
+      → concat_by f (cond b (with_first j v ∷ vs) (alone j ∷ v ∷ vs)) ≡ front
+      ++ (f v ++ concat_by f vs)) [
+        | true ↦ λ e. ap (λ (ys : List A). ys ++ concat_by f vs) (more v e)
+            ∙ append_assoc front (f v) (concat_by f vs)
         | false ↦ λ e. ap (λ (ys : List A). ys ++ (f v ++ concat_by f vs)) one
       ] refl
 
@@ -65,16 +69,20 @@ module _ (rules : Rules) (x : Entry) where
 
   pub dropped_outs : (js : List JudgedItem)
       → outs rules (Ok (judged x (Ok drop)) ∷ js) ≡ outs rules js
-  dropped_outs js = before_joined (outs_of rules) (judged x (Ok drop)) [] refl (λ v h. dropped_of v.versions v.error) (by_key js)
+  dropped_outs js = before_joined (outs_of rules) (judged x (Ok drop)) [] refl
+      (λ v h. dropped_of v.versions v.error) (by_key js)
 
   pub dropped_reported : (js : List JudgedItem)
       → reported rules (Ok (judged x (Ok drop)) ∷ js) ≡ x ∷ reported rules js
-  dropped_reported js = before_joined (reported_of rules) (judged x (Ok drop)) (x ∷ []) refl (λ v h. refl) (by_key js)
+  dropped_reported js = before_joined (reported_of rules) (judged x (Ok drop)) (x ∷ []) refl
+      (λ v h. refl) (by_key js)
 
   pub dropped_asked : (js : List JudgedItem)
       → asked rules (Ok (judged x (Ok drop)) ∷ js) ≡ asked_head
       (judged x (Ok drop)) ++ asked rules js
-  dropped_asked js = before_joined (asked_of rules) (judged x (Ok drop)) (asked_head (judged x (Ok drop))) refl (λ v h. asked_more (judged x (Ok drop)) (heads rules.watermark v.versions)) (by_key js)
+  dropped_asked js = before_joined (asked_of rules) (judged x (Ok drop))
+      (asked_head (judged x (Ok drop))) refl (λ v h. asked_more (judged x (Ok drop))
+      (heads rules.watermark v.versions)) (by_key js)
 
 -- a version for which the filter answers an error
 module _ (rules : Rules) (x : Entry) (e : Error) where
@@ -86,15 +94,19 @@ module _ (rules : Rules) (x : Entry) (e : Error) where
 
   pub failed_outs : (js : List JudgedItem)
       → outs rules (Ok (judged x (Err e)) ∷ js) ≡ Err e ∷ outs rules js
-  failed_outs js = before_joined (outs_of rules) (judged x (Err e)) (Err e ∷ []) refl (λ v h. failed_of v.versions v.error) (by_key js)
+  failed_outs js = before_joined (outs_of rules) (judged x (Err e)) (Err e ∷ []) refl
+      (λ v h. failed_of v.versions v.error) (by_key js)
 
   pub failed_reported : (js : List JudgedItem)
       → reported rules (Ok (judged x (Err e)) ∷ js) ≡ reported rules js
-  failed_reported js = before_joined (reported_of rules) (judged x (Err e)) [] refl (λ v h. refl) (by_key js)
+  failed_reported js = before_joined (reported_of rules) (judged x (Err e)) [] refl (λ v h. refl)
+      (by_key js)
 
   pub failed_asked : (js : List JudgedItem)
       → asked rules (Ok (judged x (Err e)) ∷ js) ≡ asked_head (judged x (Err e)) ++ asked rules js
-  failed_asked js = before_joined (asked_of rules) (judged x (Err e)) (asked_head (judged x (Err e))) refl (λ v h. asked_more (judged x (Err e)) (heads rules.watermark v.versions)) (by_key js)
+  failed_asked js = before_joined (asked_of rules) (judged x (Err e))
+      (asked_head (judged x (Err e))) refl (λ v h. asked_more (judged x (Err e))
+      (heads rules.watermark v.versions)) (by_key js)
 
 -- a list that begins with an entry has the versions of its key first
 pub record Begins (k : Judged) (vs : List Versions) : Type 0 where
@@ -105,10 +117,11 @@ pub record Begins (k : Judged) (vs : List Versions) : Type 0 where
 
 begins_before : (k : Judged) (vs : List Versions) → Begins k (before k vs)
 begins_before k [] = record { more = []; error = None; others = []; is = refl }
-begins_before k (v ∷ vs) = elim (is_version_of v.versions k) as (λ b. Begins k (cond b (with_first k v ∷ vs) (alone k ∷ v ∷ vs))) [
-  | true ↦ record { more = v.versions; error = v.error; others = vs; is = refl }
-  | false ↦ record { more = []; error = None; others = v ∷ vs; is = refl }
-]
+begins_before k (v ∷ vs) = elim (is_version_of v.versions k) as
+    (λ b. Begins k (cond b (with_first k v ∷ vs) (alone k ∷ v ∷ vs))) [
+      | true ↦ record { more = v.versions; error = v.error; others = vs; is = refl }
+      | false ↦ record { more = []; error = None; others = v ∷ vs; is = refl }
+    ]
 
 pub begins : (k : Judged) (js : List JudgedItem) → Begins k (by_key (Ok k ∷ js))
 begins k js = begins_before k (by_key js)
@@ -117,17 +130,22 @@ begins k js = begins_before k (by_key js)
 module _ (rules : Rules) (j : Judged) (y : Entry) (left : told j ≡ Ok (Some y)) where
   -- it is no cut where it stands at the watermark or above
   high_is_no_cut : nat_lt j.entry.seqno rules.watermark ≡ false → is_cut rules.watermark j ≡ false
-  high_is_no_cut high = ap (λ (o : Result (Option Entry) Error). is_left o && nat_lt j.entry.seqno rules.watermark) left ∙ high
+  high_is_no_cut high = ap (λ (o : Result (Option Entry) Error). is_left o
+      && nat_lt j.entry.seqno rules.watermark) left ∙ high
 
   low_is_cut : nat_lt j.entry.seqno rules.watermark ≡ true → is_cut rules.watermark j ≡ true
-  low_is_cut low = ap (λ (o : Result (Option Entry) Error). is_left o && nat_lt j.entry.seqno rules.watermark) left ∙ low
+  low_is_cut low = ap (λ (o : Result (Option Entry) Error). is_left o
+      && nat_lt j.entry.seqno rules.watermark) left ∙ low
 
   -- by whether it is a cut, what its key gives, reports and asks
   abbrev outs_if : Bool → List Judged → Option Error → List R
-  outs_if b V e = given rules (gone rules (first (entries (cond b V (expired rules.watermark V)))) e) (j ∷ cond b [] (heads rules.watermark V)) ++ error_of e
+  outs_if b V e = given rules (gone rules (first (entries (cond b V (expired rules.watermark V))))
+      e) (j ∷ cond b [] (heads rules.watermark V)) ++ error_of e
 
   abbrev reported_if : Bool → List Judged → List Entry
-  reported_if b V = (reports_by j.entry j.verdict ++ reported_heads (cond b [] (heads rules.watermark V))) ++ entries (cond b V (expired rules.watermark V))
+  reported_if b V = (reports_by j.entry j.verdict
+      ++ reported_heads (cond b [] (heads rules.watermark V)))
+      ++ entries (cond b V (expired rules.watermark V))
 
   abbrev asked_if : Bool → List Judged → List Judged
   asked_if b V = filter is_asked (j ∷ cond b [] (heads rules.watermark V))
@@ -145,22 +163,32 @@ module _ (rules : Rules) (j : Judged) (y : Entry) (left : told j ≡ Ok (Some y)
     first_joined {A} f front one =
         let b = starts in
         let v : Versions = record { versions = k ∷ b.more; error = b.error } in
-        subst (λ (vs : List Versions). concat_by f (before j vs) ≡ front ++ concat_by f vs) (sym b.is)
-        (ap (λ (t : Bool). concat_by f (cond t (with_first j v ∷ b.others) (alone j ∷ v ∷ b.others))) same ∙ ap (λ (ys : List A). ys ++ concat_by f b.others) (one b.more b.error) ∙ append_assoc front (f v) (concat_by f b.others))
+        subst (λ (vs : List Versions). concat_by f (before j vs) ≡ front ++ concat_by f vs)
+        (sym b.is)
+        (ap (λ (t : Bool). concat_by f (cond t (with_first j v ∷ b.others)
+        (alone j ∷ v ∷ b.others))) same ∙ ap (λ (ys : List A). ys ++ concat_by f b.others)
+        (one b.more b.error) ∙ append_assoc front (f v) (concat_by f b.others))
 
     pub open_outs : outs rules (Ok j ∷ Ok k ∷ js) ≡ Ok (zeroed rules y) ∷ outs rules (Ok k ∷ js)
     open_outs = first_joined (outs_of rules) (Ok (zeroed rules y) ∷ [])
         (λ V e. ap (λ (b : Bool). outs_if b (k ∷ V) e) (high_is_no_cut high)
-        ∙ ap (λ (o : Result (Option Entry) Error). (head_given rules (λ x. false) o ++ given rules (gone rules (first (entries (expired rules.watermark (k ∷ V)))) e) (heads rules.watermark (k ∷ V))) ++ error_of e) left)
+        ∙ ap (λ (o : Result (Option Entry) Error).
+        (head_given rules (λ x. false) o ++ given rules
+        (gone rules (first (entries (expired rules.watermark (k ∷ V)))) e)
+        (heads rules.watermark (k ∷ V))) ++ error_of e) left)
 
     pub open_reported : reported rules (Ok j ∷ Ok k ∷ js) ≡ reports_by j.entry j.verdict
         ++ reported rules (Ok k ∷ js)
     open_reported = first_joined (reported_of rules) (reports_by j.entry j.verdict)
-        (λ V e. ap (λ (b : Bool). reported_if b (k ∷ V)) (high_is_no_cut high) ∙ append_assoc (reports_by j.entry j.verdict) (reported_heads (heads rules.watermark (k ∷ V))) (entries (expired rules.watermark (k ∷ V))))
+        (λ V e. ap (λ (b : Bool). reported_if b (k ∷ V)) (high_is_no_cut high)
+        ∙ append_assoc (reports_by j.entry j.verdict)
+        (reported_heads (heads rules.watermark (k ∷ V)))
+        (entries (expired rules.watermark (k ∷ V))))
 
     pub open_asked : asked rules (Ok j ∷ Ok k ∷ js) ≡ asked_head j ++ asked rules (Ok k ∷ js)
     open_asked = first_joined (asked_of rules) (asked_head j)
-        (λ V e. ap (λ (b : Bool). asked_if b (k ∷ V)) (high_is_no_cut high) ∙ asked_more j (heads rules.watermark (k ∷ V)))
+        (λ V e. ap (λ (b : Bool). asked_if b (k ∷ V)) (high_is_no_cut high)
+        ∙ asked_more j (heads rules.watermark (k ∷ V)))
 
 -- whether an entry of the key is in front
 abbrev pub follows_in : List ℕ → List JudgedItem → Bool
@@ -185,7 +213,8 @@ AllOf key es = AllByRecursion (λ y. y.user_key ≡ key) es
 -- versions up to where no other version of their key is in front
 module _ (key : List ℕ) (js : List JudgedItem) (over : follows_in key js ≡ false) where
   abbrev closed : Judged → List Entry → List Versions
-  closed j es = record { versions = j ∷ unfiltered es; error = error_in js } ∷ by_key (behind_error js)
+  closed j es = record { versions = j ∷ unfiltered es; error = error_in js }
+      ∷ by_key (behind_error js)
 
   closes_at : (j : Judged) → j.entry.user_key ≡ key → (ks : List JudgedItem) → follows_in key ks
       ≡ false → by_key (Ok j ∷ ks) ≡ record { versions = j ∷ []; error = error_in ks } ∷ by_key
@@ -195,17 +224,23 @@ module _ (key : List ℕ) (js : List JudgedItem) (over : follows_in key js ≡ f
   closes_at j its (Ok k ∷ ks) h =
       let b = begins k ks in
       let v : Versions = record { versions = k ∷ b.more; error = b.error } in
-      let other : same_key k.entry.user_key j.entry.user_key ≡ false = subst (λ (q : List ℕ). same_key k.entry.user_key q ≡ false) (sym its) h in
-      subst (λ (vs : List Versions). before j vs ≡ alone j ∷ vs) (sym b.is) (ap (λ (t : Bool). cond t (with_first j v ∷ b.others) (alone j ∷ v ∷ b.others)) other)
+      let other : same_key k.entry.user_key j.entry.user_key ≡ false =
+      subst (λ (q : List ℕ). same_key k.entry.user_key q ≡ false) (sym its) h in
+      subst (λ (vs : List Versions). before j vs ≡ alone j ∷ vs) (sym b.is)
+      (ap (λ (t : Bool). cond t (with_first j v ∷ b.others) (alone j ∷ v ∷ b.others)) other)
 
   pub closes : (j : Judged) (es : List Entry) → j.entry.user_key ≡ key → AllOf key es
       → by_key (Ok j ∷ (ok_results (unfiltered es) ++ js)) ≡ closed j es
   closes j [] its all = closes_at j its js over
   closes j (e ∷ es) its all =
-      let more : by_key (Ok (as_is e) ∷ (ok_results (unfiltered es) ++ js)) ≡ closed (as_is e) es = closes (as_is e) es all.0 all.1 in
-      let same : same_key e.user_key j.entry.user_key ≡ true = subst (λ (q : List ℕ). same_key e.user_key q ≡ true) (all.0 ∙ sym its) (same_itself e.user_key) in
+      let more : by_key (Ok (as_is e) ∷ (ok_results (unfiltered es) ++ js)) ≡ closed (as_is e) es =
+      closes (as_is e) es all.0 all.1 in
+      let same : same_key e.user_key j.entry.user_key ≡ true =
+      subst (λ (q : List ℕ). same_key e.user_key q ≡ true) (all.0 ∙ sym its)
+      (same_itself e.user_key) in
       let v : Versions = record { versions = as_is e ∷ unfiltered es; error = error_in js } in
-      ap (before j) more ∙ ap (λ (t : Bool). cond t (with_first j v ∷ by_key (behind_error js)) (alone j ∷ closed (as_is e) es)) same
+      ap (before j) more ∙ ap (λ (t : Bool). cond t (with_first j v ∷ by_key (behind_error js))
+      (alone j ∷ closed (as_is e) es)) same
 
   entries_as_is : (es : List Entry) → entries (unfiltered es) ≡ es
   entries_as_is [] = refl
@@ -224,7 +259,8 @@ module _ (key : List ℕ) (js : List JudgedItem) (over : follows_in key js ≡ f
     by_cut {B} f same = elim cut_or [
       | inl cut ↦ ap (λ (b : Bool). f b (unfiltered es)) cut
       | inr none ↦ ap (λ (zs : List Entry). f (is_cut rules.watermark j) (unfiltered zs)) none
-          ∙ elim (is_cut rules.watermark j) as (λ b. f b [] ≡ f true []) [ true ↦ refl | false ↦ sym same ]
+          ∙ elim (is_cut rules.watermark j) as (λ b. f b [] ≡ f true [])
+          [ true ↦ refl | false ↦ sym same ]
           ∙ sym (ap (λ (zs : List Entry). f true (unfiltered zs)) none)
     ]
 
@@ -234,10 +270,15 @@ module _ (key : List ℕ) (js : List JudgedItem) (over : follows_in key js ≡ f
     close_outs =
         let rest = concat_by (outs_of rules) (by_key (behind_error js)) in
         ap (concat_by (outs_of rules)) (closes j es its all)
-        ∙ ap (λ (ys : List R). ys ++ rest) (by_cut (λ b V. outs_if rules j y left b V (error_in js)) refl)
-        ∙ ap (λ (zs : List Entry). (head_given rules (gone rules (first zs) (error_in js)) (told j) ++ error_of (error_in js)) ++ rest) (entries_as_is es)
-        ∙ ap (λ (o : Result (Option Entry) Error). (head_given rules (gone rules (first es) (error_in js)) o ++ error_of (error_in js)) ++ rest) left
-        ∙ append_assoc (head_given rules (gone rules (first es) (error_in js)) (Ok (Some y))) (error_of (error_in js)) rest
+        ∙ ap (λ (ys : List R). ys ++ rest) (by_cut
+        (λ b V. outs_if rules j y left b V (error_in js)) refl)
+        ∙ ap (λ (zs : List Entry). (head_given rules (gone rules (first zs) (error_in js)) (told j)
+        ++ error_of (error_in js)) ++ rest) (entries_as_is es)
+        ∙ ap (λ (o : Result (Option Entry) Error).
+        (head_given rules (gone rules (first es) (error_in js)) o ++ error_of (error_in js))
+        ++ rest) left
+        ∙ append_assoc (head_given rules (gone rules (first es) (error_in js)) (Ok (Some y)))
+        (error_of (error_in js)) rest
 
     pub close_reported : reported rules (Ok j ∷ (ok_results (unfiltered es) ++ js))
         ≡ (reports_by j.entry j.verdict ++ es) ++ reported rules (behind_error js)
@@ -245,7 +286,8 @@ module _ (key : List ℕ) (js : List JudgedItem) (over : follows_in key js ≡ f
         let rest = concat_by (reported_of rules) (by_key (behind_error js)) in
         ap (concat_by (reported_of rules)) (closes j es its all)
         ∙ ap (λ (ys : List Entry). ys ++ rest) (by_cut (λ b V. reported_if rules j y left b V) refl)
-        ∙ ap (λ (zs : List Entry). ((reports_by j.entry j.verdict ++ []) ++ zs) ++ rest) (entries_as_is es)
+        ∙ ap (λ (zs : List Entry). ((reports_by j.entry j.verdict ++ []) ++ zs) ++ rest)
+        (entries_as_is es)
         ∙ ap (λ (ys : List Entry). (ys ++ es) ++ rest) (append-nil (reports_by j.entry j.verdict))
 
     pub close_asked : asked rules (Ok j ∷ (ok_results (unfiltered es) ++ js)) ≡ asked_head j

@@ -36,9 +36,17 @@ module _ {T C : Type 0} (stops : Error → Bool) (Has : T → List R → Type 0)
           let w = was.at xs h in
           let one = d w.0 w.1 refl in
           let whole : w.0 ≡ Ok x ∷ but_first w.0 = from_first w.0 (Ok x) one.0 in
-          let after : after_key key w.0 ≡ after_key key (but_first w.0) = ap (after_key key) whole ∙ ap (λ (t : Bool). cond t (after_key key (but_first w.0)) (Ok x ∷ but_first w.0)) same in
-          let stretch : of_key key w.0 ≡ x ∷ of_key key (but_first w.0) = ap (of_key key) whole ∙ ap (λ (t : Bool). cond t (x ∷ of_key key (but_first w.0)) []) same in
-          (but_first w.0, one.1, w.2 ∙ after, λ e k. w.3 e (subst (λ (ys : List Entry). GetsAll gets b ys e) (sym stretch) (a, got, k)));
+          let after : after_key key w.0 ≡ after_key key (but_first w.0) = ap (after_key key) whole
+          ∙ ap (λ (t : Bool). cond t (after_key key (but_first w.0)) (Ok x ∷ but_first w.0))
+          same in
+          let stretch : of_key key w.0 ≡ x ∷ of_key key (but_first w.0) = ap (of_key key) whole
+          ∙ ap (λ (t : Bool). cond t (x ∷ of_key key (but_first w.0)) []) same in (
+            but_first w.0,
+            one.1,
+            w.2 ∙ after,
+            λ e k. w.3 e
+                (subst (λ (ys : List Entry). GetsAll gets b ys e) (sym stretch) (a, got, k)),
+          );
     }
 
     -- what else is answered does not matter
@@ -51,7 +59,9 @@ module _ {T C : Type 0} (stops : Error → Bool) (Has : T → List R → Type 0)
 
     -- what is left to drain, where it is known
     drained_at : {X : Type 0} (s u t : T) (c b : C) (result : Result X Error) → Draining s c u b
-        → ((zs : List R) → Has u zs → result_stops stops result ≡ false → (refusal result ≡ error_first (after_key key zs)) × Has t (past_error (after_key key zs)) × (of_key key zs ≡ []))
+        → ((zs : List R) → Has u zs → result_stops stops result ≡ false
+        → (refusal result ≡ error_first (after_key key zs))
+        × Has t (past_error (after_key key zs)) × (of_key key zs ≡ []))
         → DrainsKey stops Has gets key s c result t b
     drained_at s u t c b result was ends = record {
       at = λ xs h fine.
@@ -70,24 +80,41 @@ module _ {T C : Type 0} (stops : Error → Bool) (Has : T → List R → Type 0)
     drained_stop s u v t c b x y was d other put = drained_at s u t c b (Ok y) was (λ zs h fine.
         let one = d zs h refl in
         let whole : zs ≡ Ok x ∷ but_first zs = from_first zs (Ok x) one.0 in
-        let after : after_key key zs ≡ Ok x ∷ but_first zs = ap (after_key key) whole ∙ ap (λ (t : Bool). cond t (after_key key (but_first zs)) (Ok x ∷ but_first zs)) other in
-        let stretch : of_key key zs ≡ [] = ap (of_key key) whole ∙ ap (λ (t : Bool). cond t (x ∷ of_key key (but_first zs)) []) other in
-        (sym (ap error_first after), subst (λ (ys : List R). Has t (past_error ys)) (sym after) (put (but_first zs) one.1), stretch))
+        let after : after_key key zs ≡ Ok x ∷ but_first zs = ap (after_key key) whole
+        ∙ ap (λ (t : Bool). cond t (after_key key (but_first zs)) (Ok x ∷ but_first zs))
+        other in
+        let stretch : of_key key zs ≡ [] = ap (of_key key) whole
+        ∙ ap (λ (t : Bool). cond t (x ∷ of_key key (but_first zs)) []) other in (
+          sym (ap error_first after),
+          subst (λ (ys : List R). Has t (past_error ys)) (sym after)
+              (put (but_first zs) one.1),
+          stretch,
+        ))
 
     pub drained_err : {X : Type 0} (s u t : T) (c b : C) (e : Error) → Draining s c u b
         → DealsFirst stops Has u (Some (Err e)) t → DrainsKey {X = X} stops Has gets key s c
         (Err e) t b
     drained_err s u t c b e was d = drained_at s u t c b (Err e) was (λ zs h fine.
         let one = d zs h fine in
-        let whole : zs ≡ Err e ∷ but_first zs = from_first zs (Err e) one.0 in
-        (sym (ap (λ (ys : List R). error_first (after_key key ys)) whole), subst (λ (ys : List R). Has t (past_error (after_key key ys))) (sym whole) one.1, ap (of_key key) whole))
+        let whole : zs ≡ Err e ∷ but_first zs = from_first zs (Err e) one.0 in (
+          sym (ap (λ (ys : List R). error_first (after_key key ys)) whole),
+          subst
+              (λ (ys : List R). Has t (past_error (after_key key ys))) (sym whole) one.1,
+          ap
+              (of_key key) whole,
+        ))
 
     pub drained_end : {X : Type 0} (s u t : T) (c b : C) (y : X) → Draining s c u b
         → DealsFirst stops Has u None t → DrainsKey stops Has gets key s c (Ok y) t b
     drained_end s u t c b y was d = drained_at s u t c b (Ok y) was (λ zs h fine.
         let one = d zs h refl in
-        let none : zs ≡ [] = none_first zs one.0 in
-        (sym (ap (λ (ys : List R). error_first (after_key key ys)) none), subst (Has t) (ap but_first none ∙ sym (ap (λ (ys : List R). past_error (after_key key ys)) none)) one.1, ap (of_key key) none))
+        let none : zs ≡ [] = none_first zs one.0 in (
+          sym (ap (λ (ys : List R). error_first (after_key key ys)) none),
+          subst (Has t)
+              (ap but_first none ∙ sym (ap (λ (ys : List R). past_error (after_key key ys)) none))
+              one.1,
+          ap (of_key key) none,
+        ))
 
   module _ (rules : Rules) (head : Entry) where
     close_well : (es : List Entry) (rs : List R) → None ≡ error_first rs → close rules head es rs
@@ -110,7 +137,8 @@ module _ {T C : Type 0} (stops : Error → Bool) (Has : T → List R → Type 0)
         }
     close_ill es [] e h = absurd cc
     close_ill es (Ok x ∷ rs) e h = absurd cc
-    close_ill es (Err f ∷ rs) e h = let same : f ≡ e = cc in ap (λ (g : Error). record { answer = Some (Err g); rest = rs; reports = es }) same
+    close_ill es (Err f ∷ rs) e h = let same : f ≡ e = cc in
+        ap (λ (g : Error). record { answer = Some (Err g); rest = rs; reports = es }) same
 
     -- a turn, where what is in front is known
     settles_as : (s t : T) (c d : C) (result : Result Bool Error)
@@ -120,8 +148,12 @@ module _ {T C : Type 0} (stops : Error → Bool) (Has : T → List R → Type 0)
         → Settles stops Has gets rules head s c result t d
     settles_as s t c d result f = record {
       at = λ xs h fine.
-          let k = f xs h fine in
-          (k.2 ∙ sym (ap (λ (u : Turn). u.answer) k.1), subst (λ (u : Turn). Has t u.rest) (sym k.1) k.3, subst (λ (u : Turn). GetsAll gets c u.reports d) (sym k.1) k.4);
+          let k = f xs h fine in (
+            k.2 ∙ sym (ap (λ (u : Turn). u.answer) k.1),
+            subst (λ (u : Turn). Has t u.rest)
+                (sym k.1) k.3,
+            subst (λ (u : Turn). GetsAll gets c u.reports d) (sym k.1) k.4,
+          );
     }
 
     -- nothing of the head's key follows
@@ -134,19 +166,33 @@ module _ {T C : Type 0} (stops : Error → Bool) (Has : T → List R → Type 0)
         → Settles stops Has gets rules head s c (Ok gone) t c
     settles_end s t c gone d e = settles_as s t c c (Ok gone) (λ xs h fine.
         let one = d xs h refl in
-        let none : xs ≡ [] = none_first xs one.0 in
-        (settled rules head [], ap (settled rules head) none, answer_alone gone e, subst (Has t) (ap but_first none) one.1, refl))
+        let none : xs ≡ [] = none_first xs one.0 in (
+          settled rules head [],
+          ap (settled rules head) none,
+          answer_alone gone e,
+          subst (Has t)
+              (ap but_first none) one.1,
+          refl,
+        ))
 
     pub settles_err : (s t : T) (c : C) (e : Error) → DealsFirst stops Has s (Some (Err e)) t
         → Settles stops Has gets rules head s c (Err e) t c
     settles_err s t c e d = settles_as s t c c (Err e) (λ xs h fine.
         let one = d xs h fine in
-        let whole : xs ≡ Err e ∷ but_first xs = from_first xs (Err e) one.0 in
-        (settled rules head (Err e ∷ but_first xs), ap (settled rules head) whole, refl, one.1, refl))
+        let whole : xs ≡ Err e ∷ but_first xs = from_first xs (Err e) one.0 in (
+          settled rules head (Err e ∷ but_first xs),
+          ap
+              (settled rules head) whole,
+          refl,
+          one.1,
+          refl,
+        ))
 
     abbrev settled_if : Bool → Bool → Entry → List R → Turn
-    settled_if same low x rs = cond (same && not low) (record { answer = Some (Ok (zeroed rules head)); rest = Ok x ∷ rs; reports = [] })
-        (close rules head (cond same (x ∷ of_key head.user_key rs) []) (cond same (after_key head.user_key rs) (Ok x ∷ rs)))
+    settled_if same low x rs = cond (same && not low)
+        (record { answer = Some (Ok (zeroed rules head)); rest = Ok x ∷ rs; reports = [] })
+        (close rules head (cond same (x ∷ of_key head.user_key rs) [])
+        (cond same (after_key head.user_key rs) (Ok x ∷ rs)))
 
     pub settles_other : (s v t : T) (c : C) (x : Entry) (gone : Bool)
         → DealsFirst stops Has s (Some (Ok x)) v → same_key x.user_key head.user_key ≡ false
@@ -156,7 +202,8 @@ module _ {T C : Type 0} (stops : Error → Bool) (Has : T → List R → Type 0)
         let one = d xs h refl in
         let whole : xs ≡ Ok x ∷ but_first xs = from_first xs (Ok x) one.0 in (
           settled_if false (nat_lt head.seqno rules.watermark) x (but_first xs),
-          ap (settled rules head) whole ∙ ap (λ (b : Bool). settled_if b (nat_lt head.seqno rules.watermark) x (but_first xs)) other,
+          ap (settled rules head) whole ∙ ap (λ (b : Bool). settled_if b
+              (nat_lt head.seqno rules.watermark) x (but_first xs)) other,
           answer_alone gone e,
           put (but_first xs) one.1,
           refl,
@@ -170,7 +217,9 @@ module _ {T C : Type 0} (stops : Error → Bool) (Has : T → List R → Type 0)
         let one = d xs h refl in
         let whole : xs ≡ Ok x ∷ but_first xs = from_first xs (Ok x) one.0 in (
           settled_if true false x (but_first xs),
-          ap (settled rules head) whole ∙ ap (λ (b : Bool). settled_if b (nat_lt head.seqno rules.watermark) x (but_first xs)) same ∙ ap (λ (b : Bool). settled_if true b x (but_first xs)) high,
+          ap (settled rules head) whole ∙ ap (λ (b : Bool). settled_if b
+              (nat_lt head.seqno rules.watermark) x (but_first xs)) same
+              ∙ ap (λ (b : Bool). settled_if true b x (but_first xs)) high,
           refl,
           put (but_first xs) one.1,
           refl,
@@ -184,7 +233,9 @@ module _ {T C : Type 0} (stops : Error → Bool) (Has : T → List R → Type 0)
           → settled rules head xs ≡ close rules head (x ∷ of_key head.user_key (but_first xs))
           (after_key head.user_key (but_first xs))
       closing xs e =
-          ap (settled rules head) (from_first xs (Ok x) e) ∙ ap (λ (b : Bool). settled_if b (nat_lt head.seqno rules.watermark) x (but_first xs)) same ∙ ap (λ (b : Bool). settled_if true b x (but_first xs)) low
+          ap (settled rules head) (from_first xs (Ok x) e)
+          ∙ ap (λ (b : Bool). settled_if b (nat_lt head.seqno rules.watermark) x (but_first xs))
+          same ∙ ap (λ (b : Bool). settled_if true b x (but_first xs)) low
 
       pub settles_close : {X : Type 0} (y : X) (gone : Bool)
           → DrainsKey stops Has gets head.user_key v b (Ok y) t d

@@ -55,26 +55,31 @@ items_append (e ∷ es) js = ap (λ (rs : List R). Ok e ∷ rs) (items_append es
 pub stretch : (key : List ℕ) (rs : List R) → rs ≡ ok_results (of_key key rs) ++ after_key key rs
 stretch key [] = refl
 stretch key (Err e ∷ rs) = refl
-stretch key (Ok x ∷ rs) = elim (same_key x.user_key key) as (λ b. Ok x ∷ rs ≡ ok_results (cond b (x ∷ of_key key rs) []) ++ cond b (after_key key rs) (Ok x ∷ rs)) [
-  | true ↦ ap (λ (ys : List R). Ok x ∷ ys) (stretch key rs)
-  | false ↦ refl
-]
+stretch key (Ok x ∷ rs) = elim (same_key x.user_key key) as
+    (λ b. Ok x ∷ rs ≡ ok_results (cond b (x ∷ of_key key rs) [])
+    ++ cond b (after_key key rs) (Ok x ∷ rs)) [
+      | true ↦ ap (λ (ys : List R). Ok x ∷ ys) (stretch key rs)
+      | false ↦ refl
+    ]
 
 pub stretch_all : (key : List ℕ) (rs : List R) → AllOf key (of_key key rs)
 stretch_all key [] = tt
 stretch_all key (Err e ∷ rs) = tt
-stretch_all key (Ok x ∷ rs) = elim (same_key x.user_key key) as (λ b. same_key x.user_key key ≡ b → AllOf key (cond b (x ∷ of_key key rs) [])) [
-  | true ↦ λ e. (same_is x.user_key key e, stretch_all key rs)
-  | false ↦ λ e. tt
-] refl
+stretch_all key (Ok x ∷ rs) = elim (same_key x.user_key key) as
+    (λ b. same_key x.user_key key ≡ b → AllOf key (cond b (x ∷ of_key key rs) [])) [
+      | true ↦ λ e. (same_is x.user_key key e, stretch_all key rs)
+      | false ↦ λ e. tt
+    ] refl
 
 pub stretch_ends : (key : List ℕ) (rs : List R) → key_follows key (after_key key rs) ≡ false
 stretch_ends key [] = refl
 stretch_ends key (Err e ∷ rs) = refl
-stretch_ends key (Ok x ∷ rs) = elim (same_key x.user_key key) as (λ b. same_key x.user_key key ≡ b → key_follows key (cond b (after_key key rs) (Ok x ∷ rs)) ≡ false) [
-  | true ↦ λ e. stretch_ends key rs
-  | false ↦ λ e. e
-] refl
+stretch_ends key (Ok x ∷ rs) = elim (same_key x.user_key key) as
+    (λ b. same_key x.user_key key ≡ b → key_follows key (cond b (after_key key rs) (Ok x ∷ rs))
+    ≡ false) [
+      | true ↦ λ e. stretch_ends key rs
+      | false ↦ λ e. e
+    ] refl
 
 pub no_stretch : (key : List ℕ) (rs : List R) → key_follows key rs ≡ false → of_key key rs ≡ []
 no_stretch key [] h = refl
@@ -109,13 +114,17 @@ module _ (P : Judged → Type 0) (plain : (x : Entry) → P (as_is x)) (rules : 
     open_explained rs [] h high fits = absurd cc
     open_explained rs (Err e ∷ js) h high fits = absurd cc
     open_explained rs (Ok k ∷ js) h high fits =
-        let same : same_key k.entry.user_key j.entry.user_key ≡ true = subst (λ (q : List ℕ). same_key k.entry.user_key q ≡ true) (sym its) h in
-        let high' : nat_lt j.entry.seqno rules.watermark ≡ false = subst (λ (n : ℕ). nat_lt n rules.watermark ≡ false) (sym number) high in
+        let same : same_key k.entry.user_key j.entry.user_key ≡ true =
+        subst (λ (q : List ℕ). same_key k.entry.user_key q ≡ true) (sym its) h in
+        let high' : nat_lt j.entry.seqno rules.watermark ≡ false =
+        subst (λ (n : ℕ). nat_lt n rules.watermark ≡ false) (sym number) high in
         record {
           js = Ok j ∷ Ok k ∷ js;
           over = ap (λ (ys : List R). Ok j.entry ∷ ys) fits;
           gives = open_outs rules j y left k same high' js;
-          reports = open_reported rules j y left k same high' js ∙ ap (λ (ys : List Entry). ys ++ reported rules (Ok k ∷ js)) (sym (append-nil (reports_by j.entry j.verdict)));
+          reports = open_reported rules j y left k same high' js
+              ∙ ap (λ (ys : List Entry). ys ++ reported rules (Ok k ∷ js))
+              (sym (append-nil (reports_by j.entry j.verdict)));
           asks = open_asked rules j y left k same high' js;
           each = λ p h. (p, h);
         }
@@ -128,21 +137,35 @@ module _ (P : Judged → Type 0) (plain : (x : Entry) → P (as_is x)) (rules : 
 
       answer_listed : (rest : List R) → head_given rules (gone rules (first es) None) (Ok (Some y))
           ++ rest ≡ listed (head_answer rules (goes rules.evict y.kind (first es)) y) ++ rest
-      answer_listed rest = elim (goes rules.evict y.kind (first es)) as (λ b. cond b [] (Ok (zeroed rules y) ∷ []) ++ rest ≡ listed (cond b None (Some (Ok (zeroed rules y)))) ++ rest) [ true ↦ refl | false ↦ refl ]
+      answer_listed rest = elim (goes rules.evict y.kind (first es)) as
+          (λ b. cond b [] (Ok (zeroed rules y) ∷ []) ++ rest
+          ≡ listed (cond b None (Some (Ok (zeroed rules y)))) ++ rest)
+          [ true ↦ refl | false ↦ refl ]
 
       calm : (js : List JudgedItem) (rs D : List R) → follows_in y.user_key js ≡ false → error_in js
           ≡ None → behind_error js ≡ js → rs ≡ ok_results es ++ D → items js ≡ D
-          → Explained P rules j rs (record { answer = head_answer rules (goes rules.evict y.kind (first es)) y; rest = D; reports = es }) js
+          → Explained P rules j rs (record {
+            answer =
+                head_answer rules (goes rules.evict y.kind (first es)) y;
+            rest = D;
+            reports = es;
+          }) js
       calm js rs D over none same parts fits =
           record {
             js = Ok j ∷ (ok_results (unfiltered es) ++ js);
-            over = ap (λ (ys : List R). Ok j.entry ∷ ys) (items_append es js ∙ ap (λ (ys : List R). ok_results es ++ ys) fits ∙ sym parts);
+            over = ap (λ (ys : List R). Ok j.entry ∷ ys)
+                (items_append es js ∙ ap (λ (ys : List R). ok_results es ++ ys) fits ∙ sym parts);
             gives = close_outs y.user_key js over rules j y left es its all last'
-                ∙ ap (λ (o : Option Error). head_given rules (gone rules (first es) o) (Ok (Some y)) ++ (error_of o ++ outs rules (behind_error js))) none
-                ∙ ap (λ (ks : List JudgedItem). head_given rules (gone rules (first es) None) (Ok (Some y)) ++ outs rules ks) same
+                ∙ ap (λ (o : Option Error). head_given rules (gone rules (first es) o) (Ok (Some y))
+                ++ (error_of o ++ outs rules (behind_error js))) none
+                ∙ ap (λ (ks : List JudgedItem). head_given rules (gone rules (first es) None)
+                (Ok (Some y)) ++ outs rules ks) same
                 ∙ answer_listed (outs rules js);
-            reports = close_reported y.user_key js over rules j y left es its all last' ∙ ap (λ (ks : List JudgedItem). (reports_by j.entry j.verdict ++ es) ++ reported rules ks) same;
-            asks = close_asked y.user_key js over rules j y left es its all last' ∙ ap (λ (ks : List JudgedItem). asked_head j ++ asked rules ks) same;
+            reports = close_reported y.user_key js over rules j y left es its all last'
+                ∙ ap (λ (ks : List JudgedItem). (reports_by j.entry j.verdict ++ es)
+                ++ reported rules ks) same;
+            asks = close_asked y.user_key js over rules j y left es its all last'
+                ∙ ap (λ (ks : List JudgedItem). asked_head j ++ asked rules ks) same;
             each = λ p h. (p, each_unfiltered es js h);
           }
 
@@ -152,7 +175,9 @@ module _ (P : Judged → Type 0) (plain : (x : Entry) → P (as_is x)) (rules : 
       failing js rs D e parts fits =
           record {
             js = Ok j ∷ (ok_results (unfiltered es) ++ Err e ∷ js);
-            over = ap (λ (ys : List R). Ok j.entry ∷ ys) (items_append es (Err e ∷ js) ∙ ap (λ (ys : List R). ok_results es ++ Err e ∷ ys) fits ∙ sym parts);
+            over = ap (λ (ys : List R). Ok j.entry ∷ ys)
+                (items_append es (Err e ∷ js) ∙ ap (λ (ys : List R). ok_results es ++ Err e ∷ ys)
+                fits ∙ sym parts);
             gives = close_outs y.user_key (Err e ∷ js) refl rules j y left es its all last';
             reports = close_reported y.user_key (Err e ∷ js) refl rules j y left es its all last';
             asks = close_asked y.user_key (Err e ∷ js) refl rules j y left es its all last';
@@ -168,29 +193,46 @@ module _ (P : Judged → Type 0) (plain : (x : Entry) → P (as_is x)) (rules : 
       close_explained rs (Err e ∷ D) js over parts fits = failing js rs D e parts fits
       close_explained rs (Ok x ∷ D) [] over parts fits = absurd cc
       close_explained rs (Ok x ∷ D) (Err e ∷ js) over parts fits = absurd cc
-      close_explained rs (Ok x ∷ D) (Ok k ∷ js) over parts fits = calm (Ok k ∷ js) rs (Ok x ∷ D) (sym (follows_items y.user_key (Ok k ∷ js)) ∙ ap (key_follows y.user_key) fits ∙ over) refl refl parts fits
+      close_explained rs (Ok x ∷ D) (Ok k ∷ js) over parts fits =
+          calm (Ok k ∷ js) rs (Ok x ∷ D) (sym (follows_items y.user_key (Ok k ∷ js))
+          ∙ ap (key_follows y.user_key) fits ∙ over) refl refl parts fits
 
     settled_explained : (rs : List R) (js : List JudgedItem) → items js ≡ (settled rules y rs).rest
         → Explained P rules j rs (settled rules y rs) js
     settled_explained rs js =
         let low = nat_lt y.seqno rules.watermark in
         let key = y.user_key in
-        let at_once : Turn = record { answer = Some (Ok (zeroed rules y)); rest = rs; reports = [] } in
+        let at_once : Turn = record {
+          answer = Some (Ok (zeroed rules y));
+          rest = rs;
+          reports =
+              [];
+        } in
         let closing : Turn = close rules y (of_key key rs) (after_key key rs) in
-        elim (key_follows key rs && not low) as (λ b. (key_follows key rs && not low) ≡ b → items js ≡ (cond b at_once closing).rest → Explained P rules j rs (cond b at_once closing) js) [
-          | true ↦ λ e fits. let two = and_true (key_follows key rs) low e in open_explained rs js (sym (follows_items key js) ∙ ap (key_follows key) fits ∙ two.0) two.1 fits
+        elim (key_follows key rs && not low) as (λ b. (key_follows key rs && not low) ≡ b
+        → items js ≡ (cond b at_once closing).rest
+        → Explained P rules j rs (cond b at_once closing) js) [
+          | true ↦ λ e fits. let two = and_true (key_follows key rs) low e in
+              open_explained rs js (sym (follows_items key js) ∙ ap (key_follows key) fits ∙ two.0)
+              two.1 fits
           | false ↦ λ e fits.
-              let last : (low ≡ true) ⊎ (of_key key rs ≡ []) = elim (and_false (key_follows key rs) low e) [ inl is_low ↦ inl is_low | inr none ↦ inr (no_stretch key rs none) ] in
-              close_explained (of_key key rs) (stretch_all key rs) last rs (after_key key rs) js (stretch_ends key rs) (stretch key rs) fits
+              let last : (low ≡ true) ⊎ (of_key key rs ≡ []) =
+              elim (and_false (key_follows key rs) low e)
+              [ inl is_low ↦ inl is_low | inr none ↦ inr (no_stretch key rs none) ] in
+              close_explained (of_key key rs) (stretch_all key rs) last rs (after_key key rs) js
+              (stretch_ends key rs) (stretch key rs) fits
         ] refl
 
   -- a head x of which the filter says v, before rs
   pub turn_explained : (x : Entry) (v : Result Verdict Error) (rs : List R) (js : List JudgedItem)
       → items js ≡ (turned rules (told_by x v) rs).rest → Explained P rules (judged x v) rs
       (turned rules (told_by x v) rs) js
-  turn_explained x (Ok keep) rs js fits = settled_explained (judged x (Ok keep)) x refl refl refl rs js fits
+  turn_explained x (Ok keep) rs js fits = settled_explained
+      (judged x (Ok keep)) x refl refl refl rs js fits
   turn_explained x (Ok (replace kind value)) rs js fits =
-      settled_explained (judged x (Ok (replace kind value))) (record { user_key = x.user_key; seqno = x.seqno; kind = kind; value = value }) refl refl refl rs js fits
+      settled_explained (judged x (Ok (replace kind value)))
+      (record { user_key = x.user_key; seqno = x.seqno; kind = kind; value = value }) refl refl
+      refl rs js fits
   turn_explained x (Ok drop) rs js fits = record {
     js = Ok (judged x (Ok drop)) ∷ js;
     over = ap (λ (ys : List R). Ok x ∷ ys) fits;

@@ -36,11 +36,13 @@ module _ {X Y : Type 0} (f : X → Y) (xs : List X) where
       map-append f shared (y ∷ []) ∙ ap (λ (ys : List Y). ys ++ f y ∷ []) so_far
       ∙ append_assoc (map f old) (map f (take i xs)) (f y ∷ [])
       ∙ ap (λ (z : Y). map f old ++ (map f (take i xs) ++ z ∷ [])) (same ∙ ap f is)
-      ∙ ap (λ (ys : List Y). map f old ++ ys) (sym (ap (map f) (take_more xs i x less) ∙ map-append f (take i xs) (get_or xs i x ∷ [])))
+      ∙ ap (λ (ys : List Y). map f old ++ ys) (sym
+      (ap (map f) (take_more xs i x less) ∙ map-append f (take i xs) (get_or xs i x ∷ [])))
 
   pub share_all : (i : ℕ) (old shared : List X) → map f shared ≡ map f old ++ map f (take i xs)
       → length xs ≤ i → map f shared ≡ map f old ++ map f xs
-  share_all i old shared so_far past = so_far ∙ ap (λ (ys : List X). map f old ++ map f ys) (take_all i xs past)
+  share_all i old shared so_far past = so_far ∙ ap (λ (ys : List X). map f old ++ map f ys)
+      (take_all i xs past)
 
 -- ---- what runs side by side hold
 
@@ -59,7 +61,8 @@ pub sides_held : (front part behind runs : List (List OpenTable))
     → HoldSides front part behind fs ps bs → RunsHoldLists runs (fs ++ (ps ++ bs))
 sides_held front part behind runs fs ps bs is h =
     subst (λ (rs : List (List OpenTable)). RunsHoldLists rs (fs ++ (ps ++ bs))) (sym is)
-    (zip_join Held front (part ++ behind) fs (ps ++ bs) h.in_front (zip_join Held part behind ps bs h.in_part h.in_behind))
+    (zip_join Held front (part ++ behind) fs (ps ++ bs) h.in_front
+    (zip_join Held part behind ps bs h.in_part h.in_behind))
 
 -- ---- the run that a part is compacted to
 
@@ -70,7 +73,12 @@ pub made_of : {X : Type 0} (f : X → List OpenTable) (es : List Entry)
     (run : Option (List OpenTable)) (runs : List X)
     → MatchOption run (es ≡ []) (λ r. IsRunOfList es 0 r) → MatchOption run (runs ≡ [])
     (λ r. map f runs ≡ r ∷ []) → Made es (map f runs)
-made_of {X} f es None runs none alone = ([], sym none, subst (λ (rs : List X). RunsHoldLists (map f rs) []) (sym alone) tt)
+made_of {X} f es None runs none alone = (
+  [],
+  sym none,
+  subst
+      (λ (rs : List X). RunsHoldLists (map f rs) []) (sym alone) tt,
+)
 made_of f es (Some run) runs is alone = (
   is.lists ∷ [],
   append-nil (joined is.lists) ∙ is.whole ∙ lift_zero es,
@@ -80,7 +88,8 @@ made_of f es (Some run) runs is alone = (
 pub made_result : {X V E : Type 0} (f : X → List OpenTable) (items : V → List X) (es : List Entry)
     (run : Option (List OpenTable)) (r : Result V E)
     → MatchOption run (es ≡ []) (λ x. IsRunOfList es 0 x)
-    → IfOk r (λ v. MatchOption run (items v ≡ []) (λ x. map f (items v) ≡ x ∷ [])) → IfOk r (λ v. Made es (map f (items v)))
+    → IfOk r (λ v. MatchOption run (items v ≡ []) (λ x. map f (items v) ≡ x ∷ []))
+    → IfOk r (λ v. Made es (map f (items v)))
 made_result f items es run (Ok v) is alone = made_of f es run (items v) is alone
 made_result f items es run (Err e) is alone = tt
 
@@ -89,17 +98,22 @@ made_result f items es run (Err e) is alone = tt
 pub same_bounds : {S : Type 0} (front back : S → Option (Result Entry Error) → S → Type 0)
     (key : List ℕ) (bound : ℕ) (low low' high high' : Bound (List ℕ)) (es : List Entry)
     (found : Option Entry × S) → low ≡ low' → high ≡ high'
-    → ReadsOf front back key bound low high es found → ReadsOf front back key bound low' high' es found
+    → ReadsOf front back key bound low high es found
+    → ReadsOf front back key bound low' high' es found
 same_bounds front back key bound low low' high high' es found l h r =
-    subst (λ (b : Bound (List ℕ)). ReadsOf front back key bound low' b es found) h (subst (λ (b : Bound (List ℕ)). ReadsOf front back key bound b high es found) l r)
+    subst (λ (b : Bound (List ℕ)). ReadsOf front back key bound low' b es found) h
+    (subst (λ (b : Bound (List ℕ)). ReadsOf front back key bound b high es found) l r)
 
 module _ {S : Type 0} (front back : S → Option (Result Entry Error) → S → Type 0) (key : List ℕ)
     (bound : ℕ) (low high : Bound (List ℕ)) (rules : Rules) (fs ps bs : List (List (List Entry)))
   where
     pub alike : (points : PointsStay) (ranges : RangesStay) (sides : SideBySide)
         (before after : Option Entry × S)
-        → ReadsOf front back key bound low high (union_in (fs ++ (ps ++ bs))) before → ReadsKept front back key bound low high rules fs ps bs after
-        → IsStrict (union_in (fs ++ (ps ++ bs))) → IsPlain rules (union_in ps) ⊎ AllNewer (union_in ps) (union_in (fs ++ bs)) → ShowAlike front back key bound low high rules.watermark before after
+        → ReadsOf front back key bound low high (union_in (fs ++ (ps ++ bs))) before
+        → ReadsKept front back key bound low high rules fs ps bs after
+        → IsStrict (union_in (fs ++ (ps ++ bs))) → IsPlain rules (union_in ps)
+        ⊎ AllNewer (union_in ps) (union_in (fs ++ bs))
+        → ShowAlike front back key bound low high rules.watermark before after
     alike points ranges sides before after b a strict safe =
         let all = fs ++ (ps ++ bs) in
         let left = fs ++ (a.made ++ bs) in
@@ -109,6 +123,8 @@ module _ {S : Type 0} (front back : S → Option (Result Entry Error) → S → 
           has = union_in left;
           had_read = b;
           has_read = a.reads;
-          same_point = λ served. ap shown a.reads.point_is ∙ points rules ps (fs ++ bs) all left replaced key bound served ∙ sym (ap shown b.point_is);
+          same_point = λ served. ap shown a.reads.point_is
+              ∙ points rules ps (fs ++ bs) all left replaced key bound served
+              ∙ sym (ap shown b.point_is);
           same_range = ranges rules ps (fs ++ bs) all left replaced low high;
         }

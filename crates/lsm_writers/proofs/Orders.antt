@@ -1,5 +1,6 @@
 -- Strict lists of entries and of the handles of their chunks.
-use Rattle.std.proofs.Common.{◌≡◌, refl, sym, ◌∙◌, ap, subst, ℕ, suc, ◌+◌, ◌-◌, ◌<◌, true, List, [], ◌∷◌, ◌++◌, length, get_or, map, arith}
+use Rattle.std.proofs.Common.{◌≡◌, refl, sym, ◌∙◌, ap, subst, ℕ, suc, ◌+◌, ◌-◌, ◌<◌, true, List, []}
+use Rattle.std.proofs.Common.{◌∷◌, ◌++◌, length, get_or, map, arith}
 use Rattle.std.specs.Prelude.{Option, Some, None, unwrap_or, slice_get, nat_lt, ◌^◌}
 use Rattle.std.specs.List.{AllByRecursion}
 use Rattle.std.proofs.lemmas.Option.{get_or_from_slice_get}
@@ -18,41 +19,48 @@ unfolding last_of
 nothing_last = refl
 
 -- the last of two lists one after another
-pub last_of-append : (before : Option Entry) (xs ys : List Entry) → last_of before (xs ++ ys) ≡ last_of (last_of before xs) ys
+pub last_of-append : (before : Option Entry) (xs ys : List Entry)
+    → last_of before (xs ++ ys) ≡ last_of (last_of before xs) ys
 unfolding last_of
 last_of-append before [] ys = refl
 last_of-append before (x ∷ xs) ys = last_of-append (Some x) xs ys
 
-pub strict_front : (before : Option Entry) (xs ys : List Entry) → IsStrictAfter before (xs ++ ys) → IsStrictAfter before xs
+pub strict_front : (before : Option Entry) (xs ys : List Entry) → IsStrictAfter before (xs ++ ys)
+    → IsStrictAfter before xs
 unfolding IsStrictAfter
 strict_front before [] ys h = tt
 strict_front before (x ∷ xs) ys h = (h.0, strict_front (Some x) xs ys h.1)
 
-pub strict_back : (before : Option Entry) (xs ys : List Entry) → IsStrictAfter before (xs ++ ys) → IsStrictAfter (last_of before xs) ys
+pub strict_back : (before : Option Entry) (xs ys : List Entry) → IsStrictAfter before (xs ++ ys)
+    → IsStrictAfter (last_of before xs) ys
 unfolding IsStrictAfter last_of
 strict_back before [] ys h = h
 strict_back before (x ∷ xs) ys h = strict_back (Some x) xs ys h.1
 
 -- what may come before the first of a strict list may come before its last
-last_follows : (before : Option Entry) (x : Entry) (xs : List Entry) → may_follow before x ≡ true → IsStrictAfter (Some x) xs → may_follow before (last_entry (x ∷ xs)) ≡ true
+last_follows : (before : Option Entry) (x : Entry) (xs : List Entry) → may_follow before x ≡ true
+    → IsStrictAfter (Some x) xs → may_follow before (last_entry (x ∷ xs)) ≡ true
 unfolding IsStrictAfter last_of
 last_follows before x [] f h = f
 last_follows None x (y ∷ ys) f h = refl
 last_follows (Some b) x (y ∷ ys) f h = last_follows (Some b) y ys (before_trans b x y f h.0) h.1
 
-pub last_of_cons : (before : Option Entry) (x : Entry) (xs : List Entry) → last_of before (x ∷ xs) ≡ Some (last_entry (x ∷ xs))
+pub last_of_cons : (before : Option Entry) (x : Entry) (xs : List Entry)
+    → last_of before (x ∷ xs) ≡ Some (last_entry (x ∷ xs))
 unfolding last_of
 last_of_cons before x [] = refl
 last_of_cons before x (y ∷ ys) = last_of_cons (Some x) y ys
 
 -- only the key and the number of what stands before count
-same_before : (a b : Entry) (es : List Entry) → ((e : Entry) → is_before a e ≡ is_before b e) → IsStrictAfter (Some b) es → IsStrictAfter (Some a) es
+same_before : (a b : Entry) (es : List Entry) → ((e : Entry) → is_before a e ≡ is_before b e)
+    → IsStrictAfter (Some b) es → IsStrictAfter (Some a) es
 unfolding IsStrictAfter
 same_before a b [] same h = tt
 same_before a b (e ∷ es) same h = (same e ∙ h.0, h.1)
 
 -- only the key and the number of what comes next count
-pub ends_follow : (before : Option Entry) (a b : Entry) → a.user_key ≡ b.user_key → a.seqno ≡ b.seqno → may_follow before b ≡ true → may_follow before a ≡ true
+pub ends_follow : (before : Option Entry) (a b : Entry) → a.user_key ≡ b.user_key
+    → a.seqno ≡ b.seqno → may_follow before b ≡ true → may_follow before a ≡ true
 ends_follow None a b k n f = refl
 ends_follow (Some x) a b k n f = rw (k, n) f
 
@@ -60,22 +68,34 @@ abbrev pub HasSome : List Entry → Type 0
 HasSome c = 0 < length c
 
 -- the ends of the chunks of a strict list are strict
-handles_strict_from : (v : TableVersion) (at : ℕ) (before : Option Entry) (cs : List (List Entry)) → AllByRecursion HasSome cs → IsStrictAfter before (joined cs) → IsStrictAfter before (map end_of (handles_from v at cs))
+handles_strict_from : (v : TableVersion) (at : ℕ) (before : Option Entry) (cs : List (List Entry))
+    → AllByRecursion HasSome cs → IsStrictAfter before (joined cs)
+    → IsStrictAfter before (map end_of (handles_from v at cs))
 unfolding IsStrictAfter
 handles_strict_from v at before [] some h = tt
 handles_strict_from v at before ([] ∷ cs) some h = absurd (omega (arith, some.0))
 handles_strict_from v at before ((x ∷ xs) ∷ cs) some h =
     let c = x ∷ xs in
     let front : IsStrictAfter before c = strict_front before c (joined cs) h in
-    let back : IsStrictAfter (Some (last_entry c)) (joined cs) = subst (λ (l : Option Entry). IsStrictAfter l (joined cs)) (last_of_cons before x xs) (strict_back before c (joined cs) h) in
-    let rest : IsStrictAfter (Some (last_entry c)) (map end_of (handles_from v (at + block_size v c) cs)) = handles_strict_from v (at + block_size v c) (Some (last_entry c)) cs some.1 back in
-    (ends_follow before (end_of (handle_of v at c)) (last_entry c) refl refl (last_follows before x xs front.0 front.1), same_before (end_of (handle_of v at c)) (last_entry c) _ (λ e. refl) rest)
+    let back : IsStrictAfter (Some (last_entry c)) (joined cs) =
+    subst (λ (l : Option Entry). IsStrictAfter l (joined cs)) (last_of_cons before x xs)
+    (strict_back before c (joined cs) h) in
+    let rest : IsStrictAfter (Some (last_entry c))
+    (map end_of (handles_from v (at + block_size v c) cs)) =
+    handles_strict_from v (at + block_size v c) (Some (last_entry c)) cs some.1 back in (
+      ends_follow before (end_of (handle_of v at c)) (last_entry c) refl refl
+          (last_follows before x xs front.0 front.1),
+      same_before (end_of (handle_of v at c))
+          (last_entry c) _ (λ e. refl) rest,
+    )
 
-pub handles_strict : (v : TableVersion) (cs : List (List Entry)) → AllByRecursion HasSome cs → IsStrict (joined cs) → AreStrictHandles (handles v cs)
+pub handles_strict : (v : TableVersion) (cs : List (List Entry)) → AllByRecursion HasSome cs
+    → IsStrict (joined cs) → AreStrictHandles (handles v cs)
 handles_strict v cs some h = handles_strict_from v 0 None cs some h
 
 -- the last place of a list holds its last entry
-last_at : (before : Option Entry) (es : List Entry) (x : Entry) → Some x ≡ slice_get es (length es - 1) → (0 < length es) × (last_of before es ≡ Some x)
+last_at : (before : Option Entry) (es : List Entry) (x : Entry)
+    → Some x ≡ slice_get es (length es - 1) → (0 < length es) × (last_of before es ≡ Some x)
 unfolding last_of
 last_at before [] x h = absurd cc
 last_at before (e ∷ []) x h = (omega arith, sym h)
@@ -84,9 +104,11 @@ last_at before (e ∷ f ∷ es) x h =
     let r = last_at (Some e) (f ∷ es) x (h ∙ ap (slice_get (e ∷ f ∷ es)) n) in
     (omega arith, r.1)
 
-pub last_place : (d es : List Entry) (x : Entry) → d ≡ es → Some x ≡ slice_get d (length d - 1) → (0 < length es) × (last_entry es ≡ x)
+pub last_place : (d es : List Entry) (x : Entry) → d ≡ es → Some x ≡ slice_get d (length d - 1)
+    → (0 < length es) × (last_entry es ≡ x)
 last_place d es x e h =
-    let r = last_at None es x (subst (λ (y : List Entry). Some x ≡ slice_get y (length y - 1)) e h) in
+    let r = last_at None es x (subst (λ (y : List Entry). Some x ≡ slice_get y (length y - 1)) e
+    h) in
     (r.0, ap (λ (o : Option Entry). unwrap_or o (entry [] [] 0 Value)) r.1)
 
 pub some_last : (es : List Entry) (x : Entry) → last_of None es ≡ Some x → 0 < length es
@@ -103,25 +125,37 @@ no_place (e ∷ f ∷ es) h =
     let m = no_place (f ∷ es) (h ∙ ap (slice_get (e ∷ f ∷ es)) n) in
     absurd cc
 
-pub last_popped : (d es : List Entry) (x : Entry) (n : ℕ) (r : Option Entry) → d ≡ es → Some x ≡ slice_get d (length d - 1) → n ≡ length es → r ≡ Some (get_or es (n - 1) x) → r ≡ Some (last_entry es)
+pub last_popped : (d es : List Entry) (x : Entry) (n : ℕ) (r : Option Entry) → d ≡ es
+    → Some x ≡ slice_get d (length d - 1) → n ≡ length es → r ≡ Some (get_or es (n - 1) x)
+    → r ≡ Some (last_entry es)
 last_popped d es x n r e h k p =
-    let at : Some x ≡ slice_get es (length es - 1) = subst (λ (y : List Entry). Some x ≡ slice_get y (length y - 1)) e h in
-    let here : get_or es (n - 1) x ≡ x = rw k (get_or_from_slice_get es (length es - 1) x x (sym at)) in
+    let at : Some x ≡ slice_get es (length es - 1) =
+    subst (λ (y : List Entry). Some x ≡ slice_get y (length y - 1)) e h in
+    let here : get_or es (n - 1) x ≡ x = rw k (get_or_from_slice_get es (length es - 1) x x
+    (sym at)) in
     p ∙ ap (λ (y : Entry). Some y) (here ∙ sym (last_place d es x e h).1)
 
-pub last_is : (before : Option Entry) (es : List Entry) (x : Entry) → Some x ≡ slice_get es (length es - 1) → Some x ≡ last_of before es
+pub last_is : (before : Option Entry) (es : List Entry) (x : Entry)
+    → Some x ≡ slice_get es (length es - 1) → Some x ≡ last_of before es
 last_is before es x h = sym (last_at before es x h).1
 
-pub last_is_before : (before : Option Entry) (es : List Entry) → None ≡ slice_get es (length es - 1) → before ≡ last_of before es
+pub last_is_before : (before : Option Entry) (es : List Entry) → None ≡ slice_get es (length es - 1)
+    → before ≡ last_of before es
 unfolding last_of
 last_is_before before es h = rw (no_place es h) refl
 
 -- what may follow is told by the key and the number
-pub follows_last : (es : List Entry) (key : List ℕ) (n : ℕ) (last : Entry) → last_of None es ≡ Some last → nat_lt n (2 ^ 64 - 1) ≡ true → is_before last (entry key [] n Value) ≡ may_be_written es key n
+pub follows_last : (es : List Entry) (key : List ℕ) (n : ℕ) (last : Entry)
+    → last_of None es ≡ Some last → nat_lt n (2 ^ 64 - 1) ≡ true
+    → is_before last (entry key [] n Value) ≡ may_be_written es key n
 follows_last es key n last h lt = rw (h, lt) refl
 
-pub follows_nothing : (es : List Entry) (key : List ℕ) (n : ℕ) → last_of None es ≡ None → nat_lt n (2 ^ 64 - 1) ≡ true → true ≡ may_be_written es key n
+pub follows_nothing : (es : List Entry) (key : List ℕ) (n : ℕ) → last_of None es ≡ None
+    → nat_lt n (2 ^ 64 - 1) ≡ true → true ≡ may_be_written es key n
 follows_nothing es key n h lt = rw (h, lt) refl
 
-pub last_written_is : (r o : Option Entry) (cut : List (List Entry)) (pending d : List Entry) → r ≡ last_of o d → o ≡ last_of None (joined cut) → d ≡ pending → last_of None (joined cut ++ pending) ≡ r
-last_written_is r o cut pending d er eo ed = last_of-append None (joined cut) pending ∙ sym (rw (er, eo, ed) refl)
+pub last_written_is : (r o : Option Entry) (cut : List (List Entry)) (pending d : List Entry)
+    → r ≡ last_of o d → o ≡ last_of None (joined cut) → d ≡ pending
+    → last_of None (joined cut ++ pending) ≡ r
+last_written_is r o cut pending d er eo ed = last_of-append None (joined cut) pending
+    ∙ sym (rw (er, eo, ed) refl)

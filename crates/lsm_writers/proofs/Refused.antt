@@ -3,7 +3,20 @@ use Rattle.std.proofs.Common.{◌≡◌, refl, sym, ap, subst, ◌∙◌, Bool, 
 use Rattle.std.specs.Prelude.{Option, Some, None, Result, Ok, Err, IfErr, IsErrAnd, OnOk, OnErr}
 use Rattle.sst_entries.specs.Error.{Faults, is_memory}
 use Rattle.sst_entries.specs.declared.error.Error.{Error}
-use Rattle.sst_entries.specs.declared.error.Error.TheVariants.{OutOfMemory, Truncated, InvalidHeader, InvalidTag, ChecksumMismatch, InvalidBlock, KeyTooLong, ValueTooLong, BlockTooLarge, SectionTooLarge, InvalidTrailer, MissingSection, MetaKeyMissing, InvalidMetaValue, UnsupportedTableVersion, UnsupportedHashType, UnsupportedChecksumType, UnsupportedIndexInterval, UnsupportedCompression, GlobalSeqNoTooLarge, SeqNoOverflow, TableIdsSpent, WriterFailed, Source}
+use Rattle.sst_entries.specs.declared.error.Error.TheVariants.{OutOfMemory, Truncated}
+use Rattle.sst_entries.specs.declared.error.Error.TheVariants.{InvalidHeader, InvalidTag}
+use Rattle.sst_entries.specs.declared.error.Error.TheVariants.{ChecksumMismatch, InvalidBlock}
+use Rattle.sst_entries.specs.declared.error.Error.TheVariants.{KeyTooLong, ValueTooLong}
+use Rattle.sst_entries.specs.declared.error.Error.TheVariants.{BlockTooLarge, SectionTooLarge}
+use Rattle.sst_entries.specs.declared.error.Error.TheVariants.{InvalidTrailer, MissingSection}
+use Rattle.sst_entries.specs.declared.error.Error.TheVariants.{MetaKeyMissing, InvalidMetaValue}
+use Rattle.sst_entries.specs.declared.error.Error.TheVariants.{UnsupportedTableVersion}
+use Rattle.sst_entries.specs.declared.error.Error.TheVariants.{UnsupportedHashType}
+use Rattle.sst_entries.specs.declared.error.Error.TheVariants.{UnsupportedChecksumType}
+use Rattle.sst_entries.specs.declared.error.Error.TheVariants.{UnsupportedIndexInterval}
+use Rattle.sst_entries.specs.declared.error.Error.TheVariants.{UnsupportedCompression}
+use Rattle.sst_entries.specs.declared.error.Error.TheVariants.{GlobalSeqNoTooLarge, SeqNoOverflow}
+use Rattle.sst_entries.specs.declared.error.Error.TheVariants.{TableIdsSpent, WriterFailed, Source}
 
 memory_is : (e : Error) → is_memory e ≡ true → e ≡ OutOfMemory
 memory_is OutOfMemory h = refl
@@ -31,30 +44,36 @@ memory_is TableIdsSpent h = absurd cc
 memory_is WriterFailed h = absurd cc
 memory_is (Source n) h = absurd cc
 
-memory_or : (e : Error) (told : Option Error) (b : Bool) → is_memory e ≡ b → told ≡ None → (is_memory e ≡ false → told ≡ Some e) → e ≡ OutOfMemory
+memory_or : (e : Error) (told : Option Error) (b : Bool) → is_memory e ≡ b → told ≡ None
+    → (is_memory e ≡ false → told ≡ Some e) → e ≡ OutOfMemory
 memory_or e told true m none h = memory_is e m
 memory_or e told false m none h = let no : None ≡ Some e = sym none ∙ h m in cc
 
 -- where no fault is told, a refusal is want of memory
-pub memory_alone : {X : Type 0} (r : Result X Error) (told : Option Error) → told ≡ None → Faults r told → IfErr r (λ e. e ≡ OutOfMemory)
+pub memory_alone : {X : Type 0} (r : Result X Error) (told : Option Error) → told ≡ None
+    → Faults r told → IfErr r (λ e. e ≡ OutOfMemory)
 memory_alone (Ok x) told none h = tt
 memory_alone (Err e) told none h = memory_or e told (is_memory e) refl none h
 
 -- so of the refusal itself
-pub refused_alone : {X : Type 0} (r : Result X Error) (e : Error) → r ≡ Err e → IfErr r (λ x. x ≡ OutOfMemory) → e ≡ OutOfMemory
-refused_alone {X} r e is told = subst (λ (t : Result X Error). IfErr t (λ x. x ≡ OutOfMemory)) is told
+pub refused_alone : {X : Type 0} (r : Result X Error) (e : Error) → r ≡ Err e
+    → IfErr r (λ x. x ≡ OutOfMemory) → e ≡ OutOfMemory
+refused_alone {X} r e is told = subst (λ (t : Result X Error). IfErr t (λ x. x ≡ OutOfMemory)) is
+    told
 
 -- what follows from a call's answer, and from its refusal
 pub ok_then : {X E P Q : Type 0} (r : Result X E) → OnOk r P → (P → Q) → OnOk r Q
 ok_then (Ok x) p f = f p
 ok_then (Err e) p f = tt
 
-pub err_then : {X E P Q R : Type 0} (r : Result X E) → OnErr r P → OnErr r Q → (P → Q → R) → OnErr r R
+pub err_then : {X E P Q R : Type 0} (r : Result X E) → OnErr r P → OnErr r Q → (P → Q → R)
+    → OnErr r R
 err_then (Ok x) p q f = tt
 err_then (Err e) p q f = f p q
 
 -- a call that passes on a want of memory
-pub faults_memory : {X : Type 0} (r : Result X Error) (e : Error) (told : Option Error) → IsErrAnd r (λ y. y ≡ e) → e ≡ OutOfMemory → Faults r told
+pub faults_memory : {X : Type 0} (r : Result X Error) (e : Error) (told : Option Error)
+    → IsErrAnd r (λ y. y ≡ e) → e ≡ OutOfMemory → Faults r told
 faults_memory (Ok x) e told is memory = absurd is
 faults_memory (Err y) e told is memory = λ h.
     let both : true ≡ false = sym (ap is_memory (is ∙ memory)) ∙ h in

@@ -1,5 +1,7 @@
 -- What holds of a writer of many tables, from call to call.
-use Rattle.std.proofs.Common.{◌≡◌, refl, sym, ◌∙◌, ap, subst, ℕ, ◌+◌, ◌-◌, ◌^◌, ◌<◌, ◌≤◌, Bool, true, false, List, [], ◌∷◌, ◌++◌, length, append_assoc, append-nil, arith, length-append, IsTrue}
+use Rattle.std.proofs.Common.{◌≡◌, refl, sym, ◌∙◌, ap, subst, ℕ, ◌+◌, ◌-◌, ◌^◌, ◌<◌, ◌≤◌, Bool}
+use Rattle.std.proofs.Common.{true, false, List, [], ◌∷◌, ◌++◌, length, append_assoc, append-nil}
+use Rattle.std.proofs.Common.{arith, length-append, IsTrue}
 use Rattle.std.specs.Prelude.{Option, Some, None, ◌&&◌, nat_lt, MatchOption, unwrap_or}
 use Rattle.std.specs.Option.{option_to_list}
 use Rattle.std.proofs.lemmas.List.{map-append}
@@ -11,9 +13,13 @@ use Rattle.lsm_formats.specs.declared.options.Options.{Options}
 use Rattle.lsm_formats.specs.Chunks.{joined}
 use Rattle.lsm_writers.specs.declared.writer.FinishedTable.{FinishedTable}
 use Rattle.lsm_writers.specs.Cut.{rest_chunk}
-use Rattle.lsm_writers.specs.Tables.{AddsTable, AreCuts, AreFinished, GoesOn, drawn, gained_all, ids_fault, is_due, label_before, list_in, lists_in, next_id, next_label, next_writing}
-use Rattle.lsm_writers.specs.Writing.{IsFinished, IsTableWith, Writing, fresh_writing, gained, may_be_written, spills_of, written}
-use Rattle.lsm_writers.proofs.CutTables.{cuts_first, cuts_longer, cuts_next, gained_snoc, long_enough, no_end, still_short, unspilled}
+use Rattle.lsm_writers.specs.Tables.{AddsTable, AreCuts, AreFinished, GoesOn, drawn, gained_all}
+use Rattle.lsm_writers.specs.Tables.{ids_fault, is_due, label_before, list_in, lists_in, next_id}
+use Rattle.lsm_writers.specs.Tables.{next_label, next_writing}
+use Rattle.lsm_writers.specs.Writing.{IsFinished, IsTableWith, Writing, fresh_writing, gained}
+use Rattle.lsm_writers.specs.Writing.{may_be_written, spills_of, written}
+use Rattle.lsm_writers.proofs.CutTables.{cuts_first, cuts_longer, cuts_next, gained_snoc}
+use Rattle.lsm_writers.proofs.CutTables.{long_enough, no_end, still_short, unspilled}
 use Rattle.lsm_writers.proofs.CutTables.{some_length}
 use Rattle.lsm_writers.proofs.Cutting.{joined_more, rest_is}
 use Rattle.lsm_writers.proofs.DataBack.{list_back}
@@ -32,64 +38,102 @@ pub follows_none : (key : List ℕ) (n : ℕ) → nat_lt n (2 ^ 64 - 1) ≡ may_
 unfolding last_of
 follows_none key n = and_true _
 
-same_end : (before : List Entry) (t : List Entry) → (t ≡ [] → before ≡ []) → last_of None (before ++ t) ≡ last_of None t
+same_end : (before : List Entry) (t : List Entry) → (t ≡ [] → before ≡ [])
+    → last_of None (before ++ t) ≡ last_of None t
 same_end before [] begun = ap (last_of None) (append-nil before ∙ begun refl)
-same_end before (x ∷ xs) begun = last_of-append None before (x ∷ xs) ∙ (last_of_cons (last_of None before) x xs ∙ sym (last_of_cons None x xs))
+same_end before (x ∷ xs) begun = last_of-append None before (x ∷ xs)
+    ∙ (last_of_cons (last_of None before) x xs ∙ sym (last_of_cons None x xs))
 
 -- where nothing is written of the present table, there is none before it
-none_before : {A : Type 0} (target : ℕ) (ids : Option ℕ) (fs : List (FinishedTable A)) (w : Writing) → GoesOn target ids fs w → written w ≡ [] → joined (lists_in fs) ≡ []
-none_before target ids fs w h none = ap (λ (x : List (FinishedTable _)). joined (lists_in x)) (h.begun none)
+none_before : {A : Type 0} (target : ℕ) (ids : Option ℕ) (fs : List (FinishedTable A)) (w : Writing)
+    → GoesOn target ids fs w → written w ≡ [] → joined (lists_in fs) ≡ []
+none_before target ids fs w h none = ap (λ (x : List (FinishedTable _)). joined (lists_in x))
+    (h.begun none)
 
 -- what may follow the present list may follow the whole one
-pub follows_all : {A : Type 0} (target : ℕ) (ids : Option ℕ) (fs : List (FinishedTable A)) (w : Writing) (key : List ℕ) (n : ℕ) → GoesOn target ids fs w → may_be_written (written w) key n ≡ may_be_written (joined (lists_in fs) ++ written w) key n
+pub follows_all : {A : Type 0} (target : ℕ) (ids : Option ℕ) (fs : List (FinishedTable A))
+    (w : Writing) (key : List ℕ) (n : ℕ) → GoesOn target ids fs w
+    → may_be_written (written w) key n ≡ may_be_written (joined (lists_in fs) ++ written w) key n
 follows_all target ids fs w key n h =
     rw (same_end (joined (lists_in fs)) (written w) (none_before target ids fs w h)) refl
 
 -- ---- finished tables
 
-pub finished_more : {A : Type 0} (options : Options) (label : Label) (ts : List (List Entry)) (fs : List (FinishedTable A)) (t : List Entry) (f : FinishedTable A)
-    → AreFinished options label ts fs → IsTableWith (record label { table_id = label.table_id + length fs }) options t f.id f.checksum.0 f.bytes → AreFinished options label (ts ++ t ∷ []) (fs ++ f ∷ [])
-finished_more options label [] [] t f h one =
-    (subst (λ (n : ℕ). IsTableWith (record label { table_id = n }) options t f.id f.checksum.0 f.bytes) (omega arith) one, tt)
+pub finished_more : {A : Type 0} (options : Options) (label : Label) (ts : List (List Entry))
+    (fs : List (FinishedTable A)) (t : List Entry) (f : FinishedTable A)
+    → AreFinished options label ts fs → IsTableWith
+    (record label { table_id = label.table_id + length fs }) options t f.id f.checksum.0 f.bytes
+    → AreFinished options label (ts ++ t ∷ []) (fs ++ f ∷ [])
+finished_more options label [] [] t f h one = (
+  subst (λ (n : ℕ). IsTableWith (record label { table_id = n }) options t f.id f.checksum.0
+      f.bytes) (omega arith) one,
+  tt,
+)
 finished_more options label [] (x ∷ fs) t f h one = absurd h
 finished_more options label (u ∷ ts) [] t f h one = absurd h
 finished_more options label (u ∷ ts) (x ∷ fs) t f h one =
-    let n : label.table_id + length (x ∷ fs) ≡ (label.table_id + 1) + length fs = omega arith in
-    (h.0, finished_more options (next_label label) ts fs t f h.1 (subst (λ (k : ℕ). IsTableWith (record label { table_id = k }) options t f.id f.checksum.0 f.bytes) n one))
+    let n : label.table_id + length (x ∷ fs) ≡ (label.table_id + 1) + length fs = omega arith in (
+      h.0,
+      finished_more options (next_label label) ts fs t f h.1
+          (subst (λ (k : ℕ). IsTableWith (record label { table_id = k }) options t f.id f.checksum.0
+          f.bytes) n one),
+    )
 
 -- the finished table of a writer that has taken its list and nothing else
-pub table_with : (w : Writing) (id checksum : ℕ) (bytes : List ℕ) → spills_of w ≡ [] → IsFinished w id checksum bytes → IsTableWith w.label w.options (written w) id checksum bytes
+pub table_with : (w : Writing) (id checksum : ℕ) (bytes : List ℕ) → spills_of w ≡ []
+    → IsFinished w id checksum bytes → IsTableWith w.label w.options (written w) id checksum bytes
 table_with w id checksum bytes none f = record {
   some = f.some;
   id_is = f.id_is;
   checksum_is = f.checksum_is;
-  table = record { label = w.label; options = w.options; version = V4; spills = spills_of w; file = f.file_is; strict = f.strict; fits = f.fits };
+  table = record {
+    label = w.label;
+    options = w.options;
+    version = V4;
+    spills = spills_of w;
+    file =
+        f.file_is;
+    strict = f.strict;
+    fits = f.fits;
+  };
   label_is = refl;
   options_are = refl;
   version_is = refl;
   spills_are = none;
 }
 
-never_spilled : (w : Writing) → w ≡ gained_all (fresh_writing w.label w.options) (written w) → spills_of w ≡ []
-never_spilled w is = ap spills_of is ∙ (unspilled (fresh_writing w.label w.options) (written w) ∙ no_spills (fresh_writing w.label w.options) refl)
+never_spilled : (w : Writing) → w ≡ gained_all (fresh_writing w.label w.options) (written w)
+    → spills_of w ≡ []
+never_spilled w is = ap spills_of is ∙ (unspilled (fresh_writing w.label w.options) (written w)
+    ∙ no_spills (fresh_writing w.label w.options) refl)
 
-before_is : (label : Label) (n : ℕ) → n ≤ label.table_id → record label { table_id = (label.table_id - n) + n } ≡ label
+before_is : (label : Label) (n : ℕ) → n ≤ label.table_id
+    → record label { table_id = (label.table_id - n) + n } ≡ label
 before_is label n few = ap (λ (k : ℕ). record label { table_id = k }) (omega (arith, few))
 
 -- the finished tables with that of the present writer
-pub all_finished : {A : Type 0} (target : ℕ) (ids : Option ℕ) (fs : List (FinishedTable A)) (w : Writing) (f : FinishedTable A) → GoesOn target ids fs w → IsFinished w f.id f.checksum.0 f.bytes → AreFinished w.options (label_before (length fs) w.label) (lists_in fs ++ written w ∷ []) (fs ++ f ∷ [])
+pub all_finished : {A : Type 0} (target : ℕ) (ids : Option ℕ) (fs : List (FinishedTable A))
+    (w : Writing) (f : FinishedTable A) → GoesOn target ids fs w
+    → IsFinished w f.id f.checksum.0 f.bytes → AreFinished w.options
+    (label_before (length fs) w.label) (lists_in fs ++ written w ∷ []) (fs ++ f ∷ [])
 all_finished target ids fs w f h done =
     let one = table_with w f.id f.checksum.0 f.bytes (never_spilled w h.present) done in
-    finished_more w.options (label_before (length fs) w.label) (lists_in fs) fs (written w) f h.finished
-    (subst (λ (l : Label). IsTableWith l w.options (written w) f.id f.checksum.0 f.bytes) (sym (before_is w.label (length fs) h.few)) one)
+    finished_more w.options (label_before (length fs) w.label) (lists_in fs) fs
+    (written w) f h.finished
+    (subst (λ (l : Label). IsTableWith l w.options (written w) f.id f.checksum.0 f.bytes)
+    (sym (before_is w.label (length fs) h.few)) one)
 
-pub lists_more : {A : Type 0} (fs : List (FinishedTable A)) (f : FinishedTable A) (t : List Entry) → list_in f.bytes ≡ t → lists_in (fs ++ f ∷ []) ≡ lists_in fs ++ t ∷ []
-lists_more {A} fs f t is = map-append (λ (x : FinishedTable A). list_in x.bytes) fs (f ∷ []) ∙ ap (λ (x : List Entry). lists_in fs ++ x ∷ []) is
+pub lists_more : {A : Type 0} (fs : List (FinishedTable A)) (f : FinishedTable A) (t : List Entry)
+    → list_in f.bytes ≡ t → lists_in (fs ++ f ∷ []) ≡ lists_in fs ++ t ∷ []
+lists_more {A} fs f t is = map-append (λ (x : FinishedTable A). list_in x.bytes) fs (f ∷ [])
+    ∙ ap (λ (x : List Entry). lists_in fs ++ x ∷ []) is
 
 -- ---- one entry more in the present table
 
 -- the lists of all tables, one after another, with an entry more
-module _ {A : Type 0} (target : ℕ) (ids : Option ℕ) (fs : List (FinishedTable A)) (w : Writing) (e : Entry) (h : GoesOn target ids fs w) (next : IsTrue (may_be_written (joined (lists_in fs) ++ written w) e.user_key e.seqno)) where
+module _ {A : Type 0} (target : ℕ) (ids : Option ℕ) (fs : List (FinishedTable A)) (w : Writing)
+    (e : Entry) (h : GoesOn target ids fs w) (next : IsTrue
+    (may_be_written (joined (lists_in fs) ++ written w) e.user_key e.seqno)) where
   pub goes_on_still : is_due target w e ≡ false → GoesOn target ids fs (gained w e)
   goes_on_still due =
       let v = gained w e in
@@ -97,17 +141,33 @@ module _ {A : Type 0} (target : ℕ) (ids : Option ℕ) (fs : List (FinishedTabl
       let t = written w in
       let all : written v ≡ t ++ e ∷ [] = written_gained w e in
       let same = same_label w e in
-      let start : fresh_writing w.label w.options ≡ fresh_writing v.label v.options = ap (λ (x : Label). fresh_writing x w.options) (sym same.0) ∙ ap (λ (x : Options). fresh_writing v.label x) (sym same.1) in
-      let strict : IsStrict ((joined L ++ t) ++ e ∷ []) = strict_gained (joined L ++ t) e h.strict next in
-      let strict' : IsStrict (joined L ++ (t ++ e ∷ [])) = subst IsStrict (append_assoc (joined L) t (e ∷ [])) strict in
-      let cuts : AreCuts w.options.data_block_size target (L ++ rest_chunk (t ++ e ∷ [])) = cuts_longer w.options.data_block_size target L t e (λ none. ap (λ (x : List (FinishedTable A)). lists_in x) (h.begun none)) h.cuts (still_short target w e h.present due) in
-      let cuts' : AreCuts v.options.data_block_size target (L ++ rest_chunk (t ++ e ∷ [])) = subst (λ (o : Options). AreCuts o.data_block_size target (L ++ rest_chunk (t ++ e ∷ []))) (sym same.1) cuts in
-      let done : AreFinished v.options (label_before (length fs) w.label) L fs = subst (λ (o : Options). AreFinished o (label_before (length fs) w.label) L fs) (sym same.1) h.finished in
+      let start : fresh_writing w.label w.options ≡ fresh_writing v.label v.options =
+      ap (λ (x : Label). fresh_writing x w.options) (sym same.0)
+      ∙ ap (λ (x : Options). fresh_writing v.label x) (sym same.1) in
+      let strict : IsStrict ((joined L ++ t) ++ e ∷ []) =
+      strict_gained (joined L ++ t) e h.strict next in
+      let strict' : IsStrict (joined L ++ (t ++ e ∷ [])) =
+      subst IsStrict (append_assoc (joined L) t (e ∷ [])) strict in
+      let cuts : AreCuts w.options.data_block_size target (L ++ rest_chunk (t ++ e ∷ [])) =
+      cuts_longer w.options.data_block_size target L t e
+      (λ none. ap (λ (x : List (FinishedTable A)). lists_in x) (h.begun none)) h.cuts
+      (still_short target w e h.present due) in
+      let cuts' : AreCuts v.options.data_block_size target (L ++ rest_chunk (t ++ e ∷ [])) =
+      subst (λ (o : Options). AreCuts o.data_block_size target (L ++ rest_chunk (t ++ e ∷ [])))
+      (sym same.1) cuts in
+      let done : AreFinished v.options (label_before (length fs) w.label) L fs =
+      subst (λ (o : Options). AreFinished o (label_before (length fs) w.label) L fs)
+      (sym same.1) h.finished in
       record {
-        present = ap (λ (x : Writing). gained x e) h.present ∙ (sym (gained_snoc (fresh_writing w.label w.options) t e) ∙ (ap (λ (x : Writing). gained_all x (t ++ e ∷ [])) start ∙ ap (gained_all (fresh_writing v.label v.options)) (sym all)));
+        present = ap (λ (x : Writing). gained x e) h.present
+            ∙ (sym (gained_snoc (fresh_writing w.label w.options) t e)
+            ∙ (ap (λ (x : Writing). gained_all x (t ++ e ∷ [])) start
+            ∙ ap (gained_all (fresh_writing v.label v.options)) (sym all)));
         strict = subst (λ (x : List Entry). IsStrict (joined L ++ x)) (sym all) strict';
-        cuts = subst (λ (x : List Entry). AreCuts v.options.data_block_size target (L ++ rest_chunk x)) (sym all) cuts';
-        finished = subst (λ (l : Label). AreFinished v.options (label_before (length fs) l) L fs) (sym same.0) done;
+        cuts = subst (λ (x : List Entry). AreCuts v.options.data_block_size target
+            (L ++ rest_chunk x)) (sym all) cuts';
+        finished = subst (λ (l : Label). AreFinished v.options (label_before (length fs) l) L fs)
+            (sym same.0) done;
         few = subst (λ (l : Label). length fs ≤ l.table_id) (sym same.0) h.few;
         next = h.next ∙ ap (λ (l : Label). next_id l.table_id) (sym same.0);
         begun = λ none. absurd (no_end t e (sym all ∙ none));
@@ -116,14 +176,18 @@ module _ {A : Type 0} (target : ℕ) (ids : Option ℕ) (fs : List (FinishedTabl
 -- ---- an entry that begins the next table
 
 -- the counter's next id, where it has one, is that behind the present table's
-next_is : (ids : Option ℕ) (n : ℕ) → ids ≡ next_id n → ids_fault ids ≡ None → unwrap_or ids 0 ≡ n + 1
+next_is : (ids : Option ℕ) (n : ℕ) → ids ≡ next_id n → ids_fault ids ≡ None
+    → unwrap_or ids 0 ≡ n + 1
 next_is ids n is some = by_room ids n (nat_lt n (2 ^ 64 - 1)) refl is some
   where
-    by_room : (ids : Option ℕ) (n : ℕ) (b : Bool) → nat_lt n (2 ^ 64 - 1) ≡ b → ids ≡ next_id n → ids_fault ids ≡ None → unwrap_or ids 0 ≡ n + 1
-    by_room ids n true h is some = let e : next_id n ≡ Some (n + 1) = rw h refl in ap (λ (o : Option ℕ). unwrap_or o 0) (is ∙ e)
+    by_room : (ids : Option ℕ) (n : ℕ) (b : Bool) → nat_lt n (2 ^ 64 - 1) ≡ b → ids ≡ next_id n
+        → ids_fault ids ≡ None → unwrap_or ids 0 ≡ n + 1
+    by_room ids n true h is some = let e : next_id n ≡ Some (n + 1) = rw h refl in
+        ap (λ (o : Option ℕ). unwrap_or o 0) (is ∙ e)
     by_room ids n false h is some =
         let e : next_id n ≡ None = rw h refl in
-        let none : ids_fault None ≡ None = subst (λ (o : Option ℕ). ids_fault o ≡ None) (is ∙ e) some in
+        let none : ids_fault None ≡ None = subst (λ (o : Option ℕ). ids_fault o ≡ None)
+        (is ∙ e) some in
         absurd cc
 
 drawn_is : (ids : Option ℕ) → ids_fault ids ≡ None → drawn ids ≡ next_id (unwrap_or ids 0)
@@ -134,63 +198,107 @@ strict_one : (e : Entry) → IsStrict (e ∷ [])
 unfolding IsStrictAfter
 strict_one e = (refl, tt)
 
-abbrev IsAdded : {A : Type 0} → Writing → List (FinishedTable A) → List (FinishedTable A) → Option (FinishedTable A) → Type 0
-IsAdded w fs gs table = (gs ≡ fs ++ option_to_list table) × MatchOption table (written w ≡ []) (λ f. IsFinished w f.id f.checksum.0 f.bytes)
+abbrev IsAdded : {A : Type 0} → Writing → List (FinishedTable A) → List (FinishedTable A)
+    → Option (FinishedTable A) → Type 0
+IsAdded w fs gs table = (gs ≡ fs ++ option_to_list table)
+    × MatchOption table (written w ≡ []) (λ f. IsFinished w f.id f.checksum.0 f.bytes)
 
-module _ {A : Type 0} (target : ℕ) (ids : Option ℕ) (fs : List (FinishedTable A)) (w : Writing) (e : Entry) (h : GoesOn target ids fs w) (next : IsTrue (may_be_written (joined (lists_in fs) ++ written w) e.user_key e.seqno)) (due : is_due target w e ≡ true) (some : ids_fault ids ≡ None) where
+module _ {A : Type 0} (target : ℕ) (ids : Option ℕ) (fs : List (FinishedTable A)) (w : Writing)
+    (e : Entry) (h : GoesOn target ids fs w) (next : IsTrue
+    (may_be_written (joined (lists_in fs) ++ written w) e.user_key e.seqno))
+    (due : is_due target w e ≡ true) (some : ids_fault ids ≡ None) where
   -- the next writer with its first entry
-  next_first : (gs : List (FinishedTable A)) → IsStrict (joined (lists_in gs) ++ e ∷ []) → AreCuts w.options.data_block_size target (lists_in gs ++ rest_chunk (e ∷ [])) → AreFinished w.options (label_before (length gs) (next_writing ids w).label) (lists_in gs) gs → length gs ≤ unwrap_or ids 0 → GoesOn target (drawn ids) gs (gained (next_writing ids w) e)
+  next_first : (gs : List (FinishedTable A)) → IsStrict (joined (lists_in gs) ++ e ∷ [])
+      → AreCuts w.options.data_block_size target (lists_in gs ++ rest_chunk (e ∷ []))
+      → AreFinished w.options (label_before (length gs) (next_writing ids w).label) (lists_in gs) gs
+      → length gs ≤ unwrap_or ids 0 → GoesOn target (drawn ids) gs (gained (next_writing ids w) e)
   next_first gs strict cuts finished few =
       let N = next_writing ids w in
       let v = gained N e in
       let all : written v ≡ e ∷ [] = written_gained N e in
       let same = same_label N e in
-      let start : fresh_writing N.label N.options ≡ fresh_writing v.label v.options = ap (λ (x : Label). fresh_writing x N.options) (sym same.0) ∙ ap (λ (x : Options). fresh_writing v.label x) (sym same.1) in
-      let cuts' : AreCuts v.options.data_block_size target (lists_in gs ++ rest_chunk (e ∷ [])) = subst (λ (o : Options). AreCuts o.data_block_size target (lists_in gs ++ rest_chunk (e ∷ []))) (sym same.1) cuts in
-      let done : AreFinished v.options (label_before (length gs) N.label) (lists_in gs) gs = subst (λ (o : Options). AreFinished o (label_before (length gs) N.label) (lists_in gs) gs) (sym same.1) finished in
+      let start : fresh_writing N.label N.options ≡ fresh_writing v.label v.options =
+      ap (λ (x : Label). fresh_writing x N.options) (sym same.0)
+      ∙ ap (λ (x : Options). fresh_writing v.label x) (sym same.1) in
+      let cuts' : AreCuts v.options.data_block_size target (lists_in gs ++ rest_chunk (e ∷ [])) =
+      subst (λ (o : Options). AreCuts o.data_block_size target
+      (lists_in gs ++ rest_chunk (e ∷ []))) (sym same.1) cuts in
+      let done : AreFinished v.options (label_before (length gs) N.label) (lists_in gs) gs =
+      subst (λ (o : Options). AreFinished o (label_before (length gs) N.label) (lists_in gs) gs)
+      (sym same.1) finished in
       record {
-        present = ap (λ (x : Writing). gained_all x (e ∷ [])) start ∙ ap (gained_all (fresh_writing v.label v.options)) (sym all);
+        present = ap (λ (x : Writing). gained_all x (e ∷ [])) start
+            ∙ ap (gained_all (fresh_writing v.label v.options)) (sym all);
         strict = subst (λ (x : List Entry). IsStrict (joined (lists_in gs) ++ x)) (sym all) strict;
-        cuts = subst (λ (x : List Entry). AreCuts v.options.data_block_size target (lists_in gs ++ rest_chunk x)) (sym all) cuts';
-        finished = subst (λ (l : Label). AreFinished v.options (label_before (length gs) l) (lists_in gs) gs) (sym same.0) done;
+        cuts = subst (λ (x : List Entry). AreCuts v.options.data_block_size target
+            (lists_in gs ++ rest_chunk x)) (sym all) cuts';
+        finished = subst (λ (l : Label). AreFinished v.options (label_before (length gs) l)
+            (lists_in gs) gs) (sym same.0) done;
         few = subst (λ (l : Label). length gs ≤ l.table_id) (sym same.0) few;
         next = drawn_is ids some ∙ ap (λ (l : Label). next_id l.table_id) (sym same.0);
         begun = λ none. absurd (no_end [] e (sym all ∙ none));
       }
 
-  goes_on_by : (gs : List (FinishedTable A)) (table : Option (FinishedTable A)) → IsAdded w fs gs table → GoesOn target (drawn ids) gs (gained (next_writing ids w) e)
+  goes_on_by : (gs : List (FinishedTable A)) (table : Option (FinishedTable A))
+      → IsAdded w fs gs table → GoesOn target (drawn ids) gs (gained (next_writing ids w) e)
   goes_on_by gs None added =
       let none : gs ≡ [] = added.0 ∙ (append-nil fs ∙ h.begun added.1) in
-      let made : GoesOn target (drawn ids) [] (gained (next_writing ids w) e) = next_first [] (strict_one e) (cuts_first w.options.data_block_size target e) tt (omega arith) in
-      subst (λ (x : List (FinishedTable A)). GoesOn target (drawn ids) x (gained (next_writing ids w) e)) (sym none) made
+      let made : GoesOn target (drawn ids) [] (gained (next_writing ids w) e) =
+      next_first [] (strict_one e) (cuts_first w.options.data_block_size target e) tt
+      (omega arith) in
+      subst (λ (x : List (FinishedTable A)). GoesOn target (drawn ids) x
+      (gained (next_writing ids w) e)) (sym none) made
   goes_on_by gs (Some f) added =
       let L = lists_in fs in
       let t = written w in
       let gs' = fs ++ f ∷ [] in
-      let lists : lists_in gs' ≡ L ++ t ∷ [] = lists_more fs f t (list_back w f.id f.checksum.0 f.bytes added.1) in
-      let strict : IsStrict ((joined L ++ t) ++ e ∷ []) = strict_gained (joined L ++ t) e h.strict next in
-      let strict' : IsStrict (joined (lists_in gs') ++ e ∷ []) = subst (λ (x : List Entry). IsStrict (x ++ e ∷ [])) (sym (ap joined lists ∙ joined_more L t)) strict in
+      let lists : lists_in gs' ≡ L ++ t ∷ [] = lists_more fs f t
+      (list_back w f.id f.checksum.0 f.bytes added.1) in
+      let strict : IsStrict ((joined L ++ t) ++ e ∷ []) =
+      strict_gained (joined L ++ t) e h.strict next in
+      let strict' : IsStrict (joined (lists_in gs') ++ e ∷ []) =
+      subst (λ (x : List Entry). IsStrict (x ++ e ∷ []))
+      (sym (ap joined lists ∙ joined_more L t)) strict in
       let long = long_enough target w e h.present due added.1.some in
-      let cuts : AreCuts w.options.data_block_size target ((L ++ t ∷ []) ++ rest_chunk (e ∷ [])) = cuts_next w.options.data_block_size target L t e added.1.some h.cuts long.0 long.1 in
-      let cuts' : AreCuts w.options.data_block_size target (lists_in gs' ++ rest_chunk (e ∷ [])) = subst (λ (x : List (List Entry)). AreCuts w.options.data_block_size target (x ++ rest_chunk (e ∷ []))) (sym lists) cuts in
+      let cuts : AreCuts w.options.data_block_size target ((L ++ t ∷ []) ++ rest_chunk (e ∷ [])) =
+      cuts_next w.options.data_block_size target L t e added.1.some h.cuts long.0 long.1 in
+      let cuts' : AreCuts w.options.data_block_size target (lists_in gs' ++ rest_chunk (e ∷ [])) =
+      subst (λ (x : List (List Entry)). AreCuts w.options.data_block_size target
+      (x ++ rest_chunk (e ∷ []))) (sym lists) cuts in
       let n : length gs' ≡ length fs + 1 = length-append fs (f ∷ []) in
       let id : unwrap_or ids 0 ≡ w.label.table_id + 1 = next_is ids w.label.table_id h.next some in
-      let label : label_before (length fs) w.label ≡ label_before (length gs') (next_writing ids w).label = ap (λ (k : ℕ). record w.label { table_id = k }) (omega (arith, n, id, h.few)) in
-      let done : AreFinished w.options (label_before (length gs') (next_writing ids w).label) (L ++ t ∷ []) gs' = subst (λ (l : Label). AreFinished w.options l (L ++ t ∷ []) gs') label (all_finished target ids fs w f h added.1) in
-      let done' : AreFinished w.options (label_before (length gs') (next_writing ids w).label) (lists_in gs') gs' = subst (λ (x : List (List Entry)). AreFinished w.options (label_before (length gs') (next_writing ids w).label) x gs') (sym lists) done in
-      let made : GoesOn target (drawn ids) gs' (gained (next_writing ids w) e) = next_first gs' strict' cuts' done' (omega (arith, n, id, h.few)) in
-      subst (λ (x : List (FinishedTable A)). GoesOn target (drawn ids) x (gained (next_writing ids w) e)) (sym added.0) made
+      let label : label_before (length fs) w.label
+      ≡ label_before (length gs') (next_writing ids w).label =
+      ap (λ (k : ℕ). record w.label { table_id = k }) (omega (arith, n, id, h.few)) in
+      let done : AreFinished w.options (label_before (length gs') (next_writing ids w).label)
+      (L ++ t ∷ []) gs' = subst (λ (l : Label). AreFinished w.options l (L ++ t ∷ []) gs') label
+      (all_finished target ids fs w f h added.1) in
+      let done' : AreFinished w.options (label_before (length gs') (next_writing ids w).label)
+      (lists_in gs') gs' = subst (λ (x : List (List Entry)). AreFinished w.options
+      (label_before (length gs') (next_writing ids w).label) x gs') (sym lists) done in
+      let made : GoesOn target (drawn ids) gs' (gained (next_writing ids w) e) =
+      next_first gs' strict' cuts' done' (omega (arith, n, id, h.few)) in
+      subst (λ (x : List (FinishedTable A)). GoesOn target (drawn ids) x
+      (gained (next_writing ids w) e)) (sym added.0) made
 
-  pub goes_on_next : (gs : List (FinishedTable A)) → AddsTable w fs gs → GoesOn target (drawn ids) gs (gained (next_writing ids w) e)
+  pub goes_on_next : (gs : List (FinishedTable A)) → AddsTable w fs gs
+      → GoesOn target (drawn ids) gs (gained (next_writing ids w) e)
   goes_on_next gs a = goes_on_by gs a.table (a.added, a.is)
 
 -- the lists of the finished tables, where that of a writer was added
-lists_by : {A : Type 0} (w : Writing) (fs gs : List (FinishedTable A)) (table : Option (FinishedTable A)) → IsAdded w fs gs table → lists_in gs ≡ lists_in fs ++ rest_chunk (written w)
+lists_by : {A : Type 0} (w : Writing) (fs gs : List (FinishedTable A))
+    (table : Option (FinishedTable A)) → IsAdded w fs gs table
+    → lists_in gs ≡ lists_in fs ++ rest_chunk (written w)
 lists_by {A} w fs gs None added =
-    ap (λ (x : List (FinishedTable A)). lists_in x) (added.0 ∙ append-nil fs) ∙ (sym (append-nil (lists_in fs)) ∙ ap (λ (x : List Entry). lists_in fs ++ rest_chunk x) (sym added.1))
+    ap (λ (x : List (FinishedTable A)). lists_in x) (added.0 ∙ append-nil fs)
+    ∙ (sym (append-nil (lists_in fs)) ∙ ap (λ (x : List Entry). lists_in fs ++ rest_chunk x)
+    (sym added.1))
 lists_by {A} w fs gs (Some f) added =
     let some : 0 < length (written w) = some_length (written w) added.1.some in
-    ap (λ (x : List (FinishedTable A)). lists_in x) added.0 ∙ (lists_more fs f (written w) (list_back w f.id f.checksum.0 f.bytes added.1) ∙ ap (λ (x : List (List Entry)). lists_in fs ++ x) (sym (rest_is (written w) some)))
+    ap (λ (x : List (FinishedTable A)). lists_in x) added.0
+    ∙ (lists_more fs f (written w) (list_back w f.id f.checksum.0 f.bytes added.1)
+    ∙ ap (λ (x : List (List Entry)). lists_in fs ++ x) (sym (rest_is (written w) some)))
 
-pub lists_added : {A : Type 0} (w : Writing) (fs gs : List (FinishedTable A)) → AddsTable w fs gs → lists_in gs ≡ lists_in fs ++ rest_chunk (written w)
+pub lists_added : {A : Type 0} (w : Writing) (fs gs : List (FinishedTable A)) → AddsTable w fs gs
+    → lists_in gs ≡ lists_in fs ++ rest_chunk (written w)
 lists_added w fs gs a = lists_by w fs gs a.table (a.added, a.is)

@@ -1,4 +1,5 @@
--- What is asked of one block in a table's bytes: its answer, or the first fault of loading the block.
+-- What is asked of one block in a table's bytes: its answer, or the first fault of loading the
+-- block.
 use Rattle.std.specs.Prelude.{◌≡◌, ℕ, Bool, List, find, Option, Some, None, Result, Ok, Err}
 use Rattle.std.specs.Option.{option_map}
 use Rattle.sst_blocks.specs.declared.block_type.BlockType.TheVariants.{Data, Index, Filter}
@@ -39,7 +40,8 @@ abbrev pub find_told : List ℕ → ℕ → ℕ → List ℕ → ℕ → Result 
 find_told body offset size key bound =
     told_map (place_for key bound) (load_told body offset size Index)
 
--- whether the filter of the filter block of a place may have a hash, or the first fault of loading it
+-- whether the filter of the filter block of a place may have a hash, or the first fault of loading
+-- it
 abbrev pub maybe_told : List ℕ → ℕ → ℕ → ℕ → Result Bool Error
 maybe_told body offset size hash = told_map (maybe_in hash) (load_told body offset size Filter)
 

@@ -1,12 +1,18 @@
--- Blocks in a table's bytes: a header of 24 bytes, then the payload. Which block a load gives, or the first fault that it meets.
-use Rattle.std.specs.Prelude.{◌≡◌, ℕ, ◌+◌, ◌*◌, ◌==◌, ◌&&◌, ◌||◌, not, nat_lt, nat_le, Bool, false, List, [], ◌∷◌, ◌++◌, length, take, drop, slice_index, slice_range, Option, Some, None, is_some, is_none, unwrap_or, Result, Ok, Err, if◌then◌else◌}
+-- Blocks in a table's bytes: a header of 24 bytes, then the payload. Which block a load gives, or
+-- the first fault that it meets.
+use Rattle.std.specs.Prelude.{◌≡◌, ℕ, ◌+◌, ◌*◌, ◌==◌, ◌&&◌, ◌||◌, not, nat_lt, nat_le, Bool, false}
+use Rattle.std.specs.Prelude.{List, [], ◌∷◌, ◌++◌, length, take, drop, slice_index, slice_range}
+use Rattle.std.specs.Prelude.{Option, Some, None, is_some, is_none, unwrap_or, Result, Ok, Err}
+use Rattle.std.specs.Prelude.{if◌then◌else◌}
 use Rattle.std.specs.Option.{option_or}
 use Rattle.sst_sections.specs.declared.version.TableVersion.{TableVersion}
 use Rattle.sst_sections.specs.declared.version.TableVersion.TheVariants.{V4}
 use Rattle.sst_blocks.specs.declared.block_type.BlockType.{BlockType}
 use Rattle.sst_blocks.specs.declared.block_type.BlockType.TheVariants.{Data, Index, Filter, Meta}
 use Rattle.sst_entries.specs.declared.error.Error.{Error}
-use Rattle.sst_entries.specs.declared.error.Error.TheVariants.{Truncated, InvalidHeader, InvalidTag, ChecksumMismatch, InvalidBlock, UnsupportedCompression}
+use Rattle.sst_entries.specs.declared.error.Error.TheVariants.{Truncated, InvalidHeader, InvalidTag}
+use Rattle.sst_entries.specs.declared.error.Error.TheVariants.{ChecksumMismatch, InvalidBlock}
+use Rattle.sst_entries.specs.declared.error.Error.TheVariants.{UnsupportedCompression}
 use Rattle.sst_entries.specs.declared.error.TagName.TheVariants.{BlockType as BlockTypeTag}
 use Rattle.sst_entries.specs.Entry.{Entry}
 use Rattle.sst_entries.specs.Error.{unless}
@@ -58,7 +64,8 @@ block_bytes v kind payload = header v kind payload ++ payload
 -- what is wrong with a header's mark, zero bytes, kind or compression: the first fault
 abbrev pub header_fault : BlockType → List ℕ → Option Error
 header_fault kind head =
-    if is_none (version_of (take 4 head)) || not (slice_index head 6 == 0 && slice_index head 7 == 0)
+    if is_none (version_of (take 4 head)) || not
+    (slice_index head 6 == 0 && slice_index head 7 == 0)
     then Some InvalidHeader
     else (if not (slice_index head 4 == kind_tag kind)
     then Some (InvalidTag BlockTypeTag (slice_index head 4))
@@ -91,7 +98,8 @@ checksum_fault checksum payload =
 unfoldable pub has_room_for : ℕ → List ℕ → Bool
 has_room_for least payload = nat_le (4 + least * num4 payload) (length payload)
 
--- a payload has room for what it counts, each item as short as one of its version can be; a filter is
+-- a payload has room for what it counts, each item as short as one of its version can be; a filter
+-- is
 -- in its grammar
 abbrev pub has_room : TableVersion → BlockType → List ℕ → Bool
 has_room v Data payload = has_room_for (13 + key_width v) payload
@@ -162,7 +170,8 @@ position_fault body position kind =
 abbrev pub loaded : TableVersion → BlockType → List ℕ → Loaded
 loaded v kind payload = record { version = v; kind = kind; payload = payload }
 
--- whatever stands before and behind it, the block of a payload loads, by its handle and at its position
+-- whatever stands before and behind it, the block of a payload loads, by its handle and at its
+-- position
 abbrev pub LoadsBack : TableVersion → BlockType → List ℕ → Type 0
 LoadsBack v kind payload =
     (front behind : List ℕ) → let body = front ++ block_bytes v kind payload ++ behind in

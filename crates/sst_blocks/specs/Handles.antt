@@ -1,5 +1,7 @@
--- The payload of an index block: the one spelling of a list of handles, what a payload spells, and what a handle reaches.
-use Rattle.std.specs.Prelude.{ℕ, ◌+◌, ◌<◌, ◌^◌, List, [], ◌∷◌, ◌++◌, length, take, drop, Bool, ◌&&◌, ◌||◌, nat_lt, Option, Some, None, if◌then◌else◌}
+-- The payload of an index block: the one spelling of a list of handles, what a payload spells, and
+-- what a handle reaches.
+use Rattle.std.specs.Prelude.{ℕ, ◌+◌, ◌<◌, ◌^◌, List, [], ◌∷◌, ◌++◌, length, take, drop, Bool, ◌&&◌}
+use Rattle.std.specs.Prelude.{◌||◌, nat_lt, Option, Some, None, if◌then◌else◌}
 use Rattle.sst_sections.specs.declared.version.TableVersion.{TableVersion}
 use Rattle.sst_entries.specs.declared.value_type.ValueType.TheVariants.{Value}
 use Rattle.sst_entries.specs.Entry.{Entry, entry}
@@ -93,6 +95,7 @@ abbrev pub to_edge : Option (List ℕ) → List Handle → List Handle
 to_edge None hs = hs
 to_edge (Some key) hs = up_to_first (is_above key) hs
 
--- the handles from the first that reaches the lower edge up to the first whose end key is above the upper one, or up to the last
+-- the handles from the first that reaches the lower edge up to the first whose end key is above the
+-- upper one, or up to the last
 abbrev pub window : List Handle → Option (List ℕ × ℕ) → Option (List ℕ) → List Handle
 window hs lo hi = from_edge lo (to_edge hi hs)

@@ -1,10 +1,12 @@
 -- Where the payload of a block lies, and what was tested of it.
-use Rattle.std.specs.Prelude.{◌≡◌, ◌≤◌, ◌<◌, ◌+◌, ◌^◌, ℕ, true, List, length, slice_range, IsTrue, None}
+use Rattle.std.specs.Prelude.{◌≡◌, ◌≤◌, ◌<◌, ◌+◌, ◌^◌, ℕ, true, List, length, slice_range, IsTrue}
+use Rattle.std.specs.Prelude.{None}
 use Rattle.std.specs.Option.{option_or}
 use Rattle.sst_blocks.specs.declared.block_type.BlockType.{BlockType}
 use Rattle.sst_blocks.specs.declared.source.Placed.{Placed}
 use Rattle.sst_blocks.specs.declared.source.reads.Sound.{Sound}
-use Rattle.sst_blocks.specs.Block.{checked_payload, checksum_fault, has_room, in_grammar, load_told, place_fault, room_fault}
+use Rattle.sst_blocks.specs.Block.{checked_payload, checksum_fault, has_room, in_grammar, load_told}
+use Rattle.sst_blocks.specs.Block.{place_fault, room_fault}
 use Rattle.sst_blocks.specs.Marks.{IsHeaded}
 use Rattle.sst_sections.specs.Fnv.{fnv1a}
 
@@ -19,7 +21,8 @@ pub record IsPlaced (body : List ℕ) (offset size : ℕ) (kind : BlockType) (p 
       option_or (checksum_fault p.header.checksum (slice_range body p.start p.end))
       (room_fault p.header.version kind (slice_range body p.start p.end))
 
--- the payload has its checksum, and room for what it counts; where it was tested, it is in its grammar
+-- the payload has its checksum, and room for what it counts; where it was tested, it is in its
+-- grammar
 pub record IsSound (body : List ℕ) (kind : BlockType) (s : Sound) : Type 0 where
   pub ordered : s.start ≤ s.end
   pub within : s.end ≤ length body

@@ -1,5 +1,6 @@
 -- What seeks leave of a span.
-use Rattle.std.specs.Prelude.{◌≡◌, ℕ, Bool, true, List, length, min, max, not, Option, Some, None, Result}
+use Rattle.std.specs.Prelude.{◌≡◌, ℕ, Bool, true, List, length, min, max, not, Option, Some, None}
+use Rattle.std.specs.Prelude.{Result}
 use Rattle.std.specs.declared.ops.Bound.{Bound}
 use Rattle.std.specs.declared.ops.Bound.TheVariants.{Unbounded}
 use Rattle.sst_entries.specs.Stream.{EndsAtError, Deals, ok_results, answer_stops}
@@ -28,7 +29,8 @@ pub record DealsLeft {X : Type 0} (front back : Span X → Option (Result X Erro
       → Deals (answer_stops stops) front back s (ok_results (rest_in s))
   pub ends : EndsAtError front back s
 
--- of the entries within an upper edge, those within both edges are left; and the same of a lower edge
+-- of the entries within an upper edge, those within both edges are left; and the same of a lower
+-- edge
 abbrev pub KeepsUpper : Bound (List ℕ) → Span Entry → Span Entry → Type 0
 KeepsUpper low old new =
     (high : Bound (List ℕ)) (es : List Entry)
@@ -39,7 +41,8 @@ KeepsLower high old new =
     (low : Bound (List ℕ)) (es : List Entry)
     → rest_in old ≡ within low Unbounded es → rest_in new ≡ within low high es
 
--- how many handles stand before the first that reaches an edge, and before the first that ends above a key
+-- how many handles stand before the first that reaches an edge, and before the first that ends
+-- above a key
 abbrev pub reaching_place : List ℕ × ℕ → List Handle → ℕ
 reaching_place edge hs = front_length (λ h. not (reaches edge.0 edge.1 h)) hs
 

@@ -18,7 +18,8 @@ starts_of spell at [] = []
 starts_of spell at (x ∷ xs) = at ∷ starts_of spell (at + length (spell x)) xs
 
 -- the payload spells these items, which begin at these places
-pub record SpellsAt (X : Type 0) (spell : X → List ℕ) (told : Option (List X)) (bytes starts : List ℕ)
+pub record SpellsAt (X : Type 0) (spell : X → List ℕ) (told : Option (List X))
+    (bytes starts : List ℕ)
     : Type 0 where
   pub items : List X
   pub are : told ≡ Some items

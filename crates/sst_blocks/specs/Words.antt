@@ -1,16 +1,21 @@
--- The words of the contracts of blocks, those of the crates below among them, so that a file asks for them once.
+-- The words of the contracts of blocks, those of the crates below among them, so that a file asks
+-- for them once.
 pub use Rattle.sst_entries.specs.Entry.{Entry}
 pub use Rattle.sst_entries.specs.Error.{Faults, FaultsFirst, Gives, Refuses, is_memory, unless}
 pub use Rattle.sst_entries.specs.Key.{key_lt}
 pub use Rattle.sst_entries.specs.Point.{read_place, lower_place, point, upper_place, within}
 pub use Rattle.sst_entries.specs.Span.{SpanGives, front_length, rest_in}
-pub use Rattle.sst_entries.specs.Stream.{CanDeal, Deals, ok_results, back_of, front_of, answer_stops, EndsAtError}
+pub use Rattle.sst_entries.specs.Stream.{CanDeal, Deals, ok_results, back_of, front_of}
+pub use Rattle.sst_entries.specs.Stream.{answer_stops, EndsAtError}
 pub use Rattle.sst_entries.specs.Strict.{IsStrict, is_before, is_strict_after, may_follow}
-pub use Rattle.sst_blocks.specs.Block.{Loaded, LoadsBack, block_bytes, entries_of, grammar_fault, handles_of, has_room, has_room_for, header_len, in_grammar, is_filter, loaded}
+pub use Rattle.sst_blocks.specs.Block.{Loaded, LoadsBack, block_bytes, entries_of, grammar_fault}
+pub use Rattle.sst_blocks.specs.Block.{handles_of, has_room, has_room_for, header_len, in_grammar}
+pub use Rattle.sst_blocks.specs.Block.{is_filter, loaded}
 pub use Rattle.sst_blocks.specs.Bounds.{data_block_bound_of, index_block_bound_of}
 pub use Rattle.sst_blocks.specs.Encoding.{entries_fault, handles_fault}
 pub use Rattle.sst_blocks.specs.Handle.{Handle}
-pub use Rattle.sst_blocks.specs.Handles.{AreStrictHandles, AreSpellableHandles, end_of, handles_in, handles_payload, is_above, reaches}
+pub use Rattle.sst_blocks.specs.Handles.{AreStrictHandles, AreSpellableHandles, end_of, handles_in}
+pub use Rattle.sst_blocks.specs.Handles.{handles_payload, is_above, reaches}
 pub use Rattle.sst_blocks.specs.Payload.{AreSpellable, payload}
 pub use Rattle.sst_blocks.specs.Place.{place_of}
 pub use Rattle.sst_blocks.specs.Reading.{entries_in, key_and_number}
@@ -18,4 +23,5 @@ pub use Rattle.sst_blocks.specs.Seeking.{whole_span}
 pub use Rattle.sst_blocks.specs.Seen.{entry_of_ref}
 pub use Rattle.sst_blocks.specs.SeenHandle.{handle_of_ref}
 pub use Rattle.sst_blocks.specs.Starts.{EntriesAt, HoldsEntries, IsBlock}
-pub use Rattle.sst_filters.specs.Filter.{BloomFilter, IsBuilt, IsFilterOf, admits, filter_in, is_in, payload_of}
+pub use Rattle.sst_filters.specs.Filter.{BloomFilter, IsBuilt, IsFilterOf, admits, filter_in, is_in}
+pub use Rattle.sst_filters.specs.Filter.{payload_of}

@@ -10,15 +10,22 @@ runs_in_front : {S X : Type 0} (front back : S → Option X → S → Type 0) (e
 runs_in_front front back [] [] s t runs = runs
 runs_in_front front back [] (r ∷ rs) s t runs = absurd runs
 runs_in_front front back (e ∷ ends) [] s t runs = absurd runs
-runs_in_front front back (Front ∷ ends) (r ∷ rs) s t runs = (runs.0, runs.1, runs_in_front front back ends rs runs.0 t runs.2)
+runs_in_front front back (Front ∷ ends) (r ∷ rs) s t runs =
+    (runs.0, runs.1, runs_in_front front back ends rs runs.0 t runs.2)
 runs_in_front front back (Back ∷ ends) (r ∷ rs) s t runs = absurd runs.1
 
 pub deals_in_front : {S X : Type 0} (stops : Option X → Bool)
     (front back : S → Option X → S → Type 0) (s : S) (xs : List X) → Deals stops front back s xs
     → Deals stops front nowhere s xs
-deals_in_front stops front back s xs d = record { answers = λ ends rs t runs fine. d.answers ends rs t (runs_in_front front back ends rs s t runs) fine }
+deals_in_front stops front back s xs d = record {
+  answers = λ ends rs t runs fine. d.answers ends rs t
+      (runs_in_front front back ends rs s t runs) fine;
+}
 
 pub can_in_front : {S X : Type 0} (front back : S → Option X → S → Type 0)
     (can can_back : S → Type 0) (s : S) → CanDeal front back can can_back s
     → CanDeal front nowhere can can s
-can_in_front front back can can_back s d = record { at = λ ends rs t runs. let both = d.at ends rs t (runs_in_front front back ends rs s t runs) in (both.0, both.0) }
+can_in_front front back can can_back s d = record {
+  at = λ ends rs t runs. let both = d.at ends rs t
+      (runs_in_front front back ends rs s t runs) in (both.0, both.0);
+}

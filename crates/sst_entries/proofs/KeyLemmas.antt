@@ -32,7 +32,8 @@ le_itself a = ap is_lt (tied_itself nat_list_cmp_total a)
 
 -- a key above another is not the same
 pub lt_other : (a b : List ℕ) → key_lt a b ≡ true → same_key b a ≡ false
-lt_other a b h = is_false (same_key b a) (λ same. apart (key_lt a b) h (subst (λ (k : List ℕ). key_lt a k ≡ false) (sym (same_is b a same)) (le_itself a)))
+lt_other a b h = is_false (same_key b a) (λ same. apart (key_lt a b) h
+    (subst (λ (k : List ℕ). key_lt a k ≡ false) (sym (same_is b a same)) (le_itself a)))
 
 flip_lt : (o : Ordering) → is_lt (ordering_reverse o) ≡ false → (is_eq o ≡ true → ⊥)
     → is_lt o ≡ true
@@ -44,7 +45,8 @@ flip_lt Greater h other = absurd cc
 pub le_other : (a b : List ℕ) → KeyLe a b → same_key b a ≡ false → key_lt a b ≡ true
 le_other a b h other =
     flip_lt (slice_cmp nat_cmp a b) (ap is_lt (sym (nat_list_cmp_total.antisymm b a)) ∙ h)
-    (λ tie. apart (same_key b a) (subst (λ (k : List ℕ). same_key k a ≡ true) (same_text a b (sym (texts_ties a b ∙ tie))) (same_itself a)) other)
+    (λ tie. apart (same_key b a) (subst (λ (k : List ℕ). same_key k a ≡ true)
+    (same_text a b (sym (texts_ties a b ∙ tie))) (same_itself a)) other)
 
 pub le_same : (a b : List ℕ) → KeyLe a b → key_lt a b ≡ false → same_key b a ≡ true
 le_same a b h nay =

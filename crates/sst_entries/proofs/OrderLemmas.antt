@@ -37,13 +37,15 @@ pub tie_same : (xs ys : List ℕ) → slice_cmp nat_cmp xs ys ≡ Equal → xs �
 tie_same xs ys h = same_text xs ys (sym (texts_ties xs ys ∙ ap is_eq h))
 
 pub lt_trans : (a b c : List ℕ) → key_lt a b ≡ true → key_lt b c ≡ true → key_lt a c ≡ true
-lt_trans a b c p q = ap is_lt (nat_list_cmp_total.trans a b c (less_of (slice_cmp nat_cmp a b) p) (less_of (slice_cmp nat_cmp b c) q))
+lt_trans a b c p q = ap is_lt (nat_list_cmp_total.trans a b c (less_of (slice_cmp nat_cmp a b) p)
+    (less_of (slice_cmp nat_cmp b c) q))
 
 -- ---- entries
 
 pub before_trans : (a b c : Entry) → is_before a b ≡ true → is_before b c ≡ true
     → is_before a c ≡ true
-before_trans a b c p q = ap is_lt (number_total.trans a b c (less_of (version_cmp a b) p) (less_of (version_cmp b c) q))
+before_trans a b c p q = ap is_lt (number_total.trans a b c (less_of (version_cmp a b) p)
+    (less_of (version_cmp b c) q))
 
 -- what may stand before a strict list comes before each of it
 pub head_before : (x : Entry) (es : List Entry) (j : ℕ) (d : Entry) → IsStrictAfter (Some x) es
@@ -51,7 +53,8 @@ pub head_before : (x : Entry) (es : List Entry) (j : ℕ) (d : Entry) → IsStri
 unfolding IsStrictAfter
 head_before x [] j d h lt = absurd (omega (arith, lt))
 head_before x (y ∷ es) zero d h lt = h.0
-head_before x (y ∷ es) (suc j) d h lt = before_trans x y (get_or es j d) h.0 (head_before y es j d h.1 (omega (arith, lt)))
+head_before x (y ∷ es) (suc j) d h lt = before_trans x y (get_or es j d) h.0
+    (head_before y es j d h.1 (omega (arith, lt)))
 
 -- of two places of a strict list the earlier has what comes before
 pub strict_at : (last : Option Entry) (es : List Entry) (i j : ℕ) (d : Entry)
@@ -61,4 +64,5 @@ unfolding IsStrictAfter
 strict_at last [] i j d h lt le = absurd (omega (arith, le))
 strict_at last (x ∷ es) i zero d h lt le = absurd (omega (arith, lt))
 strict_at last (x ∷ es) zero (suc j) d h lt le = head_before x es j d h.1 (omega (arith, le))
-strict_at last (x ∷ es) (suc i) (suc j) d h lt le = strict_at (Some x) es i j d h.1 (omega (arith, lt)) (omega (arith, le))
+strict_at last (x ∷ es) (suc i) (suc j) d h lt le =
+    strict_at (Some x) es i j d h.1 (omega (arith, lt)) (omega (arith, le))

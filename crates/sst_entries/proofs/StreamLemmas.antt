@@ -23,7 +23,10 @@ module _ {S A : Type 0} (stops : Option A → Bool) (front back : S → Option A
       → front s r t → stops r ≡ false → (r ≡ first xs) × Deals stops front back t (but_first xs)
   deals_front s xs r t d step goes = (
     head_eq (d.answers (Front ∷ []) (r ∷ []) t (t, step, refl) (goes, tt)),
-    record { answers = λ ends rs u runs fine. tail_eq (d.answers (Front ∷ ends) (r ∷ rs) u (t, step, runs) (goes, fine)) },
+    record {
+      answers = λ ends rs u runs fine. tail_eq
+          (d.answers (Front ∷ ends) (r ∷ rs) u (t, step, runs) (goes, fine));
+    },
   )
 
   -- a call at the back gives the last
@@ -31,7 +34,10 @@ module _ {S A : Type 0} (stops : Option A → Bool) (front back : S → Option A
       → back s r t → stops r ≡ false → (r ≡ last xs) × Deals stops front back t (but_last xs)
   deals_back s xs r t d step goes = (
     head_eq (d.answers (Back ∷ []) (r ∷ []) t (t, step, refl) (goes, tt)),
-    record { answers = λ ends rs u runs fine. tail_eq (d.answers (Back ∷ ends) (r ∷ rs) u (t, step, runs) (goes, fine)) },
+    record {
+      answers = λ ends rs u runs fine. tail_eq
+          (d.answers (Back ∷ ends) (r ∷ rs) u (t, step, runs) (goes, fine));
+    },
   )
 
   -- what every call keeps is enough
@@ -41,7 +47,8 @@ module _ {S A : Type 0} (stops : Option A → Bool) (front back : S → Option A
       → ((s : S) (xs : List A) (r : Option A) (t : S) → Has s xs → back s r t → stops r ≡ false
       → (r ≡ last xs) × Has t (but_last xs))
       → (s : S) (xs : List A) → Has s xs → Deals stops front back s xs
-  deals_by Has at_front at_back s xs has = record { answers = λ ends rs t. along ends rs s xs t has }
+  deals_by Has at_front at_back s xs has = record
+      { answers = λ ends rs t. along ends rs s xs t has }
     where
       along : (ends : List Direction) (rs : List (Option A)) (s : S) (xs : List A) (t : S)
           → Has s xs → Runs front back s ends rs t → NoneStops stops rs → rs ≡ deal xs ends
@@ -60,11 +67,17 @@ module _ {S A : Type 0} (stops : Option A → Bool) (front back : S → Option A
 module _ {S A : Type 0} (front back : S → Option A → S → Type 0) (can can_back : S → Type 0) where
   pub can_front : (s : S) (r : Option A) (t : S) → CanDeal front back can can_back s → front s r t
       → CanDeal front back can can_back t
-  can_front s r t d step = record { at = λ ends rs u runs. d.at (Front ∷ ends) (r ∷ rs) u (t, step, runs) }
+  can_front s r t d step = record {
+    at = λ ends rs u runs. d.at (Front ∷ ends) (r ∷ rs) u
+        (t, step, runs);
+  }
 
   pub can_after_back : (s : S) (r : Option A) (t : S) → CanDeal front back can can_back s
       → back s r t → CanDeal front back can can_back t
-  can_after_back s r t d step = record { at = λ ends rs u runs. d.at (Back ∷ ends) (r ∷ rs) u (t, step, runs) }
+  can_after_back s r t d step = record {
+    at = λ ends rs u runs. d.at (Back ∷ ends) (r ∷ rs) u
+        (t, step, runs);
+  }
 
   pub can_now : (s : S) → CanDeal front back can can_back s → can s
   can_now s d = (d.at [] [] s refl).0
@@ -84,8 +97,10 @@ module _ {S A : Type 0} (front back : S → Option A → S → Type 0) (can can_
       along [] [] s t may runs = subst (λ (u : S). can u × can_back u) runs (ready s may)
       along [] (r ∷ rs) s t may runs = absurd runs
       along (e ∷ ends) [] s t may runs = absurd runs
-      along (Front ∷ ends) (r ∷ rs) s t may runs = along ends rs runs.0 t (at_front s r runs.0 may runs.1) runs.2
-      along (Back ∷ ends) (r ∷ rs) s t may runs = along ends rs runs.0 t (at_back s r runs.0 may runs.1) runs.2
+      along (Front ∷ ends) (r ∷ rs) s t may runs =
+          along ends rs runs.0 t (at_front s r runs.0 may runs.1) runs.2
+      along (Back ∷ ends) (r ∷ rs) s t may runs =
+          along ends rs runs.0 t (at_back s r runs.0 may runs.1) runs.2
 
 -- what holds in any case holds on a refusal
 pub on_err : {X E P : Type 0} (r : Result X E) → P → OnErr r P
@@ -97,10 +112,12 @@ pub runs_more : {S A : Type 0} (front back : S → Option A → S → Type 0) (e
     (r : Option A) (t u : S) → Steps front back e t r u
     → (ends : List Direction) (rs : List (Option A)) (s : S) → Runs front back s ends rs t
     → Runs front back s (ends ++ e ∷ []) (rs ++ r ∷ []) u
-runs_more front back e r t u step [] [] s runs = (u, subst (λ s. Steps front back e s r u) (sym runs) step, refl)
+runs_more front back e r t u step [] [] s runs =
+    (u, subst (λ s. Steps front back e s r u) (sym runs) step, refl)
 runs_more front back e r t u step [] (q ∷ rs) s runs = absurd runs
 runs_more front back e r t u step (d ∷ ends) [] s runs = absurd runs
-runs_more front back e r t u step (d ∷ ends) (q ∷ rs) s runs = (runs.0, runs.1, runs_more front back e r t u step ends rs runs.0 runs.2)
+runs_more front back e r t u step (d ∷ ends) (q ∷ rs) s runs =
+    (runs.0, runs.1, runs_more front back e r t u step ends rs runs.0 runs.2)
 
 -- entries of a list that holds no error
 pub map_append : (xs ys : List Entry) → ok_results (xs ++ ys) ≡ ok_results xs ++ ok_results ys
@@ -109,4 +126,6 @@ map_append (x ∷ xs) ys = ap (λ (zs : List (Result Entry Error)). Ok x ∷ zs)
 
 pub map_reverse : (xs : List Entry) → reverse (ok_results xs) ≡ ok_results (reverse xs)
 map_reverse [] = refl
-map_reverse (x ∷ xs) = reverse-append (Ok x ∷ []) (ok_results xs) ∙ ap (λ (zs : List (Result Entry Error)). zs ++ Ok x ∷ []) (map_reverse xs) ∙ sym (ap ok_results (reverse-append (x ∷ []) xs) ∙ map_append (reverse xs) (x ∷ []))
+map_reverse (x ∷ xs) = reverse-append (Ok x ∷ []) (ok_results xs)
+    ∙ ap (λ (zs : List (Result Entry Error)). zs ++ Ok x ∷ []) (map_reverse xs)
+    ∙ sym (ap ok_results (reverse-append (x ∷ []) xs) ∙ map_append (reverse xs) (x ∷ []))

@@ -9,20 +9,29 @@ pub strict_from_test : (last : Option Entry) (es : List Entry) → is_strict_aft
     → IsStrictAfter last es
 unfolding is_strict_after IsStrictAfter
 strict_from_test last [] h = tt
-strict_from_test last (e ∷ es) h = (and_left (may_follow last e) (is_strict_after (Some e) es) h, strict_from_test (Some e) es (and_right (may_follow last e) (is_strict_after (Some e) es) h))
+strict_from_test last (e ∷ es) h = (
+  and_left (may_follow last e)
+      (is_strict_after (Some e) es) h,
+  strict_from_test (Some e) es
+      (and_right (may_follow last e) (is_strict_after (Some e) es) h),
+)
 
 pub test_from_strict : (last : Option Entry) (es : List Entry) → IsStrictAfter last es
     → is_strict_after last es ≡ true
 unfolding is_strict_after IsStrictAfter
 test_from_strict last [] h = refl
-test_from_strict last (e ∷ es) h = and_both (may_follow last e) (is_strict_after (Some e) es) h.0 (test_from_strict (Some e) es h.1)
+test_from_strict last (e ∷ es) h = and_both (may_follow last e) (is_strict_after (Some e) es) h.0
+    (test_from_strict (Some e) es h.1)
 
 -- one entry more
 pub test_push : (last : Option Entry) (es : List Entry) (e : Entry) → is_strict_after last es ≡ true
     → may_follow (last_of last es) e ≡ true → is_strict_after last (es ++ e ∷ []) ≡ true
 unfolding is_strict_after last_of
 test_push last [] e h f = and_both (may_follow last e) true f refl
-test_push last (x ∷ es) e h f = and_both (may_follow last x) (is_strict_after (Some x) (es ++ e ∷ [])) (and_left (may_follow last x) (is_strict_after (Some x) es) h) (test_push (Some x) es e (and_right (may_follow last x) (is_strict_after (Some x) es) h) f)
+test_push last (x ∷ es) e h f = and_both (may_follow last x)
+    (is_strict_after (Some x) (es ++ e ∷ [])) (and_left (may_follow last x)
+    (is_strict_after (Some x) es) h) (test_push (Some x) es e
+    (and_right (may_follow last x) (is_strict_after (Some x) es) h) f)
 
 pub strict_push : (last : Option Entry) (es : List Entry) (e : Entry) → IsStrictAfter last es
     → may_follow (last_of last es) e ≡ true → IsStrictAfter last (es ++ e ∷ [])
@@ -35,7 +44,8 @@ pub test_fails : (last : Option Entry) (es : List Entry) (e : Entry) (more : Lis
     → may_follow (last_of last es) e ≡ false → is_strict_after last (es ++ e ∷ more) ≡ false
 unfolding is_strict_after last_of
 test_fails last [] e more h = rw h refl
-test_fails last (x ∷ es) e more h = and_false (may_follow last x) (is_strict_after (Some x) (es ++ e ∷ more)) (test_fails (Some x) es e more h)
+test_fails last (x ∷ es) e more h = and_false (may_follow last x)
+    (is_strict_after (Some x) (es ++ e ∷ more)) (test_fails (Some x) es e more h)
 
 pub last_push : (last : Option Entry) (es : List Entry) (e : Entry)
     → last_of last (es ++ e ∷ []) ≡ Some e

@@ -1,5 +1,6 @@
 -- Bloom filters: which bits a hash has, and what the filter of some hashes is.
-use Rattle.std.specs.Prelude.{◌≡◌, ℕ, zero, suc, ◌+◌, ◌*◌, ◌/◌, ◌%◌, ◌^◌, ◌<◌, ◌≤◌, ◌==◌, ◌||◌, Bool}
+use Rattle.std.specs.Prelude.{◌≡◌, ℕ, zero, suc, ◌+◌, ◌*◌, ◌/◌, ◌%◌, ◌^◌, ◌<◌, ◌≤◌, ◌==◌, ◌||◌}
+use Rattle.std.specs.Prelude.{Bool}
 use Rattle.std.specs.Prelude.{List, [], ◌∷◌, ◌++◌, length, slice_index_or, bit_or}
 use Rattle.std.specs.Int.{bit_at}
 use Rattle.std.specs.List.{list_any, list_all}
@@ -54,7 +55,8 @@ pub record Gains (f : BloomFilter) (h : ℕ) (g : BloomFilter) : Type 0 where
 abbrev pub payload_of : BloomFilter → List ℕ
 payload_of f = f.probe_count ∷ f.bits
 
--- a filter as it is built: 1 to 30 probes, 8 bytes of bits or more, and a block, of which the header takes
+-- a filter as it is built: 1 to 30 probes, 8 bytes of bits or more, and a block, of which the
+-- header takes
 -- 24 bytes and the number of probes one, that is shorter than 2^32
 pub record IsBuilt (f : BloomFilter) : Type 0 where
   pub some : 1 ≤ f.probe_count

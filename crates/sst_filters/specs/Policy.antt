@@ -1,5 +1,6 @@
 -- How large a filter is made, by the bits that a key is given, in tenths.
-use Rattle.std.specs.Prelude.{ℕ, ◌+◌, ◌-◌, ◌*◌, ◌/◌, ◌^◌, nat_le, nat_lt, List, [], ◌∷◌, Option, Some, None, min, max, replicate, if◌then◌else◌}
+use Rattle.std.specs.Prelude.{ℕ, ◌+◌, ◌-◌, ◌*◌, ◌/◌, ◌^◌, nat_le, nat_lt, List, [], ◌∷◌, Option}
+use Rattle.std.specs.Prelude.{Some, None, min, max, replicate, if◌then◌else◌}
 use Rattle.sst_entries.specs.declared.error.Error.{Error}
 use Rattle.sst_entries.specs.declared.error.Error.TheVariants.{BlockTooLarge}
 use Rattle.sst_filters.specs.Filter.{BloomFilter}
@@ -28,4 +29,8 @@ fault_for tenths n = if nat_le (2 ^ 32) (bound_for tenths n) then Some BlockTooL
 
 -- a filter for n keys in which no bit is set
 abbrev pub empty_filter : ℕ → ℕ → BloomFilter
-empty_filter tenths n = record { probe_count = probe_count tenths; bits = replicate (size_for tenths n) 0 }
+empty_filter tenths n = record {
+  probe_count = probe_count tenths;
+  bits =
+      replicate (size_for tenths n) 0;
+}

@@ -25,7 +25,8 @@ is_space b = b == 32
 found_by : (line : List ℕ) (at : ℕ) (b : Bool)
     → nat_lt (position_or_len is_space line) (length line) ≡ b → Some at ≡ position is_space line
     → (position_or_len is_space line < length line) × (at ≡ position_or_len is_space line)
-found_by line at true h found = let e : Some at ≡ Some (position_or_len is_space line) = found ∙ rw h refl in (ltb-true _ _ h, cc)
+found_by line at true h found = let e : Some at ≡ Some (position_or_len is_space line) = found
+    ∙ rw h refl in (ltb-true _ _ h, cc)
 found_by line at false h found = let e : Some at ≡ None = found ∙ rw h refl in absurd cc
 
 -- a line that has a space
@@ -49,7 +50,8 @@ uncut_from (x ∷ xs) h = uncut_step x xs _ refl h (uncut_from xs)
 
 none_by : (line : List ℕ) (b : Bool) → nat_lt (position_or_len is_space line) (length line) ≡ b
     → None ≡ position is_space line → length line ≤ position_or_len is_space line
-none_by line true h found = let e : None ≡ Some (position_or_len is_space line) = found ∙ rw h refl in absurd cc
+none_by line true h found = let e : None ≡ Some (position_or_len is_space line) = found
+    ∙ rw h refl in absurd cc
 none_by line false h found = ltb-false _ _ h
 
 -- a line that has none
@@ -72,8 +74,10 @@ visible_word (x ∷ xs) h =
 -- the word of a bound is one word
 pub limit_word : (word : List ℕ) (bound : Bound (List ℕ)) → Limits word bound
     → words_of word ≡ word ∷ []
-limit_word word (Included key) h = subst (λ (w : List ℕ). words_of w ≡ w ∷ []) (sym h.1) (ap (onto_first 61) (visible_word h.0 h.2.visible))
-limit_word word (Excluded key) h = subst (λ (w : List ℕ). words_of w ≡ w ∷ []) (sym h.1) (ap (onto_first 33) (visible_word h.0 h.2.visible))
+limit_word word (Included key) h = subst (λ (w : List ℕ). words_of w ≡ w ∷ []) (sym h.1)
+    (ap (onto_first 61) (visible_word h.0 h.2.visible))
+limit_word word (Excluded key) h = subst (λ (w : List ℕ). words_of w ≡ w ∷ []) (sym h.1)
+    (ap (onto_first 33) (visible_word h.0 h.2.visible))
 limit_word word Unbounded h = subst (λ (w : List ℕ). words_of w ≡ w ∷ []) (sym h) refl
 
 no_digit : (x : ℕ) (b : Bool) → is_space x ≡ b → IsInRange 48 57 x → b ≡ false
@@ -83,7 +87,8 @@ no_digit x false p h = refl
 -- a word of digits is one word
 pub digits_word : (word : List ℕ) → AllDigits 10 word → words_of word ≡ word ∷ []
 digits_word [] h = refl
-digits_word (x ∷ xs) h = rw (no_digit x _ refl (digit_from_value x h.0)) (ap (onto_first x) (digits_word xs h.1))
+digits_word (x ∷ xs) h = rw (no_digit x _ refl (digit_from_value x h.0))
+    (ap (onto_first x) (digits_word xs h.1))
 
 -- a line of one word is that word
 pub one_word : (line word : List ℕ) → words_of line ≡ word ∷ [] → line ≡ word
@@ -107,21 +112,31 @@ parts w x ws rest others h k = let e : w ∷ rest ≡ x ∷ others = sym h ∙ k
 pub no_command : (line name rest : List ℕ) → words_of line ≡ name ∷ words_of rest
     → (name ≡ codes "entry" → ⊥) → (name ≡ codes "get" → ⊥) → (name ≡ codes "range" → ⊥)
     → (name ≡ codes "compact" → ⊥) → (command : Command) → AskFor (words_of line) command → ⊥
-no_command line name rest words no_entry no_get no_range no_compact (Entry key seqno kind value) h = no_entry (parts name (codes "entry") (words_of line) (words_of rest) _ words h.words_are).0
-no_command line name rest words no_entry no_get no_range no_compact Table h = some_word rest (parts name (codes "table") (words_of line) (words_of rest) [] words h).1
-no_command line name rest words no_entry no_get no_range no_compact (Get key bound) h = no_get (parts name (codes "get") (words_of line) (words_of rest) _ words h.words_are).0
-no_command line name rest words no_entry no_get no_range no_compact (Range low high) h = no_range (parts name (codes "range") (words_of line) (words_of rest) _ words h.words_are).0
-no_command line name rest words no_entry no_get no_range no_compact (Compact watermark evict zero) h = no_compact (parts name (codes "compact") (words_of line) (words_of rest) _ words h.words_are).0
-no_command line name rest words no_entry no_get no_range no_compact Pack h = some_word rest (parts name (codes "pack") (words_of line) (words_of rest) [] words h).1
+no_command line name rest words no_entry no_get no_range no_compact (Entry key seqno kind value) h =
+    no_entry (parts name (codes "entry") (words_of line) (words_of rest) _ words h.words_are).0
+no_command line name rest words no_entry no_get no_range no_compact Table h =
+    some_word rest (parts name (codes "table") (words_of line) (words_of rest) [] words h).1
+no_command line name rest words no_entry no_get no_range no_compact (Get key bound) h =
+    no_get (parts name (codes "get") (words_of line) (words_of rest) _ words h.words_are).0
+no_command line name rest words no_entry no_get no_range no_compact (Range low high) h =
+    no_range (parts name (codes "range") (words_of line) (words_of rest) _ words h.words_are).0
+no_command line name rest words no_entry no_get no_range no_compact
+    (Compact watermark evict zero) h = no_compact
+    (parts name (codes "compact") (words_of line) (words_of rest) _ words h.words_are).0
+no_command line name rest words no_entry no_get no_range no_compact Pack h =
+    some_word rest (parts name (codes "pack") (words_of line) (words_of rest) [] words h).1
 
 -- words behind a watermark that are none of these are no settings
 pub no_settings : (rest : List ℕ) → (rest ≡ codes "evict" → ⊥) → (rest ≡ codes "zero" → ⊥)
     → (rest ≡ codes "evict zero" → ⊥) → (evict zero : Bool)
     → words_of rest ≡ setting_words evict zero → ⊥
 no_settings rest no_evict no_zero no_both false false h = some_word rest h
-no_settings rest no_evict no_zero no_both true false h = no_evict (words_joined rest (codes "evict" ∷ []) h)
-no_settings rest no_evict no_zero no_both false true h = no_zero (words_joined rest (codes "zero" ∷ []) h)
-no_settings rest no_evict no_zero no_both true true h = no_both (words_joined rest (codes "evict" ∷ codes "zero" ∷ []) h)
+no_settings rest no_evict no_zero no_both true false h =
+    no_evict (words_joined rest (codes "evict" ∷ []) h)
+no_settings rest no_evict no_zero no_both false true h =
+    no_zero (words_joined rest (codes "zero" ∷ []) h)
+no_settings rest no_evict no_zero no_both true true h =
+    no_both (words_joined rest (codes "evict" ∷ codes "zero" ∷ []) h)
 
 -- both of them
 pub both_settings : (rest : List ℕ) → rest ≡ codes "evict zero"

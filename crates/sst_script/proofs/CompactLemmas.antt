@@ -72,7 +72,11 @@ each_some : (ts : List (List OpenTable)) (lists : List (List (List Entry))) → 
     → AllByRecursion HaveEntries lists → AllByRecursion (λ (run : List OpenTable). run ≢ []) ts
 each_some [] lists h some = tt
 each_some (run ∷ ts) [] h some = absurd h
-each_some (run ∷ ts) (ls ∷ lists) h some = (some_tables run ls h.0.1 some.0.0, each_some ts lists h.1 some.1)
+each_some (run ∷ ts) (ls ∷ lists) h some = (
+  some_tables run ls h.0.1 some.0.0,
+  each_some ts lists
+      h.1 some.1,
+)
 
 -- runs of tables that hold lists
 pub runs_of : (ts : List (List OpenTable)) (lists : List (List (List Entry)))
@@ -85,7 +89,14 @@ runs_of (run ∷ ts) (ls ∷ lists) h some =
     let one : Run = record {
       list = joined ls;
       tables = run;
-      is = record { lists = ls; whole = sym (lift_zero (joined ls)); hold = h.0.1; order = h.0.0; some = some.0 };
+      is = record {
+        lists = ls;
+        whole = sym (lift_zero (joined ls));
+        hold = h.0.1;
+        order =
+            h.0.0;
+        some = some.0;
+      };
     } in
     (one ∷ rest.0, ap (λ (us : List (List OpenTable)). run ∷ us) rest.1)
 
@@ -114,7 +125,8 @@ moved P m n es xs moment same h = subst (P n) same (subst (λ (k : ℕ). P k es)
 -- what is kept of their tables' lists
 pub kept_is : (watermark : ℕ) (evict zero : Bool) (rs : List Run)
     → kept_in (rules_by watermark evict zero) (lists_of rs) ≡ kept_by watermark evict zero rs
-kept_is watermark evict zero rs = ap (λ (es : List Entry). kept (rules_by watermark evict zero) (unfiltered es)) (union_same rs)
+kept_is watermark evict zero rs = ap (λ (es : List Entry). kept (rules_by watermark evict zero)
+    (unfiltered es)) (union_same rs)
 
 module _ (es left : List Entry) (next : Option ℕ) (rs : List Run) (ts : List (List OpenTable))
     (same : run_tables rs ≡ ts) where
@@ -125,7 +137,13 @@ module _ (es left : List Entry) (next : Option ℕ) (rs : List Run) (ts : List (
   pub not_compacted : (r : Result ℕ Failure) (f : Failure) → IsErrAnd r (λ y. y ≡ f) → MayFail f
       → HasRuns ts (λ after. CompactsRuns (store es rs next) left r (store es after next))
   not_compacted (Ok count) f is may = absurd is
-  not_compacted (Err y) f is may = (rs, same, subst (λ (x : Failure). FailsToCompact (store es rs next) left x (store es rs next)) (sym is) (may, refl))
+  not_compacted (Err y) f is may = (
+    rs,
+    same,
+    subst
+        (λ (x : Failure). FailsToCompact (store es rs next) left x (store es rs next)) (sym is)
+        (may, refl),
+  )
 
   fails_by : (e : Error) (b : Bool) → is_memory e ≡ b
       → (is_memory e ≡ false → tables_fault next target_size 0 left ≡ Some e) → MayFail (Refused e)
@@ -145,10 +163,21 @@ module _ (es left : List Entry) (next : Option ℕ) (rs : List Run) (ts : List (
       → HasRuns new (λ after. CompactsTo (store es rs next) left count (store es after following))
   compacted new following tables count new_is count_is written behind is cut =
       let run : Run = record { list = left; tables = tables; is = is } in
-      let ids : following ≡ ids_behind next target_size count = behind ∙ ap (ids_behind next target_size) (sym count_is) in (
+      let ids : following ≡ ids_behind next target_size count = behind
+      ∙ ap (ids_behind next target_size) (sym count_is) in (
         run ∷ [],
         sym new_is,
-        (ap (option_map Refused) written, inr (run, refl, count_is, cut, ap (λ (n : Option ℕ). store es (run ∷ []) n) ids)),
+        (
+          ap (option_map Refused) written,
+          inr (
+            run,
+            refl,
+            count_is,
+            cut,
+            ap
+                (λ (n : Option ℕ). store es (run ∷ []) n) ids,
+          ),
+        ),
       )
 
   -- nothing was kept
@@ -157,8 +186,17 @@ module _ (es left : List Entry) (next : Option ℕ) (rs : List Run) (ts : List (
       → following ≡ ids_behind next target_size 0 → left ≡ []
       → HasRuns new (λ after. CompactsTo (store es rs next) left count (store es after following))
   compacted_away new following count new_is count_is written behind none =
-      let ids : following ≡ ids_behind next target_size count = behind ∙ ap (ids_behind next target_size) (sym count_is) in (
+      let ids : following ≡ ids_behind next target_size count = behind
+      ∙ ap (ids_behind next target_size) (sym count_is) in (
         [],
         sym new_is,
-        (ap (option_map Refused) written, inl (count_is, none, ap (λ (n : Option ℕ). store es [] n) ids)),
+        (
+          ap (option_map Refused) written,
+          inl (
+            count_is,
+            none,
+            ap
+                (λ (n : Option ℕ). store es [] n) ids,
+          ),
+        ),
       )

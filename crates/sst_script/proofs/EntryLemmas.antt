@@ -33,10 +33,12 @@ not_above m n false false p q h = absurd cc
 -- of two entries of a key the earlier has no smaller number
 number_falls : (a b : Entry) → AtMost a b → b.user_key ≡ a.user_key → b.seqno ≤ a.seqno
 number_falls a b most same =
-    let tie : slice_cmp nat_cmp a.user_key b.user_key ≡ Equal = ap (slice_cmp nat_cmp a.user_key) same ∙ tied_itself nat_list_cmp_total a.user_key in
+    let tie : slice_cmp nat_cmp a.user_key b.user_key ≡ Equal =
+    ap (slice_cmp nat_cmp a.user_key) same ∙ tied_itself nat_list_cmp_total a.user_key in
     let tags : Ordering = nat_cmp (tag_of a.kind) (tag_of b.kind) in
     let number : is_gt (ordering_then (nat_cmp b.seqno a.seqno) tags) ≡ false =
-    sym (ap (λ (o : Ordering). is_gt (ordering_then o (ordering_then (nat_cmp b.seqno a.seqno) tags))) tie) ∙ most in
+    sym (ap (λ (o : Ordering). is_gt (ordering_then o
+    (ordering_then (nat_cmp b.seqno a.seqno) tags))) tie) ∙ most in
     not_above b.seqno a.seqno _ _ refl refl (gt_first (nat_cmp b.seqno a.seqno) tags number)
 
 abbrev is_at : List ℕ → ℕ → Entry → Bool
@@ -44,7 +46,8 @@ is_at key n e = same_key e.user_key key && (e.seqno == n)
 
 other_number : (key : List ℕ) (n : ℕ) (e : Entry) (b : Bool) → same_key e.user_key key ≡ b
     → (b ≡ true → e.seqno < n) → (b && (e.seqno == n)) ≡ false
-other_number key n e true same below = let less : e.seqno < n = below refl in grind (less, arith, nat_tests)
+other_number key n e true same below = let less : e.seqno < n = below refl in
+    grind (less, arith, nat_tests)
 other_number key n e false same below = refl
 
 -- behind an entry of a key with a smaller number, no entry of that key has the number
@@ -52,7 +55,8 @@ none_behind : (key : List ℕ) (n : ℕ) (x : Entry) (es : List Entry) → x.use
     → AllByRecursion (AtMost x) es → has_entry es key n ≡ false
 none_behind key n x [] is low h = refl
 none_behind key n x (e ∷ es) is low h =
-    let below : same_key e.user_key key ≡ true → e.seqno < n = λ same. omega (arith, low, number_falls x e h.0 (same_is e.user_key key same ∙ sym is)) in
+    let below : same_key e.user_key key ≡ true → e.seqno < n =
+    λ same. omega (arith, low, number_falls x e h.0 (same_is e.user_key key same ∙ sym is)) in
     let here : is_at key n e ≡ false = other_number key n e (same_key e.user_key key) refl below in
     rw here (none_behind key n x es is low h.1)
 
@@ -70,7 +74,8 @@ found_by key n e es true true true p q r none rest = sym r
 found_by key n e es true true false p q r none rest =
     let less : e.seqno < n = grind (ltb-true _ _ q, r, arith, nat_tests) in
     none (same_is e.user_key key p) less ∙ sym r
-found_by key n e es true false true p q r none rest = absurd (omega (arith, ltb-false _ _ q, eqb-true _ _ r))
+found_by key n e es true false true p q r none rest =
+    absurd (omega (arith, ltb-false _ _ q, eqb-true _ _ r))
 found_by key n e es true false false p q r none rest = rest
 
 -- the entry of a key and number is the first of the key that is numbered below the next number
@@ -79,6 +84,7 @@ pub has_entry_found : (es : List Entry) (key : List ℕ) (n : ℕ) → Ascends e
 unfolding point
 has_entry_found [] key n h = refl
 has_entry_found (e ∷ es) key n h =
-    found_by key n e es (same_key e.user_key key) (nat_lt e.seqno (n + 1)) (e.seqno == n) refl refl refl
+    found_by key n e es (same_key e.user_key key) (nat_lt e.seqno (n + 1))
+    (e.seqno == n) refl refl refl
     (λ is low. none_behind key n e es is low h.0)
     (has_entry_found es key n h.1)

@@ -43,14 +43,18 @@ module _ (rs : List Run) (ts packed : List (List OpenTable)) (same : run_tables 
       → IsLeastSize range_of ts (length packed)
       → HasRuns packed (λ after. Packs (store es rs next) count (store es after next))
   packed_runs es next count count_is tables holders least =
-      let many : length packed ≡ length made.0 = sym (ap length made.1) ∙ length-map made.0 (λ (r : Run). r.tables) in
+      let many : length packed ≡ length made.0 = sym (ap length made.1)
+      ∙ length-map made.0 (λ (r : Run). r.tables) in
       let ts_is = sym same in
       let packed_is = sym made.1 in
       let are : ArePackedRuns rs made.0 = record {
-        tables = subst (λ (us : List (List OpenTable)). SameTables us (run_tables made.0)) ts_is (subst (SameTables ts) packed_is tables);
-        holders = subst (λ (us : List (List OpenTable)). SameHolders range_of us (run_tables made.0)) ts_is (subst (SameHolders range_of ts) packed_is holders);
+        tables = subst (λ (us : List (List OpenTable)). SameTables us (run_tables made.0)) ts_is
+            (subst (SameTables ts) packed_is tables);
+        holders = subst (λ (us : List (List OpenTable)). SameHolders range_of us
+            (run_tables made.0)) ts_is (subst (SameHolders range_of ts) packed_is holders);
         ordered = subst (ArePacked range_of) packed_is ordered;
-        least = subst (λ (us : List (List OpenTable)). IsLeastSize range_of us (length made.0)) ts_is (subst (IsLeastSize range_of ts) many least);
+        least = subst (λ (us : List (List OpenTable)). IsLeastSize range_of us (length made.0))
+            ts_is (subst (IsLeastSize range_of ts) many least);
         union_is = same_union;
       } in
       (made.0, made.1, (count_is ∙ many, are, refl))

@@ -36,15 +36,18 @@ true_is false h = absurd cc
 pub pending_more : (es : List Entry) (e : Entry) → IsWritable es
     → IsTrue (may_be_written es e.user_key e.seqno) → IsWritable (es ++ e ∷ [])
 pending_more es e p f =
-    let both = and_parts (nat_lt e.seqno (2 ^ 64 - 1)) (may_follow (last_of None es) (entry e.user_key [] e.seqno Value)) (true_is _ f) in
+    let both = and_parts (nat_lt e.seqno (2 ^ 64 - 1))
+    (may_follow (last_of None es) (entry e.user_key [] e.seqno Value)) (true_is _ f) in
     record {
       strict = strict_push None es e p.strict (sym (same_place (last_of None es) e) ∙ both.1);
-      numbered = all_append (λ (x : Entry). x.seqno < 2 ^ 64 - 1) es (e ∷ []) p.numbered (ltb-true _ _ both.0, tt);
+      numbered = all_append (λ (x : Entry). x.seqno < 2 ^ 64 - 1) es (e ∷ []) p.numbered
+          (ltb-true _ _ both.0, tt);
     }
 
 number_fits : (es : List Entry) → IsWritable es → number_fault es 0 ≡ None
 number_fits es p =
-    let low : ltb (2 ^ 64 - 1) (highest_seqno es + 0) ≡ false = le-ltb _ _ (omega (arith, small_numbers es p.numbered)) in
+    let low : ltb (2 ^ 64 - 1) (highest_seqno es + 0) ≡ false =
+    le-ltb _ _ (omega (arith, small_numbers es p.numbered)) in
     rw low refl
 
 or_none : (a : Option Error) → option_or a None ≡ a
@@ -54,7 +57,8 @@ or_none (Some e) = refl
 -- with no global number, what a run refuses is what writing its tables refuses
 refusal_is : (ids : Option ℕ) (target moment : ℕ) (es : List Entry) → IsWritable es
     → chain_fault ids target moment es 0 ≡ tables_fault ids target moment es
-refusal_is ids target moment es p = ap (option_or (tables_fault ids target moment es)) (number_fits es p) ∙ or_none (tables_fault ids target moment es)
+refusal_is ids target moment es p = ap (option_or (tables_fault ids target moment es))
+    (number_fits es p) ∙ or_none (tables_fault ids target moment es)
 
 -- what was refused at a moment, of the list that was pending
 pub run_faults : {X : Type 0} (r : Result X Error) (ids : Option ℕ) (target moment now : ℕ)
@@ -79,4 +83,5 @@ pub run_cut : (r : Result (Option (List OpenTable) × Option ℕ) Error) (ids : 
     → IfOk r (λ x. IsCutOf ids target moment es x.0)
     → IfOk r (λ x. IsCutOf ids target now pending x.0)
 run_cut r ids target moment now es pending time is h =
-    subst (λ (n : ℕ). IfOk r (λ x. IsCutOf ids target n pending x.0)) time (subst (λ (xs : List Entry). IfOk r (λ x. IsCutOf ids target moment xs x.0)) is h)
+    subst (λ (n : ℕ). IfOk r (λ x. IsCutOf ids target n pending x.0)) time
+    (subst (λ (xs : List Entry). IfOk r (λ x. IsCutOf ids target moment xs x.0)) is h)

@@ -38,7 +38,8 @@ lines_around [] i e some h is = absurd (omega (arith, some))
 lines_around (x ∷ es) i e some h is =
     ap (flat_map entry_line) (sym (take-append-drop (i + 1) (x ∷ es)))
     ∙ flat_map-append entry_line (take (i + 1) (x ∷ es)) (drop (i + 1) (x ∷ es))
-    ∙ ap (λ (text : List ℕ). text ++ flat_map entry_line (drop (i + 1) (x ∷ es))) (lines_more (x ∷ es) i e h is)
+    ∙ ap (λ (text : List ℕ). text ++ flat_map entry_line (drop (i + 1) (x ∷ es)))
+    (lines_more (x ∷ es) i e h is)
 
 -- the line of an entry, part by part
 line_parts : (key number value : List ℕ) (letter : ℕ)
@@ -49,4 +50,5 @@ line_parts key number value letter = simp append_assoc
 pub line_is : (e : Entry) (key number value : List ℕ) (letter : ℕ) → key ≡ printed e.user_key
     → number ≡ decimal e.seqno → letter ≡ letter_of e.kind → value ≡ printed e.value
     → entry_line e ≡ ((((key ++ 32 ∷ []) ++ number) ++ 32 ∷ letter ∷ 32 ∷ []) ++ value) ++ 10 ∷ []
-line_is e key number value letter k n l v = rw (k, n, l, v) (line_parts (printed e.user_key) (decimal e.seqno) (printed e.value) (letter_of e.kind))
+line_is e key number value letter k n l v = rw (k, n, l, v)
+    (line_parts (printed e.user_key) (decimal e.seqno) (printed e.value) (letter_of e.kind))

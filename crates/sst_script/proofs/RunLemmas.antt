@@ -52,17 +52,23 @@ module _ (rs : List Run) (ts : List (List OpenTable)) (same : run_tables rs ≡ 
       → Gives (λ (x : Option Entry). x) result (Ok (point (union_in lists) key bound)))
       → Gives (λ (x : Option Entry). x) result (Ok (point (union rs) key bound))
   point_gives result key bound reads =
-      subst (λ (es : List Entry). Gives (λ (x : Option Entry). x) result (Ok (point es key bound))) (union_same rs) (reads (lists_of rs) held)
+      subst (λ (es : List Entry). Gives (λ (x : Option Entry). x) result (Ok (point es key bound)))
+      (union_same rs) (reads (lists_of rs) held)
 
   -- a range of them deals the newest of what lies within the bounds
   pub range_deals : {S : Type 0} (front back : S → Option (Result Entry Error) → S → Type 0) (s : S)
       (low high from to : Bound (List ℕ)) → low ≡ from → high ≡ to
-      → ((lists : List (List (List Entry))) → RunsHoldLists ts lists → DealsList front back (newest (within low high (union_in lists))) s)
+      → ((lists : List (List (List Entry))) → RunsHoldLists ts lists
+      → DealsList front back (newest (within low high (union_in lists))) s)
       → DealsList front nowhere (newest (within from to (union rs))) s
   range_deals {S} front back s low high from to low_is high_is deals =
-      let Deal : List Entry → Bound (List ℕ) → Bound (List ℕ) → Type 0 = λ es l h. DealsList front back (newest (within l h es)) s in
-      let all : Deal (union rs) low high = subst (λ (es : List Entry). Deal es low high) (union_same rs) (deals (lists_of rs) held) in
-      let there : Deal (union rs) from to = subst (λ (l : Bound (List ℕ)). Deal (union rs) l to) low_is (subst (λ (h : Bound (List ℕ)). Deal (union rs) low h) high_is all) in
+      let Deal : List Entry → Bound (List ℕ) → Bound (List ℕ) → Type 0 =
+      λ es l h. DealsList front back (newest (within l h es)) s in
+      let all : Deal (union rs) low high = subst (λ (es : List Entry). Deal es low high)
+      (union_same rs) (deals (lists_of rs) held) in
+      let there : Deal (union rs) from to = subst
+      (λ (l : Bound (List ℕ)). Deal (union rs) l to) low_is
+      (subst (λ (h : Bound (List ℕ)). Deal (union rs) low h) high_is all) in
       λ stops memory. deals_in_front _ front back s _ (there stops memory)
 
 -- ---- what is told, memory aside
@@ -73,7 +79,9 @@ pub number_gives : (rs : List Run) (key : List ℕ) (n : ℕ) (found : Option En
     → b ≡ has_number n found → Gives (λ (x : Bool). x) (Ok b) (Ok (has_entry (union rs) key n))
 number_gives rs key n found b told is =
     let first : point (union rs) key (n + 1) ≡ found = cc in
-    let has : has_entry (union rs) key n ≡ b = has_entry_found (union rs) key n (ascends_in_order (all_entries (map (λ (r : Run). ok_results r.list) rs))) ∙ ap (has_number n) first ∙ sym is in
+    let has : has_entry (union rs) key n ≡ b = has_entry_found (union rs) key n
+    (ascends_in_order (all_entries (map (λ (r : Run). ok_results r.list) rs)))
+    ∙ ap (has_number n) first ∙ sym is in
     ap (λ (x : Bool). Ok x) has
 
 -- a refusal for want of memory
@@ -95,14 +103,16 @@ shared_more {X} {Y} f shared x y before rest all is next so_far =
 
 pub shared_all : {X Y : Type 0} (f : X → Y) (shared : List X) (rest all : List Y) → rest ≡ []
     → map f shared ++ rest ≡ all → map f shared ≡ all
-shared_all {X} {Y} f shared rest all none so_far = sym (append-nil (map f shared)) ∙ ap (λ (ys : List Y). map f shared ++ ys) (sym none) ∙ so_far
+shared_all {X} {Y} f shared rest all none so_far = sym (append-nil (map f shared))
+    ∙ ap (λ (ys : List Y). map f shared ++ ys) (sym none) ∙ so_far
 
 -- ---- a list, from a place on
 
 -- a list from a place on is what stands there, and the list behind it
 rest_of : {X : Type 0} (xs : List X) (i : ℕ) (x : X) → i < length xs → x ≡ get_or xs i x
     → drop i xs ≡ x ∷ drop (i + 1) xs
-rest_of {X} xs i x h is = rw add-one (drop-cons xs i x h ∙ ap (λ (y : X). y ∷ drop (suc i) xs) (sym is))
+rest_of {X} xs i x h is = rw add-one (drop-cons xs i x h
+    ∙ ap (λ (y : X). y ∷ drop (suc i) xs) (sym is))
 
 -- the entry at a place was looked for
 pub past_item : (rs : List Run) (es : List Entry) (i : ℕ) (e : Entry) (key : List ℕ) (n : ℕ)
@@ -112,5 +122,7 @@ pub past_item : (rs : List Run) (es : List Entry) (i : ℕ) (e : Entry) (key : L
     → repeats rs es ≡ (b || repeats rs (drop (i + 1) es))
 past_item rs es i e key n b so_far h is key_is number_is has =
     let here : has_entry (union rs) key n ≡ b = cc in
-    let there : has_entry (union rs) e.user_key e.seqno ≡ b = sym (rw (key_is, number_is) refl) ∙ here in
-    so_far ∙ ap (repeats rs) (rest_of es i e h is) ∙ ap (λ (x : Bool). x || repeats rs (drop (i + 1) es)) there
+    let there : has_entry (union rs) e.user_key e.seqno ≡ b = sym (rw (key_is, number_is) refl)
+    ∙ here in
+    so_far ∙ ap (repeats rs) (rest_of es i e h is)
+    ∙ ap (λ (x : Bool). x || repeats rs (drop (i + 1) es)) there

@@ -30,10 +30,23 @@ pub answered_more : (A : Type 0) (front : List (List ℕ)) (line : List ℕ) (ol
     (text more : List ℕ)
     → AnswersAll A front old text between → AnswersLine A line between more new
     → AnswersAll A (front ++ line ∷ []) old (text ++ more) new
-answered_more A [] line old between new text more all last =
-    (new, more, [], subst (λ (b : Store). AnswersLine A line b more new) all.1 last, (refl, refl), ap (λ (t : List ℕ). t ++ more) all.0 ∙ sym (append-nil more))
-answered_more A (first ∷ rest) line old between new text more all last =
-    (all.0, all.1, all.2 ++ more, all.3, answered_more A rest line all.0 between new all.2 more all.4 last, ap (λ (t : List ℕ). t ++ more) all.5 ∙ append_assoc all.1 all.2 more)
+answered_more A [] line old between new text more all last = (
+  new,
+  more,
+  [],
+  subst (λ (b : Store). AnswersLine A line b more new) all.1 last,
+  (refl, refl),
+  ap (λ (t : List ℕ). t ++ more) all.0 ∙ sym (append-nil more),
+)
+answered_more A (first ∷ rest) line old between new text more all last = (
+  all.0,
+  all.1,
+  all.2 ++ more,
+  all.3,
+  answered_more A rest line all.0 between new all.2 more
+      all.4 last,
+  ap (λ (t : List ℕ). t ++ more) all.5 ∙ append_assoc all.1 all.2 more,
+)
 
 -- a line that has a byte before the others
 last_cons : (b x : ℕ) (xs : List ℕ)
@@ -63,13 +76,15 @@ strip_some : (b : ℕ) (bs : List ℕ)
     (take (length (b ∷ bs) - 1) (b ∷ bs)) (b ∷ bs)
 strip_some b bs =
     let some : nat_lt 0 (length (b ∷ bs)) ≡ true = lt-ltb 0 (length (b ∷ bs)) (omega arith) in
-    ap (λ (t : Bool). cond (t && (slice_index (b ∷ bs) (length (b ∷ bs) - 1) == 10)) (take (length (b ∷ bs) - 1) (b ∷ bs)) (b ∷ bs)) some
+    ap (λ (t : Bool). cond (t && (slice_index (b ∷ bs) (length (b ∷ bs) - 1) == 10))
+    (take (length (b ∷ bs) - 1) (b ∷ bs)) (b ∷ bs)) some
 
 strip_cons : (b : ℕ) (bs : List ℕ) → 0 < length bs → strip_last 10 (b ∷ bs) ≡ b ∷ strip_last 10 bs
 strip_cons b [] h = absurd (omega arith)
 strip_cons b (x ∷ xs) h =
     strip_some b (x ∷ xs)
-    ∙ ap (λ (n : ℕ). cond (n == 10) (take (length (b ∷ x ∷ xs) - 1) (b ∷ x ∷ xs)) (b ∷ x ∷ xs)) (last_cons b x xs)
+    ∙ ap (λ (n : ℕ). cond (n == 10) (take (length (b ∷ x ∷ xs) - 1) (b ∷ x ∷ xs)) (b ∷ x ∷ xs))
+    (last_cons b x xs)
     ∙ strip_by b x xs (slice_index (x ∷ xs) (length (x ∷ xs) - 1) == 10)
     ∙ ap (λ (l : List ℕ). b ∷ l) (sym (strip_some x xs))
 
@@ -87,9 +102,12 @@ lines_by b [] false h =
     let kept : strip_last 10 (b ∷ []) ≡ b ∷ [] = ap (λ (t : Bool). cond t [] (b ∷ [])) h in
     rw h (ap (λ (l : List ℕ). l ∷ []) (sym kept))
 lines_by b (c ∷ cs) false h =
-    let again : lines_of (c ∷ cs) ≡ first_piece 10 (c ∷ cs) ∷ lines_of (drop_through 10 (c ∷ cs)) = lines_by c cs _ refl in
-    let first : strip_last 10 (b ∷ take_through 10 (c ∷ cs)) ≡ b ∷ first_piece 10 (c ∷ cs) = strip_cons b (take_through 10 (c ∷ cs)) (some_by c (take_through 10 cs) _) in
-    rw h (ap (onto_first b) again ∙ ap (λ (l : List ℕ). l ∷ lines_of (drop_through 10 (c ∷ cs))) (sym first))
+    let again : lines_of (c ∷ cs) ≡ first_piece 10 (c ∷ cs) ∷ lines_of (drop_through 10 (c ∷ cs)) =
+    lines_by c cs _ refl in
+    let first : strip_last 10 (b ∷ take_through 10 (c ∷ cs)) ≡ b ∷ first_piece 10 (c ∷ cs) =
+    strip_cons b (take_through 10 (c ∷ cs)) (some_by c (take_through 10 cs) _) in
+    rw h (ap (onto_first b) again ∙ ap (λ (l : List ℕ). l ∷ lines_of (drop_through 10 (c ∷ cs)))
+    (sym first))
 
 lines_first : (bs : List ℕ) → 0 < length bs
     → lines_of bs ≡ first_piece 10 bs ∷ lines_of (drop_through 10 bs)
@@ -166,22 +184,31 @@ pub at_more : {X : Type 0} {A : Type 0} {input left new before between after : O
     → IsAt A input left before between count now → LosesLine left new line
     → LineEnds A (count + 1) line now next between after (Ok x)
     → IsAt A input new before after (count + 1) next
-at_more {X} {A} {input} {left} {new} {before} {between} {after} {count} {now} {next} line x here loses ended = record {
-  front = here.front ++ line ∷ [];
-  text = here.text ++ ended.0;
-  leaves = leaves_more input here.front left new line here.leaves loses;
-  counted = omega (arith, here.counted, length-append here.front (line ∷ []));
-  answers = answered_more A here.front line (store [] [] (Some 1)) now next here.text ended.0 here.answers ended.1;
-  written = Appends-trans before between after here.text ended.0 here.written ended.2;
-}
+at_more {X} {A} {input} {left} {new} {before} {between} {after} {count} {now} {next} line x here
+    loses ended = record {
+      front = here.front ++ line ∷ [];
+      text = here.text ++ ended.0;
+      leaves = leaves_more input here.front left new line here.leaves loses;
+      counted = omega (arith, here.counted, length-append here.front (line ∷ []));
+      answers = answered_more A here.front line (store [] [] (Some 1)) now next here.text ended.0
+          here.answers ended.1;
+      written = Appends-trans before between after here.text ended.0 here.written ended.2;
+    }
 
 -- the input fails
 pub at_failure : {X A : Type 0} {input left before after : Option (List ℕ)} {count : ℕ}
     {now : Store} (r : Result X Stop)
     → r ≡ Err Input → IsAt A input left before after count now → ScriptEnds A input before after r
 at_failure {X} {A} {input} {left} {before} {after} {count} {now} r e here =
-    let failed : ScriptEnds {X = X} A input before after (Err Input) =
-    (here.front, known_lines left, here.text, now, record { lines = leaves_rest input here.front left here.leaves; answers = here.answers }, here.written) in
+    let failed : ScriptEnds {X = X} A input before after (Err Input) = (
+      here.front,
+      known_lines left,
+      here.text,
+      now,
+      record
+          { lines = leaves_rest input here.front left here.leaves; answers = here.answers },
+      here.written,
+    ) in
     subst (λ (r : Result X Stop). ScriptEnds A input before after r) (sym e) failed
 
 -- a line ends the script
@@ -190,28 +217,50 @@ stop_at : (X Y : Type 0) {A : Type 0} {input left before between : Option (List 
     → IsAt A input left before between count now → LosesLine left new line
     → LineEnds {X = X} A (count + 1) line now next between after (Err stop)
     → ScriptEnds {X = Y} A input before after (Err stop)
-stop_at X Y {A} {input} {left} {before} {between} {count} {now} new after next line (Line n) here loses ended = (
-  here.front,
-  line,
-  known_lines new,
-  here.text,
-  now,
-  record { lines = leaves_line input here.front left new line here.leaves loses; answers = here.answers },
-  subst (λ (o : Option (List ℕ)). Appends before o here.text) (sym ended.3) here.written,
-  ended.0 ∙ ap (λ (n : ℕ). n + 1) (sym here.counted),
-  ended.1,
-  ended.2,
-)
+stop_at X Y {A} {input} {left} {before} {between} {count} {now} new after next line
+    (Line n) here loses ended = (
+      here.front,
+      line,
+      known_lines new,
+      here.text,
+      now,
+      record {
+        lines = leaves_line input here.front left new line here.leaves loses;
+        answers =
+            here.answers;
+      },
+      subst (λ (o : Option (List ℕ)). Appends before o here.text) (sym ended.3) here.written,
+      ended.0 ∙ ap (λ (n : ℕ). n + 1) (sym here.counted),
+      ended.1,
+      ended.2,
+    )
 stop_at X Y new after next line Input here loses ended = absurd ended
-stop_at X Y {A} {input} {left} {before} {between} {count} {now} new after next line Output here loses ended = (
-  here.front,
-  line,
-  known_lines new,
-  here.text,
-  now,
-  record { lines = leaves_line input here.front left new line here.leaves loses; answers = here.answers },
-  (ended.0, next, ended.1, record { front = ended.2.front; rest = ended.2.rest; is = ended.2.is; appends = Appends-trans before between after here.text ended.2.front here.written ended.2.appends }),
-)
+stop_at X Y {A} {input} {left} {before} {between} {count} {now} new after next line Output here
+    loses ended = (
+      here.front,
+      line,
+      known_lines new,
+      here.text,
+      now,
+      record {
+        lines = leaves_line input here.front left new line here.leaves loses;
+        answers =
+            here.answers;
+      },
+      (
+        ended.0,
+        next,
+        ended.1,
+        record {
+          front = ended.2.front;
+          rest = ended.2.rest;
+          is =
+              ended.2.is;
+          appends = Appends-trans before between after here.text ended.2.front here.written
+              ended.2.appends;
+        },
+      ),
+    )
 
 pub at_stop : {X Y A : Type 0} {input left before between : Option (List ℕ)} {count : ℕ}
     {now : Store} (r : Result Y Stop) (new after : Option (List ℕ)) (next : Store) (line : List ℕ)
@@ -219,9 +268,13 @@ pub at_stop : {X Y A : Type 0} {input left before between : Option (List ℕ)} {
     → r ≡ Err stop → q ≡ Err stop → IsAt A input left before between count now
     → LosesLine left new line → LineEnds A (count + 1) line now next between after q
     → ScriptEnds A input before after r
-at_stop {X} {Y} {A} {input} {left} {before} {between} {count} {now} r new after next line stop q e f here loses ended =
-    let line_ended : LineEnds {X = X} A (count + 1) line now next between after (Err stop) = subst (λ (q : Result X Stop). LineEnds A (count + 1) line now next between after q) f ended in
-    subst (λ (r : Result Y Stop). ScriptEnds A input before after r) (sym e) (stop_at X Y new after next line stop here loses line_ended)
+at_stop {X} {Y} {A} {input} {left} {before} {between} {count} {now} r new after next line stop q e f
+    here loses ended =
+    let line_ended : LineEnds {X = X} A (count + 1) line now next between after (Err stop) =
+    subst (λ (q : Result X Stop). LineEnds A (count + 1) line now next between after q) f
+    ended in
+    subst (λ (r : Result Y Stop). ScriptEnds A input before after r) (sym e)
+    (stop_at X Y new after next line stop here loses line_ended)
 
 answers_some : (A : Type 0) (line : List ℕ) (old new : Store) (text : List ℕ) → 0 < length line
     → Prints A line old text new → AnswersLine A line old text new
@@ -234,18 +287,39 @@ pub ends_printed : {X A : Type 0} (number : ℕ) (line : List ℕ) (command : Co
     → 0 < length line → AskFor (words_of line) command → Executes command old r new
     → PrintEnds number (outcome_text r) before after result
     → LineEnds A number line old new before after result
-ends_printed {X} {A} number line command old new (Ok answer) before after (Ok x) some asked does ends =
-    (answer_lines answer, answers_some A line old new (answer_lines answer) some (Ok answer, (command, asked, does), refl), ends)
-ends_printed {X} {A} number line command old new (Err (Refused error)) before after (Ok x) some asked does ends =
-    (refusal_line (number_of error), answers_some A line old new (refusal_line (number_of error)) some (Err (Refused error), (command, asked, does), refl), ends)
-ends_printed {X} {A} number line command old new (Ok answer) before after (Err stop) some asked does ends =
-    let shown : LineEnds {X = X} A number line old new before after (Err Output) = (answer_lines answer, (Ok answer, (command, asked, does), refl), ends.1) in
-    subst (λ (s : Stop). LineEnds {X = X} A number line old new before after (Err s)) (sym ends.0) shown
-ends_printed {X} {A} number line command old new (Err (Refused error)) before after (Err stop) some asked does ends =
-    let shown : LineEnds {X = X} A number line old new before after (Err Output) = (refusal_line (number_of error), (Err (Refused error), (command, asked, does), refl), ends.1) in
-    subst (λ (s : Stop). LineEnds {X = X} A number line old new before after (Err s)) (sym ends.0) shown
-ends_printed {X} {A} number line command old new (Err BadLine) before after result some asked does ends =
-    let fault : LineEnds {X = X} A number line old new before after (Err (Line number)) = (refl, some, inr (new, (command, asked, does)), ends.1) in
+ends_printed {X} {A} number line command old new (Ok answer) before after
+    (Ok x) some asked does ends = (
+      answer_lines answer,
+      answers_some A line old new (answer_lines answer) some
+          (Ok answer, (command, asked, does), refl),
+      ends,
+    )
+ends_printed {X} {A} number line command old new (Err (Refused error)) before after
+    (Ok x) some asked does ends = (
+      refusal_line (number_of error),
+      answers_some A line old new
+          (refusal_line (number_of error)) some (Err (Refused error), (command, asked, does), refl),
+      ends,
+    )
+ends_printed {X} {A} number line command old new (Ok answer) before after
+    (Err stop) some asked does ends =
+    let shown : LineEnds {X = X} A number line old new before after (Err Output) =
+    (answer_lines answer, (Ok answer, (command, asked, does), refl), ends.1) in
+    subst (λ (s : Stop). LineEnds {X = X} A number line old new before after (Err s))
+    (sym ends.0) shown
+ends_printed {X} {A} number line command old new (Err (Refused error)) before after
+    (Err stop) some asked does ends =
+    let shown : LineEnds {X = X} A number line old new before after (Err Output) = (
+      refusal_line (number_of error),
+      (Err (Refused error), (command, asked, does), refl),
+      ends.1,
+    ) in
+    subst (λ (s : Stop). LineEnds {X = X} A number line old new before after (Err s))
+    (sym ends.0) shown
+ends_printed {X} {A} number line command old new
+    (Err BadLine) before after result some asked does ends =
+    let fault : LineEnds {X = X} A number line old new before after (Err (Line number)) =
+    (refl, some, inr (new, (command, asked, does)), ends.1) in
     subst (λ (r : Result X Stop). LineEnds A number line old new before after r) (sym ends.0) fault
 
 -- whether the line of a stop was taken is passed over
@@ -258,7 +332,8 @@ reported before after stop (Err e) shows = shows
 pub shows_kept : {X E : Type 0} (a b c : Option (List ℕ)) (text : List ℕ) (r : Result X E)
     → Appends a b text → Keeps b c → ShowsText a c r text
 shows_kept a b c text (Ok x) written kept = kept_behind a b c text written kept
-shows_kept a b c text (Err e) written kept = front_all a c text (kept_behind a b c text written kept)
+shows_kept a b c text (Err e) written kept = front_all a c text
+    (kept_behind a b c text written kept)
 
 -- what printing a text comes to
 pub ends_shown : {X : Type 0} (number : ℕ) (text : List ℕ) (a b : Option (List ℕ))

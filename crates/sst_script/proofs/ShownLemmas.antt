@@ -9,7 +9,13 @@ use Rattle.sst_script.specs.Shown.{AppendsFront, ShowsText}
 
 -- all of a text is a front of it
 pub front_all : (a b : Option (List ℕ)) (text : List ℕ) → Appends a b text → AppendsFront a b text
-front_all a b text all = record { front = text; rest = []; is = sym (append-nil text); appends = all }
+front_all a b text all = record {
+  front = text;
+  rest = [];
+  is = sym (append-nil text);
+  appends =
+      all;
+}
 
 -- a part behind one that was written
 pub front_then : (a b c : Option (List ℕ)) (done text : List ℕ) → Appends a b done
@@ -37,13 +43,16 @@ pub front_failed : {X E : Type 0} (a b c : Option (List ℕ)) (all done text aft
     → all ≡ done ++ text ++ after → Appends a b done → AppendsFront b c text → ShowsText a c r all
 front_failed a b c all done text after (Ok x) e is parts whole shown = absurd is
 front_failed a b c all done text after (Err y) e is parts whole shown =
-    subst (AppendsFront a c) (sym parts) (front_before a c (done ++ text) after (front_then a b c done text whole shown))
+    subst (AppendsFront a c) (sym parts) (front_before a c (done ++ text) after
+    (front_then a b c done text whole shown))
 
 -- the last part
 pub shows_last : {X E : Type 0} (a b c : Option (List ℕ)) (all done text : List ℕ) (r : Result X E)
     → all ≡ done ++ text → Appends a b done → ShowsText b c r text → ShowsText a c r all
-shows_last a b c all done text (Ok x) parts whole shown = subst (Appends a c) (sym parts) (Appends-trans a b c done text whole shown)
-shows_last a b c all done text (Err e) parts whole shown = subst (AppendsFront a c) (sym parts) (front_then a b c done text whole shown)
+shows_last a b c all done text (Ok x) parts whole shown =
+    subst (Appends a c) (sym parts) (Appends-trans a b c done text whole shown)
+shows_last a b c all done text (Err e) parts whole shown =
+    subst (AppendsFront a c) (sym parts) (front_then a b c done text whole shown)
 
 -- a call that failed kept what was written
 pub kept_behind : (a b c : Option (List ℕ)) (bs : List ℕ) → Appends a b bs → Keeps b c

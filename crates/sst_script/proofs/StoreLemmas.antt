@@ -43,10 +43,21 @@ pub wrote : (rs : List Run) (ts new : List (List OpenTable)) (es : List Entry)
     → HasRuns new (λ after. Writes (store es rs next) count (store [] after following))
 wrote rs ts new es next following tables count same new_is count_is fresh written behind is cut =
     let run : Run = record { list = es; tables = tables; is = is } in
-    let left : following ≡ ids_behind next target_size count = behind ∙ ap (ids_behind next target_size) (sym count_is) in (
+    let left : following ≡ ids_behind next target_size count = behind
+    ∙ ap (ids_behind next target_size) (sym count_is) in (
       run ∷ rs,
       ap (λ (us : List (List OpenTable)). tables ∷ us) same ∙ sym new_is,
-      (fine rs es next fresh written, inr (run, refl, count_is, cut, ap (λ (n : Option ℕ). store [] (run ∷ rs) n) left)),
+      (
+        fine rs es next fresh written,
+        inr (
+          run,
+          refl,
+          count_is,
+          cut,
+          ap
+              (λ (n : Option ℕ). store [] (run ∷ rs) n) left,
+        ),
+      ),
     )
 
 -- a command that writes a table
@@ -57,11 +68,14 @@ pub executed : (A : Type 0) (command : Command) (rs : List Run) (es left : List 
     → HasRuns new (λ after.
     Executes {A = A} command (store es rs next) (Ok (Tables count)) (store left after following))
 executed A command rs es left next following count new is none done =
-    let table : Executes {A = A} Table (store es rs next) (Ok (Tables count)) (store [] done.0 following) = (count, refl, done.2) in (
+    let table : Executes {A = A} Table (store es rs next) (Ok (Tables count))
+    (store [] done.0 following) = (count, refl, done.2) in (
       done.0,
       done.1,
-      subst (λ (c : Command). Executes {A = A} c (store es rs next) (Ok (Tables count)) (store left done.0 following)) (sym is)
-          (subst (λ (xs : List Entry). Executes {A = A} Table (store es rs next) (Ok (Tables count)) (store xs done.0 following)) (sym none) table),
+      subst (λ (c : Command). Executes {A = A} c (store es rs next) (Ok (Tables count))
+          (store left done.0 following)) (sym is)
+          (subst (λ (xs : List Entry). Executes {A = A} Table (store es rs next) (Ok (Tables count))
+          (store xs done.0 following)) (sym none) table),
     )
 
 -- a command that compacts the runs
@@ -73,7 +87,8 @@ pub compact_executed : (A : Type 0) (command : Command) (old : Store) (watermark
 compact_executed A command old watermark evict zero count new after is done = (
   done.0,
   done.1,
-  subst (λ (c : Command). Executes {A = A} c old (Ok (Tables count)) (after done.0)) (sym is) (count, refl, done.2),
+  subst (λ (c : Command). Executes {A = A} c old (Ok (Tables count)) (after done.0)) (sym is)
+      (count, refl, done.2),
 )
 
 -- a command that packs them
@@ -84,5 +99,6 @@ pub pack_executed : (A : Type 0) (command : Command) (old : Store) (count : ℕ)
 pack_executed A command old count new after is done = (
   done.0,
   done.1,
-  subst (λ (c : Command). Executes {A = A} c old (Ok (Runs count)) (after done.0)) (sym is) (count, refl, done.2),
+  subst (λ (c : Command). Executes {A = A} c old (Ok (Runs count)) (after done.0)) (sym is)
+      (count, refl, done.2),
 )

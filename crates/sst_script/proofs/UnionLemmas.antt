@@ -32,7 +32,9 @@ Apart x y = (is_before x y ≡ true) ⊎ (is_before y x ≡ true)
 -- what comes behind an entry is above it
 behind_above : (x y : Entry) → is_before x y ≡ true → Above y x
 behind_above x y h =
-    let less : item_cmp x y ≡ Less = then_less (slice_cmp nat_cmp x.user_key y.user_key) (nat_cmp y.seqno x.seqno) (nat_cmp (tag_of x.kind) (tag_of y.kind)) (less_of (version_cmp x y) h) in
+    let less : item_cmp x y ≡ Less = then_less (slice_cmp nat_cmp x.user_key y.user_key)
+    (nat_cmp y.seqno x.seqno) (nat_cmp (tag_of x.kind) (tag_of y.kind))
+    (less_of (version_cmp x y) h) in
     ap is_gt (item_total.antisymm y x ∙ ap ordering_reverse less)
 
 apart_below : (x y : Entry) → Apart x y → is_gt (item_cmp x y) ≡ false → is_before x y ≡ true
@@ -52,18 +54,30 @@ put_strict : (x : Entry) (ys : List Entry) → AllBefore ys → AllByRecursion (
     → AllBefore (insert_sorted x ys)
 put_strict x [] h a = (tt, tt)
 put_strict x (y ∷ ys) h a =
-    elim (is_gt (item_cmp x y)) as (λ b. is_gt (item_cmp x y) ≡ b → AllBefore (cond b (y ∷ insert_sorted x ys) (x ∷ y ∷ ys))) [
-      | true ↦ λ e. (all_inserted (λ (z : Entry). is_before y z ≡ true) x ys (apart_above x y a.0 e) h.0, put_strict x ys h.1 a.1)
+    elim (is_gt (item_cmp x y)) as (λ b. is_gt (item_cmp x y) ≡ b
+    → AllBefore (cond b (y ∷ insert_sorted x ys) (x ∷ y ∷ ys))) [
+      | true ↦ λ e. (
+        all_inserted (λ (z : Entry). is_before y z ≡ true) x ys
+            (apart_above x y a.0 e) h.0,
+        put_strict x ys h.1 a.1,
+      )
       | false ↦ λ e.
-          let first = apart_below x y a.0 e in
-          ((first, all_more (λ (z : Entry). is_before y z ≡ true) (λ (z : Entry). is_before x z ≡ true) (λ z k. before_trans x y z first k) ys h.0), h)
+          let first = apart_below x y a.0 e in (
+            (
+              first,
+              all_more (λ (z : Entry). is_before y z ≡ true)
+                  (λ (z : Entry). is_before x z ≡ true) (λ z k. before_trans x y z first k) ys h.0,
+            ),
+            h,
+          )
     ] refl
 
 -- what all entries have, they have once they are sorted into others that have it
 all_sorted : (P : Entry → Type 0) (es all : List Entry) → AllByRecursion P es
     → AllByRecursion P (sort_entries all) → AllByRecursion P (sort_entries (es ++ all))
 all_sorted P [] all h k = k
-all_sorted P (e ∷ es) all h k = all_inserted P e (sort_entries (es ++ all)) h.0 (all_sorted P es all h.1 k)
+all_sorted P (e ∷ es) all h k = all_inserted P e (sort_entries (es ++ all)) h.0
+    (all_sorted P es all h.1 k)
 
 -- each entry of a list differs from each of another
 abbrev AreApart : List Entry → List Entry → Type 0
@@ -73,8 +87,10 @@ sorted_strict : (es all : List Entry) → AllBefore es → AllBefore (sort_entri
     → AreApart es (sort_entries all) → AllBefore (sort_entries (es ++ all))
 sorted_strict [] all h k a = k
 sorted_strict (e ∷ es) all h k a =
-    let own : AllByRecursion (Apart e) es = all_more (λ (y : Entry). is_before e y ≡ true) (Apart e) (λ y p. inl p) es h.0 in
-    put_strict e (sort_entries (es ++ all)) (sorted_strict es all h.1 k a.1) (all_sorted (Apart e) es all own a.0)
+    let own : AllByRecursion (Apart e) es = all_more (λ (y : Entry). is_before e y ≡ true) (Apart e)
+    (λ y p. inl p) es h.0 in
+    put_strict e (sort_entries (es ++ all)) (sorted_strict es all h.1 k a.1)
+    (all_sorted (Apart e) es all own a.0)
 
 -- ---- entries whose key and number another list has not
 
@@ -128,7 +144,11 @@ all_of rs = all_entries (map (λ (r : Run). ok_results r.list) rs)
 pub union_more : (run : Run) (rs : List Run) → IsWritable run.list → IsWritable (union rs)
     → repeats rs run.list ≡ false → IsWritable (union (run ∷ rs))
 union_more run rs one all fresh =
-    let is : union (run ∷ rs) ≡ sort_entries (run.list ++ all_of rs) = ap (λ (es : List Entry). sort_entries (es ++ all_of rs)) (entries_of run.list) in
-    let strict = strict_from (sort_entries (run.list ++ all_of rs)) (sorted_strict run.list (all_of rs) (pairs_of run.list one.strict) (pairs_of (union rs) all.strict) (each_apart rs run.list fresh)) in
-    let numbered = all_sorted (λ (e : Entry). e.seqno < 2 ^ 64 - 1) run.list (all_of rs) one.numbered all.numbered in
+    let is : union (run ∷ rs) ≡ sort_entries (run.list ++ all_of rs) =
+    ap (λ (es : List Entry). sort_entries (es ++ all_of rs)) (entries_of run.list) in
+    let strict = strict_from (sort_entries (run.list ++ all_of rs))
+    (sorted_strict run.list (all_of rs) (pairs_of run.list one.strict)
+    (pairs_of (union rs) all.strict) (each_apart rs run.list fresh)) in
+    let numbered = all_sorted (λ (e : Entry). e.seqno < 2 ^ 64 - 1) run.list
+    (all_of rs) one.numbered all.numbered in
     subst IsWritable (sym is) (record { strict = strict; numbered = numbered })

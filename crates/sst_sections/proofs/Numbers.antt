@@ -23,7 +23,8 @@ pub IsBytes-take : (n : ℕ) (bytes : List ℕ) → IsBytes bytes → IsBytes (t
 IsBytes-take n bytes h i =
     elim (cases_lt i n) [
       | inl lt ↦ rw (get_or-take n bytes i 0 lt) (h i)
-      | inr le ↦ rw (get_or_past (take n bytes) i 0 (omega (arith, length-take n bytes))) (omega arith)
+      | inr le ↦ rw (get_or_past (take n bytes) i 0 (omega (arith, length-take n bytes)))
+          (omega arith)
     ]
 
 -- numbers of w bytes, which are below limit
@@ -48,7 +49,9 @@ unfolding num2 le2
 wide2 = record {
   len = λ n. refl;
   front = λ bytes long fits.
-      let first = le_bytes_2 (take 2 bytes) (little_from 0 2 bytes) (omega (arith, length-take 2 bytes)) (IsBytes-take 2 bytes fits) (sym (little_from-take 0 2 2 bytes (omega arith)) ∙ same2 (take 2 bytes)) in
+      let first = le_bytes_2 (take 2 bytes) (little_from 0 2 bytes)
+      (omega (arith, length-take 2 bytes)) (IsBytes-take 2 bytes fits)
+      (sym (little_from-take 0 2 2 bytes (omega arith)) ∙ same2 (take 2 bytes)) in
       sym (take-append-drop 2 bytes) ∙ ap (λ (x : List ℕ). x ++ drop 2 bytes) (sym first);
   again = λ n rest lt. little_number-reads_back 2 n rest lt;
   below = λ bytes fits. little_from-lt 0 2 bytes fits;
@@ -59,7 +62,9 @@ unfolding num4 le4
 wide4 = record {
   len = λ n. refl;
   front = λ bytes long fits.
-      let first = le_bytes_4 (take 4 bytes) (little_from 0 4 bytes) (omega (arith, length-take 4 bytes)) (IsBytes-take 4 bytes fits) (sym (little_from-take 0 4 4 bytes (omega arith)) ∙ same4 (take 4 bytes)) in
+      let first = le_bytes_4 (take 4 bytes) (little_from 0 4 bytes)
+      (omega (arith, length-take 4 bytes)) (IsBytes-take 4 bytes fits)
+      (sym (little_from-take 0 4 4 bytes (omega arith)) ∙ same4 (take 4 bytes)) in
       sym (take-append-drop 4 bytes) ∙ ap (λ (x : List ℕ). x ++ drop 4 bytes) (sym first);
   again = λ n rest lt. little_number-reads_back 4 n rest lt;
   below = λ bytes fits. little_from-lt 0 4 bytes fits;
@@ -70,7 +75,9 @@ unfolding num8 le8
 wide8 = record {
   len = λ n. refl;
   front = λ bytes long fits.
-      let first = le_bytes_8 (take 8 bytes) (little_from 0 8 bytes) (omega (arith, length-take 8 bytes)) (IsBytes-take 8 bytes fits) (sym (little_from-take 0 8 8 bytes (omega arith)) ∙ same8 (take 8 bytes)) in
+      let first = le_bytes_8 (take 8 bytes) (little_from 0 8 bytes)
+      (omega (arith, length-take 8 bytes)) (IsBytes-take 8 bytes fits)
+      (sym (little_from-take 0 8 8 bytes (omega arith)) ∙ same8 (take 8 bytes)) in
       sym (take-append-drop 8 bytes) ∙ ap (λ (x : List ℕ). x ++ drop 8 bytes) (sym first);
   again = λ n rest lt. little_number-reads_back 8 n rest lt;
   below = λ bytes fits. little_from-lt 0 8 bytes fits;

@@ -38,7 +38,9 @@ section_of-within end [] name asc = tt
 section_of-within end (s ∷ ss) name asc =
     let next = next_within end ss asc.1 in
     let here : s.1 + (next_start end ss - s.1) ≤ end = omega (arith, asc.0) in
-    elim (slot_index s.0 == slot_index name) as (λ (b : Bool). Within end (if b then Some (record { position = s.1; len = next_start end ss - s.1 }) else section_of end ss name)) [
+    elim (slot_index s.0 == slot_index name) as (λ (b : Bool). Within end
+    (if b then Some (record { position = s.1; len = next_start end ss - s.1 })
+    else section_of end ss name)) [
       | true ↦ here
       | false ↦ section_of-within end ss name asc.1
     ]
@@ -48,11 +50,18 @@ same_bytes : (xs ys : List ℕ) → pointwise nat_eq xs ys ≡ true → xs ≡ y
 same_bytes [] [] e = refl
 same_bytes [] (y ∷ ys) e = cc
 same_bytes (x ∷ xs) [] e = cc
-same_bytes (x ∷ xs) (y ∷ ys) e = let p = and_parts (nat_eq x y) (pointwise nat_eq xs ys) e in let head = eqb-true x y p.0 in let tail = same_bytes xs ys p.1 in cc
+same_bytes (x ∷ xs) (y ∷ ys) e = let p = and_parts (nat_eq x y) (pointwise nat_eq xs ys) e in
+    let head = eqb-true x y p.0 in let tail = same_bytes xs ys p.1 in cc
 
 slot_len : (s : Option Section) → length (slot s) ≡ 16
 slot_len None = refl
-slot_len (Some s) = omega (arith, length-append (le8 s.position) (le8 s.len), wide8.len s.position, wide8.len s.len)
+slot_len (Some s) = omega (
+  arith,
+  length-append (le8 s.position)
+      (le8 s.len),
+  wide8.len s.position,
+  wide8.len s.len,
+)
 
 -- sixteen bytes ff are no section within the bytes
 ff_number : num8 (replicate 16 255) ≡ 2 ^ 64 - 1
@@ -64,16 +73,20 @@ unfolding num8
 ff_second = refl
 
 slot_position : (p l : ℕ) (rest : List ℕ) → p < 2 ^ 64 → num8 ((le8 p ++ le8 l) ++ rest) ≡ p
-slot_position p l rest lt = ap num8 (append_assoc (le8 p) (le8 l) rest) ∙ wide8.again p (le8 l ++ rest) lt
+slot_position p l rest lt = ap num8 (append_assoc (le8 p) (le8 l) rest)
+    ∙ wide8.again p (le8 l ++ rest) lt
 
 slot_length : (p l : ℕ) (rest : List ℕ) → l < 2 ^ 64 → num8 (drop 8 ((le8 p ++ le8 l) ++ rest)) ≡ l
-slot_length p l rest lt = ap (λ (xs : List ℕ). num8 (drop 8 xs)) (append_assoc (le8 p) (le8 l) rest) ∙ ap num8 (drop_at (le8 p) (le8 l ++ rest) 8 (wide8.len p)) ∙ wide8.again l rest lt
+slot_length p l rest lt = ap (λ (xs : List ℕ). num8 (drop 8 xs)) (append_assoc (le8 p) (le8 l) rest)
+    ∙ ap num8 (drop_at (le8 p) (le8 l ++ rest) 8 (wide8.len p)) ∙ wide8.again l rest lt
 
 not_ff : (p l end : ℕ) → end < 2 ^ 64 → p + l ≤ end → le8 p ++ le8 l ≡ replicate 16 255 → ⊥
 not_ff p l end small within same =
     let whole = append-nil (le8 p ++ le8 l) in
-    let first : p ≡ 2 ^ 64 - 1 = sym (slot_position p l [] (omega arith)) ∙ ap num8 (whole ∙ same) ∙ ff_number in
-    let second : l ≡ 2 ^ 64 - 1 = sym (slot_length p l [] (omega arith)) ∙ ap (λ (xs : List ℕ). num8 (drop 8 xs)) (whole ∙ same) ∙ ff_second in
+    let first : p ≡ 2 ^ 64 - 1 = sym (slot_position p l [] (omega arith)) ∙ ap num8 (whole ∙ same)
+    ∙ ff_number in
+    let second : l ≡ 2 ^ 64 - 1 = sym (slot_length p l [] (omega arith))
+    ∙ ap (λ (xs : List ℕ). num8 (drop 8 xs)) (whole ∙ same) ∙ ff_second in
     omega arith
 
 test_fails : (xs ys : List ℕ) → (xs ≡ ys → ⊥) → pointwise nat_eq xs ys ≡ false
@@ -89,8 +102,11 @@ slot_reads : (end : ℕ) (s : Option Section) (rest : List ℕ) → end < 2 ^ 64
 slot_reads end None rest small within = refl
 slot_reads end (Some s) rest small within =
     let cells = (le8 s.position ++ le8 s.len) ++ rest in
-    let front : take 16 cells ≡ le8 s.position ++ le8 s.len = take_at (le8 s.position ++ le8 s.len) rest 16 (slot_len (Some s)) in
-    let test : pointwise nat_eq (take 16 cells) (replicate 16 255) ≡ false = test_fails (take 16 cells) (replicate 16 255) (λ same. not_ff s.position s.len end small within (sym front ∙ same)) in
+    let front : take 16 cells ≡ le8 s.position ++ le8 s.len =
+    take_at (le8 s.position ++ le8 s.len) rest 16 (slot_len (Some s)) in
+    let test : pointwise nat_eq (take 16 cells) (replicate 16 255) ≡ false =
+    test_fails (take 16 cells) (replicate 16 255)
+    (λ same. not_ff s.position s.len end small within (sym front ∙ same)) in
     let position = slot_position s.position s.len rest (omega arith) in
     let len = slot_length s.position s.len rest (omega arith) in
     rw (test, position, len) refl
@@ -102,7 +118,13 @@ module _ (f : SectionName → Option Section) where
   slots_len : (names : List SectionName)
       → length (flat_map (λ name. slot (f name)) names) ≡ 16 * length names
   slots_len [] = refl
-  slots_len (n ∷ names) = omega (arith, length-append (slot (f n)) (flat_map (λ name. slot (f name)) names), slot_len (f n), slots_len names)
+  slots_len (n ∷ names) = omega (
+    arith,
+    length-append (slot (f n))
+        (flat_map (λ name. slot (f name)) names),
+    slot_len (f n),
+    slots_len names,
+  )
 
   -- the slots from one on
   slots_from : (names : List SectionName) (tail : List ℕ) (k : ℕ) (d : SectionName)
@@ -111,17 +133,27 @@ module _ (f : SectionName → Option Section) where
       × (drop (16 * k) (flat_map (λ name. slot (f name)) names ++ tail)
       ≡ slot (f (get_or names k d)) ++ rest)
   slots_from [] tail k d lt = absurd (omega arith)
-  slots_from (n ∷ names) tail zero d lt = (flat_map (λ name. slot (f name)) names ++ tail, append_assoc (slot (f n)) (flat_map (λ name. slot (f name)) names) tail)
+  slots_from (n ∷ names) tail zero d lt = (
+    flat_map (λ name. slot (f name)) names
+        ++ tail,
+    append_assoc (slot (f n)) (flat_map (λ name. slot (f name)) names) tail,
+  )
   slots_from (n ∷ names) tail (suc k) d lt =
       let more = slots_from names tail k d (omega arith) in
       let later = flat_map (λ name. slot (f name)) names ++ tail in
-      let far : 16 * suc k ≡ length (slot (f n)) + 16 * k = omega (arith, slot_len (f n)) in
-      (more.0, ap (drop (16 * suc k)) (append_assoc (slot (f n)) (flat_map (λ name. slot (f name)) names) tail) ∙ ap (λ (i : ℕ). drop i (slot (f n) ++ later)) far ∙ drop-append-add (slot (f n)) later (16 * k) ∙ more.1)
+      let far : 16 * suc k ≡ length (slot (f n)) + 16 * k = omega (arith, slot_len (f n)) in (
+        more.0,
+        ap (drop (16 * suc k)) (append_assoc (slot (f n))
+            (flat_map (λ name. slot (f name)) names) tail)
+            ∙ ap (λ (i : ℕ). drop i (slot (f n) ++ later)) far
+            ∙ drop-append-add (slot (f n)) later (16 * k) ∙ more.1,
+      )
 
   none_past : (end : ℕ) (names : List SectionName) → ((name : SectionName) → Within end (f name))
       → list_any (is_past end) (map f names) ≡ false
   none_past end [] within = refl
-  none_past end (n ∷ names) within = rw (within_test end (f n) (within n)) (none_past end names within)
+  none_past end (n ∷ names) within = rw (within_test end (f n) (within n))
+      (none_past end names within)
     where
       within_test : (end : ℕ) (s : Option Section) → Within end s → is_past end s ≡ false
       within_test end None h = refl
@@ -134,16 +166,22 @@ length_both xs ys n e = omega (arith, length-append xs ys)
 trailer_length : (w : Written) → length (trailer w) ≡ 120
 trailer_length w =
     let told : SectionName → Option Section = λ name. section_of (length w.bytes) w.started name in
-    omega (arith, length-append (flat_map (λ name. slot (told name)) section_names) trailer_mark, slots_len told section_names)
+    omega (
+      arith,
+      length-append (flat_map (λ name. slot (told name)) section_names) trailer_mark,
+      slots_len told section_names,
+    )
 
 -- the body of a finished writer's bytes is what was written
 pub finished_body : (w : Written) → body_of (finished w) ≡ w.bytes
 finished_body w =
-    ap (λ (n : ℕ). take n (finished w)) (length_both w.bytes (trailer w) 120 (trailer_length w)) ∙ take_at w.bytes (trailer w) (length w.bytes) refl
+    ap (λ (n : ℕ). take n (finished w)) (length_both w.bytes (trailer w) 120 (trailer_length w))
+    ∙ take_at w.bytes (trailer w) (length w.bytes) refl
 
 finished_trailer : (w : Written) → trailer_of (finished w) ≡ trailer w
 finished_trailer w =
-    ap (λ (n : ℕ). drop n (finished w)) (length_both w.bytes (trailer w) 120 (trailer_length w)) ∙ drop_at w.bytes (trailer w) (length w.bytes) refl
+    ap (λ (n : ℕ). drop n (finished w)) (length_both w.bytes (trailer w) 120 (trailer_length w))
+    ∙ drop_at w.bytes (trailer w) (length w.bytes) refl
 
 name_at : (name : SectionName) → get_or section_names (slot_index name) Data ≡ name
 name_at Data = refl
@@ -172,8 +210,10 @@ finished_section w name small asc =
     let told : SectionName → Option Section = λ name. section_of (length w.bytes) w.started name in
     let place = slots_from told section_names trailer_mark (slot_index name) Data (place_lt name) in
     ap (λ (cells : List ℕ). section_at (drop (16 * slot_index name) cells)) (finished_trailer w)
-    ∙ ap (λ (cells : List ℕ). section_at cells) (place.1 ∙ ap (λ (n : SectionName). slot (told n) ++ place.0) (name_at name))
-    ∙ slot_reads (length w.bytes) (told name) place.0 small (section_of-within (length w.bytes) w.started name asc)
+    ∙ ap (λ (cells : List ℕ). section_at cells) (place.1
+    ∙ ap (λ (n : SectionName). slot (told n) ++ place.0) (name_at name))
+    ∙ slot_reads (length w.bytes) (told name) place.0 small
+    (section_of-within (length w.bytes) w.started name asc)
 
 map_same : {X Y : Type 0} (f g : X → Y) (xs : List X) → ((x : X) → f x ≡ g x) → map f xs ≡ map g xs
 map_same f g [] same = refl
@@ -186,14 +226,19 @@ finished_fine w small asc =
     let told : SectionName → Option Section = λ name. section_of (length w.bytes) w.started name in
     let bytes = finished w in
     let end = length_both w.bytes (trailer w) 120 (trailer_length w) in
-    let slots : length (flat_map (λ name. slot (told name)) section_names) ≡ 112 = slots_len told section_names in
-    let marked : drop 112 (trailer_of bytes) ≡ trailer_mark = ap (drop 112) (finished_trailer w) ∙ drop_at (flat_map (λ name. slot (told name)) section_names) trailer_mark 112 slots in
-    let read : map (section_in bytes) section_names ≡ map told section_names = map_same (section_in bytes) told section_names (λ name. finished_section w name small asc) in
+    let slots : length (flat_map (λ name. slot (told name)) section_names) ≡ 112 =
+    slots_len told section_names in
+    let marked : drop 112 (trailer_of bytes) ≡ trailer_mark = ap (drop 112) (finished_trailer w)
+    ∙ drop_at (flat_map (λ name. slot (told name)) section_names) trailer_mark 112 slots in
+    let read : map (section_in bytes) section_names ≡ map told section_names =
+    map_same (section_in bytes) told section_names
+    (λ name. finished_section w name small asc) in
     trailer_fine bytes (omega (arith, length-append w.bytes (trailer w), trailer_length w))
     (ap (λ (mark : List ℕ). not (pointwise nat_eq mark trailer_mark)) marked)
     (ap (λ (n : ℕ). list_any (is_past n) (map (section_in bytes) section_names)) end
     ∙ ap (λ (ss : List (Option Section)). list_any (is_past (length w.bytes)) ss) read
-    ∙ none_past told (length w.bytes) section_names (λ name. section_of-within (length w.bytes) w.started name asc))
+    ∙ none_past told (length w.bytes) section_names
+    (λ name. section_of-within (length w.bytes) w.started name asc))
 
 -- ---- sections begin one behind the other
 

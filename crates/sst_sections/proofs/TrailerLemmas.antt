@@ -14,7 +14,8 @@ pub sections_read : (bytes cells : List ℕ) → cells ≡ trailer_of bytes
     → map (λ name. section_at (drop (16 * slot_index name) cells)) section_names
     ≡ map (section_in bytes) section_names
 unfolding section_in
-sections_read bytes cells e = ap (λ (cells : List ℕ). map (λ name. section_at (drop (16 * slot_index name) cells)) section_names) e
+sections_read bytes cells e = ap (λ (cells : List ℕ). map
+    (λ name. section_at (drop (16 * slot_index name) cells)) section_names) e
 
 body_length : (bytes : List ℕ) → length (body_of bytes) ≡ length bytes - 120
 body_length bytes = omega (arith, length-take (length bytes - 120) bytes)
@@ -33,11 +34,14 @@ fine short marked past a b c = rw (a, b, c) refl
 pub trailer_passes : (bytes : List ℕ)
     → list_any (is_past (length bytes - 120)) (map (section_in bytes) section_names) ≡ true
     → trailer_fault bytes ≡ Some InvalidTrailer
-trailer_passes bytes past = bad _ _ _ (ap (λ (end : ℕ). list_any (is_past end) (map (section_in bytes) section_names)) (body_length bytes) ∙ past)
+trailer_passes bytes past = bad _ _ _ (ap (λ (end : ℕ). list_any (is_past end)
+    (map (section_in bytes) section_names)) (body_length bytes) ∙ past)
 
 -- no fault
 pub trailer_fine : (bytes : List ℕ) → 120 ≤ length bytes
     → not (pointwise nat_eq (drop 112 (trailer_of bytes)) trailer_mark) ≡ false
     → list_any (is_past (length bytes - 120)) (map (section_in bytes) section_names) ≡ false
     → trailer_fault bytes ≡ None
-trailer_fine bytes long marked past = fine _ _ _ (grind arith) marked (ap (λ (end : ℕ). list_any (is_past end) (map (section_in bytes) section_names)) (body_length bytes) ∙ past)
+trailer_fine bytes long marked past = fine _ _ _ (grind arith) marked
+    (ap (λ (end : ℕ). list_any (is_past end) (map (section_in bytes) section_names))
+    (body_length bytes) ∙ past)

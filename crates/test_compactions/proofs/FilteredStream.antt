@@ -12,4 +12,5 @@ use Rattle.lsm_sorted.specs.CompactionState.{MayCompact, source_of}
 pub may_filtered : {S F C G D : Type 0} (front : S → Option R → S → Type 0) (can : S → Type 0)
     (left : S → Count) (s : CompactionStream S G D R) (u : CompactionStream S F C R)
     → source_of s ≡ source_of u → MayCompact front can left u → MayCompact front can left s
-may_filtered {S} front can left s u same may = subst (λ (a : Ahead S R). Goes front nowhere can can left a.source) (sym same) may
+may_filtered {S} front can left s u same may =
+    subst (λ (a : Ahead S R). Goes front nowhere can can left a.source) (sym same) may

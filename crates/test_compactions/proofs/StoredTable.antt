@@ -41,7 +41,17 @@ use Rattle.test_compactions.specs.Stored.{new_entries, stored_entries}
 
 -- a block for each entry, and a partition for each block
 abbrev pub options : Options
-options = record { data_block_restart_interval = 16; index_block_restart_interval = 1; data_block_hash_ratio = 0; data_block_size = 0; index_kind = PartitionedIndex 1; filter_kind = FullFilter; bloom_policy = BitsPerKey 0 }
+options = record {
+  data_block_restart_interval = 16;
+  index_block_restart_interval =
+      1;
+  data_block_hash_ratio = 0;
+  data_block_size = 0;
+  index_kind =
+      PartitionedIndex 1;
+  filter_kind = FullFilter;
+  bloom_policy = BitsPerKey 0;
+}
 
 -- each alone
 abbrev pub alone : {A : Type 0} → List A → List (List A)
@@ -49,24 +59,52 @@ alone [] = []
 alone (x ∷ xs) = (x ∷ []) ∷ alone xs
 
 abbrev pub content : Content
-content = record { blocks = alone stored_entries; index = alone (handles V3 (alone stored_entries)); keys = []; filters = [] }
+content = record {
+  blocks = alone stored_entries;
+  index =
+      alone (handles V3 (alone stored_entries));
+  keys = [];
+  filters = [];
+}
 
 small : (n k : ℕ) → n ≡ k → k < 2 ^ 32 → n < 2 ^ 32
 small n k e h = omega (arith, e, h)
 
 -- each list of one is as it is cut
 one_chunk : (at : ℕ) (e : Entry) → IsChunk 0 [] at (e ∷ [])
-one_chunk at e = record { some = omega arith; shortest = λ n some short. absurd (omega (arith, some, short)) }
+one_chunk at e = record {
+  some = omega arith;
+  shortest =
+      λ n some short. absurd (omega (arith, some, short));
+}
 
 one_part : (full : List Handle → Bool) (h : Handle) → IsPart full (h ∷ [])
-one_part full h = record { some = omega arith; shortest = λ n some short. absurd (omega (arith, some, short)) }
+one_part full h = record {
+  some = omega arith;
+  shortest =
+      λ n some short. absurd (omega (arith, some, short));
+}
 
 chunks : AreChunks 0 [] stored_entries content.blocks
-chunks = record { whole = refl; each = (one_chunk _ _, refl, (one_chunk _ _, refl, (one_chunk _ _, refl, (one_chunk _ _, tt, tt)))) }
+chunks = record {
+  whole = refl;
+  each = (
+    one_chunk _ _,
+    refl,
+    (one_chunk _ _, refl, (one_chunk _ _, refl, (one_chunk _ _, tt, tt))),
+  );
+}
 
 parts : ArePartsOf (is_full_index 1) (handles V3 content.blocks) content.index
 unfolding last_of
-parts = record { whole = refl; each = (one_part _ _, refl, (one_part _ _, refl, (one_part _ _, refl, (one_part _ _, tt, tt)))) }
+parts = record {
+  whole = refl;
+  each = (
+    one_part _ _,
+    refl,
+    (one_part _ _, refl, (one_part _ _, refl, (one_part _ _, tt, tt))),
+  );
+}
 
 entry_fits : (seqno b : ℕ) → seqno < 2 ^ 64 - 1 → EntryFits V3 (entry (b ∷ []) [] seqno Value)
 entry_fits seqno b h = record { key = omega arith; value = omega arith; number = h }
@@ -77,11 +115,20 @@ block_fits seqno b = record { short = small _ 44 refl (omega arith) }
 
 index_fits : AllByRecursion SectionFits (index_part V3 options content)
 unfolding le2 le4 le8 handle_spelled handles_payload spelled payload last_of
-index_fits = (record { short = small _ 204 refl (omega arith) }, (record { short = small _ 120 refl (omega arith) }, tt))
+index_fits = (
+  record { short = small _ 204 refl (omega arith) },
+  (record { short = small _ 120 refl (omega arith) }, tt),
+)
 
 fits : Fits V3 (label_of 1 0 0) options content
 fits = record {
-  entries = (entry_fits 9 97 (omega arith), (entry_fits 7 97 (omega arith), (entry_fits 5 97 (omega arith), (entry_fits 1 98 (omega arith), tt))));
+  entries = (
+    entry_fits 9 97 (omega arith),
+    (
+      entry_fits 7 97 (omega arith),
+      (entry_fits 5 97 (omega arith), (entry_fits 1 98 (omega arith), tt)),
+    ),
+  );
   blocks = (block_fits 9 97, (block_fits 7 97, (block_fits 5 97, (block_fits 1 98, tt))));
   index = index_fits;
   filter = tt;
@@ -99,7 +146,12 @@ stored_table bytes are = record {
   options = options;
   version = V3;
   spills = [];
-  file = record { content = content; is = record { chunks = chunks; index = parts; keys = refl; filters = tt }; are = are };
+  file = record {
+    content = content;
+    is = record
+        { chunks = chunks; index = parts; keys = refl; filters = tt };
+    are = are;
+  };
   strict = (refl, (refl, (refl, (refl, tt))));
   fits = fits;
 }
@@ -113,12 +165,24 @@ and_none n = omega arith
 lift_none : (es : List Entry) → es ≡ lift es 0
 lift_none [] = refl
 lift_none (e ∷ es) =
-    ap (λ (n : ℕ). let x : Entry = record { user_key = e.user_key; seqno = n; kind = e.kind; value = e.value } in x ∷ es) (and_none e.seqno)
+    ap (λ (n : ℕ). let x : Entry = record {
+      user_key = e.user_key;
+      seqno = n;
+      kind = e.kind;
+      value =
+          e.value;
+    } in x ∷ es) (and_none e.seqno)
     ∙ ap (λ (us : List Entry). lifted 0 e ∷ us) (lift_none es)
 
 pub holds : (t : OpenTable) (bytes : List ℕ) (es : List Entry) → IsOpen t → t.bytes ≡ bytes
     → t.global_seqno ≡ 0 → IsTable bytes es → HoldsList t es
-holds t bytes es recovered same none is = record { stored = es; opened = recovered; table = subst (λ b. IsTable b es) (sym same) is; lifted_is = lift_none es ∙ ap (lift es) (sym none) }
+holds t bytes es recovered same none is = record {
+  stored = es;
+  opened = recovered;
+  table = subst (λ b. IsTable b es) (sym same) is;
+  lifted_is =
+      lift_none es ∙ ap (lift es) (sym none);
+}
 
 pub new_writable : IsWritable new_entries
 unfolding IsStrictAfter
@@ -129,7 +193,11 @@ unfolding IsStrictAfter
 both_strict = (refl, (refl, (refl, (refl, (refl, tt)))))
 
 both_writable : IsWritable (stored_entries ++ new_entries)
-both_writable = record { strict = both_strict; numbered = (omega arith, (omega arith, (omega arith, (omega arith, (omega arith, tt))))) }
+both_writable = record {
+  strict = both_strict;
+  numbered =
+      (omega arith, (omega arith, (omega arith, (omega arith, (omega arith, tt)))));
+}
 
 abbrev lists : List (List (List Entry))
 lists = (stored_entries ∷ new_entries ∷ []) ∷ []
@@ -142,7 +210,14 @@ pub both_compactable : (run : List OpenTable) (s n : OpenTable) → run ≡ s �
     → AreCompactable (run ∷ [])
 both_compactable run s n is hs hn order = record {
   lists = lists;
-  hold = ((order, subst (λ ts. HoldLists ts (stored_entries ∷ new_entries ∷ [])) (sym is) (hs, (hn, tt))), tt);
+  hold = (
+    (
+      order,
+      subst (λ ts. HoldLists ts (stored_entries ∷ new_entries ∷ [])) (sym is)
+          (hs, (hn, tt)),
+    ),
+    tt,
+  );
   some = ((omega arith, (omega arith, (omega arith, tt))), tt);
   writable = subst IsWritable (sym sorted) both_writable;
 }
@@ -151,4 +226,6 @@ both_compactable run s n is hs hn order = record {
 pub new_alone : (all before : List Entry) (e : Entry) (k v : List ℕ) → all ≡ before ++ e ∷ []
     → before ≡ [] → e ≡ entry k v 2 Value → k ≡ 99 ∷ [] → v ≡ [] → all ≡ new_entries
 new_alone all before e k v all_is none e_is k_is v_is =
-    all_is ∙ ap (λ (es : List Entry). es ++ e ∷ []) none ∙ ap (λ (x : Entry). x ∷ []) (e_is ∙ ap (λ (b : List ℕ). entry b v 2 Value) k_is ∙ ap (λ (b : List ℕ). entry (99 ∷ []) b 2 Value) v_is)
+    all_is ∙ ap (λ (es : List Entry). es ++ e ∷ []) none
+    ∙ ap (λ (x : Entry). x ∷ []) (e_is ∙ ap (λ (b : List ℕ). entry b v 2 Value) k_is
+    ∙ ap (λ (b : List ℕ). entry (99 ∷ []) b 2 Value) v_is)

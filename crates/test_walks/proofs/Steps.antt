@@ -15,7 +15,9 @@ taken : (at : Direction) (s t : Rows) (x : Result Row Error) → s.rows ≡ laid
     → taken_at at s.rows ≡ (Some x, t.rows)
 taken at s t x e = ap (taken_at at) e ∙ at_end at x t.rows
 
-pub row_loaded : (at : Direction) (s t : Rows) (x : Result Row Error) → s.rows ≡ laid_from at (x ∷ []) t.rows → LoadGives row_remains coming_rows (λ _ _ _. Unit {0}) at s (Some x) t
+pub row_loaded : (at : Direction) (s t : Rows) (x : Result Row Error)
+    → s.rows ≡ laid_from at (x ∷ []) t.rows → LoadGives row_remains coming_rows
+    (λ _ _ _. Unit {0}) at s (Some x) t
 row_loaded at s t (Ok row) e = record {
   named = Some (row_named (Ok row));
   names = map_taken row_named at s.rows t.rows (Ok row) (taken at s t (Ok row) e);

@@ -7,4 +7,5 @@ use Rattle.sst_entries.specs.Strict.{IsStrictAfter}
 -- one handle after none
 pub one_handle_strict : (hs : List Handle) (h : Handle) → hs ≡ [] → AreStrictHandles (hs ++ h ∷ [])
 unfolding IsStrictAfter
-one_handle_strict hs h e = subst (λ (l : List Handle). AreStrictHandles (l ++ h ∷ [])) (sym e) (refl, tt)
+one_handle_strict hs h e = subst (λ (l : List Handle). AreStrictHandles (l ++ h ∷ [])) (sym e)
+    (refl, tt)

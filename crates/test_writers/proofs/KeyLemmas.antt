@@ -23,7 +23,12 @@ given_none w held = record { given = no_keys; held = held; are = refl }
 
 pub given_again : (w v : CutParts) (keys : List (List ℕ)) → WasGiven w keys
     → ((given : GivenKeys) → HoldsParts w given → HoldsParts v given) → WasGiven v keys
-given_again w v keys was again = record { given = was.given; held = again was.given was.held; are = was.are }
+given_again w v keys was again = record {
+  given = was.given;
+  held = again was.given was.held;
+  are =
+      was.are;
+}
 
 pub given_more : (w v : CutParts) (kind : FilterKind) (policy : BloomConstructionPolicy)
     (keys : List (List ℕ)) (key : List ℕ) → WasGiven w keys
@@ -32,7 +37,8 @@ pub given_more : (w v : CutParts) (kind : FilterKind) (policy : BloomConstructio
 given_more w v kind policy keys key was more = record {
   given = with_key kind policy was.given key;
   held = more was.given was.held;
-  are = all_keys_more kind policy was.given key ∙ ap (λ (ks : List (List ℕ)). ks ++ key ∷ []) was.are;
+  are = all_keys_more kind policy was.given key
+      ∙ ap (λ (ks : List (List ℕ)). ks ++ key ∷ []) was.are;
 }
 
 pub rises_above : (w : CutParts) (keys : List (List ℕ)) (key : List ℕ) → WasGiven w keys

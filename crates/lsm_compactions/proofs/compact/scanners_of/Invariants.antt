@@ -8,4 +8,6 @@ use Rattle.lsm_compactions.proofs.compact.scanners_of.Given as goal
 
 abbrev pub invariant-loop-run : goal.invariant-loop-run
 invariant-loop-run g l =
-    (able : AreCompactable (map arc_value l.runs)) → ScannedSoFar arc_value l.runs able l.run-index RunScansNext nowhere l.scanners.items l.run-index
+    (able : AreCompactable (map arc_value l.runs))
+    → ScannedSoFar arc_value l.runs able l.run-index RunScansNext nowhere l.scanners.items
+    l.run-index

@@ -8,5 +8,6 @@ invariant-loop-item g l = record {
   can : (goal.iterator-loop-item g).can_next l.item-iterator;
   finite : (goal.iterator-loop-item g).is_finite l.item-iterator;
   since : Since l.fn.writer l.writer;
-  writes : (d : DealsWritable g.I.Iterator.next_gives l.fn.items) → WritesOn g.I.Iterator.next_gives l.fn.writer d.list l.writer l.item-iterator;
+  writes : (d : DealsWritable g.I.Iterator.next_gives l.fn.items)
+      → WritesOn g.I.Iterator.next_gives l.fn.writer d.list l.writer l.item-iterator;
 }

@@ -8,5 +8,6 @@ use Rattle.lsm_compactions.proofs.written_run.open_tables.Given as goal
 
 abbrev pub invariant-loop-table : goal.invariant-loop-table
 invariant-loop-table g l =
-    (label : Label) (lists : List (List Entry)) → AreFinished default_options label lists l.fn.tables.items →
+    (label : Label) (lists : List (List Entry)) → AreFinished default_options label lists
+    l.fn.tables.items →
     OpenSoFar label lists l.fn.global_seqno l.opened.items l.table-iterator.rest.items

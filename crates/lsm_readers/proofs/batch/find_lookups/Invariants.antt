@@ -9,5 +9,6 @@ invariant-loop-headed g l =
     let bytes = g.S.LoadBlocks.body l.initial.source in
     record {
       same : g.S.LoadBlocks.body l.source ≡ bytes;
-      lookups : All (IsLookup bytes l.inner.global_seqno (parts_of l.inner) l.queries) l.lookups.items;
+      lookups : All (IsLookup bytes l.inner.global_seqno (parts_of l.inner) l.queries)
+          l.lookups.items;
     }

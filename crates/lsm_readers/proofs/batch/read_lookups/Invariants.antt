@@ -8,5 +8,6 @@ invariant-loop-index g l =
     let bytes = g.S.LoadBlocks.body l.initial.source in
     record {
       same : g.S.LoadBlocks.body l.source ≡ bytes;
-      are_found : AreFound (query_told bytes l.inner.global_seqno (parts_of l.inner)) l.queries l.batch.found.items l.batch.done.items;
+      are_found : AreFound (query_told bytes l.inner.global_seqno (parts_of l.inner)) l.queries
+          l.batch.found.items l.batch.done.items;
     }

@@ -9,6 +9,7 @@ invariant-loop-item g l = record {
   options : l.writer.options ≡ default_options;
   spills : spills_of l.writer ≡ [];
   listed : written l.writer ≡ l.yielded;
-  fault : list_fault (label_of l.id l.initial_level l.fn.created_at) l.fn.items.items ≡ writing_fault l.writer l.item-iterator.rest.items;
+  fault : list_fault (label_of l.id l.initial_level l.fn.created_at) l.fn.items.items
+      ≡ writing_fault l.writer l.item-iterator.rest.items;
   whole : l.fn.items.items ≡ l.yielded ++ l.item-iterator.rest.items;
 }

@@ -14,7 +14,8 @@ invariant-loop-before g l =
     let back = g.I.DoubleEndedIterator.next_back_gives in
     let left = g.I.Iterator.remaining in
     record {
-      may : Goes front back g.I.Iterator.can_next g.I.DoubleEndedIterator.can_next_back left l.self.inner.source;
+      may : Goes front back g.I.Iterator.can_next g.I.DoubleEndedIterator.can_next_back left
+          l.self.inner.source;
       hears : Hears back Back None (Scaled l.tail) (mvcc_outlook l.fn.self) (mvcc_outlook l.self);
       fewer : peeked_size left l.self.inner < peeked_size left l.fn.self.inner;
     }

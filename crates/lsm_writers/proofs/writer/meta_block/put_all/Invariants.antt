@@ -3,4 +3,5 @@ use Rattle.lsm_formats.specs.MetaBlock.{meta_entry}
 use Rattle.lsm_writers.proofs.writer.meta_block.put_all.Given as goal
 
 abbrev pub invariant-loop-name : goal.invariant-loop-name
-invariant-loop-name g l = l.items.items ≡ l.fn.items.items ++ map (λ x. meta_entry x.0 x.1.now) (take l.name-index l.named)
+invariant-loop-name g l = l.items.items ≡ l.fn.items.items
+    ++ map (λ x. meta_entry x.0 x.1.now) (take l.name-index l.named)

@@ -6,12 +6,15 @@ use Rattle.sst_entries.specs.Strict.{is_before}
 use Rattle.sst_blocks.proofs.Searches.{Search}
 use Rattle.sst_blocks.proofs.reading.find.find_item.Given as goal
 
--- the first item that the read comes before is found among those that were walked over, and its place
+-- the first item that the read comes before is found among those that were walked over, and its
+-- place
 abbrev pub invariant-loop : goal.invariant-loop
 invariant-loop g l =
     let f = g.R.ItemRef.format l.version in
     let told = g.R.ItemRef.told in
     record {
-      search : Search f (λ x. is_before (read_place l.key l.seqno) (f.key x)) l.payload l.rest (option_map (λ x. f.key (told x)) l.last) l.counter (option_map (λ x. told x.1) l.found);
-      place : IfSome l.found (λ x. option_map (λ y. y.0) (f.read (drop x.0 l.payload)) ≡ Some (told x.1));
+      search : Search f (λ x. is_before (read_place l.key l.seqno) (f.key x)) l.payload l.rest
+          (option_map (λ x. f.key (told x)) l.last) l.counter (option_map (λ x. told x.1) l.found);
+      place : IfSome l.found (λ x. option_map (λ y. y.0) (f.read (drop x.0 l.payload))
+          ≡ Some (told x.1));
     }

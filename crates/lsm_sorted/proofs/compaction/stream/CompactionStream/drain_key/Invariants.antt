@@ -11,12 +11,18 @@ use Rattle.lsm_sorted.proofs.compaction.stream.CompactionStream.drain_key.Given 
 
 abbrev pub invariant-loop-x : goal.invariant-loop-x
 invariant-loop-x g l = record {
-  may : Goes g.I.Iterator.next_gives nowhere g.I.Iterator.can_next g.I.Iterator.can_next g.I.Iterator.remaining l.self.inner.source;
+  may : Goes g.I.Iterator.next_gives nowhere g.I.Iterator.can_next g.I.Iterator.can_next
+      g.I.Iterator.remaining l.self.inner.source;
   rules : rules_of l.self ≡ rules_of l.fn.self;
   filter : l.self.filter ≡ l.fn.self.filter;
-  size : ahead_size g.I.Iterator.remaining l.self.inner ≤ ahead_size g.I.Iterator.remaining l.fn.self.inner;
-  hears : Hearing g.I.Iterator.next_gives None (DrawsIn g.I.Iterator.next_gives g.C.DroppedKvCallback.gets l.head.user_key l.fn.self.dropped_callback l.self.dropped_callback) l.fn.self.inner l.self.inner;
-  draining : (stops : Error → Bool) → Draining stops (HoldsAhead stops g.I.Iterator.next_gives) g.C.DroppedKvCallback.gets l.head.user_key l.fn.self.inner l.fn.self.dropped_callback l.self.inner l.self.dropped_callback;
+  size : ahead_size g.I.Iterator.remaining l.self.inner
+      ≤ ahead_size g.I.Iterator.remaining l.fn.self.inner;
+  hears : Hearing g.I.Iterator.next_gives None (DrawsIn g.I.Iterator.next_gives
+      g.C.DroppedKvCallback.gets l.head.user_key l.fn.self.dropped_callback l.self.dropped_callback)
+      l.fn.self.inner l.self.inner;
+  draining : (stops : Error → Bool) → Draining stops
+      (HoldsAhead stops g.I.Iterator.next_gives) g.C.DroppedKvCallback.gets l.head.user_key
+      l.fn.self.inner l.fn.self.dropped_callback l.self.inner l.self.dropped_callback;
 }
 
 abbrev pub decreases-loop-x : goal.decreases-loop-x
