@@ -24,14 +24,19 @@ leading_by : (x y z : Entry) (b c : Bool) → is_lt (item_cmp y x) ≡ b → is_
     → leading_of (if b then Some y else Some x) (Some z) ≡ leading_of (Some x)
     (if c then Some z else Some y)
 leading_by x y z true true p q =
-    let r : is_lt (item_cmp z x) ≡ true = ap is_lt (item_total.trans z y x (less_of (item_cmp z y) q) (less_of (item_cmp y x) p)) in
-    ap (λ (t : Bool). if t then Some z else Some y) q ∙ sym (ap (λ (t : Bool). if t then Some z else Some x) r)
+    let r : is_lt (item_cmp z x) ≡ true = ap is_lt
+    (item_total.trans z y x (less_of (item_cmp z y) q) (less_of (item_cmp y x) p)) in
+    ap (λ (t : Bool). if t then Some z else Some y) q
+    ∙ sym (ap (λ (t : Bool). if t then Some z else Some x) r)
 leading_by x y z true false p q =
-    ap (λ (t : Bool). if t then Some z else Some y) q ∙ sym (ap (λ (t : Bool). if t then Some y else Some x) p)
+    ap (λ (t : Bool). if t then Some z else Some y) q
+    ∙ sym (ap (λ (t : Bool). if t then Some y else Some x) p)
 leading_by x y z false true p q = refl
 leading_by x y z false false p q =
-    let r : is_lt (item_cmp z x) ≡ false = other_way x z ∙ at_most_chain x y z (sym (other_way x y) ∙ p) (sym (other_way y z) ∙ q) in
-    ap (λ (t : Bool). if t then Some z else Some x) r ∙ sym (ap (λ (t : Bool). if t then Some y else Some x) p)
+    let r : is_lt (item_cmp z x) ≡ false = other_way x z
+    ∙ at_most_chain x y z (sym (other_way x y) ∙ p) (sym (other_way y z) ∙ q) in
+    ap (λ (t : Bool). if t then Some z else Some x) r
+    ∙ sym (ap (λ (t : Bool). if t then Some y else Some x) p)
 
 leading_none : (x y : Entry) (b : Bool)
     → leading_of (if b then Some y else Some x) None ≡ (if b then Some y else Some x)
@@ -43,7 +48,8 @@ pub leading_assoc : (x y z : Option Entry)
 leading_assoc None y z = refl
 leading_assoc (Some x) None z = refl
 leading_assoc (Some x) (Some y) None = leading_none x y (is_lt (item_cmp y x))
-leading_assoc (Some x) (Some y) (Some z) = leading_by x y z (is_lt (item_cmp y x)) (is_lt (item_cmp z y)) refl refl
+leading_assoc (Some x) (Some y) (Some z) = leading_by x y z (is_lt (item_cmp y x))
+    (is_lt (item_cmp z y)) refl refl
 
 pub leading_last : (x : Option Entry) → leading_of x None ≡ x
 leading_last None = refl
@@ -76,7 +82,8 @@ module _ (key : List ℕ) (bound : ℕ) where
       → leading_of (Some x) (point es key bound) ≡ Some x
   leads x [] all = ap (leading_of (Some x)) no_hit
   leads x (e ∷ es) all = elim (cases_Bool (is_hit key bound e)) [
-    | inl holds ↦ ap (leading_of (Some x)) (hit_first e es holds) ∙ ap (λ (b : Bool). if b then Some e else Some x) (other_way x e ∙ all.0)
+    | inl holds ↦ ap (leading_of (Some x)) (hit_first e es holds)
+        ∙ ap (λ (b : Bool). if b then Some e else Some x) (other_way x e ∙ all.0)
     | inr miss ↦ ap (leading_of (Some x)) (hit_later e es miss) ∙ leads x es all.1
   ]
 
@@ -89,12 +96,15 @@ module _ (key : List ℕ) (bound : ℕ) where
   inserted_hit x [] holds up = hit_first x [] holds ∙ sym (ap (leading_of (Some x)) no_hit)
   inserted_hit x (y ∷ ys) holds up = elim (cases_Bool (is_gt (item_cmp x y))) [
     | inl above ↦
-        let here : point (insert_sorted x (y ∷ ys)) key bound ≡ point (y ∷ insert_sorted x ys) key bound = ap (λ (b : Bool). point (put x y ys b) key bound) above in
+        let here : point (insert_sorted x (y ∷ ys)) key bound
+        ≡ point (y ∷ insert_sorted x ys) key bound =
+        ap (λ (b : Bool). point (put x y ys b) key bound) above in
         elim (cases_Bool (is_hit key bound y)) [
           | inl found ↦
               here
               ∙ hit_first y (insert_sorted x ys) found
-              ∙ sym (ap (leading_of (Some x)) (hit_first y ys found) ∙ ap (λ (b : Bool). if b then Some y else Some x) (other_way x y ∙ above))
+              ∙ sym (ap (leading_of (Some x)) (hit_first y ys found)
+              ∙ ap (λ (b : Bool). if b then Some y else Some x) (other_way x y ∙ above))
           | inr none ↦
               here
               ∙ hit_later y (insert_sorted x ys) none
@@ -104,7 +114,11 @@ module _ (key : List ℕ) (bound : ℕ) where
     | inr under ↦
         ap (λ (b : Bool). point (put x y ys b) key bound) under
         ∙ hit_first x (y ∷ ys) holds
-        ∙ sym (leads x (y ∷ ys) (under, all_more (AtMost y) (AtMost x) (λ z le. at_most_chain x y z under le) ys up.0))
+        ∙ sym (leads x (y ∷ ys) (
+          under,
+          all_more (AtMost y) (AtMost x)
+              (λ z le. at_most_chain x y z under le) ys up.0,
+        ))
   ]
 
   -- an entry that is none
@@ -112,15 +126,18 @@ module _ (key : List ℕ) (bound : ℕ) where
       → point (insert_sorted x ys) key bound ≡ point ys key bound
   inserted_miss x [] miss = hit_later x [] miss
   inserted_miss x (y ∷ ys) miss = elim (cases_Bool (is_gt (item_cmp x y))) [
-    | inl above ↦ ap (λ (b : Bool). point (put x y ys b) key bound) above ∙ hit_either y (insert_sorted x ys) ys (inserted_miss x ys miss)
-    | inr under ↦ ap (λ (b : Bool). point (put x y ys b) key bound) under ∙ hit_later x (y ∷ ys) miss
+    | inl above ↦ ap (λ (b : Bool). point (put x y ys b) key bound) above
+        ∙ hit_either y (insert_sorted x ys) ys (inserted_miss x ys miss)
+    | inr under ↦ ap (λ (b : Bool). point (put x y ys b) key bound) under
+        ∙ hit_later x (y ∷ ys) miss
   ]
 
   -- of a sorted list and others
   pub leading_sorted : (es rest : List Entry) → Ascends es
       → point (sort_entries (es ++ rest)) key bound ≡ leading_of (point es key bound)
       (point (sort_entries rest) key bound)
-  leading_sorted [] rest up = sym (ap (λ (o : Option Entry). leading_of o (point (sort_entries rest) key bound)) no_hit)
+  leading_sorted [] rest up = sym (ap (λ (o : Option Entry). leading_of o
+      (point (sort_entries rest) key bound)) no_hit)
   leading_sorted (x ∷ es) rest up =
       let others = point (sort_entries rest) key bound in
       let more = leading_sorted es rest up.1 in
@@ -129,7 +146,8 @@ module _ (key : List ℕ) (bound : ℕ) where
             inserted_hit x (sort_entries (es ++ rest)) holds (ascends_in_order (es ++ rest))
             ∙ ap (leading_of (Some x)) more
             ∙ sym (leading_assoc (Some x) (point es key bound) others)
-            ∙ ap (λ (o : Option Entry). leading_of o others) (leads x es up.0 ∙ sym (hit_first x es holds))
+            ∙ ap (λ (o : Option Entry). leading_of o others)
+            (leads x es up.0 ∙ sym (hit_first x es holds))
         | inr miss ↦
             inserted_miss x (sort_entries (es ++ rest)) miss
             ∙ more

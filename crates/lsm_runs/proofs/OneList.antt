@@ -19,7 +19,8 @@ same_results es us same = sym (entries_of es) ∙ ap entries_among same ∙ entr
 pub one_list : (t : OpenTable) (es us : List Entry) → HoldsList t es → HoldsList t us → es ≡ us
 one_list t es us h k =
     sym (all_within es)
-    ∙ same_results (within Unbounded Unbounded es) (within Unbounded Unbounded us) (sym (held_told t es h Unbounded Unbounded) ∙ held_told t us k Unbounded Unbounded)
+    ∙ same_results (within Unbounded Unbounded es) (within Unbounded Unbounded us)
+    (sym (held_told t es h Unbounded Unbounded) ∙ held_told t us k Unbounded Unbounded)
     ∙ all_within us
 
 one_each : (ts : List OpenTable) (ls ms : List (List Entry)) → HoldLists ts ls → HoldLists ts ms
@@ -30,7 +31,8 @@ one_each [] [] (us ∷ ms) h k = absurd k
 one_each (t ∷ ts) [] ms h k = absurd h
 one_each (t ∷ ts) (es ∷ ls) [] h k = absurd k
 one_each (t ∷ ts) (es ∷ ls) (us ∷ ms) h k =
-    ap (λ (xs : List Entry). xs ∷ ls) (one_list t es us h.0 k.0) ∙ ap (λ (ns : List (List Entry)). us ∷ ns) (one_each ts ls ms h.1 k.1)
+    ap (λ (xs : List Entry). xs ∷ ls) (one_list t es us h.0 k.0)
+    ∙ ap (λ (ns : List (List Entry)). us ∷ ns) (one_each ts ls ms h.1 k.1)
 
 pub one_way : (runs : List (List OpenTable)) (lists others : List (List (List Entry)))
     → RunsHoldLists runs lists → RunsHoldLists runs others → lists ≡ others
@@ -40,7 +42,8 @@ one_way [] [] (ms ∷ others) h k = absurd k
 one_way (ts ∷ runs) [] others h k = absurd h
 one_way (ts ∷ runs) (ls ∷ lists) [] h k = absurd k
 one_way (ts ∷ runs) (ls ∷ lists) (ms ∷ others) h k =
-    ap (λ (ns : List (List Entry)). ns ∷ lists) (one_each ts ls ms h.0.1 k.0.1) ∙ ap (λ (os : List (List (List Entry))). ms ∷ os) (one_way runs lists others h.1 k.1)
+    ap (λ (ns : List (List Entry)). ns ∷ lists) (one_each ts ls ms h.0.1 k.0.1)
+    ∙ ap (λ (os : List (List (List Entry))). ms ∷ os) (one_way runs lists others h.1 k.1)
 
 -- ---- two values, of which the second may be refused
 

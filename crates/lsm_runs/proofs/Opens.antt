@@ -22,7 +22,8 @@ use Rattle.lsm_readers.proofs.TableRanges.{come, index_come, left_is}
 use Rattle.lsm_runs.specs.RunParts.{Part, RunSpan, is_edge, part_loads, part_told, span_part_at}
 use Rattle.lsm_runs.specs.RunParts.{span_parts_between, span_parts_from}
 use Rattle.lsm_runs.specs.RunRange.{Unopened}
-use Rattle.lsm_runs.specs.Tables.{KeepsTables, coming_tables, none_unopened, place_taken, table_named}
+use Rattle.lsm_runs.specs.Tables.{KeepsTables, coming_tables, none_unopened, place_taken}
+use Rattle.lsm_runs.specs.Tables.{table_named}
 use Rattle.lsm_runs.proofs.Places.{first_between, last_between, part_there}
 use Rattle.lsm_runs.proofs.Places.{same_there, table_at}
 
@@ -36,10 +37,13 @@ module _ {A : Type 0} where
   module _ (span : RunSpan) (ts : List OpenTable) (place : ℕ) (u : OpenTable)
       (less : place < length ts) (is : u ≡ get_or ts place u) (r : Result (Range A) Error) where
     abbrev Reads : Type 0
-    Reads = (t : OpenTable) → slice_get ts place ≡ Some t → IfOk r (λ (x : Range A). IsRangeOf (span_part_at span place t).table (span_part_at span place t).low (span_part_at span place t).high x)
+    Reads = (t : OpenTable) → slice_get ts place ≡ Some t
+        → IfOk r (λ (x : Range A). IsRangeOf (span_part_at span place t).table
+        (span_part_at span place t).low (span_part_at span place t).high x)
 
     abbrev part_if : OpenTable → Bool → Part
-    part_if t b = if b then record { table = t; low = span.low; high = span.high } else record { table = t; low = Unbounded; high = Unbounded }
+    part_if t b = if b then record { table = t; low = span.low; high = span.high }
+        else record { table = t; low = Unbounded; high = Unbounded }
 
     abbrev ReadsPart : Part → Type 0
     ReadsPart p = IfOk r (λ (x : Range A). IsRangeOf p.table p.low p.high x)
@@ -47,13 +51,19 @@ module _ {A : Type 0} where
     pub reads_end : is_edge span place ≡ true → (low high : Bound (List ℕ)) → low ≡ span.low
         → high ≡ span.high → IfOk r (IsRangeOf u low high) → Reads
     reads_end edge low high from to reads t at =
-        let lower : IfOk r (IsRangeOf u span.low high) = subst (λ (b : Bound (List ℕ)). IfOk r (IsRangeOf u b high)) from reads in
-        let both : IfOk r (IsRangeOf u span.low span.high) = subst (λ (b : Bound (List ℕ)). IfOk r (IsRangeOf u span.low b)) to lower in
-        subst ReadsPart (sym (ap (part_if t) edge)) (subst (λ (v : OpenTable). IfOk r (IsRangeOf v span.low span.high)) (same_there ts place u t less is at) both)
+        let lower : IfOk r (IsRangeOf u span.low high) =
+        subst (λ (b : Bound (List ℕ)). IfOk r (IsRangeOf u b high)) from reads in
+        let both : IfOk r (IsRangeOf u span.low span.high) =
+        subst (λ (b : Bound (List ℕ)). IfOk r (IsRangeOf u span.low b)) to lower in
+        subst ReadsPart (sym (ap (part_if t) edge))
+        (subst (λ (v : OpenTable). IfOk r (IsRangeOf v span.low span.high))
+        (same_there ts place u t less is at) both)
 
     pub reads_whole : is_edge span place ≡ false → IfOk r (IsRangeOf u Unbounded Unbounded) → Reads
     reads_whole edge reads t at =
-        subst ReadsPart (sym (ap (part_if t) edge)) (subst (λ (v : OpenTable). IfOk r (IsRangeOf v Unbounded Unbounded)) (same_there ts place u t less is at) reads)
+        subst ReadsPart (sym (ap (part_if t) edge))
+        (subst (λ (v : OpenTable). IfOk r (IsRangeOf v Unbounded Unbounded))
+        (same_there ts place u t less is at) reads)
 
 -- ---- a reader of a table before its first step
 
@@ -87,7 +97,8 @@ module _ (span : RunSpan) (ts : List OpenTable) (lo hi : ℕ) (less : lo < hi)
       record {
         table = t.0;
         there = t.1;
-        takes = first_between (span_parts_from span 0 ts) lo hi (span_part_at span lo t.0) (part_there span ts lo t.0 t.1) less;
+        takes = first_between (span_parts_from span 0 ts) lo hi (span_part_at span lo t.0)
+            (part_there span ts lo t.0 t.1) less;
       }
   taken Back =
       let t = table_at ts (hi - 1) (omega (arith, less, within)) in
@@ -96,11 +107,14 @@ module _ (span : RunSpan) (ts : List OpenTable) (lo hi : ℕ) (less : lo < hi)
         table = t.0;
         there = t.1;
         takes = ap (λ (n : ℕ). back_of (take (n - lo) (drop lo (span_parts_from span 0 ts)))) last
-            ∙ last_between (span_parts_from span 0 ts) lo (hi - 1) (span_part_at span (hi - 1) t.0) (part_there span ts (hi - 1) t.0 t.1) (omega (arith, less));
+            ∙ last_between (span_parts_from span 0 ts) lo (hi - 1) (span_part_at span (hi - 1) t.0)
+            (part_there span ts (hi - 1) t.0 t.1) (omega (arith, less));
       }
 
   abbrev ReadsAt : {A : Type 0} → ℕ → Range A → Type 0
-  ReadsAt place x = (t : OpenTable) → slice_get ts place ≡ Some t → IsRangeOf (span_part_at span place t).table (span_part_at span place t).low (span_part_at span place t).high x
+  ReadsAt place x = (t : OpenTable) → slice_get ts place ≡ Some t
+      → IsRangeOf (span_part_at span place t).table (span_part_at span place t).low
+      (span_part_at span place t).high x
 
   pub opens_at : {A : Type 0} (at : Direction) (opened : ℕ) (p : ℕ × ℕ × ℕ) (x : Range A)
       (count : ℕ) → p ≡ place_taken at lo hi → count ≡ suc opened → ReadsAt p.0 x
@@ -116,7 +130,12 @@ module _ (span : RunSpan) (ts : List OpenTable) (lo hi : ℕ) (less : lo < hi)
         named = Some (table_named part);
         names = map_taken table_named at before behind part t.takes;
         told = reader_left part x reader;
-        loads = omega (arith, reader_loads part x reader, sum_taken part_loads at before behind part t.takes);
+        loads = omega (
+          arith,
+          reader_loads part x reader,
+          sum_taken part_loads at before behind part
+              t.takes,
+        );
         first = λ f early. let wrong : None ≡ Some f = early in absurd cc;
         kept = omega (arith, more);
       }
@@ -129,11 +148,13 @@ module _ (span : RunSpan) (ts : List OpenTable) (lo hi : ℕ) (less : lo < hi)
   refused_at A at opened e v memory is =
       let before : List Part = span_parts_between span ts lo hi in
       let t = taken at in
-      subst (λ (u : Unopened). LoadGives {T = Range A} range_remains coming_tables KeepsTables at (held span ts lo hi opened) (Some (Err e)) u) (sym is) (record {
+      subst (λ (u : Unopened). LoadGives {T = Range A} range_remains coming_tables KeepsTables at
+      (held span ts lo hi opened) (Some (Err e)) u) (sym is) (record {
         named = Some (Err e);
         names = (
           λ fine. absurd (not_memory e memory fine),
-          λ done. none_at at before _ (map_none table_named before done.parts) (ap (λ (x : Option Part × List Part). x.0) t.takes),
+          λ done. none_at at before _ (map_none table_named before done.parts)
+              (ap (λ (x : Option Part × List Part). x.0) t.takes),
           record { parts = refl; loads = refl },
         );
         told = refl;

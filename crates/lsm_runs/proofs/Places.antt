@@ -25,7 +25,8 @@ module _ {X : Type 0} where
   get_behind : (xs : List X) (n i : ℕ) → slice_get (drop n xs) i ≡ slice_get xs (n + i)
   get_behind xs zero i = ap (slice_get xs) (let e : i ≡ 0 + i = omega arith in e)
   get_behind [] (suc n) i = refl
-  get_behind (x ∷ xs) (suc n) i = get_behind xs n i ∙ ap (slice_get (x ∷ xs)) (let e : suc (n + i) ≡ suc n + i = omega arith in e)
+  get_behind (x ∷ xs) (suc n) i = get_behind xs n i
+      ∙ ap (slice_get (x ∷ xs)) (let e : suc (n + i) ≡ suc n + i = omega arith in e)
 
   -- the first of what stands between two places, and the last
   pub first_between : (xs : List X) (lo hi : ℕ) (x : X) → slice_get xs lo ≡ Some x → lo < hi
@@ -40,17 +41,20 @@ module _ {X : Type 0} where
   last_between xs lo hi x at less =
       let many : suc hi - lo ≡ suc (hi - lo) = omega (arith, less) in
       let there : slice_get (drop lo xs) (hi - lo) ≡ Some x =
-      get_behind xs lo (hi - lo) ∙ ap (slice_get xs) (let e : lo + (hi - lo) ≡ hi = omega (arith, less) in e) ∙ at in
+      get_behind xs lo (hi - lo) ∙ ap (slice_get xs)
+      (let e : lo + (hi - lo) ≡ hi = omega (arith, less) in e) ∙ at in
       ap (λ (n : ℕ). back_of (take n (drop lo xs))) many
       ∙ ap back_of (take_push (drop lo xs) (hi - lo) x there)
       ∙ back_push (take (hi - lo) (drop lo xs)) x
 
   pub none_between : (xs : List X) (lo hi : ℕ) → lo ≡ hi → take (hi - lo) (drop lo xs) ≡ []
-  none_between xs lo hi same = ap (λ (n : ℕ). take n (drop lo xs)) (let e : hi - lo ≡ 0 = omega (arith, same) in e)
+  none_between xs lo hi same = ap (λ (n : ℕ). take n (drop lo xs))
+      (let e : hi - lo ≡ 0 = omega (arith, same) in e)
 
   pub same_there : (xs : List X) (i : ℕ) (x y : X) → i < length xs → x ≡ get_or xs i x
       → slice_get xs i ≡ Some y → x ≡ y
-  same_there xs i x y less is at = let e : Some x ≡ Some y = sym (slice_get_read xs (length xs) i x refl less is) ∙ at in cc
+  same_there xs i x y less is at = let e : Some x ≡ Some y =
+      sym (slice_get_read xs (length xs) i x refl less is) ∙ at in cc
 
 -- the part at a place is that of the table there
 place_of : (s : RunSpan) (k : ℕ) (ts : List OpenTable) (i : ℕ) (t : OpenTable)
@@ -59,13 +63,16 @@ place_of : (s : RunSpan) (k : ℕ) (ts : List OpenTable) (i : ℕ) (t : OpenTabl
 place_of s k [] i t e = absurd cc
 place_of s k (u ∷ us) zero t e =
     let same : u ≡ t = cc in
-    ap (λ (x : OpenTable). Some (span_part_at s k x)) same ∙ ap (λ (n : ℕ). Some (span_part_at s n t)) (let e : k ≡ k + 0 = omega arith in e)
+    ap (λ (x : OpenTable). Some (span_part_at s k x)) same
+    ∙ ap (λ (n : ℕ). Some (span_part_at s n t)) (let e : k ≡ k + 0 = omega arith in e)
 place_of s k (u ∷ us) (suc i) t e =
-    place_of s (suc k) us i t e ∙ ap (λ (n : ℕ). Some (span_part_at s n t)) (let e : suc k + i ≡ k + suc i = omega arith in e)
+    place_of s (suc k) us i t e ∙ ap (λ (n : ℕ). Some (span_part_at s n t))
+    (let e : suc k + i ≡ k + suc i = omega arith in e)
 
 pub part_there : (s : RunSpan) (ts : List OpenTable) (i : ℕ) (t : OpenTable)
     → slice_get ts i ≡ Some t → slice_get (span_parts_from s 0 ts) i ≡ Some (span_part_at s i t)
-part_there s ts i t e = place_of s 0 ts i t e ∙ ap (λ (n : ℕ). Some (span_part_at s n t)) (let e : 0 + i ≡ i = omega arith in e)
+part_there s ts i t e = place_of s 0 ts i t e
+    ∙ ap (λ (n : ℕ). Some (span_part_at s n t)) (let e : 0 + i ≡ i = omega arith in e)
 
 -- there is a table at each place
 pub table_at : (ts : List OpenTable) (i : ℕ) → i < length ts → (t : OpenTable)

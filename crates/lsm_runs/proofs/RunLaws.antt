@@ -21,20 +21,24 @@ module _ {A : Type 0} where
       → RunGives of needed s r t → Ending run_left IsRunEnded of s r t
   ends_by of needed s None t step = record { answer = (step.answer, step.lowers); ends = tt }
   ends_by of needed s (Some (Ok e)) t step = record { answer = step.answer; ends = tt }
-  ends_by of needed s (Some (Err e)) t step = record { answer = (step.answer, λ ended. omega (arith, ended, step.lowers)); ends = step.ends }
+  ends_by of needed s (Some (Err e)) t step = record
+      { answer = (step.answer, λ ended. omega (arith, ended, step.lowers)); ends = step.ends }
 
   -- whatever ends are asked, what is left is dealt up to the first error
   pub run_deals : (s : RunRange A) → DealsEnding (RunGives front_of front_tables)
       (RunGives back_of back_tables) (λ _. Unit {0}) (λ _. Unit {0}) s (run_left s)
   run_deals s =
-      deals_ending run_left IsRunEnded nothing (RunGives front_of front_tables) (RunGives back_of back_tables)
-      (λ u r t step. ends_by front_of front_tables u r t step) (λ u r t step. ends_by back_of back_tables u r t step) s
+      deals_ending run_left IsRunEnded nothing (RunGives front_of front_tables)
+      (RunGives back_of back_tables)
+      (λ u r t step. ends_by front_of front_tables u r t step)
+      (λ u r t step. ends_by back_of back_tables u r t step) s
 
   pub progress : (of : End) (needed : RunRange A → ℕ) (s : RunRange A) (r : Option R)
       (t : RunRange A) → RunGives of needed s r t
       → MakesProgress (λ _. Unit {0}) (λ u. at_most (run_size u)) s r t
   progress of needed s None t step = record { on = λ _. tt; keeps = tt; rests = λ _. tt }
-  progress of needed s (Some x) t step = record { on = λ _. (tt, tt, step.lowers); keeps = tt; rests = λ _. tt }
+  progress of needed s (Some x) t step = record
+      { on = λ _. (tt, tt, step.lowers); keeps = tt; rests = λ _. tt }
 
   -- ---- how many tables are opened
 
@@ -47,8 +51,20 @@ module _ {A : Type 0} where
   along most [] [] s t runs held = subst (λ (x : RunRange A). Fits most x) runs held
   along most [] (r ∷ rs) s t runs held = absurd runs
   along most (e ∷ ends) [] s t runs held = absurd runs
-  along most (Front ∷ ends) (r ∷ rs) s t runs held = let step = runs.1 in along most ends rs runs.0 t runs.2 (omega (arith, step.tables.counts, step.tables.within, held))
-  along most (Back ∷ ends) (r ∷ rs) s t runs held = let step = runs.1 in along most ends rs runs.0 t runs.2 (omega (arith, step.tables.counts, step.tables.within, held))
+  along most (Front ∷ ends) (r ∷ rs) s t runs held = let step = runs.1 in
+      along most ends rs runs.0 t runs.2 (omega (
+        arith,
+        step.tables.counts,
+        step.tables.within,
+        held,
+      ))
+  along most (Back ∷ ends) (r ∷ rs) s t runs held = let step = runs.1 in
+      along most ends rs runs.0 t runs.2 (omega (
+        arith,
+        step.tables.counts,
+        step.tables.within,
+        held,
+      ))
 
   pub opens_few : (most : ℕ) (s : RunRange A) → s.unopened.opened + length s.unopened.parts ≤ most
       → OpensAtMost (RunGives front_of front_tables) (RunGives back_of back_tables) most s

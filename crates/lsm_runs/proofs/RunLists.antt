@@ -25,14 +25,22 @@ module _ {A : Type 0} (ts : List OpenTable) (span : RunSpan) (s : RunRange A)
     (is : IsRunOf ts span s) where
   pub new_left : run_left s ≡ run_parts_told (span_parts span ts)
   new_left =
-      ap (λ (o : Option (Range A)). left_of_reader o ++ (run_parts_told s.unopened.parts ++ left_of_reader s.back)) is.front
+      ap (λ (o : Option (Range A)). left_of_reader o
+      ++ (run_parts_told s.unopened.parts ++ left_of_reader s.back)) is.front
       ∙ ap (λ (o : Option (Range A)). run_parts_told s.unopened.parts ++ left_of_reader o) is.back
       ∙ append-nil (run_parts_told s.unopened.parts)
       ∙ ap run_parts_told is.parts
 
   pub new_few : OpensAtMost (RunGives front_of front_tables) (RunGives back_of back_tables)
       (span.last + 1 - span.first) s
-  new_few = opens_few (span.last + 1 - span.first) s (omega (arith, is.opened, ap length is.parts, few_between (span_parts_from span 0 ts) span.first (suc span.last)))
+  new_few = opens_few (span.last + 1 - span.first) s
+      (omega (
+        arith,
+        is.opened,
+        ap length is.parts,
+        few_between
+            (span_parts_from span 0 ts) span.first (suc span.last),
+      ))
 
 module _ {A : Type 0} (low high : Bound (List ℕ)) (ts : List OpenTable) (ends : ℕ × ℕ)
     (s : RunRange A) (is : IsRunOf ts (span_of ends low high) s) where
@@ -44,19 +52,24 @@ module _ {A : Type 0} (low high : Bound (List ℕ)) (ts : List OpenTable) (ends 
   few_found found others told same =
       let one : Some ends ≡ Some others = sym told ∙ same in
       let are : ends ≡ others = cc in
-      subst (λ (e : ℕ × ℕ). OpensAtMost (RunGives front_of front_tables) (RunGives back_of back_tables) (e.1 + 1 - e.0) s) are (new_few ts (span_of ends low high) s is)
+      subst (λ (e : ℕ × ℕ). OpensAtMost (RunGives front_of front_tables)
+      (RunGives back_of back_tables) (e.1 + 1 - e.0) s) are
+      (new_few ts (span_of ends low high) s is)
 
   -- of all tables
   pub few_all : ArePlacesOf ts ends → OpensAtMost (RunGives front_of front_tables)
       (RunGives back_of back_tables) (length ts) s
-  few_all places asked rs t runs = let few = new_few ts (span_of ends low high) s is asked rs t runs in omega (arith, few, places.1)
+  few_all places asked rs t runs = let few = new_few ts
+      (span_of ends low high) s is asked rs t runs in omega (arith, few, places.1)
 
 -- what is left, where it is a list
 left_deals : {A : Type 0} (s : RunRange A) (es : List Entry) → run_left s ≡ ok_results es
     → DealsList (RunGives front_of front_tables) (RunGives back_of back_tables) es s
 left_deals s es told stops memory =
-    let deals = subst (λ (xs : List R). DealsEnding (RunGives front_of front_tables) (RunGives back_of back_tables) (λ _. Unit {0}) (λ _. Unit {0}) s xs) told (run_deals s) in
-    deals_values (RunGives front_of front_tables) (RunGives back_of back_tables) (λ _. Unit {0}) (λ _. Unit {0}) s es deals stops memory
+    let deals = subst (λ (xs : List R). DealsEnding (RunGives front_of front_tables)
+    (RunGives back_of back_tables) (λ _. Unit {0}) (λ _. Unit {0}) s xs) told (run_deals s) in
+    deals_values (RunGives front_of front_tables) (RunGives back_of back_tables) (λ _. Unit {0})
+    (λ _. Unit {0}) s es deals stops memory
 
 module _ {A : Type 0} (low high : Bound (List ℕ)) (ts : List OpenTable) (ls : List (List Entry))
     (h : HoldLists ts ls) (ends : ℕ × ℕ) (s : RunRange A)
@@ -65,10 +78,13 @@ module _ {A : Type 0} (low high : Bound (List ℕ)) (ts : List OpenTable) (ls : 
       → overlap_indexes low high (ranges_of ts) ≡ Some ends
       → DealsList (RunGives front_of front_tables) (RunGives back_of back_tables)
       (within low high (joined ls)) s
-  new_deals order found = left_deals s (within low high (joined ls)) (new_left ts (span_of ends low high) s is ∙ span_deals low high ts ls h order ends found)
+  new_deals order found = left_deals s (within low high (joined ls))
+      (new_left ts (span_of ends low high) s is ∙ span_deals low high ts ls h order ends found)
 
   -- whatever the places are
   pub culled_deals : DealsList (RunGives front_of front_tables) (RunGives back_of back_tables)
       (span_list (span_of ends low high) ls) s
   culled_deals =
-      left_deals s (span_list (span_of ends low high) ls) (new_left ts (span_of ends low high) s is ∙ told_between (span_of ends low high) ends.0 (suc ends.1 - ends.0) 0 ts ls h)
+      left_deals s (span_list (span_of ends low high) ls)
+      (new_left ts (span_of ends low high) s is
+      ∙ told_between (span_of ends low high) ends.0 (suc ends.1 - ends.0) 0 ts ls h)

@@ -1,5 +1,7 @@
--- Point reads of several runs: what the runs up to a place did, what those behind it will, and how many blocks are loaded.
-use Rattle.std.proofs.Common.{◌≡◌, refl, sym, ◌∙◌, ap, subst, ℕ, ◌+◌, ◌-◌, ◌^◌, ◌<◌, ◌≤◌, List, [], ◌∷◌, drop, get_or, length, take, arith}
+-- Point reads of several runs: what the runs up to a place did, what those behind it will, and how
+-- many blocks are loaded.
+use Rattle.std.proofs.Common.{◌≡◌, refl, sym, ◌∙◌, ap, subst, ℕ, ◌+◌, ◌-◌, ◌^◌, ◌<◌, ◌≤◌, List, []}
+use Rattle.std.proofs.Common.{◌∷◌, drop, get_or, length, take, arith}
 use Rattle.std.specs.Prelude.{Option, Some, None, Result, Ok, Err, map, min}
 use Rattle.std.specs.List.{AllByRecursion}
 use Rattle.std.proofs.lemmas.List.{drop_all, drop_more}
@@ -20,7 +22,8 @@ use Rattle.lsm_readers.specs.Words.{BloomFilter}
 use Rattle.lsm_readers.proofs.IndexKinds.{index_one}
 use Rattle.lsm_readers.proofs.ReadLaws.{does_known, then_fails, then_goes}
 use Rattle.lsm_runs.specs.RunParts.{range_of}
-use Rattle.lsm_runs.specs.SeveralRuns.{LoadsEach, leading_of, loads_together, run_read, runs_read, sum_within}
+use Rattle.lsm_runs.specs.SeveralRuns.{LoadsEach, leading_of, loads_together, run_read, runs_read}
+use Rattle.lsm_runs.specs.SeveralRuns.{sum_within}
 
 -- ---- counts together
 
@@ -32,37 +35,79 @@ pub record AreSmall (o : Opened) : Type 0 where
   pub meta_small : o.meta_loads ≤ 2 ^ 64 - 1
 
 pub none_small : AreSmall none_opened
-none_small = record { data_small = omega arith; index_small = omega arith; filter_small = omega arith; meta_small = omega arith }
+none_small = record {
+  data_small = omega arith;
+  index_small = omega arith;
+  filter_small =
+      omega arith;
+  meta_small = omega arith;
+}
 
 pub together_small : (a b : Opened) → AreSmall (loads_together a b)
-together_small a b = record { data_small = omega arith; index_small = omega arith; filter_small = omega arith; meta_small = omega arith }
+together_small a b = record {
+  data_small = omega arith;
+  index_small = omega arith;
+  filter_small =
+      omega arith;
+  meta_small = omega arith;
+}
 
-same_counts : (a b : Opened) → a.data_loads ≡ b.data_loads → a.index_loads ≡ b.index_loads → a.filter_loads ≡ b.filter_loads → a.meta_loads ≡ b.meta_loads → a ≡ b
+same_counts : (a b : Opened) → a.data_loads ≡ b.data_loads → a.index_loads ≡ b.index_loads
+    → a.filter_loads ≡ b.filter_loads → a.meta_loads ≡ b.meta_loads → a ≡ b
 same_counts a b d i f m =
-    ap (λ (n : ℕ). let x : Opened = record { data_loads = n; index_loads = a.index_loads; filter_loads = a.filter_loads; meta_loads = a.meta_loads } in x) d
-    ∙ ap (λ (n : ℕ). let x : Opened = record { data_loads = b.data_loads; index_loads = n; filter_loads = a.filter_loads; meta_loads = a.meta_loads } in x) i
-    ∙ ap (λ (n : ℕ). let x : Opened = record { data_loads = b.data_loads; index_loads = b.index_loads; filter_loads = n; meta_loads = a.meta_loads } in x) f
-    ∙ ap (λ (n : ℕ). let x : Opened = record { data_loads = b.data_loads; index_loads = b.index_loads; filter_loads = b.filter_loads; meta_loads = n } in x) m
+    ap (λ (n : ℕ). let x : Opened = record {
+      data_loads = n;
+      index_loads =
+          a.index_loads;
+      filter_loads = a.filter_loads;
+      meta_loads = a.meta_loads;
+    } in x) d
+    ∙ ap (λ (n : ℕ). let x : Opened = record {
+      data_loads = b.data_loads;
+      index_loads =
+          n;
+      filter_loads = a.filter_loads;
+      meta_loads = a.meta_loads;
+    } in x) i
+    ∙ ap (λ (n : ℕ). let x : Opened = record {
+      data_loads = b.data_loads;
+      index_loads =
+          b.index_loads;
+      filter_loads = n;
+      meta_loads = a.meta_loads;
+    } in x) f
+    ∙ ap (λ (n : ℕ). let x : Opened = record {
+      data_loads = b.data_loads;
+      index_loads =
+          b.index_loads;
+      filter_loads = b.filter_loads;
+      meta_loads = n;
+    } in x) m
 
 together_none : (a : Opened) → AreSmall a → loads_together a none_opened ≡ a
 together_none a small = same_counts (loads_together a none_opened) a
-    (omega (arith, small.data_small)) (omega (arith, small.index_small)) (omega (arith, small.filter_small)) (omega (arith, small.meta_small))
+    (omega (arith, small.data_small)) (omega (arith, small.index_small))
+    (omega (arith, small.filter_small)) (omega (arith, small.meta_small))
 
 sum_more : (m n : ℕ) → sum_within m (one_more n) ≡ one_more (sum_within m n)
 sum_more m n = omega arith
 
-together_load : (k : BlockType) (a b : Opened) → loads_together a (with_load k b) ≡ with_load k (loads_together a b)
+together_load : (k : BlockType) (a b : Opened)
+    → loads_together a (with_load k b) ≡ with_load k (loads_together a b)
 together_load Data a b = same_counts _ _ (sum_more a.data_loads b.data_loads) refl refl refl
 together_load Index a b = same_counts _ _ refl (sum_more a.index_loads b.index_loads) refl refl
 together_load Filter a b = same_counts _ _ refl refl (sum_more a.filter_loads b.filter_loads) refl
 together_load Meta a b = same_counts _ _ refl refl refl (sum_more a.meta_loads b.meta_loads)
 
-together_loads : (ks : List BlockType) (a b : Opened) → loads_together a (opened_by ks b) ≡ opened_by ks (loads_together a b)
+together_loads : (ks : List BlockType) (a b : Opened)
+    → loads_together a (opened_by ks b) ≡ opened_by ks (loads_together a b)
 together_loads [] a b = refl
-together_loads (k ∷ ks) a b = together_loads ks a (with_load k b) ∙ ap (opened_by ks) (together_load k a b)
+together_loads (k ∷ ks) a b = together_loads ks a (with_load k b)
+    ∙ ap (opened_by ks) (together_load k a b)
 
 -- a read that was counted alone, behind other loads
-counted_on : {X : Type 0} (r : Result X Error) (read : Read X) (old own : Opened) → AreSmall old → DoesRead r read none_opened own → DoesRead r read old (loads_together old own)
+counted_on : {X : Type 0} (r : Result X Error) (read : Read X) (old own : Opened) → AreSmall old
+    → DoesRead r read none_opened own → DoesRead r read old (loads_together old own)
 counted_on r read old own small d =
     let made = take d.opens.made read.loads in
     record {
@@ -70,7 +115,8 @@ counted_on r read old own small d =
       early = d.early;
       opens = record {
         made = d.opens.made;
-        counts = ap (loads_together old) d.opens.counts ∙ together_loads made old none_opened ∙ ap (opened_by made) (together_none old small);
+        counts = ap (loads_together old) d.opens.counts ∙ together_loads made old none_opened
+            ∙ ap (opened_by made) (together_none old small);
         within = d.opens.within;
         whole = d.opens.whole;
         some = d.opens.some;
@@ -80,14 +126,21 @@ counted_on r read old own small d =
 
 -- ---- few loads
 
-filter_one : (tops : Option (List Handle)) (filter : Option BloomFilter) (place : Option Place) → most_filter_loads tops filter place ≤ 1
+filter_one : (tops : Option (List Handle)) (filter : Option BloomFilter) (place : Option Place)
+    → most_filter_loads tops filter place ≤ 1
 filter_one (Some tops) filter place = omega arith
 filter_one None (Some filter) place = omega arith
 filter_one None None (Some place) = omega arith
 filter_one None None None = omega arith
 
 pub none_each : (most : ℕ) → LoadsEach most none_opened
-none_each most = record { data_few = omega arith; index_few = omega arith; filter_few = omega arith; no_meta = refl }
+none_each most = record {
+  data_few = omega arith;
+  index_few = omega arith;
+  filter_few =
+      omega arith;
+  no_meta = refl;
+}
 
 pub few_each : (parts : Parts) (o : Opened) → LoadsFew parts none_opened o → LoadsEach 1 o
 few_each parts o few =
@@ -100,7 +153,8 @@ few_each parts o few =
     }
 
 -- those of one more run
-pub more_each : (i many : ℕ) (a b : Opened) → i < many → LoadsEach (min i many) a → LoadsEach 1 b → LoadsEach (min (i + 1) many) (loads_together a b)
+pub more_each : (i many : ℕ) (a b : Opened) → i < many → LoadsEach (min i many) a → LoadsEach 1 b
+    → LoadsEach (min (i + 1) many) (loads_together a b)
 more_each i many a b less h own = record {
   data_few = omega (arith, less, h.data_few, own.data_few);
   index_few = omega (arith, less, h.index_few, own.index_few);
@@ -109,7 +163,13 @@ more_each i many a b less h own = record {
 }
 
 pub all_each : (i many : ℕ) (o : Opened) → LoadsEach (min i many) o → LoadsEach many o
-all_each i many o h = record { data_few = omega (arith, h.data_few); index_few = omega (arith, h.index_few); filter_few = omega (arith, h.filter_few); no_meta = h.no_meta }
+all_each i many o h = record {
+  data_few = omega (arith, h.data_few);
+  index_few =
+      omega (arith, h.index_few);
+  filter_few = omega (arith, h.filter_few);
+  no_meta = h.no_meta;
+}
 
 -- ---- one run behind another
 
@@ -119,34 +179,54 @@ found_is found = Ok found
 abbrev pub refused_by : Error → Result (Option Entry) Error
 refused_by e = Err e
 
-module _ {X : Type 0} (f : X → List OpenTable) (key : List ℕ) (bound : ℕ) (xs : List X) (i : ℕ) where
+module _ {X : Type 0} (f : X → List OpenTable) (key : List ℕ) (bound : ℕ) (xs : List X)
+    (i : ℕ) where
   -- what the runs from a place on do behind what was found and counted, that do all runs
   abbrev pub GoesOn : Option Entry → Opened → Type 0
-  GoesOn found opened = (r : Result (Option Entry) Error) (new : Opened) → DoesRead r (runs_read key bound found (map f (drop i xs))) opened new → DoesRead r (runs_read key bound None (map f xs)) none_opened new
+  GoesOn found opened = (r : Result (Option Entry) Error) (new : Opened)
+      → DoesRead r (runs_read key bound found (map f (drop i xs))) opened new
+      → DoesRead r (runs_read key bound None (map f xs)) none_opened new
 
   abbrev pub ReadsOn : Option Entry → Opened → Type 0
   ReadsOn found opened = AllByRecursion (IsInOrder range_of) (map f xs) → GoesOn found opened
 
-  module _ (x : X) (less : i < length xs) (is : x ≡ get_or xs i x) (found : Option Entry) (opened own : Opened) (small : AreSmall opened) (on : GoesOn found opened) where
+  module _ (x : X) (less : i < length xs) (is : x ≡ get_or xs i x) (found : Option Entry)
+      (opened own : Opened) (small : AreSmall opened) (on : GoesOn found opened) where
     abbrev behind : Option Entry → Read (Option Entry)
     behind next = runs_read key bound (leading_of found next) (map f (drop (i + 1) xs))
 
     split : drop i xs ≡ x ∷ drop (i + 1) xs
     split = drop_more xs i x less ∙ ap (λ (y : X). y ∷ drop (i + 1) xs) (sym is)
 
-    pub reads_next : (next : Option Entry) → DoesRead (found_is next) (run_read key bound (f x)) none_opened own
-        → (r : Result (Option Entry) Error) (new : Opened) → DoesRead r (behind next) (loads_together opened own) new → DoesRead r (runs_read key bound None (map f xs)) none_opened new
+    pub reads_next : (next : Option Entry) → DoesRead (found_is next)
+        (run_read key bound (f x)) none_opened own
+        → (r : Result (Option Entry) Error) (new : Opened)
+        → DoesRead r (behind next) (loads_together opened own) new
+        → DoesRead r (runs_read key bound None (map f xs)) none_opened new
     reads_next next here r new d =
-        let both = then_goes (run_read key bound (f x)) behind next r opened (loads_together opened own) new (counted_on (found_is next) (run_read key bound (f x)) opened own small here) d in
-        on r new (subst (λ (ys : List X). DoesRead r (runs_read key bound found (map f ys)) opened new) (sym split) both)
+        let both = then_goes (run_read key bound (f x)) behind next r opened
+        (loads_together opened own) new (counted_on (found_is next)
+        (run_read key bound (f x)) opened own small here) d in
+        on r new (subst (λ (ys : List X). DoesRead r
+        (runs_read key bound found (map f ys)) opened new) (sym split) both)
 
-    pub reads_fault : (e : Error) → DoesRead (refused_by e) (run_read key bound (f x)) none_opened own → DoesRead (refused_by e) (runs_read key bound None (map f xs)) none_opened (loads_together opened own)
+    pub reads_fault : (e : Error) → DoesRead (refused_by e)
+        (run_read key bound (f x)) none_opened own
+        → DoesRead (refused_by e) (runs_read key bound None (map f xs)) none_opened
+        (loads_together opened own)
     reads_fault e here =
-        let ends = then_fails (run_read key bound (f x)) behind e (refused_by e) opened (loads_together opened own) (counted_on (refused_by e) (run_read key bound (f x)) opened own small here) refl in
+        let ends = then_fails (run_read key bound (f x)) behind e (refused_by e) opened
+        (loads_together opened own) (counted_on (refused_by e)
+        (run_read key bound (f x)) opened own small here) refl in
         on (refused_by e) (loads_together opened own)
-        (subst (λ (ys : List X). DoesRead (refused_by e) (runs_read key bound found (map f ys)) opened (loads_together opened own)) (sym split) ends)
+        (subst (λ (ys : List X). DoesRead (refused_by e)
+        (runs_read key bound found (map f ys)) opened (loads_together opened own))
+        (sym split) ends)
 
-  pub reads_all : (found : Option Entry) (opened : Opened) → GoesOn found opened → length xs ≤ i → DoesRead (found_is found) (runs_read key bound None (map f xs)) none_opened opened
+  pub reads_all : (found : Option Entry) (opened : Opened) → GoesOn found opened → length xs ≤ i
+      → DoesRead (found_is found) (runs_read key bound None (map f xs)) none_opened opened
   reads_all found opened on past =
       on (found_is found) opened
-      (subst (λ (ys : List X). DoesRead (found_is found) (runs_read key bound found (map f ys)) opened opened) (sym (drop_all i xs past)) (does_known found opened))
+      (subst (λ (ys : List X). DoesRead (found_is found)
+      (runs_read key bound found (map f ys)) opened opened) (sym (drop_all i xs past))
+      (does_known found opened))

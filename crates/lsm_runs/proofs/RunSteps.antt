@@ -49,7 +49,13 @@ each_loads (p ∷ ps) = omega (arith, sum_by-append part_loads (p ∷ []) ps, ea
 counted : (named : List Named) (s t : Unopened) → Loads KeepsTables s named t
     → t.opened ≡ loads_in named + s.opened
 counted [] s t is = omega (arith, ap (λ (u : Unopened). u.opened) is)
-counted (x ∷ named) s t loads = omega (arith, loads_one x named, loads.2, counted named s loads.0 loads.1)
+counted (x ∷ named) s t loads = omega (
+  arith,
+  loads_one x named,
+  loads.2,
+  counted named s loads.0
+      loads.1,
+)
 
 -- ---- a walk and its reader of a run
 
@@ -59,13 +65,15 @@ W A = Walk Unopened (Range A)
 module _ {A : Type 0} where
   left_is : (w : W A) → (walk_left range_remains coming_tables w).results ≡ run_left (run_of w)
   left_is w =
-      ap (λ (rs : List R). left_of_reader w.front ++ (rs ++ left_of_reader w.back)) (told_tables w.parts.parts)
+      ap (λ (rs : List R). left_of_reader w.front ++ (rs ++ left_of_reader w.back))
+      (told_tables w.parts.parts)
 
   needs_is : (at : Direction) (w : W A)
       → needed_at range_remains coming_tables at w ≡ tables_at at (run_of w)
   needs_is Front w = ap (none_behind (left_of_reader w.front)) (needed_tables w.parts.parts)
   needs_is Back w =
-      ap (λ (ps : List (Result (Loading Entry) Error)). none_behind (left_of_reader w.back) (needed ps)) (map_seen table_named Back w.parts.parts)
+      ap (λ (ps : List (Result (Loading Entry) Error)). none_behind (left_of_reader w.back)
+      (needed ps)) (map_seen table_named Back w.parts.parts)
       ∙ ap (none_behind (left_of_reader w.back)) (needed_tables (reverse w.parts.parts))
 
   over_is : (w : W A) → IsOver (walk_left range_remains coming_tables w) → IsRunEnded (run_of w)
@@ -80,8 +88,10 @@ module _ {A : Type 0} where
   ended_is : (u v : W A) → Ended coming_tables EndsTables u v → IsRunEnded (run_of v)
   ended_is u v ended =
       ap (λ (o : Option (Range A)). run_size (record (run_of v) { front = o })) ended.front
-      ∙ ap (λ (o : Option (Range A)). run_size (record (run_of v) { front = None; back = o })) ended.back
-      ∙ ap (λ (x : Unopened). run_size {A = A} (record { unopened = x; front = None; back = None })) ended.kept
+      ∙ ap (λ (o : Option (Range A)). run_size (record (run_of v) { front = None; back = o }))
+      ended.back
+      ∙ ap (λ (x : Unopened). run_size {A = A} (record { unopened = x; front = None; back = None }))
+      ended.kept
 
   counts : (at : Direction) (w u : W A) (r : Option R) (t : Unopened)
       → WalkTakes range_remains coming_tables KeepsTables at w r u → t.opened ≡ u.parts.opened
@@ -89,7 +99,14 @@ module _ {A : Type 0} where
   counts at w u r t takes same fewer = record {
     count = loads_in takes.named;
     counts = same ∙ counted takes.named w.parts u.parts takes.loads;
-    within = omega (arith, takes.within, fewer, length-map w.parts.parts table_named, length-map u.parts.parts table_named);
+    within = omega (
+      arith,
+      takes.within,
+      fewer,
+      length-map w.parts.parts table_named,
+      length-map
+          u.parts.parts table_named,
+    );
     most = omega (arith, takes.most, needs_is at w);
   }
 
@@ -100,7 +117,8 @@ module _ {A : Type 0} where
   run_gives at w v None gives =
       let takes = gives.takes in
       let u : W A = gives.taken in
-      subst (λ (x : W A). RunGives (taken_at at) (tables_at at) (run_of w) None (run_of x)) (sym gives.goes) (record {
+      subst (λ (x : W A). RunGives (taken_at at) (tables_at at) (run_of w) None (run_of x))
+      (sym gives.goes) (record {
         answer = sym (left_is w) ∙ takes.answer.0;
         ends = tt;
         lowers = over_is u takes.answer.1;
@@ -111,11 +129,18 @@ module _ {A : Type 0} where
       let takes = gives.takes in
       let u : W A = gives.taken in
       let answer : taken_at at (run_left (run_of w)) ≡ (Some (Ok e), run_left (run_of u)) =
-      ap (taken_at at) (sym (left_is w)) ∙ takes.answer ∙ ap (λ (rs : List R). (Some (Ok e), rs)) (left_is u) in
-      subst (λ (x : W A). RunGives (taken_at at) (tables_at at) (run_of w) (Some (Ok e)) (run_of x)) (sym gives.goes) (record {
+      ap (taken_at at) (sym (left_is w)) ∙ takes.answer
+      ∙ ap (λ (rs : List R). (Some (Ok e), rs)) (left_is u) in
+      subst (λ (x : W A). RunGives (taken_at at) (tables_at at) (run_of w) (Some (Ok e)) (run_of x))
+      (sym gives.goes) (record {
         answer = answer;
         ends = tt;
-        lowers = omega (arith, shortens at (run_left (run_of w)) (run_left (run_of u)) (Ok e) answer, takes.others);
+        lowers = omega (
+          arith,
+          shortens at (run_left (run_of w)) (run_left (run_of u))
+              (Ok e) answer,
+          takes.others,
+        );
         tables = counts at w u (Some (Ok e)) u.parts takes refl (omega arith);
         exact = λ fine. takes.exact fine ∙ needs_is at w;
       })
@@ -124,9 +149,17 @@ module _ {A : Type 0} where
       let u : W A = gives.taken in
       let ended = ended_is u v gives.goes in
       record {
-        answer = λ fine. ap (λ (rs : List R). (taken_at at rs).0) (sym (left_is w)) ∙ takes.answer.0 fine;
+        answer = λ fine. ap (λ (rs : List R). (taken_at at rs).0) (sym (left_is w))
+            ∙ takes.answer.0 fine;
         ends = ended;
-        lowers = omega (arith, ended, positive (run_size (run_of w)) (λ none. takes.answer.1 (over_from w none)));
-        tables = counts at w u (Some (Err e)) v.parts takes (ap (λ (x : Unopened). x.opened) gives.goes.kept) (omega (arith, ap (λ (x : Unopened). length x.parts) gives.goes.kept));
+        lowers = omega (
+          arith,
+          ended,
+          positive (run_size (run_of w))
+              (λ none. takes.answer.1 (over_from w none)),
+        );
+        tables = counts at w u (Some (Err e)) v.parts takes
+            (ap (λ (x : Unopened). x.opened) gives.goes.kept)
+            (omega (arith, ap (λ (x : Unopened). length x.parts) gives.goes.kept));
         exact = λ fine. takes.exact fine ∙ needs_is at w;
       }

@@ -52,15 +52,20 @@ pub held_keys : (t : OpenTable) (es : List Entry) → HoldsList t es → Keys (r
 held_keys t es h =
     let pins = h.opened.recovered in
     let ends : range_of t ≡ ends_of h.stored =
-    range_is t pins ∙ ap (λ (p : Parts). p.facts.key_range) (table_parts t.bytes h.stored h.table h.opened.short t.global_seqno pins.pin_filter pins.pin_index t.parts pins.told) in
-    let stored : Keys (range_of t) h.stored = subst (λ (r : Interval). Keys r h.stored) (sym ends) (keys_within h.stored h.table.strict) in
-    subst (λ (xs : List Entry). Keys (range_of t) xs) (sym h.lifted_is) (lift_keys (range_of t) h.stored t.global_seqno stored)
+    range_is t pins ∙ ap (λ (p : Parts). p.facts.key_range)
+    (table_parts t.bytes h.stored h.table h.opened.short t.global_seqno pins.pin_filter
+    pins.pin_index t.parts pins.told) in
+    let stored : Keys (range_of t) h.stored = subst (λ (r : Interval). Keys r h.stored) (sym ends)
+    (keys_within h.stored h.table.strict) in
+    subst (λ (xs : List Entry). Keys (range_of t) xs) (sym h.lifted_is)
+    (lift_keys (range_of t) h.stored t.global_seqno stored)
 
 pub held_told : (t : OpenTable) (es : List Entry) → HoldsList t es → (low high : Bound (List ℕ))
     → range_told t low high ≡ ok_results (within low high es)
 held_told t es h low high =
     let pins = h.opened.recovered in
-    file_rows t.bytes h.stored h.table t.global_seqno pins.pin_filter pins.pin_index t.parts h.opened.short pins.told low high
+    file_rows t.bytes h.stored h.table t.global_seqno pins.pin_filter pins.pin_index t.parts
+    h.opened.short pins.told low high
     ∙ ap (λ (xs : List Entry). ok_results (within low high xs)) (sym h.lifted_is)
 
 module _ (low high : Bound (List ℕ)) where
@@ -69,16 +74,20 @@ module _ (low high : Bound (List ℕ)) where
       → ends_before low (range_of t) ≡ true → within low high es ≡ []
   all_before t es h e =
       let r = range_of t in
-      let out : (is_from low r.max && is_to high r.min) ≡ false = ap (λ (b : Bool). b && is_to high r.min) (not_is (is_from low r.max) e) in
-      nothing_within es low high r (held_keys t es h) (none_within r low high (is_from low r.max && is_to high r.min) refl out)
+      let out : (is_from low r.max && is_to high r.min) ≡ false =
+      ap (λ (b : Bool). b && is_to high r.min) (not_is (is_from low r.max) e) in
+      nothing_within es low high r (held_keys t es h)
+      (none_within r low high (is_from low r.max && is_to high r.min) refl out)
 
   -- it starts past the upper one
   all_past : (t : OpenTable) (es : List Entry) → HoldsList t es
       → starts_within high (range_of t) ≡ false → within low high es ≡ []
   all_past t es h e =
       let r = range_of t in
-      let out : (is_from low r.max && is_to high r.min) ≡ false = ap (λ (b : Bool). is_from low r.max && b) e ∙ and-false (is_from low r.max) in
-      nothing_within es low high r (held_keys t es h) (none_within r low high (is_from low r.max && is_to high r.min) refl out)
+      let out : (is_from low r.max && is_to high r.min) ≡ false =
+      ap (λ (b : Bool). is_from low r.max && b) e ∙ and-false (is_from low r.max) in
+      nothing_within es low high r (held_keys t es h)
+      (none_within r low high (is_from low r.max && is_to high r.min) refl out)
 
   -- it lies within both
   all_inside : (r : Interval) (es : List Entry) → Keys r es → is_from low r.min ≡ true
@@ -87,21 +96,26 @@ module _ (low high : Bound (List ℕ)) where
   all_inside r (e ∷ es) keys from to =
       let k = e.user_key in
       let p = and_parts (key_le r.min k) (key_le k r.max) keys.0 in
-      let holds : (is_from low k && is_to high k) ≡ true = and_both (is_from low k) (is_to high k) (lower_up low r.min k from p.0) (upper_down high r.max k to p.1) in
+      let holds : (is_from low k && is_to high k) ≡ true =
+      and_both (is_from low k) (is_to high k) (lower_up low r.min k from p.0)
+      (upper_down high r.max k to p.1) in
       rw holds (ap (λ (xs : List Entry). e ∷ xs) (all_inside r es keys.1 from to))
 
   within_join : (xs ys : List Entry) → within low high (xs ++ ys) ≡ within low high xs
       ++ within low high ys
-  within_join xs ys = filter-append (λ (e : Entry). is_from low e.user_key && is_to high e.user_key) xs ys
+  within_join xs ys = filter-append (λ (e : Entry). is_from low e.user_key && is_to high e.user_key)
+      xs ys
 
   ok_join : (xs ys : List Entry)
       → ok_results (within low high (xs ++ ys)) ≡ ok_results (within low high xs) ++ ok_results
       (within low high ys)
-  ok_join xs ys = ap ok_results (within_join xs ys) ∙ map-append (λ (x : Entry). Ok x) (within low high xs) (within low high ys)
+  ok_join xs ys = ap ok_results (within_join xs ys)
+      ∙ map-append (λ (x : Entry). Ok x) (within low high xs) (within low high ys)
 
   skip : (es rest : List Entry) → within low high es ≡ []
       → within low high (es ++ rest) ≡ within low high rest
-  skip es rest none = within_join es rest ∙ ap (λ (xs : List Entry). xs ++ within low high rest) none
+  skip es rest none = within_join es rest ∙ ap (λ (xs : List Entry). xs ++ within low high rest)
+      none
 
 inside_all : (r : Interval) (es : List Entry) → Keys r es → within Unbounded Unbounded es ≡ es
 inside_all r es keys = all_inside Unbounded Unbounded r es keys refl refl
@@ -119,8 +133,11 @@ module _ (low high : Bound (List ℕ)) where
   past_all k (t ∷ ts) [] h miss before = absurd h
   past_all k (t ∷ ts) (es ∷ ls) h miss before =
       let r = range_of t in
-      let b = and_parts (key_lt k r.min) (list_all (λ (later : Interval). key_lt k later.min) (ranges_of ts)) before in
-      let out : is_to high r.min ≡ false = is_false (is_to high r.min) (λ holds. let w : true ≡ false = sym (upper_down high r.min k holds (lt_to_le k r.min b.0)) ∙ miss in absurd cc) in
+      let b = and_parts (key_lt k r.min) (list_all (λ (later : Interval). key_lt k later.min)
+      (ranges_of ts)) before in
+      let out : is_to high r.min ≡ false = is_false (is_to high r.min)
+      (λ holds. let w : true ≡ false = sym (upper_down high r.min k holds
+      (lt_to_le k r.min b.0)) ∙ miss in absurd cc) in
       skip low high es (joined ls) (all_past low high t es h.0 out) ∙ past_all k ts ls h.1 miss b.1
 
   -- from a table on that starts past the upper bound
@@ -130,8 +147,11 @@ module _ (low high : Bound (List ℕ)) where
   past_from t ts es ls h order e =
       let r = range_of t in
       let p = parts r (ranges_of ts) order in
-      let miss : is_to high r.max ≡ false = is_false (is_to high r.max) (λ holds. let w : true ≡ false = sym (upper_down high r.max r.min holds p.formed) ∙ e in absurd cc) in
-      skip low high es (joined ls) (all_past low high t es h.0 e) ∙ past_all r.max ts ls h.1 miss p.before
+      let miss : is_to high r.max ≡ false = is_false (is_to high r.max)
+      (λ holds. let w : true ≡ false = sym (upper_down high r.max r.min holds p.formed) ∙ e in
+      absurd cc) in
+      skip low high es (joined ls) (all_past low high t es h.0 e)
+      ∙ past_all r.max ts ls h.1 miss p.before
 
 -- the first of some tables starts within the upper bound, where one does
 starts_first : (high : Bound (List ℕ)) (m : ℕ) (ts : List OpenTable)
@@ -142,7 +162,8 @@ starts_first high m [] order many = absurd (omega (arith, many))
 starts_first high m (t ∷ us) order many = elim (cases_Bool (starts_within high (range_of t))) [
   | inl e ↦ (t, us, refl, e)
   | inr e ↦
-      let none : how_many (starts_within high) (ranges_of (t ∷ us)) ≡ 0 = rw e (none_count range_of (starts_within high) (falls-starts_within high) t us order e) in
+      let none : how_many (starts_within high) (ranges_of (t ∷ us)) ≡ 0 =
+      rw e (none_count range_of (starts_within high) (falls-starts_within high) t us order e) in
       absurd (omega (arith, many, none))
 ]
 
@@ -154,7 +175,8 @@ module _ (span : RunSpan) where
   high = span.high
 
   abbrev of_edge : OpenTable → Bool → Part
-  of_edge t b = if b then record { table = t; low = span.low; high = span.high } else record { table = t; low = Unbounded; high = Unbounded }
+  of_edge t b = if b then record { table = t; low = span.low; high = span.high }
+      else record { table = t; low = Unbounded; high = Unbounded }
 
   -- a table is read as what of its list lies within the bounds
   at_edge : (k : ℕ) (t : OpenTable) (es : List Entry) → HoldsList t es → is_edge span k ≡ true
@@ -167,32 +189,42 @@ module _ (span : RunSpan) where
   in_between k t es h e from to =
       ap (λ (b : Bool). part_told (of_edge t b)) e
       ∙ held_told t es h Unbounded Unbounded
-      ∙ ap ok_results (inside_all (range_of t) es (held_keys t es h) ∙ sym (all_inside low high (range_of t) es (held_keys t es h) from to))
+      ∙ ap ok_results (inside_all (range_of t) es (held_keys t es h)
+      ∙ sym (all_inside low high (range_of t) es (held_keys t es h) from to))
 
   -- behind a table that reaches the lower bound
   mids : (k m : ℕ) (prev : List ℕ) (ts : List OpenTable) (ls : List (List Entry)) → HoldLists ts ls
       → are_in_order (ranges_of ts) ≡ true → list_all (λ (later : Interval). key_lt prev later.min)
       (ranges_of ts) ≡ true → is_from low prev ≡ true
-      → m ≡ how_many (starts_within high) (ranges_of ts) → suc span.last ≡ k + m → run_parts_told (take m (span_parts_from span k ts)) ≡ ok_results (within low high (joined ls))
-  mids k m prev [] [] h order before from many last = ap (λ (n : ℕ). run_parts_told (take n [])) many
+      → m ≡ how_many (starts_within high) (ranges_of ts) → suc span.last ≡ k + m
+      → run_parts_told (take m (span_parts_from span k ts))
+      ≡ ok_results (within low high (joined ls))
+  mids k m prev [] [] h order before from many last =
+      ap (λ (n : ℕ). run_parts_told (take n [])) many
   mids k m prev [] (es ∷ ls) h order before from many last = absurd h
   mids k m prev (t ∷ ts) [] h order before from many last = absurd h
   mids k m prev (t ∷ ts) (es ∷ ls) h order before from many last =
       let r = range_of t in
       let p = parts r (ranges_of ts) order in
-      let b = and_parts (key_lt prev r.min) (list_all (λ (later : Interval). key_lt prev later.min) (ranges_of ts)) before in
-      let reaches : is_from low r.min ≡ true = lower_up low prev r.min from (lt_to_le prev r.min b.0) in
+      let b = and_parts (key_lt prev r.min) (list_all (λ (later : Interval). key_lt prev later.min)
+      (ranges_of ts)) before in
+      let reaches : is_from low r.min ≡ true = lower_up low prev r.min from
+      (lt_to_le prev r.min b.0) in
       elim (cases_Bool (starts_within high r)) [
         | inl e ↦
             let n = how_many (starts_within high) (ranges_of ts) in
             let all : m ≡ suc n = many ∙ rw e refl in
-            let rest = mids (suc k) n r.max ts ls h.1 p.rest p.before (lower_up low r.min r.max reaches p.formed) refl (omega (arith, last, all)) in
+            let rest = mids (suc k) n r.max ts ls h.1 p.rest p.before
+            (lower_up low r.min r.max reaches p.formed) refl (omega (arith, last, all)) in
             ap (λ (i : ℕ). run_parts_told (take i (span_parts_from span k (t ∷ ts)))) all
             ∙ ap (λ (rs : List R). part_told (span_part_at span k t) ++ rs) rest
-            ∙ ap (λ (rs : List R). rs ++ ok_results (within low high (joined ls))) (head k n t es ts h.0 order reaches refl (omega (arith, last, all)))
+            ∙ ap (λ (rs : List R). rs ++ ok_results (within low high (joined ls)))
+            (head k n t es ts h.0 order reaches refl (omega (arith, last, all)))
             ∙ sym (ok_join low high es (joined ls))
         | inr e ↦
-            let none : how_many (starts_within high) (ranges_of (t ∷ ts)) ≡ 0 = rw e (none_count range_of (starts_within high) (falls-starts_within high) t ts order e) in
+            let none : how_many (starts_within high) (ranges_of (t ∷ ts)) ≡ 0 =
+            rw e (none_count range_of (starts_within high)
+            (falls-starts_within high) t ts order e) in
             ap (λ (i : ℕ). run_parts_told (take i (span_parts_from span k (t ∷ ts)))) (many ∙ none)
             ∙ sym (ap ok_results (past_from low high t ts es ls h order e))
       ]
@@ -202,14 +234,21 @@ module _ (span : RunSpan) where
           → n ≡ how_many (starts_within high) (ranges_of ts) → span.last ≡ k + n
           → part_told (span_part_at span k t) ≡ ok_results (within low high es)
       head k zero t es ts h order reaches many last =
-          at_edge k t es h (or_right (k == span.first) (k == span.last) (eq-eqb k span.last (omega (arith, last))))
+          at_edge k t es h (or_right (k == span.first) (k == span.last)
+          (eq-eqb k span.last (omega (arith, last))))
       head k (suc n) t es ts h order reaches many last =
           let p = parts (range_of t) (ranges_of ts) order in
           let next = starts_first high n ts p.rest many in
-          let above : list_all (λ (later : Interval). key_lt (range_of t).max later.min) (ranges_of (next.0 ∷ next.1)) ≡ true =
-          subst (λ (xs : List OpenTable). list_all (λ (later : Interval). key_lt (range_of t).max later.min) (ranges_of xs) ≡ true) next.2 p.before in
-          let a = and_parts (key_lt (range_of t).max (range_of next.0).min) (list_all (λ (later : Interval). key_lt (range_of t).max later.min) (ranges_of next.1)) above in
-          let to : is_to high (range_of t).max ≡ true = upper_down high (range_of next.0).min (range_of t).max next.3 (lt_to_le (range_of t).max (range_of next.0).min a.0) in
+          let above : list_all (λ (later : Interval). key_lt (range_of t).max later.min)
+          (ranges_of (next.0 ∷ next.1)) ≡ true =
+          subst (λ (xs : List OpenTable). list_all (λ (later : Interval). key_lt
+          (range_of t).max later.min) (ranges_of xs) ≡ true) next.2 p.before in
+          let a = and_parts (key_lt (range_of t).max (range_of next.0).min)
+          (list_all (λ (later : Interval). key_lt (range_of t).max later.min)
+          (ranges_of next.1)) above in
+          let to : is_to high (range_of t).max ≡ true =
+          upper_down high (range_of next.0).min (range_of t).max next.3
+          (lt_to_le (range_of t).max (range_of next.0).min a.0) in
           elim (cases_Bool (is_edge span k)) [
             | inl e ↦ at_edge k t es h e
             | inr e ↦ in_between k t es h e reaches to
@@ -226,15 +265,20 @@ module _ (span : RunSpan) where
   firsts k m t ts es ls h order from many begin last =
       let r = range_of t in
       let p = parts r (ranges_of ts) order in
-      let edge : is_edge span k ≡ true = or_first (k == span.first) (k == span.last) (eq-eqb k span.first (sym begin)) in
+      let edge : is_edge span k ≡ true = or_first (k == span.first) (k == span.last)
+      (eq-eqb k span.first (sym begin)) in
       let first = starts_first high m (t ∷ ts) order many in
       let whole : t ∷ ts ≡ first.0 ∷ first.1 = first.2 in
       let same : t ≡ first.0 = cc in
-      let starts : starts_within high r ≡ true = subst (λ (u : OpenTable). starts_within high (range_of u) ≡ true) (sym same) first.3 in
-      let fewer : suc m ≡ suc (how_many (starts_within high) (ranges_of ts)) = many ∙ rw starts refl in
-      let rest = mids (suc k) m r.max ts ls h.1 p.rest p.before from (omega (arith, fewer)) (omega (arith, last)) in
+      let starts : starts_within high r ≡ true = subst
+      (λ (u : OpenTable). starts_within high (range_of u) ≡ true) (sym same) first.3 in
+      let fewer : suc m ≡ suc (how_many (starts_within high) (ranges_of ts)) = many
+      ∙ rw starts refl in
+      let rest = mids (suc k) m r.max ts ls h.1 p.rest p.before from (omega (arith, fewer))
+      (omega (arith, last)) in
       ap (λ (rs : List R). part_told (span_part_at span k t) ++ rs) rest
-      ∙ ap (λ (rs : List R). rs ++ ok_results (within low high (joined ls))) (at_edge k t es h.0 edge)
+      ∙ ap (λ (rs : List R). rs ++ ok_results (within low high (joined ls)))
+      (at_edge k t es h.0 edge)
       ∙ sym (ok_join low high es (joined ls))
     where
       or_first : (a b : Bool) → a ≡ true → (a || b) ≡ true
@@ -249,7 +293,8 @@ module _ (span : RunSpan) where
       → run_parts_told (take (suc m) (drop n (span_parts_from span k ts))) ≡ ok_results
       (within low high (joined ls))
   skips n m k [] ls h order before many begin last =
-      let none : how_many (starts_within high) (ranges_of (drop n [])) ≡ 0 = ap (λ (i : ℕ). how_many (starts_within high) (ranges_of (drop i []))) before in
+      let none : how_many (starts_within high) (ranges_of (drop n [])) ≡ 0 =
+      ap (λ (i : ℕ). how_many (starts_within high) (ranges_of (drop i []))) before in
       absurd (omega (arith, many, none))
   skips n m k (t ∷ ts) [] h order before many begin last = absurd h
   skips n m k (t ∷ ts) (es ∷ ls) h order before many begin last =
@@ -259,15 +304,23 @@ module _ (span : RunSpan) where
         | inl e ↦
             let i = how_many (ends_before low) (ranges_of ts) in
             let all : n ≡ suc i = before ∙ rw e refl in
-            let more : suc m ≡ how_many (starts_within high) (ranges_of (drop i ts)) = many ∙ ap (λ (j : ℕ). how_many (starts_within high) (ranges_of (drop j (t ∷ ts)))) all in
-            ap (λ (j : ℕ). run_parts_told (take (suc m) (drop j (span_parts_from span k (t ∷ ts))))) all
-            ∙ skips i m (suc k) ts ls h.1 p.rest refl more (omega (arith, begin, all)) (omega (arith, last, all))
+            let more : suc m ≡ how_many (starts_within high) (ranges_of (drop i ts)) = many
+            ∙ ap (λ (j : ℕ). how_many (starts_within high) (ranges_of (drop j (t ∷ ts)))) all in
+            ap (λ (j : ℕ). run_parts_told (take (suc m) (drop j (span_parts_from span k (t ∷ ts)))))
+            all
+            ∙ skips i m (suc k) ts ls h.1 p.rest refl more (omega (arith, begin, all))
+            (omega (arith, last, all))
             ∙ sym (ap ok_results (skip low high es (joined ls) (all_before low high t es h.0 e)))
         | inr e ↦
-            let none : n ≡ 0 = before ∙ rw e (none_count range_of (ends_before low) (falls-ends_before low) t ts order e) in
-            let more : suc m ≡ how_many (starts_within high) (ranges_of (t ∷ ts)) = many ∙ ap (λ (j : ℕ). how_many (starts_within high) (ranges_of (drop j (t ∷ ts)))) none in
-            ap (λ (j : ℕ). run_parts_told (take (suc m) (drop j (span_parts_from span k (t ∷ ts))))) none
-            ∙ firsts k m t ts es ls h order (not_not (is_from low r.max) e) more (omega (arith, begin, none)) (omega (arith, last, none))
+            let none : n ≡ 0 = before ∙ rw e (none_count range_of (ends_before low)
+            (falls-ends_before low) t ts order e) in
+            let more : suc m ≡ how_many (starts_within high) (ranges_of (t ∷ ts)) = many
+            ∙ ap (λ (j : ℕ). how_many (starts_within high) (ranges_of (drop j (t ∷ ts))))
+            none in
+            ap (λ (j : ℕ). run_parts_told (take (suc m) (drop j (span_parts_from span k (t ∷ ts)))))
+            none
+            ∙ firsts k m t ts es ls h order (not_not (is_from low r.max) e) more
+            (omega (arith, begin, none)) (omega (arith, last, none))
       ]
 
 -- where no table reaches past both bounds there is nothing
@@ -286,11 +339,19 @@ nothing_found low high n (t ∷ ts) (es ∷ ls) h order before none =
           let i = how_many (ends_before low) (ranges_of ts) in
           let all : n ≡ suc i = before ∙ rw e refl in
           skip low high es (joined ls) (all_before low high t es h.0 e)
-          ∙ nothing_found low high i ts ls h.1 p.rest refl (ap (λ (j : ℕ). how_many (starts_within high) (ranges_of (drop j (t ∷ ts)))) (sym all) ∙ none)
+          ∙ nothing_found low high i ts ls h.1 p.rest refl
+          (ap (λ (j : ℕ). how_many (starts_within high) (ranges_of (drop j (t ∷ ts)))) (sym all)
+          ∙ none)
       | inr e ↦
-          let zero_of : n ≡ 0 = before ∙ rw e (none_count range_of (ends_before low) (falls-ends_before low) t ts order e) in
-          let miss : how_many (starts_within high) (ranges_of (t ∷ ts)) ≡ 0 = ap (λ (j : ℕ). how_many (starts_within high) (ranges_of (drop j (t ∷ ts)))) (sym zero_of) ∙ none in
-          past_from low high t ts es ls h order (is_false (starts_within high r) (λ holds. let some : how_many (starts_within high) (ranges_of (t ∷ ts)) ≡ suc (how_many (starts_within high) (ranges_of ts)) = rw holds refl in omega (arith, some, miss)))
+          let zero_of : n ≡ 0 = before ∙ rw e (none_count range_of (ends_before low)
+          (falls-ends_before low) t ts order e) in
+          let miss : how_many (starts_within high) (ranges_of (t ∷ ts)) ≡ 0 =
+          ap (λ (j : ℕ). how_many (starts_within high) (ranges_of (drop j (t ∷ ts))))
+          (sym zero_of) ∙ none in
+          past_from low high t ts es ls h order (is_false (starts_within high r)
+          (λ holds. let some : how_many (starts_within high) (ranges_of (t ∷ ts))
+          ≡ suc (how_many (starts_within high) (ranges_of ts)) = rw holds refl in
+          omega (arith, some, miss)))
     ]
 
 -- ---- by the places that are found
@@ -302,15 +363,23 @@ drop_ranges (suc n) (t ∷ ts) = drop_ranges n ts
 
 counted : (n c : ℕ) (ends : ℕ × ℕ) → first_and_last n c ≡ Some ends → (m : ℕ) × (c ≡ suc m)
     × (ends.0 ≡ n) × (ends.1 ≡ n + m)
-counted n zero ends e = let wrong : None ≡ Some ends = sym (first_and_last-none n 0 refl) ∙ e in absurd cc
+counted n zero ends e = let wrong : None ≡ Some ends = sym (first_and_last-none n 0 refl) ∙ e in
+    absurd cc
 counted n (suc m) ends e =
-    let found : Some (n, n + suc m - 1) ≡ Some ends = sym (first_and_last-some n (suc m) (λ z. omega (arith, z))) ∙ e in
-    let same : (n, n + suc m - 1) ≡ ends = cc in
-    (m, refl, sym (ap (λ (x : ℕ × ℕ). x.0) same), sym (ap (λ (x : ℕ × ℕ). x.1) same) ∙ (let e : n + suc m - 1 ≡ n + m = omega arith in e))
+    let found : Some (n, n + suc m - 1) ≡ Some ends =
+    sym (first_and_last-some n (suc m) (λ z. omega (arith, z))) ∙ e in
+    let same : (n, n + suc m - 1) ≡ ends = cc in (
+      m,
+      refl,
+      sym (ap (λ (x : ℕ × ℕ). x.0) same),
+      sym (ap (λ (x : ℕ × ℕ). x.1) same)
+          ∙ (let e : n + suc m - 1 ≡ n + m = omega arith in e),
+    )
 
 uncounted : (n c : ℕ) → first_and_last n c ≡ None → c ≡ 0
 uncounted n zero e = refl
-uncounted n (suc m) e = let wrong : ◌≡◌ {A = Option (ℕ × ℕ)} (Some (n, n + suc m - 1)) None = sym (first_and_last-some n (suc m) (λ z. omega (arith, z))) ∙ e in absurd cc
+uncounted n (suc m) e = let wrong : ◌≡◌ {A = Option (ℕ × ℕ)} (Some (n, n + suc m - 1)) None =
+    sym (first_and_last-some n (suc m) (λ z. omega (arith, z))) ∙ e in absurd cc
 
 module _ (low high : Bound (List ℕ)) (ts : List OpenTable) (ls : List (List Entry))
     (h : HoldLists ts ls) (order : are_in_order (ranges_of ts) ≡ true) where
@@ -321,9 +390,11 @@ module _ (low high : Bound (List ℕ)) (ts : List OpenTable) (ls : List (List En
       → run_parts_told (span_parts (span_of ends low high) ts) ≡ ok_results
       (within low high (joined ls))
   span_deals ends found =
-      let c = counted skipped (how_many (starts_within high) (drop skipped (ranges_of ts))) ends found in
+      let c = counted skipped (how_many (starts_within high) (drop skipped (ranges_of ts))) ends
+      found in
       let m = c.0 in
-      let many : suc m ≡ how_many (starts_within high) (ranges_of (drop skipped ts)) = sym c.1 ∙ ap (how_many (starts_within high)) (drop_ranges skipped ts) in
+      let many : suc m ≡ how_many (starts_within high) (ranges_of (drop skipped ts)) = sym c.1
+      ∙ ap (how_many (starts_within high)) (drop_ranges skipped ts) in
       let span = span_of ends low high in
       let wide : suc ends.1 - ends.0 ≡ suc m = omega (arith, c.2, c.3) in
       ap (λ (i : ℕ). run_parts_told (take i (drop ends.0 (span_parts_from span 0 ts)))) wide
@@ -333,4 +404,5 @@ module _ (low high : Bound (List ℕ)) (ts : List OpenTable) (ls : List (List En
   pub none_deals : overlap_indexes low high (ranges_of ts) ≡ None → within low high (joined ls) ≡ []
   none_deals none =
       nothing_found low high skipped ts ls h order refl
-      (ap (how_many (starts_within high)) (sym (drop_ranges skipped ts)) ∙ uncounted skipped (how_many (starts_within high) (drop skipped (ranges_of ts))) none)
+      (ap (how_many (starts_within high)) (sym (drop_ranges skipped ts))
+      ∙ uncounted skipped (how_many (starts_within high) (drop skipped (ranges_of ts))) none)

@@ -83,7 +83,8 @@ scan_item s t (Some (Err e)) step = record {
 pub refused_scan : (t : OpenTable) (e : Error)
     → (is_memory e ≡ false → fault_of (load_at_told (body_of t.bytes) 0 Data) ≡ Some e)
     → BeginsScan t (Err e)
-refused_scan t e fault = λ fine. ap first (fault_left (body_of t.bytes) t.global_seqno t.parts.facts.data_block_count e (fault fine))
+refused_scan t e fault = λ fine. ap first (fault_left
+    (body_of t.bytes) t.global_seqno t.parts.facts.data_block_count e (fault fine))
 
 pub begins : (t : OpenTable) (r : Result Scan Error)
     → IfOk r (IsNewScan (body_of t.bytes) t.parts.facts.data_block_count t.global_seqno)
@@ -103,7 +104,8 @@ scanning o ts lo hi = record { scan = o; tables = take (hi - lo) (drop lo ts) }
 
 pub none_scanned : (o : Option Scan) (ts : List OpenTable) (lo hi : ℕ) → lo ≡ hi
     → scanning o ts lo hi ≡ record { scan = o; tables = [] }
-none_scanned o ts lo hi same = ap (λ (us : List OpenTable). record { scan = o; tables = us }) (none_between ts lo hi same)
+none_scanned o ts lo hi same = ap (λ (us : List OpenTable). record { scan = o; tables = us })
+    (none_between ts lo hi same)
 
 -- the first of them
 pub begins_next : (o : Option Scan) (ts : List OpenTable) (lo hi next : ℕ) (r : Result Scan Error)
@@ -113,8 +115,14 @@ pub begins_next : (o : Option Scan) (ts : List OpenTable) (lo hi next : ℕ) (r 
 begins_next o ts lo hi next r is less within each =
     let t = table_at ts lo (omega (arith, less, within)) in
     let split : take (hi - lo) (drop lo ts) ≡ t.0 ∷ take (hi - suc lo) (drop (suc lo) ts) =
-    front_split (take (hi - lo) (drop lo ts)) (take (hi - suc lo) (drop (suc lo) ts)) t.0 (first_between ts lo hi t.0 t.1 less) in
-    (t.0, subst (λ (n : ℕ). take (hi - lo) (drop lo ts) ≡ t.0 ∷ take (hi - n) (drop n ts)) (sym is) split, refl, each t.0 t.1)
+    front_split (take (hi - lo) (drop lo ts)) (take (hi - suc lo) (drop (suc lo) ts)) t.0
+    (first_between ts lo hi t.0 t.1 less) in (
+      t.0,
+      subst (λ (n : ℕ). take (hi - lo) (drop lo ts) ≡ t.0 ∷ take (hi - n) (drop n ts))
+          (sym is) split,
+      refl,
+      each t.0 t.1,
+    )
 
 -- ---- the tables that a call goes through
 
@@ -157,7 +165,8 @@ opened s u x w reached none begins =
     record {
       results =
           ap (λ (rs : List R). up_to_error (rs ++ behind w)) new.left
-          ∙ sym (of_tables u none ∙ ap (λ (ts : List OpenTable). up_to_error (flat_map table_scan ts)) split)
+          ∙ sym (of_tables u none ∙ ap (λ (ts : List OpenTable). up_to_error
+          (flat_map table_scan ts)) split)
           ∙ reached.results;
       smaller = omega (arith, begun_size t x new, ap tables_size split, none, reached.smaller);
     }
@@ -172,7 +181,8 @@ item s u (Ok e) o reached gives = record {
   lowers = omega (arith, gives.lowers, reached.smaller);
 }
 item s u (Err e) o reached gives = record {
-  answer = λ fine. ap first (sym reached.results) ∙ up_to_first (left_of_scan u.scan) (behind u) e (gives.answer fine);
+  answer = λ fine. ap first (sym reached.results)
+      ∙ up_to_first (left_of_scan u.scan) (behind u) e (gives.answer fine);
   ends = refl;
   lowers = omega (arith, gives.lowers, reached.smaller);
 }
@@ -185,7 +195,8 @@ fault s u e w reached none begins =
     let split : u.tables ≡ t ∷ w.tables = begins.1 in
     record {
       answer = λ fine.
-          ap first (sym reached.results ∙ of_tables u none ∙ ap (λ (ts : List OpenTable). up_to_error (flat_map table_scan ts)) split)
+          ap first (sym reached.results ∙ of_tables u none
+          ∙ ap (λ (ts : List OpenTable). up_to_error (flat_map table_scan ts)) split)
           ∙ up_to_first (table_scan t) (flat_map table_scan w.tables) e (begins.3 fine);
       ends = refl;
       lowers = omega (arith, ap tables_size split, reached.smaller);
@@ -195,16 +206,23 @@ fault s u e w reached none begins =
 pub rest : (s u w : RunScan) → Reached s u → size_of_scan u.scan ≡ 0 → BeginsNext u None w
     → RunScansNext s None w
 rest s u w reached none begins = record {
-  answer = sym reached.results ∙ of_tables u none ∙ ap (λ (ts : List OpenTable). up_to_error (flat_map table_scan ts)) begins.0;
+  answer = sym reached.results ∙ of_tables u none
+      ∙ ap (λ (ts : List OpenTable). up_to_error (flat_map table_scan ts)) begins.0;
   ends = tt;
-  lowers = ap run_scan_size begins.1 ∙ (let e : run_scan_size u ≡ 0 = omega (arith, none, ap tables_size begins.0) in e);
+  lowers = ap run_scan_size begins.1 ∙ (let e : run_scan_size u ≡ 0 =
+      omega (arith, none, ap tables_size begins.0) in e);
 }
 
 -- ---- what is dealt
 
 tables_within : (ts : List OpenTable) → length (flat_map table_scan ts) ≤ tables_size ts
 tables_within [] = omega arith
-tables_within (t ∷ ts) = omega (arith, length-append (table_scan t) (flat_map table_scan ts), tables_within ts)
+tables_within (t ∷ ts) = omega (
+  arith,
+  length-append (table_scan t)
+      (flat_map table_scan ts),
+  tables_within ts,
+)
 
 one_within : (o : Option Scan) → length (left_of_scan o) ≤ size_of_scan o
 one_within None = omega arith
@@ -213,20 +231,34 @@ one_within (Some s) = omega arith
 nothing : (s : RunScan) → IsRunScanEnded s → run_scan_left s ≡ []
 nothing s ended =
     nil_from_length (run_scan_left s)
-    (omega (arith, ended, no_longer (left_of_scan s.scan ++ behind s), length-append (left_of_scan s.scan) (behind s), one_within s.scan, tables_within s.tables))
+    (omega (
+      arith,
+      ended,
+      no_longer (left_of_scan s.scan ++ behind s),
+      length-append
+          (left_of_scan s.scan) (behind s),
+      one_within s.scan,
+      tables_within s.tables,
+    ))
 
 ends_by : (s : RunScan) (r : Option R) (t : RunScan) → RunScansNext s r t
     → Ending run_scan_left IsRunScanEnded front_of s r t
 ends_by s None t step = record { answer = (step.answer, step.lowers); ends = tt }
 ends_by s (Some (Ok e)) t step = record { answer = ap front_of step.answer; ends = tt }
-ends_by s (Some (Err e)) t step = record { answer = (step.answer, λ ended. omega (arith, ended, step.lowers)); ends = step.ends }
+ends_by s (Some (Err e)) t step = record {
+  answer =
+      (step.answer, λ ended. omega (arith, ended, step.lowers));
+  ends = step.ends;
+}
 
 -- what is left, up to the first error
 pub scan_deals : (s : RunScan) (xs : List R) → run_scan_left s ≡ xs
     → DealsEnding RunScansNext nowhere (λ _. Unit {0}) (λ _. Unit {0}) s xs
 scan_deals s xs same =
-    subst (λ (rs : List R). DealsEnding RunScansNext nowhere (λ _. Unit {0}) (λ _. Unit {0}) s rs) same
-    (deals_ending run_scan_left IsRunScanEnded nothing RunScansNext nowhere (λ u r t step. ends_by u r t step) (λ u r t step. absurd step) s)
+    subst (λ (rs : List R). DealsEnding RunScansNext nowhere (λ _. Unit {0}) (λ _. Unit {0}) s rs)
+    same
+    (deals_ending run_scan_left IsRunScanEnded nothing RunScansNext nowhere
+    (λ u r t step. ends_by u r t step) (λ u r t step. absurd step) s)
 
 -- ---- of a span
 
@@ -237,13 +269,18 @@ pub begun : (ts : List OpenTable) (ends : ℕ × ℕ) (t : OpenTable) (x : Scan)
     → IsScanOf ts ends (record { scan = Some x; tables = take (past - next) (drop next ts) })
 begun ts ends t x next past is_next is_past up there new =
     let span : tables_between ts ends ≡ t ∷ take (suc ends.1 - suc ends.0) (drop (suc ends.0) ts) =
-    front_split (tables_between ts ends) (take (suc ends.1 - suc ends.0) (drop (suc ends.0) ts)) t (first_between ts ends.0 (suc ends.1) t there (omega (arith, up))) in
-    let others : take (past - next) (drop next ts) ≡ take (suc ends.1 - suc ends.0) (drop (suc ends.0) ts) =
-    ap (λ (n : ℕ). take (past - n) (drop n ts)) is_next ∙ ap (λ (n : ℕ). take (n - suc ends.0) (drop (suc ends.0) ts)) is_past in
-    let whole : t ∷ take (past - next) (drop next ts) ≡ tables_between ts ends = ap (λ (us : List OpenTable). t ∷ us) others ∙ sym span in
+    front_split (tables_between ts ends) (take (suc ends.1 - suc ends.0) (drop (suc ends.0) ts)) t
+    (first_between ts ends.0 (suc ends.1) t there (omega (arith, up))) in
+    let others : take (past - next) (drop next ts)
+    ≡ take (suc ends.1 - suc ends.0) (drop (suc ends.0) ts) =
+    ap (λ (n : ℕ). take (past - n) (drop n ts)) is_next
+    ∙ ap (λ (n : ℕ). take (n - suc ends.0) (drop (suc ends.0) ts)) is_past in
+    let whole : t ∷ take (past - next) (drop next ts) ≡ tables_between ts ends =
+    ap (λ (us : List OpenTable). t ∷ us) others ∙ sym span in
     record {
       left =
-          ap (λ (rs : List R). up_to_error (rs ++ flat_map table_scan (take (past - next) (drop next ts)))) new.left
+          ap (λ (rs : List R). up_to_error (rs ++ flat_map table_scan
+          (take (past - next) (drop next ts)))) new.left
           ∙ ap tables_scan whole;
       size = omega (arith, begun_size t x new, ap tables_size whole);
     }
@@ -254,8 +291,11 @@ pub span_refused : (ts : List OpenTable) (ends : ℕ × ℕ) (t : OpenTable) (e 
     → first (tables_scan (tables_between ts ends)) ≡ Some (Err e)
 span_refused ts ends t e up there begins fine =
     let others = take (suc ends.1 - suc ends.0) (drop (suc ends.0) ts) in
-    let span : tables_between ts ends ≡ t ∷ others = front_split (tables_between ts ends) others t (first_between ts ends.0 (suc ends.1) t there (omega (arith, up))) in
-    ap (λ (us : List OpenTable). first (tables_scan us)) span ∙ up_to_first (table_scan t) (flat_map table_scan others) e (begins fine)
+    let span : tables_between ts ends ≡ t ∷ others =
+    front_split (tables_between ts ends) others t
+    (first_between ts ends.0 (suc ends.1) t there (omega (arith, up))) in
+    ap (λ (us : List OpenTable). first (tables_scan us)) span
+    ∙ up_to_first (table_scan t) (flat_map table_scan others) e (begins fine)
 
 -- what holds of a refusal holds of it passed on
 pub passed_on : {X : Type 0} (P : Error → Type 0) (r : Result X Error) (e : Error)
@@ -266,20 +306,29 @@ passed_on P (Err f) e same holds = subst P (sym same) holds
 pub fault_passed : {X : Type 0} (r : Result X Error) (e : Error) → IsErrAnd r (λ y. y ≡ e)
     → (told : Option Error) → (is_memory e ≡ false → told ≡ Some e) → Faults r told
 fault_passed (Ok x) e same told faults = absurd same
-fault_passed (Err f) e same told faults = subst (λ (g : Error). is_memory g ≡ false → told ≡ Some g) (sym same) faults
+fault_passed (Err f) e same told faults = subst (λ (g : Error). is_memory g ≡ false → told ≡ Some g)
+    (sym same) faults
 
 pub first_passed : {X : Type 0} (r : Result X Error) (e : Error) → IsErrAnd r (λ y. y ≡ e)
     → (told : Option Error) → ((g : Error) → told ≡ Some g → Some g ≡ Some e) → FaultsFirst r told
 first_passed (Ok x) e same told early = absurd same
-first_passed (Err f) e same told early = λ g there. early g there ∙ ap (λ (h : Error). Some h) (sym same)
+first_passed (Err f) e same told early = λ g there. early g there
+    ∙ ap (λ (h : Error). Some h) (sym same)
 
 -- the tables' lists, where each has an entry
 held_scan : (t : OpenTable) (es : List Entry) → HoldsList t es → 0 < length es
     → table_scan t ≡ ok_results es
 held_scan t es h some =
     let pins = h.opened.recovered in
-    let stored : 0 < length h.stored = omega (arith, some, ap length h.lifted_is, length-map h.stored (lifted t.global_seqno)) in
-    file_told t.bytes h.stored h.table t.global_seqno pins.pin_filter pins.pin_index t.parts h.opened.short pins.told stored ∙ ap ok_results (sym h.lifted_is)
+    let stored : 0 < length h.stored = omega (
+      arith,
+      some,
+      ap length h.lifted_is,
+      length-map
+          h.stored (lifted t.global_seqno),
+    ) in
+    file_told t.bytes h.stored h.table t.global_seqno pins.pin_filter pins.pin_index t.parts
+    h.opened.short pins.told stored ∙ ap ok_results (sym h.lifted_is)
 
 pub held_scans : (ts : List OpenTable) (ls : List (List Entry)) → HoldLists ts ls
     → AllByRecursion (λ (es : List Entry). 0 < length es) ls
@@ -296,5 +345,7 @@ pub lists_deal : (ts : List OpenTable) (ls : List (List Entry)) → HoldLists ts
     → AllByRecursion (λ (es : List Entry). 0 < length es) ls → (s : RunScan)
     → run_scan_left s ≡ tables_scan ts → DealsList RunScansNext nowhere (joined ls) s
 lists_deal ts ls h some s left stops memory =
-    let values : tables_scan ts ≡ ok_results (joined ls) = ap (λ (rs : List R). up_to_error rs) (held_scans ts ls h some) ∙ all_values (joined ls) in
-    deals_values RunScansNext nowhere (λ _. Unit {0}) (λ _. Unit {0}) s (joined ls) (scan_deals s (ok_results (joined ls)) (left ∙ values)) stops memory
+    let values : tables_scan ts ≡ ok_results (joined ls) =
+    ap (λ (rs : List R). up_to_error rs) (held_scans ts ls h some) ∙ all_values (joined ls) in
+    deals_values RunScansNext nowhere (λ _. Unit {0}) (λ _. Unit {0}) s (joined ls)
+    (scan_deals s (ok_results (joined ls)) (left ∙ values)) stops memory

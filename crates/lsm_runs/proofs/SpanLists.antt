@@ -21,7 +21,8 @@ use Rattle.lsm_runs.proofs.RunWithin.{held_told}
 
 module _ (span : RunSpan) where
   abbrev bounded : OpenTable → Bool → Part
-  bounded t b = if b then record { table = t; low = span.low; high = span.high } else record { table = t; low = Unbounded; high = Unbounded }
+  bounded t b = if b then record { table = t; low = span.low; high = span.high }
+      else record { table = t; low = Unbounded; high = Unbounded }
 
   abbrev among : List Entry → Bool → List Entry
   among es b = if b then within span.low span.high es else es
@@ -30,7 +31,8 @@ module _ (span : RunSpan) where
       → part_told (span_part_at span k t) ≡ ok_results (list_at span k es)
   told_at k t es h = elim (cases_Bool (is_edge span k)) [
     | inl e ↦
-        ap (λ (b : Bool). part_told (bounded t b)) e ∙ held_told t es h span.low span.high ∙ sym (ap (λ (b : Bool). ok_results (among es b)) e)
+        ap (λ (b : Bool). part_told (bounded t b)) e ∙ held_told t es h span.low span.high
+        ∙ sym (ap (λ (b : Bool). ok_results (among es b)) e)
     | inr e ↦
         ap (λ (b : Bool). part_told (bounded t b)) e
         ∙ held_told t es h Unbounded Unbounded
@@ -46,9 +48,11 @@ module _ (span : RunSpan) where
   told_first (suc m) k [] (es ∷ ls) h = absurd h
   told_first (suc m) k (t ∷ ts) [] h = absurd h
   told_first (suc m) k (t ∷ ts) (es ∷ ls) h =
-      ap (λ (rs : List R). rs ++ run_parts_told (take m (span_parts_from span (suc k) ts))) (told_at k t es h.0)
+      ap (λ (rs : List R). rs ++ run_parts_told (take m (span_parts_from span (suc k) ts)))
+      (told_at k t es h.0)
       ∙ ap (λ (rs : List R). ok_results (list_at span k es) ++ rs) (told_first m (suc k) ts ls h.1)
-      ∙ sym (map-append (λ (x : Entry). Ok x) (list_at span k es) (joined (take m (lists_at span (suc k) ls))))
+      ∙ sym (map-append (λ (x : Entry). Ok x) (list_at span k es)
+      (joined (take m (lists_at span (suc k) ls))))
 
   pub told_between : (n m k : ℕ) (ts : List OpenTable) (ls : List (List Entry)) → HoldLists ts ls
       → run_parts_told (take m (drop n (span_parts_from span k ts))) ≡ ok_results

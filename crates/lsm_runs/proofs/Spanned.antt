@@ -20,12 +20,16 @@ module _ {A X : Type 0} (f : X → List OpenTable) (low high : Bound (List ℕ))
 
   -- the runs up to a place have their readers
   abbrev pub SpannedSoFar : List (RunRange A) → ℕ → Type 0
-  SpannedSoFar readers i = AllByRecursion (IsInOrder range_of) (map f xs) → AllZip (λ reader run. IsRunOf run.0 run.1 reader) readers (spans_within low high (map f (take i xs)))
+  SpannedSoFar readers i = AllByRecursion (IsInOrder range_of) (map f xs)
+      → AllZip (λ reader run. IsRunOf run.0 run.1 reader) readers
+      (spans_within low high (map f (take i xs)))
 
   pub all_spanned : (readers : List (RunRange A)) (i : ℕ) → SpannedSoFar readers i → length xs ≤ i
       → AllByRecursion (IsInOrder range_of) (map f xs)
       → AllZip (λ reader run. IsRunOf run.0 run.1 reader) readers (spans_within low high (map f xs))
-  all_spanned readers i so_far past order = subst (λ (ys : List X). AllZip Reads readers (spans_within low high (map f ys))) (take_all i xs past) (so_far order)
+  all_spanned readers i so_far past order = subst
+      (λ (ys : List X). AllZip Reads readers (spans_within low high (map f ys)))
+      (take_all i xs past) (so_far order)
 
   module _ (i : ℕ) (x : X) (less : i < length xs) (is : x ≡ get_or xs i x)
       (readers : List (RunRange A)) (so_far : SpannedSoFar readers i) where
@@ -43,7 +47,8 @@ module _ {A X : Type 0} (f : X → List OpenTable) (low high : Bound (List ℕ))
         ap (λ (ys : List X). spans_within low high (map f ys)) (take_more xs i x less)
         ∙ ap (spans_within low high) (map-append f (take i xs) (get_or xs i x ∷ []))
         ∙ flat_map-append one (map f (take i xs)) (f (get_or xs i x) ∷ [])
-        ∙ ap (λ (us : List (List OpenTable × RunSpan)). before ++ us) (append-nil (one (f (get_or xs i x))))
+        ∙ ap (λ (us : List (List OpenTable × RunSpan)). before ++ us)
+        (append-nil (one (f (get_or xs i x))))
         ∙ ap (λ (y : X). before ++ one (f y)) (sym is)
 
     pub more_spanned : (reader : RunRange A)
@@ -52,10 +57,13 @@ module _ {A X : Type 0} (f : X → List OpenTable) (low high : Bound (List ℕ))
         (i + 1)
     more_spanned reader reads order =
         let own = reads (all_at f (IsInOrder range_of) xs i x order less is) in
-        subst (AllZip Reads (readers ++ reader ∷ [])) (sym (next ∙ ap (λ (o : Option (ℕ × ℕ)). before ++ span_at (f x) low high o) own.1))
+        subst (AllZip Reads (readers ++ reader ∷ []))
+        (sym (next ∙ ap (λ (o : Option (ℕ × ℕ)). before ++ span_at (f x) low high o) own.1))
         (zip_push Reads readers before reader (f x, span_of own.0 low high) (so_far order) own.2)
 
     pub same_spanned : (IsInOrder range_of (f x) → found ≡ None) → SpannedSoFar readers (i + 1)
     same_spanned none order =
         let own = none (all_at f (IsInOrder range_of) xs i x order less is) in
-        subst (AllZip Reads readers) (sym (next ∙ ap (λ (o : Option (ℕ × ℕ)). before ++ span_at (f x) low high o) own ∙ append-nil before)) (so_far order)
+        subst (AllZip Reads readers) (sym (next ∙ ap
+        (λ (o : Option (ℕ × ℕ)). before ++ span_at (f x) low high o) own ∙ append-nil before))
+        (so_far order)

@@ -1,5 +1,6 @@
 -- Readers of several runs: what they deal together, and the newest of it.
-use Rattle.std.proofs.Common.{◌≡◌, refl, sym, ◌∙◌, ap, subst, ℕ, ◌+◌, ◌<◌, ◌≤◌, Bool, true, List, [], ◌∷◌, ◌++◌, get_or, length, take, arith}
+use Rattle.std.proofs.Common.{◌≡◌, refl, sym, ◌∙◌, ap, subst, ℕ, ◌+◌, ◌<◌, ◌≤◌, Bool, true, List}
+use Rattle.std.proofs.Common.{[], ◌∷◌, ◌++◌, get_or, length, take, arith}
 use Rattle.std.specs.Prelude.{All, Option, Some, ◌&&◌, map}
 use Rattle.std.specs.List.{AllByRecursion, AllZip, slice_get}
 use Rattle.std.specs.declared.ops.Bound.{Bound}
@@ -17,7 +18,8 @@ use Rattle.sst_entries.proofs.Lists.{all_append}
 use Rattle.lsm_formats.specs.Chunks.{joined}
 use Rattle.lsm_merge.specs.Ends.{R}
 use Rattle.lsm_merge.specs.MergeLaws.{DealSorted}
-use Rattle.lsm_merge.specs.Union.{Ascends, all_entries, entries_among, newest, sort_entries, union_of}
+use Rattle.lsm_merge.specs.Union.{Ascends, all_entries, entries_among, newest, sort_entries}
+use Rattle.lsm_merge.specs.Union.{union_of}
 use Rattle.lsm_ranges.specs.Run.{IsInOrder}
 use Rattle.lsm_readers.specs.Table.{OpenTable}
 use Rattle.lsm_sorted.specs.NewestLaws.{DealsNewest}
@@ -26,7 +28,8 @@ use Rattle.lsm_runs.specs.RunParts.{range_of}
 use Rattle.lsm_runs.specs.SeveralRuns.{union_in}
 use Rattle.lsm_runs.proofs.Rising.{ascends_of, run_strict, strict_within}
 use Rattle.lsm_runs.proofs.RunLoops.{mapped_at, take_next, zip_at}
-use Rattle.lsm_runs.proofs.Unions.{entries_joined, entries_of, no_errors_joined, within_joined, within_sorted}
+use Rattle.lsm_runs.proofs.Unions.{entries_joined, entries_of, no_errors_joined, within_joined}
+use Rattle.lsm_runs.proofs.Unions.{within_sorted}
 
 -- what holds of anything holds of each of a list
 pub all_of : {X : Type 0} (P : X → Type 0) → ((x : X) → P x) → (xs : List X) → All P xs
@@ -36,7 +39,8 @@ all_of {X} P each xs = All-from_recursion P xs (one_by_one xs)
     one_by_one [] = tt
     one_by_one (y ∷ ys) = (each y, one_by_one ys)
 
-pub zip_push : {A B : Type 0} (Q : A → B → Type 0) (xs : List A) (ys : List B) (x : A) (y : B) → AllZip Q xs ys → Q x y → AllZip Q (xs ++ x ∷ []) (ys ++ y ∷ [])
+pub zip_push : {A B : Type 0} (Q : A → B → Type 0) (xs : List A) (ys : List B) (x : A) (y : B)
+    → AllZip Q xs ys → Q x y → AllZip Q (xs ++ x ∷ []) (ys ++ y ∷ [])
 zip_push Q [] [] x y all one = (one, tt)
 zip_push Q [] (z ∷ zs) x y all one = absurd all
 zip_push Q (z ∷ zs) [] x y all one = absurd all
@@ -56,91 +60,135 @@ module _ {S : Type 0} (front back : S → Option R → S → Type 0) where
   none_together = record { dealt = []; same = refl; ascend = tt; deal = tt }
 
   -- one more reader, of sorted entries
-  pub one_more : (sources : List S) (found : List (List Entry)) (s : S) (es : List Entry) → DealTogether front back sources found → Ascends es → DealsList front back es s → DealTogether front back (sources ++ s ∷ []) (found ++ es ∷ [])
+  pub one_more : (sources : List S) (found : List (List Entry)) (s : S) (es : List Entry)
+      → DealTogether front back sources found → Ascends es → DealsList front back es s
+      → DealTogether front back (sources ++ s ∷ []) (found ++ es ∷ [])
   one_more sources found s es d up deals = record {
     dealt = d.dealt ++ es ∷ [];
-    same = join d.dealt (es ∷ []) ∙ ap (λ (xs : List Entry). xs ++ joined (es ∷ [])) d.same ∙ sym (join found (es ∷ []));
+    same = join d.dealt (es ∷ []) ∙ ap (λ (xs : List Entry). xs ++ joined (es ∷ [])) d.same
+        ∙ sym (join found (es ∷ []));
     ascend = all_append Ascends d.dealt (es ∷ []) d.ascend (up, tt);
-    deal = zip_push (λ (t : S) (xs : List Entry). DealsList front back xs t) sources d.dealt s es d.deal deals;
+    deal = zip_push (λ (t : S) (xs : List Entry). DealsList front back xs t) sources d.dealt s es
+        d.deal deals;
   }
 
   -- no reader, where there is nothing
-  pub none_more : (sources : List S) (found : List (List Entry)) (es : List Entry) → DealTogether front back sources found → es ≡ [] → DealTogether front back sources (found ++ es ∷ [])
+  pub none_more : (sources : List S) (found : List (List Entry)) (es : List Entry)
+      → DealTogether front back sources found → es ≡ []
+      → DealTogether front back sources (found ++ es ∷ [])
   none_more sources found es d none = record {
     dealt = d.dealt;
-    same = d.same ∙ sym (join found (es ∷ []) ∙ ap (λ (xs : List Entry). joined found ++ (xs ++ [])) none ∙ append-nil (joined found));
+    same = d.same ∙ sym (join found (es ∷ []) ∙ ap
+        (λ (xs : List Entry). joined found ++ (xs ++ [])) none ∙ append-nil (joined found));
     ascend = d.ascend;
     deal = d.deal;
   }
 
   -- ---- what is newest of all
 
-  pub each_deals : (stops : Error → Bool) → stops OutOfMemory ≡ true → (sources : List S) (dealt : List (List Entry)) → AllZip (λ (s : S) (es : List Entry). DealsList front back es s) sources dealt
-      → AllZip (Deals (answer_stops stops) front back) sources (map (λ (es : List Entry). ok_results es) dealt)
+  pub each_deals : (stops : Error → Bool) → stops OutOfMemory ≡ true
+      → (sources : List S) (dealt : List (List Entry))
+      → AllZip (λ (s : S) (es : List Entry). DealsList front back es s) sources dealt
+      → AllZip (Deals (answer_stops stops) front back) sources
+      (map (λ (es : List Entry). ok_results es) dealt)
   each_deals stops memory [] [] all = tt
   each_deals stops memory [] (es ∷ dealt) all = absurd all
   each_deals stops memory (s ∷ sources) [] all = absurd all
-  each_deals stops memory (s ∷ sources) (es ∷ dealt) all = (all.0 stops memory, each_deals stops memory sources dealt all.1)
+  each_deals stops memory (s ∷ sources) (es ∷ dealt) all =
+      (all.0 stops memory, each_deals stops memory sources dealt all.1)
 
-  pub each_ascends : (dealt : List (List Entry)) → AllByRecursion Ascends dealt → AllByRecursion (λ (rs : List R). Ascends (entries_among rs)) (map (λ (es : List Entry). ok_results es) dealt)
+  pub each_ascends : (dealt : List (List Entry)) → AllByRecursion Ascends dealt
+      → AllByRecursion (λ (rs : List R). Ascends (entries_among rs))
+      (map (λ (es : List Entry). ok_results es) dealt)
   each_ascends [] up = tt
   each_ascends (es ∷ dealt) up = (subst Ascends (sym (entries_of es)) up.0, each_ascends dealt up.1)
 
   module _ (low high : Bound (List ℕ)) (lists : List (List (List Entry))) where
     -- what all lists have together
-    all_lists : all_entries (map (λ (run : List (List Entry)). ok_results (joined run)) lists) ≡ joined (map joined lists)
-    all_lists = ap all_entries (sym (map-map (λ (es : List Entry). ok_results es) joined lists)) ∙ entries_joined (map joined lists)
+    all_lists : all_entries (map (λ (run : List (List Entry)). ok_results (joined run)) lists)
+        ≡ joined (map joined lists)
+    all_lists = ap all_entries (sym (map-map (λ (es : List Entry). ok_results es) joined lists))
+        ∙ entries_joined (map joined lists)
 
     cut_all : joined (map (cut low high) lists) ≡ within low high (joined (map joined lists))
-    cut_all = ap joined (sym (map-map (within low high) joined lists)) ∙ sym (within_joined low high (map joined lists))
+    cut_all = ap joined (sym (map-map (within low high) joined lists))
+        ∙ sym (within_joined low high (map joined lists))
 
-    union_cut : (sources : List S) (d : DealTogether front back sources (map (cut low high) lists)) → union_of (map (λ (es : List Entry). ok_results es) d.dealt) ≡ within low high (union_in lists)
+    union_cut : (sources : List S) (d : DealTogether front back sources (map (cut low high) lists))
+        → union_of (map (λ (es : List Entry). ok_results es) d.dealt)
+        ≡ within low high (union_in lists)
     union_cut sources d =
         ap sort_entries (entries_joined d.dealt ∙ d.same ∙ cut_all)
         ∙ sym (within_sorted low high (joined (map joined lists)))
         ∙ ap (λ (es : List Entry). within low high (sort_entries es)) (sym all_lists)
 
-    pub newest_together : {T : Type 0} (next next_back : T → Option R → T → Type 0) (t : T) (sources : List S) → DealTogether front back sources (map (cut low high) lists) → DealsNewest front back sources next next_back t → DealsList next next_back (newest (within low high (union_in lists))) t
+    pub newest_together : {T : Type 0} (next next_back : T → Option R → T → Type 0) (t : T)
+        (sources : List S) → DealTogether front back sources (map (cut low high) lists)
+        → DealsNewest front back sources next next_back t
+        → DealsList next next_back (newest (within low high (union_in lists))) t
     newest_together next next_back t sources d law stops memory =
         let results = map (λ (es : List Entry). ok_results es) d.dealt in
         let sorted : DealSorted front back stops sources results = record {
           deal = each_deals stops memory sources d.dealt d.deal;
           ascend = each_ascends d.dealt d.ascend;
         } in
-        subst (λ (es : List Entry). Deals (answer_stops stops) next next_back t (ok_results (newest es))) (union_cut sources d) (law.deals stops results sorted (no_errors_joined d.dealt))
+        subst (λ (es : List Entry). Deals (answer_stops stops) next next_back t
+        (ok_results (newest es))) (union_cut sources d)
+        (law.deals stops results sorted (no_errors_joined d.dealt))
 
 -- ---- a loop over runs, of which those up to a place have readers
 
-module _ {S X : Type 0} (front back : S → Option R → S → Type 0) (f : X → List OpenTable) (low high : Bound (List ℕ)) (xs : List X) (i : ℕ) (lists : List (List (List Entry))) (held : RunsHoldLists (map f xs) lists) where
+module _ {S X : Type 0} (front back : S → Option R → S → Type 0) (f : X → List OpenTable)
+    (low high : Bound (List ℕ)) (xs : List X) (i : ℕ) (lists : List (List (List Entry)))
+    (held : RunsHoldLists (map f xs) lists) where
   abbrev pub ReadSoFar : List S → ℕ → Type 0
   ReadSoFar sources n = DealTogether front back sources (take n (map (cut low high) lists))
 
   abbrev Held : List OpenTable → List (List Entry) → Type 0
   Held tables ls = IsInOrder range_of tables × HoldLists tables ls
 
-  pub read_all : (sources : List S) → ReadSoFar sources i → length xs ≤ i → DealTogether front back sources (map (cut low high) lists)
+  pub read_all : (sources : List S) → ReadSoFar sources i → length xs ≤ i
+      → DealTogether front back sources (map (cut low high) lists)
   read_all sources d past =
-      let many : length (map (cut low high) lists) ≤ i = omega (arith, length-map lists (cut low high), AllZip-long Held (map f xs) lists held, length-map xs f, past) in
-      subst (λ (found : List (List Entry)). DealTogether front back sources found) (take_all i (map (cut low high) lists) many) d
+      let many : length (map (cut low high) lists) ≤ i =
+      omega (
+        arith,
+        length-map lists (cut low high),
+        AllZip-long Held
+            (map f xs) lists held,
+        length-map xs f,
+        past,
+      ) in
+      subst (λ (found : List (List Entry)). DealTogether front back sources found)
+      (take_all i (map (cut low high) lists) many) d
 
-  module _ (x : X) (less : i < length xs) (is : x ≡ get_or xs i x) (sources : List S) (d : ReadSoFar sources i) where
+  module _ (x : X) (less : i < length xs) (is : x ≡ get_or xs i x) (sources : List S)
+      (d : ReadSoFar sources i) where
     own : (ls : List (List Entry)) × (slice_get lists i ≡ Some ls) × Held (f x) ls
     own = zip_at f Held xs lists i x held less is
 
-    one_found : take (i + 1) (map (cut low high) lists) ≡ take i (map (cut low high) lists) ++ cut low high own.0 ∷ []
-    one_found = take_next (map (cut low high) lists) i (cut low high own.0) (mapped_at (cut low high) lists i own.0 own.1)
+    one_found : take (i + 1) (map (cut low high) lists) ≡ take i (map (cut low high) lists)
+        ++ cut low high own.0 ∷ []
+    one_found = take_next (map (cut low high) lists) i (cut low high own.0)
+        (mapped_at (cut low high) lists i own.0 own.1)
 
     own_ascends : Ascends (cut low high own.0)
     own_ascends =
         ascends_of (cut low high own.0)
-        (strict_within (λ (e : Entry). is_from low e.user_key && is_to high e.user_key) (joined own.0) (run_strict (f x) own.0 own.2.1 own.2.0))
+        (strict_within (λ (e : Entry). is_from low e.user_key && is_to high e.user_key)
+        (joined own.0) (run_strict (f x) own.0 own.2.1 own.2.0))
 
-    pub read_more : (s : S) → ((ls : List (List Entry)) → Held (f x) ls → DealsList front back (cut low high ls) s) → ReadSoFar (sources ++ s ∷ []) (i + 1)
+    pub read_more : (s : S) → ((ls : List (List Entry)) → Held (f x) ls
+        → DealsList front back (cut low high ls) s) → ReadSoFar (sources ++ s ∷ []) (i + 1)
     read_more s deals =
-        subst (λ (found : List (List Entry)). DealTogether front back (sources ++ s ∷ []) found) (sym one_found)
-        (one_more front back sources (take i (map (cut low high) lists)) s (cut low high own.0) d own_ascends (deals own.0 own.2))
+        subst (λ (found : List (List Entry)). DealTogether front back (sources ++ s ∷ []) found)
+        (sym one_found)
+        (one_more front back sources (take i (map (cut low high) lists)) s
+        (cut low high own.0) d own_ascends (deals own.0 own.2))
 
-    pub read_none : ((ls : List (List Entry)) → Held (f x) ls → cut low high ls ≡ []) → ReadSoFar sources (i + 1)
+    pub read_none : ((ls : List (List Entry)) → Held (f x) ls → cut low high ls ≡ [])
+        → ReadSoFar sources (i + 1)
     read_none none =
         subst (λ (found : List (List Entry)). DealTogether front back sources found) (sym one_found)
-        (none_more front back sources (take i (map (cut low high) lists)) (cut low high own.0) d (none own.0 own.2))
+        (none_more front back sources (take i (map (cut low high) lists)) (cut low high own.0) d
+        (none own.0 own.2))

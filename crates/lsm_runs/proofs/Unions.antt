@@ -52,7 +52,8 @@ put_in p x (y ∷ ys) up holds = elim (cases_Bool (is_gt (item_cmp x y))) [
       ]
   | inr e ↦
       let above : AllByRecursion (AtMost x) (y ∷ ys) = (e, all_above x y e ys up.0) in
-      rw (e, holds) (sym (insert_least x (filter p (y ∷ ys)) (filter_keeps (AtMost x) p (y ∷ ys) above)))
+      rw (e, holds) (sym (insert_least x (filter p (y ∷ ys))
+      (filter_keeps (AtMost x) p (y ∷ ys) above)))
 ]
 
 module _ (low high : Bound (List ℕ)) where
@@ -61,7 +62,8 @@ module _ (low high : Bound (List ℕ)) where
       → within low high (sort_entries xs) ≡ sort_entries (within low high xs)
   within_sorted [] = refl
   within_sorted (x ∷ xs) = elim (cases_Bool (is_from low x.user_key && is_to high x.user_key)) [
-    | inl e ↦ put_in _ x (sort_entries xs) (ascends_in_order xs) e ∙ ap (insert_sorted x) (within_sorted xs) ∙ sym (rw e refl)
+    | inl e ↦ put_in _ x (sort_entries xs) (ascends_in_order xs) e
+        ∙ ap (insert_sorted x) (within_sorted xs) ∙ sym (rw e refl)
     | inr e ↦ put_out _ x (sort_entries xs) e ∙ within_sorted xs ∙ sym (rw e refl)
   ]
 
@@ -69,7 +71,8 @@ module _ (low high : Bound (List ℕ)) where
       → within low high (joined ls) ≡ joined (map (within low high) ls)
   within_joined [] = refl
   within_joined (es ∷ ls) =
-      filter-append (λ (e : Entry). is_from low e.user_key && is_to high e.user_key) es (joined ls) ∙ ap (λ (xs : List Entry). within low high es ++ xs) (within_joined ls)
+      filter-append (λ (e : Entry). is_from low e.user_key && is_to high e.user_key) es (joined ls)
+      ∙ ap (λ (xs : List Entry). within low high es ++ xs) (within_joined ls)
 
 pub no_errors : (es : List Entry) → errors_among (ok_results es) ≡ []
 no_errors [] = refl
@@ -78,9 +81,12 @@ no_errors (e ∷ es) = no_errors es
 pub entries_joined : (ls : List (List Entry))
     → all_entries (map (λ (es : List Entry). ok_results es) ls) ≡ joined ls
 entries_joined [] = refl
-entries_joined (es ∷ ls) = ap (λ (xs : List Entry). xs ++ all_entries (map (λ (us : List Entry). ok_results us) ls)) (entries_of es) ∙ ap (λ (xs : List Entry). es ++ xs) (entries_joined ls)
+entries_joined (es ∷ ls) = ap (λ (xs : List Entry). xs
+    ++ all_entries (map (λ (us : List Entry). ok_results us) ls)) (entries_of es)
+    ∙ ap (λ (xs : List Entry). es ++ xs) (entries_joined ls)
 
 pub no_errors_joined : (ls : List (List Entry))
     → all_errors (map (λ (es : List Entry). ok_results es) ls) ≡ []
 no_errors_joined [] = refl
-no_errors_joined (es ∷ ls) = ap (λ xs. xs ++ all_errors (map (λ (us : List Entry). ok_results us) ls)) (no_errors es) ∙ no_errors_joined ls
+no_errors_joined (es ∷ ls) = ap (λ xs. xs ++ all_errors
+    (map (λ (us : List Entry). ok_results us) ls)) (no_errors es) ∙ no_errors_joined ls

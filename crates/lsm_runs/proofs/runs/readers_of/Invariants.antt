@@ -13,6 +13,7 @@ abbrev pub invariant-loop-run : goal.invariant-loop-run
 invariant-loop-run g l = record {
   list :
       (lists : List (List (List Entry))) (held : RunsHoldLists (map arc_value l.runs) lists) →
-      ReadSoFar (RunGives front_of front_tables) (RunGives back_of back_tables) arc_value l.range.0 l.range.1 l.runs l.run-index lists held l.readers.items l.run-index;
+      ReadSoFar (RunGives front_of front_tables) (RunGives back_of back_tables) arc_value l.range.0
+      l.range.1 l.runs l.run-index lists held l.readers.items l.run-index;
   spans : SpannedSoFar arc_value l.range.0 l.range.1 l.runs l.readers.items l.run-index;
 }
