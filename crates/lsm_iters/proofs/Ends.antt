@@ -1,6 +1,6 @@
 -- Choices by a test; and ends of lists, by what they leave.
 use Rattle.std.proofs.Common.{◌≡◌, Bool, true, false, suc, List, [], ◌∷◌, ◌++◌, length, refl, ap}
-use Rattle.std.proofs.Common.{◌∙◌, arith}
+use Rattle.std.proofs.Common.{◌∙◌, arith, if◌then◌else◌}
 use Rattle.std.proofs.lemmas.List.{length-append}
 use Rattle.std.specs.Prelude.{Option, Some}
 use Rattle.sst_entries.specs.Stream.{front_of, back_of}
