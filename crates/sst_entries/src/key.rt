@@ -6,7 +6,7 @@ ghost use Rattle.std.specs.Cmp.Rules.{comparing};
 ghost use Rattle.std.specs.Ordering.{as_partial_cmp};
 
 use crate::{SeqNo, UserKey, ValueType};
-use std::alloc::{Allocator, Global};
+use std::alloc::{AllocError, Allocator, Global};
 use std::cmp::Ordering;
 
 /// A user key with the number and the kind of one of its versions.
@@ -22,6 +22,21 @@ pub struct InternalKey<A: Allocator = Global> {
     pub seqno: SeqNo,
     /// The version's kind.
     pub value_type: ValueType,
+}
+
+impl<A: Allocator> Clone for InternalKey<A> {
+    ghost use Rattle.std.specs.Prelude.{◌≡◌};
+
+    ghost is_clone = { λ key copy. copy ≡ key };
+
+    /// A share of the key. Refused where its bytes' count of sharers is.
+    fn clone(&self) -> Result<InternalKey<A>, AllocError> {
+        Ok(InternalKey {
+            user_key: self.user_key.clone()?,
+            seqno: self.seqno,
+            value_type: self.value_type,
+        })
+    }
 }
 
 impl<A: Allocator> Ord for InternalKey<A> {

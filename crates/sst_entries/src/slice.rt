@@ -72,6 +72,14 @@ impl<A: Allocator> Slice<A> {
         self.bytes.as_slice()
     }
 
+    /// Whether these are some bytes, which need be no slice of their own.
+    #[inline]
+    pub fn equals(&self, bytes: &[u8]) -> bool
+        ensures { IsTrue result ↔ (self.now ≡ bytes.now) }
+    {
+        self.as_slice() == bytes
+    }
+
     /// How many bytes there are.
     #[inline]
     pub fn len(&self) -> usize

@@ -6,12 +6,12 @@ ghost use Rattle.sst_entries.specs.Kind.{is_tombstone_kind};
 ghost use Rattle.sst_entries.specs.Strict.{may_follow};
 
 use crate::{InternalKey, SeqNo, UserKey, UserValue, ValueType, compare_versions};
-use std::alloc::{Allocator, Global};
+use std::alloc::{AllocError, Allocator, Global};
 use std::marker::Model;
 
 /// An entry of a table. A contract sees it as a plain record, without its memory.
 #[derive(Drop)]
-#[derive_where(Debug, PartialEq, Eq)]
+#[derive_where(Debug, PartialEq, Eq, PartialOrd, Ord)]
 pub struct InternalValue<A: Allocator = Global> {
     /// The key, with its number and kind.
     pub key: InternalKey<A>,
@@ -35,6 +35,20 @@ impl<A: Allocator> Model for InternalValue<A> {
       key = record { user_key = e.user_key; seqno = e.seqno; value_type = e.kind };
       value = e.value;
     } };
+}
+
+impl<A: Allocator> Clone for InternalValue<A> {
+    ghost use Rattle.std.specs.Prelude.{◌≡◌};
+
+    ghost is_clone = { λ value copy. copy ≡ value };
+
+    /// A share of the entry. Refused where a count of sharers is.
+    fn clone(&self) -> Result<InternalValue<A>, AllocError> {
+        Ok(InternalValue {
+            key: self.key.clone()?,
+            value: self.value.clone()?,
+        })
+    }
 }
 
 impl<A: Allocator> InternalValue<A> {
