@@ -14,8 +14,7 @@ up_to_error (Some (Ok x) ∷ rs) = Some (Ok x) ∷ up_to_error rs
 up_to_error (Some (Err e) ∷ rs) = Some (Err e) ∷ map (λ _. None) rs
 
 -- want of memory aside, the answers at any ends are those of `deal` up to the first error; both
--- ends may be asked however often;
--- and behind an error, want of memory too, comes `None` alone
+-- ends may be asked however often; and behind an error, want of memory too, comes `None` alone
 pub record DealsEnding {S X : Type 0} (front back : S → Option (Result X Error) → S → Type 0)
     (may may_back : S → Type 0) (s : S) (xs : List (Result X Error)) : Type 0 where
   pub answers : (ends : List Direction) (rs : List (Option (Result X Error))) (t : S)

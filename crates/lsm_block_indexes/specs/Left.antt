@@ -58,8 +58,7 @@ loaded zero o = o
 loaded (suc n) o = with_load IndexBlock (loaded n o)
 
 -- an answer at an end: the result that stands there, and the others are left; nothing, where
--- nothing is left; want of memory
--- stands in the place of any answer, except once all is over
+-- nothing is left; want of memory stands in the place of any answer, except once all is over
 abbrev pub AtEnd : (List (Result Handle Error)
     → Option (Result Handle Error) × List (Result Handle Error)) → Left
     → Option (Result Handle Error) → Left → Type 0
@@ -137,7 +136,7 @@ abbrev pub demands : Option (List Handle) → ℕ
 demands None = 1
 demands (Some hs) = 0
 
--- the same as what an iterator deals
+-- what an iterator of a block that is loaded on demand still deals
 abbrev pub on_demand_left : OnDemand → Left
 on_demand_left s = record {
   results = demanded s s.part;
@@ -171,8 +170,8 @@ pub record OnDemandGives (end : List (Result Handle Error)
 -- ---- of two levels
 
 -- the bytes before the trailer, the handles of the top level, those of the partitions that are not
--- loaded, the edges, what is
--- left of the partitions that are loaded at the front and at the back, and what was loaded
+-- loaded, the edges, what is left of the partitions that are loaded at the front and at the back,
+-- and what was loaded
 pub record TwoLevel : Type 0 where
   pub body : List ℕ
   pub whole : List Handle
@@ -228,9 +227,8 @@ part_at s place = block_between s.body s.lower s.upper place
 abbrev pub part_of : TwoLevel → Handle → List (Result Handle Error)
 part_of s top = part_at s (place_of top)
 
--- how many an end loads, at the front and at the back: none where a handle of a partition that was
--- loaded stands there
-
+-- how many partitions an answer needs, at the front and at the back: none where a handle of a
+-- partition that was loaded stands there
 abbrev pub front_needs : TwoLevel → ℕ
 front_needs s = none_behind s.front (needs (map (part_of s) s.tops))
 
@@ -245,13 +243,17 @@ tops_early body part (top ∷ tops) =
     option_or (block_early body (place_of top)) (early_behind (part top)
     (tops_early body part tops))
 
--- the same at the front and at the back
+-- the fault at the front and at the back that is found before memory is taken: none where a handle
+-- of a partition that was loaded stands there, else that of the partitions that are not loaded, up
+-- to the first that has an item
 abbrev pub front_early : TwoLevel → Option Error
 front_early s = early_behind s.front (tops_early s.body (part_of s) s.tops)
 
 abbrev pub back_early : TwoLevel → Option Error
 back_early s = early_behind s.back (tops_early s.body (part_of s) (reverse s.tops))
 
+-- how many partitions an answer at an end needs, and the fault there that is found before memory is
+-- taken
 abbrev pub needs_at : Direction → TwoLevel → ℕ
 needs_at Front s = front_needs s
 needs_at Back s = back_needs s
@@ -261,9 +263,8 @@ fault_at Front s = front_early s
 fault_at Back s = back_early s
 
 -- one call of it: it loads the partitions that it needs, and no more where it wants memory, which
--- it does not before it loads
--- one; and where it loads them all, a fault that needs no memory to be found comes before any want
--- of it
+-- it does not before it loads one; and where it loads them all, a fault that needs no memory to be
+-- found comes before any want of it
 pub record TwoLevelGives (end : List (Result Handle Error)
     → Option (Result Handle Error) × List (Result Handle Error)) (needed : TwoLevel → ℕ)
     (early : TwoLevel → Option Error) (s : TwoLevel) (r : Option (Result Handle Error))

@@ -64,7 +64,9 @@ pub record Blocks : Type 0 where
   pub index : ℕ
   pub filter : ℕ
 
--- the names in byte order: the counts of blocks, the formats and the label
+-- the first ten items, in the byte order of their names: the counts of data, filter and index
+-- blocks, the type of checksums, both compressions, the crate's version, the moment, the hash ratio
+-- of data blocks and the file size
 abbrev pub block_items : Label → Options → Blocks → ℕ → ℕ → List Entry
 block_items label options counted data_blocks file_size =
     meta_entry item.BlockCountData (le8 data_blocks)
@@ -92,7 +94,9 @@ level_items label f =
 abbrev pub key_items : ListFacts → List Entry
 key_items f = meta_entry item.KeyMax f.max_key ∷ meta_entry item.KeyMin f.min_key ∷ []
 
--- then the number of keys, the options and the numbers
+-- the items behind those of the last and the first key, in the byte order of their names: the
+-- number of keys, both prefix truncations, both restart intervals, the highest and the lowest
+-- number, the table's id and its version
 abbrev pub option_items : TableVersion → Label → Options → ListFacts → List Entry
 option_items v label options f =
     meta_entry item.KeyCount (le8 f.key_count)

@@ -41,8 +41,8 @@ abbrev pub left_in : {A : Type 0} → Handles A → Left
 left_in h = left_unless h.ended (left_of h.iter)
 
 -- what it reads within which bounds, what its index still deals, the entries within the bounds that
--- are left of the blocks loaded
--- at the front and at the back, and how many blocks it loaded beside its index
+-- are left of the blocks loaded at the front and at the back, and how many blocks it loaded beside
+-- its index
 pub record Range (A : Type 0) : Type 0 where
   pub of : Bounded
   pub handles : Handles A
@@ -91,7 +91,8 @@ range_loads s = length (to_come s) + index_to_come s + (if s.handles.sought then
 abbrev pub range_size : {A : Type 0} → Range A → ℕ
 range_size s = length (range_left s) + range_loads s
 
--- the same as what is left of a part of a walk
+-- the results still to be dealt, and how many loads may be made for them, as what is left of a part
+-- of a walk
 abbrev pub range_remains : {A : Type 0} → Range A → Remains Entry
 range_remains s = record { results = range_left s; loads = range_loads s }
 
@@ -151,8 +152,7 @@ abbrev pub opened_in : {A : Type 0} → Range A → Opened
 opened_in s = record (left_in s.handles).opened { data_loads = s.opened.data_loads }
 
 -- an answer at an end: the result that stands there, and the others are left; nothing, where
--- nothing is left; want of memory
--- stands in the place of any answer, except once all is over
+-- nothing is left; want of memory stands in the place of any answer, except once all is over
 abbrev pub RangeAnswer : {A : Type 0} → (List (Result Entry Error)
     → Option (Result Entry Error) × List (Result Entry Error)) → Range A
     → Option (Result Entry Error) → Range A → Type 0
@@ -172,8 +172,8 @@ pub record CountsBlocks {A : Type 0} (needed : ℕ) (s t : Range A) : Type 0 whe
   pub index_within : index + index_to_come t ≤ index_to_come s
 
 -- one call at an end; an error ends the iterator; it loads the blocks that it needs, and no more
--- where it wants memory; where all of
--- them were loaded, a fault that needs no memory to be found comes before any want of it
+-- where it wants memory; where all of them were loaded, a fault that needs no memory to be found
+-- comes before any want of it
 pub record RangeGives {A : Type 0} (end : List (Result Entry Error)
     → Option (Result Entry Error) × List (Result Entry Error)) (next : Range A → Next) (s : Range A)
     (r : Option (Result Entry Error)) (t : Range A) : Type 0 where

@@ -27,7 +27,9 @@ use Rattle.lsm_formats.specs.Layout.{bytes_in}
 use Rattle.lsm_formats.specs.declared.label.Label.{Label}
 use Rattle.lsm_formats.specs.declared.options.FilterKind.{FilterKind}
 use Rattle.lsm_formats.specs.declared.options.FilterKind.TheVariants.{Full as FullFilter}
-use Rattle.lsm_formats.specs.declared.options.FilterKind.TheVariants.{Partitioned as PartitionedFilter}
+use Rattle.lsm_formats.specs.declared.options.FilterKind.TheVariants.{
+  Partitioned as PartitionedFilter,
+}
 use Rattle.lsm_formats.specs.declared.options.Options.{Options}
 use Rattle.lsm_readers.proofs.ChunkReads.{AreSome}
 use Rattle.lsm_readers.proofs.FileIndexKinds.{index_count}

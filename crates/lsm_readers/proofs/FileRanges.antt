@@ -112,7 +112,8 @@ unfolding IsStrictAfter last_of
 all_below v key last x [] strict fits early =
     (below_key key (2 ^ 64 - 1) x (fits.0).number early, tt)
 all_below v key last x (y ∷ ys) strict fits early =
-    let here = not_before key (2 ^ 64 - 1) x (last_entry (y ∷ ys)) (later x y ys strict.1) early in (
+    let here = not_before key (2 ^ 64 - 1) x (last_entry (y ∷ ys))
+    (later x y ys strict.1) early in (
       below_key key (2 ^ 64 - 1) x (fits.0).number here,
       all_below v key
           (Some x) y ys strict.1 fits.1 early,

@@ -71,8 +71,7 @@ wants_memory (Ok x) = false
 wants_memory (Err e) = is_memory e
 
 -- a call made the loads of a read: all of them, or where it wanted memory those up to some load,
--- the
--- first in any case
+-- the first in any case
 pub record Opens {X : Type 0} (r : Result X Error) (loads : List BlockType) (old new : Opened)
     : Type 0 where
   pub made : ℕ
@@ -82,8 +81,7 @@ pub record Opens {X : Type 0} (r : Result X Error) (loads : List BlockType) (old
   pub some : 0 < length loads → 0 < made
 
 -- a call did a read: it answered what the read tells, memory aside, told an early fault first, and
--- made
--- its loads; without any it refuses nothing
+-- made its loads; without any it refuses nothing
 pub record DoesRead {X : Type 0} (r : Result X Error) (read : Read X)
     (old new : Opened) : Type 0 where
   pub told : Gives (λ (x : X). x) r read.told

@@ -202,7 +202,8 @@ parts_say (p ∷ ps) (f ∷ fs) last at body pre post key some are short strict 
     length-append block rest in
     let parted : body ≡ pre ++ (block ++ (rest ++ post)) = lies
     ∙ ap (λ (bs : List ℕ). pre ++ bs) (append_assoc block rest post) in
-    elim (key_lt end key) as (λ (b : Bool). key_lt end key ≡ b → FirstSaysYes body (top ∷ tops) key) [
+    elim (key_lt end key) as
+    (λ (b : Bool). key_lt end key ≡ b → FirstSaysYes body (top ∷ tops) key) [
       | true ↦ λ less.
           let none : is_among p.keys key ≡ false = lacks last p.keys key
           (strict_front last p.keys joined strict) less in

@@ -430,7 +430,8 @@ module _ (key : List ℕ) (bound : ℕ) where
         | Some a ↦ λ ex.
             let ain = point_in xs a ex in
             let qin = point_in ys q ey in
-            let less : a.seqno < q.seqno = all_in (λ z. a.user_key ≡ z.user_key → a.seqno < z.seqno) ys
+            let less : a.seqno < q.seqno =
+            all_in (λ z. a.user_key ≡ z.user_key → a.seqno < z.seqno) ys
             q (all_in (λ w. AllByRecursion (λ z. w.user_key ≡ z.user_key → w.seqno < z.seqno) ys) xs
             a newer ain.0) qin.0 (hit_key a ain.1 ∙ sym (hit_key q qin.1)) in
             ap (λ (b : Bool). cond b (Some q) (Some a)) (lt-ltb a.seqno q.seqno less)
@@ -486,7 +487,8 @@ module _ (key : List ℕ) (bound : ℕ) where
           → first_hit (own ++ rest) key bound ≡ first_hit rest key bound
       past rules reads x own rest all last miss =
           elim (and_not (same_key x.user_key key) (nat_lt x.seqno bound) miss) [
-            | inl other ↦ none_before key bound own rest (none_of_other key x.user_key own all other)
+            | inl other ↦
+                none_before key bound own rest (none_of_other key x.user_key own all other)
             | inr both ↦ elim last [
               | inl low ↦ absurd (apart (nat_lt x.seqno rules.watermark) low
                   (not_under x.seqno rules.watermark bound reads both.1))

@@ -27,7 +27,9 @@ use Rattle.lsm_formats.specs.Kinds.{index_sections}
 use Rattle.lsm_formats.specs.Layout.{Sections, bytes_in, laid}
 use Rattle.lsm_formats.specs.declared.options.IndexKind.{IndexKind}
 use Rattle.lsm_formats.specs.declared.options.IndexKind.TheVariants.{Full as FullIndex}
-use Rattle.lsm_formats.specs.declared.options.IndexKind.TheVariants.{Partitioned as PartitionedIndex}
+use Rattle.lsm_formats.specs.declared.options.IndexKind.TheVariants.{
+  Partitioned as PartitionedIndex,
+}
 use Rattle.lsm_writers.specs.Tables.{leading_chunks, list_in}
 use Rattle.lsm_writers.specs.Writing.{IsFinished, Writing, written}
 use Rattle.lsm_writers.proofs.Cutting.{block_len, len_again, past_header}

@@ -20,7 +20,9 @@ use Rattle.lsm_formats.specs.Layout.{Sections, appended}
 use Rattle.lsm_formats.specs.Parts.{parts_after}
 use Rattle.lsm_formats.specs.declared.options.FilterKind.{FilterKind}
 use Rattle.lsm_formats.specs.declared.options.FilterKind.TheVariants.{Full as FullFilter}
-use Rattle.lsm_formats.specs.declared.options.FilterKind.TheVariants.{Partitioned as PartitionedFilter}
+use Rattle.lsm_formats.specs.declared.options.FilterKind.TheVariants.{
+  Partitioned as PartitionedFilter,
+}
 use Rattle.lsm_section_writers.specs.FilterEither.{HoldsBy, failed_by, kind_by, policy_by}
 use Rattle.lsm_section_writers.specs.Given.{GivenKeys, given_by, no_keys as no_given, with_key}
 use Rattle.lsm_section_writers.specs.Rising.{AreRising, Rises}
@@ -30,8 +32,12 @@ use Rattle.lsm_section_writers.specs.Held.{CutParts, Hashes, HoldsHashes, HoldsP
 use Rattle.lsm_section_writers.specs.FilterRefusing.{filter_fault, given_fault, register_fault}
 use Rattle.lsm_section_writers.specs.Writing.{WritesFilter, WritesParts}
 use Rattle.lsm_section_writers.specs.declared.filter_either.FilterWriterImpl.{FilterWriterImpl}
-use Rattle.lsm_section_writers.specs.declared.filter_either.FilterWriterImpl.TheVariants.{Full as FullWriter}
-use Rattle.lsm_section_writers.specs.declared.filter_either.FilterWriterImpl.TheVariants.{Partitioned as PartitionedWriter}
+use Rattle.lsm_section_writers.specs.declared.filter_either.FilterWriterImpl.TheVariants.{
+  Full as FullWriter,
+}
+use Rattle.lsm_section_writers.specs.declared.filter_either.FilterWriterImpl.TheVariants.{
+  Partitioned as PartitionedWriter,
+}
 use Rattle.lsm_formats.specs.Chunks.{joined}
 use Rattle.lsm_writers.specs.Counts.{tally_of}
 use Rattle.lsm_writers.specs.Cut.{rest_chunk}

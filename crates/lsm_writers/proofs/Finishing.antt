@@ -31,7 +31,9 @@ use Rattle.lsm_section_writers.specs.declared.filter_either.FilterWriterImpl.{Fi
 use Rattle.lsm_writers.specs.Filtering.{IsFiltered, MayHaveKeys}
 use Rattle.lsm_formats.specs.declared.options.IndexKind.{IndexKind}
 use Rattle.lsm_formats.specs.declared.options.IndexKind.TheVariants.{Full as FullIndex}
-use Rattle.lsm_formats.specs.declared.options.IndexKind.TheVariants.{Partitioned as PartitionedIndex}
+use Rattle.lsm_formats.specs.declared.options.IndexKind.TheVariants.{
+  Partitioned as PartitionedIndex,
+}
 use Rattle.lsm_section_writers.specs.IndexRefusing.{index_fault, parts_fault}
 use Rattle.lsm_section_writers.specs.FilterRefusing.{filter_fault}
 use Rattle.lsm_section_writers.specs.Writing.{WritesFilter}

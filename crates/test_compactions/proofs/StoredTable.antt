@@ -35,7 +35,9 @@ use Rattle.lsm_runs.specs.SeveralRuns.{union_in}
 use Rattle.lsm_formats.specs.Options.{label_of}
 use Rattle.lsm_formats.specs.declared.options.Options.{Options}
 use Rattle.lsm_formats.specs.declared.options.FilterKind.TheVariants.{Full as FullFilter}
-use Rattle.lsm_formats.specs.declared.options.IndexKind.TheVariants.{Partitioned as PartitionedIndex}
+use Rattle.lsm_formats.specs.declared.options.IndexKind.TheVariants.{
+  Partitioned as PartitionedIndex,
+}
 use Rattle.lsm_formats.specs.declared.label.Label.{Label}
 use Rattle.test_compactions.specs.Stored.{new_entries, stored_entries}
 
