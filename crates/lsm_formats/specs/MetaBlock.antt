@@ -50,6 +50,10 @@ name_of item.WeakTombstoneReclaimable = codes "weak_tombstone_reclaimable"
 abbrev pub filter_hash_type : ℕ
 filter_hash_type = 1
 
+-- the version of the crate whose format is written
+abbrev pub crate_version : List ℕ
+crate_version = codes "3.1.10"
+
 -- an item with its value
 abbrev pub meta_entry : ItemName → List ℕ → Entry
 meta_entry name value = entry (name_of name) value 0 Value
@@ -75,7 +79,7 @@ block_items label options counted data_blocks file_size =
     ∷ meta_entry item.ChecksumType (1 ∷ [])
     ∷ meta_entry item.CompressionData (0 ∷ [])
     ∷ meta_entry item.CompressionIndex (0 ∷ [])
-    ∷ meta_entry item.CrateVersion (codes "3.1.10")
+    ∷ meta_entry item.CrateVersion crate_version
     ∷ meta_entry item.CreatedAt (le16 label.created_at)
     ∷ meta_entry item.DataBlockHashRatio (le4 options.data_block_hash_ratio)
     ∷ meta_entry item.FileSize (le8 file_size)

@@ -175,9 +175,6 @@ impl<A: Allocator + Clone> Ends for Iter<A> {
 
     #[inline(always)]
     fn step(&mut self, at: Direction) -> Option<IterItem<A>> {
-        match at {
-            Direction::Front => self.next(),
-            Direction::Back => self.next_back(),
-        }
+        self.answer(at)
     }
 }

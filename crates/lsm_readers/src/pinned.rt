@@ -110,9 +110,9 @@ impl<A: Allocator + Clone> PinnedBlockIndex<A> {
     pub(crate) fn over(
         &self,
         source: &BlockSource<A>,
-        tli: BlockHandle,
+        tli: &BlockHandle,
     ) -> Result<BlockIndexImpl<A>, Error>
-        ensures index { let read = index_over (body_of source.now) (index_of self.now) tli in
+        ensures index { let read = index_over (body_of source.now) (index_of self.now) tli.now in
             IfOk result (λ index. index_read index ≡ read) }
         ensures kind { IfOk result (λ index. kind_of index ≡ kind_kept (index_of self.now)) }
         ensures err { IfErr result (λ e. e ≡ OutOfMemory) }
@@ -122,7 +122,7 @@ impl<A: Allocator + Clone> PinnedBlockIndex<A> {
                 let handles = index.inner().clone()?;
                 Ok(BlockIndexImpl::Full(FullBlockIndex::new(handles)))
             }
-            PinnedBlockIndex::VolatileFull => volatile_index(source, tli),
+            PinnedBlockIndex::VolatileFull => volatile_index(source, *tli),
             PinnedBlockIndex::TwoLevel(tops) => two_level_index(source, tops),
         }
     }
@@ -137,13 +137,18 @@ impl<A: Allocator> PinnedBlockIndex<A> {
     {
         match self {
             PinnedBlockIndex::VolatileFull => 0,
-            _ => (tli.size() as usize).saturating_sub(Header::serialized_len()),
+            // Nothing is cut off: a block that was loaded is no shorter than its header.
+            PinnedBlockIndex::Full(_) | PinnedBlockIndex::TwoLevel(_) => {
+                (tli.size() as usize).saturating_sub(Header::serialized_len())
+            }
         }
     }
 }
 
 /// Where the first data block lies that reaches a key below a stored number, by what stays loaded
 /// of the index, whose one block or top level lies at a place.
+///
+/// It is no method of the index, which would need a bound: the source is to have its allocator.
 #[inline]
 pub(crate) fn handle_by<S: LoadBlocks>(
     source: &mut S,

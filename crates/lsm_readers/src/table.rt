@@ -451,7 +451,7 @@ impl<A: Allocator + Clone> Table<A> {
         let inner: &Inner<A> = &self.inner;
         inner
             .pinned_block_index
-            .over(&self.source, inner.regions.tli)
+            .over(&self.source, &inner.regions.tli)
     }
 }
 
