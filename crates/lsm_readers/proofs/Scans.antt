@@ -36,8 +36,6 @@ R = Result Entry Error
 abbrev Answer : Scan → Option R → Scan → Type 0
 Answer = Answers (λ _. Unit {0}) ScanHas front_of
 
--- ---- errors
-
 -- ---- an entry with the global number added
 
 pub lifted_ok : (g : ℕ) (e : Entry) → e.seqno + g < 2 ^ 64 → lifted_told g e ≡ Ok (lifted g e)

@@ -1,6 +1,6 @@
+use Rattle.sst_entries.proofs.Refusals.{faults_memory}
 use Rattle.lsm_writers.proofs.Turning.{ids_fine_first, ids_spent_first, rotation_spent}
 use Rattle.lsm_writers.proofs.multi_writer.rotate.Goals as goal
-use Rattle.sst_entries.proofs.Refusals.{faults_memory}
 
 pub returns-in_default-clause-refused : goal.returns-in_default-clause-refused
 returns-in_default-clause-refused g c = λ memory. rotation_spent c.args.ids.now c.args.writer.now c.in_default.ensures.id

@@ -1,6 +1,6 @@
+use Rattle.sst_entries.proofs.Refusals.{faults_memory}
 use Rattle.lsm_writers.proofs.Turning.{goes_on_first, ids_fine_first, ids_spent, ids_spent_first, new_tables_is}
 use Rattle.lsm_writers.proofs.multi_writer.MultiWriter.new.Goals as goal
-use Rattle.sst_entries.proofs.Refusals.{faults_memory}
 
 pub invariant_of-result : goal.invariant_of-result
 invariant_of-result g c = λ works.
