@@ -12,11 +12,6 @@ use Rattle.lsm_block_indexes.specs.Left.{demand_early, demands, loaded}
 use Rattle.lsm_block_indexes.specs.Seen.{PartGives}
 use Rattle.lsm_block_indexes.proofs.AtEnds.{R, End, Carries, at_part, part_ends}
 
--- no block was loaded before
-pub none_of : {X : Type 0} (o : Option X) → ((x : X) → o ≡ Some x → ⊥) → o ≡ None
-none_of None not = refl
-none_of (Some x) not = absurd (not x refl)
-
 -- what was loaded had no fault, and a fault that is found early is the one that is told
 no_fault : {X : Type 0} (x : X) (fault : Option Error) (f : Error)
     → FaultsFirst {X = X} (Ok x) fault → fault ≡ Some f → ⊥

@@ -11,6 +11,7 @@ use Rattle.sst_entries.specs.Error.{Fails, FaultsFirst, is_memory, unless}
 use Rattle.sst_blocks.specs.declared.block_type.BlockType.TheVariants.{Meta}
 use Rattle.sst_blocks.specs.Block.{place_fault}
 use Rattle.sst_blocks.specs.Handle.{Handle}
+use Rattle.sst_blocks.proofs.LoadLemmas.{unless_ok}
 use Rattle.sst_filters.specs.Filter.{BloomFilter}
 use Rattle.sst_sections.specs.Sections.{body_of, trailer_fault}
 use Rattle.lsm_readers.specs.declared.regions.ParsedRegions.{ParsedRegions}
@@ -23,7 +24,6 @@ use Rattle.lsm_readers.specs.IndexKinds.{PinnedIndex, index_told}
 use Rattle.lsm_readers.specs.Table.{IsRecovered, IsOpen}
 use Rattle.lsm_readers.specs.Table.{OpenTable}
 use Rattle.lsm_readers.specs.Read.{◌>>=◌}
-use Rattle.lsm_readers.proofs.Loads.{unless_ok}
 
 -- a step that told a value went on from one
 pub bind_ok : {A B : Type 0} (r : Result A Error) (f : A → Result B Error) (y : B)

@@ -10,20 +10,7 @@ use Rattle.std.proofs.lemmas.List.{drop_more}
 use Rattle.std.proofs.lemmas.Option.{slice_get_within, get_or_from_slice_get}
 use Rattle.sst_blocks.specs.declared.block_type.BlockType.TheVariants.{Data}
 use Rattle.sst_entries.specs.declared.error.Error.{Error}
-use Rattle.sst_entries.specs.declared.error.Error.TheVariants.{OutOfMemory, SeqNoOverflow}
-use Rattle.sst_entries.specs.declared.error.Error.TheVariants.{Truncated, InvalidHeader, InvalidTag}
-use Rattle.sst_entries.specs.declared.error.Error.TheVariants.{ChecksumMismatch, InvalidBlock}
-use Rattle.sst_entries.specs.declared.error.Error.TheVariants.{KeyTooLong, ValueTooLong}
-use Rattle.sst_entries.specs.declared.error.Error.TheVariants.{BlockTooLarge, SectionTooLarge}
-use Rattle.sst_entries.specs.declared.error.Error.TheVariants.{InvalidTrailer, MissingSection}
-use Rattle.sst_entries.specs.declared.error.Error.TheVariants.{MetaKeyMissing, InvalidMetaValue}
-use Rattle.sst_entries.specs.declared.error.Error.TheVariants.{UnsupportedTableVersion}
-use Rattle.sst_entries.specs.declared.error.Error.TheVariants.{UnsupportedHashType}
-use Rattle.sst_entries.specs.declared.error.Error.TheVariants.{UnsupportedChecksumType}
-use Rattle.sst_entries.specs.declared.error.Error.TheVariants.{UnsupportedIndexInterval}
-use Rattle.sst_entries.specs.declared.error.Error.TheVariants.{UnsupportedCompression}
-use Rattle.sst_entries.specs.declared.error.Error.TheVariants.{GlobalSeqNoTooLarge, TableIdsSpent}
-use Rattle.sst_entries.specs.declared.error.Error.TheVariants.{WriterFailed, Source}
+use Rattle.sst_entries.specs.declared.error.Error.TheVariants.{OutOfMemory}
 use Rattle.sst_blocks.specs.Block.{Loaded, load_at_told, position_fault, entries_of}
 use Rattle.sst_entries.specs.Entry.{Entry}
 use Rattle.sst_blocks.specs.Reading.{key_and_number}
@@ -34,6 +21,7 @@ use Rattle.sst_blocks.specs.Opened.{with_load}
 use Rattle.sst_entries.specs.Stream.{Answers, Deals, first, but_first, front_of, nowhere}
 use Rattle.sst_entries.specs.Stream.{answer_stops}
 use Rattle.sst_entries.proofs.StreamLemmas.{head_eq, deals_by}
+use Rattle.sst_entries.proofs.Refusals.{memory_is}
 use Rattle.lsm_readers.specs.Answer.{lifted}
 use Rattle.lsm_readers.specs.Scan.{FaultsAtBlock, FaultsAtEntry, IsEnded, Scan, ScanHas, ScansNext}
 use Rattle.lsm_readers.specs.Scan.{TakesEntry, behind, block_told, blocks_told, ended, entries_from}
@@ -47,34 +35,6 @@ R = Result Entry Error
 
 abbrev Answer : Scan → Option R → Scan → Type 0
 Answer = Answers (λ _. Unit {0}) ScanHas front_of
-
--- ---- errors
-
-pub memory_is : (e : Error) → is_memory e ≡ true → e ≡ OutOfMemory
-memory_is OutOfMemory h = refl
-memory_is Truncated h = absurd cc
-memory_is InvalidHeader h = absurd cc
-memory_is (InvalidTag name byte) h = absurd cc
-memory_is ChecksumMismatch h = absurd cc
-memory_is InvalidBlock h = absurd cc
-memory_is KeyTooLong h = absurd cc
-memory_is ValueTooLong h = absurd cc
-memory_is BlockTooLarge h = absurd cc
-memory_is SectionTooLarge h = absurd cc
-memory_is InvalidTrailer h = absurd cc
-memory_is MissingSection h = absurd cc
-memory_is MetaKeyMissing h = absurd cc
-memory_is InvalidMetaValue h = absurd cc
-memory_is UnsupportedTableVersion h = absurd cc
-memory_is UnsupportedHashType h = absurd cc
-memory_is UnsupportedChecksumType h = absurd cc
-memory_is UnsupportedIndexInterval h = absurd cc
-memory_is UnsupportedCompression h = absurd cc
-memory_is GlobalSeqNoTooLarge h = absurd cc
-memory_is SeqNoOverflow h = absurd cc
-memory_is TableIdsSpent h = absurd cc
-memory_is WriterFailed h = absurd cc
-memory_is (Source n) h = absurd cc
 
 -- ---- an entry with the global number added
 

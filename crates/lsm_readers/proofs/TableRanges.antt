@@ -15,6 +15,7 @@ use Rattle.sst_entries.specs.Stream.{Deals, NoneStops, Runs, answer_stops, back_
 use Rattle.sst_entries.specs.Stream.{first, front_of, ok_results}
 use Rattle.sst_entries.proofs.Booleans.{apart, is_false}
 use Rattle.sst_entries.proofs.StreamLemmas.{map_reverse}
+use Rattle.sst_entries.proofs.Refusals.{memory_is}
 use Rattle.sst_blocks.specs.declared.opened.Opened.{Opened}
 use Rattle.sst_blocks.specs.Handle.{Handle}
 use Rattle.lsm_formats.specs.Table.{IsTable}
@@ -33,7 +34,6 @@ use Rattle.lsm_readers.specs.Ranges.{DealsAll, DealsWithin, IsRangeOf, LoadsAtMo
 use Rattle.lsm_readers.specs.Ranges.{bounded, index_within, range_told}
 use Rattle.lsm_readers.specs.Table.{IsOpen, OpenTable}
 use Rattle.lsm_readers.proofs.FileRanges.{file_blocks, file_rows}
-use Rattle.lsm_readers.proofs.Scans.{memory_is}
 
 abbrev R : Type 0
 R = Result Entry Error

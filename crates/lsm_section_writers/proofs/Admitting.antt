@@ -12,7 +12,7 @@ use Rattle.std.proofs.Math.Bool.{or_assoc}
 use Rattle.sst_entries.specs.Entry.{Entry}
 use Rattle.sst_entries.specs.Key.{key_lt, same_key}
 use Rattle.sst_entries.specs.Strict.{IsStrictAfter, may_follow}
-use Rattle.sst_entries.proofs.Booleans.{apart, is_false, or_right}
+use Rattle.sst_entries.proofs.Booleans.{apart, is_false, or_right, or_first}
 use Rattle.sst_entries.proofs.KeyLemmas.{le_itself, same_is}
 use Rattle.sst_entries.proofs.OrderLemmas.{lt_trans}
 use Rattle.sst_filters.specs.KeyHash.{hash_of}
@@ -93,10 +93,6 @@ among_append : (xs ys : List (List ℕ)) (key : List ℕ)
 among_append [] ys key = refl
 among_append (x ∷ xs) ys key = ap (λ (b : Bool). same_key x key || b) (among_append xs ys key)
     ∙ sym (or_assoc (same_key x key) (is_among xs key) (is_among ys key))
-
-or_first : (a b : Bool) → (a || b) ≡ true → b ≡ false → a ≡ true
-or_first true b h none = refl
-or_first false b h none = absurd (apart b h none)
 
 or_second : (a b : Bool) → (a || b) ≡ true → a ≡ false → b ≡ true
 or_second true b h none = absurd (let no : true ≡ false = none in cc)
