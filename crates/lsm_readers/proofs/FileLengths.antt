@@ -11,7 +11,7 @@ use Rattle.sst_blocks.specs.Handle.{Handle}
 use Rattle.sst_blocks.specs.Handles.{handles_payload, handle_spelled, IsSpellableHandle}
 use Rattle.sst_blocks.specs.Handles.{AreStrictHandles, end_of}
 use Rattle.sst_sections.specs.Number.{le4}
-use Rattle.sst_blocks.specs.Payload.{payload, spelled, AreSpellable}
+use Rattle.sst_blocks.specs.Payload.{payload, spelled}
 use Rattle.sst_blocks.specs.Payload as written
 use Rattle.sst_blocks.specs.Reading.{entries_in}
 use Rattle.sst_entries.specs.Strict.{may_follow, IsStrictAfter, IsStrict, last_of}

@@ -1,6 +1,6 @@
 -- Strict lists, and the test for them.
-use Rattle.std.proofs.Common.{◌≡◌, refl, Bool, true, false, List, [], ◌∷◌, ◌++◌}
-use Rattle.std.specs.Prelude.{Option, Some, None, ◌&&◌}
+use Rattle.std.proofs.Common.{◌≡◌, refl, true, false, List, [], ◌∷◌, ◌++◌}
+use Rattle.std.specs.Prelude.{Option, Some, None}
 use Rattle.sst_entries.specs.Entry.{Entry}
 use Rattle.sst_entries.specs.Strict.{is_before, may_follow, IsStrictAfter, is_strict_after, last_of}
 use Rattle.sst_entries.proofs.Booleans.{and_left, and_right, and_both, and_false}

@@ -1,4 +1,4 @@
-use Rattle.std.proofs.Common.{◌≡◌, ◌∙◌, ap, subst, sym, List}
+use Rattle.std.proofs.Common.{◌∙◌, ap, subst, List}
 use Rattle.std.specs.Prelude.{Option, map}
 use Rattle.std.specs.Arc.{arc_value}
 use Rattle.sst_entries.specs.Entry.{Entry}
