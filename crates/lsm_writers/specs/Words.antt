@@ -26,6 +26,7 @@ pub use Rattle.lsm_writers.specs.Filtering.{Registers, registered_key}
 pub use Rattle.lsm_writers.specs.Held.{AreTableParts, HaveParts, IsTaken}
 pub use Rattle.lsm_formats.specs.Facts.{starts_key}
 pub use Rattle.lsm_writers.specs.Writing.{WritesTable, cut_writing, fresh_writing, sections_fault}
-pub use Rattle.lsm_writers.specs.Writing.{IsFinished, IsFresh, finish_fault, gained, item_fault}
-pub use Rattle.lsm_writers.specs.Writing.{may_be_written, new_writing, spilled, write_fault}
+pub use Rattle.lsm_writers.specs.Writing.{IsFinished, IsFresh, IsSmallIndex, finish_fault, gained}
+pub use Rattle.lsm_writers.specs.Writing.{item_fault, may_be_written, new_writing, spilled}
+pub use Rattle.lsm_writers.specs.Writing.{write_fault}
 pub use Rattle.lsm_writers.specs.Writing.{written}

@@ -1,6 +1,6 @@
 -- The state of a writer, and what its calls do to it.
-use Rattle.std.specs.Prelude.{◌≡◌, ℕ, ◌+◌, ◌-◌, ◌^◌, ◌<◌, Bool, false, ◌&&◌, nat_lt, nat_le, List}
-use Rattle.std.specs.Prelude.{[], ◌∷◌, ◌++◌, length, Option, Some, None, if◌then◌else◌}
+use Rattle.std.specs.Prelude.{◌≡◌, ℕ, ◌+◌, ◌-◌, ◌^◌, ◌<◌, ◌≤◌, Bool, false, ◌&&◌, nat_lt, nat_le}
+use Rattle.std.specs.Prelude.{List, [], ◌∷◌, ◌++◌, length, Option, Some, None, if◌then◌else◌}
 use Rattle.std.specs.List.{AllByRecursion}
 use Rattle.std.specs.Option.{option_or}
 use Rattle.sst_sections.specs.declared.version.TableVersion.TheVariants.{V4}
@@ -25,6 +25,11 @@ use Rattle.lsm_formats.specs.Kinds.{filter_parts, index_parts}
 use Rattle.lsm_formats.specs.Table.{IsTable}
 use Rattle.lsm_section_writers.specs.FilterRefusing.{filter_fault}
 use Rattle.lsm_section_writers.specs.IndexRefusing.{index_fault}
+use Rattle.lsm_formats.specs.declared.options.IndexKind.{IndexKind}
+use Rattle.lsm_formats.specs.declared.options.IndexKind.TheVariants.{Full as FullIndex}
+use Rattle.lsm_formats.specs.declared.options.IndexKind.TheVariants.{
+  Partitioned as PartitionedIndex,
+}
 use Rattle.lsm_formats.specs.declared.options.Options.{Options}
 use Rattle.lsm_formats.specs.declared.label.Label.{Label}
 use Rattle.lsm_formats.specs.Options.{default_options}
@@ -44,6 +49,11 @@ written w = joined w.cut ++ w.pending
 -- no entry was given yet
 abbrev pub IsFresh : Writing → Type 0
 IsFresh w = (w.cut ≡ []) × (w.pending ≡ []) × (w.failed ≡ false)
+
+-- partitions of an index are cut at four megabytes at most
+abbrev pub IsSmallIndex : IndexKind → Type 0
+IsSmallIndex FullIndex = Unit {0}
+IsSmallIndex (PartitionedIndex size) = size ≤ 4194304
 
 -- a key and number may come next: the number is below the largest one, and they come strictly
 -- after the last entry

@@ -10,7 +10,8 @@ ghost use Rattle.lsm_formats.specs.declared.options.IndexKind.TheVariants.{
 };
 ghost use Rattle.lsm_writers.specs.Words.{Faults, FaultsFirst, IsStrict, failed_fault};
 ghost use Rattle.lsm_writers.specs.Words.{finish_fault};
-ghost use Rattle.lsm_writers.specs.Words.{IsSmallFilter, may_be_written, written};
+ghost use Rattle.lsm_writers.specs.Words.{IsSmallFilter, IsSmallIndex, filter_with_size};
+ghost use Rattle.lsm_writers.specs.Words.{index_with_size, may_be_written, written};
 ghost use Rattle.lsm_writers.specs.Tables.{AddsTable, AreFinished, AreInKeyOrder, AreTables};
 ghost use Rattle.lsm_writers.specs.Tables.{HasRoomFor, IsFreshRun};
 ghost use Rattle.lsm_writers.specs.Tables.{all_written, drawn, early_refusal, first_label};
@@ -209,6 +210,19 @@ impl<A: Allocator + Clone> MultiWriter<A> {
         self
     }
 
+    /// Sets all that the tables are written with: what was set before is forgotten. Only tables
+    /// with an index block restart interval of 1 can be opened.
+    pub fn use_options(self, options: Options) -> MultiWriter<A>
+        requires fresh { IsFreshRun self }
+        requires some { 0 < options.data_block_restart_interval }
+        requires small_blocks { options.data_block_size ≤ 4194304 }
+        requires small_index { IsSmallIndex options.index_kind }
+        requires small_filter { IsSmallFilter options.filter_kind }
+        ensures { result ≡ with_options self options }
+    {
+        self.with_options(options)
+    }
+
     /// After how many entries at most a data block has a place where reading can restart.
     pub fn use_data_block_restart_interval(self, interval: u8) -> MultiWriter<A>
         requires fresh { IsFreshRun self }
@@ -289,6 +303,28 @@ impl<A: Allocator + Clone> MultiWriter<A> {
         let options = Options {
             index_kind: IndexKind::Partitioned(4_096),
             ..self.writer.options()
+        };
+        self.with_options(options)
+    }
+
+    /// How many bytes a partition of an index or of a filter has when it is cut. Nothing changes
+    /// where they have none.
+    #[tactic(auto, using(crate::proofs::Filtered::sized_small))]
+    pub fn use_meta_partition_size(self, size: u32) -> MultiWriter<A>
+        requires fresh { IsFreshRun self }
+        requires small { size ≤ 4194304 }
+        ensures { result ≡
+            with_options self
+            (record self.present.options {
+              index_kind = index_with_size size self.present.options.index_kind;
+              filter_kind = filter_with_size size self.present.options.filter_kind;
+            }) }
+    {
+        let before = self.writer.options();
+        let options = Options {
+            index_kind: before.index_kind.with_size(size),
+            filter_kind: before.filter_kind.with_size(size),
+            ..before
         };
         self.with_options(options)
     }

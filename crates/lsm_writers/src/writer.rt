@@ -4,7 +4,8 @@ ghost use Rattle.std.specs.Prelude.{None, Some, false, true, length, IsTrue, IfO
 ghost use Rattle.std.specs.Prelude.{OnErr, MatchResult, MatchOption};
 ghost use Rattle.lsm_writers.specs.Words.{AreTableParts, CanRegister, CountsCut, Entry, EntryFits};
 ghost use Rattle.lsm_writers.specs.Words.{Faults, FaultsFirst, HasNoVersion, HaveParts, IsFinished};
-ghost use Rattle.lsm_writers.specs.Words.{IsFresh, IsSmallFilter, IsStrict, IsTaken, LabelFits};
+ghost use Rattle.lsm_writers.specs.Words.{IsFresh, IsSmallFilter, IsSmallIndex, IsStrict, IsTaken};
+ghost use Rattle.lsm_writers.specs.Words.{LabelFits};
 ghost use Rattle.lsm_writers.specs.Words.{Registers, WritesTable, appended, cut_writing};
 ghost use Rattle.lsm_writers.specs.Words.{empty_len, entries_fault, entries_size, entry_head_len};
 ghost use Rattle.lsm_writers.specs.Words.{entry_size, failed_fault};
@@ -45,6 +46,7 @@ use sst_blocks::{
 use sst_entries::compare_versions;
 use sst_filters::BloomConstructionPolicy;
 use std::alloc::{Allocator, Global};
+use std::fmt;
 use std::marker::Model;
 
 /// Writes the entries of a table into blocks, and the blocks into the bytes of a table. A contract
@@ -350,6 +352,19 @@ impl<A: Allocator + Clone> Writer<A> {
         self
     }
 
+    /// Sets all that the table is written with: what was set before is forgotten. Only tables with
+    /// an index block restart interval of 1 can be opened.
+    pub fn use_options(self, options: Options) -> Writer<A>
+        requires fresh { IsFresh self }
+        requires some { 0 < options.data_block_restart_interval }
+        requires small_blocks { options.data_block_size ≤ 4194304 }
+        requires small_index { IsSmallIndex options.index_kind }
+        requires small_filter { IsSmallFilter options.filter_kind }
+        ensures { result ≡ record self { options = options } }
+    {
+        self.with_options(options)
+    }
+
     /// After how many entries at most a data block has a place where reading can restart.
     pub fn use_data_block_restart_interval(mut self, interval: u8) -> Writer<A>
         requires fresh { IsFresh self }
@@ -478,9 +493,9 @@ impl<A: Allocator + Clone> Writer<A> {
     }
 }
 
-/// A table whose bytes are complete.
+/// A table whose bytes are complete. Printed with `Debug` it tells how many bytes there are, and
+/// not which.
 #[derive(Drop)]
-#[derive_where(Debug)]
 pub struct FinishedTable<A: Allocator = Global> {
     /// The table's id.
     pub id: TableId,
@@ -488,6 +503,16 @@ pub struct FinishedTable<A: Allocator = Global> {
     pub checksum: Checksum,
     /// The sections and their trailer.
     pub bytes: Slice<A>,
+}
+
+impl<A: Allocator> fmt::Debug for FinishedTable<A> {
+    fn fmt<W: fmt::Write>(&self, f: &mut fmt::Formatter<W>) -> fmt::Result {
+        f.debug_struct("FinishedTable")
+            .field("id", &self.id)
+            .field("checksum", &self.checksum)
+            .field("len", &self.bytes.len())
+            .finish()
+    }
 }
 
 /// Writes the number of the version. Refused [`Error::OutOfMemory`] alone; nothing is written then.

@@ -1,13 +1,17 @@
 //! Tables that are written one after another.
+ghost use Rattle.std.specs.Prelude.{IfOk};
+ghost use Rattle.lsm_writers.specs.Tables.{IsFreshRun};
+
 use lsm_writers::{
-    FinishedTable, MultiWriter, TableId, TableIds, Timestamp, is_writable, write_list,
+    BloomConstructionPolicy, FilterKind, FinishedTable, IndexKind, MultiWriter, Options, TableId,
+    TableIds, Timestamp, Writer, is_writable, write_list,
 };
 use sst_blocks::{Error, InternalValue, SeqNo, ValueType};
 use std::alloc::{Allocator, Global};
 use std::test::Fail;
 use test_refusing::{Refusing, each_refused};
 use test_tables::large::{add, asked, asked_if_any};
-use test_tables::rows::{entry as entry_of, written};
+use test_tables::rows::{entry as entry_of, fill, written};
 
 // A key and a number.
 type Row = (&'static [u8], SeqNo);
@@ -251,5 +255,82 @@ fn each_request_refused_is_want_of_memory(rt: HostRuntime) -> Result<(), Fail> {
     let heap = Refusing::new(rt.alloc(), 0);
     assert!(rt; writes_three_tables(&heap, false));
     assert_eq!(rt; answers, Ok(heap.requests()));
+    Ok(())
+}
+
+// Options of which none is that of a new writer.
+const OPTIONS: Options = Options {
+    data_block_restart_interval: 8,
+    index_block_restart_interval: 2,
+    data_block_hash_ratio: 750,
+    data_block_size: 1,
+    index_kind: IndexKind::Partitioned(1),
+    filter_kind: FilterKind::Partitioned(1),
+    bloom_policy: BloomConstructionPolicy::BitsPerKey(640),
+};
+
+// A writer of many tables that has no entry yet.
+fn new_writer(alloc: Global) -> Result<MultiWriter, Error>
+    ensures { IfOk result (λ w. IsFreshRun w) }
+{
+    MultiWriter::new(alloc, TableIds::new(1), 1 << 20, 0, Timestamp::from(0))
+}
+
+// The tables of two keys.
+fn of_two_keys(alloc: Global, mut writer: MultiWriter) -> Result<Vec<FinishedTable>, Error> {
+    let answer = put_all(alloc, &mut writer, TWO_KEYS, 1);
+    written(writer, answer)?.finish()
+}
+
+// Those of a writer whose options are set one by one.
+fn tables_one_by_one(alloc: Global) -> Result<Vec<FinishedTable>, Error> {
+    let writer = new_writer(alloc)?
+        .use_data_block_restart_interval(8)
+        .use_index_block_restart_interval(2)
+        .use_data_block_hash_ratio(750)
+        .use_data_block_size(1)
+        .use_partitioned_index()
+        .use_partitioned_filter()
+        .use_meta_partition_size(1)
+        .use_bloom_policy(BloomConstructionPolicy::BitsPerKey(640));
+    of_two_keys(alloc, writer)
+}
+
+// Those of a writer whose options are set at once.
+fn tables_at_once(alloc: Global) -> Result<Vec<FinishedTable>, Error> {
+    of_two_keys(alloc, new_writer(alloc)?.use_options(OPTIONS))
+}
+
+// The table of a writer of one table, whose options are set at once.
+fn table_at_once(alloc: Global) -> Result<FinishedTable, Error> {
+    let writer = Writer::new(alloc, 1, 0, Timestamp::from(0))?.use_options(OPTIONS);
+    let rows = [
+        (b"a".as_slice(), 1, ValueType::Value, b"x".as_slice()),
+        (b"b", 1, ValueType::Value, b"x"),
+    ];
+    fill(writer, alloc, &rows)
+}
+
+// Whether tables are one, the same as this one.
+fn are_one(tables: &[FinishedTable], table: &FinishedTable) -> bool {
+    tables.len() == 1 && tables.iter().all(|other| are_same(table, other))
+}
+
+// Whether a table is written by both writers whose options are set one by one, and at once.
+fn is_of_options(alloc: Global, table: &FinishedTable) -> Result<[bool; 2], Error> {
+    Ok([
+        asked(
+            tables_one_by_one(alloc),
+            |tables| Ok(are_one(tables, table)),
+        )?,
+        asked(tables_at_once(alloc), |tables| Ok(are_one(tables, table)))?,
+    ])
+}
+
+#[test]
+fn options_may_be_set_at_once(rt: HostRuntime) -> Result<(), Fail> {
+    let alloc = rt.alloc();
+    let are_same = asked(table_at_once(alloc), |table| is_of_options(alloc, table))?;
+    assert_eq!(rt; are_same, [true, true]);
     Ok(())
 }

@@ -51,6 +51,21 @@ fn writes_a_table_byte_for_byte(rt: HostRuntime) -> Result<(), Fail> {
     Ok(())
 }
 
+// Whether a table prints how many bytes it has, and not which.
+fn prints_its_length(alloc: Global, table: &FinishedTable) -> Result<bool, Error> {
+    Ok(
+        format!(in alloc; "{table:?}")?.as_str()
+            == "FinishedTable { id: 1, checksum: Checksum(1866175774685508454), len: 1320 }",
+    )
+}
+
+#[test]
+fn a_finished_table_prints_without_its_bytes(rt: HostRuntime) -> Result<(), Fail> {
+    let alloc = rt.alloc();
+    assert!(rt; asked(one_entry(alloc), |table| prints_its_length(alloc, table))?);
+    Ok(())
+}
+
 // The counts before and after the block that waits is cut.
 fn counts_around_a_cut(writer: &mut Writer) -> Result<([usize; 7], [usize; 7]), Error> {
     let before = counts(writer);
