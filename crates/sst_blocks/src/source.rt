@@ -1,5 +1,6 @@
 //! The only way to the blocks of a table's bytes.
-ghost use Rattle.std.specs.Prelude.{◌≡◌, ◌↔◌, ◌+◌, ◌<◌, ◌≤◌, ◌^◌, List, ℕ, length, map};
+ghost use Rattle.std.specs.Prelude.{◌≡◌, ◌↔◌, ◌+◌, ◌*◌, ◌/◌, ◌⊎◌, ◌<◌, ◌≤◌, ◌^◌, List, ℕ, length};
+ghost use Rattle.std.specs.Prelude.{map};
 ghost use Rattle.std.specs.Prelude.{slice_range};
 ghost use Rattle.std.specs.Prelude.{IfErr, IfOk, IfSome, IsTrue, OnOk, MatchOption, Err, None};
 ghost use Rattle.std.specs.Prelude.{Some, true};
@@ -138,6 +139,24 @@ impl<A: Allocator + Clone> BlockSource<A> {
         ensures read { trailer_fault self.now ≡ None }
     {
         &self.toc
+    }
+
+    /// The bytes that it reads, their trailer too.
+    pub fn bytes(&self) -> &Slice<A>
+        ensures { result.now ≡ self.now }
+    {
+        &self.bytes
+    }
+
+    /// How many bytes it takes to remember which payloads were tested: a word of 8 for each 2,048
+    /// bytes and one more, or 0 where there was no memory for them.
+    pub fn marks_size(&self) -> usize
+        ensures { (result ≡ 0) ⊎ (result ≡ 8 * (length self.now / 2048 + 1)) }
+    {
+        match &self.marks {
+            Some(_) => 8 * (self.bytes.len() / SPAN as usize + 1),
+            None => 0,
+        }
     }
 
     /// The allocator that the memory of blocks comes from.
