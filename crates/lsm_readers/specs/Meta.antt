@@ -223,3 +223,8 @@ facts_told es =
 abbrev pub meta_told : List ℕ → Place → Result Facts Error
 meta_told body place =
     load_told body place.offset place.size Meta >>= λ block. facts_told (entries_of block)
+
+-- the value of an item of the meta block at a place, whatever the others are
+abbrev pub meta_item_told : List ℕ → Place → ItemName → Result (List ℕ) Error
+meta_item_told body place name =
+    load_told body place.offset place.size Meta >>= λ block. item_told (entries_of block) name

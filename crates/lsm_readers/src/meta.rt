@@ -9,6 +9,7 @@ ghost use Rattle.lsm_readers.specs.Meta.{one_byte_told, byte_told, first_byte_to
 ghost use Rattle.lsm_readers.specs.Meta.{version_number_told, version_told, kinds_told};
 ghost use Rattle.lsm_readers.specs.Meta.{compressions_told, created_told, numbers_told, keys_told};
 ghost use Rattle.lsm_readers.specs.Meta.{seqnos_told, rest_told, facts_of, facts_told, meta_told};
+ghost use Rattle.lsm_readers.specs.Meta.{meta_item_told};
 ghost use Rattle.lsm_readers.specs.declared.meta.Numbers.{Numbers};
 ghost use Rattle.lsm_ranges.specs.KeyRange.{Interval};
 
@@ -335,4 +336,22 @@ impl<A: Allocator + Clone> ParsedMeta<A> {
         drop(block);
         meta
     }
+}
+
+/// The value of an item of the meta block at a place. Refused as [`BlockSource::load`], then
+/// [`Error::MetaKeyMissing`] where the block has no such item; and [`Error::OutOfMemory`].
+pub(crate) fn load_item<A: Allocator + Clone>(
+    source: &BlockSource<A>,
+    handle: &BlockHandle,
+    name: ItemName,
+) -> Result<Slice<A>, Error>
+    ensures { Gives (λ (v : List ℕ). v) result
+        (meta_item_told (body_of source.now) handle.now name) }
+{
+    let mut opened = Opened::none();
+    let block = source.load(handle, BlockType::Meta, &mut opened)?;
+    let block = DataBlock::new(block);
+    let value = item(&block, name);
+    drop(block);
+    value
 }
