@@ -53,9 +53,9 @@ pub record IsBetween (l : Left) (low : Option (List ℕ × ℕ)) (high : Option 
   pub loads : l.loads ≡ l.index.loads low high
 
 -- the counts after so many loads of index blocks
-abbrev pub loaded : ℕ → Opened → Opened
-loaded zero o = o
-loaded (suc n) o = with_load IndexBlock (loaded n o)
+abbrev pub with_index_loads : ℕ → Opened → Opened
+with_index_loads zero o = o
+with_index_loads (suc n) o = with_load IndexBlock (with_index_loads n o)
 
 -- an answer at an end: the result that stands there, and the others are left; nothing, where
 -- nothing is left; want of memory stands in the place of any answer, except once all is over
@@ -70,14 +70,14 @@ AtEnd end s (Some (Err e)) t = (is_memory e ≡ false → (end s.results).0 ≡ 
 -- the blocks that a call loads are counted, and are among those that may be loaded
 pub record CountsLoads (s t : Left) : Type 0 where
   pub count : ℕ
-  pub counts : t.opened ≡ loaded count s.opened
+  pub counts : t.opened ≡ with_index_loads count s.opened
   pub within : count + t.loads ≤ s.loads
 
 -- from an iterator that had loaded nothing: what was loaded is counted, and with what may still be
 -- loaded it is at most so much
 pub record CountsUpTo (most : ℕ) (l : Left) : Type 0 where
   pub count : ℕ
-  pub counts : l.opened ≡ loaded count none_opened
+  pub counts : l.opened ≡ with_index_loads count none_opened
   pub within : count + l.loads ≤ most
 
 -- one call at an end; an error ends the iterator

@@ -127,16 +127,3 @@ chunk_here key bound last x (y ∷ ys) rest strict late =
 abbrev pub AreSome : List (List Entry) → Type 0
 AreSome [] = Unit {0}
 AreSome (c ∷ cs) = (0 < length c) × AreSome cs
-
--- what comes after the entries of a strict list is strict
-pub strict_after : (last : Option Entry) (es rest : List Entry) → IsStrictAfter last (es ++ rest)
-    → IsStrictAfter (last_of last es) rest
-unfolding IsStrictAfter last_of
-strict_after last [] rest strict = strict
-strict_after last (e ∷ es) rest strict = strict_after (Some e) es rest strict.1
-
-pub strict_front : (last : Option Entry) (es rest : List Entry) → IsStrictAfter last (es ++ rest)
-    → IsStrictAfter last es
-unfolding IsStrictAfter
-strict_front last [] rest strict = tt
-strict_front last (e ∷ es) rest strict = (strict.0, strict_front (Some e) es rest strict.1)

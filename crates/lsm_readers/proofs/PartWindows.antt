@@ -11,6 +11,7 @@ use Rattle.sst_entries.specs.Stream.{ok_results}
 use Rattle.sst_entries.specs.Strict.{IsStrictAfter, is_before, last_of}
 use Rattle.sst_entries.proofs.Booleans.{apart, is_false}
 use Rattle.sst_entries.proofs.OrderLemmas.{before_trans}
+use Rattle.sst_entries.proofs.Strictness.{strict_back, strict_front}
 use Rattle.sst_blocks.specs.declared.block_type.BlockType.TheVariants.{Index}
 use Rattle.sst_blocks.specs.Handle.{Handle}
 use Rattle.sst_blocks.specs.Handles.{AreStrictHandles, end_of, from_edge, from_first, is_above}
@@ -24,7 +25,6 @@ use Rattle.lsm_block_indexes.specs.Index.{between, block_between, parts_between}
 use Rattle.lsm_readers.specs.IndexKinds.{handles_told}
 use Rattle.lsm_readers.specs.Read.{◌>>=◌}
 use Rattle.lsm_readers.specs.Stored.{NamesPart}
-use Rattle.lsm_readers.proofs.ChunkReads.{strict_after, strict_front}
 use Rattle.lsm_readers.proofs.Windows.{AllCut, AllTell, Rises, Tells, parts_cut, to_here, to_later}
 
 -- ---- the tests at the edges
@@ -165,7 +165,7 @@ module _ (p : Handle → Bool) (edge : IsEdge p) where
         tell last top x xs (part_end body top x xs named.0)
             (strict_front last (map end_of part) (map end_of (joined_parts ps)) whole),
         tells body (last_of last (map end_of part)) tops ps named.1
-            (strict_after last (map end_of part) (map end_of (joined_parts ps)) whole),
+            (strict_back last (map end_of part) (map end_of (joined_parts ps)) whole),
       )
 
 -- ---- what a block and what partitions have between the edges

@@ -36,10 +36,10 @@ pub data PinnedIndex : Type 0 where
   volatile : PinnedIndex
   two_level : List Handle → PinnedIndex
 
-abbrev pub index_of : {A : Type 0} → PinnedBlockIndex A → PinnedIndex
-index_of (FullKept index) = full index
-index_of NothingKept = volatile
-index_of (TopsKept tops) = two_level tops
+abbrev pub pinned_index_of : {A : Type 0} → PinnedBlockIndex A → PinnedIndex
+pinned_index_of (FullKept index) = full index
+pinned_index_of NothingKept = volatile
+pinned_index_of (TopsKept tops) = two_level tops
 
 -- ---- opening an index
 
@@ -77,21 +77,21 @@ abbrev pub place_in : List Handle → List ℕ → ℕ → Option Place
 place_in handles key bound = option_map place_of (find (reaches key bound) handles)
 
 -- where the handle leads that the index block at a place has for a key at a bound
-abbrev pub handle_at : List ℕ → List ℕ → ℕ → Place → Read (Option Place)
-handle_at body key bound place =
+abbrev pub handle_in_block : List ℕ → List ℕ → ℕ → Place → Read (Option Place)
+handle_in_block body key bound place =
     read_map (λ block. place_in (handles_of block) key bound) (block_read body place IndexBlock)
 
 -- where the handle leads that the partition at a place has for a key at a bound; nowhere where
 -- there is no partition
 abbrev pub handle_in_part : List ℕ → List ℕ → ℕ → Option Place → Read (Option Place)
 handle_in_part body key bound None = known None
-handle_in_part body key bound (Some place) = handle_at body key bound place
+handle_in_part body key bound (Some place) = handle_in_block body key bound place
 
 -- where the first data block lies that reaches a key at a bound: by the handles that stay loaded,
 -- by the one block of the index, or by the one partition that the top level leads to
 abbrev pub handle_by : List ℕ → PinnedIndex → Place → List ℕ → ℕ → Read (Option Place)
 handle_by body (full handles) tli key bound = known (place_in handles key bound)
-handle_by body volatile tli key bound = handle_at body key bound tli
+handle_by body volatile tli key bound = handle_in_block body key bound tli
 handle_by body (two_level tops) tli key bound =
     handle_in_part body key bound (place_in tops key bound)
 
@@ -117,10 +117,10 @@ pub data Kind : Type 0 where
   on_each_read : Kind
   partitioned : Kind
 
-abbrev pub kind_of : {A : Type 0} → BlockIndexImpl A → Kind
-kind_of (Full index) = whole
-kind_of (VolatileFull index) = on_each_read
-kind_of (TwoLevel index) = partitioned
+abbrev pub index_kind_of : {A : Type 0} → BlockIndexImpl A → Kind
+index_kind_of (Full index) = whole
+index_kind_of (VolatileFull index) = on_each_read
+index_kind_of (TwoLevel index) = partitioned
 
 -- the kind of the index over what stays loaded
 abbrev pub kind_kept : PinnedIndex → Kind

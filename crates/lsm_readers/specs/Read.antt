@@ -43,9 +43,9 @@ abbrev pub loads_behind : {X Y : Type 0} → Result X Error → (X → Read Y) �
 loads_behind (Ok x) next = (next x).loads
 loads_behind (Err e) next = []
 
-abbrev pub early_behind : {X Y : Type 0} → Result X Error → (X → Read Y) → Option Error
-early_behind (Ok x) next = (next x).early
-early_behind (Err e) next = None
+abbrev pub early_then : {X Y : Type 0} → Result X Error → (X → Read Y) → Option Error
+early_then (Ok x) next = (next x).early
+early_then (Err e) next = None
 
 -- what comes behind a load takes memory first
 abbrev pub early_of : List BlockType → Option Error → Option Error → Option Error
@@ -57,7 +57,7 @@ abbrev pub read_then : {X Y : Type 0} → Read X → (X → Read Y) → Read Y
 read_then r next = record {
   told = r.told >>= λ x. (next x).told;
   loads = r.loads ++ loads_behind r.told next;
-  early = early_of r.loads r.early (early_behind r.told next);
+  early = early_of r.loads r.early (early_then r.told next);
 }
 
 -- the counts after loads of some kinds

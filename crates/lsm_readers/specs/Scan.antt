@@ -82,12 +82,12 @@ scan_left s = entries_from s.body s.global_seqno s.entries s.position s.blocks
 abbrev pub ended : Scan → Scan
 ended s = record s { entries = []; blocks = 0 }
 
-abbrev pub IsEnded : Scan → Type 0
-IsEnded s = (s.entries ≡ []) × (s.blocks ≡ 0)
+abbrev pub IsEndedScan : Scan → Type 0
+IsEndedScan s = (s.entries ≡ []) × (s.blocks ≡ 0)
 
 -- a scan stands for what is left, where it reads no more or want of memory stops its reader
 abbrev pub ScanHas : (Error → Bool) → Scan → List (Result Entry Error) → Type 0
-ScanHas stops s xs = (xs ≡ scan_left s) × (IsEnded s ⊎ (stops OutOfMemory ≡ true))
+ScanHas stops s xs = (xs ≡ scan_left s) × (IsEndedScan s ⊎ (stops OutOfMemory ≡ true))
 
 -- an entry was taken from the present block, or its fault, which ends the scan
 pub record TakesEntry (s : Scan) (r : Result Entry Error) (t : Scan) : Type 0 where
@@ -143,7 +143,7 @@ FaultsAtEntry s r =
 -- have no fault
 pub record ScansNext (s : Scan) (r : Option (Result Entry Error)) (t : Scan) : Type 0 where
   pub answers : Answers (λ _. Unit {0}) ScanHas front_of s r t
-  pub ends : MatchOption r (IsEnded t) (λ x. IfErr x (λ _. IsEnded t))
+  pub ends : MatchOption r (IsEndedScan t) (λ x. IfErr x (λ _. IsEndedScan t))
   pub early : FaultsAtBlock s r
   pub lifts : FaultsAtEntry s r
   pub count : ℕ

@@ -287,10 +287,6 @@ first_rises kind policy w keys key h none rising =
     rises_given kind policy w [] key h (subst (λ (ks : List (List ℕ)). AreRising (ks ++ key ∷ []))
     none rising)
 
-pub none_of : {W : Type 0} (o : Option W) → ((w : W) → o ≡ Some w → ⊥) → o ≡ None
-none_of None not_some = refl
-none_of (Some w) not_some = absurd (not_some w refl)
-
 -- once it was, a writer that is there from then on has it
 pub registered_first : {A : Type 0} (kind : FilterKind) (policy : BloomConstructionPolicy)
     (o : Option (FilterWriterImpl A)) (v : FilterWriterImpl A) (starts r : Bool)
