@@ -1,7 +1,6 @@
 -- Bytes that store a list of entries, whoever wrote them: what loading their blocks tells.
-use Rattle.std.specs.Prelude.{◌≡◌, ℕ, ◌+◌, ◌-◌, ◌^◌, ◌<◌, nat_lt, Bool, true, List, [], ◌∷◌}
-use Rattle.std.specs.Prelude.{length, count_by, sum_by, Option, Some, None, Result, Ok, Err}
-use Rattle.std.specs.Prelude.{if◌then◌else◌}
+use Rattle.std.specs.Prelude.{◌≡◌, ℕ, ◌+◌, ◌-◌, ◌^◌, ◌<◌, nat_lt, true, List, [], ◌∷◌, length}
+use Rattle.std.specs.Prelude.{count_by, sum_by, Option, Some, None, Result, Ok, Err, if◌then◌else◌}
 use Rattle.std.specs.List.{AllByRecursion, AllZip}
 use Rattle.sst_sections.specs.Sections.{body_of, trailer_fault}
 use Rattle.sst_entries.specs.declared.error.Error.{Error}
@@ -137,6 +136,6 @@ pub record StoresList (bytes : List ℕ) (es : List Entry) : Type 0 where
   pub none : length es ≡ 0 → HasNoBlock (body_of bytes)
 
 -- what opening bytes that store a list tells: their highest number has to fit once it is lifted
-abbrev pub opening_told : List Entry → ℕ → Result (Unit {0}) Error
-opening_told es g =
+abbrev pub fits_told : List Entry → ℕ → Result (Unit {0}) Error
+fits_told es g =
     if nat_lt (2 ^ 64 - 1) (highest_seqno es + g) then Err GlobalSeqNoTooLarge else Ok tt
