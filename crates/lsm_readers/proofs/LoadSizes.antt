@@ -50,7 +50,7 @@ module _ (body : List ℕ) (at size : ℕ) (kind : BlockType) (b : Loaded)
   head = slice_range body at (at + 24)
 
   not_refused : (e : Error) → load_told body at size kind ≡ Err e → ⊥
-  not_refused e no = absurd (let wrong : Err e ≡ Ok b = sym no ∙ told in cc)
+  not_refused e fault = absurd (let wrong : Err e ≡ Ok b = sym fault ∙ told in cc)
 
   long : 24 ≤ size
   long = elim (cases_lt size 24) [
