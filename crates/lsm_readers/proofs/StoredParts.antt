@@ -1,13 +1,12 @@
 -- What bytes that store a list are recovered to, and what their reads answer.
 use Rattle.std.proofs.Common.{◌≡◌, ℕ, ◌+◌, ◌-◌, ◌^◌, ◌<◌, Bool, true, false, cond, ltb, List}
-use Rattle.std.proofs.Common.{length, refl, sym, ap, subst, ◌∙◌, inl, inr}
-use Rattle.std.specs.Prelude.{Option, is_none, ◌&&◌, Result, Ok, Err, IfOk}
+use Rattle.std.proofs.Common.{length, refl, sym, ap, subst, ◌∙◌}
+use Rattle.std.specs.Prelude.{Option, None, is_none, ◌&&◌, Result, Ok, Err, IfOk}
 use Rattle.std.specs.List.{AllByRecursion}
 use Rattle.std.specs.declared.ops.Bound.{Bound}
-use Rattle.std.proofs.lemmas.Bool.{cases_Bool}
 use Rattle.std.proofs.lemmas.List.{length-map}
 use Rattle.sst_filters.specs.KeyHash.{hash_of}
-use Rattle.sst_sections.specs.Sections.{body_of}
+use Rattle.sst_sections.specs.Sections.{body_of, trailer_fault}
 use Rattle.sst_entries.specs.declared.error.Error.{Error}
 use Rattle.sst_entries.specs.declared.error.Error.TheVariants.{GlobalSeqNoTooLarge, OutOfMemory}
 use Rattle.sst_entries.specs.Entry.{Entry}
@@ -29,8 +28,8 @@ use Rattle.lsm_readers.specs.declared.regions.ParsedRegions.{ParsedRegions}
 use Rattle.lsm_readers.specs.Answer.{answer, filter_admits}
 use Rattle.lsm_readers.specs.IndexKinds.{index_over}
 use Rattle.lsm_readers.specs.Meta.{Facts, meta_told}
-use Rattle.lsm_readers.specs.Parts.{Parts, Pinned, parts_told, pinned_told, places_told}
-use Rattle.lsm_readers.specs.Parts.{recovered_told}
+use Rattle.lsm_readers.specs.Parts.{Parts, Pinned, facts_fitting, parts_told, pinned_told}
+use Rattle.lsm_readers.specs.Parts.{places_told, recovered_told}
 use Rattle.lsm_readers.specs.Scan.{Scan, ScansList, ScansNext, fault_of, scan_told}
 use Rattle.lsm_readers.specs.Stored.{BearsOut, FilterHas, IndexHas, StoresList, fits_told}
 use Rattle.lsm_readers.proofs.FileFilters.{Asked}
@@ -43,16 +42,36 @@ use Rattle.lsm_readers.proofs.StoredRanges.{LeavesRoom, window_rows}
 use Rattle.lsm_readers.proofs.Steps.{same_fault}
 use Rattle.lsm_readers.proofs.StoredScans.{Scans, chunks_scan, scan_opens}
 
--- a call that gives parts, or refuses a number that is too large
+-- something, or the refusal of a number that is too large
+abbrev unless_large : {A : Type 0} → Bool → A → Result A Error
+unless_large large x = cond large (Err GlobalSeqNoTooLarge) (Ok x)
+
+abbrev nothing : {X : Type 0} → X → Unit {0}
+nothing x = tt
+
+-- a call that gives parts, or refuses such a number
 by_number : {X : Type 0} (view : X → Parts) (r : Result X Error) (large : Bool) (parts : Parts)
-    → Gives view r (cond large (Err GlobalSeqNoTooLarge) (Ok parts))
-    → Gives (λ (x : X). tt) r (cond large (Err GlobalSeqNoTooLarge) (Ok tt))
+    → Gives view r (unless_large large parts) → Gives (nothing {X = X}) r (unless_large large tt)
 by_number view (Ok x) true parts gives = absurd cc
 by_number view (Ok x) false parts gives = refl
 by_number view (Err e) true parts gives =
     λ memory. same_fault GlobalSeqNoTooLarge e (gives memory)
 by_number view (Err e) false parts gives =
     λ memory. absurd (let no : Ok parts ≡ Err e = gives memory in cc)
+
+-- opening tells the parts that its steps tell
+recovers_by : (bytes : List ℕ) (g : ℕ) (pin_filter pin_index : Bool) (regions : ParsedRegions)
+    (facts : Facts) (pinned : Pinned) (large : Bool) → trailer_fault bytes ≡ None
+    → places_told bytes ≡ Ok regions → meta_told (body_of bytes) regions.metadata ≡ Ok facts
+    → facts_fitting facts g ≡ unless_large large facts
+    → pinned_told (body_of bytes) regions pin_filter pin_index ≡ Ok pinned
+    → recovered_told bytes g pin_filter pin_index
+    ≡ unless_large large (record { facts = facts; regions = regions; pinned = pinned })
+unfolding parts_told
+recovers_by bytes g pin_filter pin_index regions facts pinned true trailer places meta fits pins =
+    rw (trailer, places, meta, fits) refl
+recovers_by bytes g pin_filter pin_index regions facts pinned false trailer places meta fits pins =
+    rw (trailer, places, meta, fits, pins) refl
 
 module _ (bytes : List ℕ) (es : List Entry) (t : StoresList bytes es) where
   abbrev body : List ℕ
@@ -78,25 +97,26 @@ module _ (bytes : List ℕ) (es : List Entry) (t : StoresList bytes es) where
     pinned = (pinned_goes pin_filter pin_index).0;
   }
 
-  -- they are recovered where the highest number fits once it is lifted, and refused else
+  -- the highest number of the list passes u64 once it is lifted
+  abbrev is_large : ℕ → Bool
+  is_large g = ltb (2 ^ 64 - 1) (highest_seqno es + g)
+
+  -- the bytes are recovered where it does not, and refused else
   recovers : (g : ℕ) (pin_filter pin_index : Bool) → recovered_told bytes g pin_filter pin_index
-      ≡ cond (ltb (2 ^ 64 - 1) (highest_seqno es + g)) (Err GlobalSeqNoTooLarge)
-      (Ok (parts_for pin_filter pin_index))
-  unfolding parts_told
+      ≡ unless_large (is_large g) (parts_for pin_filter pin_index)
   recovers g pin_filter pin_index =
-      let high = (t.borne).seqno_max in
-      let pins = (pinned_goes pin_filter pin_index).1 in
-      elim (cases_Bool (ltb (2 ^ 64 - 1) (highest_seqno es + g))) [
-        | inl large ↦ rw (t.trailer, t.places, t.meta, high, large) refl
-        | inr below ↦ rw (t.trailer, t.places, t.meta, high, below, pins) refl
-      ]
+      let fits : facts_fitting t.facts g ≡ unless_large (is_large g) t.facts =
+      ap (λ (n : ℕ). unless_large (ltb (2 ^ 64 - 1) (n + g)) t.facts) ((t.borne).seqno_max) in
+      recovers_by bytes g pin_filter pin_index t.regions t.facts
+      (pinned_goes pin_filter pin_index).0 (is_large g) t.trailer t.places t.meta fits
+      (pinned_goes pin_filter pin_index).1
 
   -- so a call that opens them refuses just that, memory aside
   pub opens_by : {X : Type 0} (view : X → Parts) (r : Result X Error) (g : ℕ)
       (pin_filter pin_index : Bool) → Gives view r (recovered_told bytes g pin_filter pin_index)
-      → Gives (λ (x : X). tt) r (fits_told es g)
+      → Gives (nothing {X = X}) r (fits_told es g)
   opens_by view r g pin_filter pin_index gives =
-      by_number view r (ltb (2 ^ 64 - 1) (highest_seqno es + g)) (parts_for pin_filter pin_index)
+      by_number view r (is_large g) (parts_for pin_filter pin_index)
       (subst (λ (told : Result Parts Error). Gives view r told) (recovers g pin_filter pin_index)
       gives)
 
