@@ -8,6 +8,7 @@ use Rattle.lsm_formats.specs.declared.label.Label.{Label}
 use Rattle.lsm_formats.specs.Chunks.{joined}
 use Rattle.lsm_iters.specs.Lift.{lift, lifted}
 use Rattle.lsm_readers.specs.Table.{OpenTable}
+use Rattle.lsm_readers.proofs.FileStored.{open_stores}
 use Rattle.lsm_writers.specs.Tables.{next_label}
 use Rattle.lsm_writers.specs.Writing.{IsWritable}
 use Rattle.lsm_writers.proofs.CutTables.{some_length}
@@ -21,7 +22,12 @@ one_some : (label : Label) (us : List Entry) (g : ℕ) (t : OpenTable) (es : Lis
     → IsOpenedOf label us g t → HoldsList t es → 0 < length es
 one_some label us g t es o h =
     let own : HoldsList t (lift us t.global_seqno) =
-    record { stored = us; opened = o.opened; table = o.is.table; lifted_is = refl } in
+    record {
+      stored = us;
+      opened = o.opened;
+      table = (open_stores t o.opened us o.is.table).0;
+      lifted_is = refl;
+    } in
     let same = one_list t es (lift us t.global_seqno) h own in
     let some = some_length us o.is.some in
     omega (arith, ap length same, length-map us (lifted t.global_seqno), some)

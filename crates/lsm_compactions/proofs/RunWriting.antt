@@ -47,6 +47,7 @@ use Rattle.lsm_readers.specs.Parts.{Parts}
 use Rattle.lsm_readers.specs.Scan.{fault_of}
 use Rattle.lsm_readers.specs.Table.{OpenTable}
 use Rattle.lsm_readers.proofs.Ends.{keys_within}
+use Rattle.lsm_readers.proofs.FileStored.{open_stores}
 use Rattle.lsm_compactions.specs.Chain.{AreCutOf, AreOpened, AreWritten, FitsAsTables, IsOpenedOf}
 use Rattle.lsm_compactions.specs.Chain.{IsRunOfList, ids_behind, run_label}
 use Rattle.lsm_runs.specs.RunLists.{HoldLists}
@@ -496,7 +497,7 @@ hold_lists label (es ∷ ls) g (t ∷ ts) h = (
   record {
     stored = es;
     opened = h.0.opened;
-    table = h.0.is.table;
+    table = (open_stores t h.0.opened es h.0.is.table).0;
     lifted_is =
         ap (lift es) (sym h.0.is.number_is);
   },

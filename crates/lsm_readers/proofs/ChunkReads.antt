@@ -1,32 +1,24 @@
--- A point read of chunks is decided by the first chunk whose last entry reaches the key.
-use Rattle.std.proofs.Common.{◌≡◌, ℕ, ◌+◌, ◌<◌, Bool, true, false, cond, List, [], ◌∷◌, ◌++◌}
-use Rattle.std.proofs.Common.{length, refl, sym, ap, subst, ◌∙◌, length-append, arith}
+-- A point read of a chunk and of what stands behind it is decided by the chunk's last entry.
+use Rattle.std.proofs.Common.{◌≡◌, ℕ, ◌<◌, Bool, true, false, cond, List, [], ◌∷◌, ◌++◌, length}
+use Rattle.std.proofs.Common.{refl, sym, ap, ◌∙◌}
 use Rattle.std.proofs.Math.Bool.{or-false}
 use Rattle.std.specs.Prelude.{Option, Some, None, find, ◌&&◌, ◌||◌, nat_lt}
 use Rattle.std.specs.declared.cmp.Ordering.{Ordering}
 use Rattle.std.specs.Ordering.{is_eq, nat_cmp, ordering_reverse}
 use Rattle.std.specs.Cmp.Lexicographic.{slice_cmp, nat_list_cmp_total, texts_ties}
-use Rattle.sst_sections.specs.declared.version.TableVersion.{TableVersion}
 use Rattle.sst_entries.specs.declared.value_type.ValueType.TheVariants.{Value}
 use Rattle.sst_entries.specs.Entry.{Entry, entry}
 use Rattle.sst_blocks.specs.Handle.{Handle}
-use Rattle.sst_blocks.specs.Handles.{reaches}
 use Rattle.sst_entries.specs.Key.{same_key, key_lt}
 use Rattle.sst_entries.specs.Point.{is_hit}
-use Rattle.sst_blocks.specs.declared.block_type.BlockType.TheVariants.{Data}
-use Rattle.sst_blocks.specs.Payload.{payload}
 use Rattle.sst_entries.proofs.Booleans.{apart, is_false, or_right}
 use Rattle.sst_entries.proofs.OrderLemmas.{before_trans, less_of}
-use Rattle.sst_entries.proofs.Strictness.{strict_front, strict_back}
 use Rattle.sst_entries.specs.Strict.{is_before, IsStrictAfter, last_of}
 use Rattle.sst_blocks.proofs.Reaching.{reaches_after, above_reaches}
-use Rattle.lsm_formats.proofs.BlockLengths.{length-block}
-use Rattle.lsm_formats.specs.Chunks.{joined}
-use Rattle.lsm_formats.specs.Index.{last_entry, handle_of, handles_from, block_size, data_block}
-use Rattle.lsm_formats.specs.Index.{data_section}
+use Rattle.lsm_formats.specs.Index.{last_entry}
 
 -- the entry comes after a read of the key at the bound
-abbrev after : List ℕ → ℕ → Entry → Bool
+abbrev pub after : List ℕ → ℕ → Entry → Bool
 after key bound e = is_before (entry key [] bound Value) e
 
 -- the handle of a block that ends with the entry
@@ -82,17 +74,18 @@ passed_one : (p : Entry → Bool) (x : Entry) (o : Option Entry) → p x ≡ fal
     → cond (p x) (Some x) o ≡ o
 passed_one p x o h = rw h refl
 
-passed : (key : List ℕ) (bound : ℕ) (last : Option Entry) (x : Entry) (xs rest : List Entry)
+pub chunk_passed : (key : List ℕ) (bound : ℕ) (last : Option Entry) (x : Entry)
+    (xs rest : List Entry)
     → IsStrictAfter last (x ∷ xs) → after key bound (last_entry (x ∷ xs)) ≡ false
     → find (is_hit key bound) ((x ∷ xs) ++ rest) ≡ find (is_hit key bound) rest
 unfolding IsStrictAfter last_of
-passed key bound last x [] rest strict early =
+chunk_passed key bound last x [] rest strict early =
     passed_one (is_hit key bound) x (find (is_hit key bound) rest) (not_hit key bound x early)
-passed key bound last x (y ∷ ys) rest strict early =
+chunk_passed key bound last x (y ∷ ys) rest strict early =
     passed_one (is_hit key bound) x (find (is_hit key bound) ((y ∷ ys) ++ rest))
     (not_hit key bound x (not_before key bound x (last_entry (y ∷ ys))
     (later x y ys strict.1) early))
-    ∙ passed key bound (Some x) y ys rest strict.1 early
+    ∙ chunk_passed key bound (Some x) y ys rest strict.1 early
 
 -- ---- the chunk that is read
 
@@ -117,94 +110,20 @@ read_last key bound x rest false e strict late =
     none_above key bound x rest strict (sym (or-false above) ∙ ap (λ (b : Bool). above || b) (sym e)
     ∙ after_is key bound x ∙ late)
 
-read_here : (key : List ℕ) (bound : ℕ) (last : Option Entry) (x : Entry) (xs rest : List Entry)
+pub chunk_here : (key : List ℕ) (bound : ℕ) (last : Option Entry) (x : Entry)
+    (xs rest : List Entry)
     → IsStrictAfter last ((x ∷ xs) ++ rest) → after key bound (last_entry (x ∷ xs)) ≡ true
     → find (is_hit key bound) ((x ∷ xs) ++ rest) ≡ find (is_hit key bound) (x ∷ xs)
 unfolding IsStrictAfter last_of
-read_here key bound last x [] rest strict late =
+chunk_here key bound last x [] rest strict late =
     read_last key bound x rest (is_hit key bound x) refl strict.1 late
-read_here key bound last x (y ∷ ys) rest strict late =
+chunk_here key bound last x (y ∷ ys) rest strict late =
     ap (λ (o : Option Entry). cond (is_hit key bound x) (Some x) o)
-    (read_here key bound (Some x) y ys rest strict.1 late)
+    (chunk_here key bound (Some x) y ys rest strict.1 late)
 
--- ---- all the chunks
+-- ---- chunks one behind another
 
 -- each chunk has an entry
 abbrev pub AreSome : List (List Entry) → Type 0
 AreSome [] = Unit {0}
 AreSome (c ∷ cs) = (0 < length c) × AreSome cs
-
--- the chunk that a read rests on, among the others
-pub record ReadsChunk (v : TableVersion) (offset : ℕ) (cs : List (List Entry)) (key : List ℕ)
-    (bound : ℕ) (h : Handle) : Type 0 where
-  pub before : List (List Entry)
-  pub chunk : List Entry
-  pub behind : List (List Entry)
-  pub parts : cs ≡ before ++ chunk ∷ behind
-  pub handle : h ≡ handle_of v (offset + length (data_section v before)) chunk
-  pub answer : find (is_hit key bound) (joined cs) ≡ find (is_hit key bound) chunk
-
--- a read of chunks finds nothing, or rests on the one whose handle it finds
-abbrev pub ReadsBy : TableVersion → ℕ → List (List Entry) → List ℕ → ℕ → Option Handle → Type 0
-ReadsBy v offset cs key bound None = find (is_hit key bound) (joined cs) ≡ None
-ReadsBy v offset cs key bound (Some h) = ReadsChunk v offset cs key bound h
-
-end_after : (v : TableVersion) (offset : ℕ) (c : List Entry) (key : List ℕ) (bound : ℕ)
-    → reaches key bound (handle_of v offset c) ≡ after key bound (last_entry c)
-end_after v offset c key bound = reaches_after key bound (handle_of v offset c)
-
--- a chunk that is passed by stands before the others
-behind_passed : (v : TableVersion) (offset : ℕ) (c : List Entry) (cs : List (List Entry))
-    (key : List ℕ) (bound : ℕ) (o : Option Handle)
-    → find (is_hit key bound) (c ++ joined cs) ≡ find (is_hit key bound) (joined cs)
-    → ReadsBy v (offset + length (data_block v c)) cs key bound o
-    → ReadsBy v offset (c ∷ cs) key bound o
-behind_passed v offset c cs key bound None passes reads = passes ∙ reads
-behind_passed v offset c cs key bound (Some h) passes reads =
-    let place : offset + length (data_block v c) + length (data_section v reads.before)
-    ≡ offset + length (data_block v c ++ data_section v reads.before) =
-    omega (arith, length-append (data_block v c) (data_section v reads.before)) in
-    record {
-      before = c ∷ reads.before;
-      chunk = reads.chunk;
-      behind = reads.behind;
-      parts = ap (λ (x : List (List Entry)). c ∷ x) reads.parts;
-      handle = reads.handle ∙ ap (λ (n : ℕ). handle_of v n reads.chunk) place;
-      answer = passes ∙ reads.answer;
-    }
-
-decided : (v : TableVersion) (offset : ℕ) (last : Option Entry) (x : Entry) (xs : List Entry)
-    (cs : List (List Entry)) (key : List ℕ) (bound : ℕ) (o : Option Handle) (b : Bool)
-    → IsStrictAfter last ((x ∷ xs) ++ joined cs)
-    → reaches key bound (handle_of v offset (x ∷ xs)) ≡ b
-    → ReadsBy v (offset + block_size v (x ∷ xs)) cs key bound o
-    → ReadsBy v offset ((x ∷ xs) ∷ cs) key bound (cond b (Some (handle_of v offset (x ∷ xs))) o)
-decided v offset last x xs cs key bound o true strict late more = record {
-  before = [];
-  chunk = x ∷ xs;
-  behind = cs;
-  parts = refl;
-  handle = let place : offset ≡ offset + 0 = omega arith in
-      ap (λ (n : ℕ). handle_of v n (x ∷ xs)) place;
-  answer = read_here key bound last x xs (joined cs) strict
-      (sym (end_after v offset (x ∷ xs) key bound) ∙ late);
-}
-decided v offset last x xs cs key bound o false strict early more =
-    let place : offset + block_size v (x ∷ xs) ≡ offset + length (data_block v (x ∷ xs)) =
-    ap (λ (n : ℕ). offset + n) (sym (length-block v Data (payload v (x ∷ xs)))) in
-    behind_passed v offset (x ∷ xs) cs key bound o
-    (passed key bound last x xs (joined cs) (strict_front last (x ∷ xs) (joined cs) strict)
-    (sym (end_after v offset (x ∷ xs) key bound) ∙ early))
-    (subst (λ (n : ℕ). ReadsBy v n cs key bound o) place more)
-
-pub chunk_read : (v : TableVersion) (offset : ℕ) (last : Option Entry) (cs : List (List Entry))
-    (key : List ℕ) (bound : ℕ) → AreSome cs → IsStrictAfter last (joined cs)
-    → ReadsBy v offset cs key bound (find (reaches key bound) (handles_from v offset cs))
-chunk_read v offset last [] key bound some strict = refl
-chunk_read v offset last ([] ∷ cs) key bound some strict = absurd (omega (arith, some.0))
-chunk_read v offset last ((x ∷ xs) ∷ cs) key bound some strict =
-    decided v offset last x xs cs key bound (find (reaches key bound)
-    (handles_from v (offset + block_size v (x ∷ xs)) cs))
-    (reaches key bound (handle_of v offset (x ∷ xs))) strict refl
-    (chunk_read v (offset + block_size v (x ∷ xs)) (last_of last (x ∷ xs)) cs key bound some.1
-    (strict_back last (x ∷ xs) (joined cs) strict))

@@ -32,7 +32,7 @@ use Rattle.lsm_formats.specs.Parts.{ArePartsOf, joined_parts, rest_part}
 use Rattle.lsm_formats.proofs.FilterLaws.{is_built}
 use Rattle.lsm_readers.proofs.FileFilters.{Asked, KeyFits, LoadsFilter, filter_asked, filter_loads}
 use Rattle.lsm_readers.proofs.FileFilters.{filter_told as part_told, filter_tops_load}
-use Rattle.lsm_readers.proofs.FileFilters.{filters_asked, no_key}
+use Rattle.lsm_readers.proofs.FileFilters.{filters_asked, filters_each, no_key}
 use Rattle.lsm_readers.proofs.FileIndexes.{LoadsHandles, handles_at}
 use Rattle.lsm_formats.proofs.KeyLaws.{key_end}
 use Rattle.lsm_readers.proofs.PartEnds.{no_parts, some_parts}
@@ -47,6 +47,7 @@ use Rattle.lsm_readers.specs.declared.regions.ParsedRegions.{ParsedRegions}
 use Rattle.lsm_readers.specs.Answer.{filter_admits, part_admits}
 use Rattle.lsm_readers.specs.OfList.{filter_said, filter_tops_said, place_from}
 use Rattle.lsm_readers.specs.Parts.{filter_told, pinned_filter, tops_told}
+use Rattle.lsm_readers.specs.Stored.{FiltersLoad, LoadsAs}
 
 -- ---- it loads
 
@@ -141,6 +142,17 @@ module _ (v : TableVersion) (policy : BloomConstructionPolicy) (es : List Entry)
         (omega (arith, from, length-append pre each))
         (length-block v Index (handles_payload v tops)) whole
 
+    pub each_filter_loads : AllByRecursion (λ (top : Handle). LoadsAs body (place_of top) Filter)
+        tops
+    each_filter_loads =
+        let whole : body ≡ pre ++ (each ++ ((handles_block v tops ++ []) ++ post)) = lies
+        ∙ simp append_assoc in
+        let start : at + 0 ≡ at = omega arith in
+        subst (λ (m : ℕ). AllByRecursion (λ (top : Handle). LoadsAs body (place_of top) Filter)
+        (tops_from m (filter_partitions parts (f ∷ fs)))) start
+        (filters_each v policy at parts (f ∷ fs) all_some filters keys_line (fits.0).short pre
+        ((handles_block v tops ++ []) ++ post) body from whole [] (f ∷ fs) parts refl filters)
+
     pub filter_parts_asked : (key : List ℕ) → Asked
         (part_told body key (find (reaches key (2 ^ 64 - 1)) tops)) (keys_of es) key
     filter_parts_asked key =
@@ -209,6 +221,25 @@ module _ (v : TableVersion) (policy : BloomConstructionPolicy) (es : List Entry)
       rw top refl
   filter_here (PartitionedFilter size) keys (f ∷ fs) regions false are for fits lies top place =
       refl
+
+  -- each of its blocks loads
+  pub filters_load : (k : FilterKind) (keys : List (List (List ℕ))) (fs : List BloomFilter)
+      (place : Option Place) → AreFilterParts k policy (filtered_keys policy es) keys
+      → AreFiltersFor policy keys fs → AllByRecursion SectionFits (filter_sections k v at keys fs)
+      → body ≡ pre ++ (bytes_in (filter_sections k v at keys fs) ++ post)
+      → place ≡ place_from at (filter_sections k v at keys fs) FilterSection
+      → FiltersLoad body (filter_tops_said k at keys fs) place
+  filters_load FullFilter keys [] place are for fits lies is =
+      subst (λ (o : Option Place). FiltersLoad body None o) (sym is) tt
+  filters_load FullFilter keys (f ∷ fs) place are for fits lies is =
+      let l = full_filter_loads v policy es keys f fs for are pre post body at from fits lies in
+      let lie : Place = record { offset = at; size = length (filter_block v f) } in
+      let here : LoadsAs body lie Filter = record { block = l.block; loads = l.loads } in
+      subst (λ (o : Option Place). FiltersLoad body None o) (sym is) here
+  filters_load (PartitionedFilter size) keys [] place are for fits lies is =
+      subst (λ (o : Option Place). FiltersLoad body None o) (sym is) tt
+  filters_load (PartitionedFilter size) keys (f ∷ fs) place are for fits lies is =
+      each_filter_loads v policy es keys f fs for size are strict at pre post body from fits lies
 
   -- it answers, and a no says that no entry has the key
   pub filter_answers : (k : FilterKind) (keys : List (List (List ℕ))) (fs : List BloomFilter)

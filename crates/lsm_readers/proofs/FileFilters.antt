@@ -2,7 +2,7 @@
 -- the keys is the one that is sought.
 use Rattle.std.proofs.Common.{◌≡◌, ℕ, ◌+◌, ◌*◌, ◌/◌, ◌-◌, ◌^◌, ◌<◌, ◌≤◌, Bool, true, false, cond}
 use Rattle.std.proofs.Common.{List, [], ◌∷◌, ◌++◌, length, map, refl, sym, ap, subst, ◌∙◌}
-use Rattle.std.proofs.Common.{length-append, arith}
+use Rattle.std.proofs.Common.{append_assoc, length-append, arith}
 use Rattle.std.specs.Prelude.{Option, Some, None, Result, Ok, find, unwrap_or}
 use Rattle.std.specs.List.{AllByRecursion, flat_map}
 use Rattle.std.proofs.lemmas.List.Concat.{flat_map-append}
@@ -18,6 +18,7 @@ use Rattle.sst_blocks.specs.declared.block_type.BlockType.TheVariants.{Filter}
 use Rattle.sst_blocks.specs.Block.{Loaded, load_told}
 use Rattle.sst_blocks.specs.Handle.{Handle}
 use Rattle.sst_blocks.specs.Handles.{AreStrictHandles, IsSpellableHandle, end_of, reaches}
+use Rattle.sst_blocks.specs.Handles.{handles_payload}
 use Rattle.sst_blocks.proofs.BlockLaws.{built_load}
 use Rattle.sst_filters.specs.declared.policy.BloomConstructionPolicy.{BloomConstructionPolicy}
 use Rattle.sst_filters.specs.Filter.{BloomFilter, IsBuilt, admits, filter_in, payload_of}
@@ -31,10 +32,11 @@ use Rattle.lsm_formats.specs.Fits.{EntryFits}
 use Rattle.lsm_formats.specs.Index.{last_entry}
 use Rattle.lsm_formats.specs.Parts.{joined_parts}
 use Rattle.lsm_formats.specs.Partitions.{handles_block, tops_from}
-use Rattle.sst_blocks.specs.Handles.{handles_payload}
 use Rattle.lsm_formats.proofs.KeyLaws.{key_end}
 use Rattle.lsm_formats.proofs.FilterLaws.{wide, is_built}
+use Rattle.sst_blocks.specs.Place.{place_of}
 use Rattle.lsm_readers.specs.Read.{◌>>=◌}
+use Rattle.lsm_readers.specs.Stored.{LoadsAs}
 use Rattle.lsm_readers.proofs.FileIndexes.{LoadsHandles, handles_load}
 use Rattle.lsm_readers.proofs.FileLengths.{longest_short}
 use Rattle.lsm_readers.proofs.FilterPartReads.{AsksPartBy, last_end_is, part_asked}
@@ -220,6 +222,34 @@ module _ (v : TableVersion) (policy : BloomConstructionPolicy) (at : ℕ)
         (omega (arith, from, length-append pre (flat_map b before))) refl
         (lies ∙ ap (λ (xs : List BloomFilter). pre ++ (flat_map b xs ++ post)) fs_are
         ∙ block_of b before f behind pre post)
+
+    -- so each that a handle of the top level names
+    pub filters_each : (before behind : List BloomFilter) (ps : List (List (List ℕ)))
+        → fs ≡ before ++ behind → AreFiltersFor policy ps behind
+        → AllByRecursion (λ (top : Handle). LoadsAs body (place_of top) Filter)
+        (tops_from (at + length (flat_map (filter_block v) before)) (filter_partitions ps behind))
+    filters_each before [] [] fs_are for = tt
+    filters_each before [] (p ∷ ps) fs_are for = absurd for
+    filters_each before (f ∷ behind) [] fs_are for = absurd for
+    filters_each before (f ∷ behind) (p ∷ ps) fs_are for =
+        let b = filter_block v in
+        let n = at + length (flat_map b before) in
+        let l = each_loads before f behind p fs_are for.0 in
+        let front = before ++ f ∷ [] in
+        let next : at + length (flat_map b front) ≡ n + (24 + length (payload_of f)) =
+        omega (
+          arith,
+          ap length (flat_map-append b before (f ∷ [])),
+          length-append (flat_map b before) (b f ++ []),
+          length-append {A = ℕ} (b f) [],
+          length-block v Filter (payload_of f),
+        ) in
+        let more = filters_each front behind ps
+        (fs_are ∙ sym (append_assoc before (f ∷ []) behind)) for.1 in (
+          record { block = l.block; loads = l.loads },
+          subst (λ (m : ℕ). AllByRecursion (λ (top : Handle). LoadsAs body (place_of top) Filter)
+              (tops_from m (filter_partitions ps behind))) next more,
+        )
 
     by_part : (key : List ℕ) (o : Option Handle) → AsksPartBy v policy at parts fs key o
         → Asked (filter_told body key o) (joined_parts parts) key

@@ -1,16 +1,14 @@
 -- The index of a table of a list, by the kind that it was written with: where its sections lie,
--- that its blocks load, and what it answers, whatever of it stays loaded.
-use Rattle.std.proofs.Common.{◌≡◌, ℕ, ◌+◌, ◌-◌, ◌^◌, ◌<◌, Bool, true, false, List, [], ◌∷◌, ◌++◌}
-use Rattle.std.proofs.Common.{length, refl, sym, ap, subst, ◌∙◌, append_assoc, length-append, arith}
-use Rattle.std.proofs.Common.{◌≤◌}
-use Rattle.std.specs.Prelude.{Ok, find, Option, Some, None, Result, Err}
-use Rattle.std.specs.List.{AllByRecursion, flat_map}
+-- that its blocks load, and what of it stays loaded.
+use Rattle.std.proofs.Common.{◌≡◌, ℕ, ◌+◌, ◌^◌, ◌<◌, Bool, true, false, List, [], ◌∷◌, ◌++◌, length}
+use Rattle.std.proofs.Common.{refl, sym, ap, subst, ◌∙◌, append_assoc, length-append, arith, ◌≤◌}
+use Rattle.std.specs.Prelude.{Ok, Option, Some, None}
+use Rattle.std.specs.List.{AllByRecursion, AllZip, flat_map}
 use Rattle.std.proofs.lemmas.List.{append-nil}
 use Rattle.sst_sections.specs.declared.version.TableVersion.{TableVersion}
 use Rattle.sst_blocks.specs.declared.block_type.BlockType.TheVariants.{Index}
 use Rattle.sst_blocks.specs.Handle.{Handle}
-use Rattle.sst_blocks.specs.Handles.{AreStrictHandles, IsSpellableHandle, handles_payload, reaches}
-use Rattle.sst_blocks.specs.Handles.{window}
+use Rattle.sst_blocks.specs.Handles.{AreStrictHandles, IsSpellableHandle, handles_payload}
 use Rattle.lsm_formats.proofs.BlockLengths.{length-block}
 use Rattle.lsm_formats.specs.declared.options.IndexKind.{IndexKind}
 use Rattle.lsm_formats.specs.declared.options.IndexKind.TheVariants.{Full as FullIndex}
@@ -23,26 +21,19 @@ use Rattle.lsm_formats.specs.Layout.{bytes_in}
 use Rattle.lsm_formats.specs.Partitions.{handles_block, index_tops, is_full_index}
 use Rattle.lsm_formats.specs.Partitions.{partitioned_index}
 use Rattle.lsm_formats.specs.Parts.{ArePartsOf, joined_parts}
-use Rattle.lsm_readers.proofs.FileIndexes.{LoadsHandles, found_in, handles_at, handles_load}
-use Rattle.lsm_readers.proofs.FileIndexes.{partition_told, parts_asked, tops_load}
-use Rattle.lsm_readers.proofs.FileWindows.{between_here, parts_window}
+use Rattle.lsm_readers.proofs.FileIndexes.{LoadsHandles, handles_at, handles_load, parts_named}
+use Rattle.lsm_readers.proofs.FileIndexes.{tops_load}
 use Rattle.lsm_readers.proofs.PartEnds.{no_parts, some_parts}
 use Rattle.lsm_readers.proofs.PartReads.{AreSomeParts}
-use Rattle.std.specs.Option.{option_map}
 use Rattle.sst_sections.specs.declared.section.SectionName.TheVariants.{Filter as FilterSection}
 use Rattle.sst_sections.specs.declared.section.SectionName.TheVariants.{FilterTli}
 use Rattle.sst_sections.specs.declared.section.SectionName.TheVariants.{Index as IndexSection, Tli}
 use Rattle.sst_sections.specs.declared.section.SectionName.TheVariants.{Meta as MetaSection}
-use Rattle.sst_entries.specs.declared.error.Error.{Error}
-use Rattle.sst_blocks.specs.Block.{Loaded, handles_of, load_told}
-use Rattle.sst_blocks.specs.Place.{Place, place_of}
+use Rattle.sst_blocks.specs.Place.{Place}
 use Rattle.lsm_readers.specs.declared.regions.ParsedRegions.{ParsedRegions}
-use Rattle.lsm_readers.specs.IndexKinds.{handle_by, handle_in_part, index_said, index_told}
-use Rattle.lsm_readers.specs.IndexKinds.{place_in, index_over}
+use Rattle.lsm_readers.specs.IndexKinds.{index_said, index_told, handles_told}
+use Rattle.lsm_readers.specs.Stored.{HasPartitions, IndexHas, NamesPart}
 use Rattle.lsm_readers.specs.OfList.{place_from}
-use Rattle.lsm_readers.specs.Read.{◌>>=◌}
-use Rattle.sst_entries.specs.Stream.{ok_results}
-use Rattle.lsm_block_indexes.specs.Index.{block_between, parts_between}
 
 -- ---- its sections
 
@@ -103,24 +94,7 @@ index_count (PartitionedIndex size) hs parts are =
           are.whole,
     )
 
--- ---- what its blocks answer
-
--- a function of what was found
-bind_two : {X Y : Type 0} (r : Result Loaded Error) (f : Loaded → X) (g : X → Y)
-    → (r >>= λ b. Ok (g (f b))) ≡ ((r >>= λ b. Ok (f b)) >>= λ x. Ok (g x))
-bind_two (Ok b) f g = refl
-bind_two (Err e) f g = refl
-
-by_partition : (body key : List ℕ) (bound : ℕ) (o : Option Handle)
-    → (handle_in_part body key bound (option_map place_of o)).told
-    ≡ (partition_told body key bound o >>= λ h. Ok (option_map place_of h))
-by_partition body key bound None = refl
-by_partition body key bound (Some top) = bind_two (load_told body top.offset top.size Index)
-    (λ b. find (reaches key bound) (handles_of b)) (option_map place_of)
-
-found_place : (told : Result (Option Handle) Error) (o : Option Handle) → told ≡ Ok o
-    → (told >>= λ h. Ok (option_map place_of h)) ≡ Ok (option_map place_of o)
-found_place told o is = rw is refl
+-- ---- its blocks
 
 module _ (v : TableVersion) (at : ℕ) (hs : List Handle) (parts : List (List Handle))
     (strict : AreStrictHandles hs) (spelled : AllByRecursion (IsSpellableHandle v) hs)
@@ -167,21 +141,12 @@ module _ (v : TableVersion) (at : ℕ) (hs : List Handle) (parts : List (List Ha
         (omega (arith, from, length-append pre blocks))
         (length-block v Index (handles_payload v (index_tops v at parts))) whole
 
-    partitions_asked : (key : List ℕ) (bound : ℕ)
-        → partition_told body key bound (find (reaches key bound) (index_tops v at parts))
-        ≡ Ok (find (reaches key bound) hs)
-    partitions_asked key bound =
-        parts_asked v at parts some line all (fits.0).short pre
-        ((top ++ []) ++ post) body from behind key bound
-        ∙ ap (λ (xs : List Handle). Ok (find (reaches key bound) xs)) are.whole
-
-    partitions_window : (lo : Option (List ℕ × ℕ)) (hi : Option (List ℕ))
-        → parts_between body lo hi (window (index_tops v at parts) lo hi)
-        ≡ ok_results (window hs lo hi)
-    partitions_window lo hi =
-        parts_window v at parts some line all (fits.0).short pre
-        ((top ++ []) ++ post) body from behind lo hi
-        ∙ ap (λ (xs : List Handle). ok_results (window xs lo hi)) are.whole
+    partitions_named : AllZip (NamesPart body) (index_tops v at parts) parts
+    partitions_named =
+        let start : at + 0 ≡ at = omega arith in
+        subst (λ (m : ℕ). AllZip (NamesPart body) (index_tops v m parts) parts) start
+        (parts_named v at parts some line all (fits.0).short pre ((top ++ []) ++ post) body from
+        behind [] parts refl some)
 
   -- what of it stays loaded
   pub index_here : (k : IndexKind) (regions : ParsedRegions) (pin : Bool) → AreIndexParts k hs parts
@@ -200,33 +165,26 @@ module _ (v : TableVersion) (at : ℕ) (hs : List Handle) (parts : List (List Ha
       (index_tops v at parts) (top_level_loads size are fits lies within) in
       rw (there, place, told) refl
 
-  -- the first data block that reaches a key is found by it
-  pub index_finds : (k : IndexKind) (tli : Place) (pin : Bool) → AreIndexParts k hs parts
+  -- it has the handles, in one block or in partitions
+  pub index_has : (k : IndexKind) (regions : ParsedRegions) → AreIndexParts k hs parts
       → AllByRecursion SectionFits (index_sections k v at hs parts)
+      → at + length (bytes_in (index_sections k v at hs parts)) < 2 ^ 64
       → body ≡ pre ++ (bytes_in (index_sections k v at hs parts) ++ post)
-      → tli ≡ top_place k v at hs parts
-      → (key : List ℕ) (bound : ℕ) → (handle_by body
-      (index_said k v at hs parts pin) tli key bound).told ≡ Ok (place_in hs key bound)
-  index_finds FullIndex tli true are fits lies place key bound = refl
-  index_finds FullIndex tli false are fits lies place key bound =
-      rw place (found_in body at (length (handles_block v hs)) hs
-      (λ (xs : List Handle). place_in xs key bound) (full_loads fits lies))
-  index_finds (PartitionedIndex size) tli pin are fits lies place key bound =
-      by_partition body key bound (find (reaches key bound) (index_tops v at parts))
-      ∙ found_place (partition_told body key bound
-      (find (reaches key bound) (index_tops v at parts))) (find (reaches key bound) hs)
-      (partitions_asked size are fits lies key bound)
-
-  -- it has the window of its handles
-  pub index_window : (lo : Option (List ℕ × ℕ)) (hi : Option (List ℕ)) (k : IndexKind) (tli : Place)
-      (pin : Bool) → AreIndexParts k hs parts → AllByRecursion SectionFits
-      (index_sections k v at hs parts) → body ≡ pre
-      ++ (bytes_in (index_sections k v at hs parts) ++ post) → tli ≡ top_place k v at hs parts
-      → (index_over body (index_said k v at hs parts pin) tli).told lo hi
-      ≡ ok_results (window hs lo hi)
-  index_window lo hi FullIndex tli true are fits lies place = refl
-  index_window lo hi FullIndex tli false are fits lies place =
-      ap (block_between body lo hi) place ∙ between_here body
-      (top_place FullIndex v at hs parts) hs lo hi (full_loads fits lies)
-  index_window lo hi (PartitionedIndex size) tli pin are fits lies place =
-      partitions_window size are fits lies lo hi
+      → regions.index ≡ place_from at (index_sections k v at hs parts) IndexSection
+      → regions.tli ≡ top_place k v at hs parts → IndexHas body regions.index regions.tli hs
+  index_has FullIndex regions are fits within lies absent place =
+      let told = handles_at body (top_place FullIndex v at hs parts) hs (full_loads fits lies) in
+      subst (λ (o : Option Place). IndexHas body o regions.tli hs) (sym absent)
+      (subst (λ (p : Place). handles_told body p ≡ Ok hs) (sym place) told)
+  index_has (PartitionedIndex size) regions are fits within lies there place =
+      let lie : Place = top_place (PartitionedIndex size) v at hs parts in
+      let here : HasPartitions body lie hs = record {
+        tops = index_tops v at parts;
+        parts = parts;
+        told = handles_at body lie (index_tops v at parts)
+            (top_level_loads size are fits lies within);
+        named = partitions_named size are fits lies;
+        whole = are.whole;
+      } in
+      subst (λ (o : Option Place). IndexHas body o regions.tli hs) (sym there)
+      (subst (λ (p : Place). HasPartitions body p hs) (sym place) here)

@@ -1,13 +1,11 @@
--- The blocks of an index: each of them loads, and the first handle that reaches a key is found
--- through the top level.
+-- The blocks of an index as it was written: each of them loads, and the top level names the others.
 use Rattle.std.proofs.Common.{◌≡◌, ℕ, ◌+◌, ◌^◌, ◌<◌, List, [], ◌∷◌, ◌++◌, length, map, refl, sym}
-use Rattle.std.proofs.Common.{ap, subst, ◌∙◌, length-append, arith}
-use Rattle.std.specs.Prelude.{Option, Some, None, Result, Ok, find, is_some, unwrap_or}
-use Rattle.std.specs.List.{AllByRecursion, flat_map}
+use Rattle.std.proofs.Common.{ap, subst, ◌∙◌, append_assoc, length-append, arith}
+use Rattle.std.specs.Prelude.{Option, Some, None, Ok, is_some, unwrap_or}
+use Rattle.std.specs.List.{AllByRecursion, AllZip, flat_map}
 use Rattle.std.proofs.lemmas.List.Concat.{flat_map-append}
 use Rattle.sst_sections.specs.declared.version.TableVersion.{TableVersion}
 use Rattle.sst_sections.specs.Version.{key_limit}
-use Rattle.sst_entries.specs.declared.error.Error.{Error}
 use Rattle.sst_entries.specs.declared.value_type.ValueType.TheVariants.{Value}
 use Rattle.sst_entries.specs.Entry.{entry}
 use Rattle.sst_entries.specs.Strict.{IsStrict, last_of}
@@ -15,7 +13,7 @@ use Rattle.sst_blocks.specs.declared.block_type.BlockType.TheVariants.{Index}
 use Rattle.sst_blocks.specs.Block.{Loaded, handles_of, load_told}
 use Rattle.sst_blocks.specs.Handle.{Handle}
 use Rattle.sst_blocks.specs.Handles.{AreStrictHandles, IsSpellableHandle, end_of, handles_in}
-use Rattle.sst_blocks.specs.Handles.{handles_payload, reaches}
+use Rattle.sst_blocks.specs.Handles.{handles_payload}
 use Rattle.sst_blocks.specs.Place.{Place}
 use Rattle.sst_blocks.proofs.BlockLaws.{written_loads}
 use Rattle.sst_blocks.proofs.HandleLaws.{handles_read}
@@ -25,9 +23,10 @@ use Rattle.lsm_formats.specs.Parts.{joined_parts}
 use Rattle.lsm_formats.specs.Partitions.{handles_block, index_tops, last_end}
 use Rattle.lsm_readers.specs.IndexKinds.{handles_told}
 use Rattle.lsm_readers.specs.Read.{◌>>=◌}
+use Rattle.lsm_readers.specs.Stored.{NamesPart}
 use Rattle.lsm_readers.proofs.FileLengths.{handles_short}
 use Rattle.lsm_readers.proofs.PartEnds.{block_of, ends_strict, part_all, part_strict}
-use Rattle.lsm_readers.proofs.PartReads.{AreSomeParts, ReadsPartBy, part_read}
+use Rattle.lsm_readers.proofs.PartReads.{AreSomeParts}
 
 -- at a place lies an index block of these handles
 pub record LoadsHandles (body : List ℕ) (offset size : ℕ) (hs : List Handle) : Type 0 where
@@ -143,12 +142,6 @@ tops_spelled v at ((x ∷ xs) ∷ ps) some spelled short within =
 
 -- ---- parts of some handles
 
--- what a partition that a handle of the top level tells has: the first handle that reaches
-abbrev pub partition_told : List ℕ → List ℕ → ℕ → Option Handle → Result (Option Handle) Error
-partition_told body key bound None = Ok None
-partition_told body key bound (Some top) = load_told body top.offset top.size Index >>= λ b. Ok
-    (find (reaches key bound) (handles_of b))
-
 module _ (v : TableVersion) (at : ℕ) (parts : List (List Handle)) (some : AreSomeParts parts)
     (strict : AreStrictHandles (joined_parts parts))
     (spelled : AllByRecursion (IsSpellableHandle v) (joined_parts parts))
@@ -197,20 +190,33 @@ module _ (v : TableVersion) (at : ℕ) (parts : List (List Handle)) (some : AreS
         (lies ∙ ap (λ (ps : List (List Handle)). pre ++ (flat_map b ps ++ post)) are
         ∙ block_of b before part behind pre post)
 
-    by_part : (key : List ℕ) (bound : ℕ) (o : Option Handle) → ReadsPartBy v at parts key bound o
-        → partition_told body key bound o ≡ Ok (find (reaches key bound) (joined_parts parts))
-    by_part key bound None none = ap (λ (o : Option Handle). Ok o) (sym none)
-    by_part key bound (Some top) r =
-        let b = handles_block v in
-        ap (λ (h : Handle). partition_told body key bound (Some h)) r.top_is
-        ∙ found_in body (at + length (flat_map b r.before))
-        (24 + length (handles_payload v r.part)) r.part (find (reaches key bound))
-        (part_loads r.before r.part r.behind r.parts_are)
-        ∙ ap (λ (o : Option Handle). Ok o) (sym r.answer)
-
-    -- through the top level the first handle of all that reaches is found
-    pub parts_asked : (key : List ℕ) (bound : ℕ)
-        → partition_told body key bound (find (reaches key bound) (index_tops v at parts))
-        ≡ Ok (find (reaches key bound) (joined_parts parts))
-    parts_asked key bound = by_part key bound (find (reaches key bound) (index_tops v at parts))
-        (part_read v at None parts key bound some strict)
+    -- each handle of the top level names its part
+    pub parts_named : (before behind : List (List Handle)) → parts ≡ before ++ behind
+        → AreSomeParts behind → AllZip (NamesPart body)
+        (index_tops v (at + length (flat_map (handles_block v) before)) behind) behind
+    parts_named before [] are some = tt
+    parts_named before (part ∷ behind) are some =
+        let n = at + length (flat_map (handles_block v) before) in
+        let front = before ++ part ∷ [] in
+        let next : at + length (flat_map (handles_block v) front)
+        ≡ n + (24 + length (handles_payload v part)) =
+        omega (
+          arith,
+          ap length (flat_map-append (handles_block v) before (part ∷ [])),
+          length-append
+              (flat_map (handles_block v) before) (handles_block v part ++ []),
+          length-append {A = ℕ}
+              (handles_block v part) [],
+          length-block v Index (handles_payload v part),
+        ) in
+        let more = parts_named front behind (are ∙ sym (append_assoc before (part ∷ []) behind))
+        some.1 in
+        let here : Place = record { offset = n; size = 24 + length (handles_payload v part) } in (
+          record {
+            handles = handles_at body here part (part_loads before part behind are);
+            some = some.0;
+            end_key = refl;
+            seqno = refl;
+          },
+          subst (λ (m : ℕ). AllZip (NamesPart body) (index_tops v m behind) behind) next more,
+        )

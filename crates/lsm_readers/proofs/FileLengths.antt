@@ -12,7 +12,6 @@ use Rattle.sst_blocks.specs.Handles.{handles_payload, handle_spelled, IsSpellabl
 use Rattle.sst_blocks.specs.Handles.{AreStrictHandles, end_of}
 use Rattle.sst_sections.specs.Number.{le4}
 use Rattle.sst_blocks.specs.Payload.{payload, spelled}
-use Rattle.sst_blocks.specs.Payload as written
 use Rattle.sst_blocks.specs.Reading.{entries_in}
 use Rattle.sst_entries.specs.Strict.{may_follow, IsStrictAfter, IsStrict, last_of}
 use Rattle.sst_sections.specs.Version.{key_limit, longest_key}
@@ -28,6 +27,7 @@ use Rattle.lsm_formats.specs.Index.{data_block, data_section}
 use Rattle.lsm_formats.specs.Fits.{EntryFits, BlockFits}
 use Rattle.lsm_readers.proofs.ChunkReads.{AreSome, later}
 use Rattle.lsm_formats.proofs.BlockLengths.{length-block}
+use Rattle.sst_blocks.specs.Payload as written
 
 -- ---- entries and their blocks
 

@@ -1,15 +1,14 @@
 -- What the bytes of a table of a list are recovered to.
 use Rattle.std.proofs.Common.{◌≡◌, ℕ, ◌+◌, ◌-◌, ◌^◌, ◌<◌, Bool, cond, ltb, List, ◌++◌, length, refl}
 use Rattle.std.proofs.Common.{sym, ap, subst, ◌∙◌, append_assoc, length-append, arith, inl, inr}
-use Rattle.std.specs.Prelude.{Option, None, Result, Ok, Err, map, unwrap_or}
+use Rattle.std.specs.Prelude.{Option, None, Ok, Err, map, unwrap_or}
 use Rattle.std.specs.List.{AllByRecursion}
 use Rattle.std.proofs.lemmas.Bool.{cases_Bool}
 use Rattle.sst_sections.specs.declared.section.SectionName.TheVariants.{Filter as FilterSection}
 use Rattle.sst_sections.specs.declared.section.SectionName.TheVariants.{FilterTli}
 use Rattle.sst_sections.specs.declared.version.TableVersion.{TableVersion}
-use Rattle.sst_sections.specs.Sections.{body_of, finished}
+use Rattle.sst_sections.specs.Sections.{body_of, finished, trailer_fault}
 use Rattle.sst_sections.proofs.SectionLaws.{finished_fine}
-use Rattle.sst_entries.specs.declared.error.Error.{Error}
 use Rattle.sst_entries.specs.declared.error.Error.TheVariants.{GlobalSeqNoTooLarge}
 use Rattle.sst_entries.specs.Entry.{Entry}
 use Rattle.sst_entries.specs.Strict.{IsStrict}
@@ -45,11 +44,7 @@ use Rattle.lsm_readers.proofs.FileSections.{index_at, meta_items_read, regions_r
 use Rattle.lsm_readers.proofs.FileSections.{the_filter, the_index, the_items, top_at, written}
 use Rattle.lsm_readers.proofs.MetaBlocks.{meta_reads}
 use Rattle.lsm_readers.proofs.MetaReads.{facts_read, interval_read, written_facts}
-use Rattle.lsm_readers.proofs.Recovered.{Steps, steps}
-
-pub ok_same : {A : Type 0} (r : Result A Error) (a b : A) → r ≡ Ok a → r ≡ Ok b → a ≡ b
-ok_same (Ok x) a b p q = let pa : x ≡ a = cc in let qb : x ≡ b = cc in sym pa ∙ qb
-ok_same (Err e) a b p q = absurd cc
+use Rattle.lsm_readers.proofs.Recovered.{Steps, ok_same, steps}
 
 abbrev pub written_parts : TableVersion → Label → Options → Content → Bool → Bool → Parts
 written_parts v label options c pin_filter pin_index =
@@ -128,7 +123,13 @@ module _ (v : TableVersion) (label : Label) (options : Options) (spills : List �
 
   -- ---- what is told
 
-  regions_here : places_told the_bytes ≡ Ok regions
+  pub trailer_here : trailer_fault the_bytes ≡ None
+  trailer_here =
+      let small = body_short v label options spills es c is fits strict short in
+      finished_fine (written v label options c) (omega (arith, small))
+      (ascending v label options c)
+
+  pub regions_here : places_told the_bytes ≡ Ok regions
   regions_here = regions_read v label options c
       (let small = body_short v label options spills es c is fits strict short in
       omega (arith, small)) fits.index fits.filter
@@ -144,7 +145,7 @@ module _ (v : TableVersion) (label : Label) (options : Options) (spills : List �
       (meta_reads v label options c.blocks (counted_blocks options c)
       (omega (arith, first, key)) (omega (arith, last, key)))
 
-  facts_here : options.index_block_restart_interval ≡ 1
+  pub facts_here : options.index_block_restart_interval ≡ 1
       → meta_told the_body regions.metadata ≡ Ok (written_facts v label c.blocks
       (counted_blocks options c))
   facts_here one = items_here ∙ facts_read v label options c.blocks (counted_blocks options c)
@@ -161,7 +162,7 @@ module _ (v : TableVersion) (label : Label) (options : Options) (spills : List �
       fits.index (index_within v label options spills es c is fits strict short)
       (body_is v label options c) (index_at v label options c) tli_place
 
-  tops_told_here : tops_told the_body regions.filter_tli
+  pub tops_told_here : tops_told the_body regions.filter_tli
       ≡ Ok (filter_tops_said options.filter_kind filter_start c.keys c.filters)
   tops_told_here =
       let room = filter_within v label options spills es c is fits strict short in
@@ -193,13 +194,10 @@ module _ (v : TableVersion) (label : Label) (options : Options) (spills : List �
       (Ok (written_parts v label options c pin_filter pin_index))
   unfolding parts_told
   written_recovers g pin_filter pin_index one =
-      let small = body_short v label options spills es c is fits strict short in
-      let fine = finished_fine (written v label options c) (omega (arith, small))
-      (ascending v label options c) in
       elim (cases_Bool (ltb (2 ^ 64 - 1) (highest_seqno (joined c.blocks) + g))) [
-        | inl large ↦ rw (fine, regions_here, facts_here one, large) refl
+        | inl large ↦ rw (trailer_here, regions_here, facts_here one, large) refl
         | inr below ↦ rw (
-          fine,
+          trailer_here,
           regions_here,
           facts_here one,
           below,
@@ -222,7 +220,7 @@ module _ (v : TableVersion) (label : Label) (options : Options) (spills : List �
     items_told = ap (λ (r : ParsedRegions). meta_told the_body r.metadata) (sym regions_are)
         ∙ the_steps.facts
 
-    interval_is : options.index_block_restart_interval ≡ 1
+    pub interval_is : options.index_block_restart_interval ≡ 1
     interval_is = interval_read v label options c.blocks (counted_blocks options c) parts.facts
         (sym items_here ∙ items_told)
 

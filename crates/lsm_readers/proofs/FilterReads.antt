@@ -18,11 +18,11 @@ use Rattle.lsm_formats.specs.Filters.{keys_after, keys_of}
 abbrev pub has_key : List ℕ → List (List ℕ) → Bool
 has_key key keys = list_any (λ k. same_key k key) keys
 
-in_front : (key k : List ℕ) (ks : List (List ℕ)) → same_key k key ≡ true
+pub in_front : (key k : List ℕ) (ks : List (List ℕ)) → same_key k key ≡ true
     → has_key key (k ∷ ks) ≡ true
 in_front key k ks h = rw h refl
 
-in_rest : (key k : List ℕ) (ks : List (List ℕ)) → has_key key ks ≡ true
+pub in_rest : (key k : List ℕ) (ks : List (List ℕ)) → has_key key ks ≡ true
     → has_key key (k ∷ ks) ≡ true
 in_rest key k ks h = or_right (same_key k key) (has_key key ks) h
 

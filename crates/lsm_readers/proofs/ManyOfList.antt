@@ -1,22 +1,22 @@
--- Many reads of a table of a list: each has the first match in the list.
+-- Many reads of bytes that store a list: each has the first match in the list.
 use Rattle.std.proofs.Common.{◌≡◌, List}
 use Rattle.std.specs.Prelude.{Ok, map}
 use Rattle.sst_entries.specs.Entry.{Entry}
 use Rattle.sst_entries.specs.Point.{point}
-use Rattle.lsm_formats.specs.Table.{IsTable}
 use Rattle.lsm_readers.specs.Answer.{lift}
 use Rattle.lsm_readers.specs.declared.table.queries.Query.{Query}
 use Rattle.lsm_readers.specs.Many.{found_told, many_told}
+use Rattle.lsm_readers.specs.Stored.{StoresList}
 use Rattle.lsm_readers.specs.Table.{IsOpen, OpenTable}
-use Rattle.lsm_readers.proofs.FilePoints.{file_answers}
 use Rattle.lsm_readers.proofs.ManyReads.{all_answered}
+use Rattle.lsm_readers.proofs.StoredParts.{stored_answers}
 
 pub many_of_list : {A : Type 0} (t : OpenTable) (held : IsOpen t) (es : List Entry)
-    → IsTable t.bytes es → (queries : List (Query A))
+    → StoresList t.bytes es → (queries : List (Query A))
     → many_told t queries ≡ Ok (map (λ q. point (lift es t.global_seqno) q.key q.seqno) queries)
 many_of_list {A} t held es is queries =
     let told = held.recovered in
     all_answered (found_told t) (λ (q : Query A). point (lift es t.global_seqno) q.key q.seqno)
-    (λ q. file_answers t.bytes es is t.global_seqno told.pin_filter told.pin_index t.parts
-    held.short told.told q.key q.seqno)
+    (λ q. stored_answers t.bytes es is t.global_seqno told.pin_filter told.pin_index t.parts
+    told.told q.key q.seqno)
     queries

@@ -1,23 +1,27 @@
--- Tables of one list that are cut alike have the same data blocks, so their indexes tell the same.
+-- The index of an opened table names the data blocks of the list that its bytes store. Tables of one
+-- list that are cut alike have the same data blocks, so their indexes tell the same.
 use Rattle.std.proofs.Common.{◌≡◌, ℕ, List, ap, subst, sym, ◌∙◌}
 use Rattle.sst_sections.specs.declared.version.TableVersion.{TableVersion}
 use Rattle.sst_entries.specs.Entry.{Entry}
 use Rattle.sst_entries.specs.Stream.{ok_results}
+use Rattle.sst_blocks.specs.Handle.{Handle}
 use Rattle.sst_blocks.specs.Handles.{window}
 use Rattle.lsm_formats.specs.Chunks.{AreChunks}
 use Rattle.lsm_formats.specs.Index.{handles}
 use Rattle.lsm_formats.specs.Table.{IsTable}
 use Rattle.lsm_formats.proofs.OneCut.{one_cut}
 use Rattle.lsm_readers.specs.BlockIndexes.{AreCutAlike, NamesBlocksOf, TellAlike, table_index}
+use Rattle.lsm_readers.specs.Stored.{StoresList}
 use Rattle.lsm_readers.specs.Table.{IsOpen, OpenTable}
-use Rattle.lsm_readers.proofs.FileRanges.{file_index}
+use Rattle.lsm_readers.proofs.FileStored.{open_stores}
+use Rattle.lsm_readers.proofs.StoredParts.{stored_index}
 
--- the index of an open table of a list
-pub names_blocks : (t : OpenTable) → IsOpen t → (es : List Entry) (file : IsTable t.bytes es)
-    → NamesBlocksOf file (table_index t)
-names_blocks t held es file lower upper =
-    file_index t.bytes es file t.global_seqno held.recovered.pin_filter held.recovered.pin_index
-    t.parts held.short held.recovered.told lower upper
+-- the index of an open table
+pub names_blocks : (t : OpenTable) → IsOpen t → (es : List Entry) (s : StoresList t.bytes es)
+    → NamesBlocksOf s (table_index t)
+names_blocks t held es s lower upper =
+    stored_index t.bytes es s t.global_seqno held.recovered.pin_filter held.recovered.pin_index
+    t.parts held.recovered.told lower upper
 
 same_blocks : (a b : List ℕ) (es : List Entry) (t : IsTable a es) (u : IsTable b es)
     → AreCutAlike t u → (t.file).content.blocks ≡ (u.file).content.blocks
@@ -32,13 +36,20 @@ same_blocks a b es t u alike =
     subst (λ (n : ℕ). AreChunks n t.spills es ds) (sym alike.size) of_its_spills in
     one_cut size t.spills es cs ds (t.file).is.chunks of_its_size
 
+same_handles : (a b : List ℕ) (es : List Entry) (t : IsTable a es) (u : IsTable b es)
+    → AreCutAlike t u → handles t.version (t.file).content.blocks
+    ≡ handles u.version (u.file).content.blocks
+same_handles a b es t u alike =
+    ap (handles t.version) (same_blocks a b es t u alike)
+    ∙ ap (λ (v : TableVersion). handles v (u.file).content.blocks) alike.version
+
 pub tell_alike : (one other : OpenTable) → IsOpen one → IsOpen other
     → (es : List Entry) (t : IsTable one.bytes es) (u : IsTable other.bytes es) → AreCutAlike t u
     → TellAlike (table_index one) (table_index other)
 tell_alike one other held also es t u alike lower upper =
-    let ds = (u.file).content.blocks in
-    names_blocks one held es t lower upper
-    ∙ (ap (λ (cs : List (List Entry)). ok_results (window (handles t.version cs) lower upper))
-    (same_blocks one.bytes other.bytes es t u alike)
-    ∙ (ap (λ (v : TableVersion). ok_results (window (handles v ds) lower upper)) alike.version
-    ∙ sym (names_blocks other also es u lower upper)))
+    let s = open_stores one held es t in
+    let r = open_stores other also es u in
+    let same = s.1 ∙ same_handles one.bytes other.bytes es t u alike ∙ sym r.1 in
+    names_blocks one held es s.0 lower upper
+    ∙ ap (λ (hs : List Handle). ok_results (window hs lower upper)) same
+    ∙ sym (names_blocks other also es r.0 lower upper)

@@ -15,16 +15,19 @@ use Rattle.sst_blocks.proofs.LoadLemmas.{unless_ok}
 use Rattle.sst_filters.specs.Filter.{BloomFilter}
 use Rattle.sst_sections.specs.Sections.{body_of, trailer_fault}
 use Rattle.lsm_readers.specs.declared.regions.ParsedRegions.{ParsedRegions}
-use Rattle.lsm_readers.specs.Meta.{Facts}
-use Rattle.lsm_readers.specs.Meta.{meta_told}
+use Rattle.lsm_readers.specs.Meta.{Facts, meta_told}
 use Rattle.lsm_readers.specs.Parts.{Parts, Pinned, early_fault, early_in, filter_told}
-use Rattle.lsm_readers.specs.Parts.{facts_fitting}
-use Rattle.lsm_readers.specs.Parts.{parts_told, pinned_filter, pinned_told, places_told, range_in}
-use Rattle.lsm_readers.specs.Parts.{key_range_told, recovered_told, tops_told}
+use Rattle.lsm_readers.specs.Parts.{facts_fitting, parts_told, pinned_filter, pinned_told}
+use Rattle.lsm_readers.specs.Parts.{places_told, range_in, key_range_told, recovered_told}
+use Rattle.lsm_readers.specs.Parts.{tops_told}
 use Rattle.lsm_readers.specs.IndexKinds.{PinnedIndex, index_told}
-use Rattle.lsm_readers.specs.Table.{IsRecovered, IsOpen}
-use Rattle.lsm_readers.specs.Table.{OpenTable}
+use Rattle.lsm_readers.specs.Table.{IsRecovered, IsOpen, OpenTable}
 use Rattle.lsm_readers.specs.Read.{◌>>=◌}
+
+-- one result tells one value
+pub ok_same : {A : Type 0} (r : Result A Error) (a b : A) → r ≡ Ok a → r ≡ Ok b → a ≡ b
+ok_same (Ok x) a b p q = let pa : x ≡ a = cc in let qb : x ≡ b = cc in sym pa ∙ qb
+ok_same (Err e) a b p q = absurd cc
 
 -- a step that told a value went on from one
 pub bind_ok : {A B : Type 0} (r : Result A Error) (f : A → Result B Error) (y : B)

@@ -37,10 +37,10 @@ pub both_on : {A B C : Type 0} (r : Result A Error) (f : A → Result C Error)
 both_on (Ok a) f h x told step rest = goes_on (f a) h x told step rest
 both_on (Err e) f h x told step rest = absurd cc
 
-abbrev refused : (A : Type 0) → Error → Result A Error
+abbrev pub refused : (A : Type 0) → Error → Result A Error
 refused A e = Err e
 
-same_fault : {B C : Type 0} (d e : Error) → refused C d ≡ Err e → refused B d ≡ Err e
+pub same_fault : {B C : Type 0} (d e : Error) → refused C d ≡ Err e → refused B d ≡ Err e
 same_fault d e same = cc
 
 pub both_fail : {A B C : Type 0} (r : Result A Error) (f : A → Result C Error)

@@ -18,7 +18,6 @@ use Rattle.sst_entries.proofs.StreamLemmas.{map_reverse}
 use Rattle.sst_entries.proofs.Refusals.{memory_is}
 use Rattle.sst_blocks.specs.declared.opened.Opened.{Opened}
 use Rattle.sst_blocks.specs.Handle.{Handle}
-use Rattle.lsm_formats.specs.Table.{IsTable}
 use Rattle.lsm_block_indexes.specs.Dealt.{DealsEnding, ended_at_error}
 use Rattle.lsm_block_indexes.specs.Left.{with_index_loads}
 use Rattle.lsm_iters.specs.Bounds.{lower_edge, upper_edge}
@@ -32,8 +31,9 @@ use Rattle.lsm_iters.proofs.RangeLaws.{range_deals}
 use Rattle.lsm_readers.specs.BlockIndexes.{table_index}
 use Rattle.lsm_readers.specs.Ranges.{DealsAll, DealsWithin, IsRangeOf, LoadsAtMost, blocks_within}
 use Rattle.lsm_readers.specs.Ranges.{bounded, index_within, range_told}
+use Rattle.lsm_readers.specs.Stored.{StoresList}
 use Rattle.lsm_readers.specs.Table.{IsOpen, OpenTable}
-use Rattle.lsm_readers.proofs.FileRanges.{file_blocks, file_rows}
+use Rattle.lsm_readers.proofs.StoredParts.{stored_blocks, stored_rows}
 
 abbrev R : Type 0
 R = Result Entry Error
@@ -217,24 +217,24 @@ module _ {A : Type 0} (t : OpenTable) (low high : Bound (List ℕ)) (s : Range A
         no_meta = last.no_meta;
       }
 
-  -- ---- of a table of a list
+  -- ---- of bytes that store a list
 
-  module _ (held : IsOpen t) (es : List Entry) (file : IsTable t.bytes es) where
+  module _ (held : IsOpen t) (es : List Entry) (stored : StoresList t.bytes es) where
     pub list_deals : DealsWithin gives back_gives low high es t.global_seqno s
     list_deals stops memory =
-        let of_list = file_rows t.bytes es file t.global_seqno held.recovered.pin_filter
-        held.recovered.pin_index t.parts held.short held.recovered.told low high in
+        let of_list = stored_rows t.bytes es stored t.global_seqno held.recovered.pin_filter
+        held.recovered.pin_index t.parts held.recovered.told low high in
         let deals = subst (λ (xs : List R). DealsEnding gives back_gives (λ _. Unit {0})
         (λ _. Unit {0}) s xs) of_list table_deals in
         deals_values gives back_gives (λ _. Unit {0}) (λ _. Unit {0}) s
         (within low high (lift es t.global_seqno)) deals stops memory
 
-    pub list_loads : LoadsAtMost gives back_gives (blocks_within file low high)
+    pub list_loads : LoadsAtMost gives back_gives (blocks_within stored low high)
         (index_within t low high) s
     list_loads =
-        loads_few (blocks_within file low high) (file_blocks t.bytes es file t.global_seqno
-        held.recovered.pin_filter held.recovered.pin_index t.parts held.short
-        held.recovered.told (lower_edge low) (upper_edge high))
+        loads_few (blocks_within stored low high) (stored_blocks t.bytes es stored t.global_seqno
+        held.recovered.pin_filter held.recovered.pin_index t.parts held.recovered.told
+        (lower_edge low) (upper_edge high))
 
 pub deals_all : {S : Type 0} (front back : S → Option R → S → Type 0) (r : Result S Error)
     (es : List Entry) (g : ℕ) → IfOk r (DealsWithin front back Unbounded Unbounded es g)

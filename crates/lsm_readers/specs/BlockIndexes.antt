@@ -4,23 +4,22 @@ use Rattle.sst_entries.specs.Entry.{Entry}
 use Rattle.sst_entries.specs.Stream.{ok_results}
 use Rattle.sst_blocks.specs.Handles.{window}
 use Rattle.sst_sections.specs.Sections.{body_of}
-use Rattle.lsm_formats.specs.Index.{handles}
 use Rattle.lsm_formats.specs.Table.{IsTable}
 use Rattle.lsm_block_indexes.specs.Index.{Index}
 use Rattle.lsm_readers.specs.IndexKinds.{index_over}
 use Rattle.lsm_readers.specs.Parts.{recovered_told}
+use Rattle.lsm_readers.specs.Stored.{StoresList}
 use Rattle.lsm_readers.specs.Table.{OpenTable}
 
 -- the index of the kind that opening the table chose
 abbrev pub table_index : OpenTable → Index
 table_index t = index_over (body_of t.bytes) t.parts.pinned.index t.parts.regions.tli
 
--- between any two edges an index has the handles of the data blocks of a table of a list, and no
--- error
-abbrev pub NamesBlocksOf : {bytes : List ℕ} {es : List Entry} → IsTable bytes es → Index → Type 0
+-- between any two edges an index has the handles of the data blocks of bytes that store a list, and
+-- no error
+abbrev pub NamesBlocksOf : {bytes : List ℕ} {es : List Entry} → StoresList bytes es → Index → Type 0
 NamesBlocksOf t index = (lower : Option (List ℕ × ℕ)) (upper : Option (List ℕ)) →
-    index.told lower upper ≡
-    ok_results (window (handles t.version (t.file).content.blocks) lower upper)
+    index.told lower upper ≡ ok_results (window t.handles lower upper)
 
 -- two tables of a list are cut alike: in one version, for data blocks of one size, with spills in
 -- the same places

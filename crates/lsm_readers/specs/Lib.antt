@@ -10,6 +10,7 @@ pub mod Batch
 pub mod Keeping
 pub mod BlockIndexes
 pub mod OfList
+pub mod Stored
 pub mod Scan
 pub mod Ranges
 pub mod Words

@@ -12,14 +12,13 @@ use Rattle.sst_entries.specs.Stream.{Deals, Runs, answer_stops, ok_results}
 use Rattle.sst_blocks.specs.declared.opened.Opened.{Opened}
 use Rattle.sst_blocks.specs.Handles.{window}
 use Rattle.sst_blocks.specs.Opened.{none_opened}
-use Rattle.lsm_formats.specs.Index.{handles}
-use Rattle.lsm_formats.specs.Table.{IsTable}
 use Rattle.lsm_block_indexes.specs.Left.{IsBetween}
 use Rattle.lsm_iters.specs.Bounds.{lower_edge, upper_edge}
 use Rattle.lsm_iters.specs.Lift.{lift}
 use Rattle.lsm_iters.specs.Range.{Range, left_in, opened_in}
 use Rattle.lsm_iters.specs.Rows.{Bounded, rows}
 use Rattle.lsm_readers.specs.BlockIndexes.{table_index}
+use Rattle.lsm_readers.specs.Stored.{StoresList}
 use Rattle.lsm_readers.specs.Table.{OpenTable}
 
 -- a table's bytes before the trailer, its global number, and two bounds
@@ -78,12 +77,11 @@ LoadsAtMost {A} front back blocks index s =
     (ends : List Direction) (rs : List (Option (Result Entry Error))) (t : Range A) →
     Runs front back s ends rs t → AreFew blocks index (opened_in t)
 
--- how many data blocks of a table of a list the bounds need: those from the first that may hold the
--- lower bound's key up to the first that ends above the upper bound's
-abbrev pub blocks_within : {bytes : List ℕ} {es : List Entry} → IsTable bytes es
+-- how many data blocks of bytes that store a list the bounds need: those from the first that may
+-- hold the lower bound's key up to the first that ends above the upper bound's
+abbrev pub blocks_within : {bytes : List ℕ} {es : List Entry} → StoresList bytes es
     → Bound (List ℕ) → Bound (List ℕ) → ℕ
-blocks_within t low high =
-    length (window (handles t.version (t.file).content.blocks) (lower_edge low) (upper_edge high))
+blocks_within t low high = length (window t.handles (lower_edge low) (upper_edge high))
 
 -- how many index blocks: none where the whole index stays loaded, its one block on demand, or of
 -- two levels the partitions between the edges

@@ -34,6 +34,7 @@ pub use Rattle.lsm_readers.specs.Scan.{IsNewScan, Scan, ScansList, ScansNext, Ta
 pub use Rattle.lsm_readers.specs.Scan.{block_told, ended}
 pub use Rattle.lsm_readers.specs.Scan.{fault_of, lifted_told, scan_size, scan_told}
 pub use Rattle.lsm_readers.specs.Meta.{facts_of}
+pub use Rattle.lsm_readers.specs.Stored.{BearsOut, StoresList, fits_told}
 pub use Rattle.lsm_readers.specs.Table.{IsOpen, IsRecovered, OpenTable, parts_of, pinned_of}
 pub use Rattle.lsm_block_indexes.specs.Dealt.{DealsEnding}
 pub use Rattle.lsm_readers.specs.Ranges.{DealsAll, DealsWithin, IsRangeOf, LoadsAtMost}

@@ -4,7 +4,7 @@ ghost use Rattle.std.specs.Prelude.{Err, false, true, length, IfOk, IfErr, IsOk,
 ghost use Rattle.std.specs.Prelude.{is_some};
 ghost use Rattle.lsm_readers.specs.Words.{BloomFilter, CanDeal, Deals, Entry, Faults, FaultsFirst};
 ghost use Rattle.lsm_readers.specs.Words.{Gives, Handle, IsNewScan, IsOpen, IsRecovered, IsTable};
-ghost use Rattle.lsm_readers.specs.Words.{NamesBlocksOf};
+ghost use Rattle.lsm_readers.specs.Words.{BearsOut, NamesBlocksOf, StoresList, fits_told};
 ghost use Rattle.lsm_readers.specs.Words.{Loaded, LoadsFew, OpenTable, Opens, SaysList, Scan};
 ghost use Rattle.lsm_readers.specs.Words.{ScansList, answer_stops, body_of, early_fault, early_in};
 ghost use Rattle.lsm_readers.specs.Words.{ends_of};
@@ -312,6 +312,9 @@ impl<A: Allocator + Clone> Table<A> {
             t.options.index_block_restart_interval ≡ 1 →
             Gives (λ (t : OpenTable). t.parts) result
             (list_told t global_seqno pin_filter pin_index) }
+        // Bytes that store a list, whoever wrote them, are opened where the highest number fits.
+        ensures stores { (es : List Entry) → StoresList bytes es →
+            Gives (λ (t : OpenTable). tt) result (fits_told es global_seqno) }
         ensures bytes { IfOk result (λ t. t.bytes ≡ bytes) }
         ensures number { IfOk result (λ t. t.global_seqno ≡ global_seqno) }
         ensures tree { IfOk result (λ t. t.tree_id ≡ tree_id) }
@@ -357,8 +360,8 @@ impl<A: Allocator + Clone> Table<A> {
             Opens result.0 loads none_opened result.1 }
         ensures few { LoadsFew self.now.parts none_opened result.1 }
         ensures open { IsOpen self.now }
-        // On a table of a list it is the first match in the list, its numbers lifted.
-        ensures list { (es : List Entry) → IsTable self.now.bytes es →
+        // On bytes that store a list it is the first match in the list, its numbers lifted.
+        ensures list { (es : List Entry) → StoresList self.now.bytes es →
             let found = point (lift es self.now.global_seqno) key.now seqno in
             Gives (λ (x : Option Entry). x) result.0 (Ok found) }
     {
@@ -385,8 +388,8 @@ impl<A: Allocator + Clone> Table<A> {
         ensures early { FaultsFirst result (table_answer self.now key.now seqno).early }
         ensures calm { (table_answer self.now key.now seqno).loads ≡ [] → IsOk result }
         ensures recovered { IsRecovered self.now }
-        // On a table of a list it is the first match in the list, its numbers lifted.
-        ensures list { (es : List Entry) → IsTable self.now.bytes es →
+        // On bytes that store a list it is the first match in the list, its numbers lifted.
+        ensures list { (es : List Entry) → StoresList self.now.bytes es →
             let found = point (lift es self.now.global_seqno) key.now seqno in
             Gives (λ (x : Option Entry). x) result (Ok found) }
     {
@@ -418,9 +421,9 @@ impl<A: Allocator + Clone> Table<A> {
         ensures opened { IfOk result (λ s. s.opened ≡ with_load Data none_opened) }
         ensures left { let count = self.now.parts.facts.data_block_count in
             IfOk result (IsNewScan (body_of self.now.bytes) count self.now.global_seqno) }
-        // On a table of a list it is the list, its numbers lifted; where the list has an entry,
-        // nothing but want of memory refuses it.
-        ensures list { (es : List Entry) → IsTable self.now.bytes es →
+        // On bytes that store a list it is the list, its numbers lifted; where the list has an
+        // entry, nothing but want of memory refuses it.
+        ensures list { (es : List Entry) → StoresList self.now.bytes es →
             ScansList result es self.now.global_seqno }
         ensures open { IsOpen self.now }
     {
@@ -445,8 +448,9 @@ impl<A: Allocator + Clone> Table<A> {
         ensures kind { (pin_filter pin_index : Bool) → OpenedWith self.now pin_filter pin_index →
             IfOk result (λ index.
             index_kind_of index ≡ kind_for (is_some self.now.parts.regions.index) pin_index) }
-        // On a table of a list it has the handles of the table's data blocks between any two edges.
-        ensures list { (es : List Entry) (t : IsTable self.now.bytes es) →
+        // On bytes that store a list it has the handles of the list's data blocks between any two
+        // edges.
+        ensures list { (es : List Entry) (t : StoresList self.now.bytes es) →
             IfOk result (λ index. NamesBlocksOf t (index_read index)) }
         ensures err { IfErr result (λ e. e ≡ OutOfMemory) }
     {
@@ -458,13 +462,18 @@ impl<A: Allocator + Clone> Table<A> {
 }
 
 impl<A: Allocator> Table<A> {
-    /// A law, which does nothing: a table of a list says of itself what the list says, and its key
-    /// range is the list's ends; and any table was recovered from its bytes, which are in memory.
+    /// A law, which does nothing: a table whose bytes store a list says of itself what the list
+    /// says, and its key range is the list's ends; what writers make of a list stores it; and any
+    /// table was recovered from its bytes, which are in memory.
     pub fn tells_its_list(&self)
         ensures parts { (es : List Entry) (t : IsTable self.now.bytes es) →
             SaysList t self.now.parts }
-        ensures range { (es : List Entry) → IsTable self.now.bytes es →
+        ensures facts { (es : List Entry) (t : StoresList self.now.bytes es) →
+            BearsOut self.now.parts.facts es t.handles }
+        ensures range { (es : List Entry) → StoresList self.now.bytes es →
             ⟦<Table<A> as Ranged>⟧.range self.now ≡ ends_of es }
+        ensures written { (es : List Entry) → IsTable self.now.bytes es →
+            StoresList self.now.bytes es }
         ensures open { IsOpen self.now }
     {
         let _source: &BlockSource<A> = &self.source;
@@ -478,8 +487,9 @@ impl<A: Allocator> Table<A> {
         ensures alike { (es : List Entry) (t : IsTable self.now.bytes es) →
             (u : IsTable other.now.bytes es) → AreCutAlike t u →
             TellAlike (table_index self.now) (table_index other.now) }
-        // They are those of the one table's data blocks, and by the clause before the other's.
-        ensures names { (es : List Entry) (t : IsTable self.now.bytes es) →
+        // They are those of the data blocks of the list that the one table's bytes store, and by
+        // the clause before of the other's.
+        ensures names { (es : List Entry) (t : StoresList self.now.bytes es) →
             NamesBlocksOf t (table_index self.now) }
     {
         let _source: &BlockSource<A> = &self.source;
@@ -559,12 +569,12 @@ impl<A: Allocator> Table<A> {
         inner.pinned_block_index.payload_len(&inner.regions.tli)
     }
 
-    /// Whether the key range that the table says reaches past both bounds. On a table of a list,
-    /// where it does not, no key of the list lies within them.
+    /// Whether the key range that the table says reaches past both bounds. On bytes that store a
+    /// list, where it does not, no key of the list lies within them.
     pub fn check_key_range_overlap(&self, bounds: &(Bound<&[u8]>, Bound<&[u8]>)) -> bool
         ensures value { result ≡ overlaps_bounds (key_bound bounds.now.0) (key_bound bounds.now.1)
             self.now.parts.facts.key_range }
-        ensures list { result ≡ false → (es : List Entry) → IsTable self.now.bytes es →
+        ensures list { result ≡ false → (es : List Entry) → StoresList self.now.bytes es →
             within (key_bound bounds.now.0) (key_bound bounds.now.1) es ≡ [] }
     {
         self.inner.metadata.key_range.overlaps_with_bounds(bounds)

@@ -1,7 +1,7 @@
 -- Of tables of lists in runs in order a point read is the first match in the sorted entries of all
 -- lists.
-use Rattle.std.proofs.Common.{◌≡◌, refl, sym, ◌∙◌, ap, subst, ℕ, ◌+◌, Bool, true, false, cond, List}
-use Rattle.std.proofs.Common.{[], ◌∷◌, ◌++◌, inl, inr}
+use Rattle.std.proofs.Common.{◌≡◌, refl, sym, ◌∙◌, ap, subst, ℕ, Bool, true, false, cond, List, []}
+use Rattle.std.proofs.Common.{◌∷◌, ◌++◌, inl, inr}
 use Rattle.std.specs.Prelude.{Option, Some, None, Result, Ok, ◌&&◌, nat_lt, find, map}
 use Rattle.std.specs.List.{AllByRecursion, list_all}
 use Rattle.std.proofs.lemmas.Bool.{cases_Bool}
@@ -21,7 +21,7 @@ use Rattle.lsm_ranges.proofs.RunLemmas.{parts}
 use Rattle.lsm_readers.specs.Answer.{table_answer}
 use Rattle.lsm_readers.specs.Read.{◌>>=◌}
 use Rattle.lsm_readers.specs.Table.{OpenTable}
-use Rattle.lsm_readers.proofs.FilePoints.{file_answers}
+use Rattle.lsm_readers.proofs.StoredParts.{stored_answers}
 use Rattle.lsm_runs.specs.RunLists.{HoldLists, HoldsList, RunsHoldLists}
 use Rattle.lsm_runs.specs.RunParts.{range_of, ranges_of}
 use Rattle.lsm_runs.specs.SeveralRuns.{leading_of, run_read, runs_told, table_read, union_in}
@@ -91,8 +91,8 @@ module _ (key : List ℕ) (bound : ℕ) where
       → (table_answer t key bound).told ≡ Ok (point es key bound)
   held_answer t es h =
       let pins = h.opened.recovered in
-      file_answers t.bytes h.stored h.table t.global_seqno pins.pin_filter pins.pin_index t.parts
-      h.opened.short pins.told key bound
+      stored_answers t.bytes h.stored h.table t.global_seqno pins.pin_filter pins.pin_index t.parts
+      pins.told key bound
       ∙ ap (λ (xs : List Entry). Ok (point xs key bound)) (sym h.lifted_is)
 
   abbrev by_first : OpenTable → List OpenTable → Bool → Result (Option Entry) Error

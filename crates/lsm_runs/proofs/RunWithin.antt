@@ -1,8 +1,7 @@
 -- Of tables of lists in a run in order a reader deals what of all lists lies within the bounds.
-use Rattle.std.proofs.Common.{◌≡◌, refl, sym, ap, subst, ◌∙◌, ℕ, zero, suc, ◌+◌, ◌-◌, Bool}
-use Rattle.std.proofs.Common.{true, false, ◌==◌, List, [], ◌∷◌, ◌++◌, drop, take}
-use Rattle.std.proofs.Common.{IsTrue, inl, inr, arith}
-use Rattle.std.specs.Prelude.{Option, Some, None, Ok, ◌&&◌, map, if◌then◌else◌}
+use Rattle.std.proofs.Common.{◌≡◌, refl, sym, ap, subst, ◌∙◌, ℕ, zero, suc, ◌+◌, ◌-◌, Bool, true}
+use Rattle.std.proofs.Common.{false, ◌==◌, List, [], ◌∷◌, ◌++◌, drop, take, IsTrue, inl, inr, arith}
+use Rattle.std.specs.Prelude.{Option, Some, None, Ok, ◌&&◌, if◌then◌else◌}
 use Rattle.std.specs.List.{AllByRecursion, list_all}
 use Rattle.std.specs.declared.ops.Bound.{Bound}
 use Rattle.std.specs.declared.ops.Bound.TheVariants.{Unbounded}
@@ -21,22 +20,18 @@ use Rattle.lsm_iters.specs.Lift.{lift}
 use Rattle.lsm_ranges.specs.KeyRange.{Interval, has_key, key_le}
 use Rattle.lsm_ranges.specs.Run.{are_in_order, ends_before, first_and_last, how_many}
 use Rattle.lsm_ranges.specs.Run.{overlap_indexes, starts_within}
-use Rattle.lsm_ranges.proofs.IntervalLemmas.{lt_to_le, lower_up, none_within}
-use Rattle.lsm_ranges.proofs.IntervalLemmas.{upper_down}
-use Rattle.lsm_ranges.proofs.RunLemmas.{falls-ends_before, falls-starts_within}
-use Rattle.lsm_ranges.proofs.RunLemmas.{first_and_last-none, first_and_last-some, none_count, parts}
+use Rattle.lsm_ranges.proofs.IntervalLemmas.{lt_to_le, lower_up, none_within, upper_down}
+use Rattle.lsm_ranges.proofs.RunLemmas.{falls-ends_before, falls-starts_within, first_and_last-none}
+use Rattle.lsm_ranges.proofs.RunLemmas.{first_and_last-some, none_count, parts}
 use Rattle.lsm_readers.specs.OfList.{ends_of}
-use Rattle.lsm_readers.specs.Parts.{Parts}
 use Rattle.lsm_readers.specs.Ranges.{range_told}
 use Rattle.lsm_readers.specs.Table.{OpenTable}
 use Rattle.lsm_readers.proofs.Ends.{keys_within, nothing_within}
-use Rattle.lsm_readers.proofs.FileParts.{table_parts}
-use Rattle.lsm_readers.proofs.FileRanges.{file_rows}
+use Rattle.lsm_readers.proofs.StoredParts.{bears_out, stored_rows}
 use Rattle.lsm_readers.proofs.Recovered.{range_is}
 use Rattle.lsm_runs.specs.RunLists.{HoldLists, HoldsList}
 use Rattle.lsm_runs.specs.RunParts.{Part, RunSpan, is_edge, span_part_at, part_told}
-use Rattle.lsm_runs.specs.RunParts.{span_parts_from, range_of, ranges_of}
-use Rattle.lsm_runs.specs.RunParts.{span_of, span_parts}
+use Rattle.lsm_runs.specs.RunParts.{span_parts_from, range_of, ranges_of, span_of, span_parts}
 use Rattle.lsm_runs.specs.RunRange.{run_parts_told}
 use Rattle.lsm_runs.proofs.RunSteps.{R}
 
@@ -53,9 +48,8 @@ pub held_keys : (t : OpenTable) (es : List Entry) → HoldsList t es → Keys (r
 held_keys t es h =
     let pins = h.opened.recovered in
     let ends : range_of t ≡ ends_of h.stored =
-    range_is t pins ∙ ap (λ (p : Parts). p.facts.key_range)
-    (table_parts t.bytes h.stored h.table h.opened.short t.global_seqno pins.pin_filter
-    pins.pin_index t.parts pins.told) in
+    range_is t pins ∙ (bears_out t.bytes h.stored h.table t.global_seqno pins.pin_filter
+    pins.pin_index t.parts pins.told).key_range in
     let stored : Keys (range_of t) h.stored = subst (λ (r : Interval). Keys r h.stored) (sym ends)
     (keys_within h.stored h.table.strict) in
     subst (λ (xs : List Entry). Keys (range_of t) xs) (sym h.lifted_is)
@@ -65,8 +59,8 @@ pub held_told : (t : OpenTable) (es : List Entry) → HoldsList t es → (low hi
     → range_told t low high ≡ ok_results (within low high es)
 held_told t es h low high =
     let pins = h.opened.recovered in
-    file_rows t.bytes h.stored h.table t.global_seqno pins.pin_filter pins.pin_index t.parts
-    h.opened.short pins.told low high
+    stored_rows t.bytes h.stored h.table t.global_seqno pins.pin_filter pins.pin_index t.parts
+    pins.told low high
     ∙ ap (λ (xs : List Entry). ok_results (within low high xs)) (sym h.lifted_is)
 
 module _ (low high : Bound (List ℕ)) where

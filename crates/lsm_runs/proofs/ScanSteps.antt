@@ -21,7 +21,7 @@ use Rattle.lsm_iters.proofs.Ends.{front_split}
 use Rattle.lsm_readers.specs.Scan.{IsNewScan, Scan, ScansNext, fault_of, scan_left, scan_size}
 use Rattle.lsm_readers.specs.Scan.{up_to_error}
 use Rattle.lsm_readers.specs.Table.{OpenTable}
-use Rattle.lsm_readers.proofs.FileScans.{file_told}
+use Rattle.lsm_readers.proofs.StoredParts.{stored_scan}
 use Rattle.lsm_readers.proofs.Scans.{ended_left, fault_left, scan_falls}
 use Rattle.lsm_readers.proofs.TableRanges.{deals_values}
 use Rattle.lsm_runs.specs.RunLists.{DealsList, HoldLists, HoldsList}
@@ -327,8 +327,8 @@ held_scan t es h some =
       length-map
           h.stored (lifted t.global_seqno),
     ) in
-    file_told t.bytes h.stored h.table t.global_seqno pins.pin_filter pins.pin_index t.parts
-    h.opened.short pins.told stored ∙ ap ok_results (sym h.lifted_is)
+    stored_scan t.bytes h.stored h.table t.global_seqno pins.pin_filter pins.pin_index t.parts
+    pins.told stored ∙ ap ok_results (sym h.lifted_is)
 
 pub held_scans : (ts : List OpenTable) (ls : List (List Entry)) → HoldLists ts ls
     → AllByRecursion (λ (es : List Entry). 0 < length es) ls

@@ -1,4 +1,4 @@
--- Runs of tables that were written of lists, and what is read of them.
+-- Runs of tables whose bytes store lists, and what is read of them.
 use Rattle.std.specs.Prelude.{◌≡◌, ℕ, suc, ◌-◌, Bool, true, List, [], ◌∷◌, drop, take, Option}
 use Rattle.std.specs.Prelude.{Result, if◌then◌else◌}
 use Rattle.std.specs.List.{AllByRecursion, AllZip}
@@ -8,18 +8,18 @@ use Rattle.sst_entries.specs.Entry.{Entry}
 use Rattle.sst_entries.specs.Point.{within}
 use Rattle.sst_entries.specs.Stream.{Deals, answer_stops, ok_results}
 use Rattle.lsm_formats.specs.Chunks.{joined}
-use Rattle.lsm_formats.specs.Table.{IsTable}
 use Rattle.lsm_iters.specs.Lift.{lift}
 use Rattle.lsm_merge.specs.Union.{Ascends}
 use Rattle.lsm_ranges.specs.Run.{IsInOrder}
+use Rattle.lsm_readers.specs.Stored.{StoresList}
 use Rattle.lsm_readers.specs.Table.{IsOpen, OpenTable}
 use Rattle.lsm_runs.specs.RunParts.{RunSpan, is_edge, range_of}
 
--- an opened table whose bytes are those of a list, which it gives lifted
+-- an opened table whose bytes store a list, which it gives lifted
 pub record HoldsList (t : OpenTable) (es : List Entry) : Type 0 where
   pub stored : List Entry
   pub opened : IsOpen t
-  pub table : IsTable t.bytes stored
+  pub table : StoresList t.bytes stored
   pub lifted_is : es ≡ lift stored t.global_seqno
 
 -- so each table of a run

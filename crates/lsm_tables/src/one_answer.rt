@@ -1,7 +1,7 @@
 //! All reads of one table.
 ghost use Rattle.std.specs.Prelude.{◌≡◌, [], IfErr, IfOk, List};
 ghost use Rattle.sst_entries.specs.declared.error.Error.TheVariants.{OutOfMemory};
-ghost use Rattle.lsm_readers.specs.Words.{DealsAll, DealsWithin, Entry, IsTable};
+ghost use Rattle.lsm_readers.specs.Words.{DealsAll, DealsWithin, Entry, StoresList};
 ghost use Rattle.sst_entries.specs.Error.{Faults};
 ghost use Rattle.lsm_compactions.specs.Written.{ReadsList, reads_fault};
 
@@ -26,7 +26,7 @@ fn ranges_of<A: Allocator + Clone>(
     ensures list { let gives = ⟦<Iter<A> as Iterator>⟧.next_gives in
         let back_gives = ⟦<Iter<A> as DoubleEndedIterator>⟧.next_back_gives in
         let g = table.now.global_seqno in
-        (es : List Entry) → IsTable table.now.bytes es → IfOk result (λ ranges.
+        (es : List Entry) → StoresList table.now.bytes es → IfOk result (λ ranges.
         DealsWithin gives back_gives lower upper es g ranges.0
         × DealsAll gives back_gives es g ranges.1) }
     ensures err { IfErr result (λ e. e ≡ OutOfMemory) }
@@ -42,10 +42,10 @@ fn read_and_scan<A: Allocator + Clone>(
     key: &[u8],
     seqno: SeqNo,
 ) -> Result<PointAndScan<A>, Error>
-    ensures list { (es : List Entry) → IsTable table.now.bytes es → IfOk result (λ read.
+    ensures list { (es : List Entry) → StoresList table.now.bytes es → IfOk result (λ read.
         ReadsList es table.now.global_seqno key.now seqno read.0 read.1) }
     ensures refused { Faults result (reads_fault table.now key.now seqno) }
-    ensures err { (es : List Entry) → IsTable table.now.bytes es → (es ≡ [] → ⊥) →
+    ensures err { (es : List Entry) → StoresList table.now.bytes es → (es ≡ [] → ⊥) →
         IfErr result (λ e. e ≡ OutOfMemory) }
 {
     let found = table.get(key, seqno, Table::<A>::key_hash(key))?;
@@ -55,10 +55,11 @@ fn read_and_scan<A: Allocator + Clone>(
 /// What each read of a table gives: what a point read finds, beside a scan of all; and the entries
 /// within two bounds, beside all entries, both from both ends.
 ///
-/// Of a table of a list these are the list's, its numbers lifted by the global number, and nothing
-/// else of the table has a say in it: whichever index and filter it was written with, in one block
-/// or in partitions, whichever of their blocks stay loaded, of whichever sizes its blocks are and
-/// in whichever version it is stored. So two tables of one list answer alike. Where the list has an
+/// Of bytes that store a list these are the list's, its numbers lifted by the global number, and
+/// nothing else of the table has a say in it: whoever wrote it, whichever index and filter it was
+/// written with, in one block or in partitions, whichever of their blocks stay loaded, of whichever
+/// sizes its blocks are and in whichever version it is stored. So two tables of one list answer
+/// alike. Where the list has an
 /// entry it is refused [`Error::OutOfMemory`] alone; other tables as [`Table::get`], or else
 /// [`Table::scan`], is.
 pub fn read_each_way<A: Allocator + Clone>(
@@ -71,7 +72,7 @@ pub fn read_each_way<A: Allocator + Clone>(
     ensures list { let gives = ⟦<Iter<A> as Iterator>⟧.next_gives in
         let back_gives = ⟦<Iter<A> as DoubleEndedIterator>⟧.next_back_gives in
         let g = table.now.global_seqno in
-        (es : List Entry) → IsTable table.now.bytes es → IfOk result (λ read.
+        (es : List Entry) → StoresList table.now.bytes es → IfOk result (λ read.
         ReadsList es g key.now seqno read.0.0 read.0.1
         × DealsWithin gives back_gives lower upper es g read.1.0
         × DealsAll gives back_gives es g read.1.1) }
@@ -79,7 +80,7 @@ pub fn read_each_way<A: Allocator + Clone>(
     // memory aside.
     ensures refused { Faults result (reads_fault table.now key.now seqno) }
     // Where the list has an entry, it is refused for want of memory alone.
-    ensures err { (es : List Entry) → IsTable table.now.bytes es → (es ≡ [] → ⊥) →
+    ensures err { (es : List Entry) → StoresList table.now.bytes es → (es ≡ [] → ⊥) →
         IfErr result (λ e. e ≡ OutOfMemory) }
 {
     let read = read_and_scan(table, key, seqno)?;

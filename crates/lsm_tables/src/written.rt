@@ -56,6 +56,8 @@ pub fn read_back<A: Allocator + Clone>(
     match write_and_open(alloc, 1, Timestamp::from(0), items, global_seqno)? {
         None => Ok(None),
         Some(table) => {
+            // Its bytes store the list.
+            table.tells_its_list();
             let found = table.get(key, seqno, Table::<A>::key_hash(key))?;
             let scanner = table.scan()?;
             Ok(Some((found, scanner)))

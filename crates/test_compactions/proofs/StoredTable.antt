@@ -23,6 +23,7 @@ use Rattle.lsm_formats.specs.Table.{IsTable}
 use Rattle.lsm_readers.specs.Answer.{lift, lifted}
 use Rattle.lsm_ranges.specs.Run.{IsInOrder}
 use Rattle.lsm_readers.specs.Table.{IsOpen, OpenTable}
+use Rattle.lsm_readers.proofs.FileStored.{open_stores}
 use Rattle.lsm_writers.specs.Writing.{IsWritable}
 use Rattle.lsm_compactions.specs.Compacted.{AreCompactable}
 use Rattle.lsm_runs.specs.RunLists.{HoldLists, HoldsList}
@@ -176,7 +177,7 @@ pub holds : (t : OpenTable) (bytes : List ℕ) (es : List Entry) → IsOpen t �
 holds t bytes es recovered same none is = record {
   stored = es;
   opened = recovered;
-  table = subst (λ b. IsTable b es) (sym same) is;
+  table = (open_stores t recovered es (subst (λ b. IsTable b es) (sym same) is)).0;
   lifted_is =
       lift_none es ∙ ap (lift es) (sym none);
 }

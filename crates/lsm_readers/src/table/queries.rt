@@ -2,7 +2,7 @@
 ghost use Rattle.std.specs.Prelude.{◌≡◌, IfOk, IsOk, List, Ok, [], map};
 ghost use Rattle.std.specs.List.{All};
 ghost use Rattle.lsm_readers.specs.Batch.{AreFound, IsLookup};
-ghost use Rattle.lsm_readers.specs.Words.{Entry, FaultsFirst, Gives, IsTable, lift, point};
+ghost use Rattle.lsm_readers.specs.Words.{Entry, FaultsFirst, Gives, StoresList, lift, point};
 ghost use Rattle.lsm_readers.specs.Words.{body_of, table_answer};
 ghost use Rattle.lsm_readers.specs.Many.{found_told, many_told};
 
@@ -125,9 +125,9 @@ pub fn get_many<A: Allocator + Clone>(
     queries: &[Query<A>],
 ) -> Result<Vec<Option<InternalValue<A>>, A>, Error>
     ensures told { Gives (λ found. found.items) result (many_told table.now queries.now) }
-    // On a table of a list it is each query's first match in the list, its numbers lifted, and
+    // On bytes that store a list it is each query's first match in the list, its numbers lifted, and
     // nothing but want of memory refuses it.
-    ensures list { (es : List Entry) → IsTable table.now.bytes es →
+    ensures list { (es : List Entry) → StoresList table.now.bytes es →
         let all = lift es table.now.global_seqno in
         Gives (λ found. found.items) result (Ok (map (λ q. point all q.key q.seqno) queries.now)) }
     // A list of no queries is not refused, unless a clone of the allocator is.

@@ -4,7 +4,7 @@ ghost use Rattle.std.specs.declared.ops.Bound.{Bound};
 ghost use Rattle.std.specs.declared.ops.Bound.TheVariants.{Unbounded};
 ghost use Rattle.sst_entries.specs.declared.error.Error.TheVariants.{OutOfMemory};
 ghost use Rattle.lsm_readers.specs.Words.{DealsAll, DealsEnding, DealsWithin, Entry, IsOpen};
-ghost use Rattle.lsm_readers.specs.Words.{IsRangeOf, IsTable, LoadsAtMost};
+ghost use Rattle.lsm_readers.specs.Words.{IsRangeOf, LoadsAtMost, StoresList};
 ghost use Rattle.lsm_readers.specs.Words.{OpenTable, blocks_within, index_read, index_within};
 ghost use Rattle.lsm_readers.specs.Words.{range_told, table_index};
 
@@ -24,15 +24,15 @@ impl<A: Allocator + Clone> Table<A> {
             let back_gives = ⟦<Iter<A> as DoubleEndedIterator>⟧.next_back_gives in
             let told = range_told self.now Unbounded Unbounded in
             IfOk result (λ i. DealsEnding gives back_gives (λ _. Unit {0}) (λ _. Unit {0}) i told) }
-        // On a table of a list it is the list, its numbers lifted.
+        // On bytes that store a list it is the list, its numbers lifted.
         ensures list { let gives = ⟦<Iter<A> as Iterator>⟧.next_gives in
             let back_gives = ⟦<Iter<A> as DoubleEndedIterator>⟧.next_back_gives in
-            (es : List Entry) → IsTable self.now.bytes es → let g = self.now.global_seqno in
+            (es : List Entry) → StoresList self.now.bytes es → let g = self.now.global_seqno in
             IfOk result (DealsAll gives back_gives es g) }
         // It loads at most all data blocks, and the index blocks that lead to them.
         ensures few { let gives = ⟦<Iter<A> as Iterator>⟧.next_gives in
             let back_gives = ⟦<Iter<A> as DoubleEndedIterator>⟧.next_back_gives in
-            (es : List Entry) (t : IsTable self.now.bytes es) →
+            (es : List Entry) (t : StoresList self.now.bytes es) →
             let blocks = blocks_within t Unbounded Unbounded in
             let index = index_within self.now Unbounded Unbounded in
             IfOk result (LoadsAtMost gives back_gives blocks index) }
@@ -58,16 +58,17 @@ impl<A: Allocator + Clone> Table<A> {
             let back_gives = ⟦<Iter<A> as DoubleEndedIterator>⟧.next_back_gives in
             let told = range_told self.now lower upper in
             IfOk result (λ i. DealsEnding gives back_gives (λ _. Unit {0}) (λ _. Unit {0}) i told) }
-        // On a table of a list it is the list's entries within the bounds, their numbers lifted.
+        // On bytes that store a list it is the list's entries within the bounds, their numbers
+        // lifted.
         ensures list { let gives = ⟦<Iter<A> as Iterator>⟧.next_gives in
             let back_gives = ⟦<Iter<A> as DoubleEndedIterator>⟧.next_back_gives in
-            (es : List Entry) → IsTable self.now.bytes es → let g = self.now.global_seqno in
+            (es : List Entry) → StoresList self.now.bytes es → let g = self.now.global_seqno in
             IfOk result (DealsWithin gives back_gives lower upper es g) }
         // It loads at most the data blocks between the bounds, and the index blocks that lead
         // there.
         ensures few { let gives = ⟦<Iter<A> as Iterator>⟧.next_gives in
             let back_gives = ⟦<Iter<A> as DoubleEndedIterator>⟧.next_back_gives in
-            (es : List Entry) (t : IsTable self.now.bytes es) →
+            (es : List Entry) (t : StoresList self.now.bytes es) →
             let blocks = blocks_within t lower upper in
             let index = index_within self.now lower upper in
             IfOk result (LoadsAtMost gives back_gives blocks index) }

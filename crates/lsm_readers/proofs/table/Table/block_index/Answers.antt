@@ -2,7 +2,7 @@ use Rattle.std.proofs.Common.{◌≡◌, ap, subst, ◌∙◌}
 use Rattle.std.specs.Prelude.{List, Result, Ok, Err, IfOk}
 use Rattle.sst_entries.specs.declared.error.Error.{Error}
 use Rattle.sst_entries.specs.Entry.{Entry}
-use Rattle.lsm_formats.specs.Table.{IsTable}
+use Rattle.lsm_readers.specs.Stored.{StoresList}
 use Rattle.lsm_block_indexes.specs.declared.kinds.BlockIndexImpl.{BlockIndexImpl}
 use Rattle.lsm_block_indexes.specs.Kinds.{index_of}
 use Rattle.lsm_block_indexes.specs.Index.{Index}
@@ -13,9 +13,9 @@ use Rattle.lsm_readers.proofs.IndexKinds.{opened_kind}
 use Rattle.lsm_readers.proofs.OneIndex.{names_blocks}
 use Rattle.lsm_readers.proofs.table.Table.block_index.Goals as goal
 
--- the index that a call made, where it made one, is that of an open table of a list
+-- the index that a call made, where it made one, is that of an open table whose bytes store a list
 all_name : {A : Type 0} (t : OpenTable) → IsOpen t → (index : Index) → index ≡ table_index t → (r : Result (BlockIndexImpl A) Error) → IfOk r (λ i. index_of i ≡ index)
-    → (es : List Entry) (file : IsTable t.bytes es) → IfOk r (λ i. NamesBlocksOf file (index_of i))
+    → (es : List Entry) (file : StoresList t.bytes es) → IfOk r (λ i. NamesBlocksOf file (index_of i))
 all_name t held index is (Ok i) made es file = λ lower upper.
     ap (λ (x : Index). x.told lower upper) (made ∙ is) ∙ names_blocks t held es file lower upper
 all_name t held index is (Err e) made es file = tt

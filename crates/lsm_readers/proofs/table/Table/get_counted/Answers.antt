@@ -9,8 +9,8 @@ use Rattle.lsm_readers.specs.Read.{Opens, Read}
 use Rattle.lsm_readers.specs.Table.{IsOpen, table_of}
 use Rattle.sst_sections.specs.Sections.{body_of}
 use Rattle.lsm_readers.proofs.FewLoads.{answer_few}
-use Rattle.lsm_readers.proofs.FilePoints.{file_answers}
 use Rattle.lsm_readers.proofs.Points.{table_read}
+use Rattle.lsm_readers.proofs.StoredParts.{stored_answers}
 use Rattle.lsm_readers.proofs.table.Table.get_counted.Goals as goal
 
 pub returns-clause-told : goal.returns-clause-told
@@ -49,5 +49,5 @@ pub returns-clause-list : goal.returns-clause-list
 returns-clause-list g c es is =
     let t = c.args.self.now in
     let held = subst IsOpen c.self.view_is c.self.invariant in
-    let same = file_answers t.bytes es is t.global_seqno held.recovered.pin_filter held.recovered.pin_index t.parts held.short held.recovered.told c.args.key.now c.args.seqno in
+    let same = stored_answers t.bytes es is t.global_seqno held.recovered.pin_filter held.recovered.pin_index t.parts held.recovered.told c.args.key.now c.args.seqno in
     subst (λ (told : Result (Option Entry) Error). Gives (λ (x : Option Entry). x) c.point_in-found.result told) same (returns-clause-told g c)

@@ -8,6 +8,7 @@ use Rattle.sst_sections.specs.declared.checksum.Checksum.{Checksum}
 use Rattle.lsm_readers.specs.Parts.{Parts}
 use Rattle.lsm_readers.specs.Table.{OpenTable, parts_of, table_of}
 use Rattle.lsm_readers.proofs.FileParts.{table_told}
+use Rattle.lsm_readers.proofs.StoredParts.{opens_by, stored_fits}
 use Rattle.lsm_readers.proofs.Recovered.{first_from, is_open, opening_fails, opening_told, trailer_fine, trailer_first, trailer_none}
 use Rattle.lsm_readers.proofs.Steps.{beside_early, beside_fails, beside_first, beside_gives, beside_none, beside_second, passes_fault, shared_early, shared_gives, shared_has}
 use Rattle.lsm_readers.proofs.table.Table.recover.Goals as goal
@@ -82,6 +83,17 @@ returns-in_err-source-2-clause-list g c es t one =
 pub returns-clause-list : goal.returns-clause-list
 returns-clause-list g c es t one =
     sym (table_told c.args.bytes es t c.in_ok-source.ensures.short c.args.global_seqno c.args.pin_filter c.args.pin_index one) ∙ returns-clause-told g c
+
+pub returns-in_err-source-clause-stores : goal.returns-in_err-source-clause-stores
+returns-in_err-source-clause-stores g c es t =
+    opens_by c.args.bytes es t (λ (x : OpenTable). x.parts) c.from_residual.result c.args.global_seqno c.args.pin_filter c.args.pin_index (returns-in_err-source-clause-told g c)
+
+pub returns-in_err-source-2-clause-stores : goal.returns-in_err-source-2-clause-stores
+returns-in_err-source-2-clause-stores g c es t =
+    opens_by c.args.bytes es t (λ (x : OpenTable). x.parts) c.from_residual-in_err-source-2.result c.args.global_seqno c.args.pin_filter c.args.pin_index (returns-in_err-source-2-clause-told g c)
+
+pub returns-clause-stores : goal.returns-clause-stores
+returns-clause-stores g c es t = stored_fits c.args.bytes es t c.args.global_seqno c.args.pin_filter c.args.pin_index _ (returns-clause-told g c)
 
 pub returns-clause-number : goal.returns-clause-number
 returns-clause-number g c =

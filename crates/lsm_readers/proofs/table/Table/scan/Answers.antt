@@ -8,7 +8,7 @@ use Rattle.sst_entries.specs.Stream.{Deals, nowhere, answer_stops}
 use Rattle.lsm_readers.specs.Table.{IsOpen, table_of}
 use Rattle.lsm_readers.specs.Scan.{IsNewScan, Scan, ScansNext, fault_of, scan_told}
 use Rattle.lsm_readers.specs.Table.{OpenTable}
-use Rattle.lsm_readers.proofs.FileScans.{file_opens}
+use Rattle.lsm_readers.proofs.StoredParts.{stored_scans}
 use Rattle.lsm_readers.proofs.table.Table.scan.Goals as goal
 
 pub returns-clause-deals : goal.returns-clause-deals
@@ -21,7 +21,7 @@ returns-clause-list g c es is =
     let t = c.args.self.now in
     let seen = ap (table_of c.self.inside.source) c.deref-inner.ensures ∙ c.self.view_is in
     let held = subst IsOpen c.self.view_is c.self.invariant in
-    file_opens t.bytes es is t.global_seqno held.recovered.pin_filter held.recovered.pin_index t.parts held.short held.recovered.told c.new.result
+    stored_scans t.bytes es is t.global_seqno held.recovered.pin_filter held.recovered.pin_index t.parts held.recovered.told c.new.result
     (λ stops memory. subst (λ (u : OpenTable). IfOk c.new.result (λ (s : Scan). Deals (answer_stops stops) ScansNext nowhere s (scan_told (body_of u.bytes) u.parts.facts.data_block_count u.global_seqno))) seen (c.new.ensures.deals stops memory))
     (subst (λ (u : OpenTable). Faults c.new.result (fault_of (load_at_told (body_of u.bytes) 0 Data))) seen c.new.ensures.refused)
 

@@ -1,11 +1,9 @@
--- The index of a table of a list has the window of its handles, whatever of it stays loaded.
-use Rattle.std.proofs.Common.{◌≡◌, ℕ, ◌+◌, ◌^◌, ◌<◌, Bool, true, false, List, [], ◌∷◌, ◌++◌, length}
-use Rattle.std.proofs.Common.{map, refl, sym, ap, subst, ◌∙◌, append_assoc, length-append, arith}
-use Rattle.std.specs.Prelude.{Option, Some, None, Result, Ok}
-use Rattle.std.specs.List.{AllByRecursion, flat_map}
+-- The window of some handles, by a top level and the parts that it names.
+use Rattle.std.proofs.Common.{◌≡◌, ℕ, Bool, true, false, List, [], ◌∷◌, ◌++◌, map, refl, sym, ap}
+use Rattle.std.proofs.Common.{subst, ◌∙◌, arith}
+use Rattle.std.specs.Prelude.{Option, Some, None, Result, Ok, Err}
+use Rattle.std.specs.List.{AllByRecursion, AllZip, flat_map}
 use Rattle.std.proofs.lemmas.List.{map-append}
-use Rattle.std.proofs.lemmas.List.Concat.{flat_map-append}
-use Rattle.sst_sections.specs.declared.version.TableVersion.{TableVersion}
 use Rattle.sst_entries.specs.declared.error.Error.{Error}
 use Rattle.sst_entries.specs.declared.value_type.ValueType.TheVariants.{Value}
 use Rattle.sst_entries.specs.Entry.{Entry, entry}
@@ -13,20 +11,20 @@ use Rattle.sst_entries.specs.Stream.{ok_results}
 use Rattle.sst_entries.specs.Strict.{IsStrictAfter, is_before, last_of}
 use Rattle.sst_entries.proofs.Booleans.{apart, is_false}
 use Rattle.sst_entries.proofs.OrderLemmas.{before_trans}
-use Rattle.sst_entries.proofs.Strictness.{strict_front, strict_back}
+use Rattle.sst_entries.proofs.Strictness.{strict_back, strict_front}
 use Rattle.sst_blocks.specs.declared.block_type.BlockType.TheVariants.{Index}
 use Rattle.sst_blocks.specs.Handle.{Handle}
-use Rattle.sst_blocks.specs.Handles.{AreStrictHandles, IsSpellableHandle, end_of, from_edge}
-use Rattle.sst_blocks.specs.Handles.{from_first, handles_payload, is_above, reaches, to_edge}
-use Rattle.sst_blocks.specs.Handles.{up_to_first, window}
+use Rattle.sst_blocks.specs.Handles.{AreStrictHandles, end_of, from_edge, from_first, is_above}
+use Rattle.sst_blocks.specs.Handles.{reaches, to_edge, up_to_first, window}
 use Rattle.sst_blocks.specs.Place.{Place, place_of}
+use Rattle.sst_blocks.specs.Block.{Loaded, handles_of, load_told}
 use Rattle.sst_blocks.proofs.Reaching.{above_reaches, reaches_after}
-use Rattle.lsm_formats.proofs.BlockLengths.{length-block}
 use Rattle.lsm_formats.specs.Parts.{joined_parts}
-use Rattle.lsm_formats.specs.Partitions.{handles_block, index_tops, last_end}
-use Rattle.lsm_block_indexes.specs.Index.{block_between, parts_between}
-use Rattle.lsm_readers.proofs.FileIndexes.{LoadsHandles, part_loads}
-use Rattle.lsm_readers.proofs.PartReads.{AreSomeParts, top_at}
+use Rattle.lsm_formats.specs.Partitions.{last_end}
+use Rattle.lsm_block_indexes.specs.Index.{between, block_between, parts_between}
+use Rattle.lsm_readers.specs.IndexKinds.{handles_told}
+use Rattle.lsm_readers.specs.Read.{◌>>=◌}
+use Rattle.lsm_readers.specs.Stored.{NamesPart}
 use Rattle.lsm_readers.proofs.Windows.{AllCut, AllTell, Rises, Tells, parts_cut, to_here, to_later}
 
 -- ---- the tests at the edges
@@ -94,11 +92,18 @@ unfolding last_of
 end_is x [] = refl
 end_is x (y ∷ ys) = end_is y ys
 
-split : (last : Option Entry) (part : List Handle) (parts : List (List Handle))
+pub split : (last : Option Entry) (part : List Handle) (parts : List (List Handle))
     → IsStrictAfter last (map end_of (joined_parts (part ∷ parts)))
     → IsStrictAfter last (map end_of part ++ map end_of (joined_parts parts))
 split last part parts h = subst (λ (es : List Entry). IsStrictAfter last es)
     (map-append end_of part (joined_parts parts)) h
+
+-- a handle of a top level ends as its part does
+part_end : (body : List ℕ) (top x : Handle) (xs : List Handle) → NamesPart body top (x ∷ xs)
+    → end_of top ≡ last_end (x ∷ xs)
+part_end body top x xs n = ap (λ (k : List ℕ). entry k [] top.seqno Value) n.end_key
+    ∙ ap (λ (m : ℕ). entry (last_end (x ∷ xs)).user_key [] m Value) n.seqno
+    ∙ end_is x xs
 
 module _ (p : Handle → Bool) (edge : IsEdge p) where
   behind : (x : Handle) (xs : List Handle) → IsStrictAfter (Some (end_of x)) (map end_of xs)
@@ -147,33 +152,39 @@ module _ (p : Handle → Bool) (edge : IsEdge p) where
         λ hit rest. some_pass top x xs rest ends hit;
   }
 
-  tells : (v : TableVersion) (at : ℕ) (last : Option Entry) (parts : List (List Handle))
-      → AreSomeParts parts → IsStrictAfter last (map end_of (joined_parts parts))
-      → AllTell p (index_tops v at parts) parts
-  tells v at last [] some strict = tt
-  tells v at last ([] ∷ ps) some strict = absurd (omega (arith, some.0))
-  tells v at last ((x ∷ xs) ∷ ps) some strict =
+  tells : (body : List ℕ) (last : Option Entry) (tops : List Handle) (parts : List (List Handle))
+      → AllZip (NamesPart body) tops parts → IsStrictAfter last (map end_of (joined_parts parts))
+      → AllTell p tops parts
+  tells body last [] [] named strict = tt
+  tells body last [] (part ∷ parts) named strict = absurd named
+  tells body last (top ∷ tops) [] named strict = absurd named
+  tells body last (top ∷ tops) ([] ∷ ps) named strict = absurd (omega (arith, (named.0).some))
+  tells body last (top ∷ tops) ((x ∷ xs) ∷ ps) named strict =
       let part = x ∷ xs in
       let whole = split last part ps strict in (
-        tell last (top_at v at part) x xs (end_is x xs)
+        tell last top x xs (part_end body top x xs named.0)
             (strict_front last (map end_of part) (map end_of (joined_parts ps)) whole),
-        tells v (at + (24 + length (handles_payload v part)))
-            (last_of last (map end_of part)) ps some.1
+        tells body (last_of last (map end_of part)) tops ps named.1
             (strict_back last (map end_of part) (map end_of (joined_parts ps)) whole),
       )
 
 -- ---- what a block and what partitions have between the edges
 
-pub between_here : (body : List ℕ) (place : Place) (hs : List Handle) (lo : Option (List ℕ × ℕ))
-    (hi : Option (List ℕ)) → LoadsHandles body place.offset place.size hs
-    → block_between body lo hi place ≡ ok_results (window hs lo hi)
-between_here body place hs lo hi l = rw (l.loads, l.handles) refl
+block_has : (r : Result Loaded Error) (hs : List Handle) (lo : Option (List ℕ × ℕ))
+    (hi : Option (List ℕ)) → (r >>= λ b. Ok (handles_of b)) ≡ Ok hs
+    → between lo hi r ≡ ok_results (window hs lo hi)
+block_has (Ok b) hs lo hi told = let same : handles_of b ≡ hs = cc in
+    ap (λ (xs : List Handle). ok_results (window xs lo hi)) same
+block_has (Err e) hs lo hi told = absurd cc
 
-module _ (v : TableVersion) (at : ℕ) (parts : List (List Handle)) (some : AreSomeParts parts)
-    (strict : AreStrictHandles (joined_parts parts))
-    (spelled : AllByRecursion (IsSpellableHandle v) (joined_parts parts))
-    (short : length (flat_map (handles_block v) parts) < 2 ^ 32) (pre post body : List ℕ)
-    (from : at ≡ length pre) (lies : body ≡ pre ++ (flat_map (handles_block v) parts ++ post))
+pub between_here : (body : List ℕ) (place : Place) (hs : List Handle) (lo : Option (List ℕ × ℕ))
+    (hi : Option (List ℕ)) → handles_told body place ≡ Ok hs
+    → block_between body lo hi place ≡ ok_results (window hs lo hi)
+between_here body place hs lo hi told =
+    block_has (load_told body place.offset place.size Index) hs lo hi told
+
+module _ (body : List ℕ) (tops : List Handle) (parts : List (List Handle))
+    (named : AllZip (NamesPart body) tops parts) (strict : AreStrictHandles (joined_parts parts))
     (lo : Option (List ℕ × ℕ)) (hi : Option (List ℕ)) where
   abbrev result : Handle → Result Handle Error
   result h = Ok h
@@ -181,42 +192,24 @@ module _ (v : TableVersion) (at : ℕ) (parts : List (List Handle)) (some : AreS
   abbrev results : Handle → List (Result Handle Error)
   results top = block_between body lo hi (place_of top)
 
-  cuts : (before behind : List (List Handle)) → parts ≡ before ++ behind
-      → AllCut (from_test lo) (to_test hi) result results
-      (index_tops v (at + length (flat_map (handles_block v) before)) behind) behind
-  cuts before [] are = tt
-  cuts before (part ∷ behind) are =
-      let n = at + length (flat_map (handles_block v) before) in
-      let front = before ++ part ∷ [] in
-      let next : at + length (flat_map (handles_block v) front)
-      ≡ n + (24 + length (handles_payload v part)) =
-      omega (
-        arith,
-        ap length (flat_map-append (handles_block v) before (part ∷ [])),
-        length-append
-            (flat_map (handles_block v) before) (handles_block v part ++ []),
-        length-append {A = ℕ}
-            (handles_block v part) [],
-        length-block v Index (handles_payload v part),
-      ) in
-      let more = cuts front behind (are ∙ sym (append_assoc before (part ∷ []) behind)) in (
-        between_here body (place_of (top_at v n part)) part lo hi
-            (part_loads v at parts some strict spelled short pre post body from lies before part
-            behind are) ∙ ap (map result) (window_is part lo hi),
-        subst (λ (m : ℕ). AllCut (from_test lo) (to_test hi) result results
-            (index_tops v m behind) behind) next more,
-      )
+  cuts : (ts : List Handle) (ps : List (List Handle)) → AllZip (NamesPart body) ts ps
+      → AllCut (from_test lo) (to_test hi) result results ts ps
+  cuts [] [] n = tt
+  cuts [] (part ∷ ps) n = absurd n
+  cuts (top ∷ ts) [] n = absurd n
+  cuts (top ∷ ts) (part ∷ ps) n = (
+    between_here body (place_of top) part lo hi (n.0).handles ∙ ap (map result)
+        (window_is part lo hi),
+    cuts ts ps n.1,
+  )
 
-  pub parts_window : parts_between body lo hi (window (index_tops v at parts) lo hi)
+  pub parts_window : parts_between body lo hi (window tops lo hi)
       ≡ ok_results (window (joined_parts parts) lo hi)
   parts_window =
-      let tops = index_tops v at parts in
-      let start : at + 0 ≡ at = omega arith in
-      let all = subst (λ (m : ℕ). AllCut (from_test lo) (to_test hi) result results
-      (index_tops v m parts) parts) start (cuts [] parts refl) in
       ap (flat_map results) (window_is tops lo hi)
       ∙ parts_cut (from_test lo) (to_test hi) result results tops parts
-      (tells (from_test lo) (from_is_edge lo) v at None parts some strict)
-      (tells (to_test hi) (to_is_edge hi) v at None parts some strict) all
+      (tells (from_test lo) (from_is_edge lo) body None tops parts named strict)
+      (tells (to_test hi) (to_is_edge hi) body None tops parts named strict)
+      (cuts tops parts named)
       (rises (from_test lo) (from_is_edge lo) None (joined_parts parts) strict)
       ∙ ap (map result) (sym (window_is (joined_parts parts) lo hi))

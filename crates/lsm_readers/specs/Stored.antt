@@ -1,0 +1,141 @@
+-- Bytes that store a list of entries, whoever wrote them: what loading their blocks tells.
+use Rattle.std.specs.Prelude.{◌≡◌, ℕ, ◌+◌, ◌-◌, ◌^◌, ◌<◌, nat_lt, true, List, [], ◌∷◌, length}
+use Rattle.std.specs.Prelude.{count_by, sum_by, Option, Some, None, Result, Ok, Err, if◌then◌else◌}
+use Rattle.std.specs.List.{AllByRecursion, AllZip}
+use Rattle.sst_sections.specs.Sections.{body_of, trailer_fault}
+use Rattle.sst_entries.specs.declared.error.Error.{Error}
+use Rattle.sst_entries.specs.declared.error.Error.TheVariants.{GlobalSeqNoTooLarge}
+use Rattle.sst_entries.specs.Entry.{Entry}
+use Rattle.sst_entries.specs.Strict.{IsStrict}
+use Rattle.sst_filters.specs.KeyHash.{hash_of}
+use Rattle.sst_blocks.specs.declared.block_type.BlockType.{BlockType}
+use Rattle.sst_blocks.specs.declared.block_type.BlockType.TheVariants.{Data, Filter}
+use Rattle.sst_blocks.specs.Block.{Loaded, entries_of, load_at_told, load_told}
+use Rattle.sst_blocks.specs.Handle.{Handle}
+use Rattle.sst_blocks.specs.Place.{Place, place_of}
+use Rattle.lsm_formats.specs.Chunks.{joined}
+use Rattle.lsm_formats.specs.Facts.{count_after, highest_seqno, is_reclaimable, is_tombstone}
+use Rattle.lsm_formats.specs.Facts.{is_weak, lowest_seqno}
+use Rattle.lsm_formats.specs.Filters.{keys_of}
+use Rattle.lsm_formats.specs.Index.{last_entry}
+use Rattle.lsm_formats.specs.Partitions.{last_end}
+use Rattle.lsm_formats.specs.Parts.{joined_parts}
+use Rattle.lsm_readers.specs.declared.regions.ParsedRegions.{ParsedRegions}
+use Rattle.lsm_readers.specs.Answer.{filter_admits}
+use Rattle.lsm_readers.specs.IndexKinds.{handles_told}
+use Rattle.lsm_readers.specs.Meta.{Facts, meta_told}
+use Rattle.lsm_readers.specs.OfList.{ends_of}
+use Rattle.lsm_readers.specs.Parts.{places_told, tops_told}
+
+-- ---- data blocks
+
+-- at a handle lies the data block of some entries, the last of which it names
+pub record NamesChunk (body : List ℕ) (h : Handle) (c : List Entry) : Type 0 where
+  pub block : Loaded
+  pub loads : load_told body h.offset h.size Data ≡ Ok block
+  pub entries : entries_of block ≡ c
+  pub some : 0 < length c
+  pub end_key : h.end_key ≡ (last_entry c).user_key
+  pub seqno : h.seqno ≡ (last_entry c).seqno
+
+-- blocks lie one behind another, the first of them at a position
+abbrev pub AreLaid : ℕ → List Handle → Type 0
+AreLaid at [] = Unit {0}
+AreLaid at (h ∷ hs) = (h.offset ≡ at) × AreLaid (at + h.size) hs
+
+-- ---- the index
+
+-- at a handle of a top level lies the index block of some handles, the last of which it names
+pub record NamesPart (body : List ℕ) (top : Handle) (part : List Handle) : Type 0 where
+  pub handles : handles_told body (place_of top) ≡ Ok part
+  pub some : 0 < length part
+  pub end_key : top.end_key ≡ (last_end part).user_key
+  pub seqno : top.seqno ≡ (last_end part).seqno
+
+-- a top level that loads, and the partitions that it names, which have these handles together
+pub record HasPartitions (body : List ℕ) (place : Place) (hs : List Handle) : Type 0 where
+  pub tops : List Handle
+  pub parts : List (List Handle)
+  pub told : handles_told body place ≡ Ok tops
+  pub named : AllZip (NamesPart body) tops parts
+  pub whole : joined_parts parts ≡ hs
+
+-- the index has these handles: in one block, or where there is a section of partitions in those
+abbrev pub IndexHas : List ℕ → Option Place → Place → List Handle → Type 0
+IndexHas body None tli hs = handles_told body tli ≡ Ok hs
+IndexHas body (Some section) tli hs = HasPartitions body tli hs
+
+-- ---- the filter
+
+-- a block of a kind loads at a place
+pub record LoadsAs (body : List ℕ) (place : Place) (kind : BlockType) : Type 0 where
+  pub block : Loaded
+  pub loads : load_told body place.offset place.size kind ≡ Ok block
+
+-- each filter that a top level names loads; without a top level the one filter, where there is one
+abbrev pub FiltersLoad : List ℕ → Option (List Handle) → Option Place → Type 0
+FiltersLoad body (Some tops) place =
+    AllByRecursion (λ (top : Handle). LoadsAs body (place_of top) Filter) tops
+FiltersLoad body None (Some place) = LoadsAs body place Filter
+FiltersLoad body None None = Unit {0}
+
+-- a filter whose blocks are loaded by each read may have a key
+abbrev pub Admits : List ℕ → Option (List Handle) → Option Place → List ℕ → Type 0
+Admits body tops place key =
+    (filter_admits body tops None place key (hash_of key)).told ≡ Ok true
+
+-- the top level of the filter loads, and so does each filter, and each of these keys is admitted
+pub record FilterHas (body : List ℕ) (filter_tli place : Option Place) (keys : List (List ℕ))
+    : Type 0 where
+  pub tops : Option (List Handle)
+  pub told : tops_told body filter_tli ≡ Ok tops
+  pub loads : FiltersLoad body tops place
+  pub admits : AllByRecursion (Admits body tops place) keys
+
+-- ---- the table
+
+-- what a table says of itself is so of a list of entries in the blocks of some handles
+pub record BearsOut (said : Facts) (es : List Entry) (hs : List Handle) : Type 0 where
+  pub data_block_count : said.data_block_count ≡ length hs
+  pub key_range : said.key_range ≡ ends_of es
+  pub seqno_min : said.seqno_min ≡ lowest_seqno es
+  pub seqno_max : said.seqno_max ≡ highest_seqno es
+  pub file_size : said.file_size ≡ sum_by (λ (h : Handle). h.size) hs
+  pub item_count : said.item_count ≡ length es
+  pub tombstone_count : said.tombstone_count ≡ count_by is_tombstone es
+  pub weak_tombstone_count : said.weak_tombstone_count ≡ count_by is_weak es
+  pub weak_tombstone_reclaimable :
+      said.weak_tombstone_reclaimable ≡ count_after is_reclaimable None es
+
+-- no data block lies where the first of them would: its load is refused
+pub record HasNoBlock (body : List ℕ) : Type 0 where
+  pub fault : Error
+  pub refused : load_at_told body 0 Data ≡ Err fault
+
+-- the bytes store a list, whoever wrote them: the trailer, the sections and the meta block have no
+-- fault; the data blocks that the index names lie one behind another from the first byte on, and
+-- their entries are those of the list; the filter admits each of its keys; the list is strict, its
+-- numbers leave room for a bound above them, and what the table says of itself is so
+pub record StoresList (bytes : List ℕ) (es : List Entry) : Type 0 where
+  pub trailer : trailer_fault bytes ≡ None
+  pub regions : ParsedRegions
+  pub places : places_told bytes ≡ Ok regions
+  pub facts : Facts
+  pub meta : meta_told (body_of bytes) regions.metadata ≡ Ok facts
+  pub blocks : List (List Entry)
+  pub handles : List Handle
+  pub whole : joined blocks ≡ es
+  pub named : AllZip (NamesChunk (body_of bytes)) handles blocks
+  pub laid : AreLaid 0 handles
+  pub index : IndexHas (body_of bytes) regions.index regions.tli handles
+  pub filter : FilterHas (body_of bytes) regions.filter_tli regions.filter (keys_of es)
+  pub strict : IsStrict es
+  pub numbers : AllByRecursion (λ (e : Entry). e.seqno < 2 ^ 64 - 1) es
+  pub borne : BearsOut facts es handles
+  -- a table without entries has no data block
+  pub none : length es ≡ 0 → HasNoBlock (body_of bytes)
+
+-- what opening bytes that store a list tells: their highest number has to fit once it is lifted
+abbrev pub fits_told : List Entry → ℕ → Result (Unit {0}) Error
+fits_told es g =
+    if nat_lt (2 ^ 64 - 1) (highest_seqno es + g) then Err GlobalSeqNoTooLarge else Ok tt
