@@ -40,4 +40,5 @@ pub mod TableRanges
 pub mod ManyReads
 pub mod ManyOfList
 pub mod BatchReads
+pub mod ByKey
 pub mod OneIndex

@@ -1,0 +1,42 @@
+-- What a point read answers where what it tells is a value.
+use Rattle.std.proofs.Common.{◌≡◌, ℕ, ◌+◌, Bool, true, false, List, [], ◌∷◌, refl, sym, ap, ◌∙◌}
+use Rattle.std.proofs.Common.{subst, arith}
+use Rattle.std.specs.Prelude.{Option, Result, Ok, Err, IfOk, IfErr}
+use Rattle.sst_entries.specs.declared.error.Error.{Error}
+use Rattle.sst_entries.specs.declared.error.Error.TheVariants.{OutOfMemory}
+use Rattle.sst_entries.specs.Entry.{Entry}
+use Rattle.sst_entries.specs.Error.{Gives, is_memory}
+use Rattle.sst_entries.specs.Point.{point}
+use Rattle.sst_entries.proofs.Refusals.{memory_is}
+use Rattle.lsm_readers.specs.Answer.{lift}
+
+pub value_is : (told : Option Entry) (r : Result (Option Entry) Error)
+    → Gives (λ (x : Option Entry). x) r (Ok told) → IfOk r (λ x. x ≡ told)
+value_is told (Ok x) h = cc
+value_is told (Err e) h = tt
+
+only_memory : (b : Bool) (told : Option Entry) (e : Error)
+    → (b ≡ false → Ok told ≡ Err e) → b ≡ true
+only_memory true told e h = refl
+only_memory false told e h = absurd (let wrong : Ok told ≡ Err e = h refl in cc)
+
+pub memory_alone : (told : Option Entry) (r : Result (Option Entry) Error)
+    → Gives (λ (x : Option Entry). x) r (Ok told) → IfErr r (λ e. e ≡ OutOfMemory)
+memory_alone told (Ok x) h = tt
+memory_alone told (Err e) h = memory_is e (only_memory (is_memory e) told e h)
+
+-- with no number added a list stays as it is
+pub lift_zero : (es : List Entry) → lift es 0 ≡ es
+lift_zero [] = refl
+lift_zero (e ∷ es) =
+    let same : e.seqno + 0 ≡ e.seqno = omega arith in
+    rw (same, lift_zero es) refl
+
+pub plain_is : (es : List Entry) (g : ℕ) (key : List ℕ) (bound : ℕ)
+    (r : Result (Option Entry) Error) → g ≡ 0
+    → Gives (λ (x : Option Entry). x) r (Ok (point (lift es g) key bound))
+    → IfOk r (λ x. x ≡ point es key bound)
+plain_is es g key bound r zero h =
+    value_is (point es key bound) r
+    (subst (λ (xs : List Entry). Gives (λ (x : Option Entry). x) r (Ok (point xs key bound)))
+    (ap (lift es) zero ∙ lift_zero es) h)
