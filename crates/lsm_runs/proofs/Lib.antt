@@ -13,5 +13,6 @@ pub mod RunPoints
 pub mod RunLoops
 pub mod RunReads
 pub mod Together
+pub mod Numbered
 pub mod ScanSteps
 pub mod Spanned

@@ -11,4 +11,5 @@ mod unopened;
 pub use bounds::share;
 pub use run_reader::RunReader;
 pub use run_scanner::RunScanner;
-pub use runs::{NewestOfRuns, get_runs, get_runs_counted, range_runs};
+pub use runs::{NewestOfRuns, NewestOfRunsAt, get_runs, get_runs_counted};
+pub use runs::{range_runs, range_runs_at};

@@ -1,6 +1,6 @@
 //! Reading several runs as one.
-ghost use Rattle.std.specs.Prelude.{◌≡◌, ℕ, [], IfErr, IfOk, IsOk, List, MatchOption, None, Ok};
-ghost use Rattle.std.specs.Prelude.{Option, Some, length, map};
+ghost use Rattle.std.specs.Prelude.{◌≡◌, ◌<◌, ℕ, [], All, IfErr, IfOk, IsOk, List, MatchOption};
+ghost use Rattle.std.specs.Prelude.{None, Ok, Option, Some, length, map};
 ghost use Rattle.std.specs.Arc.{arc_value};
 ghost use Rattle.std.specs.List.{AllByRecursion, AllZip};
 ghost use Rattle.std.specs.Ordering.{is_lt};
@@ -8,9 +8,10 @@ ghost use Rattle.sst_entries.specs.declared.error.Error.TheVariants.{OutOfMemory
 ghost use Rattle.sst_filters.specs.KeyHash.{hash_of};
 ghost use Rattle.lsm_runs.specs.Words.{AnswersNewest, CanAskNewest, CanDeal, DealTogether};
 ghost use Rattle.lsm_runs.specs.Words.{DealsList, DealsNewest, DoesRead, Entry, FaultsFirst, Gives};
-ghost use Rattle.lsm_runs.specs.Words.{HoldLists, IsInOrder, IsNewestOf, IsOverSpans, IsRunOf};
-ghost use Rattle.lsm_runs.specs.Words.{LoadsEach, Opens, RunsHoldLists, item_cmp, joined};
-ghost use Rattle.lsm_runs.specs.Words.{leading_of, loads_together, newest, none_opened};
+ghost use Rattle.lsm_runs.specs.Words.{HoldLists, IsInOrder, IsNewestOf, IsOverSpans};
+ghost use Rattle.lsm_runs.specs.Words.{IsOverSpansBelow, IsRunOf, LoadsEach, Opens};
+ghost use Rattle.lsm_runs.specs.Words.{RunsHoldLists, item_cmp, joined, leading_of};
+ghost use Rattle.lsm_runs.specs.Words.{loads_together, newest, none_opened, numbered_below};
 ghost use Rattle.lsm_runs.specs.Words.{overlap_indexes, point, range_of, run_read, runs_read};
 ghost use Rattle.lsm_runs.specs.Words.{runs_told, span_of, spans_within, union_in, within};
 
@@ -19,7 +20,7 @@ use crate::bounds::share;
 use lsm_merge::Merger;
 use lsm_ranges::Run;
 use lsm_readers::Table;
-use lsm_sorted::{MvccStream, NewestOf, newest_from_both_ends, newest_of};
+use lsm_sorted::{Below, MvccStream, NewestOf, each_below, newest_from_both_ends, newest_of};
 use sst_blocks::{Error, InternalValue, IterItem, Opened, SeqNo, UserKey};
 use std::alloc::Allocator;
 use std::ops::Bound;
@@ -27,6 +28,9 @@ use std::sync::Arc;
 
 /// The newest version of each key of several runs, from both ends: what [`range_runs`] gives.
 pub type NewestOfRuns<A> = NewestOf<RunReader<A>, A>;
+
+/// The same of what is numbered below a bound: what [`range_runs_at`] gives.
+pub type NewestOfRunsAt<A> = NewestOf<Below<RunReader<A>>, A>;
 
 // The reader of a run within both bounds, where a table's range reaches past them.
 fn reader_of<A: Allocator + Clone>(
@@ -153,10 +157,64 @@ pub fn range_runs<A: Allocator + Clone>(
         ⟦<NewestOfRuns<A> as DoubleEndedIterator>⟧.next_back_gives
         ⟦<NewestOfRuns<A> as Iterator>⟧.can_next
         ⟦<NewestOfRuns<A> as DoubleEndedIterator>⟧.can_next_back s) }
+    // So a `for` may go over it, from the front or from the back.
+    ensures next { IfOk result (λ s. ⟦<NewestOfRuns<A> as Iterator>⟧.can_next s) }
+    ensures next_back { IfOk result (λ s.
+        ⟦<NewestOfRuns<A> as DoubleEndedIterator>⟧.can_next_back s) }
     ensures err { IfErr result (λ e. e ≡ OutOfMemory) }
 {
     let readers = readers_within(alloc.clone()?, runs, range)?;
     newest_stream(alloc, readers)
+}
+
+/// The newest version numbered below `seqno` of each key within both bounds, of what several runs
+/// have together, from both ends: what a snapshot at that number sees, as [`get_runs`] at it. No
+/// table is opened yet. Refused [`Error::OutOfMemory`] alone.
+pub fn range_runs_at<A: Allocator + Clone>(
+    alloc: A,
+    runs: &[Arc<Run<Table<A>, A>, A>],
+    range: (Bound<UserKey<A>>, Bound<UserKey<A>>),
+    seqno: SeqNo,
+) -> Result<MvccStream<Merger<Below<RunReader<A>>, A>>, Error>
+    // Of tables of lists in runs in order it deals, for every list of ends, what is newest of the
+    // sorted entries of all lists, lifted, that lie within the bounds and are numbered below
+    // `seqno`.
+    ensures list { let gives = ⟦<NewestOfRunsAt<A> as Iterator>⟧.next_gives in
+        let back_gives = ⟦<NewestOfRunsAt<A> as DoubleEndedIterator>⟧.next_back_gives in
+        (lists : List (List (List Entry))) → RunsHoldLists (map arc_value runs.now) lists →
+        let found = newest (numbered_below seqno (within range.0 range.1 (union_in lists))) in
+        IfOk result (λ s. DealsList gives back_gives found s) }
+    // Where every number is below `seqno` it deals what `range_runs` deals.
+    ensures whole { let gives = ⟦<NewestOfRunsAt<A> as Iterator>⟧.next_gives in
+        let back_gives = ⟦<NewestOfRunsAt<A> as DoubleEndedIterator>⟧.next_back_gives in
+        (lists : List (List (List Entry))) → RunsHoldLists (map arc_value runs.now) lists →
+        All (λ e. e.seqno < seqno) (union_in lists) →
+        let found = newest (within range.0 range.1 (union_in lists)) in
+        IfOk result (λ s. DealsList gives back_gives found s) }
+    // Of any tables in runs in order it is over the readers of the spans within the bounds, each
+    // below `seqno`: where one of them is refused, want of memory too, that error stands in its
+    // place, and what is dealt goes on by the stream's steps.
+    ensures steps { AllByRecursion (IsInOrder range_of) (map arc_value runs.now) → IfOk result
+        (IsOverSpansBelow ⟦<Below<RunReader<A>> as Iterator>⟧.next_gives
+        ⟦<Below<RunReader<A>> as DoubleEndedIterator>⟧.next_back_gives
+        ⟦<NewestOfRunsAt<A> as Iterator>⟧.next_gives
+        ⟦<NewestOfRunsAt<A> as DoubleEndedIterator>⟧.next_back_gives
+        range.0 range.1 seqno (map arc_value runs.now)) }
+    // Whatever the tables' bytes are, both ends may be asked however often.
+    ensures can { IfOk result (λ s.
+        CanDeal ⟦<NewestOfRunsAt<A> as Iterator>⟧.next_gives
+        ⟦<NewestOfRunsAt<A> as DoubleEndedIterator>⟧.next_back_gives
+        ⟦<NewestOfRunsAt<A> as Iterator>⟧.can_next
+        ⟦<NewestOfRunsAt<A> as DoubleEndedIterator>⟧.can_next_back s) }
+    // So a `for` may go over it, from the front or from the back.
+    ensures next { IfOk result (λ s. ⟦<NewestOfRunsAt<A> as Iterator>⟧.can_next s) }
+    ensures next_back { IfOk result (λ s.
+        ⟦<NewestOfRunsAt<A> as DoubleEndedIterator>⟧.can_next_back s) }
+    ensures err { IfErr result (λ e. e ≡ OutOfMemory) }
+{
+    let readers = readers_within(alloc.clone()?, runs, range)?;
+    let sources = each_below(alloc.clone()?, readers, seqno)?;
+    newest_stream(alloc, sources)
 }
 
 // The first match in the one table of a run whose range has the key, with how many blocks were
