@@ -46,7 +46,7 @@ zip_push Q [] (z ∷ zs) x y all one = absurd all
 zip_push Q (z ∷ zs) [] x y all one = absurd all
 zip_push Q (z ∷ zs) (u ∷ us) x y all one = (all.0, zip_push Q zs us x y all.1 one)
 
-join : (xs ys : List (List Entry)) → joined (xs ++ ys) ≡ joined xs ++ joined ys
+pub join : (xs ys : List (List Entry)) → joined (xs ++ ys) ≡ joined xs ++ joined ys
 join xs ys = flat_map-append (λ (c : List Entry). c) xs ys
 
 -- what of a run's lists lies within two bounds

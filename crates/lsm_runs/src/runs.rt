@@ -10,10 +10,11 @@ ghost use Rattle.lsm_runs.specs.Words.{AnswersNewest, CanAskNewest, CanDeal, Dea
 ghost use Rattle.lsm_runs.specs.Words.{DealsList, DealsNewest, DoesRead, Entry, FaultsFirst, Gives};
 ghost use Rattle.lsm_runs.specs.Words.{HoldLists, IsInOrder, IsNewestOf, IsOverSpans};
 ghost use Rattle.lsm_runs.specs.Words.{IsOverSpansBelow, IsRunOf, LoadsEach, Opens};
-ghost use Rattle.lsm_runs.specs.Words.{RunsHoldLists, item_cmp, joined, leading_of};
+ghost use Rattle.lsm_runs.specs.Words.{RunsHoldLists, is_older, item_cmp, joined, leading_of};
 ghost use Rattle.lsm_runs.specs.Words.{loads_together, newest, none_opened, numbered_below};
-ghost use Rattle.lsm_runs.specs.Words.{overlap_indexes, point, range_of, run_read, runs_read};
-ghost use Rattle.lsm_runs.specs.Words.{runs_told, span_of, spans_within, union_in, within};
+ghost use Rattle.lsm_runs.specs.Words.{overlap_indexes, point, range_of, run_read};
+ghost use Rattle.lsm_runs.specs.Words.{run_read_behind, runs_read, runs_read_by_age, runs_told};
+ghost use Rattle.lsm_runs.specs.Words.{span_of, spans_within, union_in, within};
 
 use crate::RunReader;
 use crate::bounds::share;
@@ -86,7 +87,7 @@ fn readers_of<A: Allocator + Clone>(
 }
 
 // The readers of several runs within bounds, which it takes and drops.
-fn readers_within<A: Allocator + Clone>(
+pub(crate) fn readers_within<A: Allocator + Clone>(
     alloc: A,
     runs: &[Arc<Run<Table<A>, A>, A>],
     range: (Bound<UserKey<A>>, Bound<UserKey<A>>),
@@ -106,7 +107,7 @@ fn readers_within<A: Allocator + Clone>(
 
 // The newest versions of sources with two ends. It is generic in these, so that none of a reader's
 // parts is looked at.
-fn newest_stream<I: DoubleEndedIterator<Item = IterItem<A>>, A: Allocator + Clone>(
+pub(crate) fn newest_stream<I: DoubleEndedIterator<Item = IterItem<A>>, A: Allocator + Clone>(
     alloc: A,
     sources: Vec<I, A>,
 ) -> Result<NewestOf<I, A>, Error>
@@ -248,6 +249,38 @@ fn together(first: Opened, second: Opened) -> Opened
     }
 }
 
+// Whether all that a table has is numbered below what was found.
+fn is_older<A: Allocator>(table: &Table<A>, found: &Option<InternalValue<A>>) -> bool
+    ensures { result ≡ is_older found.now table.now }
+{
+    match found {
+        Some(entry) => table.get_highest_seqno() < entry.key.seqno,
+        None => false,
+    }
+}
+
+// The same as [`get_run_counted`] behind what was found: nothing where the table is older.
+fn get_run_behind_counted<A: Allocator + Clone>(
+    run: &Run<Table<A>, A>,
+    key: &[u8],
+    seqno: SeqNo,
+    key_hash: u64,
+    found: &Option<InternalValue<A>>,
+) -> (Result<Option<InternalValue<A>>, Error>, Opened)
+    requires { key_hash ≡ hash_of key.now }
+    ensures read { IsInOrder range_of run.now → DoesRead result.0
+        (run_read_behind key.now seqno found.now run.now) none_opened result.1 }
+    ensures few { LoadsEach 1 result.1 }
+{
+    let Some(table) = run.get_for_key(key) else {
+        return (Ok(None), Opened::none());
+    };
+    if is_older(table, found) {
+        return (Ok(None), Opened::none());
+    }
+    table.get_counted(key, seqno, key_hash)
+}
+
 // Whether an entry stands before another.
 fn stands_before<A: Allocator>(x: &InternalValue<A>, y: &InternalValue<A>) -> bool
     ensures { result ≡ is_lt (item_cmp x.now y.now) }
@@ -344,4 +377,84 @@ pub fn get_runs<A: Allocator + Clone>(
         (runs_read key.now seqno None (map arc_value runs.now)).loads ≡ [] → IsOk result }
 {
     get_runs_counted(runs, key, seqno).0
+}
+
+/// The first entry of a key numbered below `seqno`, of what several runs have together, with how
+/// many blocks were loaded for it. Answers as [`get_runs_by_age`].
+pub fn get_runs_by_age_counted<A: Allocator + Clone>(
+    runs: &[Arc<Run<Table<A>, A>, A>],
+    key: &[u8],
+    seqno: SeqNo,
+) -> (Result<Option<InternalValue<A>>, Error>, Opened)
+    // On runs in order, memory aside, it is what the tables that are asked tell, whatever their
+    // bytes.
+    ensures told { AllByRecursion (IsInOrder range_of) (map arc_value runs.now) →
+        let read = runs_read_by_age key.now seqno None (map arc_value runs.now) in
+        Gives (λ (x : Option Entry). x) result.0 read.told }
+    // Of tables of lists it is the first match in the sorted entries of all lists, lifted.
+    ensures list { (lists : List (List (List Entry))) →
+        RunsHoldLists (map arc_value runs.now) lists →
+        Gives (λ (x : Option Entry). x) result.0 (Ok (point (union_in lists) key.now seqno)) }
+    // The blocks loaded are those of the reads of the tables that are asked, up to the first
+    // refusal.
+    ensures opened { AllByRecursion (IsInOrder range_of) (map arc_value runs.now) →
+        let read = runs_read_by_age key.now seqno None (map arc_value runs.now) in
+        Opens result.0 read.loads none_opened result.1 }
+    // A fault that is found before memory is taken, of the first block that is loaded, comes before
+    // any want of memory,
+    ensures early { AllByRecursion (IsInOrder range_of) (map arc_value runs.now) →
+        let read = runs_read_by_age key.now seqno None (map arc_value runs.now) in
+        FaultsFirst result.0 read.early }
+    // and where no block is loaded, as where there are no runs, nothing is refused.
+    ensures calm { AllByRecursion (IsInOrder range_of) (map arc_value runs.now) →
+        let read = runs_read_by_age key.now seqno None (map arc_value runs.now) in
+        read.loads ≡ [] → IsOk result.0 }
+    // Whatever the runs and the tables' bytes, also where it is refused: at most one data block,
+    // one index block and one filter block a run.
+    ensures few { LoadsEach (length runs.now) result.1 }
+{
+    let mut found = None;
+    let mut opened = Opened::none();
+    let key_hash = Table::<A>::key_hash(key);
+    for run in runs {
+        let (told, loads) = get_run_behind_counted(run, key, seqno, key_hash, &found);
+        opened = together(opened, loads);
+        match told {
+            Ok(next) => found = leading(found, next),
+            Err(error) => return (Err(error), opened),
+        }
+    }
+    (Ok(found), opened)
+}
+
+/// The first entry of a key numbered below `seqno`, of what several runs have together, as
+/// [`get_runs`]; but no table is asked whose highest number is below the number of what the runs
+/// before it have. So it asks fewest tables where the newest run comes first, and of tables of
+/// lists it answers the same in any order. Refused with the first refusal, in the order of the
+/// runs; what is not asked is not refused.
+pub fn get_runs_by_age<A: Allocator + Clone>(
+    runs: &[Arc<Run<Table<A>, A>, A>],
+    key: &[u8],
+    seqno: SeqNo,
+) -> Result<Option<InternalValue<A>>, Error>
+    // On runs in order, memory aside, it is what the tables that are asked tell, whatever their
+    // bytes.
+    ensures told { AllByRecursion (IsInOrder range_of) (map arc_value runs.now) →
+        let read = runs_read_by_age key.now seqno None (map arc_value runs.now) in
+        Gives (λ (x : Option Entry). x) result read.told }
+    // Of tables of lists it is the first match in the sorted entries of all lists, lifted.
+    ensures list { (lists : List (List (List Entry))) →
+        RunsHoldLists (map arc_value runs.now) lists →
+        Gives (λ (x : Option Entry). x) result (Ok (point (union_in lists) key.now seqno)) }
+    // A fault that is found before memory is taken, of the first block that is loaded, comes before
+    // any want of memory,
+    ensures early { AllByRecursion (IsInOrder range_of) (map arc_value runs.now) →
+        let read = runs_read_by_age key.now seqno None (map arc_value runs.now) in
+        FaultsFirst result read.early }
+    // and where no block is loaded, as where there are no runs, nothing is refused.
+    ensures calm { AllByRecursion (IsInOrder range_of) (map arc_value runs.now) →
+        let read = runs_read_by_age key.now seqno None (map arc_value runs.now) in
+        read.loads ≡ [] → IsOk result }
+{
+    get_runs_by_age_counted(runs, key, seqno).0
 }
