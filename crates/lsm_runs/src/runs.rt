@@ -213,8 +213,8 @@ pub fn range_runs_at<A: Allocator + Clone>(
         ⟦<NewestOfRunsAt<A> as DoubleEndedIterator>⟧.can_next_back s) }
     ensures err { IfErr result (λ e. e ≡ OutOfMemory) }
 {
-    let readers = readers_within(alloc.clone()?, runs, range)?;
-    let sources = each_below(alloc.clone()?, readers, seqno)?;
+    let within = readers_within(alloc.clone()?, runs, range)?;
+    let sources = each_below(alloc.clone()?, within, seqno)?;
     newest_stream(alloc, sources)
 }
 
@@ -413,18 +413,18 @@ pub fn get_runs_by_age_counted<A: Allocator + Clone>(
     // one index block and one filter block a run.
     ensures few { LoadsEach (length runs.now) result.1 }
 {
-    let mut found = None;
-    let mut opened = Opened::none();
+    let mut best = None;
+    let mut loads = Opened::none();
     let key_hash = Table::<A>::key_hash(key);
     for run in runs {
-        let (told, loads) = get_run_behind_counted(run, key, seqno, key_hash, &found);
-        opened = together(opened, loads);
+        let (told, more) = get_run_behind_counted(run, key, seqno, key_hash, &best);
+        loads = together(loads, more);
         match told {
-            Ok(next) => found = leading(found, next),
-            Err(error) => return (Err(error), opened),
+            Ok(next) => best = leading(best, next),
+            Err(error) => return (Err(error), loads),
         }
     }
-    (Ok(found), opened)
+    (Ok(best), loads)
 }
 
 /// The first entry of a key numbered below `seqno`, of what several runs have together, as

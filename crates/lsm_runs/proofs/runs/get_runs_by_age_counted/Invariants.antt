@@ -7,7 +7,7 @@ use Rattle.lsm_runs.proofs.runs.get_runs_by_age_counted.Given as goal
 
 abbrev pub invariant-loop-run : goal.invariant-loop-run
 invariant-loop-run g l = record {
-  reads : ReadsOn arc_value (run_read_behind l.key l.seqno) l.runs l.run-index l.found l.opened;
-  small : AreSmall l.opened;
-  few : LoadsEach (min l.run-index (length l.runs)) l.opened;
+  reads : ReadsOn arc_value (run_read_behind l.key l.seqno) l.runs l.run-index l.best l.loads;
+  small : AreSmall l.loads;
+  few : LoadsEach (min l.run-index (length l.runs)) l.loads;
 }

@@ -15,8 +15,8 @@ returns-clause-list g c lists held =
     let low = c.args.range.0 in
     let high = c.args.range.1 in
     if_ok c.newest_stream.result
-    (λ s deals. newest_numbered c.args.seqno (RunGives front_of front_tables) (RunGives back_of back_tables) (λ _. Unit {0}) (λ _. Unit {0}) (λ u. at_most (run_size u)) _ _ s c.in_ok-readers.readers.items _ _
-    (union_cut (RunGives front_of front_tables) (RunGives back_of back_tables) low high lists) (c.in_ok-readers.ensures.list lists held) deals)
+    (λ s deals. newest_numbered c.args.seqno (RunGives front_of front_tables) (RunGives back_of back_tables) (λ _. Unit {0}) (λ _. Unit {0}) (λ u. at_most (run_size u)) _ _ s c.in_ok-within.within.items _ _
+    (union_cut (RunGives front_of front_tables) (RunGives back_of back_tables) low high lists) (c.in_ok-within.ensures.list lists held) deals)
     (rw c.in_ok-sources.ensures.of at c.newest_stream.ensures.deals)
 
 pub returns-clause-whole : goal.returns-clause-whole
@@ -37,11 +37,11 @@ returns-clause-next_back g c = if_ok c.newest_stream.result (λ s can. can_now_b
 
 pub returns-clause-steps : goal.returns-clause-steps
 returns-clause-steps g c order =
-    let readers = c.in_ok-readers.readers.items in
+    let readers = c.in_ok-within.within.items in
     if_ok_both c.newest_stream.result
     (λ s starts past. record {
       readers = readers;
-      spans = c.in_ok-readers.ensures.spans order;
+      spans = c.in_ok-within.ensures.spans order;
       deal = all_of _ (λ r. run_deals r) readers;
       of = starts;
       answers = past;
