@@ -1,7 +1,7 @@
 -- Of a source the entries numbered below a bound: what is dealt of a list.
 use Rattle.std.proofs.Common.{◌≡◌, refl, sym, ◌∙◌, ap, subst, ℕ, Bool, true, false, cond, List, []}
-use Rattle.std.proofs.Common.{◌∷◌, ◌++◌, reverse, filter, inl, inr}
-use Rattle.std.specs.Prelude.{Option, Some, None, Result, Ok, Err, MatchOption, nat_lt}
+use Rattle.std.proofs.Common.{◌∷◌, ◌++◌, reverse, inl, inr}
+use Rattle.std.specs.Prelude.{Option, Some, None, Ok, Err, MatchOption, nat_lt}
 use Rattle.std.specs.List.{AllByRecursion}
 use Rattle.std.specs.Iterator.{Count, IsFinite, MakesProgress, Yields}
 use Rattle.std.proofs.lemmas.Bool.{cases_Bool}
