@@ -5,14 +5,14 @@ use Rattle.sst_entries.specs.declared.stream.Direction.{Direction}
 use Rattle.sst_entries.specs.declared.stream.Direction.TheVariants.{Front, Back}
 use Rattle.sst_entries.specs.Stream.{front_of, back_of, Runs}
 use Rattle.sst_blocks.specs.Opened.{none_opened}
-use Rattle.lsm_block_indexes.specs.Left.{CountsLoads, CountsUpTo, Left, LeftGives, loaded}
+use Rattle.lsm_block_indexes.specs.Left.{CountsLoads, CountsUpTo, Left, LeftGives, with_index_loads}
 use Rattle.lsm_block_indexes.proofs.AtEnds.{R}
 use Rattle.lsm_block_indexes.proofs.TwoLevels.{loaded_more}
 
 one_more : (most : ℕ) (s t : Left) → CountsUpTo most s → CountsLoads s t → CountsUpTo most t
 one_more most s t so_far step = record {
   count = step.count + so_far.count;
-  counts = step.counts ∙ ap (loaded step.count) so_far.counts
+  counts = step.counts ∙ ap (with_index_loads step.count) so_far.counts
       ∙ loaded_more step.count so_far.count none_opened;
   within = omega (arith, so_far.within, step.within);
 }

@@ -9,8 +9,9 @@ use Rattle.sst_entries.specs.Error.{is_memory}
 use Rattle.sst_entries.specs.Stream.{but_first, but_last, front_of, back_of, deal, answer_stops}
 use Rattle.sst_entries.specs.Stream.{EndAtError, NoneStops, Runs}
 use Rattle.sst_entries.proofs.StreamLemmas.{can_by}
-use Rattle.lsm_block_indexes.specs.Dealt.{DealsEnding, up_to_error}
-use Rattle.lsm_block_indexes.specs.Left.{CountsLoads, IsEnded, Left, LeftGives, StaysEnded, loaded}
+use Rattle.lsm_block_indexes.specs.Dealt.{DealsEnding, ended_at_error}
+use Rattle.lsm_block_indexes.specs.Left.{CountsLoads, IsEnded, Left, LeftGives, StaysEnded}
+use Rattle.lsm_block_indexes.specs.Left.{with_index_loads}
 use Rattle.lsm_block_indexes.proofs.AtEnds.{R, End}
 
 -- an end of a list
@@ -101,51 +102,51 @@ module _ {S X : Type 0} (left : S → List (Result X Error)) (Over : S → Type 
   -- the answers are those that are dealt
   along : (ends : List Direction) (rs : List (Option (Result X Error))) (s t : S)
       → Runs front back s ends rs t → NoneStops (answer_stops is_memory) rs
-      → rs ≡ up_to_error (deal (left s) ends)
+      → rs ≡ ended_at_error (deal (left s) ends)
   along [] [] s t runs fine = refl
   along [] (r ∷ rs) s t runs fine = absurd runs
   along (e ∷ ends) [] s t runs fine = absurd runs
   along (Front ∷ ends) (None ∷ rs) s t runs fine =
       let step = to_front s None runs.0 runs.1 in
-      let more : rs ≡ up_to_error (deal [] ends) = along ends rs runs.0 t runs.2 fine.1
-      ∙ ap (λ (zs : List (Result X Error)). up_to_error (deal zs ends))
+      let more : rs ≡ ended_at_error (deal [] ends) = along ends rs runs.0 t runs.2 fine.1
+      ∙ ap (λ (zs : List (Result X Error)). ended_at_error (deal zs ends))
       (nothing runs.0 step.answer.1) in
       ap (λ (qs : List (Option (Result X Error))). None ∷ qs) more
-      ∙ sym (ap (λ (zs : List (Result X Error)). up_to_error (deal zs (Front ∷ ends)))
+      ∙ sym (ap (λ (zs : List (Result X Error)). ended_at_error (deal zs (Front ∷ ends)))
       step.answer.0)
   along (Front ∷ ends) (Some (Ok h) ∷ rs) s t runs fine =
       let step = to_front s (Some (Ok h)) runs.0 runs.1 in
       let more = along ends rs runs.0 t runs.2 fine.1 in
       ap (λ (qs : List (Option (Result X Error))). Some (Ok h) ∷ qs) more
-      ∙ sym (ap (λ (x : Option (Result X Error) × List (Result X Error)). up_to_error
+      ∙ sym (ap (λ (x : Option (Result X Error) × List (Result X Error)). ended_at_error
       (x.0 ∷ deal x.1 ends)) step.answer)
   along (Front ∷ ends) (Some (Err e) ∷ rs) s t runs fine =
       let step = to_front s (Some (Err e)) runs.0 runs.1 in
       let xs = left s in
       let more = over_along ends rs runs.0 t (but_first xs) step.ends runs.2 in
       ap (λ (qs : List (Option (Result X Error))). Some (Err e) ∷ qs) more
-      ∙ sym (ap (λ (r : Option (Result X Error)). up_to_error (r ∷ deal (but_first xs) ends))
+      ∙ sym (ap (λ (r : Option (Result X Error)). ended_at_error (r ∷ deal (but_first xs) ends))
       (step.answer.0 fine.0))
   along (Back ∷ ends) (None ∷ rs) s t runs fine =
       let step = to_back s None runs.0 runs.1 in
-      let more : rs ≡ up_to_error (deal [] ends) = along ends rs runs.0 t runs.2 fine.1
-      ∙ ap (λ (zs : List (Result X Error)). up_to_error (deal zs ends))
+      let more : rs ≡ ended_at_error (deal [] ends) = along ends rs runs.0 t runs.2 fine.1
+      ∙ ap (λ (zs : List (Result X Error)). ended_at_error (deal zs ends))
       (nothing runs.0 step.answer.1) in
       ap (λ (qs : List (Option (Result X Error))). None ∷ qs) more
-      ∙ sym (ap (λ (zs : List (Result X Error)). up_to_error (deal zs (Back ∷ ends)))
+      ∙ sym (ap (λ (zs : List (Result X Error)). ended_at_error (deal zs (Back ∷ ends)))
       step.answer.0)
   along (Back ∷ ends) (Some (Ok h) ∷ rs) s t runs fine =
       let step = to_back s (Some (Ok h)) runs.0 runs.1 in
       let more = along ends rs runs.0 t runs.2 fine.1 in
       ap (λ (qs : List (Option (Result X Error))). Some (Ok h) ∷ qs) more
-      ∙ sym (ap (λ (x : Option (Result X Error) × List (Result X Error)). up_to_error
+      ∙ sym (ap (λ (x : Option (Result X Error) × List (Result X Error)). ended_at_error
       (x.0 ∷ deal x.1 ends)) step.answer)
   along (Back ∷ ends) (Some (Err e) ∷ rs) s t runs fine =
       let step = to_back s (Some (Err e)) runs.0 runs.1 in
       let xs = left s in
       let more = over_along ends rs runs.0 t (but_last xs) step.ends runs.2 in
       ap (λ (qs : List (Option (Result X Error))). Some (Err e) ∷ qs) more
-      ∙ sym (ap (λ (r : Option (Result X Error)). up_to_error (r ∷ deal (but_last xs) ends))
+      ∙ sym (ap (λ (r : Option (Result X Error)). ended_at_error (r ∷ deal (but_last xs) ends))
       (step.answer.0 fine.0))
 
   pub deals_ending : (s : S) → DealsEnding front back (λ _. Unit {0}) (λ _. Unit {0}) s (left s)
@@ -181,7 +182,7 @@ module _ {S : Type 0} (view : S → Left) (front back : S → Option R → S →
     none_loaded : (l m : Left) → l.loads ≡ 0 → CountsLoads l m → m.opened ≡ l.opened
     none_loaded l m none loads =
         let zero_now : loads.count ≡ 0 = omega (arith, none, loads.within) in
-        loads.counts ∙ ap (λ (n : ℕ). loaded n l.opened) zero_now
+        loads.counts ∙ ap (λ (n : ℕ). with_index_loads n l.opened) zero_now
 
     ended_along : (ends : List Direction) (rs : List (Option R)) (s t : S) → IsEnded (view s)
         → Runs front back s ends rs t → IsEnded (view t) × ((view t).opened ≡ (view s).opened)

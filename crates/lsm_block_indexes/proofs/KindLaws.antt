@@ -10,7 +10,9 @@ use Rattle.sst_blocks.specs.Place.{Place}
 use Rattle.sst_blocks.specs.Seeking.{whole_span, span_from}
 use Rattle.lsm_block_indexes.specs.declared.kinds.BlockIndexIterImpl.{BlockIndexIterImpl}
 use Rattle.lsm_block_indexes.specs.declared.kinds.BlockIndexIterImpl.TheVariants.{Full, Volatile}
-use Rattle.lsm_block_indexes.specs.declared.kinds.BlockIndexIterImpl.TheVariants.{TwoLevel as Levels}
+use Rattle.lsm_block_indexes.specs.declared.kinds.BlockIndexIterImpl.TheVariants.{
+  TwoLevel as Levels,
+}
 use Rattle.lsm_block_indexes.specs.Dealt.{DealsEnding}
 use Rattle.lsm_block_indexes.specs.Index.{Index, full, on_demand, two_level}
 use Rattle.lsm_block_indexes.specs.Kinds.{BackGives, FrontGives, IsReader, IsSought, left_of}

@@ -8,14 +8,9 @@ use Rattle.sst_blocks.specs.declared.opened.Opened.{Opened}
 use Rattle.sst_blocks.specs.Handle.{Handle}
 use Rattle.lsm_block_indexes.specs.Index.{block_between, block_early}
 use Rattle.lsm_block_indexes.specs.Left.{OnDemand, OnDemandGives, on_demand_left, demanded}
-use Rattle.lsm_block_indexes.specs.Left.{demand_early, demands, loaded}
+use Rattle.lsm_block_indexes.specs.Left.{demand_early, demands, with_index_loads}
 use Rattle.lsm_block_indexes.specs.Seen.{PartGives}
 use Rattle.lsm_block_indexes.proofs.AtEnds.{R, End, Carries, at_part, part_ends}
-
--- no block was loaded before
-pub none_of : {X : Type 0} (o : Option X) → ((x : X) → o ≡ Some x → ⊥) → o ≡ None
-none_of None not = refl
-none_of (Some x) not = absurd (not x refl)
 
 -- what was loaded had no fault, and a fault that is found early is the one that is told
 no_fault : {X : Type 0} (x : X) (fault : Option Error) (f : Error)
@@ -50,7 +45,7 @@ demand_item of end carries s hs ts r is gives =
 -- of the block that this call loads
 pub demand_first : (of : End) (end : List Handle → Option Handle × List Handle) → Carries end of
     → (s : OnDemand) (hs ts : List Handle) (r : Option R) (o : Opened)
-    → s.part ≡ None → o ≡ loaded 1 s.opened → ok_results hs
+    → s.part ≡ None → o ≡ with_index_loads 1 s.opened → ok_results hs
     ≡ block_between s.body s.lower s.upper s.place
     → FaultsFirst {X = List Handle} (Ok hs) (block_early s.body s.place) → PartGives end hs r ts
     → OnDemandGives of s r (record s { part = Some ts; opened = o })
@@ -74,7 +69,7 @@ demand_first of end carries s hs ts r o none counted told early gives =
 -- and where it cannot be loaded
 pub demand_fault : (of : End) → ((e : Error) → (of (Err e ∷ [])).0 ≡ Some (Err e))
     → (s : OnDemand) (e : Error) (o : Opened)
-    → s.part ≡ None → o ≡ loaded 1 s.opened → (is_memory e ≡ false
+    → s.part ≡ None → o ≡ with_index_loads 1 s.opened → (is_memory e ≡ false
     → Err e ∷ [] ≡ block_between s.body s.lower s.upper s.place)
     → FaultsFirst {X = List Handle} (Err e) (block_early s.body s.place)
     → OnDemandGives of s (Some (Err e)) (record s { part = Some []; opened = o })

@@ -27,7 +27,8 @@ use Rattle.lsm_walks.proofs.AtEnds.{map_seen, map_taken, none_taken, nothing_beh
 use Rattle.lsm_walks.proofs.AtEnds.{shortens, whole_end}
 use Rattle.lsm_block_indexes.specs.declared.partitions.Partitions.{Partitions}
 use Rattle.lsm_block_indexes.specs.Index.{block_between, block_early, parts_between, two_level}
-use Rattle.lsm_block_indexes.specs.Left.{AtEnd, IsEnded, TwoLevel, TwoLevelGives, fault_at, loaded}
+use Rattle.lsm_block_indexes.specs.Left.{AtEnd, IsEnded, TwoLevel, TwoLevelGives, fault_at}
+use Rattle.lsm_block_indexes.specs.Left.{with_index_loads}
 use Rattle.lsm_block_indexes.specs.Left.{needs, needs_at, new_two_level, part_of, tops_early}
 use Rattle.lsm_block_indexes.specs.Left.{two_level_left}
 use Rattle.lsm_block_indexes.specs.Partitions.{EndsPartitions, KeepsPartitions, NamesOf}
@@ -38,10 +39,11 @@ use Rattle.lsm_block_indexes.proofs.Seeks.{all_of}
 use Rattle.sst_blocks.specs.Opened.{none_opened}
 use Rattle.sst_blocks.specs.Seeking.{whole_span}
 
-pub loaded_more : (m n : ℕ) (o : Opened) → loaded m (loaded n o) ≡ loaded (m + n) o
-loaded_more zero n o = ap (λ (k : ℕ). loaded k o) (let e : n ≡ 0 + n = omega arith in e)
-loaded_more (suc m) n o = ap (loaded 1) (loaded_more m n o)
-    ∙ ap (λ (k : ℕ). loaded k o) (let e : suc (m + n) ≡ suc m + n = omega arith in e)
+pub loaded_more : (m n : ℕ) (o : Opened) → with_index_loads m (with_index_loads n o) ≡
+    with_index_loads (m + n) o
+loaded_more zero n o = ap (λ (k : ℕ). with_index_loads k o) (let e : n ≡ 0 + n = omega arith in e)
+loaded_more (suc m) n o = ap (with_index_loads 1) (loaded_more m n o)
+    ∙ ap (λ (k : ℕ). with_index_loads k o) (let e : suc (m + n) ≡ suc m + n = omega arith in e)
 
 -- ---- one load
 
@@ -80,7 +82,7 @@ module _ {A : Type 0} (at : Direction) (s : Partitions A) (tops : Span Handle)
       (body_of s.source) s.edges.0 s.edges.1 place)
       → IfErr r (λ e. is_memory e ≡ false → Err e ∷ []
       ≡ block_between (body_of s.source) s.edges.0 s.edges.1 place)
-      → FaultsFirst r (block_early (body_of s.source) place) → opened ≡ loaded 1 s.opened
+      → FaultsFirst r (block_early (body_of s.source) place) → opened ≡ with_index_loads 1 s.opened
       → LoadGives span_remains coming_partitions KeepsPartitions at s (Some r)
       (record s { tops = tops; opened = opened })
   part_taken opened place r told ok err first counts =
@@ -135,7 +137,7 @@ module _ {A : Type 0} (at : Direction) (s : Partitions A) (tops : Span Handle)
 record Moved {A : Type 0} (count : ℕ) (s t : Partitions A) : Type 0 where
   pub body : body_of t.source ≡ body_of s.source
   pub list : t.tops.list ≡ s.tops.list
-  pub counts : t.opened ≡ loaded count s.opened
+  pub counts : t.opened ≡ with_index_loads count s.opened
 
 one_fewer : (named : Option (Result (Loading Handle) Error)) (us ts : List Handle)
     → NamesOf named us ts → length us ≡ loads_in (named ∷ []) + length ts
@@ -156,7 +158,7 @@ module _ {A : Type 0} where
   moved_more m s u t named was keeps = record {
     body = keeps.body ∙ was.body;
     list = keeps.list ∙ was.list;
-    counts = keeps.counts ∙ ap (loaded (loads_in (named ∷ []))) was.counts
+    counts = keeps.counts ∙ ap (with_index_loads (loads_in (named ∷ []))) was.counts
         ∙ loaded_more (loads_in (named ∷ [])) m s.opened;
   }
 

@@ -6,20 +6,19 @@ use Rattle.sst_entries.specs.Error.{is_memory}
 use Rattle.sst_entries.specs.Stream.{deal, answer_stops, CanDeal, EndsAtError, NoneStops, Runs}
 
 -- answers up to and with the first error, and `None` in the place of those behind it
-abbrev pub up_to_error : {X : Type 0} → List (Option (Result X Error))
+abbrev pub ended_at_error : {X : Type 0} → List (Option (Result X Error))
     → List (Option (Result X Error))
-up_to_error [] = []
-up_to_error (None ∷ rs) = None ∷ up_to_error rs
-up_to_error (Some (Ok x) ∷ rs) = Some (Ok x) ∷ up_to_error rs
-up_to_error (Some (Err e) ∷ rs) = Some (Err e) ∷ map (λ _. None) rs
+ended_at_error [] = []
+ended_at_error (None ∷ rs) = None ∷ ended_at_error rs
+ended_at_error (Some (Ok x) ∷ rs) = Some (Ok x) ∷ ended_at_error rs
+ended_at_error (Some (Err e) ∷ rs) = Some (Err e) ∷ map (λ _. None) rs
 
 -- want of memory aside, the answers at any ends are those of `deal` up to the first error; both
--- ends may be asked however often;
--- and behind an error, want of memory too, comes `None` alone
+-- ends may be asked however often; and behind an error, want of memory too, comes `None` alone
 pub record DealsEnding {S X : Type 0} (front back : S → Option (Result X Error) → S → Type 0)
     (may may_back : S → Type 0) (s : S) (xs : List (Result X Error)) : Type 0 where
   pub answers : (ends : List Direction) (rs : List (Option (Result X Error))) (t : S)
       → Runs front back s ends rs t → NoneStops (answer_stops is_memory) rs
-      → rs ≡ up_to_error (deal xs ends)
+      → rs ≡ ended_at_error (deal xs ends)
   pub can : CanDeal front back may may_back s
   pub ends : EndsAtError front back s

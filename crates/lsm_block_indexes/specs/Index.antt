@@ -1,6 +1,5 @@
 -- An index over any bytes gives a list of results between two edges: the handles in order, and an
--- error in the place of those
--- of a block that cannot be loaded.
+-- error in the place of those of a block that cannot be loaded.
 use Rattle.std.specs.Prelude.{ℕ, List, [], ◌∷◌, length, Option, Result, Ok, Err}
 use Rattle.std.specs.List.{flat_map}
 use Rattle.sst_blocks.specs.declared.block_type.BlockType.TheVariants.{Index as IndexBlock}
@@ -12,8 +11,7 @@ use Rattle.sst_blocks.specs.Handles.{window}
 use Rattle.sst_blocks.specs.Place.{Place, place_of}
 
 -- from the first handle that reaches the lower edge up to the first that ends above the upper one;
--- a side without an edge takes
--- all. And how many blocks are loaded for them, if all are dealt
+-- a side without an edge takes all. And how many blocks are loaded for them, if all are dealt
 pub record Index : Type 0 where
   pub told : Option (List ℕ × ℕ) → Option (List ℕ) → List (Result Handle Error)
   pub loads : Option (List ℕ × ℕ) → Option (List ℕ) → ℕ

@@ -11,10 +11,14 @@ use Rattle.lsm_block_indexes.specs.Answers.{AnswersAny, AnswersTrue}
 use Rattle.lsm_block_indexes.specs.declared.kinds.BlockIndexImpl.{BlockIndexImpl}
 use Rattle.lsm_block_indexes.specs.declared.kinds.BlockIndexImpl.TheVariants.{Full as FullIndex}
 use Rattle.lsm_block_indexes.specs.declared.kinds.BlockIndexImpl.TheVariants.{VolatileFull}
-use Rattle.lsm_block_indexes.specs.declared.kinds.BlockIndexImpl.TheVariants.{TwoLevel as LevelsIndex}
+use Rattle.lsm_block_indexes.specs.declared.kinds.BlockIndexImpl.TheVariants.{
+  TwoLevel as LevelsIndex,
+}
 use Rattle.lsm_block_indexes.specs.declared.kinds.BlockIndexIterImpl.{BlockIndexIterImpl}
 use Rattle.lsm_block_indexes.specs.declared.kinds.BlockIndexIterImpl.TheVariants.{Full, Volatile}
-use Rattle.lsm_block_indexes.specs.declared.kinds.BlockIndexIterImpl.TheVariants.{TwoLevel as Levels}
+use Rattle.lsm_block_indexes.specs.declared.kinds.BlockIndexIterImpl.TheVariants.{
+  TwoLevel as Levels,
+}
 use Rattle.lsm_block_indexes.specs.Dealt.{DealsEnding}
 use Rattle.lsm_block_indexes.specs.Index.{Index, full, on_demand, two_level}
 use Rattle.lsm_block_indexes.specs.Left.{CountsUpTo, Left, OnDemandGives, TwoLevelGives, IsBetween}
@@ -76,8 +80,7 @@ BackGives (Levels s) r (Levels t) = TwoLevelGives back_of back_needs back_early 
 BackGives _ r _ = ⊥
 
 -- an iterator over what an index has between two edges, which has loaded nothing; whatever ends are
--- asked, it counts no more
--- blocks than the index has between them
+-- asked, it counts no more blocks than the index has between them
 pub record IsReader {A : Type 0} (i : BlockIndexIterImpl A) (index : Index)
     (low : Option (List ℕ × ℕ)) (high : Option (List ℕ)) : Type 0 where
   pub sought : IsSought i low high

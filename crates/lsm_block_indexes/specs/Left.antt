@@ -53,13 +53,12 @@ pub record IsBetween (l : Left) (low : Option (List ℕ × ℕ)) (high : Option 
   pub loads : l.loads ≡ l.index.loads low high
 
 -- the counts after so many loads of index blocks
-abbrev pub loaded : ℕ → Opened → Opened
-loaded zero o = o
-loaded (suc n) o = with_load IndexBlock (loaded n o)
+abbrev pub with_index_loads : ℕ → Opened → Opened
+with_index_loads zero o = o
+with_index_loads (suc n) o = with_load IndexBlock (with_index_loads n o)
 
 -- an answer at an end: the result that stands there, and the others are left; nothing, where
--- nothing is left; want of memory
--- stands in the place of any answer, except once all is over
+-- nothing is left; want of memory stands in the place of any answer, except once all is over
 abbrev pub AtEnd : (List (Result Handle Error)
     → Option (Result Handle Error) × List (Result Handle Error)) → Left
     → Option (Result Handle Error) → Left → Type 0
@@ -71,14 +70,14 @@ AtEnd end s (Some (Err e)) t = (is_memory e ≡ false → (end s.results).0 ≡ 
 -- the blocks that a call loads are counted, and are among those that may be loaded
 pub record CountsLoads (s t : Left) : Type 0 where
   pub count : ℕ
-  pub counts : t.opened ≡ loaded count s.opened
+  pub counts : t.opened ≡ with_index_loads count s.opened
   pub within : count + t.loads ≤ s.loads
 
 -- from an iterator that had loaded nothing: what was loaded is counted, and with what may still be
 -- loaded it is at most so much
 pub record CountsUpTo (most : ℕ) (l : Left) : Type 0 where
   pub count : ℕ
-  pub counts : l.opened ≡ loaded count none_opened
+  pub counts : l.opened ≡ with_index_loads count none_opened
   pub within : count + l.loads ≤ most
 
 -- one call at an end; an error ends the iterator
@@ -137,7 +136,7 @@ abbrev pub demands : Option (List Handle) → ℕ
 demands None = 1
 demands (Some hs) = 0
 
--- the same as what an iterator deals
+-- what an iterator of a block that is loaded on demand still deals
 abbrev pub on_demand_left : OnDemand → Left
 on_demand_left s = record {
   results = demanded s s.part;
@@ -171,8 +170,8 @@ pub record OnDemandGives (end : List (Result Handle Error)
 -- ---- of two levels
 
 -- the bytes before the trailer, the handles of the top level, those of the partitions that are not
--- loaded, the edges, what is
--- left of the partitions that are loaded at the front and at the back, and what was loaded
+-- loaded, the edges, what is left of the partitions that are loaded at the front and at the back,
+-- and what was loaded
 pub record TwoLevel : Type 0 where
   pub body : List ℕ
   pub whole : List Handle
@@ -228,9 +227,8 @@ part_at s place = block_between s.body s.lower s.upper place
 abbrev pub part_of : TwoLevel → Handle → List (Result Handle Error)
 part_of s top = part_at s (place_of top)
 
--- how many an end loads, at the front and at the back: none where a handle of a partition that was
--- loaded stands there
-
+-- how many partitions an answer needs, at the front and at the back: none where a handle of a
+-- partition that was loaded stands there
 abbrev pub front_needs : TwoLevel → ℕ
 front_needs s = none_behind s.front (needs (map (part_of s) s.tops))
 
@@ -245,13 +243,17 @@ tops_early body part (top ∷ tops) =
     option_or (block_early body (place_of top)) (early_behind (part top)
     (tops_early body part tops))
 
--- the same at the front and at the back
+-- the fault at the front and at the back that is found before memory is taken: none where a handle
+-- of a partition that was loaded stands there, else that of the partitions that are not loaded, up
+-- to the first that has an item
 abbrev pub front_early : TwoLevel → Option Error
 front_early s = early_behind s.front (tops_early s.body (part_of s) s.tops)
 
 abbrev pub back_early : TwoLevel → Option Error
 back_early s = early_behind s.back (tops_early s.body (part_of s) (reverse s.tops))
 
+-- how many partitions an answer at an end needs, and the fault there that is found before memory is
+-- taken
 abbrev pub needs_at : Direction → TwoLevel → ℕ
 needs_at Front s = front_needs s
 needs_at Back s = back_needs s
@@ -261,9 +263,8 @@ fault_at Front s = front_early s
 fault_at Back s = back_early s
 
 -- one call of it: it loads the partitions that it needs, and no more where it wants memory, which
--- it does not before it loads
--- one; and where it loads them all, a fault that needs no memory to be found comes before any want
--- of it
+-- it does not before it loads one; and where it loads them all, a fault that needs no memory to be
+-- found comes before any want of it
 pub record TwoLevelGives (end : List (Result Handle Error)
     → Option (Result Handle Error) × List (Result Handle Error)) (needed : TwoLevel → ℕ)
     (early : TwoLevel → Option Error) (s : TwoLevel) (r : Option (Result Handle Error))

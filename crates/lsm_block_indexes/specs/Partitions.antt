@@ -1,5 +1,5 @@
 -- The partitions of an index of two levels that are not loaded, as parts of a walk.
-use Rattle.std.specs.Prelude.{◌≡◌, ℕ, suc, List, [], ◌∷◌, length, map, Option, Some, None}
+use Rattle.std.specs.Prelude.{◌≡◌, suc, List, [], ◌∷◌, length, map, Option, Some, None}
 use Rattle.std.specs.Prelude.{Result, Ok, Err}
 use Rattle.sst_entries.specs.declared.error.Error.{Error}
 use Rattle.sst_entries.specs.Span.{Span, rest_in}
@@ -10,7 +10,7 @@ use Rattle.lsm_walks.specs.declared.walk.Walk.{Walk}
 use Rattle.lsm_walks.specs.Parts.{Coming, Loading, loads_in}
 use Rattle.lsm_block_indexes.specs.declared.partitions.Partitions.{Partitions}
 use Rattle.lsm_block_indexes.specs.Index.{block_between, block_early}
-use Rattle.lsm_block_indexes.specs.Left.{TwoLevel, loaded}
+use Rattle.lsm_block_indexes.specs.Left.{TwoLevel, with_index_loads}
 use Rattle.lsm_block_indexes.specs.Seen.{rest_of}
 
 -- the partition that a handle of the top level names
@@ -36,7 +36,7 @@ pub record KeepsPartitions {A : Type 0} (s : Partitions A)
     (named : Option (Result (Loading Handle) Error)) (t : Partitions A) : Type 0 where
   pub body : body_of t.source ≡ body_of s.source
   pub list : t.tops.list ≡ s.tops.list
-  pub counts : t.opened ≡ loaded (loads_in (named ∷ [])) s.opened
+  pub counts : t.opened ≡ with_index_loads (loads_in (named ∷ [])) s.opened
   pub names : NamesOf named (rest_in s.tops) (rest_in t.tops)
 
 -- none is to come any more

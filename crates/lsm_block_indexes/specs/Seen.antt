@@ -9,8 +9,7 @@ use Rattle.sst_blocks.specs.Handle.{Handle}
 use Rattle.sst_blocks.specs.Place.{Place, place_of}
 
 -- the handle at the end, and the others are left; want of memory where there is a handle, and
--- nothing is left; or nothing, where
--- nothing is left
+-- nothing is left; or nothing, where nothing is left
 abbrev pub PartGives : (List Handle → Option Handle × List Handle) → List Handle
     → Option (Result Handle Error) → List Handle → Type 0
 PartGives end hs None ts = (hs ≡ []) × (ts ≡ [])

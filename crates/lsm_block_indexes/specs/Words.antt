@@ -13,7 +13,7 @@ pub use Rattle.lsm_block_indexes.specs.Index.{two_level}
 pub use Rattle.lsm_block_indexes.specs.Left.{IsBetween, IsDemandSought, IsEnded, IsSpanSought}
 pub use Rattle.lsm_block_indexes.specs.Left.{IsTwoLevelSought, Left, LeftGives, StaysEnded}
 pub use Rattle.lsm_block_indexes.specs.Left.{OnDemand, OnDemandGives, demanded, demands, left_size}
-pub use Rattle.lsm_block_indexes.specs.Left.{loaded, new_on_demand, new_two_level}
+pub use Rattle.lsm_block_indexes.specs.Left.{with_index_loads, new_on_demand, new_two_level}
 pub use Rattle.lsm_block_indexes.specs.Left.{on_demand_left, span_left, two_level_left}
 pub use Rattle.lsm_block_indexes.specs.Left.{TwoLevel, TwoLevelGives, back_early, back_needs}
 pub use Rattle.lsm_block_indexes.specs.Left.{fault_at, front_early, front_needs, needs_at}

@@ -178,7 +178,7 @@ pub enum BlockIndexIterImpl<A: Allocator = Global> {
 }
 
 impl<A: Allocator + Clone> BlockIndexIterImpl<A> {
-    // A step at the front, by the kind.
+    /// A step at the front, by the kind.
     #[inline]
     fn step(&mut self) -> Option<Result<KeyedBlockHandle<A>, Error>>
         ensures { FrontGives self.old result self.new }
@@ -190,7 +190,7 @@ impl<A: Allocator + Clone> BlockIndexIterImpl<A> {
         }
     }
 
-    // A step at the back, by the kind.
+    /// A step at the back, by the kind.
     #[inline]
     fn step_back(&mut self) -> Option<Result<KeyedBlockHandle<A>, Error>>
         ensures { BackGives self.old result self.new }

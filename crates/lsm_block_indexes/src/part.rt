@@ -4,7 +4,7 @@ ghost use Rattle.sst_entries.specs.Error.{FaultsFirst, is_memory};
 ghost use Rattle.sst_entries.specs.Stream.{ok_results};
 ghost use Rattle.lsm_block_indexes.specs.Words.{PartGives, back_of, block_between, block_early};
 ghost use Rattle.lsm_block_indexes.specs.Words.{body_of, front_of};
-ghost use Rattle.lsm_block_indexes.specs.Words.{loaded, rest_in};
+ghost use Rattle.lsm_block_indexes.specs.Words.{with_index_loads, rest_in};
 
 use crate::edges::Edges;
 use crate::iter::OwnedIndexBlockIter;
@@ -80,7 +80,7 @@ pub fn load_handles<A: Allocator + Clone>(
         IfErr result (λ e. is_memory e ≡ false → Err e ∷ [] ≡ told handle.now) }
     // What is found before memory is taken comes before any want of it.
     ensures first { FaultsFirst result (block_early (body_of source.now) handle.now) }
-    ensures counted { opened.new ≡ loaded 1 opened.old }
+    ensures counted { opened.new ≡ with_index_loads 1 opened.old }
 {
     let block = source.load(handle, BlockType::Index, opened)?;
     Ok(edges.within(IndexBlock::new(block)))
@@ -99,7 +99,7 @@ pub fn load_part<A: Allocator + Clone>(
     ensures err { let told = block_between (body_of source.now) edges.now.0 edges.now.1 in
         IfErr result (λ e. is_memory e ≡ false → Err e ∷ [] ≡ told handle.now) }
     ensures first { FaultsFirst result (block_early (body_of source.now) handle.now) }
-    ensures counted { opened.new ≡ loaded 1 opened.old }
+    ensures counted { opened.new ≡ with_index_loads 1 opened.old }
 {
     match load_handles(source, handle, edges, opened) {
         Ok(iter) => Ok(Part::of(iter)),

@@ -1,5 +1,5 @@
 -- Point reads of runs of which a part is compacted.
-use Rattle.std.proofs.Common.{◌≡◌, ◌≢◌, sym, ◌∙◌, ap, ℕ, ◌+◌, ◌<◌, ◌≤◌, inl, inr, Bool, ◌&&◌, List}
+use Rattle.std.proofs.Common.{◌≡◌, sym, ◌∙◌, ap, ℕ, ◌+◌, ◌≤◌, inl, inr, Bool, List}
 use Rattle.std.proofs.Common.{◌++◌, count_by, arith}
 use Rattle.std.specs.Prelude.{map}
 use Rattle.std.proofs.lemmas.List.{map-append}

@@ -9,13 +9,13 @@ use Rattle.sst_entries.specs.declared.error.Error.TheVariants.{OutOfMemory}
 use Rattle.sst_entries.specs.Entry.{Entry}
 use Rattle.sst_entries.specs.Error.{Fails, is_memory}
 use Rattle.sst_entries.specs.Stream.{ok_results}
+use Rattle.sst_entries.proofs.Refusals.{memory_is}
 use Rattle.lsm_formats.specs.Chunks.{joined}
 use Rattle.lsm_merge.specs.Union.{Ascends, entries_among, insert_sorted, sort_entries}
 use Rattle.lsm_merge.proofs.Pairs.{Strict}
 use Rattle.lsm_merge.proofs.MergedLemmas.{insert_least}
 use Rattle.lsm_readers.specs.Answer.{lift}
 use Rattle.lsm_readers.specs.Table.{OpenTable}
-use Rattle.lsm_readers.proofs.Scans.{memory_is}
 use Rattle.lsm_compactions.specs.Chain.{IsRunOfList}
 use Rattle.lsm_compactions.specs.PartReads.{ReadsOf}
 use Rattle.lsm_runs.specs.RunLists.{RunsHoldLists}

@@ -127,14 +127,15 @@ named : (l : Label) (k id n moment : ℕ) → l ≡ label_of k 0 moment → id �
 named l k id n moment is same = ap (λ (x : Label). record x { table_id = id }) is
     ∙ ap (λ (i : ℕ). label_of i 0 moment) same
 
+-- one entry more is some
+pub more_written : (w : Writing) (e : Entry) → written (gained w e) ≡ [] → ⊥
+more_written w e none = no_end (written w) e (sym (written_gained w e) ∙ none)
+
 module _ (ids : Option ℕ) (target moment : ℕ) (m : TablesWriting) (e : Entry)
     (h : Draws ids target moment m) where
   first_due : Begun h.first moment m → is_due m.target m.present e ≡ nat_le target 0
   first_due b = ap (λ (w : Writing). is_due m.target w e) b.1
       ∙ due_fresh m.target (label_of h.first 0 moment) e ∙ ap (λ (t : ℕ). nat_le t 0) h.target_is
-
-  more_written : (w : Writing) → written (gained w e) ≡ [] → ⊥
-  more_written w none = no_end (written w) e (sym (written_gained w e) ∙ none)
 
   -- one more entry of the present table
   open_label : is_due m.target m.present e ≡ false
@@ -159,7 +160,7 @@ module _ (ids : Option ℕ) (target moment : ℕ) (m : TablesWriting) (e : Entry
         options_are = kept.1 ∙ h.options_are;
         works = h.works;
         next = h.next ∙ ap (λ (l : Label). next_id l.table_id) (sym kept.0);
-        stands = inr (kept.0 ∙ open_label due h.stands, more_written w);
+        stands = inr (kept.0 ∙ open_label due h.stands, more_written w e);
       } in
       let same : standing m e ≡ m = rw due refl in
       subst (Draws ids target moment) (sym (ap (λ (x : TablesWriting). record x
@@ -228,8 +229,7 @@ module _ (ids : Option ℕ) (target moment : ℕ) (m : TablesWriting) (e : Entry
         next = ap (λ (l : Label). next_id l.table_id) (sym kept.0);
         stands = inr (
           kept.0 ∙ due_label id is due h.stands,
-          more_written
-              (fresh_writing N w.options),
+          more_written (fresh_writing N w.options) e,
         );
       } in
       let turned : standing m e ≡ rotated m = rw due refl in

@@ -24,14 +24,14 @@ use Rattle.lsm_writers.specs.Tables.{took, took_fault, turn_fault, with_options}
 use Rattle.lsm_writers.specs.Writing.{IsWritable, Writing, fresh_writing, gained, write_fault}
 use Rattle.lsm_writers.specs.Writing.{written}
 use Rattle.lsm_writers.proofs.Cutting.{rest_is}
-use Rattle.lsm_writers.proofs.ListWriting.{same_label, written_gained}
-use Rattle.lsm_writers.proofs.CutTables.{no_end, some_length}
+use Rattle.lsm_writers.proofs.ListWriting.{same_label}
+use Rattle.lsm_writers.proofs.CutTables.{some_length}
 use Rattle.lsm_writers.proofs.Orders.{nothing_last}
 use Rattle.lsm_compactions.specs.Chain.{ids_behind, writes_fault}
 use Rattle.lsm_compactions.specs.Compacted.{AreWrittenBy, FitsBy, RunsOn, begun_behind, drawn_often}
 use Rattle.lsm_compactions.specs.Compacted.{first_written}
 use Rattle.lsm_compactions.proofs.RunWriting.{first_at, first_else, first_is, left_none, next_by}
-use Rattle.lsm_compactions.proofs.RunWriting.{other_label}
+use Rattle.lsm_compactions.proofs.RunWriting.{other_label, more_written}
 
 -- ---- small facts
 
@@ -150,9 +150,6 @@ module _ (w m : TablesWriting) (fresh : IsFreshRun w) (e : Entry) (h : Since w m
       ∙ ap (λ (p : Writing). is_due w.target p e) (present_is w fresh)
       ∙ due_fresh w.target w.present.label w.present.options e
 
-  more_written : (x : Writing) → written (gained x e) ≡ [] → ⊥
-  more_written x none = no_end (written x) e (sym (written_gained x e) ∙ none)
-
   -- one more entry of the present table
   going_open : is_due m.target m.present e ≡ false → (m ≡ w) ⊎ Going w m
       → Going w (record m { present = gained m.present e })
@@ -166,7 +163,7 @@ module _ (w m : TablesWriting) (fresh : IsFreshRun w) (e : Entry) (h : Since w m
       let begun : 0 ≡ begun_behind w.target (suc (length m.tables)) =
       omega (arith, begun_else w.target (suc (length m.tables)) some, many) in
       record {
-        some = more_written m.present;
+        some = more_written m.present e;
         label_is = relabel (gained m.present e).label m.present.label w.present.label kept.0
             (own_label m.present.label w.present.label label);
         ids_are = ap (λ (x : TablesWriting). x.ids) same
@@ -185,7 +182,7 @@ module _ (w m : TablesWriting) (fresh : IsFreshRun w) (e : Entry) (h : Since w m
   going_open due (inr g) =
       let kept = same_label m.present e in
       record {
-        some = more_written m.present;
+        some = more_written m.present e;
         label_is = relabel (gained m.present e).label m.present.label w.present.label kept.0
             g.label_is;
         ids_are = g.ids_are;
@@ -230,7 +227,7 @@ module _ (w m : TablesWriting) (fresh : IsFreshRun w) (e : Entry) (h : Since w m
       let begun : suc zero ≡ begun_behind w.target (suc (length (tables_of m))) =
       omega (arith, begun_at w.target (suc (length (tables_of m))) none, many) in
       record {
-        some = more_written (fresh_writing N m.present.options);
+        some = more_written (fresh_writing N m.present.options) e;
         label_is = relabel (turned id).present.label N w.present.label kept.0
             (ap (λ (l : Label). record l { table_id = id }) label);
         ids_are = ap drawn (sym left) ∙ ap (λ (x : TablesWriting). drawn x.ids) same
@@ -255,7 +252,7 @@ module _ (w m : TablesWriting) (fresh : IsFreshRun w) (e : Entry) (h : Since w m
       let many : length (tables_of m) ≡ suc (length m.tables) =
       one_more m.tables (written m.present) g.some in
       record {
-        some = more_written (fresh_writing N m.present.options);
+        some = more_written (fresh_writing N m.present.options) e;
         label_is = relabel (turned id).present.label N w.present.label kept.0
             (ap (λ (l : Label). record l { table_id = id }) g.label_is);
         ids_are =

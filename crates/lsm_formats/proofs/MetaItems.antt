@@ -13,7 +13,8 @@ use Rattle.sst_entries.proofs.Booleans.{and_parts}
 use Rattle.sst_entries.proofs.Lists.{all_append}
 use Rattle.sst_entries.proofs.Strictness.{strict_from_test}
 use Rattle.lsm_formats.specs.Facts.{ListFacts}
-use Rattle.lsm_formats.specs.MetaBlock.{Blocks, block_items, count_items, level_items, meta_entry}
+use Rattle.lsm_formats.specs.MetaBlock.{BlockCounts, block_items, count_items, level_items}
+use Rattle.lsm_formats.specs.MetaBlock.{meta_entry}
 use Rattle.lsm_formats.specs.MetaBlock.{meta_items, name_of, option_items}
 use Rattle.lsm_formats.specs.declared.item_name.ItemName.TheVariants as item
 use Rattle.lsm_formats.specs.declared.label.Label.{Label}
@@ -60,7 +61,8 @@ bounded size most (e ∷ es) h small = omega (
   sum_by-cons size e es,
 )
 
-module _ (v : TableVersion) (label : Label) (options : Options) (counted : Blocks) (f : ListFacts)
+module _ (v : TableVersion) (label : Label) (options : Options) (counted : BlockCounts)
+    (f : ListFacts)
     (blocks size user : ℕ) where
   abbrev es : List Entry
   es = meta_items v label options counted f blocks size user

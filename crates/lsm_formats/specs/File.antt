@@ -19,12 +19,12 @@ use Rattle.lsm_formats.specs.Filters.{filtered_keys, AreFiltersFor}
 use Rattle.lsm_formats.specs.Kinds.{AreIndexParts, index_sections, AreFilterParts, filter_sections}
 use Rattle.lsm_formats.specs.Kinds.{filter_count}
 use Rattle.lsm_formats.specs.Layout.{Sections, bytes_in, laid}
-use Rattle.lsm_formats.specs.MetaBlock.{Blocks, meta_entries, version_number}
+use Rattle.lsm_formats.specs.MetaBlock.{BlockCounts, meta_entries, version_number}
 use Rattle.lsm_formats.specs.declared.options.Options.{Options}
 use Rattle.lsm_formats.specs.declared.label.Label.{Label}
 
 -- how many blocks the index and the filter count
-abbrev pub counted_blocks : Options → Content → Blocks
+abbrev pub counted_blocks : Options → Content → BlockCounts
 counted_blocks options c = record {
   index = length c.index;
   filter = filter_count options.filter_kind c.filters;

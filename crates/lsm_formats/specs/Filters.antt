@@ -1,6 +1,6 @@
 -- The filter of a table: the keys of each of its blocks, and the filters that these hold.
-use Rattle.std.specs.Prelude.{◌≡◌, ℕ, ◌+◌, nat_le, nat_lt, Bool, true, false, List, [], ◌∷◌, length}
-use Rattle.std.specs.Prelude.{map, Option, Some, None, unwrap_or, if◌then◌else◌}
+use Rattle.std.specs.Prelude.{◌≡◌, ℕ, ◌+◌, nat_le, nat_lt, Bool, List, [], ◌∷◌, length}
+use Rattle.std.specs.Prelude.{map, Option, Some, None, if◌then◌else◌}
 use Rattle.std.specs.List.{flat_map}
 use Rattle.sst_sections.specs.declared.version.TableVersion.{TableVersion}
 use Rattle.sst_sections.specs.declared.section.SectionName.TheVariants.{Filter as FilterSection}
@@ -12,7 +12,6 @@ use Rattle.sst_filters.specs.Policy.{probe_count, size_for, tenths_of}
 use Rattle.sst_filters.specs.KeyHash.{hash_of}
 use Rattle.sst_entries.specs.Entry.{Entry}
 use Rattle.sst_blocks.specs.Block.{block_bytes, header_len}
-use Rattle.sst_blocks.specs.Handle.{Handle}
 use Rattle.lsm_formats.specs.Facts.{starts_key}
 use Rattle.lsm_formats.specs.Layout.{Sections}
 use Rattle.lsm_formats.specs.Partitions.{Partition, handles_block, tops_from}

@@ -50,6 +50,10 @@ name_of item.WeakTombstoneReclaimable = codes "weak_tombstone_reclaimable"
 abbrev pub filter_hash_type : ℕ
 filter_hash_type = 1
 
+-- the version of the crate whose format is written
+abbrev pub crate_version : List ℕ
+crate_version = codes "3.1.10"
+
 -- an item with its value
 abbrev pub meta_entry : ItemName → List ℕ → Entry
 meta_entry name value = entry (name_of name) value 0 Value
@@ -60,12 +64,14 @@ version_number V3 = 3
 version_number V4 = 4
 
 -- how many index blocks and filter blocks a table counts
-pub record Blocks : Type 0 where
+pub record BlockCounts : Type 0 where
   pub index : ℕ
   pub filter : ℕ
 
--- the names in byte order: the counts of blocks, the formats and the label
-abbrev pub block_items : Label → Options → Blocks → ℕ → ℕ → List Entry
+-- the first ten items, in the byte order of their names: the counts of data, filter and index
+-- blocks, the type of checksums, both compressions, the crate's version, the moment, the hash ratio
+-- of data blocks and the file size
+abbrev pub block_items : Label → Options → BlockCounts → ℕ → ℕ → List Entry
 block_items label options counted data_blocks file_size =
     meta_entry item.BlockCountData (le8 data_blocks)
     ∷ meta_entry item.BlockCountFilter (le8 counted.filter)
@@ -73,7 +79,7 @@ block_items label options counted data_blocks file_size =
     ∷ meta_entry item.ChecksumType (1 ∷ [])
     ∷ meta_entry item.CompressionData (0 ∷ [])
     ∷ meta_entry item.CompressionIndex (0 ∷ [])
-    ∷ meta_entry item.CrateVersion (codes "3.1.10")
+    ∷ meta_entry item.CrateVersion crate_version
     ∷ meta_entry item.CreatedAt (le16 label.created_at)
     ∷ meta_entry item.DataBlockHashRatio (le4 options.data_block_hash_ratio)
     ∷ meta_entry item.FileSize (le8 file_size)
@@ -92,7 +98,9 @@ level_items label f =
 abbrev pub key_items : ListFacts → List Entry
 key_items f = meta_entry item.KeyMax f.max_key ∷ meta_entry item.KeyMin f.min_key ∷ []
 
--- then the number of keys, the options and the numbers
+-- the items behind those of the last and the first key, in the byte order of their names: the
+-- number of keys, both prefix truncations, both restart intervals, the highest and the lowest
+-- number, the table's id and its version
 abbrev pub option_items : TableVersion → Label → Options → ListFacts → List Entry
 option_items v label options f =
     meta_entry item.KeyCount (le8 f.key_count)
@@ -117,7 +125,8 @@ count_items f user_data_size =
 
 -- all 29 items, by the facts, the number of data blocks, the length of their section and of their
 -- payloads
-abbrev pub meta_items : TableVersion → Label → Options → Blocks → ListFacts → ℕ → ℕ → ℕ → List Entry
+abbrev pub meta_items : TableVersion → Label → Options → BlockCounts → ListFacts → ℕ → ℕ → ℕ → List
+    Entry
 meta_items v label options counted f data_blocks file_size user_data_size =
     block_items label options counted data_blocks file_size
     ++ level_items label f
@@ -126,7 +135,8 @@ meta_items v label options counted f data_blocks file_size user_data_size =
     ++ count_items f user_data_size
 
 -- the items of a table of these chunks
-abbrev pub meta_entries : TableVersion → Label → Options → List (List Entry) → Blocks → List Entry
+abbrev pub meta_entries : TableVersion → Label → Options → List (List Entry) → BlockCounts → List
+    Entry
 meta_entries v label options cs counted =
     meta_items v label options counted (facts (joined cs)) (length cs) (length (data_section v cs))
     (sum_by (λ c. length (payload v c)) cs)

@@ -9,17 +9,18 @@ use Rattle.lsm_block_indexes.specs.Dealt.{DealsEnding}
 use Rattle.lsm_block_indexes.proofs.Dealing.{Ending, deals_ending}
 use Rattle.lsm_walks.specs.Ends.{StepAnswers, StepGives, taken_at}
 use Rattle.lsm_walks.proofs.Instances.{positive}
-use Rattle.lsm_iters.specs.Range.{IsEnded, Next, Range, RangeGives, back_next, front_next, next_at}
+use Rattle.lsm_iters.specs.Range.{IsEndedRange, Next, Range, RangeGives, back_next, front_next}
+use Rattle.lsm_iters.specs.Range.{next_at}
 use Rattle.lsm_iters.specs.Range.{range_left, range_loads, range_remains, range_size}
 use Rattle.lsm_iters.proofs.Ends.{Shortens, if_true}
 use Rattle.lsm_iters.proofs.Ranges.{R, End}
 
 module _ {A : Type 0} where
-  nothing : (s : Range A) → IsEnded s → range_left s ≡ []
+  nothing : (s : Range A) → IsEndedRange s → range_left s ≡ []
   nothing s ended = nil_from_length (range_left s) (omega (arith, ended))
 
   ends_by : (of : End) (next : Range A → Next) (s : Range A) (r : Option R) (t : Range A)
-      → RangeGives of next s r t → Ending range_left IsEnded of s r t
+      → RangeGives of next s r t → Ending range_left IsEndedRange of s r t
   ends_by of next s None t step = record { answer = step.answer; ends = tt }
   ends_by of next s (Some (Ok e)) t step = record { answer = step.answer; ends = tt }
   ends_by of next s (Some (Err e)) t step = record { answer = step.answer; ends = step.ends }
@@ -28,7 +29,7 @@ module _ {A : Type 0} where
   pub range_deals : (s : Range A) → DealsEnding (RangeGives front_of front_next)
       (RangeGives back_of back_next) (λ _. Unit {0}) (λ _. Unit {0}) s (range_left s)
   range_deals s =
-      deals_ending range_left IsEnded nothing (RangeGives front_of front_next)
+      deals_ending range_left IsEndedRange nothing (RangeGives front_of front_next)
       (RangeGives back_of back_next)
       (λ u r t step. ends_by front_of front_next u r t step)
       (λ u r t step. ends_by back_of back_next u r t step) s

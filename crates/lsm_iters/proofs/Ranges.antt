@@ -11,12 +11,13 @@ use Rattle.sst_entries.specs.Stream.{answer_stops, first}
 use Rattle.sst_blocks.specs.declared.opened.Opened.{Opened}
 use Rattle.sst_blocks.specs.Handle.{Handle}
 use Rattle.lsm_walks.proofs.AtEnds.{pair, not_memory}
-use Rattle.lsm_block_indexes.specs.Left.{CountsLoads, IsEnded as IsLeftEnded, Left, early_behind}
-use Rattle.lsm_block_indexes.specs.Left.{loaded, none_behind}
+use Rattle.lsm_block_indexes.specs.Left.{CountsLoads, IsEnded as IsLeftEnded, Left}
+use Rattle.lsm_block_indexes.specs.Left.{early_behind}
+use Rattle.lsm_block_indexes.specs.Left.{with_index_loads, none_behind}
 use Rattle.lsm_block_indexes.proofs.TwoLevels.{loaded_more}
 use Rattle.lsm_iters.specs.Bounds.{lower_edge, upper_edge}
 use Rattle.lsm_iters.specs.Lift.{lift_told}
-use Rattle.lsm_iters.specs.Range.{CountsBlocks, IsEnded, Next, Range, RangeGives, back_next}
+use Rattle.lsm_iters.specs.Range.{CountsBlocks, IsEndedRange, Next, Range, RangeGives, back_next}
 use Rattle.lsm_iters.specs.Range.{blocks_early, blocks_for, blocks_needed, data_loaded, early_for}
 use Rattle.lsm_iters.specs.Range.{front_next, index_to_come, left_in, left_unless, range_left}
 use Rattle.lsm_iters.specs.Range.{to_come}
@@ -76,7 +77,7 @@ module _ {A : Type 0} where
   left_is u sought = ap (λ (hs : List H). all_rows u.of u.front hs u.back) (to_come_is u sought)
 
   -- all is over exactly where nothing is left
-  size_none : (s : Range A) → IsEnded s → (range_left s ≡ []) × (to_come s ≡ [])
+  size_none : (s : Range A) → IsEndedRange s → (range_left s ≡ []) × (to_come s ≡ [])
       × (index_to_come s ≡ 0)
   size_none s ended = (
     nil_from_length (range_left s) (omega (arith, ended)),
@@ -84,7 +85,7 @@ module _ {A : Type 0} where
     omega (arith, ended),
   )
 
-  size_over : (t : Range A) → t.handles.sought ≡ true → IsOver t → IsEnded t
+  size_over : (t : Range A) → t.handles.sought ≡ true → IsOver t → IsEndedRange t
   size_over t sought none =
       omega (
         arith,
@@ -123,14 +124,14 @@ pub record Reached {A : Type 0} (near : List Entry) (turned : List H) (next : Ne
   pub of : u.of ≡ s.of
   pub index : (left_in u.handles).index ≡ (left_in s.handles).index
   pub sought : u.handles.sought ≡ true
-  pub ended : IsEnded s → IsOver u
+  pub ended : IsEndedRange s → IsOver u
   pub blocks : ℕ
   pub counts : u.opened ≡ data_loaded blocks s.opened
   pub within : blocks + length (coming u) ≡ length (to_come s)
   pub most : blocks + none_behind near (blocks_needed u.of turned) ≡ blocks_for s.of next
   pub early : early_behind near (blocks_early u.of turned) ≡ early_for s.of next
   pub loads : ℕ
-  pub index_counts : (left_in u.handles).opened ≡ loaded loads (left_in s.handles).opened
+  pub index_counts : (left_in u.handles).opened ≡ with_index_loads loads (left_in s.handles).opened
   pub index_within : loads + (left_in u.handles).loads ≤ index_to_come s
 
 abbrev pub FrontReached : {A : Type 0} → Range A → Range A → Type 0
@@ -254,9 +255,11 @@ module _ {A : Type 0} where
     counted = moves.counts ∙ ap (data_loaded moves.blocks) reached.counts
         ∙ data_more moves.blocks reached.blocks s.opened
 
-    index_counted : (left_in t.handles).opened ≡ loaded (moves.loads.count + reached.loads)
+    index_counted : (left_in t.handles).opened ≡ with_index_loads
+        (moves.loads.count + reached.loads)
         (left_in s.handles).opened
-    index_counted = moves.loads.counts ∙ ap (loaded moves.loads.count) reached.index_counts
+    index_counted = moves.loads.counts ∙ ap (with_index_loads moves.loads.count)
+        reached.index_counts
         ∙ loaded_more moves.loads.count reached.loads (left_in s.handles).opened
 
     counts_on : CountsBlocks (blocks_for s.of next) s t

@@ -15,7 +15,7 @@ use Rattle.sst_entries.specs.Stream.{answer_stops, ok_results}
 use Rattle.sst_blocks.specs.declared.block_type.BlockType.TheVariants.{Data}
 use Rattle.sst_blocks.specs.Block.{Loaded, load_told, place_fault}
 use Rattle.sst_blocks.specs.Handle.{Handle}
-use Rattle.lsm_block_indexes.specs.Left.{CountsLoads, early_behind, loaded, none_behind}
+use Rattle.lsm_block_indexes.specs.Left.{CountsLoads, early_behind, with_index_loads, none_behind}
 use Rattle.lsm_block_indexes.proofs.TwoLevels.{loaded_more}
 use Rattle.lsm_walks.specs.declared.walk.Walk.{Walk}
 use Rattle.lsm_walks.specs.Ends.{IsOver as IsWalkOver, Remains, StepAnswers, remains_in, seen_from}
@@ -28,7 +28,7 @@ use Rattle.lsm_walks.proofs.AtEnds.{early_map, behind_map, map_first, map_none, 
 use Rattle.lsm_walks.proofs.AtEnds.{none_at}
 use Rattle.lsm_walks.proofs.Reaching.{all_over}
 use Rattle.lsm_iters.specs.Blocks.{Blocks, EndsBlocks, KeepsBlocks, block_named, coming_blocks}
-use Rattle.lsm_iters.specs.Blocks.{range_of, stored_in, stored_rows}
+use Rattle.lsm_iters.specs.Blocks.{range_of_walk, stored_in, stored_rows}
 use Rattle.lsm_iters.specs.Bounds.{lower_edge, upper_edge}
 use Rattle.lsm_iters.specs.Lift.{lift_told, lifted_told}
 use Rattle.lsm_iters.specs.Range.{Range, RangeGives, blocks_early, blocks_needed, data_loaded}
@@ -133,7 +133,7 @@ module _ {A : Type 0} where
     loads = record {
       count = keeps.loads.count + was.loads.count;
       counts = keeps.loads.counts
-          ∙ ap (loaded keeps.loads.count) was.loads.counts
+          ∙ ap (with_index_loads keeps.loads.count) was.loads.counts
           ∙ loaded_more keeps.loads.count was.loads.count (left_in s.handles).opened;
       within = omega (arith, keeps.loads.within, was.loads.within);
     };
@@ -165,7 +165,7 @@ module _ {A : Type 0} where
   handles_in w = (left_in w.parts.handles).results
 
   told_left : (w : W A) → map (told w.parts.of.global_seqno) (left_of_walk w).results
-      ≡ left_rows (range_of w)
+      ≡ left_rows (range_of_walk w)
   told_left w =
       let b : Bounded = w.parts.of in
       let f = told b.global_seqno in
@@ -182,18 +182,18 @@ module _ {A : Type 0} where
 
   near_behind : (at : Direction) (w : W A) (n : ℕ)
       → none_behind (remains_in span_remains (near at w)).results n
-      ≡ none_behind (next_at at (range_of w)).entries n
+      ≡ none_behind (next_at at (range_of_walk w)).entries n
   near_behind Front w n = part_behind w.front n
   near_behind Back w n = part_behind w.back n
 
   near_early : (at : Direction) (w : W A) (f : Option Error)
       → early_behind (remains_in span_remains (near at w)).results f
-      ≡ early_behind (next_at at (range_of w)).entries f
+      ≡ early_behind (next_at at (range_of_walk w)).entries f
   near_early Front w f = part_early w.front f
   near_early Back w f = part_early w.back f
 
   allowed : (at : Direction) (w : W A) → needed_at span_remains coming_blocks at w
-      ≡ none_behind (next_at at (range_of w)).entries
+      ≡ none_behind (next_at at (range_of_walk w)).entries
       (blocks_needed w.parts.of (seen_from at (handles_in w)))
   allowed at w =
       let xs : List R = (remains_in span_remains (near at w)).results in
@@ -204,7 +204,7 @@ module _ {A : Type 0} where
       ∙ near_behind at w (blocks_needed b (seen_from at (handles_in w)))
 
   early_allowed : (at : Direction) (w : W A) → early_at span_remains coming_blocks at w
-      ≡ early_behind (next_at at (range_of w)).entries
+      ≡ early_behind (next_at at (range_of_walk w)).entries
       (blocks_early w.parts.of (seen_from at (handles_in w)))
   early_allowed at w =
       let xs : List R = (remains_in span_remains (near at w)).results in
@@ -216,8 +216,8 @@ module _ {A : Type 0} where
 
   moves : (at : Direction) (w v : W A) (r : Option R) → w.parts.handles.sought ≡ true
       → WalkTakes span_remains coming_blocks KeepsBlocks at w r v
-      → Moves (none_behind (next_at at (range_of w)).entries
-      (blocks_needed w.parts.of (seen_from at (handles_in w)))) (range_of w) (range_of v)
+      → Moves (none_behind (next_at at (range_of_walk w)).entries
+      (blocks_needed w.parts.of (seen_from at (handles_in w)))) (range_of_walk w) (range_of_walk v)
   moves at w v r sought takes =
       let m = moved takes.named w.parts v.parts sought takes.loads in
       record {
@@ -237,7 +237,7 @@ module _ {A : Type 0} where
         loads = m.loads;
       }
 
-  over_range : (at : Direction) (v : W A) → IsWalkOver (left_of_walk v) → IsOver (range_of v)
+  over_range : (at : Direction) (v : W A) → IsWalkOver (left_of_walk v) → IsOver (range_of_walk v)
   over_range at v over =
       let parts = (all_over span_remains coming_blocks at v over).done in
       record {
@@ -249,7 +249,7 @@ module _ {A : Type 0} where
         };
       }
 
-  over_walk : (w : W A) → IsOver (range_of w) → IsWalkOver (left_of_walk w)
+  over_walk : (w : W A) → IsOver (range_of_walk w) → IsWalkOver (left_of_walk w)
   over_walk w over = record {
     results = map_none (told w.parts.of.global_seqno) (left_of_walk w).results
         (told_left w ∙ over.rows);
@@ -273,15 +273,16 @@ module _ {A : Type 0} where
 
   from_walk : (at : Direction) (w v : W A) (r : Option R)
       → StepAnswers at (left_of_walk w) r (left_of_walk v) → v.parts.of ≡ w.parts.of
-      → From (taken_at at) (range_of w) (lifted_answer w.parts.of.global_seqno r) (range_of v)
+      → From (taken_at at) (range_of_walk w) (lifted_answer w.parts.of.global_seqno r)
+      (range_of_walk v)
   from_walk at w v None gives same =
       (sym (told_left w) ∙ ap (map (told w.parts.of.global_seqno)) gives.0, over_range at v gives.1)
   from_walk at w v (Some (Ok e)) gives same =
       let g : ℕ = w.parts.of.global_seqno in
-      let rest : map (told g) (left_of_walk v).results ≡ left_rows (range_of v) =
+      let rest : map (told g) (left_of_walk v).results ≡ left_rows (range_of_walk v) =
       ap (λ (b : Bounded). map (told b.global_seqno) (left_of_walk v).results) (sym same)
       ∙ told_left v in
-      from_item at (range_of w) (range_of v) (lifted_told g e)
+      from_item at (range_of_walk w) (range_of_walk v) (lifted_told g e)
       (ap (taken_at at) (sym (told_left w))
       ∙ map_taken (told g) at (left_of_walk w).results (left_of_walk v).results (Ok e) gives
       ∙ ap (λ (rs : List R). (Some (lifted_told g e), rs)) rest)
@@ -301,16 +302,18 @@ module _ {A : Type 0} where
   starts_at Back s t is none sought seeks = back_starts s t is none sought seeks
 
   pub walked : (at : Direction) (s : Range A) (w v : W A) (r : Option R)
-      → Reached (next_at at (range_of w)).entries (seen_from at (handles_in w)) (next_at at s) s
-      (range_of w) → w.parts.handles.sought ≡ true
+      → Reached (next_at at (range_of_walk w)).entries (seen_from at (handles_in w)) (next_at at s)
+      s
+      (range_of_walk w) → w.parts.handles.sought ≡ true
       → WalkTakes span_remains coming_blocks KeepsBlocks at w r v
       → RangeGives (taken_at at) (next_at at) s (lifted_answer w.parts.of.global_seqno r)
-      (stopped (lifted_answer w.parts.of.global_seqno r) (range_of v))
+      (stopped (lifted_answer w.parts.of.global_seqno r) (range_of_walk v))
   unfolding moves
   walked at s w v r reached sought takes =
       let g : ℕ = w.parts.of.global_seqno in
-      gives_all (taken_at at) (next_at at) (next_at at (range_of w)).entries
-      (seen_from at (handles_in w)) s (range_of w) (range_of v) (lifted_answer g r) reached
+      gives_all (taken_at at) (next_at at) (next_at at (range_of_walk w)).entries
+      (seen_from at (handles_in w)) s (range_of_walk w) (range_of_walk v) (lifted_answer g r)
+      reached
       (moves at w v r sought takes)
       (λ fine. takes.exact (fine_before g r fine) ∙ allowed at w)
       (λ f early all. ap (lifted_answer g) (takes.first f (early_allowed at w ∙ early)
@@ -326,11 +329,11 @@ module _ {A : Type 0} where
       → p ≡ record w.parts { handles = p.handles }
       → LoadsNone (left_in w.parts.handles) (left_in p.handles) → p.handles.sought ≡ true
       → e ≡ OutOfMemory → w.parts.handles.sought ≡ false
-      → RangeGives (taken_at at) (next_at at) (range_of w) (Some (Err e))
-      (over (range_of (with_parts w p)))
+      → RangeGives (taken_at at) (next_at at) (range_of_walk w) (Some (Err e))
+      (over (range_of_walk (with_parts w p)))
   walk_refused at w p e is none sought memory once =
-      refused (range_of w) (range_of (with_parts w p))
-      (ap (λ (q : Blocks A). range_of (with_parts w q)) is) none sought (taken_at at)
+      refused (range_of_walk w) (range_of_walk (with_parts w p))
+      (ap (λ (q : Blocks A). range_of_walk (with_parts w q)) is) none sought (taken_at at)
       (next_at at) e memory once
 
   pub walk_steps : (at : Direction) (w : W A) (p : Blocks A) (v : W A) (r q : Option R)
@@ -339,20 +342,23 @@ module _ {A : Type 0} where
       → SeeksOnce w.parts.handles p.handles (lower_edge w.parts.of.low) (upper_edge w.parts.of.high)
       → WalkTakes span_remains coming_blocks KeepsBlocks at (with_parts w p) r v
       → q ≡ lifted_answer v.parts.of.global_seqno r
-      → RangeGives (taken_at at) (next_at at) (range_of w) q (stopped q (range_of v))
+      → RangeGives (taken_at at) (next_at at) (range_of_walk w) q (stopped q (range_of_walk v))
   walk_steps at w p v r q is none sought seeks takes lifted =
       let u : W A = with_parts w p in
-      let reached = starts_at at (range_of w) (range_of u)
-      (ap (λ (b : Blocks A). range_of (with_parts w b)) is) none sought seeks in
+      let reached = starts_at at (range_of_walk w) (range_of_walk u)
+      (ap (λ (b : Blocks A). range_of_walk (with_parts w b)) is) none sought seeks in
       let same : q ≡ lifted_answer p.of.global_seqno r =
       lifted ∙ ap (λ (b : Bounded). lifted_answer b.global_seqno r)
       (moved takes.named p v.parts sought takes.loads).of in
-      subst (λ (x : Option R). RangeGives (taken_at at) (next_at at) (range_of w) x
-      (stopped x (range_of v))) (sym same) (walked at (range_of w) u v r reached sought takes)
+      subst (λ (x : Option R). RangeGives (taken_at at) (next_at at) (range_of_walk w) x
+      (stopped x (range_of_walk v))) (sym same)
+      (walked at (range_of_walk w) u v r reached sought takes)
 
-  pub walk_over : (w v : W A) → Ended coming_blocks EndsBlocks w v → range_of v ≡ over (range_of w)
+  pub walk_over : (w v : W A) → Ended coming_blocks EndsBlocks w v → range_of_walk v ≡ over
+      (range_of_walk w)
   walk_over w v ended =
-      ap (λ (p : Blocks A). range_of (with_parts v p)) ended.kept
-      ∙ ap (λ (o : Option (Span Entry)). record (over (range_of w))
+      ap (λ (p : Blocks A). range_of_walk (with_parts v p)) ended.kept
+      ∙ ap (λ (o : Option (Span Entry)). record (over (range_of_walk w))
       { front = rest_of o; back = rest_of v.back }) ended.front
-      ∙ ap (λ (o : Option (Span Entry)). record (over (range_of w)) { back = rest_of o }) ended.back
+      ∙ ap (λ (o : Option (Span Entry)). record (over (range_of_walk w)) { back = rest_of o })
+      ended.back

@@ -61,8 +61,8 @@ abbrev pub EndsBlocks : {A : Type 0} → Blocks A → Blocks A → Type 0
 EndsBlocks s t = t ≡ record s { handles = all_over s.handles }
 
 -- a walk over them is a range
-abbrev pub range_of : {A : Type 0} → Walk (Blocks A) (Span Entry) → Range A
-range_of w = record {
+abbrev pub range_of_walk : {A : Type 0} → Walk (Blocks A) (Span Entry) → Range A
+range_of_walk w = record {
   of = w.parts.of;
   handles = w.parts.handles;
   front = rest_of w.front;

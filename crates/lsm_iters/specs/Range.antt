@@ -17,7 +17,7 @@ use Rattle.sst_blocks.specs.Handle.{Handle}
 use Rattle.sst_blocks.specs.Opened.{with_load, none_opened}
 use Rattle.lsm_block_indexes.specs.declared.kinds.BlockIndexIterImpl.{BlockIndexIterImpl}
 use Rattle.lsm_block_indexes.specs.Kinds.{left_of}
-use Rattle.lsm_block_indexes.specs.Left.{Left, early_behind, loaded, none_behind}
+use Rattle.lsm_block_indexes.specs.Left.{Left, early_behind, with_index_loads, none_behind}
 use Rattle.lsm_walks.specs.Ends.{Remains}
 use Rattle.lsm_iters.specs.Bounds.{lower_edge, upper_edge}
 use Rattle.lsm_iters.specs.Lift.{lift_told}
@@ -41,8 +41,8 @@ abbrev pub left_in : {A : Type 0} → Handles A → Left
 left_in h = left_unless h.ended (left_of h.iter)
 
 -- what it reads within which bounds, what its index still deals, the entries within the bounds that
--- are left of the blocks loaded
--- at the front and at the back, and how many blocks it loaded beside its index
+-- are left of the blocks loaded at the front and at the back, and how many blocks it loaded beside
+-- its index
 pub record Range (A : Type 0) : Type 0 where
   pub of : Bounded
   pub handles : Handles A
@@ -91,13 +91,14 @@ range_loads s = length (to_come s) + index_to_come s + (if s.handles.sought then
 abbrev pub range_size : {A : Type 0} → Range A → ℕ
 range_size s = length (range_left s) + range_loads s
 
--- the same as what is left of a part of a walk
+-- the results still to be dealt, and how many loads may be made for them, as what is left of a part
+-- of a walk
 abbrev pub range_remains : {A : Type 0} → Range A → Remains Entry
 range_remains s = record { results = range_left s; loads = range_loads s }
 
 -- nothing more comes, and nothing is loaded
-abbrev pub IsEnded : {A : Type 0} → Range A → Type 0
-IsEnded s = range_size s ≡ 0
+abbrev pub IsEndedRange : {A : Type 0} → Range A → Type 0
+IsEndedRange s = range_size s ≡ 0
 
 -- how many of the blocks of these handles, the next one first, an end loads for its answer: those
 -- up to the first that has an item
@@ -151,15 +152,14 @@ abbrev pub opened_in : {A : Type 0} → Range A → Opened
 opened_in s = record (left_in s.handles).opened { data_loads = s.opened.data_loads }
 
 -- an answer at an end: the result that stands there, and the others are left; nothing, where
--- nothing is left; want of memory
--- stands in the place of any answer, except once all is over
+-- nothing is left; want of memory stands in the place of any answer, except once all is over
 abbrev pub RangeAnswer : {A : Type 0} → (List (Result Entry Error)
     → Option (Result Entry Error) × List (Result Entry Error)) → Range A
     → Option (Result Entry Error) → Range A → Type 0
-RangeAnswer end s None t = (range_left s ≡ []) × IsEnded t
+RangeAnswer end s None t = (range_left s ≡ []) × IsEndedRange t
 RangeAnswer end s (Some (Ok e)) t = end (range_left s) ≡ (Some (Ok e), range_left t)
 RangeAnswer end s (Some (Err e)) t =
-    (is_memory e ≡ false → (end (range_left s)).0 ≡ Some (Err e)) × (IsEnded s → ⊥)
+    (is_memory e ≡ false → (end (range_left s)).0 ≡ Some (Err e)) × (IsEndedRange s → ⊥)
 
 -- each block that a call loads is counted, is among those to come, and is needed for the answer
 pub record CountsBlocks {A : Type 0} (needed : ℕ) (s t : Range A) : Type 0 where
@@ -168,17 +168,17 @@ pub record CountsBlocks {A : Type 0} (needed : ℕ) (s t : Range A) : Type 0 whe
   pub within : blocks + length (to_come t) ≤ length (to_come s)
   pub most : blocks ≤ needed
   pub index : ℕ
-  pub index_counts : (left_in t.handles).opened ≡ loaded index (left_in s.handles).opened
+  pub index_counts : (left_in t.handles).opened ≡ with_index_loads index (left_in s.handles).opened
   pub index_within : index + index_to_come t ≤ index_to_come s
 
 -- one call at an end; an error ends the iterator; it loads the blocks that it needs, and no more
--- where it wants memory; where all of
--- them were loaded, a fault that needs no memory to be found comes before any want of it
+-- where it wants memory; where all of them were loaded, a fault that needs no memory to be found
+-- comes before any want of it
 pub record RangeGives {A : Type 0} (end : List (Result Entry Error)
     → Option (Result Entry Error) × List (Result Entry Error)) (next : Range A → Next) (s : Range A)
     (r : Option (Result Entry Error)) (t : Range A) : Type 0 where
   pub answer : RangeAnswer end s r t
-  pub ends : MatchOption r (Unit {0}) (λ x. MatchResult x (λ _. Unit {0}) (λ _. IsEnded t))
+  pub ends : MatchOption r (Unit {0}) (λ x. MatchResult x (λ _. Unit {0}) (λ _. IsEndedRange t))
   pub of : t.of ≡ s.of
   pub index : (left_in t.handles).index ≡ (left_in s.handles).index
   pub initialized : t.handles.sought ≡ true

@@ -19,5 +19,5 @@ pub use Rattle.lsm_iters.specs.Range.{opened_in, range_left, range_remains, rang
 pub use Rattle.lsm_iters.specs.Rows.{Bounded, block_rows, rows}
 pub use Rattle.lsm_iters.specs.Steps.{LoadsNone, SeeksOnce, all_over, lifted_answer, over, stopped}
 pub use Rattle.lsm_walks.specs.Ends.{span_remains, taken_at}
-pub use Rattle.lsm_iters.specs.Blocks.{EndsBlocks, KeepsBlocks, coming_blocks, range_of}
+pub use Rattle.lsm_iters.specs.Blocks.{EndsBlocks, KeepsBlocks, coming_blocks, range_of_walk}
 pub use Rattle.lsm_iters.specs.Blocks.{stored_rows}

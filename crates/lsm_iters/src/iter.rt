@@ -34,11 +34,11 @@ pub struct Iter<A: Allocator = Global> {
 
 impl<A: Allocator> Model for Iter<A> {
     ghost use Rattle.lsm_iters.specs.Range.{Range};
-    ghost use Rattle.lsm_iters.specs.Blocks.{range_of};
+    ghost use Rattle.lsm_iters.specs.Blocks.{range_of_walk};
 
     ghost Value = { Range A };
 
-    ghost view = { λ i. range_of i.walk };
+    ghost view = { λ i. range_of_walk i.walk };
 }
 
 impl<A: Allocator + Clone> Iter<A> {
@@ -175,9 +175,6 @@ impl<A: Allocator + Clone> Ends for Iter<A> {
 
     #[inline(always)]
     fn step(&mut self, at: Direction) -> Option<IterItem<A>> {
-        match at {
-            Direction::Front => self.next(),
-            Direction::Back => self.next_back(),
-        }
+        self.answer(at)
     }
 }

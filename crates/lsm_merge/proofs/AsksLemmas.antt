@@ -86,6 +86,10 @@ abbrev pub end_of : Direction → List Entry → Option Entry × List Entry
 end_of Front = front_of
 end_of Back = back_of
 
+pub ended_end : (b : Direction) → (end_of b []).0 ≡ None
+ended_end Front = refl
+ended_end Back = refl
+
 over_at : (b : Direction) (xs : List Entry) → None ≡ (end_of b xs).0
     → (xs ≡ []) × ((end_of b xs).1 ≡ [])
 over_at Front xs e = let none = none_first xs e in (none, ap but_first none)

@@ -27,7 +27,7 @@ use Rattle.lsm_merge.specs.MergeLaws.{DealSorted, DealsMerged, DealsUntilError}
 use Rattle.lsm_merge.proofs.EndsLemmas.{asked_first, asked_last, goes_in_front}
 use Rattle.lsm_merge.proofs.HeldLemmas.{weight, weight_true, weight_false, count_cons}
 use Rattle.lsm_merge.proofs.RoomLemmas.{one_if, of_source, count_perm}
-use Rattle.lsm_merge.proofs.AsksLemmas.{end_of, answers_leave, steps_failed, fills_ready}
+use Rattle.lsm_merge.proofs.AsksLemmas.{end_of, answers_leave, steps_failed, fills_ready, ended_end}
 use Rattle.lsm_merge.proofs.AsksLemmas.{fills_other, each_same}
 use Rattle.lsm_merge.proofs.DealsMerged.{new_leaves, deals_merged, deals_until, ends_at_error}
 
@@ -61,10 +61,6 @@ module _ {S A : Type 0} (front back : S → Option R → S → Type 0) where
       (s t : Merger S A) (r : Option R) (call : Calls ask end May s r t) where
     call_if : (b : Bool) → s.failed ≡ b → CallsIf ask end b s r t
     call_if b e = subst (λ (f : Bool). CallsIf ask end f s r t) e call.call
-
-    ended_end : (b : Direction) → (end_of b []).0 ≡ None
-    ended_end Front = refl
-    ended_end Back = refl
 
     gives : (stops : Error → Bool) (xs : List Entry) (errors : List Error) → Has stops s xs errors
         → answer_stops stops r ≡ false → MergeAnswer (Has stops) (end_of end xs) errors r t

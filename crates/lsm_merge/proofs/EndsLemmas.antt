@@ -103,7 +103,8 @@ module _ {S : Type 0} (ask : S → Option R → S → Type 0) (s : Ends S) where
       → ask s.iter r t → Asked ask s r (record { iter = t; done = d })
   asked_now r t d e ends step = record {
     call =
-        subst (λ (b : Bool). AskedIf ask b s r (record { iter = t; done = d })) (sym e) (step, ends);
+        subst (λ (b : Bool). AskedIf ask b s r (record { iter = t; done = d })) (sym e)
+        (step, ends);
   }
 
 module _ {S : Type 0} (stops : Error → Bool) (front back : S → Option R → S → Type 0) where

@@ -37,7 +37,7 @@ use Rattle.lsm_merge.proofs.FillLemmas.{stands_same, ready_filled}
 use Rattle.lsm_merge.proofs.StepLemmas.{others, end_ready, end_stands, end_free, end_spent}
 use Rattle.lsm_merge.proofs.StepLemmas.{end_joined, ready_turned}
 use Rattle.lsm_merge.proofs.AsksLemmas.{end_of, each_filled, each_same, asks_took, fills_ready}
-use Rattle.lsm_merge.proofs.AsksLemmas.{steps_failed}
+use Rattle.lsm_merge.proofs.AsksLemmas.{steps_failed, ended_end}
 use Rattle.lsm_merge.proofs.ReadyLemmas.{ready_same, made_sources, made_heap, made_now, made_other}
 use Rattle.lsm_merge.proofs.DealsMerged.{untouched, all_whole, new_merging, new_leaves}
 use Rattle.lsm_merge.proofs.CallsMerged.{calls_merge}
@@ -258,10 +258,6 @@ still_ready : {S A : Type 0} (end : Direction) (s m : Merger S A) → SameSource
     → is_ready end m ≡ is_ready end s
 still_ready Front s m same = same.front_ready
 still_ready Back s m same = same.back_ready
-
-nothing_at : (end : Direction) → (end_of end []).0 ≡ None
-nothing_at Front = refl
-nothing_at Back = refl
 
 module _ {S A : Type 0} (front back : S → Option R → S → Type 0) (ask : S → Option R → S → Type 0)
     (end : Direction)
@@ -503,7 +499,7 @@ module _ {S A : Type 0} (front back : S → Option R → S → Type 0) (ask : S 
     )
     over (Some (Ok x) ∷ rs) s t has runs fine =
         let a = answer s (Some (Ok x)) runs.0 [] [] runs.1 has fine.0 in
-        let no : None ≡ Some x = sym (nothing_at end) ∙ a.0 in absurd cc
+        let no : None ≡ Some x = sym (ended_end end) ∙ a.0 in absurd cc
     over (Some (Err e) ∷ rs) s t has runs fine =
         let a = answer s (Some (Err e)) runs.0 [] [] runs.1 has fine.0 in
         let no = a.0.1 in absurd (omega (arith, no))

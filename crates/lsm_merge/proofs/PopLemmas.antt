@@ -152,7 +152,7 @@ abbrev pub cleared : Direction → Kept → Kept
 cleared Back s = record { front = s.front; rest = s.rest; back = None }
 cleared Front s = record { front = None; rest = s.rest; back = s.back }
 
-cleared_rest : (b : Direction) (s : Kept) → (cleared b s).rest ≡ s.rest
+pub cleared_rest : (b : Direction) (s : Kept) → (cleared b s).rest ≡ s.rest
 cleared_rest Back s = refl
 cleared_rest Front s = refl
 

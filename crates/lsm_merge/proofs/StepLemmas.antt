@@ -28,7 +28,7 @@ use Rattle.lsm_merge.proofs.PopLemmas.{cleared, Sorted, without, without_gone, w
 use Rattle.lsm_merge.proofs.PopLemmas.{without_rest, without_heap, least_first, least_merged}
 use Rattle.lsm_merge.proofs.PopLemmas.{least_errors, least_sorted, least_spent, least_free}
 use Rattle.lsm_merge.proofs.PopLemmas.{greatest_merged, greatest_errors, greatest_sorted}
-use Rattle.lsm_merge.proofs.PopLemmas.{greatest_spent, greatest_free, greatest_last}
+use Rattle.lsm_merge.proofs.PopLemmas.{greatest_spent, greatest_free, greatest_last, cleared_rest}
 
 same_or_not : (b c : Direction) → (b ≡ c) ⊎ (b ≡ c → ⊥)
 same_or_not Front Front = inl refl
@@ -118,15 +118,11 @@ module _ {S A : Type 0} (stops : Error → Bool) (front back : S → Option R �
           (zip_right (λ s k. Left stops front back s k.rest) s.sources.items was.kept h.source
           (cleared h.end (kept_at was.kept h.source)) _ was.stands.sources
           (λ u l. subst (Left stops front back u) (sym
-          (cleared_same h.end (kept_at was.kept h.source))) l));
+          (cleared_rest h.end (kept_at was.kept h.source))) l));
       sorted = sorted;
       heap = without_heap s.heap.items m.heap.items h was.kept was.stands.sorted was.stands.heap
           pops;
     }
-      where
-        cleared_same : (b : Direction) (k : Kept) → (cleared b k).rest ≡ k.rest
-        cleared_same Front k = refl
-        cleared_same Back k = refl
 
     gone : taken others h.source h.end ≡ None
     gone = without_gone s.heap.items m.heap.items h was.kept was.stands.sorted was.stands.heap pops

@@ -1,10 +1,7 @@
 -- Bytes compared as numbers, of which the first byte is the highest.
 use Rattle.std.proofs.Common.{◌≡◌, refl, sym, ◌∙◌, ap, subst, ℕ, suc, ◌+◌, ◌*◌, ◌<◌, ◌≤◌, true}
-use Rattle.std.proofs.Common.{false, List, [], ◌∷◌, ◌++◌, length, get_or, take, drop, arith, inl}
-use Rattle.std.proofs.Common.{inr}
-use Rattle.std.proofs.lemmas.Bool.{cases_lt}
-use Rattle.std.proofs.lemmas.List.{take-append-drop, length-take, length-take-le, get_or-drop}
-use Rattle.std.proofs.lemmas.List.{get_or-take, get_or_past}
+use Rattle.std.proofs.Common.{false, List, [], ◌∷◌, ◌++◌, length, take, drop, arith}
+use Rattle.std.proofs.lemmas.List.{take-append-drop, length-take-le}
 use Rattle.std.specs.declared.cmp.Ordering.{Ordering}
 use Rattle.std.specs.declared.cmp.Ordering.TheVariants.{Less, Equal, Greater}
 use Rattle.std.specs.Cmp.Lexicographic.{slice_cmp}
@@ -12,9 +9,7 @@ use Rattle.std.specs.Int.{w64, from_be_bytes}
 use Rattle.std.specs.Ordering.{nat_cmp, ordering_then, is_ne}
 use Rattle.std.specs.Cmp.{nat_cmp_is}
 use Rattle.std.proofs.lemmas.Cmp.{ranked}
-
-abbrev pub IsBytes : List ℕ → Type 0
-IsBytes bytes = (i : ℕ) → get_or bytes i 0 < 256
+use Rattle.sst_entries.proofs.Bytes.{IsBytes, IsBytes-take}
 
 abbrev number : ℕ → List ℕ → ℕ
 number p [] = p
@@ -87,17 +82,6 @@ pub words_first : (xs ys us vs : List ℕ) → length xs ≡ 8 → length ys ≡
     (nat_cmp (from_be_bytes w64 xs) (from_be_bytes w64 ys)) (slice_cmp nat_cmp us vs)
 words_first xs ys us vs lx ly fx fy =
     rw (big_endian xs lx, big_endian ys ly) (fronts 0 xs ys (lx ∙ sym ly) fx fy us vs)
-
-IsBytes-take : (n : ℕ) (bytes : List ℕ) → IsBytes bytes → IsBytes (take n bytes)
-IsBytes-take n bytes h i =
-    elim (cases_lt i n) [
-      | inl lt ↦ rw (get_or-take n bytes i 0 lt) (h i)
-      | inr le ↦ rw (get_or_past (take n bytes) i 0 (omega (arith, length-take n bytes)))
-          (omega arith)
-    ]
-
-pub IsBytes-drop : (n : ℕ) (bytes : List ℕ) → IsBytes bytes → IsBytes (drop n bytes)
-IsBytes-drop n bytes h i = rw get_or-drop (h (n + i))
 
 -- the numbers of the first eight bytes of each list, and how they compare
 module _ (xs ys : List ℕ) (m n : ℕ) (o : Ordering) (lx : 8 ≤ length xs) (ly : 8 ≤ length ys)

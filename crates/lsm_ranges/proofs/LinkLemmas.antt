@@ -2,7 +2,7 @@
 use Rattle.std.proofs.Common.{◌≡◌, refl, sym, ◌∙◌, ap, subst, ℕ, ◌<◌, ◌≤◌, ◌+◌, Bool, true, false}
 use Rattle.std.proofs.Common.{List, [], ◌∷◌, ◌++◌, append_assoc, append-nil, zero-add, length, take}
 use Rattle.std.proofs.Common.{get_or, zero, suc, inl, inr, arith, Some, None}
-use Rattle.std.specs.Prelude.{map, filter, Contains, slice_get, IsPermutation}
+use Rattle.std.specs.Prelude.{filter, Contains, slice_get, IsPermutation}
 use Rattle.std.specs.List.{list_any}
 use Rattle.std.proofs.lemmas.Bool.{cases_Bool}
 use Rattle.std.proofs.lemmas.List.{take_more, take_all, length-take-le}
@@ -18,6 +18,7 @@ use Rattle.lsm_ranges.specs.declared.optimize.Link.{Link}
 use Rattle.lsm_ranges.proofs.PackLemmas.{put_all_packed, put_all-append, formed_parts, in_order_of}
 use Rattle.lsm_ranges.proofs.PackLemmas.{filter-cons_no, filter-cons_yes}
 use Rattle.lsm_ranges.proofs.PackSize.{formed-map}
+use Rattle.lsm_ranges.proofs.SpanLemmas.{map-push}
 
 module _ {X : Type 0} where
   -- an element of a list is at some place, and the other way round
@@ -131,11 +132,6 @@ module _ {T : Type 0} (range : T → Interval) where
             λ formed. refl;
         some = tt;
       })
-
-  map-push : {Y Z : Type 0} (h : Y → Z) (ys : List Y) (y : Y)
-      → map h (ys ++ y ∷ []) ≡ map h ys ++ h y ∷ []
-  map-push h [] y = refl
-  map-push h (x ∷ xs) y = ap (λ l. h x ∷ l) (map-push h xs y)
 
   -- one more link is packed
   pub links_push : (ts : List (TableWithPlace T)) (now next : List (List (Link T))) (link : Link T)

@@ -1,10 +1,11 @@
 -- Packed runs are as few as can be: each table behind the first run overlaps one of the run before
 -- it, from an earlier run of the input.
-use Rattle.std.proofs.Common.{◌≡◌, refl, sym, ◌∙◌, ap, subst, ℕ, ◌<◌, Bool, true, false, List, []}
+use Rattle.std.proofs.Common.{◌≡◌, refl, sym, ◌∙◌, ap, subst, ℕ, ◌<◌, true, false, List, []}
 use Rattle.std.proofs.Common.{◌∷◌, ◌++◌, append_assoc, append-nil, take, drop, zero, suc, inl, inr}
 use Rattle.std.specs.Prelude.{◌⊎◌, map, ◌||◌}
 use Rattle.std.specs.List.{list_any, insert}
 use Rattle.std.proofs.lemmas.Bool.{or_parts, cases_Bool, both_ways}
+use Rattle.sst_entries.proofs.Booleans.{or_first}
 use Rattle.lsm_ranges.specs.KeyRange.{Interval, key_le, overlaps}
 use Rattle.lsm_ranges.specs.Run.{how_many}
 use Rattle.lsm_ranges.specs.Packing.{tables_in, touches, with_table, put, put_all}
@@ -151,10 +152,6 @@ module _ {X : Type 0} (f : X → Interval) (at : X → ℕ) where
   touched t l later e = let k = any_found (λ x. overlaps (f x) (f t)) l e in
       (k.0, k.1, k.2, later k.0 k.1 k.2)
 
-  one_of : (a b : Bool) → (a || b) ≡ true → b ≡ false → a ≡ true
-  one_of true b h k = refl
-  one_of false b h k = absurd (both_ways b k h)
-
   steps_put : (t : X) (l : List X) (ls : List (List X)) → After t (l ++ tables_in ls)
       → (touches f (f t) l || list_any (touches f (f t)) ls) ≡ true → CarriesNext f at l ls
       → CarriesNext f at l (put f t ls)
@@ -162,7 +159,7 @@ module _ {X : Type 0} (f : X → Interval) (at : X → ℕ) where
       λ y m. elim m [
         | inl is ↦
             let k = touched t l (λ x n o. later x (mem-append_left l [] x n) o)
-            (one_of (touches f (f t) l) false e refl) in (
+            (or_first (touches f (f t) l) false e refl) in (
               k.0,
               k.1,
               ap (λ v. overlaps (f k.0) (f v)) is
@@ -181,7 +178,7 @@ module _ {X : Type 0} (f : X → Interval) (at : X → ℕ) where
               | inr is ↦
                   let k = touched t l (λ x n o. later x
                   (mem-append_left l (tables_in (m ∷ ms)) x n) o)
-                  (one_of (touches f (f t) l) (list_any (touches f (f t)) (m ∷ ms)) e e2) in (
+                  (or_first (touches f (f t) l) (list_any (touches f (f t)) (m ∷ ms)) e e2) in (
                     k.0,
                     k.1,
                     ap (λ v. overlaps (f k.0) (f v)) is

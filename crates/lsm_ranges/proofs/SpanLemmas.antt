@@ -26,7 +26,7 @@ abbrev pub span_from : List ℕ → List ℕ → List Interval → Interval
 span_from low high [] = interval low high
 span_from low high (x ∷ xs) = span_from (lesser low x.min) (greater high x.max) xs
 
-map-push : {X Y : Type 0} (f : X → Y) (xs : List X) (y : X)
+pub map-push : {X Y : Type 0} (f : X → Y) (xs : List X) (y : X)
     → map f (xs ++ y ∷ []) ≡ map f xs ++ f y ∷ []
 map-push f [] y = refl
 map-push f (x ∷ xs) y = ap (λ t. f x ∷ t) (map-push f xs y)

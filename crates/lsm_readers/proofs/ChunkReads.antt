@@ -17,6 +17,7 @@ use Rattle.sst_blocks.specs.declared.block_type.BlockType.TheVariants.{Data}
 use Rattle.sst_blocks.specs.Payload.{payload}
 use Rattle.sst_entries.proofs.Booleans.{apart, is_false, or_right}
 use Rattle.sst_entries.proofs.OrderLemmas.{before_trans, less_of}
+use Rattle.sst_entries.proofs.Strictness.{strict_front, strict_back}
 use Rattle.sst_entries.specs.Strict.{is_before, IsStrictAfter, last_of}
 use Rattle.sst_blocks.proofs.Reaching.{reaches_after, above_reaches}
 use Rattle.lsm_formats.proofs.BlockLengths.{length-block}
@@ -133,19 +134,6 @@ abbrev pub AreSome : List (List Entry) → Type 0
 AreSome [] = Unit {0}
 AreSome (c ∷ cs) = (0 < length c) × AreSome cs
 
--- what comes after the entries of a strict list is strict
-pub strict_after : (last : Option Entry) (es rest : List Entry) → IsStrictAfter last (es ++ rest)
-    → IsStrictAfter (last_of last es) rest
-unfolding IsStrictAfter last_of
-strict_after last [] rest strict = strict
-strict_after last (e ∷ es) rest strict = strict_after (Some e) es rest strict.1
-
-pub strict_front : (last : Option Entry) (es rest : List Entry) → IsStrictAfter last (es ++ rest)
-    → IsStrictAfter last es
-unfolding IsStrictAfter
-strict_front last [] rest strict = tt
-strict_front last (e ∷ es) rest strict = (strict.0, strict_front (Some e) es rest strict.1)
-
 -- the chunk that a read rests on, among the others
 pub record ReadsChunk (v : TableVersion) (offset : ℕ) (cs : List (List Entry)) (key : List ℕ)
     (bound : ℕ) (h : Handle) : Type 0 where
@@ -219,4 +207,4 @@ chunk_read v offset last ((x ∷ xs) ∷ cs) key bound some strict =
     (handles_from v (offset + block_size v (x ∷ xs)) cs))
     (reaches key bound (handle_of v offset (x ∷ xs))) strict refl
     (chunk_read v (offset + block_size v (x ∷ xs)) (last_of last (x ∷ xs)) cs key bound some.1
-    (strict_after last (x ∷ xs) (joined cs) strict))
+    (strict_back last (x ∷ xs) (joined cs) strict))

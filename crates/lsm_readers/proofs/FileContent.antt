@@ -1,7 +1,7 @@
 -- What a table of a list holds: its chunks, its handles and its counts, all of which fit.
 use Rattle.std.proofs.Common.{◌≡◌, ℕ, ◌+◌, ◌^◌, ◌<◌, ◌≤◌, List, [], ◌∷◌, ◌++◌, length, sym, ap}
 use Rattle.std.proofs.Common.{subst, ◌∙◌, length-append, arith}
-use Rattle.std.specs.Prelude.{None, unwrap_or}
+use Rattle.std.specs.Prelude.{unwrap_or}
 use Rattle.std.specs.List.{AllByRecursion, flat_map}
 use Rattle.sst_sections.specs.declared.version.TableVersion.{TableVersion}
 use Rattle.sst_sections.specs.declared.version.TableVersion.TheVariants.{V3, V4}
@@ -27,7 +27,9 @@ use Rattle.lsm_formats.specs.Layout.{bytes_in}
 use Rattle.lsm_formats.specs.declared.label.Label.{Label}
 use Rattle.lsm_formats.specs.declared.options.FilterKind.{FilterKind}
 use Rattle.lsm_formats.specs.declared.options.FilterKind.TheVariants.{Full as FullFilter}
-use Rattle.lsm_formats.specs.declared.options.FilterKind.TheVariants.{Partitioned as PartitionedFilter}
+use Rattle.lsm_formats.specs.declared.options.FilterKind.TheVariants.{
+  Partitioned as PartitionedFilter,
+}
 use Rattle.lsm_formats.specs.declared.options.Options.{Options}
 use Rattle.lsm_readers.proofs.ChunkReads.{AreSome}
 use Rattle.lsm_readers.proofs.FileIndexKinds.{index_count}
@@ -36,7 +38,7 @@ use Rattle.lsm_readers.proofs.FileLengths.{last_some, lowest_fits, section_wide}
 use Rattle.lsm_readers.proofs.FileSections.{body_is, data_len, the_end, the_filter, the_index}
 use Rattle.lsm_readers.proofs.FileSections.{the_items, the_meta, written}
 use Rattle.sst_sections.proofs.SectionLaws.{finished_body}
-use Rattle.lsm_formats.proofs.FactLaws.{after_within, length-handles}
+use Rattle.lsm_formats.proofs.FactLaws.{length-handles}
 use Rattle.lsm_readers.proofs.MetaBlocks.{meta_length}
 use Rattle.lsm_readers.proofs.MetaReads.{FactsFit}
 

@@ -1,6 +1,5 @@
 -- The filter of a table of a list, by the kind that it was written with: it loads where it lies,
--- what of it stays loaded, and what
--- it answers for a key.
+-- what of it stays loaded, and what it answers for a key.
 use Rattle.std.proofs.Common.{◌≡◌, ℕ, ◌+◌, ◌-◌, ◌^◌, ◌<◌, Bool, true, false, List, [], ◌∷◌, ◌++◌}
 use Rattle.std.proofs.Common.{length, map, refl, sym, subst, ◌∙◌, append_assoc, length-append}
 use Rattle.std.proofs.Common.{arith, if◌then◌else◌}
@@ -19,7 +18,9 @@ use Rattle.sst_filters.specs.Policy.{tenths_of}
 use Rattle.lsm_formats.proofs.BlockLengths.{length-block}
 use Rattle.lsm_formats.specs.declared.options.FilterKind.{FilterKind}
 use Rattle.lsm_formats.specs.declared.options.FilterKind.TheVariants.{Full as FullFilter}
-use Rattle.lsm_formats.specs.declared.options.FilterKind.TheVariants.{Partitioned as PartitionedFilter}
+use Rattle.lsm_formats.specs.declared.options.FilterKind.TheVariants.{
+  Partitioned as PartitionedFilter,
+}
 use Rattle.lsm_formats.specs.Filters.{AreFiltersFor, IsFilterFor, filter_block, filter_partitions}
 use Rattle.lsm_formats.specs.Filters.{filtered_keys, full_filter, is_full_filter, keys_of}
 use Rattle.lsm_formats.specs.Filters.{partitioned_filter}

@@ -1,6 +1,5 @@
 -- The index of a table of a list, by the kind that it was written with: where its sections lie,
--- that its blocks load, and what it
--- answers, whatever of it stays loaded.
+-- that its blocks load, and what it answers, whatever of it stays loaded.
 use Rattle.std.proofs.Common.{◌≡◌, ℕ, ◌+◌, ◌-◌, ◌^◌, ◌<◌, Bool, true, false, List, [], ◌∷◌, ◌++◌}
 use Rattle.std.proofs.Common.{length, refl, sym, ap, subst, ◌∙◌, append_assoc, length-append, arith}
 use Rattle.std.proofs.Common.{◌≤◌}
@@ -15,7 +14,9 @@ use Rattle.sst_blocks.specs.Handles.{window}
 use Rattle.lsm_formats.proofs.BlockLengths.{length-block}
 use Rattle.lsm_formats.specs.declared.options.IndexKind.{IndexKind}
 use Rattle.lsm_formats.specs.declared.options.IndexKind.TheVariants.{Full as FullIndex}
-use Rattle.lsm_formats.specs.declared.options.IndexKind.TheVariants.{Partitioned as PartitionedIndex}
+use Rattle.lsm_formats.specs.declared.options.IndexKind.TheVariants.{
+  Partitioned as PartitionedIndex,
+}
 use Rattle.lsm_formats.specs.Fits.{SectionFits}
 use Rattle.lsm_formats.specs.Kinds.{AreIndexParts, full_index, index_sections}
 use Rattle.lsm_formats.specs.Layout.{bytes_in}

@@ -11,13 +11,13 @@ use Rattle.sst_blocks.specs.Handle.{Handle}
 use Rattle.sst_blocks.specs.Handles.{handles_payload, handle_spelled, IsSpellableHandle}
 use Rattle.sst_blocks.specs.Handles.{AreStrictHandles, end_of}
 use Rattle.sst_sections.specs.Number.{le4}
-use Rattle.sst_blocks.specs.Payload.{payload, spelled, AreSpellable}
+use Rattle.sst_blocks.specs.Payload.{payload, spelled}
 use Rattle.sst_blocks.specs.Payload as written
 use Rattle.sst_blocks.specs.Reading.{entries_in}
-use Rattle.sst_entries.specs.Strict.{is_before, may_follow, IsStrictAfter, IsStrict, last_of}
+use Rattle.sst_entries.specs.Strict.{may_follow, IsStrictAfter, IsStrict, last_of}
 use Rattle.sst_sections.specs.Version.{key_limit, longest_key}
 use Rattle.sst_entries.proofs.Lists.{all_front, all_behind}
-use Rattle.sst_entries.proofs.OrderLemmas.{before_trans}
+use Rattle.sst_entries.proofs.Strictness.{strict_front, strict_back, may_jump}
 use Rattle.sst_blocks.proofs.Entries.{entries_read, length-spelled}
 use Rattle.sst_blocks.proofs.HandleLaws.{length-handle_spelled}
 use Rattle.sst_sections.proofs.Numbers.{wide4}
@@ -26,7 +26,7 @@ use Rattle.lsm_formats.specs.Facts.{lowest_seqno, highest_seqno}
 use Rattle.lsm_formats.specs.Index.{last_entry, handle_of, handles_from, handles, block_size}
 use Rattle.lsm_formats.specs.Index.{data_block, data_section}
 use Rattle.lsm_formats.specs.Fits.{EntryFits, BlockFits}
-use Rattle.lsm_readers.proofs.ChunkReads.{AreSome, later, strict_front, strict_after}
+use Rattle.lsm_readers.proofs.ChunkReads.{AreSome, later}
 use Rattle.lsm_formats.proofs.BlockLengths.{length-block}
 
 -- ---- entries and their blocks
@@ -172,16 +172,11 @@ unfolding last_of
 last_some x [] = refl
 last_some x (y ∷ ys) = last_some y ys
 
-followed : (p : Option Entry) (x l : Entry) → may_follow p x ≡ true → is_before x l ≡ true
-    → may_follow p l ≡ true
-followed None x l h before = refl
-followed (Some e) x l h before = before_trans e x l h before
-
 pub follow_last : (p : Option Entry) (x : Entry) (xs : List Entry) → IsStrictAfter p (x ∷ xs)
     → may_follow p (last_entry (x ∷ xs)) ≡ true
 unfolding IsStrictAfter last_of
 follow_last p x [] strict = strict.0
-follow_last p x (y ∷ ys) strict = followed p x (last_entry (y ∷ ys)) strict.0
+follow_last p x (y ∷ ys) strict = may_jump p x (last_entry (y ∷ ys)) strict.0
     (later x y ys strict.1)
 
 -- a handle's end has the key and the number of the last entry
@@ -201,7 +196,7 @@ strict_ends v offset p q ((x ∷ xs) ∷ cs) same some strict =
     let end = handle_of v offset (x ∷ xs) in
     let here = same (end_of end) ∙ end_same p v offset (x ∷ xs)
     ∙ follow_last p x xs (strict_front p (x ∷ xs) (joined cs) strict) in
-    let more = strict_after p (x ∷ xs) (joined cs) strict in (
+    let more = strict_back p (x ∷ xs) (joined cs) strict in (
       here,
       strict_ends v (offset + block_size v (x ∷ xs)) (last_of p (x ∷ xs))
           (Some (end_of end)) cs (λ e. sym (ap (λ (o : Option Entry). may_follow o e)

@@ -17,7 +17,7 @@ use Rattle.sst_entries.specs.Key.{same_key}
 use Rattle.sst_entries.specs.Point.{is_hit, point}
 use Rattle.sst_entries.specs.Strict.{IsStrict, IsStrictAfter, last_of}
 use Rattle.sst_entries.proofs.Lists.{all_behind, all_front}
-use Rattle.sst_entries.proofs.Strictness.{strict_alone}
+use Rattle.sst_entries.proofs.Strictness.{strict_alone, strict_front, strict_back}
 use Rattle.sst_blocks.specs.declared.block_type.BlockType.TheVariants.{Data}
 use Rattle.sst_blocks.specs.Block.{load_told}
 use Rattle.sst_blocks.specs.Handle.{Handle}
@@ -43,8 +43,7 @@ use Rattle.lsm_readers.specs.IndexKinds.{place_in}
 use Rattle.lsm_readers.specs.OfList.{pinned_said, regions_said}
 use Rattle.lsm_readers.specs.Parts.{Parts, recovered_told}
 use Rattle.lsm_readers.specs.Read.{◌>>=◌, known, read_then}
-use Rattle.lsm_readers.proofs.ChunkReads.{ReadsBy, ReadsChunk, chunk_read, strict_after}
-use Rattle.lsm_readers.proofs.ChunkReads.{strict_front}
+use Rattle.lsm_readers.proofs.ChunkReads.{ReadsBy, ReadsChunk, chunk_read}
 use Rattle.lsm_readers.proofs.FileContent.{all_some, handles_fit, handles_line, line, whole}
 use Rattle.lsm_readers.proofs.FileFilters.{Asked}
 use Rattle.lsm_readers.proofs.FileLengths.{chunk_reads}
@@ -136,7 +135,7 @@ module _ (v : TableVersion) (label : Label) (options : Options) (spills : List �
       → IsStrictAfter last (joined (before ++ d ∷ behind)) → IsStrict d
   chunk_strict last [] behind d h = strict_alone last d (strict_front last d (joined behind) h)
   chunk_strict last (b ∷ before) behind d h = chunk_strict (last_of last b) before behind d
-      (strict_after last b (joined (before ++ d ∷ behind)) h)
+      (strict_back last b (joined (before ++ d ∷ behind)) h)
 
   chunk_fits : (before behind : List (List Entry)) (d : List Entry)
       → AllByRecursion (EntryFits v) (joined (before ++ d ∷ behind))

@@ -27,6 +27,7 @@ use Rattle.sst_entries.proofs.Booleans.{and_false, apart, is_false}
 use Rattle.sst_entries.proofs.KeyLemmas.{le_itself}
 use Rattle.sst_entries.proofs.Lists.{all_behind, all_front, all_more}
 use Rattle.sst_entries.proofs.OrderLemmas.{before_trans, lt_of_cond, lt_trans}
+use Rattle.sst_entries.proofs.Strictness.{strict_front, strict_back}
 use Rattle.sst_blocks.specs.declared.block_type.BlockType.TheVariants.{Data}
 use Rattle.sst_blocks.specs.Block.{load_told}
 use Rattle.sst_blocks.specs.Handle.{Handle}
@@ -54,7 +55,7 @@ use Rattle.lsm_readers.specs.IndexKinds.{index_over}
 use Rattle.lsm_readers.specs.Meta.{Facts}
 use Rattle.lsm_readers.specs.OfList.{regions_said}
 use Rattle.lsm_readers.specs.Parts.{Parts, recovered_told}
-use Rattle.lsm_readers.proofs.ChunkReads.{AreSome, later, not_before, strict_after, strict_front}
+use Rattle.lsm_readers.proofs.ChunkReads.{AreSome, later, not_before}
 use Rattle.lsm_readers.proofs.FileContent.{all_some, handles_fit, handles_line, line, whole}
 use Rattle.lsm_readers.proofs.FileLengths.{last_some}
 use Rattle.lsm_readers.proofs.FileParts.{behind_index, facts_are, parts_are, short_file, the_body}
@@ -112,7 +113,8 @@ unfolding IsStrictAfter last_of
 all_below v key last x [] strict fits early =
     (below_key key (2 ^ 64 - 1) x (fits.0).number early, tt)
 all_below v key last x (y ∷ ys) strict fits early =
-    let here = not_before key (2 ^ 64 - 1) x (last_entry (y ∷ ys)) (later x y ys strict.1) early in (
+    let here = not_before key (2 ^ 64 - 1) x (last_entry (y ∷ ys))
+    (later x y ys strict.1) early in (
       below_key key (2 ^ 64 - 1) x (fits.0).number here,
       all_below v key
           (Some x) y ys strict.1 fits.1 early,
@@ -215,7 +217,7 @@ module _ (v : TableVersion) (body : List ℕ) (g : ℕ) (low high : Bound (List 
         are.0 ∙ ap (lift_told g) (none_within low high c beside) in (
           here,
           early_rows (at + block_size v c) (last_of last c) cs some.1
-              (strict_after last c (joined cs) strict)
+              (strict_back last c (joined cs) strict)
               (all_behind (EntryFits v) c (joined cs) fits) are.1,
         )
 
@@ -231,7 +233,7 @@ module _ (v : TableVersion) (body : List ℕ) (g : ℕ) (low high : Bound (List 
         let c = x ∷ xs in
         let P : Entry → Type 0 = λ e. key_lt key e.user_key ≡ true in
         let Q : Entry → Type 0 = λ e. (is_from low e.user_key && is_to high e.user_key) ≡ false in
-        let rest = strict_after last c (joined cs) strict in
+        let rest = strict_back last c (joined cs) strict in
         let behind : IsStrictAfter (Some (last_entry c)) (joined cs) =
         subst (λ (l : Option Entry). IsStrictAfter l (joined cs)) (last_some x xs) rest in
         let here : is_above key (handle_of v at c) ≡ true

@@ -42,17 +42,18 @@ use Rattle.lsm_readers.specs.Parts.{Parts, recovered_told}
 use Rattle.lsm_readers.specs.Scan.{lifted_told, behind, blocks_told, then_blocks, entries_told}
 use Rattle.lsm_readers.specs.Scan.{up_to_error, entries_from, scan_told, fault_of, Scan, ScansList}
 use Rattle.lsm_readers.specs.Scan.{ScansNext}
-use Rattle.lsm_readers.proofs.ChunkReads.{AreSome, strict_front, strict_after}
+use Rattle.lsm_readers.proofs.ChunkReads.{AreSome}
 use Rattle.lsm_formats.proofs.BlockLengths.{length-block}
 use Rattle.lsm_readers.proofs.FileLengths.{chunk_reads}
 use Rattle.sst_entries.proofs.Lists.{all_front, all_behind}
-use Rattle.sst_entries.proofs.Strictness.{strict_alone}
+use Rattle.sst_entries.proofs.Strictness.{strict_alone, strict_front, strict_back}
+use Rattle.sst_entries.proofs.Refusals.{memory_is}
 use Rattle.lsm_readers.proofs.FileContent.{line, some_chunks, whole}
 use Rattle.lsm_readers.proofs.FileIndexKinds.{index_alone}
 use Rattle.lsm_readers.proofs.FileParts.{behind_index, facts_are, short_file, told_file}
 use Rattle.lsm_readers.proofs.FileSections.{body_is, the_end, the_filter, the_index, written}
 use Rattle.lsm_readers.proofs.Recovered.{steps}
-use Rattle.lsm_readers.proofs.Scans.{lifted_ok, memory_is}
+use Rattle.lsm_readers.proofs.Scans.{lifted_ok}
 
 -- ---- entries
 
@@ -97,7 +98,7 @@ all_read v last (c ∷ cs) strict fits blocks =
       omega (arith, block.short),
     ) in (
       here,
-      all_read v (last_of last c) cs (strict_after last c (joined cs) strict)
+      all_read v (last_of last c) cs (strict_back last c (joined cs) strict)
           (all_behind (EntryFits v) c (joined cs) fits) blocks.1,
     )
 

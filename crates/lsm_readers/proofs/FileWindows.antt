@@ -13,6 +13,7 @@ use Rattle.sst_entries.specs.Stream.{ok_results}
 use Rattle.sst_entries.specs.Strict.{IsStrictAfter, is_before, last_of}
 use Rattle.sst_entries.proofs.Booleans.{apart, is_false}
 use Rattle.sst_entries.proofs.OrderLemmas.{before_trans}
+use Rattle.sst_entries.proofs.Strictness.{strict_front, strict_back}
 use Rattle.sst_blocks.specs.declared.block_type.BlockType.TheVariants.{Index}
 use Rattle.sst_blocks.specs.Handle.{Handle}
 use Rattle.sst_blocks.specs.Handles.{AreStrictHandles, IsSpellableHandle, end_of, from_edge}
@@ -24,7 +25,6 @@ use Rattle.lsm_formats.proofs.BlockLengths.{length-block}
 use Rattle.lsm_formats.specs.Parts.{joined_parts}
 use Rattle.lsm_formats.specs.Partitions.{handles_block, index_tops, last_end}
 use Rattle.lsm_block_indexes.specs.Index.{block_between, parts_between}
-use Rattle.lsm_readers.proofs.ChunkReads.{strict_after, strict_front}
 use Rattle.lsm_readers.proofs.FileIndexes.{LoadsHandles, part_loads}
 use Rattle.lsm_readers.proofs.PartReads.{AreSomeParts, top_at}
 use Rattle.lsm_readers.proofs.Windows.{AllCut, AllTell, Rises, Tells, parts_cut, to_here, to_later}
@@ -159,7 +159,7 @@ module _ (p : Handle → Bool) (edge : IsEdge p) where
             (strict_front last (map end_of part) (map end_of (joined_parts ps)) whole),
         tells v (at + (24 + length (handles_payload v part)))
             (last_of last (map end_of part)) ps some.1
-            (strict_after last (map end_of part) (map end_of (joined_parts ps)) whole),
+            (strict_back last (map end_of part) (map end_of (joined_parts ps)) whole),
       )
 
 -- ---- what a block and what partitions have between the edges

@@ -14,6 +14,7 @@ use Rattle.sst_entries.specs.Strict.{is_before, IsStrictAfter, last_of}
 use Rattle.sst_entries.proofs.Booleans.{apart, is_false, or_right}
 use Rattle.sst_entries.proofs.KeyLemmas.{le_itself, same_is}
 use Rattle.sst_entries.proofs.OrderLemmas.{before_trans, lt_trans}
+use Rattle.sst_entries.proofs.Strictness.{strict_front, strict_back}
 use Rattle.sst_blocks.specs.declared.block_type.BlockType.TheVariants.{Filter}
 use Rattle.sst_blocks.specs.Handle.{Handle}
 use Rattle.sst_blocks.specs.Handles.{reaches}
@@ -26,7 +27,6 @@ use Rattle.lsm_formats.specs.Filters.{last_of_keys}
 use Rattle.lsm_formats.specs.Parts.{joined_parts}
 use Rattle.lsm_formats.specs.Partitions.{tops_from}
 use Rattle.lsm_formats.proofs.KeyLaws.{key_end, before_is}
-use Rattle.lsm_readers.proofs.ChunkReads.{strict_after, strict_front}
 use Rattle.lsm_readers.proofs.FilterReads.{has_key}
 use Rattle.lsm_readers.proofs.PartReads.{AreSomeParts}
 
@@ -183,7 +183,7 @@ decided v policy at last x xs f ps fs key o true strict is late more =
     let end = last_of_keys (x ∷ xs) in
     let rest : IsStrictAfter (Some (key_end end)) (map key_end (joined_parts ps)) =
     subst (λ (l : Option Entry). IsStrictAfter l (map key_end (joined_parts ps)))
-    (last_end_is last x xs) (strict_after last (map key_end (x ∷ xs))
+    (last_end_is last x xs) (strict_back last (map key_end (x ∷ xs))
     (map key_end (joined_parts ps)) strict) in
     record {
       filters_before = [];
@@ -233,4 +233,4 @@ part_asked v policy at last ((x ∷ xs) ∷ ps) (f ∷ fs) key some are strict =
     (cond b (Some (filter_top at p f)) rest)) (sym (top_reached at p f key))
     (decided v policy at last x xs f ps fs key rest (reached key (last_of_keys p)) whole are.0 refl
     (part_asked v policy n (last_of last (map key_end p)) ps fs key some.1 are.1
-    (strict_after last (map key_end p) (map key_end (joined_parts ps)) whole)))
+    (strict_back last (map key_end p) (map key_end (joined_parts ps)) whole)))

@@ -17,18 +17,13 @@ use Rattle.sst_blocks.specs.Block.{version_in, stored_checksum, header_fault, da
 use Rattle.sst_blocks.specs.Block.{uncompressed_len}
 use Rattle.sst_entries.specs.Error.{unless}
 use Rattle.sst_blocks.specs.Starts.{HoldsEntries}
-use Rattle.sst_blocks.proofs.LoadLemmas.{load_truncated}
+use Rattle.sst_blocks.proofs.LoadLemmas.{load_truncated, unless_ok}
 
 -- a test that did not fail
 pub guard_ok : {A : Type 0} (b : Bool) (e : Error) (r : Result A Error) (x : A)
     → cond b (Err e) r ≡ Ok x → r ≡ Ok x
 guard_ok true e r x h = absurd cc
 guard_ok false e r x h = h
-
-pub unless_ok : {A : Type 0} (o : Option Error) (r : Result A Error) (x : A) → unless o r ≡ Ok x
-    → r ≡ Ok x
-unless_ok None r x h = h
-unless_ok (Some e) r x h = absurd cc
 
 abbrev made : TableVersion → BlockType → List ℕ → Loaded
 made v kind payload = record { version = v; kind = kind; payload = payload }

@@ -7,7 +7,7 @@ use Rattle.sst_sections.specs.declared.version.TableVersion.{TableVersion}
 use Rattle.sst_sections.specs.declared.version.TableVersion.TheVariants.{V3, V4}
 use Rattle.sst_entries.specs.Entry.{Entry}
 use Rattle.sst_sections.specs.Number.{le4}
-use Rattle.sst_blocks.specs.Payload.{payload, spelled, AreSpellable}
+use Rattle.sst_blocks.specs.Payload.{payload, spelled}
 use Rattle.sst_blocks.specs.Payload as written
 use Rattle.sst_blocks.specs.Reading.{entries_in}
 use Rattle.sst_entries.specs.Strict.{IsStrict}
@@ -17,7 +17,7 @@ use Rattle.sst_sections.proofs.Numbers.{wide4}
 use Rattle.lsm_formats.specs.Chunks.{joined}
 use Rattle.lsm_formats.specs.Facts.{ListFacts, facts}
 use Rattle.lsm_formats.specs.Index.{data_section}
-use Rattle.lsm_formats.specs.MetaBlock.{Blocks, meta_entries, meta_entry, name_of}
+use Rattle.lsm_formats.specs.MetaBlock.{BlockCounts, meta_entries, meta_entry, name_of}
 use Rattle.lsm_formats.specs.declared.item_name.ItemName.{ItemName}
 use Rattle.lsm_formats.specs.declared.item_name.ItemName.TheVariants as item
 use Rattle.lsm_formats.proofs.MetaItems.{IsShort, items_each, items_strict, items_sum}
@@ -82,7 +82,7 @@ short_taken : (v : TableVersion) (e : Entry) → IsShort e → taken v e ≤ 63
 short_taken v e h = omega (arith, h.name, h.value, key_narrow v)
 
 module _ (v : TableVersion) (label : Label) (options : Options) (cs : List (List Entry))
-    (blocks : Blocks) where
+    (blocks : BlockCounts) where
   abbrev f : ListFacts
   f = facts (joined cs)
 

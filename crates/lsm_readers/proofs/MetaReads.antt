@@ -15,7 +15,7 @@ use Rattle.lsm_formats.specs.Chunks.{joined}
 use Rattle.lsm_formats.specs.Facts.{ListFacts, facts, is_reclaimable, is_tombstone, is_weak}
 use Rattle.lsm_formats.proofs.FactLaws.{after_within}
 use Rattle.lsm_formats.specs.Index.{data_section}
-use Rattle.lsm_formats.specs.MetaBlock.{Blocks, meta_entries, name_of, version_number}
+use Rattle.lsm_formats.specs.MetaBlock.{BlockCounts, meta_entries, name_of, version_number}
 use Rattle.lsm_formats.specs.declared.options.Options.{Options}
 use Rattle.lsm_formats.specs.declared.label.Label.{Label}
 use Rattle.lsm_formats.specs.declared.item_name.ItemName.{ItemName}
@@ -55,13 +55,13 @@ unfolding le16 num16
 wide16-again n rest lt = little_number-reads_back 16 n rest lt
 
 -- what the table of a written list says of itself
-abbrev pub written_facts : TableVersion → Label → List (List Entry) → Blocks → Facts
+abbrev pub written_facts : TableVersion → Label → List (List Entry) → BlockCounts → Facts
 written_facts v label cs blocks = facts_said v label (joined cs) (length cs) blocks.index
     (length (data_section v cs))
 
 -- what a written table says fits its fields
 pub record FactsFit (label : Label) (options : Options) (cs : List (List Entry)) (v : TableVersion)
-    (blocks : Blocks) : Type 0 where
+    (blocks : BlockCounts) : Type 0 where
   pub id : label.table_id < 2 ^ 64
   pub created_at : label.created_at < 2 ^ 128
   pub interval : options.index_block_restart_interval ≡ 1
@@ -74,7 +74,7 @@ pub record FactsFit (label : Label) (options : Options) (cs : List (List Entry))
   pub file_size : length (data_section v cs) < 2 ^ 64
 
 module _ (v : TableVersion) (label : Label) (options : Options) (cs : List (List Entry))
-    (blocks : Blocks) where
+    (blocks : BlockCounts) where
   abbrev es : List Entry
   es = meta_entries v label options cs blocks
 

@@ -8,10 +8,9 @@ use Rattle.std.proofs.lemmas.List.Concat.{flat_map-append}
 use Rattle.sst_entries.specs.Entry.{Entry}
 use Rattle.sst_entries.specs.Strict.{IsStrict, IsStrictAfter, last_of}
 use Rattle.sst_entries.proofs.Lists.{all_front, all_behind}
-use Rattle.sst_entries.proofs.Strictness.{strict_alone}
+use Rattle.sst_entries.proofs.Strictness.{strict_alone, strict_front, strict_back}
 use Rattle.lsm_formats.specs.Index.{last_entry}
 use Rattle.lsm_formats.specs.Parts.{AreParts, joined_parts}
-use Rattle.lsm_readers.proofs.ChunkReads.{strict_after, strict_front}
 use Rattle.lsm_readers.proofs.FileLengths.{follow_last, last_some}
 use Rattle.lsm_readers.proofs.PartReads.{AreSomeParts}
 
@@ -49,7 +48,7 @@ module _ {A : Type 0} (end : A → Entry) where
   part_strict last (b ∷ before) part behind h =
       let rest = before ++ part ∷ behind in
       part_strict (last_of last (map end b)) before part behind
-      (strict_after last (map end b) (map end (joined_parts rest)) (split last b rest h))
+      (strict_back last (map end b) (map end (joined_parts rest)) (split last b rest h))
 
   -- the last items of the parts are strict
   pub ends_strict : (last : Option Entry) (parts : List (List A)) → AreSomeParts parts
@@ -65,7 +64,7 @@ module _ {A : Type 0} (end : A → Entry) where
       (strict_front last es (map end (joined_parts ps)) whole) in
       let rest : IsStrictAfter (Some (last_entry es)) (map end (joined_parts ps)) =
       subst (λ (l : Option Entry). IsStrictAfter l (map end (joined_parts ps)))
-      (last_some (end x) (map end xs)) (strict_after last es
+      (last_some (end x) (map end xs)) (strict_back last es
       (map end (joined_parts ps)) whole) in
       (here, ends_strict (Some (last_entry es)) ps some.1 rest)
 

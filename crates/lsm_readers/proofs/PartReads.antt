@@ -9,6 +9,7 @@ use Rattle.sst_sections.specs.declared.version.TableVersion.{TableVersion}
 use Rattle.sst_entries.specs.declared.value_type.ValueType.TheVariants.{Value}
 use Rattle.sst_entries.specs.Entry.{Entry, entry}
 use Rattle.sst_entries.specs.Strict.{is_before, IsStrictAfter, last_of}
+use Rattle.sst_entries.proofs.Strictness.{strict_front, strict_back}
 use Rattle.sst_blocks.specs.declared.block_type.BlockType.TheVariants.{Index}
 use Rattle.sst_blocks.specs.Handle.{Handle}
 use Rattle.sst_blocks.specs.Handles.{end_of, handles_payload, reaches}
@@ -17,7 +18,7 @@ use Rattle.lsm_formats.proofs.BlockLengths.{length-block}
 use Rattle.lsm_formats.specs.Index.{last_entry}
 use Rattle.lsm_formats.specs.Parts.{joined_parts}
 use Rattle.lsm_formats.specs.Partitions.{handles_block, index_tops, last_end}
-use Rattle.lsm_readers.proofs.ChunkReads.{later, not_before, strict_after, strict_front}
+use Rattle.lsm_readers.proofs.ChunkReads.{later, not_before}
 
 -- the entry comes after a read of the key at the bound
 abbrev after : List ℕ → ℕ → Entry → Bool
@@ -154,4 +155,4 @@ part_read v at last ((x ∷ xs) ∷ ps) key bound some strict =
     (after key bound (last_end p)) (strict_front last (map end_of p)
     (map end_of (joined_parts ps)) whole) refl
     (part_read v n (last_of last (map end_of p)) ps key bound some.1
-    (strict_after last (map end_of p) (map end_of (joined_parts ps)) whole)))
+    (strict_back last (map end_of p) (map end_of (joined_parts ps)) whole)))

@@ -11,7 +11,7 @@ use Rattle.sst_entries.specs.Error.{FaultsFirst, Gives, is_memory}
 use Rattle.sst_blocks.specs.declared.block_type.BlockType.{BlockType}
 use Rattle.sst_blocks.specs.declared.opened.Opened.{Opened}
 use Rattle.sst_blocks.specs.Opened.{with_load}
-use Rattle.lsm_readers.specs.Read.{◌>>=◌, DoesRead, Opens, Read, early_behind, early_of, known}
+use Rattle.lsm_readers.specs.Read.{◌>>=◌, DoesRead, Opens, Read, early_then, early_of, known}
 use Rattle.lsm_readers.specs.Read.{loads_behind, opened_by, read_then, wants_memory}
 use Rattle.lsm_readers.proofs.Recovered.{first_from}
 use Rattle.lsm_readers.proofs.Steps.{fails_here, passes_fault}
@@ -114,12 +114,12 @@ then_goes {X} {Y} first next x s o o' o'' a b =
     let told : first.told ≡ Ok x = a.told in
     let loads : loads_behind first.told next ≡ (next x).loads =
     ap (λ (t : Result X Error). loads_behind t next) told in
-    let early : early_behind first.told next ≡ (next x).early =
-    ap (λ (t : Result X Error). early_behind t next) told in
+    let early : early_then first.told next ≡ (next x).early =
+    ap (λ (t : Result X Error). early_then t next) told in
     record {
       told = subst (λ (t : Result X Error). Gives (λ (y : Y). y) s (t >>= λ x. (next x).told))
           (sym told) b.told;
-      early = early_goes x s first.loads first.early (early_behind first.told next) a.early
+      early = early_goes x s first.loads first.early (early_then first.told next) a.early
           (subst (FaultsFirst s) (sym early) b.early);
       opens = opens_goes x s first.loads (loads_behind first.told next) o o' o'' a.opens
           (subst (λ (l : List BlockType). Opens s l o' o'') (sym loads) b.opens);
@@ -177,7 +177,7 @@ then_fails {X} {Y} first next e s o o' a is =
       told = passes_fault (λ (y : Y). y) s (first.told >>= λ x. (next x).told) e is
           (fails_here first.told (λ x. (next x).told) e a.told);
       early = early_fails X e s first.loads first.early
-          (early_behind first.told next) some is a.early;
+          (early_then first.told next) some is a.early;
       opens = opens_fails X e s first.loads ls o o' is some
           (λ memory. behind_fails first.told next e (a.told memory)) a.opens;
       calm = λ none. absurd (let sum = length-append first.loads ls in

@@ -11,19 +11,20 @@ use Rattle.sst_entries.specs.Error.{Fails, FaultsFirst, is_memory, unless}
 use Rattle.sst_blocks.specs.declared.block_type.BlockType.TheVariants.{Meta}
 use Rattle.sst_blocks.specs.Block.{place_fault}
 use Rattle.sst_blocks.specs.Handle.{Handle}
+use Rattle.sst_blocks.proofs.LoadLemmas.{unless_ok}
 use Rattle.sst_filters.specs.Filter.{BloomFilter}
 use Rattle.sst_sections.specs.Sections.{body_of, trailer_fault}
 use Rattle.lsm_readers.specs.declared.regions.ParsedRegions.{ParsedRegions}
 use Rattle.lsm_readers.specs.Meta.{Facts}
 use Rattle.lsm_readers.specs.Meta.{meta_told}
-use Rattle.lsm_readers.specs.Parts.{Parts, Pinned, early_fault, early_in, filter_told, number_told}
+use Rattle.lsm_readers.specs.Parts.{Parts, Pinned, early_fault, early_in, filter_told}
+use Rattle.lsm_readers.specs.Parts.{facts_fitting}
 use Rattle.lsm_readers.specs.Parts.{parts_told, pinned_filter, pinned_told, places_told, range_in}
-use Rattle.lsm_readers.specs.Parts.{range_told, recovered_told, tops_told}
+use Rattle.lsm_readers.specs.Parts.{key_range_told, recovered_told, tops_told}
 use Rattle.lsm_readers.specs.IndexKinds.{PinnedIndex, index_told}
 use Rattle.lsm_readers.specs.Table.{IsRecovered, IsOpen}
 use Rattle.lsm_readers.specs.Table.{OpenTable}
 use Rattle.lsm_readers.specs.Read.{◌>>=◌}
-use Rattle.lsm_readers.proofs.Loads.{unless_ok}
 
 -- a step that told a value went on from one
 pub bind_ok : {A B : Type 0} (r : Result A Error) (f : A → Result B Error) (y : B)
@@ -62,7 +63,7 @@ steps_of : (bytes : List ℕ) (g : ℕ) (pin_filter pin_index : Bool) (parts : P
     (regions : ParsedRegions) (told_facts facts : Facts) (pinned : Pinned)
     → parts_told bytes g pin_filter pin_index ≡ Ok parts → places_told bytes ≡ Ok regions
     → meta_told (body_of bytes) regions.metadata ≡ Ok told_facts
-    → number_told told_facts g ≡ Ok facts
+    → facts_fitting told_facts g ≡ Ok facts
     → pinned_told (body_of bytes) regions pin_filter pin_index ≡ Ok pinned
     → made regions facts pinned ≡ parts → Steps bytes g pin_filter pin_index parts
 steps_of bytes g pin_filter pin_index parts regions told_facts facts pinned trailer places meta
@@ -88,12 +89,12 @@ steps bytes g pin_filter pin_index parts h =
     let pinned_in : ParsedRegions → Result Pinned Error =
     λ regions. pinned_told body regions pin_filter pin_index in
     let r = bind_ok (places_told bytes) (λ regions. meta_told body regions.metadata >>= λ facts.
-    number_told facts g >>= λ facts. pinned_in regions >>= λ pinned. Ok
+    facts_fitting facts g >>= λ facts. pinned_in regions >>= λ pinned. Ok
     (made regions facts pinned)) parts told in
     let m = bind_ok (meta_told body (r.0).metadata)
-    (λ facts. number_told facts g >>= λ facts. pinned_in r.0 >>= λ pinned. Ok
+    (λ facts. facts_fitting facts g >>= λ facts. pinned_in r.0 >>= λ pinned. Ok
     (made r.0 facts pinned)) parts r.2 in
-    let n = bind_ok (number_told m.0 g) (λ facts. pinned_in r.0 >>= λ pinned. Ok
+    let n = bind_ok (facts_fitting m.0 g) (λ facts. pinned_in r.0 >>= λ pinned. Ok
     (made r.0 facts pinned)) parts m.2 in
     let i = bind_ok (pinned_in r.0) (λ pinned. Ok (made r.0 n.0 pinned)) parts n.2 in
     steps_of bytes g pin_filter pin_index parts r.0 m.0 n.0 i.0 told r.1 m.1 n.1 i.1 cc
@@ -164,7 +165,7 @@ is_open t bytes g pin_filter pin_index same number short told = record {
 }
 
 -- the range that the bytes tell is the one that was recovered
-pub range_is : (t : OpenTable) → IsRecovered t → range_told t.bytes ≡ t.parts.facts.key_range
+pub range_is : (t : OpenTable) → IsRecovered t → key_range_told t.bytes ≡ t.parts.facts.key_range
 range_is t h =
     let s = recovered_steps t h in
     ap (λ (r : Result ParsedRegions Error). range_in

@@ -10,20 +10,7 @@ use Rattle.std.proofs.lemmas.List.{drop_more}
 use Rattle.std.proofs.lemmas.Option.{slice_get_within, get_or_from_slice_get}
 use Rattle.sst_blocks.specs.declared.block_type.BlockType.TheVariants.{Data}
 use Rattle.sst_entries.specs.declared.error.Error.{Error}
-use Rattle.sst_entries.specs.declared.error.Error.TheVariants.{OutOfMemory, SeqNoOverflow}
-use Rattle.sst_entries.specs.declared.error.Error.TheVariants.{Truncated, InvalidHeader, InvalidTag}
-use Rattle.sst_entries.specs.declared.error.Error.TheVariants.{ChecksumMismatch, InvalidBlock}
-use Rattle.sst_entries.specs.declared.error.Error.TheVariants.{KeyTooLong, ValueTooLong}
-use Rattle.sst_entries.specs.declared.error.Error.TheVariants.{BlockTooLarge, SectionTooLarge}
-use Rattle.sst_entries.specs.declared.error.Error.TheVariants.{InvalidTrailer, MissingSection}
-use Rattle.sst_entries.specs.declared.error.Error.TheVariants.{MetaKeyMissing, InvalidMetaValue}
-use Rattle.sst_entries.specs.declared.error.Error.TheVariants.{UnsupportedTableVersion}
-use Rattle.sst_entries.specs.declared.error.Error.TheVariants.{UnsupportedHashType}
-use Rattle.sst_entries.specs.declared.error.Error.TheVariants.{UnsupportedChecksumType}
-use Rattle.sst_entries.specs.declared.error.Error.TheVariants.{UnsupportedIndexInterval}
-use Rattle.sst_entries.specs.declared.error.Error.TheVariants.{UnsupportedCompression}
-use Rattle.sst_entries.specs.declared.error.Error.TheVariants.{GlobalSeqNoTooLarge, TableIdsSpent}
-use Rattle.sst_entries.specs.declared.error.Error.TheVariants.{WriterFailed, Source}
+use Rattle.sst_entries.specs.declared.error.Error.TheVariants.{OutOfMemory}
 use Rattle.sst_blocks.specs.Block.{Loaded, load_at_told, position_fault, entries_of}
 use Rattle.sst_entries.specs.Entry.{Entry}
 use Rattle.sst_blocks.specs.Reading.{key_and_number}
@@ -34,8 +21,10 @@ use Rattle.sst_blocks.specs.Opened.{with_load}
 use Rattle.sst_entries.specs.Stream.{Answers, Deals, first, but_first, front_of, nowhere}
 use Rattle.sst_entries.specs.Stream.{answer_stops}
 use Rattle.sst_entries.proofs.StreamLemmas.{head_eq, deals_by}
+use Rattle.sst_entries.proofs.Refusals.{memory_is}
 use Rattle.lsm_readers.specs.Answer.{lifted}
-use Rattle.lsm_readers.specs.Scan.{FaultsAtBlock, FaultsAtEntry, IsEnded, Scan, ScanHas, ScansNext}
+use Rattle.lsm_readers.specs.Scan.{FaultsAtBlock, FaultsAtEntry, IsEndedScan, Scan, ScanHas}
+use Rattle.lsm_readers.specs.Scan.{ScansNext}
 use Rattle.lsm_readers.specs.Scan.{TakesEntry, behind, block_told, blocks_told, ended, entries_from}
 use Rattle.lsm_readers.specs.Scan.{entries_told, fault_of, lifted_told, loads, scan_loads_behind}
 use Rattle.lsm_readers.specs.Scan.{loads_from, loads_of, scan_left, scan_size, scan_told}
@@ -47,34 +36,6 @@ R = Result Entry Error
 
 abbrev Answer : Scan → Option R → Scan → Type 0
 Answer = Answers (λ _. Unit {0}) ScanHas front_of
-
--- ---- errors
-
-pub memory_is : (e : Error) → is_memory e ≡ true → e ≡ OutOfMemory
-memory_is OutOfMemory h = refl
-memory_is Truncated h = absurd cc
-memory_is InvalidHeader h = absurd cc
-memory_is (InvalidTag name byte) h = absurd cc
-memory_is ChecksumMismatch h = absurd cc
-memory_is InvalidBlock h = absurd cc
-memory_is KeyTooLong h = absurd cc
-memory_is ValueTooLong h = absurd cc
-memory_is BlockTooLarge h = absurd cc
-memory_is SectionTooLarge h = absurd cc
-memory_is InvalidTrailer h = absurd cc
-memory_is MissingSection h = absurd cc
-memory_is MetaKeyMissing h = absurd cc
-memory_is InvalidMetaValue h = absurd cc
-memory_is UnsupportedTableVersion h = absurd cc
-memory_is UnsupportedHashType h = absurd cc
-memory_is UnsupportedChecksumType h = absurd cc
-memory_is UnsupportedIndexInterval h = absurd cc
-memory_is UnsupportedCompression h = absurd cc
-memory_is GlobalSeqNoTooLarge h = absurd cc
-memory_is SeqNoOverflow h = absurd cc
-memory_is TableIdsSpent h = absurd cc
-memory_is WriterFailed h = absurd cc
-memory_is (Source n) h = absurd cc
 
 -- ---- an entry with the global number added
 
@@ -119,7 +80,7 @@ cut_at (x ∷ xs) i lt = record { entry = get_or (x ∷ xs) i x; whole = drop_mo
 -- ---- what is left
 
 -- an ended scan gives nothing
-pub ended_left : (s : Scan) → IsEnded s → scan_left s ≡ []
+pub ended_left : (s : Scan) → IsEndedScan s → scan_left s ≡ []
 unfolding entries_from blocks_told
 ended_left s e = rw (e.0, e.1) refl
 
@@ -160,7 +121,7 @@ block_left body g position n = next_blocks body g n position (load_at_told body 
 -- ---- what a call gives
 
 still : (s t : Scan) (x : Entry) (stops : Error → Bool) → scan_left s ≡ Ok x ∷ scan_left t
-    → IsEnded s ⊎ (stops OutOfMemory ≡ true) → IsEnded t ⊎ (stops OutOfMemory ≡ true)
+    → IsEndedScan s ⊎ (stops OutOfMemory ≡ true) → IsEndedScan t ⊎ (stops OutOfMemory ≡ true)
 still s t x stops left (inl e) = absurd (let no : [] ≡ Ok x ∷ scan_left t = sym (ended_left s e)
     ∙ left in cc)
 still s t x stops left (inr m) = inr m
@@ -174,14 +135,15 @@ gave_entry s t x left = record {
       (sym (ap first whole), (ap but_first whole, still s t x stops left has.1));
 }
 
-no_memory : (s : Scan) (e : Error) (stops : Error → Bool) → e ≡ OutOfMemory → (IsEnded s → ⊥)
-    → stops e ≡ false → IsEnded s ⊎ (stops OutOfMemory ≡ true) → ⊥
+no_memory : (s : Scan) (e : Error) (stops : Error → Bool) → e ≡ OutOfMemory → (IsEndedScan s → ⊥)
+    → stops e ≡ false → IsEndedScan s ⊎ (stops OutOfMemory ≡ true) → ⊥
 no_memory s e stops is going fine (inl done) = going done
 no_memory s e stops is going fine (inr m) = let wrong : true ≡ false = sym m ∙ sym (ap stops is)
     ∙ fine in absurd cc
 
 error_gives : (s t : Scan) (e : Error) (stops : Error → Bool) (xs : List R)
-    → (is_memory e ≡ false → scan_left s ≡ Err e ∷ []) → (IsEnded s → ⊥) → IsEnded t → (b : Bool)
+    → (is_memory e ≡ false → scan_left s ≡ Err e ∷ []) → (IsEndedScan s → ⊥) → IsEndedScan t →
+    (b : Bool)
     → is_memory e ≡ b → ScanHas stops s xs → stops e ≡ false
     → (Some (Err e) ≡ first xs) × ScanHas stops t (but_first xs)
 error_gives s t e stops xs left going done true m has fine =
@@ -192,7 +154,7 @@ error_gives s t e stops xs left going done false m has fine =
 
 -- the error in front, or want of memory
 gave_error : (s t : Scan) (e : Error) → (is_memory e ≡ false → scan_left s ≡ Err e ∷ [])
-    → (IsEnded s → ⊥) → IsEnded t → Answer s (Some (Err e)) t
+    → (IsEndedScan s → ⊥) → IsEndedScan t → Answer s (Some (Err e)) t
 gave_error s t e left going done = record {
   may = tt;
   gives =
@@ -200,7 +162,7 @@ gave_error s t e left going done = record {
 }
 
 -- nothing
-gave_none : (s : Scan) → IsEnded s → Answer s None s
+gave_none : (s : Scan) → IsEndedScan s → Answer s None s
 gave_none s done = record {
   may = tt;
   gives = λ stops xs has fine.
@@ -220,13 +182,14 @@ pub record Reached (s u : Scan) : Type 0 where
   pub left : scan_left u ≡ scan_left s
   pub start : (s ≡ u) ⊎ HasNoFault s
   pub stands : (s ≡ u) ⊎ (s.entries ≡ [])
-  pub ended : IsEnded s → IsEnded u
+  pub ended : IsEndedScan s → IsEndedScan u
   pub count : ℕ
   pub counts : u.opened ≡ loads count s.opened
   pub falls : count + u.blocks ≡ s.blocks
   pub needs : count + loads_of u ≡ loads_of s
 
-ended_too : (s u : Scan) (m : Type 0) → (IsEnded s → IsEnded u) → IsEnded s ⊎ m → IsEnded u ⊎ m
+ended_too : (s u : Scan) (m : Type 0) → (IsEndedScan s → IsEndedScan u) → IsEndedScan s ⊎ m →
+    IsEndedScan u ⊎ m
 ended_too s u m on (inl e) = inl (on e)
 ended_too s u m on (inr h) = inr h
 
@@ -304,10 +267,10 @@ reached_next s u es next reached none some told ahead =
 
 -- ---- the answers
 
-has_entry : (s : Scan) (e : Entry) (es : List Entry) → s.entries ≡ e ∷ es → IsEnded s → ⊥
+has_entry : (s : Scan) (e : Entry) (es : List Entry) → s.entries ≡ e ∷ es → IsEndedScan s → ⊥
 has_entry s e es some done = let no : [] ≡ e ∷ es = sym done.0 ∙ some in cc
 
-has_block : (s : Scan) → 0 < s.blocks → IsEnded s → ⊥
+has_block : (s : Scan) → 0 < s.blocks → IsEndedScan s → ⊥
 has_block s some done = omega (arith, some, done.1)
 
 -- where an entry is left, no more blocks are needed
@@ -490,14 +453,14 @@ not_some : (n : ℕ) → (0 < n → ⊥) → n ≡ 0
 not_some zero h = refl
 not_some (suc n) h = absurd (h (omega arith))
 
-no_loads : (u : Scan) → IsEnded u → loads_of u ≡ 0
+no_loads : (u : Scan) → IsEndedScan u → loads_of u ≡ 0
 unfolding loads_from
 no_loads u done = rw (done.0, done.1) refl
 
 -- nothing is left
 pub scans_none : (s u : Scan) → AtEnd s u → (0 < u.blocks → ⊥) → ScansNext s None u
 scans_none s u end last =
-    let done : IsEnded u = (end.none, not_some u.blocks last) in
+    let done : IsEndedScan u = (end.none, not_some u.blocks last) in
     record {
       answers = answers_from s u u None end.reached (gave_none u done);
       ends = done;
@@ -530,7 +493,7 @@ none_left body g (e ∷ es) position count none =
           (lifted_told g e) (entries_from body g es position count),
     ))
 
-no_error : (s t : Scan) (e : Error) → ScansNext s (Some (Err e)) t → IsEnded s → ⊥
+no_error : (s t : Scan) (e : Error) → ScansNext s (Some (Err e)) t → IsEndedScan s → ⊥
 no_error s t e step done =
     let given = (step.answers).gives (λ _. false) [] (sym (ended_left s done), inl done) refl in
     let wrong : Some (Err e) ≡ first {A = R} [] = given.0 in absurd cc

@@ -15,11 +15,12 @@ use Rattle.sst_entries.specs.Stream.{Deals, NoneStops, Runs, answer_stops, back_
 use Rattle.sst_entries.specs.Stream.{first, front_of, ok_results}
 use Rattle.sst_entries.proofs.Booleans.{apart, is_false}
 use Rattle.sst_entries.proofs.StreamLemmas.{map_reverse}
+use Rattle.sst_entries.proofs.Refusals.{memory_is}
 use Rattle.sst_blocks.specs.declared.opened.Opened.{Opened}
 use Rattle.sst_blocks.specs.Handle.{Handle}
 use Rattle.lsm_formats.specs.Table.{IsTable}
-use Rattle.lsm_block_indexes.specs.Dealt.{DealsEnding, up_to_error}
-use Rattle.lsm_block_indexes.specs.Left.{loaded}
+use Rattle.lsm_block_indexes.specs.Dealt.{DealsEnding, ended_at_error}
+use Rattle.lsm_block_indexes.specs.Left.{with_index_loads}
 use Rattle.lsm_iters.specs.Bounds.{lower_edge, upper_edge}
 use Rattle.lsm_iters.specs.Lift.{lift, lift_told}
 use Rattle.lsm_iters.specs.Range.{Next, Range, RangeGives, back_next, data_loaded, front_next}
@@ -33,7 +34,6 @@ use Rattle.lsm_readers.specs.Ranges.{DealsAll, DealsWithin, IsRangeOf, LoadsAtMo
 use Rattle.lsm_readers.specs.Ranges.{bounded, index_within, range_told}
 use Rattle.lsm_readers.specs.Table.{IsOpen, OpenTable}
 use Rattle.lsm_readers.proofs.FileRanges.{file_blocks, file_rows}
-use Rattle.lsm_readers.proofs.Scans.{memory_is}
 
 abbrev R : Type 0
 R = Result Entry Error
@@ -62,22 +62,22 @@ module _ (stops : Error → Bool) (memory : stops OutOfMemory ≡ true) where
 
 -- the answers at the back, by the list in reverse
 abbrev BackOk : List R → List Direction → Type 0
-BackOk zs ends = up_to_error (first zs ∷ deal (reverse (but_first zs)) ends) ≡ first zs
+BackOk zs ends = ended_at_error (first zs ∷ deal (reverse (but_first zs)) ends) ≡ first zs
     ∷ deal (reverse (but_first zs)) ends
 
 by_back : (ys : List Entry) (ends : List Direction)
-    → ((us : List Entry) → up_to_error (deal (ok_results us) ends) ≡ deal (ok_results us) ends)
+    → ((us : List Entry) → ended_at_error (deal (ok_results us) ends) ≡ deal (ok_results us) ends)
     → BackOk (ok_results ys) ends
 by_back [] ends more = ap (λ (rs : List (Option R)). None ∷ rs) (more [])
 by_back (y ∷ ys) ends more =
     let zs = reverse (ok_results ys) in
-    let rest : up_to_error (deal zs ends) ≡ deal zs ends =
-    subst (λ (xs : List R). up_to_error (deal xs ends) ≡ deal xs ends) (sym (map_reverse ys))
+    let rest : ended_at_error (deal zs ends) ≡ deal zs ends =
+    subst (λ (xs : List R). ended_at_error (deal xs ends) ≡ deal xs ends) (sym (map_reverse ys))
     (more (reverse ys)) in
     ap (λ (rs : List (Option R)). Some (Ok y) ∷ rs) rest
 
 deal_ok : (xs : List Entry) (ends : List Direction)
-    → up_to_error (deal (ok_results xs) ends) ≡ deal (ok_results xs) ends
+    → ended_at_error (deal (ok_results xs) ends) ≡ deal (ok_results xs) ends
 deal_ok xs [] = refl
 deal_ok [] (Front ∷ ends) = ap (λ (rs : List (Option R)). None ∷ rs) (deal_ok [] ends)
 deal_ok (x ∷ xs) (Front ∷ ends) = ap (λ (rs : List (Option R)). Some (Ok x) ∷ rs) (deal_ok xs ends)
@@ -99,15 +99,15 @@ data_more : (n : ℕ) (o : Opened) → (data_loaded n o).data_loads ≤ o.data_l
 data_more zero o = omega arith
 data_more (suc n) o = omega (arith, data_more n o)
 
-index_more : (n : ℕ) (o : Opened) → (loaded n o).index_loads ≤ o.index_loads + n
+index_more : (n : ℕ) (o : Opened) → (with_index_loads n o).index_loads ≤ o.index_loads + n
 index_more zero o = omega arith
 index_more (suc n) o = omega (arith, index_more n o)
 
-same_filter : (n : ℕ) (o : Opened) → (loaded n o).filter_loads ≡ o.filter_loads
+same_filter : (n : ℕ) (o : Opened) → (with_index_loads n o).filter_loads ≡ o.filter_loads
 same_filter zero o = refl
 same_filter (suc n) o = same_filter n o
 
-same_meta : (n : ℕ) (o : Opened) → (loaded n o).meta_loads ≡ o.meta_loads
+same_meta : (n : ℕ) (o : Opened) → (with_index_loads n o).meta_loads ≡ o.meta_loads
 same_meta zero o = refl
 same_meta (suc n) o = same_meta n o
 

@@ -29,10 +29,8 @@ part_admits body hash None = known false
 part_admits body hash (Some place) = block_admits body hash place
 
 -- whether a table's filter may have a key of a hash: with a top level its partition is asked, which
--- the key
--- at the highest bound leads to; else its one block, which stays loaded or is loaded by each read;
--- without
--- a filter, yes
+-- the key at the highest bound leads to; else its one block, which stays loaded or is loaded by
+-- each read; without a filter, yes
 abbrev pub filter_admits : List ℕ → Option (List Handle) → Option BloomFilter → Option Place
     → List ℕ
     → ℕ → Read Bool
@@ -91,8 +89,7 @@ most_filter_loads None None (Some place) = 1
 most_filter_loads None None None = 0
 
 -- the counts before and after a point read: at most one data block, one index block and one filter
--- block
--- were loaded, and none that stays loaded
+-- block were loaded, and none that stays loaded
 pub record LoadsFew (parts : Parts) (old new : Opened) : Type 0 where
   pub data_few : new.data_loads ≤ old.data_loads + 1
   pub index_few : new.index_loads ≤ old.index_loads + most_index_loads parts.pinned.index

@@ -23,8 +23,7 @@ NamesBlocksOf t index = (lower : Option (List ℕ × ℕ)) (upper : Option (List
     ok_results (window (handles t.version (t.file).content.blocks) lower upper)
 
 -- two tables of a list are cut alike: in one version, for data blocks of one size, with spills in
--- the
--- same places
+-- the same places
 pub record AreCutAlike {a b : List ℕ} {es : List Entry} (t : IsTable a es) (u : IsTable b es)
     : Type 0 where
   pub version : t.version ≡ u.version

@@ -12,7 +12,9 @@ use Rattle.sst_blocks.specs.Place.{Place, place_of}
 use Rattle.lsm_formats.specs.Partitions.{index_tops}
 use Rattle.lsm_formats.specs.declared.options.IndexKind.{IndexKind}
 use Rattle.lsm_formats.specs.declared.options.IndexKind.TheVariants.{Full as FullIndex}
-use Rattle.lsm_formats.specs.declared.options.IndexKind.TheVariants.{Partitioned as PartitionedIndex}
+use Rattle.lsm_formats.specs.declared.options.IndexKind.TheVariants.{
+  Partitioned as PartitionedIndex,
+}
 use Rattle.lsm_block_indexes.specs.declared.kinds.BlockIndexImpl.{BlockIndexImpl}
 use Rattle.lsm_block_indexes.specs.declared.kinds.BlockIndexImpl.TheVariants.{Full, VolatileFull}
 use Rattle.lsm_block_indexes.specs.declared.kinds.BlockIndexImpl.TheVariants.{TwoLevel}
@@ -20,7 +22,9 @@ use Rattle.lsm_block_indexes.specs.Index.{Index, full as full_index, on_demand}
 use Rattle.lsm_block_indexes.specs.Index.{two_level as two_level_index}
 use Rattle.lsm_readers.specs.declared.pinned.PinnedBlockIndex.{PinnedBlockIndex}
 use Rattle.lsm_readers.specs.declared.pinned.PinnedBlockIndex.TheVariants.{Full as FullKept}
-use Rattle.lsm_readers.specs.declared.pinned.PinnedBlockIndex.TheVariants.{VolatileFull as NothingKept}
+use Rattle.lsm_readers.specs.declared.pinned.PinnedBlockIndex.TheVariants.{
+  VolatileFull as NothingKept,
+}
 use Rattle.lsm_readers.specs.declared.pinned.PinnedBlockIndex.TheVariants.{TwoLevel as TopsKept}
 use Rattle.lsm_readers.specs.declared.regions.ParsedRegions.{ParsedRegions}
 use Rattle.lsm_readers.specs.Read.{◌>>=◌, Read, block_read, known, read_map}
@@ -32,12 +36,12 @@ pub data PinnedIndex : Type 0 where
   volatile : PinnedIndex
   two_level : List Handle → PinnedIndex
 
-abbrev pub index_of : {A : Type 0} → PinnedBlockIndex A → PinnedIndex
-index_of (FullKept index) = full index
-index_of NothingKept = volatile
-index_of (TopsKept tops) = two_level tops
+abbrev pub pinned_index_of : {A : Type 0} → PinnedBlockIndex A → PinnedIndex
+pinned_index_of (FullKept index) = full index
+pinned_index_of NothingKept = volatile
+pinned_index_of (TopsKept tops) = two_level tops
 
--- ---- opening it
+-- ---- opening an index
 
 -- the handles of the index block at a place
 abbrev pub handles_told : List ℕ → Place → Result (List Handle) Error
@@ -52,9 +56,9 @@ index_told body regions pin =
     else (if pin then (handles_told body regions.tli >>= λ handles. Ok (full handles))
     else Ok volatile)
 
--- what stays loaded of an index that was written and whose blocks begin at a position: a full one
--- where it
--- is to, of one with partitions the top level
+-- what stays loaded of an index as it was written, whose partitions begin at a position: of a full
+-- one its handles where it is to stay loaded, and else nothing; of one with partitions the handles
+-- of its top level
 abbrev pub index_said : IndexKind → TableVersion → ℕ → List Handle → List (List Handle) → Bool
     → PinnedIndex
 index_said FullIndex v at hs parts pin = if pin then full hs else volatile
@@ -66,28 +70,28 @@ index_len (full handles) tli = tli.size - header_len
 index_len volatile tli = 0
 index_len (two_level tops) tli = tli.size - header_len
 
--- ---- a lookup by it
+-- ---- a lookup by an index
 
 -- where the first handle leads that reaches a key at a bound
 abbrev pub place_in : List Handle → List ℕ → ℕ → Option Place
 place_in handles key bound = option_map place_of (find (reaches key bound) handles)
 
 -- where the handle leads that the index block at a place has for a key at a bound
-abbrev pub handle_at : List ℕ → List ℕ → ℕ → Place → Read (Option Place)
-handle_at body key bound place =
+abbrev pub handle_in_block : List ℕ → List ℕ → ℕ → Place → Read (Option Place)
+handle_in_block body key bound place =
     read_map (λ block. place_in (handles_of block) key bound) (block_read body place IndexBlock)
 
--- where that of a partition leads; where there is no partition, nowhere
+-- where the handle leads that the partition at a place has for a key at a bound; nowhere where
+-- there is no partition
 abbrev pub handle_in_part : List ℕ → List ℕ → ℕ → Option Place → Read (Option Place)
 handle_in_part body key bound None = known None
-handle_in_part body key bound (Some place) = handle_at body key bound place
+handle_in_part body key bound (Some place) = handle_in_block body key bound place
 
 -- where the first data block lies that reaches a key at a bound: by the handles that stay loaded,
--- by the
--- one block of the index, or by the one partition that the top level leads to
+-- by the one block of the index, or by the one partition that the top level leads to
 abbrev pub handle_by : List ℕ → PinnedIndex → Place → List ℕ → ℕ → Read (Option Place)
 handle_by body (full handles) tli key bound = known (place_in handles key bound)
-handle_by body volatile tli key bound = handle_at body key bound tli
+handle_by body volatile tli key bound = handle_in_block body key bound tli
 handle_by body (two_level tops) tli key bound =
     handle_in_part body key bound (place_in tops key bound)
 
@@ -97,11 +101,10 @@ most_index_loads (full handles) = 0
 most_index_loads volatile = 1
 most_index_loads (two_level tops) = 1
 
--- ---- an index over it
+-- ---- an index over what stays loaded, and its kind
 
 -- the handles that stay loaded; or those of the one block at a place, on demand; or those of the
--- partitions
--- that the handles of the top level name
+-- partitions that the handles of the top level name
 abbrev pub index_over : List ℕ → PinnedIndex → Place → Index
 index_over body (full handles) tli = full_index handles
 index_over body volatile tli = on_demand body tli
@@ -114,10 +117,10 @@ pub data Kind : Type 0 where
   on_each_read : Kind
   partitioned : Kind
 
-abbrev pub kind_of : {A : Type 0} → BlockIndexImpl A → Kind
-kind_of (Full index) = whole
-kind_of (VolatileFull index) = on_each_read
-kind_of (TwoLevel index) = partitioned
+abbrev pub index_kind_of : {A : Type 0} → BlockIndexImpl A → Kind
+index_kind_of (Full index) = whole
+index_kind_of (VolatileFull index) = on_each_read
+index_kind_of (TwoLevel index) = partitioned
 
 -- the kind of the index over what stays loaded
 abbrev pub kind_kept : PinnedIndex → Kind

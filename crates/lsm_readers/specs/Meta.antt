@@ -164,7 +164,8 @@ compressions_told es =
 unfoldable pub created_told : List Entry → Result ℕ Error
 created_told es = item_told es item.CreatedAt >>= number16_told
 
--- the numbers that are read before the moment, in this order
+-- the numbers that are read before the moment, in this order; the count of filter blocks is read
+-- behind that of index blocks for its refusal alone
 unfoldable pub numbers_told : List Entry → Result Numbers Error
 numbers_told es =
     u64_told es item.TableId >>= λ id.

@@ -56,13 +56,13 @@ pinned_told body regions pin_filter pin_index =
     Ok (record { index = index; filter_tops = filter_tops; filter = filter })
 
 -- the highest number passes u64
-abbrev pub number_told : Facts → ℕ → Result Facts Error
-number_told facts g =
+abbrev pub facts_fitting : Facts → ℕ → Result Facts Error
+facts_fitting facts g =
     if nat_lt (2 ^ 64 - 1) (facts.seqno_max + g) then Err GlobalSeqNoTooLarge else Ok facts
 
 -- what the meta block says, where the global number fits
 abbrev pub fitting_told : List ℕ → Place → ℕ → Result Facts Error
-fitting_told body place g = meta_told body place >>= λ facts. number_told facts g
+fitting_told body place g = meta_told body place >>= λ facts. facts_fitting facts g
 
 -- where the parts lie, by the sections that the trailer names
 abbrev pub places_told : List ℕ → Result ParsedRegions Error
@@ -73,7 +73,7 @@ unfoldable pub parts_told : List ℕ → ℕ → Bool → Bool → Result Parts 
 parts_told bytes g pin_filter pin_index =
     places_told bytes >>= λ regions.
     meta_told (body_of bytes) regions.metadata >>= λ facts.
-    number_told facts g >>= λ facts.
+    facts_fitting facts g >>= λ facts.
     pinned_told (body_of bytes) regions pin_filter pin_index >>= λ pinned.
     Ok (record { facts = facts; regions = regions; pinned = pinned })
 
@@ -96,8 +96,8 @@ abbrev pub range_in : Result Facts Error → Interval
 range_in (Ok facts) = facts.key_range
 range_in (Err e) = interval [] []
 
-abbrev pub range_told : List ℕ → Interval
-range_told bytes =
+abbrev pub key_range_told : List ℕ → Interval
+key_range_told bytes =
     range_in (places_told bytes >>= λ regions. meta_told (body_of bytes) regions.metadata)
 
 -- the size of a part, or 0 where it is absent

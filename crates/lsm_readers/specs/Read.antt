@@ -43,9 +43,9 @@ abbrev pub loads_behind : {X Y : Type 0} → Result X Error → (X → Read Y) �
 loads_behind (Ok x) next = (next x).loads
 loads_behind (Err e) next = []
 
-abbrev pub early_behind : {X Y : Type 0} → Result X Error → (X → Read Y) → Option Error
-early_behind (Ok x) next = (next x).early
-early_behind (Err e) next = None
+abbrev pub early_then : {X Y : Type 0} → Result X Error → (X → Read Y) → Option Error
+early_then (Ok x) next = (next x).early
+early_then (Err e) next = None
 
 -- what comes behind a load takes memory first
 abbrev pub early_of : List BlockType → Option Error → Option Error → Option Error
@@ -57,7 +57,7 @@ abbrev pub read_then : {X Y : Type 0} → Read X → (X → Read Y) → Read Y
 read_then r next = record {
   told = r.told >>= λ x. (next x).told;
   loads = r.loads ++ loads_behind r.told next;
-  early = early_of r.loads r.early (early_behind r.told next);
+  early = early_of r.loads r.early (early_then r.told next);
 }
 
 -- the counts after loads of some kinds
@@ -71,8 +71,7 @@ wants_memory (Ok x) = false
 wants_memory (Err e) = is_memory e
 
 -- a call made the loads of a read: all of them, or where it wanted memory those up to some load,
--- the
--- first in any case
+-- the first in any case
 pub record Opens {X : Type 0} (r : Result X Error) (loads : List BlockType) (old new : Opened)
     : Type 0 where
   pub made : ℕ
@@ -82,8 +81,7 @@ pub record Opens {X : Type 0} (r : Result X Error) (loads : List BlockType) (old
   pub some : 0 < length loads → 0 < made
 
 -- a call did a read: it answered what the read tells, memory aside, told an early fault first, and
--- made
--- its loads; without any it refuses nothing
+-- made its loads; without any it refuses nothing
 pub record DoesRead {X : Type 0} (r : Result X Error) (read : Read X)
     (old new : Opened) : Type 0 where
   pub told : Gives (λ (x : X). x) r read.told

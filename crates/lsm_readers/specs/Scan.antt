@@ -27,8 +27,7 @@ abbrev pub behind : ℕ → Loaded → ℕ
 behind position b = position + header_len + length b.payload
 
 -- the data blocks that lie one behind another from a position on: so many of them, or up to the
--- first
--- that cannot be loaded
+-- first that cannot be loaded
 unfoldable pub blocks_told : List ℕ → ℕ → ℕ → List (Result Loaded Error)
 blocks_told body position zero = []
 blocks_told body position (suc n) =
@@ -66,8 +65,7 @@ block_told body position =
     load_at_told body position Data >>= λ b. Ok (entries_of b, behind position b)
 
 -- a scan: the bytes before the trailer, the entries that are left of the present block, where the
--- next
--- block begins, how many blocks are still to be read, the global number, and what was loaded
+-- next block begins, how many blocks are still to be read, the global number, and what was loaded
 pub record Scan : Type 0 where
   pub body : List ℕ
   pub entries : List Entry
@@ -84,12 +82,12 @@ scan_left s = entries_from s.body s.global_seqno s.entries s.position s.blocks
 abbrev pub ended : Scan → Scan
 ended s = record s { entries = []; blocks = 0 }
 
-abbrev pub IsEnded : Scan → Type 0
-IsEnded s = (s.entries ≡ []) × (s.blocks ≡ 0)
+abbrev pub IsEndedScan : Scan → Type 0
+IsEndedScan s = (s.entries ≡ []) × (s.blocks ≡ 0)
 
 -- a scan stands for what is left, where it reads no more or want of memory stops its reader
 abbrev pub ScanHas : (Error → Bool) → Scan → List (Result Entry Error) → Type 0
-ScanHas stops s xs = (xs ≡ scan_left s) × (IsEnded s ⊎ (stops OutOfMemory ≡ true))
+ScanHas stops s xs = (xs ≡ scan_left s) × (IsEndedScan s ⊎ (stops OutOfMemory ≡ true))
 
 -- an entry was taken from the present block, or its fault, which ends the scan
 pub record TakesEntry (s : Scan) (r : Result Entry Error) (t : Scan) : Type 0 where
@@ -126,8 +124,7 @@ abbrev pub loads_of : Scan → ℕ
 loads_of s = unless_left s.entries (loads_from s.body s.position s.blocks)
 
 -- where no entry is left and a block is to be read, what its header says, its checksum and the room
--- for
--- its count come before any want of memory
+-- for its count come before any want of memory
 abbrev pub FaultsAtBlock : Scan → Option (Result Entry Error) → Type 0
 FaultsAtBlock s r =
     s.entries ≡ [] → 0 < s.blocks → (e : Error) → position_fault s.body s.position Data ≡ Some e →
@@ -141,13 +138,12 @@ FaultsAtEntry s r =
     lifted_told s.global_seqno e ≡ Err f → r ≡ Some (Err f)
 
 -- one call: it gives the first of what is left; an error ends it for good; each load counts, and
--- lowers
--- the number of blocks by one. As many blocks are loaded as the next entry needs; want of memory
--- may
--- stop at any of them, at the first only where its header, its checksum and its count have no fault
+-- lowers the number of blocks by one. As many blocks are loaded as the next entry needs; want of
+-- memory may stop at any of them, at the first only where its header, its checksum and its count
+-- have no fault
 pub record ScansNext (s : Scan) (r : Option (Result Entry Error)) (t : Scan) : Type 0 where
   pub answers : Answers (λ _. Unit {0}) ScanHas front_of s r t
-  pub ends : MatchOption r (IsEnded t) (λ x. IfErr x (λ _. IsEnded t))
+  pub ends : MatchOption r (IsEndedScan t) (λ x. IfErr x (λ _. IsEndedScan t))
   pub early : FaultsAtBlock s r
   pub lifts : FaultsAtEntry s r
   pub count : ℕ
@@ -170,8 +166,7 @@ abbrev pub scan_size : Scan → ℕ
 scan_size s = length (scan_left s) + s.blocks
 
 -- a scan of a table of a list deals it, its numbers lifted; where the list has an entry, nothing
--- but
--- want of memory refuses
+-- but want of memory refuses
 abbrev pub ScansList : Result Scan Error → List Entry → ℕ → Type 0
 ScansList r es g = MatchResult r
     (λ s. (stops : Error → Bool) → stops OutOfMemory ≡ true →

@@ -2,14 +2,14 @@
 use Rattle.std.specs.Prelude.{◌≡◌, ℕ, ◌<◌, ◌^◌, Bool, List, length, Ok}
 use Rattle.lsm_readers.specs.declared.inner.Inner.{Inner}
 use Rattle.lsm_readers.specs.declared.inner.PinnedBlocks.{PinnedBlocks}
-use Rattle.lsm_readers.specs.IndexKinds.{index_of}
+use Rattle.lsm_readers.specs.IndexKinds.{pinned_index_of}
 use Rattle.lsm_readers.specs.Meta.{facts_of}
 use Rattle.lsm_readers.specs.Parts.{Parts, Pinned, recovered_told}
 
 -- which blocks stay loaded
 abbrev pub pinned_of : {A : Type 0} → PinnedBlocks A → Pinned
 pinned_of blocks = record {
-  index = index_of blocks.index;
+  index = pinned_index_of blocks.index;
   filter_tops = blocks.filter_index;
   filter = blocks.filter_block;
 }
@@ -19,7 +19,7 @@ parts_of inner = record {
   facts = facts_of inner.metadata;
   regions = inner.regions;
   pinned = record {
-    index = index_of inner.pinned_block_index;
+    index = pinned_index_of inner.pinned_block_index;
     filter_tops = inner.pinned_filter_index;
     filter = inner.pinned_filter_block;
   };

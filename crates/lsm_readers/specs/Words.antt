@@ -19,13 +19,13 @@ pub use Rattle.lsm_readers.specs.BlockIndexes.{table_index}
 pub use Rattle.lsm_readers.specs.Answer.{LoadsFew, admission, admitted_handle, answer, block_admits}
 pub use Rattle.lsm_readers.specs.Answer.{filter_admits}
 pub use Rattle.lsm_readers.specs.Answer.{lift, lifted, match_at, table_answer}
-pub use Rattle.lsm_readers.specs.IndexKinds.{handle_at, handle_by, handles_told, index_len}
-pub use Rattle.lsm_readers.specs.IndexKinds.{index_of, index_over, index_told}
-pub use Rattle.lsm_readers.specs.IndexKinds.{kind_for, kind_kept, kind_of, on_each_read}
+pub use Rattle.lsm_readers.specs.IndexKinds.{handle_in_block, handle_by, handles_told, index_len}
+pub use Rattle.lsm_readers.specs.IndexKinds.{pinned_index_of, index_over, index_told}
+pub use Rattle.lsm_readers.specs.IndexKinds.{kind_for, kind_kept, index_kind_of, on_each_read}
 pub use Rattle.lsm_readers.specs.IndexKinds.{partitioned, volatile}
 pub use Rattle.lsm_readers.specs.OfList.{SaysList, ends_of, list_told}
 pub use Rattle.lsm_readers.specs.Parts.{early_fault, early_in, filter_told, fitting_told}
-pub use Rattle.lsm_readers.specs.Parts.{filter_len, number_told, parts_told}
+pub use Rattle.lsm_readers.specs.Parts.{filter_len, facts_fitting, parts_told}
 pub use Rattle.lsm_readers.specs.Parts.{pinned_filter, pinned_told, place_size, places_told}
 pub use Rattle.lsm_readers.specs.Parts.{recovered_told}
 pub use Rattle.lsm_readers.specs.Parts.{tops_told}

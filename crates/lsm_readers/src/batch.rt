@@ -174,7 +174,8 @@ fn begins_several(lookups: &[Lookup], index: usize) -> bool {
 /// places, each of them walks over the block.
 fn load_for_several<S: LoadBlocks>(source: &mut S, handle: Option<BlockHandle>)
     ensures body { S.body source.new ≡ S.body source.old }
-    ensures opened { IfSome handle (λ _. S.opened source.new ≡ with_load Data (S.opened source.old)) }
+    ensures opened { IfSome handle (λ _. S.opened source.new ≡
+        with_load Data (S.opened source.old)) }
 {
     if let Some(handle) = handle {
         drop(source.load(&handle, BlockType::Data));

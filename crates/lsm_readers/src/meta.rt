@@ -219,7 +219,8 @@ fn created_item<A: Allocator>(block: &DataBlock<A>) -> Result<u128, Error>
     number
 }
 
-/// The numbers of a table that are read before its moment, in this order.
+/// The numbers of a table that are read before its moment, in this order. The count of filter
+/// blocks is read behind that of index blocks, for its refusal alone, and is not kept.
 #[derive(Clone, Copy)]
 struct Numbers {
     id: TableId,

@@ -2,9 +2,10 @@
 //! the kinds of an index.
 ghost use Rattle.std.specs.Prelude.{◌≡◌, List, IfOk, IfErr};
 ghost use Rattle.sst_entries.specs.declared.error.Error.TheVariants.{OutOfMemory};
-ghost use Rattle.lsm_readers.specs.Words.{DoesRead, Gives, Handle, body_of, handle_at, handle_by};
-ghost use Rattle.lsm_readers.specs.Words.{handles_told, index_len, index_of, index_over};
-ghost use Rattle.lsm_readers.specs.Words.{index_read, index_told, kind_kept, kind_of};
+ghost use Rattle.lsm_readers.specs.Words.{DoesRead, Gives, Handle, body_of, handle_in_block};
+ghost use Rattle.lsm_readers.specs.Words.{handle_by};
+ghost use Rattle.lsm_readers.specs.Words.{handles_told, index_len, pinned_index_of, index_over};
+ghost use Rattle.lsm_readers.specs.Words.{index_read, index_told, kind_kept, index_kind_of};
 ghost use Rattle.lsm_readers.specs.Words.{on_each_read, partitioned};
 ghost use Rattle.lsm_block_indexes.specs.Index.{on_demand, two_level};
 
@@ -47,7 +48,7 @@ fn handle_at<S: LoadBlocks>(
     key: &[u8],
     seqno: SeqNo,
 ) -> Result<Option<BlockHandle>, Error>
-    ensures read { let read = handle_at (S.body source.old) key.now seqno handle.now in
+    ensures read { let read = handle_in_block (S.body source.old) key.now seqno handle.now in
         DoesRead result read (S.opened source.old) (S.opened source.new) }
     ensures body { S.body source.new ≡ S.body source.old }
 {
@@ -61,7 +62,7 @@ fn volatile_index<A: Allocator + Clone>(
 ) -> Result<BlockIndexImpl<A>, Error>
     ensures index { let read = on_demand (body_of source.now) handle in
         IfOk result (λ index. index_read index ≡ read) }
-    ensures kind { IfOk result (λ index. kind_of index ≡ on_each_read) }
+    ensures kind { IfOk result (λ index. index_kind_of index ≡ on_each_read) }
     ensures err { IfErr result (λ e. e ≡ OutOfMemory) }
 {
     let (alloc, source) = (source.allocator().clone()?, source.clone()?);
@@ -76,7 +77,7 @@ fn two_level_index<A: Allocator + Clone>(
 ) -> Result<BlockIndexImpl<A>, Error>
     ensures index { let read = two_level (body_of source.now) tops.now in
         IfOk result (λ index. index_read index ≡ read) }
-    ensures kind { IfOk result (λ index. kind_of index ≡ partitioned) }
+    ensures kind { IfOk result (λ index. index_kind_of index ≡ partitioned) }
     ensures err { IfErr result (λ e. e ≡ OutOfMemory) }
 {
     let (alloc, source) = (source.allocator().clone()?, source.clone()?);
@@ -93,7 +94,8 @@ impl<A: Allocator + Clone> PinnedBlockIndex<A> {
         regions: &ParsedRegions,
         pin_index: bool,
     ) -> Result<PinnedBlockIndex<A>, Error>
-        ensures { Gives index_of result (index_told (body_of source.now) regions.now pin_index) }
+        ensures { Gives pinned_index_of result
+            (index_told (body_of source.now) regions.now pin_index) }
     {
         if regions.index.is_some() {
             return Ok(PinnedBlockIndex::TwoLevel(load_handles(source, &regions.tli)?));
@@ -110,11 +112,13 @@ impl<A: Allocator + Clone> PinnedBlockIndex<A> {
     pub(crate) fn over(
         &self,
         source: &BlockSource<A>,
-        tli: BlockHandle,
+        tli: &BlockHandle,
     ) -> Result<BlockIndexImpl<A>, Error>
-        ensures index { let read = index_over (body_of source.now) (index_of self.now) tli in
+        ensures index { let kept = pinned_index_of self.now in
+            let read = index_over (body_of source.now) kept tli.now in
             IfOk result (λ index. index_read index ≡ read) }
-        ensures kind { IfOk result (λ index. kind_of index ≡ kind_kept (index_of self.now)) }
+        ensures kind { let kept = pinned_index_of self.now in
+            IfOk result (λ index. index_kind_of index ≡ kind_kept kept) }
         ensures err { IfErr result (λ e. e ≡ OutOfMemory) }
     {
         match self {
@@ -122,7 +126,7 @@ impl<A: Allocator + Clone> PinnedBlockIndex<A> {
                 let handles = index.inner().clone()?;
                 Ok(BlockIndexImpl::Full(FullBlockIndex::new(handles)))
             }
-            PinnedBlockIndex::VolatileFull => volatile_index(source, tli),
+            PinnedBlockIndex::VolatileFull => volatile_index(source, *tli),
             PinnedBlockIndex::TwoLevel(tops) => two_level_index(source, tops),
         }
     }
@@ -133,17 +137,22 @@ impl<A: Allocator> PinnedBlockIndex<A> {
     /// 0 where none does.
     #[inline]
     pub(crate) fn payload_len(&self, tli: &BlockHandle) -> usize
-        ensures { result ≡ index_len (index_of self.now) tli.now }
+        ensures { result ≡ index_len (pinned_index_of self.now) tli.now }
     {
         match self {
             PinnedBlockIndex::VolatileFull => 0,
-            _ => (tli.size() as usize).saturating_sub(Header::serialized_len()),
+            // Nothing is cut off: a block that was loaded is no shorter than its header.
+            PinnedBlockIndex::Full(_) | PinnedBlockIndex::TwoLevel(_) => {
+                (tli.size() as usize).saturating_sub(Header::serialized_len())
+            }
         }
     }
 }
 
 /// Where the first data block lies that reaches a key below a stored number, by what stays loaded
 /// of the index, whose one block or top level lies at a place.
+///
+/// It is no method of the index, which would need a bound: the source is to have its allocator.
 #[inline]
 pub(crate) fn handle_by<S: LoadBlocks>(
     source: &mut S,
@@ -152,8 +161,8 @@ pub(crate) fn handle_by<S: LoadBlocks>(
     key: &[u8],
     seqno: SeqNo,
 ) -> Result<Option<BlockHandle>, Error>
-    ensures read { let read = handle_by (S.body source.old) (index_of index.now) tli.now key.now
-        seqno in
+    ensures read { let kept = pinned_index_of index.now in
+        let read = handle_by (S.body source.old) kept tli.now key.now seqno in
         DoesRead result read (S.opened source.old) (S.opened source.new) }
     ensures body { S.body source.new ≡ S.body source.old }
 {

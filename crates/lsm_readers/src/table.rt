@@ -11,8 +11,9 @@ ghost use Rattle.lsm_readers.specs.Words.{ends_of};
 ghost use Rattle.lsm_readers.specs.Words.{facts_of, fault_of, filter_len, filter_told};
 ghost use Rattle.lsm_readers.specs.Words.{fitting_told, hash_of, index_len, key_bound, lift};
 ghost use Rattle.lsm_readers.specs.Words.{list_told, load_at_told, load_told, none_opened, nowhere};
-ghost use Rattle.lsm_readers.specs.Words.{number_told, overlaps_bounds, parts_of, parts_told};
-ghost use Rattle.lsm_readers.specs.Words.{AreCutAlike, OpenedWith, TellAlike, kind_for, kind_of};
+ghost use Rattle.lsm_readers.specs.Words.{facts_fitting, overlaps_bounds, parts_of, parts_told};
+ghost use Rattle.lsm_readers.specs.Words.{AreCutAlike, OpenedWith, TellAlike, kind_for};
+ghost use Rattle.lsm_readers.specs.Words.{index_kind_of};
 ghost use Rattle.lsm_readers.specs.Words.{index_read, pinned_filter, pinned_of, pinned_told};
 ghost use Rattle.lsm_readers.specs.Words.{place_fault, place_size, places_told, point, table_index};
 ghost use Rattle.lsm_readers.specs.Words.{position_fault, recovered_told, scan_told, table_answer};
@@ -94,7 +95,7 @@ impl<A: Allocator> Deref for Table<A> {
 impl<A: Allocator> Ranged for Table<A> {
     ghost use Rattle.std.proofs.Common.{ap};
     ghost use Rattle.std.specs.Prelude.{List, ℕ};
-    ghost use Rattle.lsm_readers.specs.Parts.{range_told};
+    ghost use Rattle.lsm_readers.specs.Parts.{key_range_told};
 
     type Alloc = A;
 
@@ -103,13 +104,13 @@ impl<A: Allocator> Ranged for Table<A> {
 
     ghost meaning = { λ t. (t.bytes, t.global_seqno) };
 
-    ghost range = { λ t. range_told t.bytes };
+    ghost range = { λ t. key_range_told t.bytes };
 
     fn key_range(&self) -> &KeyRange<A> {
         &self.inner.metadata.key_range
     }
 
-    ghost steady = { λ x y same. ap (λ (m : List ℕ × ℕ). range_told m.0) same };
+    ghost steady = { λ x y same. ap (λ (m : List ℕ × ℕ). key_range_told m.0) same };
 }
 
 impl<A: Allocator> fmt::Debug for Table<A> {
@@ -190,7 +191,7 @@ fn load_pinned<A: Allocator + Clone>(
 /// pass `u64`.
 fn test_number<A: Allocator>(metadata: &ParsedMeta<A>, global_seqno: SeqNo) -> Result<(), Error>
     ensures told { let facts = facts_of metadata.now in
-        Gives (λ (_ : _). facts) result (number_told facts global_seqno) }
+        Gives (λ (_ : _). facts) result (facts_fitting facts global_seqno) }
     ensures alone { IfErr result (λ e. e ≡ GlobalSeqNoTooLarge) }
 {
     match metadata.seqnos.1.checked_add(global_seqno) {
@@ -442,7 +443,7 @@ impl<A: Allocator + Clone> Table<A> {
         // It is of the kind that the table's sections and the pin at opening say.
         ensures kind { (pin_filter pin_index : Bool) → OpenedWith self.now pin_filter pin_index →
             IfOk result (λ index.
-            kind_of index ≡ kind_for (is_some self.now.parts.regions.index) pin_index) }
+            index_kind_of index ≡ kind_for (is_some self.now.parts.regions.index) pin_index) }
         // On a table of a list it has the handles of the table's data blocks between any two edges.
         ensures list { (es : List Entry) (t : IsTable self.now.bytes es) →
             IfOk result (λ index. NamesBlocksOf t (index_read index)) }
@@ -451,7 +452,7 @@ impl<A: Allocator + Clone> Table<A> {
         let inner: &Inner<A> = &self.inner;
         inner
             .pinned_block_index
-            .over(&self.source, inner.regions.tli)
+            .over(&self.source, &inner.regions.tli)
     }
 }
 

@@ -2,7 +2,7 @@
 use Rattle.std.proofs.Common.{◌≡◌, refl, sym, ap, subst, ◌∙◌, ℕ, zero, suc, ◌+◌, ◌-◌, Bool}
 use Rattle.std.proofs.Common.{true, false, ◌==◌, List, [], ◌∷◌, ◌++◌, drop, take}
 use Rattle.std.proofs.Common.{IsTrue, inl, inr, arith}
-use Rattle.std.specs.Prelude.{Option, Some, None, Ok, ◌&&◌, ◌||◌, map, if◌then◌else◌}
+use Rattle.std.specs.Prelude.{Option, Some, None, Ok, ◌&&◌, map, if◌then◌else◌}
 use Rattle.std.specs.List.{AllByRecursion, list_all}
 use Rattle.std.specs.declared.ops.Bound.{Bound}
 use Rattle.std.specs.declared.ops.Bound.TheVariants.{Unbounded}
@@ -15,6 +15,7 @@ use Rattle.sst_entries.specs.Key.{key_lt}
 use Rattle.sst_entries.specs.Point.{is_from, is_to, within}
 use Rattle.sst_entries.specs.Stream.{ok_results}
 use Rattle.sst_entries.proofs.Booleans.{and_both, and_parts, is_false, not_is, not_not, or_right}
+use Rattle.sst_entries.proofs.Booleans.{or_left}
 use Rattle.lsm_formats.specs.Chunks.{joined}
 use Rattle.lsm_iters.specs.Lift.{lift}
 use Rattle.lsm_ranges.specs.KeyRange.{Interval, has_key, key_le}
@@ -265,7 +266,7 @@ module _ (span : RunSpan) where
   firsts k m t ts es ls h order from many begin last =
       let r = range_of t in
       let p = parts r (ranges_of ts) order in
-      let edge : is_edge span k ≡ true = or_first (k == span.first) (k == span.last)
+      let edge : is_edge span k ≡ true = or_left (k == span.first) (k == span.last)
       (eq-eqb k span.first (sym begin)) in
       let first = starts_first high m (t ∷ ts) order many in
       let whole : t ∷ ts ≡ first.0 ∷ first.1 = first.2 in
@@ -280,10 +281,6 @@ module _ (span : RunSpan) where
       ∙ ap (λ (rs : List R). rs ++ ok_results (within low high (joined ls)))
       (at_edge k t es h.0 edge)
       ∙ sym (ok_join low high es (joined ls))
-    where
-      or_first : (a b : Bool) → a ≡ true → (a || b) ≡ true
-      or_first true b e = refl
-      or_first false b e = absurd cc
 
   -- tables that end before the lower bound have nothing within
   skips : (n m k : ℕ) (ts : List OpenTable) (ls : List (List Entry)) → HoldLists ts ls

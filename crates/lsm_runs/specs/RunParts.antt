@@ -8,7 +8,7 @@ use Rattle.sst_entries.specs.Entry.{Entry}
 use Rattle.lsm_ranges.specs.KeyRange.{Interval}
 use Rattle.lsm_iters.specs.Bounds.{lower_edge, upper_edge}
 use Rattle.lsm_readers.specs.BlockIndexes.{table_index}
-use Rattle.lsm_readers.specs.Parts.{range_told as told_range}
+use Rattle.lsm_readers.specs.Parts.{key_range_told}
 use Rattle.lsm_readers.specs.Ranges.{index_within, range_told}
 use Rattle.lsm_readers.specs.Table.{OpenTable}
 
@@ -69,7 +69,7 @@ ends_given tables places = (unwrap_or places.0 0, unwrap_or places.1 (length tab
 
 -- the tables' key ranges
 abbrev pub range_of : OpenTable → Interval
-range_of t = told_range t.bytes
+range_of t = key_range_told t.bytes
 
 abbrev pub ranges_of : List OpenTable → List Interval
 ranges_of tables = map range_of tables

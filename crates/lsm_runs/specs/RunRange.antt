@@ -68,7 +68,8 @@ abbrev pub tables_needed : List Part → ℕ
 tables_needed [] = 0
 tables_needed (p ∷ ps) = suc (none_behind (part_told p) (tables_needed ps))
 
--- the same at the front and at the back: none where an item of a table that is opened stands there
+-- how many tables an end opens for its answer, at the front and at the back: none where an item of
+-- a table that is opened stands there
 abbrev pub front_tables : {A : Type 0} → RunRange A → ℕ
 front_tables s = none_behind (left_of_reader s.front) (tables_needed s.unopened.parts)
 

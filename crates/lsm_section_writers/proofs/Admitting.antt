@@ -6,18 +6,17 @@ use Rattle.std.proofs.Common.{arith}
 use Rattle.std.specs.Prelude.{◌==◌, ◌||◌, not, map, find, Option, Some, None, Ok}
 use Rattle.std.specs.List.{AllByRecursion, flat_map}
 use Rattle.std.proofs.lemmas.Cmp.{nat_eq_equiv}
-use Rattle.std.proofs.lemmas.List.{append-nil, map-append}
+use Rattle.std.proofs.lemmas.List.{append-nil}
 use Rattle.std.proofs.lemmas.Bool.{or_from}
 use Rattle.std.proofs.Math.Bool.{or_assoc}
 use Rattle.sst_entries.specs.Entry.{Entry}
 use Rattle.sst_entries.specs.Key.{key_lt, same_key}
-use Rattle.sst_entries.specs.Strict.{IsStrictAfter, may_follow}
-use Rattle.sst_entries.proofs.Booleans.{apart, is_false, or_right}
+use Rattle.sst_entries.specs.Strict.{IsStrictAfter}
+use Rattle.sst_entries.proofs.Booleans.{apart, is_false, or_right, or_first}
 use Rattle.sst_entries.proofs.KeyLemmas.{le_itself, same_is}
 use Rattle.sst_entries.proofs.OrderLemmas.{lt_trans}
 use Rattle.sst_filters.specs.KeyHash.{hash_of}
 use Rattle.sst_sections.specs.Sections.{Written}
-use Rattle.sst_sections.specs.declared.section.SectionName.{SectionName}
 use Rattle.sst_sections.specs.declared.section.SectionName.TheVariants.{Filter as FilterSection}
 use Rattle.sst_sections.specs.declared.section.SectionName.TheVariants.{FilterTli}
 use Rattle.sst_sections.specs.declared.version.TableVersion.{TableVersion}
@@ -27,7 +26,7 @@ use Rattle.sst_blocks.specs.Block.{load_told}
 use Rattle.sst_blocks.specs.Handle.{Handle}
 use Rattle.sst_blocks.proofs.BlockLaws.{built_load}
 use Rattle.sst_filters.specs.declared.policy.BloomConstructionPolicy.{BloomConstructionPolicy}
-use Rattle.sst_filters.specs.Filter.{BloomFilter, IsBuilt, admits, filter_in, is_in, payload_of}
+use Rattle.sst_filters.specs.Filter.{BloomFilter, IsBuilt, admits, is_in, payload_of}
 use Rattle.sst_filters.proofs.Probes.{admits_its_hashes}
 use Rattle.lsm_formats.proofs.BlockLengths.{length-block}
 use Rattle.lsm_formats.specs.declared.options.FilterKind.{FilterKind}
@@ -35,7 +34,7 @@ use Rattle.lsm_formats.specs.declared.options.FilterKind.TheVariants.{Full, Part
 use Rattle.lsm_formats.specs.Filters.{IsFilterFor, filter_block, filter_partitions, full_filter}
 use Rattle.lsm_formats.specs.Filters.{last_of_keys, partitioned_filter}
 use Rattle.lsm_formats.specs.Fits.{SectionFits}
-use Rattle.lsm_formats.specs.Layout.{Sections, appended}
+use Rattle.lsm_formats.specs.Layout.{appended}
 use Rattle.lsm_formats.specs.Partitions.{handles_block, tops_from}
 use Rattle.lsm_formats.specs.Parts.{joined_parts}
 use Rattle.lsm_formats.proofs.FilterLaws.{is_built}
@@ -43,7 +42,7 @@ use Rattle.lsm_formats.proofs.KeyLaws.{before_is}
 use Rattle.lsm_section_writers.specs.Answering.{FirstSaysYes, IsAdmitted, SaysYes, TopLevelSaysYes}
 use Rattle.lsm_section_writers.specs.Answering.{is_among, was_given}
 use Rattle.lsm_section_writers.specs.Given.{GivenKeys, IsSomePart, KeyPart, all_keys, keys_in}
-use Rattle.lsm_section_writers.specs.Given.{parts_of, rest_keys}
+use Rattle.lsm_section_writers.specs.Given.{key_parts_of, rest_keys}
 use Rattle.lsm_section_writers.specs.Held.{AreFiltersOf}
 use Rattle.lsm_section_writers.specs.Rising.{AreRising, end_entry}
 use Rattle.lsm_section_writers.specs.Writing.{WritesParts}
@@ -93,10 +92,6 @@ among_append : (xs ys : List (List ℕ)) (key : List ℕ)
 among_append [] ys key = refl
 among_append (x ∷ xs) ys key = ap (λ (b : Bool). same_key x key || b) (among_append xs ys key)
     ∙ sym (or_assoc (same_key x key) (is_among xs key) (is_among ys key))
-
-or_first : (a b : Bool) → (a || b) ≡ true → b ≡ false → a ≡ true
-or_first true b h none = refl
-or_first false b h none = absurd (apart b h none)
 
 or_second : (a b : Bool) → (a || b) ≡ true → a ≡ false → b ≡ true
 or_second true b h none = absurd (let no : true ≡ false = none in cc)
@@ -202,7 +197,8 @@ parts_say (p ∷ ps) (f ∷ fs) last at body pre post key some are short strict 
     length-append block rest in
     let parted : body ≡ pre ++ (block ++ (rest ++ post)) = lies
     ∙ ap (λ (bs : List ℕ). pre ++ bs) (append_assoc block rest post) in
-    elim (key_lt end key) as (λ (b : Bool). key_lt end key ≡ b → FirstSaysYes body (top ∷ tops) key) [
+    elim (key_lt end key) as
+    (λ (b : Bool). key_lt end key ≡ b → FirstSaysYes body (top ∷ tops) key) [
       | true ↦ λ less.
           let none : is_among p.keys key ≡ false = lacks last p.keys key
           (strict_front last p.keys joined strict) less in
@@ -278,7 +274,7 @@ pub is_admitted : (kind : FilterKind) (policy : BloomConstructionPolicy) (given 
     → IsAdmitted kind before after behind key
 is_admitted Full policy given before after n behind key w rising here =
     let uncut : given.cut ≡ [] = w.uncut refl in
-    let all : parts_of policy given ≡ rest_keys policy given.pending =
+    let all : key_parts_of policy given ≡ rest_keys policy given.pending =
     ap (λ (ps : List KeyPart). ps ++ rest_keys policy given.pending) uncut in
     let keys : all_keys given ≡ given.pending = ap
     (λ (ps : List KeyPart). joined_parts (keys_in ps) ++ given.pending) uncut in
@@ -286,8 +282,9 @@ is_admitted Full policy given before after n behind key w rising here =
     (subst (λ (ps : List KeyPart). AreFiltersOf ps w.filters) all w.are) w.written w.fit
     (sym (ap (λ (ks : List (List ℕ)). is_among ks key) keys) ∙ here)
 is_admitted (Partitioned size) policy given before after n behind key w rising here =
-    let keys : joined_parts (keys_in (parts_of policy given)) ≡ all_keys given =
+    let keys : joined_parts (keys_in (key_parts_of policy given)) ≡ all_keys given =
     all_keys_are policy given.cut given.pending in
-    tops_say size (parts_of policy given) w.filters before after behind key w.some w.are w.written
+    tops_say size (key_parts_of policy given) w.filters before after behind key w.some w.are
+    w.written
     w.fit (subst (λ (ks : List (List ℕ)). AreRising ks) (sym keys) rising)
     (ap (λ (ks : List (List ℕ)). is_among ks key) keys ∙ here)

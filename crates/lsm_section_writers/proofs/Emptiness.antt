@@ -1,8 +1,7 @@
 -- What a test of emptiness tells.
-use Rattle.std.proofs.Common.{◌≡◌, sym, ◌∙◌, ℕ, ◌==◌, Bool, true, List, [], arith}
+use Rattle.std.proofs.Common.{◌≡◌, sym, ◌∙◌, ◌==◌, Bool, true, List, [], arith}
 use Rattle.std.specs.Prelude.{vec_len}
 use Rattle.std.specs.declared.vec.Vec.{Vec}
-use Rattle.std.proofs.lemmas.Bool.Decides.{nat_tests}
 use Rattle.std.proofs.lemmas.List.{nil_from_length}
 use Rattle.lsm_section_writers.proofs.Empty.{is_zero}
 

@@ -1,15 +1,13 @@
 -- An index without handles.
 use Rattle.std.proofs.Common.{◌≡◌, refl, ◌∙◌, ap, sym, subst, ℕ, ◌==◌, Bool, true, false, List, []}
 use Rattle.std.proofs.Common.{◌∷◌, ◌++◌, length, take, arith}
-use Rattle.std.specs.Prelude.{Option, None, Result, Ok, Err, IsErrAnd, OnErr, vec_len}
+use Rattle.std.specs.Prelude.{None, Result, Ok, Err, OnErr, vec_len}
 use Rattle.std.specs.declared.vec.Vec.{Vec}
 use Rattle.std.proofs.Math.Seq.{take-append_seam}
 use Rattle.std.proofs.lemmas.Bool.Decides.{nat_tests}
 use Rattle.std.proofs.lemmas.List.{append-nil, nil_from_length}
 use Rattle.std.specs.List.{AllByRecursion}
-use Rattle.sst_entries.specs.Error.{Faults, is_memory}
 use Rattle.sst_entries.specs.declared.error.Error.{Error}
-use Rattle.sst_entries.specs.declared.error.Error.TheVariants.{OutOfMemory}
 use Rattle.sst_sections.specs.Number.{le4}
 use Rattle.sst_sections.specs.Sections.{Written}
 use Rattle.sst_sections.specs.declared.section.SectionName.{SectionName}
@@ -178,11 +176,3 @@ empty_front w x ss e = ap (λ (y : Written). take (length w.bytes) y.bytes) e
 
 pub same_front : (w x : Written) → x.bytes ≡ w.bytes → take (length w.bytes) x.bytes ≡ w.bytes
 same_front w x e = ap (λ (bs : List ℕ). take (length w.bytes) bs) e ∙ bytes_stay w
-
--- a want of memory that is passed on is no fault
-pub faults_memory : {X : Type 0} (r : Result X Error) (e : Error) (told : Option Error)
-    → IsErrAnd r (λ y. y ≡ e) → e ≡ OutOfMemory → Faults r told
-faults_memory (Ok x) e told is memory = absurd is
-faults_memory (Err y) e told is memory = λ h.
-    let both : true ≡ false = sym (ap is_memory (is ∙ memory)) ∙ h in
-    absurd cc

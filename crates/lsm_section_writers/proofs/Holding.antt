@@ -15,7 +15,7 @@ use Rattle.sst_filters.specs.declared.policy.BloomConstructionPolicy.{BloomConst
 use Rattle.lsm_formats.specs.Filters.{IsFilterFor, is_full_filter, last_of_keys}
 use Rattle.lsm_formats.specs.declared.options.FilterKind.TheVariants.{Partitioned}
 use Rattle.lsm_section_writers.specs.Given.{GivenKeys, IsSomePart, KeyPart, all_keys, cut_with}
-use Rattle.lsm_section_writers.specs.Given.{key_part, keys_in, no_keys, parts_of, pending_with}
+use Rattle.lsm_section_writers.specs.Given.{key_part, keys_in, no_keys, key_parts_of, pending_with}
 use Rattle.lsm_section_writers.specs.Given.{rest_keys, with_key}
 use Rattle.lsm_section_writers.specs.Held.{AreFiltersOf, as_list, CutPart, CutParts, Cuts, end_keys}
 use Rattle.lsm_section_writers.specs.Held.{filters_of, HasParts, HoldsAll, HoldsParts, last_key_of}
@@ -225,7 +225,7 @@ pub holds_all : (w v : CutParts) (given : GivenKeys) → HoldsParts w given → 
     → v.parts ≡ w.parts → v.bound ≡ w.bound → HoldsAll v given
 holds_all w v given h none parts bound =
     let nothing : given.pending ≡ [] = no_waiting given.pending (sym h.last ∙ none) in
-    let all : parts_of v.policy given ≡ given.cut =
+    let all : key_parts_of v.policy given ≡ given.cut =
     ap (λ (ks : List (List ℕ)). given.cut ++ rest_keys v.policy ks) nothing
     ∙ append-nil given.cut in
     subst (λ (ps : List KeyPart). HasParts v ps) (sym all)
@@ -238,7 +238,7 @@ pub rest_cuts : (w u v : CutParts) (given : GivenKeys) (key : List ℕ) → Hold
 rest_cuts w u v given key h some policy parts bound hashes policy' cuts =
     let left = given.pending in
     let rest = rest_of_some w.policy left key (sym h.last ∙ some) in
-    let all : parts_of w.policy given ≡ given.cut ++ key_part w.policy left ∷ [] =
+    let all : key_parts_of w.policy given ≡ given.cut ++ key_part w.policy left ∷ [] =
     ap (λ (ps : List KeyPart). given.cut ++ ps) rest.one in
     let parts' : v.parts ≡ w.parts ++ record { end_key = key; filter = cuts.filter } ∷ [] =
     cuts.parts ∙ ap (λ ps. ps ++ record { end_key = key; filter = cuts.filter } ∷ []) parts in
@@ -248,11 +248,11 @@ rest_cuts w u v given key h some policy parts bound hashes policy' cuts =
     ∙ length-map left hash_of in
     let bound' : v.bound ≡ capped (w.bound + bound_for (tenths_of w.policy) (length left)) =
     cuts.bound ∙ rw (bound, policy, count) refl in
-    let has : HasParts v (parts_of w.policy given) =
+    let has : HasParts v (key_parts_of w.policy given) =
     subst (λ (ps : List KeyPart). HasParts v ps) (sym all)
     (has_more w v given.cut (key_part w.policy left) key cuts.filter h.cut
     (record { some = rest.some }) is rest.last parts' bound') in
-    subst (λ (p : BloomConstructionPolicy). HasParts v (parts_of p given)) (sym policy') has
+    subst (λ (p : BloomConstructionPolicy). HasParts v (key_parts_of p given)) (sym policy') has
 
 -- and what it refuses is what its count tells
 pub rest_fault_none : (w : CutParts) (given : GivenKeys) → HoldsParts w given → w.last ≡ None

@@ -1,13 +1,12 @@
 -- Keys that were all given under one kind and one policy: they are cut as the filter of a table is.
 use Rattle.std.proofs.Common.{◌≡◌, refl, ◌∙◌, ap, sym, subst, ℕ, ◌+◌, Bool, true, false, inl, inr}
 use Rattle.std.proofs.Common.{List, [], ◌∷◌, ◌++◌, length, append_assoc}
-use Rattle.std.specs.Prelude.{map, sum_by, Option, if◌then◌else◌}
+use Rattle.std.specs.Prelude.{map, sum_by, if◌then◌else◌}
 use Rattle.std.specs.List.{AllByRecursion}
 use Rattle.std.specs.Option.{option_or}
 use Rattle.std.proofs.lemmas.Bool.{cases_Bool}
 use Rattle.std.proofs.lemmas.List.{append-nil, map-append}
 use Rattle.std.proofs.lemmas.List.Sums.{sum_by-cons}
-use Rattle.sst_entries.specs.declared.error.Error.{Error}
 use Rattle.sst_sections.specs.Sections.{Written}
 use Rattle.sst_sections.specs.declared.version.TableVersion.TheVariants.{V4}
 use Rattle.sst_filters.specs.Filter.{BloomFilter}
@@ -23,7 +22,7 @@ use Rattle.lsm_formats.specs.Layout.{Sections, appended}
 use Rattle.lsm_formats.specs.Parts.{joined_parts, parts_by, rest_part}
 use Rattle.lsm_section_writers.specs.Cutting.{closed_after, closed_by, waiting_after, waiting_by}
 use Rattle.lsm_section_writers.specs.Given.{GivenKeys, KeyPart, all_keys, cut_with, given_by}
-use Rattle.lsm_section_writers.specs.Given.{key_part, keys_in, no_keys, parts_of, pending_with}
+use Rattle.lsm_section_writers.specs.Given.{key_part, keys_in, no_keys, key_parts_of, pending_with}
 use Rattle.lsm_section_writers.specs.Given.{rest_keys, with_key}
 use Rattle.lsm_section_writers.specs.Held.{AreFiltersOf}
 use Rattle.lsm_section_writers.specs.FilterRefusing.{filter_fault, given_fault, key_parts_bound}
@@ -73,7 +72,7 @@ rest_same policy [] = refl
 rest_same policy (k ∷ ks) = refl
 
 parts_same : (kind : FilterKind) (policy : BloomConstructionPolicy) (keys : List (List ℕ))
-    → parts_of policy (given_by kind policy keys)
+    → key_parts_of policy (given_by kind policy keys)
     ≡ map (key_part policy) (filter_parts kind policy keys)
 parts_same Full policy keys = rest_same policy keys
 parts_same (Partitioned size) policy keys =
@@ -107,7 +106,7 @@ filters_same policy (p ∷ ps) [] h = absurd h
 filters_same policy (p ∷ ps) (f ∷ fs) h = (h.0, filters_same policy ps fs h.1)
 
 all_keys_same : (kind : FilterKind) (policy : BloomConstructionPolicy) (keys : List (List ℕ))
-    → keys_in (parts_of policy (given_by kind policy keys)) ≡ filter_parts kind policy keys
+    → keys_in (key_parts_of policy (given_by kind policy keys)) ≡ filter_parts kind policy keys
 all_keys_same kind policy keys = ap keys_in (parts_same kind policy keys)
     ∙ keys_same policy (filter_parts kind policy keys)
 
@@ -136,7 +135,7 @@ fault_same Full policy keys = refl
 fault_same (Partitioned size) policy keys =
     let full = is_full_filter policy size in
     let ps = parts_by full keys in
-    let parts = parts_of policy (given_by (Partitioned size) policy keys) in
+    let parts = key_parts_of policy (given_by (Partitioned size) policy keys) in
     let bound : key_parts_bound parts ≡ parts_bound policy ps =
     ap (λ (qs : List KeyPart). key_parts_bound qs) (parts_same (Partitioned size) policy keys)
     ∙ bound_same policy ps in

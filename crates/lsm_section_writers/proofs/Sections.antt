@@ -5,7 +5,7 @@ use Rattle.std.specs.Prelude.{map, min, nat_le, sum_by, Bool, true, false, Optio
 use Rattle.std.specs.Prelude.{Result, Ok, Err, OnOk, IfOk, IsErrAnd, if◌then◌else◌}
 use Rattle.std.specs.List.{AllByRecursion, flat_map}
 use Rattle.std.proofs.lemmas.List.{append-nil, length-map, length-take, map-append, map-id}
-use Rattle.std.proofs.lemmas.List.{take-take, take_all}
+use Rattle.std.proofs.lemmas.List.{take-take}
 use Rattle.std.proofs.lemmas.List.Elements.{All-push, All-weaker}
 use Rattle.std.proofs.lemmas.List.Concat.{flat_map-append}
 use Rattle.std.proofs.lemmas.List.Sums.{sum_by-cons}
@@ -23,7 +23,7 @@ use Rattle.sst_blocks.specs.Handles.{AreStrictHandles, end_of, handles_payload}
 use Rattle.sst_blocks.specs.Bounds.{capped, handle_bound}
 use Rattle.sst_blocks.specs.Encoding.{handles_fault, is_long_key, key_fault}
 use Rattle.sst_entries.specs.Entry.{Entry}
-use Rattle.sst_entries.specs.Error.{Faults, FaultsFirst, is_memory}
+use Rattle.sst_entries.specs.Error.{Faults, is_memory}
 use Rattle.sst_entries.proofs.Refusals.{faults_refusal}
 use Rattle.sst_entries.specs.Strict.{IsStrict}
 use Rattle.sst_entries.specs.declared.error.Error.{Error}
@@ -34,7 +34,7 @@ use Rattle.std.proofs.lemmas.Bool.{lt-leb}
 use Rattle.std.specs.Option.{option_or}
 use Rattle.lsm_formats.specs.Failed.{failed_fault}
 use Rattle.lsm_section_writers.specs.Given.{GivenKeys, IsSomePart, KeyPart, given_by, keys_in}
-use Rattle.lsm_section_writers.specs.Given.{no_keys, parts_of}
+use Rattle.lsm_section_writers.specs.Given.{no_keys, key_parts_of}
 use Rattle.lsm_section_writers.specs.Rising.{AreRising, end_entry}
 use Rattle.sst_filters.specs.Filter.{BloomFilter, IsBuilt, payload_of}
 use Rattle.sst_filters.specs.Policy.{bound_for, fault_for, size_for, tenths_of}
@@ -53,7 +53,7 @@ use Rattle.lsm_formats.specs.Failed.{section_fault}
 use Rattle.lsm_section_writers.specs.FilterRefusing.{end_handle, given_fault, key_parts_bound}
 use Rattle.lsm_section_writers.specs.FilterRefusing.{keys_fault, top_fault}
 use Rattle.lsm_section_writers.specs.Writing.{part_sections, tops_block, tops_of, WritesParts}
-use Rattle.lsm_section_writers.proofs.Behind.{bytes_stay, front_begun, section_behind, section_more}
+use Rattle.lsm_section_writers.proofs.Behind.{front_begun, section_behind, section_more}
 
 -- no section, and one, and two
 pub appended_none : (w : Written) → w ≡ appended w []
@@ -305,9 +305,9 @@ no_parts [] h = refl
 no_parts (p ∷ ps) h = absurd h
 
 pub parts_of_none : (v : CutParts) (given : GivenKeys) → HoldsAll v given → v.parts ≡ []
-    → parts_of v.policy given ≡ []
+    → key_parts_of v.policy given ≡ []
 parts_of_none v given h none = no_parts _ (subst
-    (λ cs. AreFiltersOf (parts_of v.policy given) (filters_of cs)) none h.filters)
+    (λ cs. AreFiltersOf (key_parts_of v.policy given) (filters_of cs)) none h.filters)
 
 pub parts_none : (v : CutParts) (given : GivenKeys) (before : Written) → HoldsAll v given
     → v.parts ≡ [] → WritesParts (Partitioned v.size) v.policy given before before 0
@@ -333,10 +333,10 @@ by_parts at ps cs e =
 
 some_parts : (size : ℕ) (policy : BloomConstructionPolicy) (given : GivenKeys) (cs : List CutPart)
     (before after : Written) (n : ℕ) →
-    AllByRecursion IsSomePart (parts_of policy given)
-    → AreFiltersOf (parts_of policy given) (filters_of cs)
-    → end_keys cs ≡ map last_of_keys (keys_in (parts_of policy given)) →
-    (cs ≡ [] → ⊥) → key_parts_bound (parts_of policy given) < 2 ^ 32
+    AllByRecursion IsSomePart (key_parts_of policy given)
+    → AreFiltersOf (key_parts_of policy given) (filters_of cs)
+    → end_keys cs ≡ map last_of_keys (keys_in (key_parts_of policy given)) →
+    (cs ≡ [] → ⊥) → key_parts_bound (key_parts_of policy given) < 2 ^ 32
     → after ≡ appended before (part_sections (length before.bytes) cs) →
     SectionFits (FilterTli, tops_block (length before.bytes) cs) → n ≡ length cs
     → WritesParts (Partitioned size) policy given before after n
@@ -344,7 +344,7 @@ some_parts size policy given [] before after n full are ends some lt e fits coun
     absurd (some refl)
 some_parts size policy given (c ∷ cs) before after n full are ends some lt e fits count =
     let at = length before.bytes in
-    let ps = parts_of policy given in
+    let ps = key_parts_of policy given in
     let same = by_parts at (keys_in ps) (c ∷ cs) ends in
     let all : AllByRecursion SectionFits (part_sections at (c ∷ cs)) = (
       record { short = omega (arith, lt, length-filters ps (filters_of (c ∷ cs)) are) },
@@ -373,7 +373,7 @@ pub parts_write : (v : CutParts) (given : GivenKeys) (before after : Written) (n
     → SectionFits (FilterTli, tops_block (length before.bytes) v.parts) → n ≡ length v.parts →
     WritesParts (Partitioned v.size) v.policy given before after n
 parts_write v given before after n h some lt e fits count =
-    let small : key_parts_bound (parts_of v.policy given) < 2 ^ 32 =
+    let small : key_parts_bound (key_parts_of v.policy given) < 2 ^ 32 =
     uncapped _ (subst (λ (x : ℕ). x < 2 ^ 32) h.bound lt) in
     some_parts v.size v.policy given v.parts before after n h.some h.filters h.ends some small e
     fits count
@@ -601,7 +601,7 @@ pub finish_none_fault : (v : CutParts) (size : ℕ) (policy : BloomConstructionP
     → v.size ≡ size → cs ≡ v.parts → cs ≡ [] →
     option_or (failed_fault failed) (given_fault (Partitioned size) policy given) ≡ None
 finish_none_fault v size policy cs given failed works rest h same same' parts none =
-    let nothing : parts_of policy given ≡ [] = rw same at
+    let nothing : key_parts_of policy given ≡ [] = rw same at
     (parts_of_none v given h (sym parts ∙ none)) in
     rw (works, rest, nothing) refl
 
@@ -633,7 +633,7 @@ pub finish_large : (v : CutParts) (size : ℕ) (policy : BloomConstructionPolicy
     option_or (failed_fault failed) (given_fault (Partitioned size) policy given)
     ≡ Some SectionTooLarge
 finish_large v size policy b given failed works rest h same same' bound le =
-    let ps = parts_of policy given in
+    let ps = key_parts_of policy given in
     let sum : b ≡ capped (key_parts_bound ps) = bound ∙ rw same at h.bound in
     rw (
       works,
@@ -663,7 +663,7 @@ pub finish_told : (v : CutParts) (size : ℕ) (policy : BloomConstructionPolicy)
     option_or (failed_fault failed) (given_fault (Partitioned size) policy given)
     ≡ top_fault (end_keys cs)
 finish_told v size policy cs b given failed works rest h same same' parts bound lt =
-    let ps = parts_of policy given in
+    let ps = key_parts_of policy given in
     let ends : end_keys cs ≡ map last_of_keys (keys_in ps) =
     ap (λ (x : List CutPart). end_keys x) parts ∙ rw same at h.ends in
     let sum : b ≡ capped (key_parts_bound ps) = bound ∙ rw same at h.bound in

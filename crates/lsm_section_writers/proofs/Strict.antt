@@ -4,12 +4,11 @@ use Rattle.std.proofs.Common.{◌++◌, take, drop, arith}
 use Rattle.std.specs.Prelude.{map, slice_range, Option, Some, None, unwrap_or}
 use Rattle.std.proofs.lemmas.List.{map-append}
 use Rattle.sst_entries.specs.Entry.{Entry, entry}
-use Rattle.sst_entries.specs.Strict.{is_before, IsStrict, IsStrictAfter, last_of, may_follow}
+use Rattle.sst_entries.specs.Strict.{IsStrict, IsStrictAfter, last_of, may_follow}
 use Rattle.sst_entries.specs.declared.value_type.ValueType.TheVariants.{Value}
-use Rattle.sst_entries.proofs.Strictness.{strict_alone}
+use Rattle.sst_entries.proofs.Strictness.{strict_alone, may_jump}
 use Rattle.sst_blocks.specs.Handle.{Handle}
 use Rattle.sst_blocks.specs.Handles.{AreStrictHandles, end_of}
-use Rattle.sst_entries.proofs.OrderLemmas.{before_trans}
 use Rattle.lsm_formats.specs.Parts.{AreParts, joined_parts, parts_by}
 use Rattle.lsm_formats.specs.Partitions.{last_end}
 use Rattle.lsm_formats.proofs.PartLaws.{are_parts_of}
@@ -37,11 +36,6 @@ strict_drop last (suc n) (x ∷ hs) h = strict_drop (Some (end_of x)) n hs h.1
 pub strict_range : (hs : List Handle) (i j : ℕ) → AreStrictHandles hs
     → AreStrictHandles (slice_range hs i j)
 strict_range hs i j h = strict_take None (j - i) (drop i hs) (strict_drop None i hs h)
-
-may_jump : (last : Option Entry) (x y : Entry) → may_follow last x ≡ true → is_before x y ≡ true
-    → may_follow last y ≡ true
-may_jump None x y f g = refl
-may_jump (Some l) x y f g = before_trans l x y f g
 
 -- the last entry of some, or else this one
 abbrev end_or : Entry → List Entry → Entry

@@ -1,5 +1,5 @@
 -- What a filter that was written says of a key.
-use Rattle.std.specs.Prelude.{◌≡◌, ℕ, ◌-◌, Bool, true, not, List, ◌∷◌, ◌++◌, length, find, Option}
+use Rattle.std.specs.Prelude.{◌≡◌, ℕ, ◌-◌, Bool, true, not, List, ◌∷◌, ◌++◌, length, find}
 use Rattle.std.specs.Prelude.{Some, Ok, []}
 use Rattle.std.specs.List.{list_any}
 use Rattle.sst_entries.specs.Key.{key_lt, same_key}

@@ -13,7 +13,7 @@ use Rattle.lsm_formats.specs.Failed.{section_fault}
 use Rattle.lsm_formats.specs.Filters.{is_full_filter, last_of_keys}
 use Rattle.lsm_formats.specs.Parts.{parts_by}
 use Rattle.lsm_section_writers.specs.Cutting.{waiting_by}
-use Rattle.lsm_section_writers.specs.Given.{GivenKeys, KeyPart, keys_in, parts_of}
+use Rattle.lsm_section_writers.specs.Given.{GivenKeys, KeyPart, keys_in, key_parts_of}
 
 -- the filter of these keys is too large: none without keys
 abbrev pub keys_fault : BloomConstructionPolicy → List (List ℕ) → Option Error
@@ -71,7 +71,7 @@ filter_fault (Partitioned size) policy keys =
 abbrev pub given_fault : FilterKind → BloomConstructionPolicy → GivenKeys → Option Error
 given_fault Full policy given = keys_fault policy given.pending
 given_fault (Partitioned size) policy given =
-    let parts = parts_of policy given in
+    let parts = key_parts_of policy given in
     let ends = map last_of_keys (keys_in parts) in
     option_or (keys_fault policy given.pending)
     (option_or (section_fault (key_parts_bound parts)) (top_fault ends))

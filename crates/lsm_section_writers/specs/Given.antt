@@ -41,8 +41,8 @@ abbrev pub rest_keys : BloomConstructionPolicy → List (List ℕ) → List KeyP
 rest_keys policy [] = []
 rest_keys policy (k ∷ keys) = key_part policy (k ∷ keys) ∷ []
 
-abbrev pub parts_of : BloomConstructionPolicy → GivenKeys → List KeyPart
-parts_of policy given = given.cut ++ rest_keys policy given.pending
+abbrev pub key_parts_of : BloomConstructionPolicy → GivenKeys → List KeyPart
+key_parts_of policy given = given.cut ++ rest_keys policy given.pending
 
 -- a key more is pending
 abbrev pub pending_with : GivenKeys → List ℕ → GivenKeys

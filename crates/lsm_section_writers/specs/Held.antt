@@ -10,7 +10,7 @@ use Rattle.sst_filters.specs.Filter.{BloomFilter, payload_of}
 use Rattle.sst_filters.specs.Policy.{bound_for, tenths_of}
 use Rattle.lsm_formats.specs.Filters.{IsFilterFor, last_of_keys}
 use Rattle.lsm_formats.specs.Partitions.{Partition}
-use Rattle.lsm_section_writers.specs.Given.{GivenKeys, IsSomePart, KeyPart, keys_in, parts_of}
+use Rattle.lsm_section_writers.specs.Given.{GivenKeys, IsSomePart, KeyPart, keys_in, key_parts_of}
 use Rattle.lsm_section_writers.specs.FilterRefusing.{key_parts_bound}
 
 -- the hashes of all keys
@@ -87,7 +87,7 @@ pub record HoldsParts (w : CutParts) (given : GivenKeys) : Type 0 where
 
 -- these are the keys, all cut
 abbrev pub HoldsAll : CutParts → GivenKeys → Type 0
-HoldsAll w given = HasParts w (parts_of w.policy given)
+HoldsAll w given = HasParts w (key_parts_of w.policy given)
 
 -- what waits was cut off as a part with this last key
 pub record Cuts (key : List ℕ) (w v : CutParts) : Type 0 where

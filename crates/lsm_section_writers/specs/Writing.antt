@@ -15,7 +15,7 @@ use Rattle.lsm_formats.specs.Fits.{SectionFits}
 use Rattle.lsm_formats.specs.Kinds.{filter_count, filter_parts, filter_sections}
 use Rattle.lsm_formats.specs.Layout.{Sections, appended}
 use Rattle.lsm_formats.specs.Partitions.{handles_block, tops_from}
-use Rattle.lsm_section_writers.specs.Given.{GivenKeys, IsSomePart, keys_in, parts_of}
+use Rattle.lsm_section_writers.specs.Given.{GivenKeys, IsSomePart, keys_in, key_parts_of}
 use Rattle.lsm_section_writers.specs.Held.{AreFiltersOf, CutPart, filters_of, partition_of}
 
 -- the sections of the filters of these keys, behind what was written before
@@ -38,7 +38,7 @@ pub record WritesFilter (kind : FilterKind) (policy : BloomConstructionPolicy)
 abbrev pub key_sections : FilterKind → BloomConstructionPolicy → GivenKeys → Written
     → List BloomFilter → Sections
 key_sections kind policy given before fs =
-    filter_sections kind V4 (length before.bytes) (keys_in (parts_of policy given)) fs
+    filter_sections kind V4 (length before.bytes) (keys_in (key_parts_of policy given)) fs
 
 -- the filters of these keys were written behind what was written before: each part has the filter
 -- of the policy under which it was cut, what was pending that of the last policy; and so many
@@ -46,9 +46,9 @@ key_sections kind policy given before fs =
 pub record WritesParts (kind : FilterKind) (policy : BloomConstructionPolicy) (given : GivenKeys)
     (before after : Written) (count : ℕ) : Type 0 where
   pub uncut : kind ≡ Full → given.cut ≡ []
-  pub some : AllByRecursion IsSomePart (parts_of policy given)
+  pub some : AllByRecursion IsSomePart (key_parts_of policy given)
   pub filters : List BloomFilter
-  pub are : AreFiltersOf (parts_of policy given) filters
+  pub are : AreFiltersOf (key_parts_of policy given) filters
   pub written : after ≡ appended before (key_sections kind policy given before filters)
   pub counted : count ≡ filter_count kind filters
   pub fit : AllByRecursion SectionFits (key_sections kind policy given before filters)

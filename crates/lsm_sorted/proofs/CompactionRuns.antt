@@ -1,6 +1,6 @@
 -- Whole compactions, by what their source gave.
-use Rattle.std.proofs.Common.{◌≡◌, refl, sym, ◌∙◌, ap, subst, List, [], ◌∷◌, ◌++◌}
-use Rattle.std.specs.Prelude.{Option, Some, None, Result, Ok}
+use Rattle.std.proofs.Common.{◌≡◌, refl, sym, ◌∙◌, ap, subst, List, [], ◌∷◌}
+use Rattle.std.specs.Prelude.{Option, Some, None, Result}
 use Rattle.std.specs.Iterator.{Count, Yields}
 use Rattle.sst_entries.specs.Entry.{Entry}
 use Rattle.sst_entries.specs.declared.error.Error.{Error}
@@ -8,7 +8,6 @@ use Rattle.sst_entries.specs.declared.stream.Direction.TheVariants.{Front}
 use Rattle.sst_entries.specs.Stream.{nowhere}
 use Rattle.lsm_merge.specs.Ends.{R}
 use Rattle.lsm_sorted.specs.declared.compaction.stream.CompactionStream.{CompactionStream}
-use Rattle.lsm_sorted.specs.Outlook.{before_any}
 use Rattle.lsm_sorted.specs.declared.compaction.Rules.{Rules}
 use Rattle.lsm_sorted.specs.Compaction.{Verdict, outs, as_they_are}
 use Rattle.lsm_sorted.specs.Compacting.{Calls, Compacted}
@@ -16,7 +15,6 @@ use Rattle.lsm_sorted.specs.CompactionState.{rules_of, filter_of, callback_of, c
 use Rattle.lsm_sorted.specs.CompactionState.{CallsIn, CompactsNext, CompactsHeard, GivesOuts}
 use Rattle.lsm_sorted.proofs.CallLemmas.{call_more, call_none}
 use Rattle.lsm_sorted.proofs.HeardLemmas.{HeardFrom, heard_none, heard_call, heard_all}
-use Rattle.lsm_sorted.proofs.OutsLemmas.{listed}
 use Rattle.lsm_sorted.proofs.WholeLemmas.{KeepsAll, call_last, call_keeps}
 
 -- what was given, and then `None`

@@ -15,9 +15,8 @@ use Rattle.lsm_merge.specs.Ends.{R}
 use Rattle.lsm_merge.specs.Union.{all_errors, union_of}
 use Rattle.lsm_merge.specs.Merge.{Follows, DealsUntil}
 use Rattle.lsm_merge.specs.MergeLaws.{DealsBeforeErrors, DealsUntilError, every_error}
-use Rattle.lsm_merge.proofs.EndsLemmas.{none_first}
 use Rattle.lsm_sorted.specs.Outlook.{StopsAtNone}
-use Rattle.lsm_sorted.specs.Gap.{HasGap, IsUpToGap, DealsUpToGap, MergesUpToGap}
+use Rattle.lsm_sorted.specs.Gap.{IsUpToGap, MergesUpToGap}
 use Rattle.lsm_sorted.proofs.PeekedLemmas.{last_of, others_of}
 
 -- the first entry of several, and the last

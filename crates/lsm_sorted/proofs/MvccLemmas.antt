@@ -1,11 +1,11 @@
 -- The loops of `MvccStream`, on lists.
-use Rattle.std.proofs.Common.{◌≡◌, refl, sym, ◌∙◌, ap, subst, true, false, cond, Bool, List, []}
+use Rattle.std.proofs.Common.{◌≡◌, sym, ◌∙◌, ap, true, false, cond, Bool, List, []}
 use Rattle.std.proofs.Common.{◌∷◌, ◌++◌, reverse}
 use Rattle.std.specs.Prelude.{Option, Some, None, Ok, Err}
 use Rattle.std.proofs.lemmas.List.{reverse-reverse, reverse-append}
 use Rattle.sst_entries.specs.Entry.{Entry}
 use Rattle.sst_entries.specs.declared.error.Error.{Error}
-use Rattle.sst_entries.specs.Stream.{first, but_first, last, but_last, front_of, back_of}
+use Rattle.sst_entries.specs.Stream.{first, but_first, front_of, back_of}
 use Rattle.sst_entries.specs.Key.{same_key, key_lt}
 use Rattle.lsm_merge.specs.Ends.{R}
 use Rattle.lsm_sorted.specs.Outlook.{IsStep}

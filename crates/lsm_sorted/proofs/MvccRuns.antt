@@ -3,15 +3,14 @@ use Rattle.std.proofs.Common.{◌≡◌, refl, sym, ◌∙◌, ap, subst, Bool, 
 use Rattle.std.specs.Prelude.{Option, None}
 use Rattle.std.specs.Iterator.{Count, IsFinite}
 use Rattle.sst_entries.specs.Entry.{Entry}
-use Rattle.sst_entries.specs.declared.error.Error.{Error}
 use Rattle.sst_entries.specs.declared.stream.Direction.{Direction}
 use Rattle.sst_entries.specs.declared.stream.Direction.TheVariants.{Front, Back}
-use Rattle.sst_entries.specs.Stream.{Runs, NoneStops, Deals, CanDeal, answer_stops, ok_results}
+use Rattle.sst_entries.specs.Stream.{Runs, CanDeal, ok_results}
 use Rattle.sst_entries.specs.Stream.{deal, first, but_first, last, but_last, nowhere}
 use Rattle.sst_entries.proofs.StreamLemmas.{can_by}
-use Rattle.lsm_merge.specs.Ends.{R, Goes, new_ends}
+use Rattle.lsm_merge.specs.Ends.{R, Goes}
 use Rattle.lsm_merge.specs.declared.ends.Ends.{Ends}
-use Rattle.lsm_merge.specs.Union.{Ascends, newest}
+use Rattle.lsm_merge.specs.Union.{newest}
 use Rattle.lsm_merge.proofs.EndsLemmas.{goes_in_front}
 use Rattle.lsm_sorted.specs.declared.peeked.Peeked.{Peeked}
 use Rattle.lsm_sorted.specs.Peeked.{content, peeked_outlook}

@@ -14,7 +14,7 @@ use Rattle.sst_entries.proofs.KeyLemmas.{KeyLe, same_is, lt_other, le_other, le_
 use Rattle.lsm_sorted.proofs.EntryKeyLemmas.{key_le}
 use Rattle.lsm_merge.specs.Union.{AtMost, Ascends, newest}
 use Rattle.sst_entries.proofs.Lists.{all_more, all_append}
-use Rattle.sst_entries.proofs.StreamLemmas.{map_append, map_reverse}
+use Rattle.sst_entries.proofs.StreamLemmas.{map_reverse}
 
 -- no key is below an earlier one
 abbrev pub KeysUp : List Entry → Type 0

@@ -1,12 +1,11 @@
 -- The newest versions of a merger whose sources have errors.
-use Rattle.std.proofs.Common.{◌≡◌, refl, sym, ◌∙◌, ap, subst, List, [], ◌∷◌}
+use Rattle.std.proofs.Common.{◌≡◌, sym, ◌∙◌, ap, subst, List, [], ◌∷◌}
 use Rattle.std.specs.Prelude.{Option}
 use Rattle.sst_entries.specs.Stream.{nowhere}
 use Rattle.sst_entries.specs.declared.stream.Direction.{Direction}
 use Rattle.sst_entries.specs.declared.stream.Direction.TheVariants.{Front, Back}
 use Rattle.lsm_merge.specs.Ends.{R}
 use Rattle.lsm_merge.specs.declared.merge.Merger.{Merger}
-use Rattle.lsm_merge.specs.declared.ends.Ends.{Ends}
 use Rattle.lsm_merge.specs.Asks.{IsMergerOf}
 use Rattle.lsm_merge.specs.MergeLaws.{ErrorsComeLate, RunsAt, MeetsErrorsLate}
 use Rattle.lsm_sorted.specs.declared.mvcc_stream.MvccStream.{MvccStream}

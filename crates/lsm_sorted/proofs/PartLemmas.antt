@@ -27,7 +27,7 @@ use Rattle.lsm_sorted.specs.Compaction.{goes, zeroed, kept, unfiltered}
 use Rattle.lsm_sorted.specs.ReadLaw.{Distinct, AllNewer, IsMerged, PartLaw}
 use Rattle.lsm_sorted.proofs.Hits.{first_hit}
 use Rattle.lsm_merge.proofs.Pairs.{Precedes, Strict, as_pairs}
-use Rattle.sst_entries.proofs.KeyLemmas.{same_is, same_itself, le_itself}
+use Rattle.sst_entries.proofs.KeyLemmas.{same_is, same_itself, le_itself, hit_key}
 use Rattle.sst_entries.proofs.OrderLemmas.{gt_first}
 use Rattle.lsm_sorted.proofs.OutsLemmas.{AllOf}
 use Rattle.lsm_sorted.proofs.ReadLemmas.{and_not, all_rest, none_before, none_of_other, not_under}
@@ -280,10 +280,6 @@ at_most_upper : (a q y : ℕ) → nat_lt a q ≡ false → y ≤ q → y ≤ a
 at_most_upper a q y h k = grind (arith, nat_tests)
 
 module _ (key : List ℕ) (bound : ℕ) where
-  hit_key : (x : Entry) → is_hit key bound x ≡ true → x.user_key ≡ key
-  hit_key x h = same_is x.user_key key (and_parts (same_key x.user_key key)
-      (nat_lt x.seqno bound) h).0
-
   point_in : (es : List Entry) (x : Entry) → first_hit es key bound ≡ Some x → IsIn x es
       × (is_hit key bound x ≡ true)
   point_in [] x h = absurd cc
@@ -322,7 +318,7 @@ module _ (key : List ℕ) (bound : ℕ) where
             subst (λ (z : Entry). y.seqno ≤ z.seqno) same (elim i [
               | inl is ↦ let n : y.seqno ≡ e.seqno = ap (λ (z : Entry). z.seqno) is in omega arith
               | inr more ↦ all_in (NotAbove e) es y down.0 more
-                  (hit_key e has ∙ sym (hit_key y hit))
+                  (hit_key key bound e has ∙ sym (hit_key key bound y hit))
             ])
         | false ↦ λ miss k. elim i [
           | inl is ↦ absurd
@@ -360,7 +356,7 @@ module _ (key : List ℕ) (bound : ℕ) where
               let above = point_down zs down u e x (in_same zs (xs ++ ys) merged.same x i) hit in
               let number : u.seqno ≡ x.seqno = omega arith in
               ap (λ (z : Entry). Some z) (joined_unique xs ys sx sy apart u x uin i
-              (hit_key u two.1 ∙ sym (hit_key x hit)) number)
+              (hit_key key bound u two.1 ∙ sym (hit_key key bound x hit)) number)
         ] refl
 
     no_point : ((y : Entry) → IsIn y (xs ++ ys) → is_hit key bound y ≡ true → ⊥)
@@ -430,9 +426,10 @@ module _ (key : List ℕ) (bound : ℕ) where
         | Some a ↦ λ ex.
             let ain = point_in xs a ex in
             let qin = point_in ys q ey in
-            let less : a.seqno < q.seqno = all_in (λ z. a.user_key ≡ z.user_key → a.seqno < z.seqno) ys
+            let less : a.seqno < q.seqno =
+            all_in (λ z. a.user_key ≡ z.user_key → a.seqno < z.seqno) ys
             q (all_in (λ w. AllByRecursion (λ z. w.user_key ≡ z.user_key → w.seqno < z.seqno) ys) xs
-            a newer ain.0) qin.0 (hit_key a ain.1 ∙ sym (hit_key q qin.1)) in
+            a newer ain.0) qin.0 (hit_key key bound a ain.1 ∙ sym (hit_key key bound q qin.1)) in
             ap (λ (b : Bool). cond b (Some q) (Some a)) (lt-ltb a.seqno q.seqno less)
       ] refl
 
@@ -486,7 +483,8 @@ module _ (key : List ℕ) (bound : ℕ) where
           → first_hit (own ++ rest) key bound ≡ first_hit rest key bound
       past rules reads x own rest all last miss =
           elim (and_not (same_key x.user_key key) (nat_lt x.seqno bound) miss) [
-            | inl other ↦ none_before key bound own rest (none_of_other key x.user_key own all other)
+            | inl other ↦
+                none_before key bound own rest (none_of_other key x.user_key own all other)
             | inr both ↦ elim last [
               | inl low ↦ absurd (apart (nat_lt x.seqno rules.watermark) low
                   (not_under x.seqno rules.watermark bound reads both.1))

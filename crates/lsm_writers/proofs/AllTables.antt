@@ -11,6 +11,7 @@ use Rattle.sst_entries.specs.Entry.{Entry}
 use Rattle.sst_entries.specs.Key.{key_lt, same_key}
 use Rattle.sst_entries.specs.Strict.{IsStrict, IsStrictAfter, is_before, last_of, may_follow}
 use Rattle.sst_entries.proofs.Booleans.{not_is}
+use Rattle.sst_entries.proofs.Strictness.{strict_back}
 use Rattle.lsm_formats.specs.Chunks.{is_full, joined}
 use Rattle.lsm_formats.specs.Facts.{starts_key}
 use Rattle.lsm_formats.specs.Failed.{failed_fault}
@@ -26,7 +27,7 @@ use Rattle.lsm_writers.specs.Writing.{written}
 use Rattle.lsm_writers.proofs.Finishing.{nothing_behind}
 use Rattle.lsm_writers.proofs.Chunking.{joined_rest}
 use Rattle.lsm_writers.proofs.Cutting.{rest_is}
-use Rattle.lsm_writers.proofs.Orders.{last_of_cons, strict_back}
+use Rattle.lsm_writers.proofs.Orders.{last_of_cons}
 use Rattle.lsm_writers.proofs.Refused.{none_some}
 use Rattle.lsm_writers.proofs.Rotating.{all_finished}
 use Rattle.lsm_writers.proofs.Turning.{state_of}

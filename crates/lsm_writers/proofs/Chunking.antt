@@ -1,13 +1,13 @@
 -- The chunks that a writer cuts are those of the list.
 use Rattle.std.proofs.Common.{◌≡◌, refl, ◌∙◌, ap, ℕ, ◌+◌, ◌<◌, ◌≤◌, Bool, true, false, cond, List}
 use Rattle.std.proofs.Common.{[], ◌∷◌, ◌++◌, length, take, arith}
-use Rattle.std.specs.Prelude.{◌==◌, ◌||◌}
+use Rattle.std.specs.Prelude.{◌==◌}
 use Rattle.std.specs.List.{AllByRecursion}
 use Rattle.std.proofs.lemmas.List.{take_all, append-nil}
 use Rattle.std.proofs.lemmas.List.Concat.{flat_map-append}
 use Rattle.std.proofs.lemmas.Bool.{eq-eqb, ne_eqb, or_from}
 use Rattle.sst_entries.specs.Entry.{Entry}
-use Rattle.sst_entries.proofs.Booleans.{or_right}
+use Rattle.sst_entries.proofs.Booleans.{or_right, or_left}
 use Rattle.lsm_formats.specs.Chunks.{joined, is_full, is_spilled, ends_after, IsChunk, Ends}
 use Rattle.lsm_formats.specs.Chunks.{AreChunksFrom, AreChunks}
 use Rattle.lsm_writers.specs.Cut.{rest_chunk}
@@ -33,16 +33,12 @@ none_before size at (c ∷ cs) p h le =
     skip (is_full size c) (early_ends size (at + length c) cs) (at + length c) p past
     ∙ none_before size (at + length c) cs p h.1 (omega arith)
 
-or_true : (a b : Bool) → a ≡ true → (a || b) ≡ true
-or_true true b h = refl
-or_true false b h = absurd cc
-
 -- a chunk that is full, or has an early end
 ended : (b : Bool) (size : ℕ) (S : List ℕ) (at : ℕ) (c : List Entry) (E : List ℕ)
     → is_full size c ≡ b → is_spilled S (at + length c)
     ≡ is_spilled (cond b E ((at + length c) ∷ E)) (at + length c)
     → ends_after size S at c (length c) ≡ true
-ended true size S at c E f h = or_true _ _ (ap (is_full size) (take_all (length c) c (omega arith))
+ended true size S at c E f h = or_left _ _ (ap (is_full size) (take_all (length c) c (omega arith))
     ∙ f)
 ended false size S at c E f h = or_right _ _ (h ∙ here false E (at + length c) refl)
 

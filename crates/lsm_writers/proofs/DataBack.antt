@@ -18,7 +18,7 @@ use Rattle.sst_blocks.proofs.Entries.{entries_read, length-spelled}
 use Rattle.sst_entries.specs.Entry.{Entry}
 use Rattle.sst_entries.specs.Strict.{IsStrict}
 use Rattle.sst_entries.proofs.Lists.{all_front, all_behind}
-use Rattle.sst_entries.proofs.Strictness.{strict_alone}
+use Rattle.sst_entries.proofs.Strictness.{strict_alone, strict_front, strict_back}
 use Rattle.lsm_formats.specs.Chunks.{joined}
 use Rattle.lsm_formats.specs.File.{index_part, filter_part, closing_sections, sections_of}
 use Rattle.lsm_formats.specs.Fits.{BlockFits, EntryFits}
@@ -27,11 +27,12 @@ use Rattle.lsm_formats.specs.Kinds.{index_sections}
 use Rattle.lsm_formats.specs.Layout.{Sections, bytes_in, laid}
 use Rattle.lsm_formats.specs.declared.options.IndexKind.{IndexKind}
 use Rattle.lsm_formats.specs.declared.options.IndexKind.TheVariants.{Full as FullIndex}
-use Rattle.lsm_formats.specs.declared.options.IndexKind.TheVariants.{Partitioned as PartitionedIndex}
+use Rattle.lsm_formats.specs.declared.options.IndexKind.TheVariants.{
+  Partitioned as PartitionedIndex,
+}
 use Rattle.lsm_writers.specs.Tables.{leading_chunks, list_in}
 use Rattle.lsm_writers.specs.Writing.{IsFinished, Writing, written}
 use Rattle.lsm_writers.proofs.Cutting.{block_len, len_again, past_header}
-use Rattle.lsm_writers.proofs.Orders.{strict_front, strict_back}
 
 -- a chunk whose block gives it back
 pub record GivesBack (c : List Entry) : Type 0 where

@@ -20,7 +20,9 @@ use Rattle.lsm_formats.specs.Layout.{Sections, appended}
 use Rattle.lsm_formats.specs.Parts.{parts_after}
 use Rattle.lsm_formats.specs.declared.options.FilterKind.{FilterKind}
 use Rattle.lsm_formats.specs.declared.options.FilterKind.TheVariants.{Full as FullFilter}
-use Rattle.lsm_formats.specs.declared.options.FilterKind.TheVariants.{Partitioned as PartitionedFilter}
+use Rattle.lsm_formats.specs.declared.options.FilterKind.TheVariants.{
+  Partitioned as PartitionedFilter,
+}
 use Rattle.lsm_section_writers.specs.FilterEither.{HoldsBy, failed_by, kind_by, policy_by}
 use Rattle.lsm_section_writers.specs.Given.{GivenKeys, given_by, no_keys as no_given, with_key}
 use Rattle.lsm_section_writers.specs.Rising.{AreRising, Rises}
@@ -30,8 +32,12 @@ use Rattle.lsm_section_writers.specs.Held.{CutParts, Hashes, HoldsHashes, HoldsP
 use Rattle.lsm_section_writers.specs.FilterRefusing.{filter_fault, given_fault, register_fault}
 use Rattle.lsm_section_writers.specs.Writing.{WritesFilter, WritesParts}
 use Rattle.lsm_section_writers.specs.declared.filter_either.FilterWriterImpl.{FilterWriterImpl}
-use Rattle.lsm_section_writers.specs.declared.filter_either.FilterWriterImpl.TheVariants.{Full as FullWriter}
-use Rattle.lsm_section_writers.specs.declared.filter_either.FilterWriterImpl.TheVariants.{Partitioned as PartitionedWriter}
+use Rattle.lsm_section_writers.specs.declared.filter_either.FilterWriterImpl.TheVariants.{
+  Full as FullWriter,
+}
+use Rattle.lsm_section_writers.specs.declared.filter_either.FilterWriterImpl.TheVariants.{
+  Partitioned as PartitionedWriter,
+}
 use Rattle.lsm_formats.specs.Chunks.{joined}
 use Rattle.lsm_writers.specs.Counts.{tally_of}
 use Rattle.lsm_writers.specs.Cut.{rest_chunk}
@@ -280,10 +286,6 @@ pub first_rises : {A : Type 0} (kind : FilterKind) (policy : BloomConstructionPo
 first_rises kind policy w keys key h none rising =
     rises_given kind policy w [] key h (subst (λ (ks : List (List ℕ)). AreRising (ks ++ key ∷ []))
     none rising)
-
-pub none_of : {W : Type 0} (o : Option W) → ((w : W) → o ≡ Some w → ⊥) → o ≡ None
-none_of None not_some = refl
-none_of (Some w) not_some = absurd (not_some w refl)
 
 -- once it was, a writer that is there from then on has it
 pub registered_first : {A : Type 0} (kind : FilterKind) (policy : BloomConstructionPolicy)

@@ -31,7 +31,9 @@ use Rattle.lsm_section_writers.specs.declared.filter_either.FilterWriterImpl.{Fi
 use Rattle.lsm_writers.specs.Filtering.{IsFiltered, MayHaveKeys}
 use Rattle.lsm_formats.specs.declared.options.IndexKind.{IndexKind}
 use Rattle.lsm_formats.specs.declared.options.IndexKind.TheVariants.{Full as FullIndex}
-use Rattle.lsm_formats.specs.declared.options.IndexKind.TheVariants.{Partitioned as PartitionedIndex}
+use Rattle.lsm_formats.specs.declared.options.IndexKind.TheVariants.{
+  Partitioned as PartitionedIndex,
+}
 use Rattle.lsm_section_writers.specs.IndexRefusing.{index_fault, parts_fault}
 use Rattle.lsm_section_writers.specs.FilterRefusing.{filter_fault}
 use Rattle.lsm_section_writers.specs.Writing.{WritesFilter}
@@ -47,7 +49,7 @@ use Rattle.lsm_section_writers.specs.Registered.{Registered}
 use Rattle.lsm_writers.specs.Held.{AreTableParts, IsShortest, IsHeld}
 use Rattle.sst_blocks.specs.Handle.{Handle}
 use Rattle.lsm_formats.specs.Index.{data_section, handles, last_entry}
-use Rattle.lsm_formats.specs.MetaBlock.{Blocks, meta_entries, meta_entry, meta_items, name_of}
+use Rattle.lsm_formats.specs.MetaBlock.{BlockCounts, meta_entries, meta_entry, meta_items, name_of}
 use Rattle.lsm_formats.specs.declared.item_name.ItemName.{ItemName}
 use Rattle.lsm_formats.specs.declared.item_name.ItemName.TheVariants as item
 use Rattle.lsm_formats.proofs.MetaItems.{IsShort, items_each, items_few, items_strict}
@@ -136,7 +138,7 @@ key_small name key short fits = (
   omega (arith, short, fits),
 )
 
-items_fit : (label : Label) (options : Options) (counted : Blocks) (f : ListFacts) (a b d : ℕ)
+items_fit : (label : Label) (options : Options) (counted : BlockCounts) (f : ListFacts) (a b d : ℕ)
     → length f.max_key ≤ 1048576 → length f.min_key ≤ 1048576
     → entries_fault (meta_items V4 label options counted f a b d) ≡ None
 unfolding name_of
@@ -159,13 +161,13 @@ pub last_short : (es : List Entry) → AllByRecursion (EntryFits V4) es
 last_short [] h = rw nothing_last (omega arith)
 last_short (e ∷ es) h = rw (last_of_cons None e es) (last_all (EntryFits V4) e es h).key
 
-pub counted_strict : {A : Type 0} (label : Label) (options : Options) (counts : Blocks)
+pub counted_strict : {A : Type 0} (label : Label) (options : Options) (counts : BlockCounts)
     (m : Metadata A) → IsStrict (counted_items label options counts m)
 unfolding counted_items
 counted_strict label options counts m = items_strict V4 label options counts
     (counted_facts m) m.data_block_count m.file_pos.0 m.uncompressed_size
 
-pub counted_fit : {A : Type 0} (label : Label) (options : Options) (counts : Blocks)
+pub counted_fit : {A : Type 0} (label : Label) (options : Options) (counts : BlockCounts)
     (m : Metadata A) → HasShortKeys m → entries_fault (counted_items label options counts m) ≡ None
 unfolding counted_items
 counted_fit label options counts m h = items_fit label options counts

@@ -11,6 +11,7 @@ use Rattle.sst_entries.specs.Strict.{last_of, IsStrictAfter}
 use Rattle.sst_entries.specs.declared.error.Error.{Error}
 use Rattle.sst_entries.proofs.Booleans.{and_both, and_parts}
 use Rattle.sst_entries.proofs.Lists.{all_behind}
+use Rattle.sst_entries.proofs.Strictness.{strict_back}
 use Rattle.lsm_writers.specs.declared.writer.FinishedTable.{FinishedTable}
 use Rattle.lsm_formats.specs.declared.label.Label.{Label}
 use Rattle.lsm_formats.specs.Options.{default_options}
@@ -19,7 +20,7 @@ use Rattle.lsm_writers.specs.Writing.{early_ends, may_be_written, gained, spills
 use Rattle.lsm_writers.specs.Writing.{IsFinished, IsTableOf, IsWritable, Writing}
 use Rattle.lsm_formats.specs.Chunks.{joined, is_full}
 use Rattle.lsm_writers.proofs.Cutting.{joined_more}
-use Rattle.lsm_writers.proofs.Orders.{strict_back, ends_follow}
+use Rattle.lsm_writers.proofs.Orders.{ends_follow}
 
 -- an entry of a list follows those before it
 pub listed_follows : (xs : List Entry) (e : Entry) (ys : List Entry) → IsWritable (xs ++ e ∷ ys)

@@ -9,6 +9,7 @@ use Rattle.sst_entries.specs.declared.value_type.ValueType.TheVariants.{Value}
 use Rattle.sst_entries.specs.Entry.{Entry, entry}
 use Rattle.sst_blocks.specs.Handles.{end_of, AreStrictHandles}
 use Rattle.sst_entries.proofs.OrderLemmas.{before_trans}
+use Rattle.sst_entries.proofs.Strictness.{strict_front, strict_back}
 use Rattle.sst_entries.specs.Strict.{is_before, may_follow, IsStrictAfter, IsStrict, last_of}
 use Rattle.lsm_formats.specs.Chunks.{joined}
 use Rattle.lsm_writers.specs.Writing.{may_be_written}
@@ -24,18 +25,6 @@ pub last_of-append : (before : Option Entry) (xs ys : List Entry)
 unfolding last_of
 last_of-append before [] ys = refl
 last_of-append before (x ∷ xs) ys = last_of-append (Some x) xs ys
-
-pub strict_front : (before : Option Entry) (xs ys : List Entry) → IsStrictAfter before (xs ++ ys)
-    → IsStrictAfter before xs
-unfolding IsStrictAfter
-strict_front before [] ys h = tt
-strict_front before (x ∷ xs) ys h = (h.0, strict_front (Some x) xs ys h.1)
-
-pub strict_back : (before : Option Entry) (xs ys : List Entry) → IsStrictAfter before (xs ++ ys)
-    → IsStrictAfter (last_of before xs) ys
-unfolding IsStrictAfter last_of
-strict_back before [] ys h = h
-strict_back before (x ∷ xs) ys h = strict_back (Some x) xs ys h.1
 
 -- what may come before the first of a strict list may come before its last
 last_follows : (before : Option Entry) (x : Entry) (xs : List Entry) → may_follow before x ≡ true

@@ -19,10 +19,14 @@ use Rattle.lsm_formats.specs.Layout.{appended, laid, starts_from}
 use Rattle.lsm_section_writers.specs.Writing.{WritesFilter}
 use Rattle.lsm_formats.specs.declared.options.FilterKind.{FilterKind}
 use Rattle.lsm_formats.specs.declared.options.FilterKind.TheVariants.{Full as FullFilter}
-use Rattle.lsm_formats.specs.declared.options.FilterKind.TheVariants.{Partitioned as PartitionedFilter}
+use Rattle.lsm_formats.specs.declared.options.FilterKind.TheVariants.{
+  Partitioned as PartitionedFilter,
+}
 use Rattle.lsm_formats.specs.declared.options.IndexKind.{IndexKind}
 use Rattle.lsm_formats.specs.declared.options.IndexKind.TheVariants.{Full as FullIndex}
-use Rattle.lsm_formats.specs.declared.options.IndexKind.TheVariants.{Partitioned as PartitionedIndex}
+use Rattle.lsm_formats.specs.declared.options.IndexKind.TheVariants.{
+  Partitioned as PartitionedIndex,
+}
 
 index_starts : (P : SectionName × ℕ → Type 0) (k : IndexKind) (at from : ℕ) (hs : List Handle)
     (parts : List (List Handle)) → ((n : ℕ) → P (Index, n)) → ((n : ℕ) → P (Tli, n))

@@ -22,8 +22,8 @@ use Rattle.lsm_writers.specs.declared.writer.meta.Metadata.{Metadata}
 use Rattle.lsm_writers.specs.declared.writer.meta.Tally.{Tally}
 use Rattle.lsm_writers.specs.Counts.{metadata_of, brought, tally_of, added, with_entry, HasRoom}
 use Rattle.lsm_writers.specs.Cut.{Cut, rest_chunk, with_cut}
-use Rattle.lsm_formats.specs.Facts.{count_after, lowest_seqno, highest_seqno, is_tombstone, is_weak}
-use Rattle.lsm_formats.specs.Facts.{is_reclaimable, starts_key, one_if, first_key}
+use Rattle.lsm_formats.specs.Facts.{count_after, lowest_seqno, highest_seqno}
+use Rattle.lsm_formats.specs.Facts.{one_if, first_key}
 use Rattle.lsm_formats.specs.Fits.{EntryFits}
 use Rattle.lsm_writers.specs.Held.{IsUnfilled, IsHeld, IsShortest, IsTaken}
 use Rattle.lsm_writers.specs.Writing.{item_fault, may_be_written}

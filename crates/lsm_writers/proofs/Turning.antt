@@ -15,7 +15,7 @@ use Rattle.lsm_formats.specs.Chunks.{joined}
 use Rattle.lsm_writers.specs.declared.writer.FinishedTable.{FinishedTable}
 use Rattle.lsm_writers.specs.Cut.{rest_chunk}
 use Rattle.lsm_writers.specs.Tables.{GoesOn, IsFreshRun, IsStanding, TablesWriting, all_written}
-use Rattle.lsm_writers.specs.Tables.{drawn, early_fault, gained_all, ids_after, ids_fault, is_due}
+use Rattle.lsm_writers.specs.Tables.{drawn, early_refusal, gained_all, ids_after, ids_fault, is_due}
 use Rattle.lsm_writers.specs.Tables.{lists_in, new_tables, next_id, next_writing, rotated}
 use Rattle.lsm_writers.specs.Tables.{rotation_fault, standing, took, took_fault, turn_fault}
 use Rattle.lsm_writers.specs.Writing.{IsFresh, Writing, fresh_writing, gained, may_be_written}
@@ -140,12 +140,12 @@ module _ {A : Type 0} (target : ℕ) (ids ids' : Option ℕ) (fs fs' : List (Fin
 
   early_by : (x : Error) (due : Bool) → is_due target w e ≡ due
       → IsStanding due ids fs w ids' fs' w' → turn_fault target ids w e ≡ None
-      → early_fault (state_of target ids fs w false) e ≡ Some x → write_fault w' e ≡ Some x
+      → early_refusal (state_of target ids fs w false) e ≡ Some x → write_fault w' e ≡ Some x
   early_by x false h s fine early =
-      let told : early_fault (state_of target ids fs w false) e ≡ write_fault w e = rw h refl in
+      let told : early_refusal (state_of target ids fs w false) e ≡ write_fault w e = rw h refl in
       ap (λ (v : Writing). write_fault v e) s.2 ∙ (sym told ∙ early)
   early_by x true h s fine early =
-      let told : early_fault (state_of target ids fs w false) e ≡ ids_fault ids = rw h refl in
+      let told : early_refusal (state_of target ids fs w false) e ≡ ids_fault ids = rw h refl in
       let turned : turn_fault target ids w e ≡ rotation_fault ids w = rw h refl in
       let none : ids_fault ids ≡ None = ids_left ids w (sym turned ∙ fine) in
       let both : None ≡ Some x = sym none ∙ (sym told ∙ early) in
@@ -196,7 +196,7 @@ module _ {A : Type 0} (target : ℕ) (ids ids' : Option ℕ) (fs fs' : List (Fin
         (stands_by false _ refl stands))
 
     pub early_is : turn_fault target ids w e ≡ None → (x : Error)
-        → early_fault (state_of target ids fs w failed) e ≡ Some x → write_fault w' e ≡ Some x
+        → early_refusal (state_of target ids fs w failed) e ≡ Some x → write_fault w' e ≡ Some x
     early_is fine x early = early_by x _ refl stands fine (rw works at early)
 
     pub still_goes_on : turn_fault target ids w e ≡ None → (v : Writing) → v ≡ gained w' e
@@ -213,10 +213,10 @@ module _ {A : Type 0} (target : ℕ) (ids ids' : Option ℕ) (fs fs' : List (Fin
 -- a table was due, and no id is left for it
 pub early_due : {A : Type 0} (target : ℕ) (ids : Option ℕ) (fs : List (FinishedTable A))
     (w : Writing) (e : Entry) (failed : Bool) (x : Error) → failed ≡ false
-    → is_due target w e ≡ true → early_fault (state_of target ids fs w failed) e ≡ Some x
+    → is_due target w e ≡ true → early_refusal (state_of target ids fs w failed) e ≡ Some x
     → (if is_due target w e then ids_fault ids else None) ≡ Some x
 early_due target ids fs w e failed x works due early =
-    let told : early_fault (state_of target ids fs w failed) e ≡ ids_fault ids =
+    let told : early_refusal (state_of target ids fs w failed) e ≡ ids_fault ids =
     rw (works, due) refl in
     rw due (sym told ∙ early)
 
@@ -251,10 +251,10 @@ module _ {A : Type 0} (target : ℕ) (ids : Option ℕ) (fs : List (FinishedTabl
   pub spent_fault : took_fault (state_of target ids fs w failed) e ≡ Some WriterFailed
   spent_fault = rw spent refl
 
-  pub spent_first : (x : Error) → early_fault (state_of target ids fs w failed) e ≡ Some x
+  pub spent_first : (x : Error) → early_refusal (state_of target ids fs w failed) e ≡ Some x
       → Some x ≡ Some WriterFailed
   spent_first x early =
-      let told : early_fault (state_of target ids fs w failed) e ≡ Some WriterFailed =
+      let told : early_refusal (state_of target ids fs w failed) e ≡ Some WriterFailed =
       rw spent refl in
       sym early ∙ told
 

@@ -14,7 +14,7 @@ use Rattle.lsm_formats.specs.Facts.{ListFacts, is_tombstone, is_weak, starts_key
 use Rattle.lsm_formats.specs.Facts.{one_if, count_after, lowest_seqno, highest_seqno, first_key}
 use Rattle.lsm_formats.specs.Facts.{last_key}
 use Rattle.lsm_formats.specs.Index.{data_section}
-use Rattle.lsm_formats.specs.MetaBlock.{Blocks, meta_items}
+use Rattle.lsm_formats.specs.MetaBlock.{BlockCounts, meta_items}
 use Rattle.lsm_formats.specs.declared.options.Options.{Options}
 use Rattle.lsm_formats.specs.declared.label.Label.{Label}
 
@@ -108,7 +108,8 @@ counted_facts m = record {
 }
 
 -- the items of the meta block of what was counted
-unfoldable pub counted_items : {A : Type 0} → Label → Options → Blocks → Metadata A → List Entry
+unfoldable pub counted_items : {A : Type 0} → Label → Options → BlockCounts → Metadata A → List
+    Entry
 counted_items label options counts m =
     meta_items V4 label options counts (counted_facts m)
     m.data_block_count m.file_pos.0 m.uncompressed_size

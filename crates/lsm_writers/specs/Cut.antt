@@ -51,7 +51,8 @@ pub record AreCut (chunks : List (List Entry)) (w : Written) (hs : List Handle)
   pub strict : IsStrict (joined chunks)
   pub last_is : last ≡ last_of None (joined chunks)
 
--- and an index writer has their handles
+-- the bytes begin with the blocks of the chunks, and have nothing else unless an index writer could
+-- not register a block; that writer has the handles of all blocks
 abbrev pub AreCutBy : List (List Entry) → Written → Registered → Option Entry → Type 0
 AreCutBy chunks w index last = AreCut chunks w index.handles last index.failed
 

@@ -246,8 +246,8 @@ took_fault m e =
     else option_or (turn_fault m.target m.ids m.present e) (write_fault (standing m e).present e)
 
 -- what of it is found before any memory is taken
-abbrev pub early_fault : TablesWriting → Entry → Option Error
-early_fault m e =
+abbrev pub early_refusal : TablesWriting → Entry → Option Error
+early_refusal m e =
     if m.failed then Some WriterFailed
     else (if is_due m.target m.present e then ids_fault m.ids else write_fault m.present e)
 

@@ -13,7 +13,8 @@ ghost use Rattle.lsm_writers.specs.Words.{finish_fault};
 ghost use Rattle.lsm_writers.specs.Words.{IsSmallFilter, may_be_written, written};
 ghost use Rattle.lsm_writers.specs.Tables.{AddsTable, AreFinished, AreInKeyOrder, AreTables};
 ghost use Rattle.lsm_writers.specs.Tables.{HasRoomFor, IsFreshRun};
-ghost use Rattle.lsm_writers.specs.Tables.{all_written, drawn, early_fault, first_label, ids_after};
+ghost use Rattle.lsm_writers.specs.Tables.{all_written, drawn, early_refusal, first_label};
+ghost use Rattle.lsm_writers.specs.Tables.{ids_after};
 ghost use Rattle.lsm_writers.specs.Tables.{ids_fault, is_due};
 ghost use Rattle.lsm_writers.specs.Tables.{new_tables, next_writing, rotation_fault, run_fault};
 ghost use Rattle.lsm_writers.specs.Tables.{table_fault, tables_of};
@@ -133,7 +134,7 @@ impl<A: Allocator + Clone> MultiWriter<A> {
         ensures listed { OnOk result (all_written self.new ≡ all_written self.old ++ item ∷ []) }
         ensures refused { Faults result (took_fault self.old item) }
         // What needs no memory to be found comes before any want of memory.
-        ensures first { FaultsFirst result (early_fault self.old item) }
+        ensures first { FaultsFirst result (early_refusal self.old item) }
         ensures memory { took_fault self.old item ≡ None → IfErr result (λ e. e ≡ OutOfMemory) }
         // So it is where an id is left, and the entry, its block and the sections of the present
         // table fit.

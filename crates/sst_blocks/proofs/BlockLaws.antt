@@ -1,17 +1,16 @@
 -- A block that was written loads.
-use Rattle.std.proofs.Common.{◌≡◌, ℕ, ◌+◌, ◌*◌, ◌-◌, ◌^◌, ◌<◌, ◌≤◌, true, List, [], ◌∷◌, ◌++◌}
+use Rattle.std.proofs.Common.{◌≡◌, ℕ, ◌+◌, ◌-◌, ◌^◌, ◌<◌, ◌≤◌, true, List, [], ◌∷◌, ◌++◌}
 use Rattle.std.proofs.Common.{length, drop, slice_range, refl, sym, ap, ◌∙◌, arith, append_assoc}
 use Rattle.std.proofs.Common.{length-append}
-use Rattle.std.specs.Prelude.{None, Some, Ok, is_some, bit_xor, nat_le}
+use Rattle.std.specs.Prelude.{None, Some, Ok, is_some, nat_le}
 use Rattle.std.proofs.lemmas.List.{take_at, drop_at, append-nil}
 use Rattle.std.proofs.lemmas.Bool.{eq-eqb}
 use Rattle.std.proofs.lemmas.Bool.Decides.{nat_tests}
-use Rattle.std.proofs.Math.Nat.{mod-lt}
 use Rattle.sst_sections.specs.declared.version.TableVersion.{TableVersion}
 use Rattle.sst_sections.specs.declared.version.TableVersion.TheVariants.{V3, V4}
 use Rattle.sst_blocks.specs.declared.block_type.BlockType.{BlockType}
 use Rattle.sst_blocks.specs.declared.block_type.BlockType.TheVariants.{Data, Index, Filter, Meta}
-use Rattle.sst_sections.specs.Fnv.{fnv1a, fnv_from, fnv_basis, fnv_prime, fnv_step}
+use Rattle.sst_sections.specs.Fnv.{fnv1a, fnv_basis}
 use Rattle.sst_sections.specs.Number.{le4, le8, num4, num8}
 use Rattle.sst_blocks.specs.Block.{header, block_bytes, header_fault, data_len, uncompressed_len}
 use Rattle.sst_blocks.specs.Block.{stored_checksum, version_in, in_grammar, checked_payload}
@@ -28,17 +27,12 @@ use Rattle.sst_entries.specs.Strict.{IsStrict}
 use Rattle.sst_blocks.proofs.Entries.{entries_read}
 use Rattle.sst_blocks.proofs.HandleLaws.{handles_read}
 use Rattle.sst_sections.proofs.Numbers.{wide4, wide8}
+use Rattle.sst_sections.proofs.FnvLemmas.{fnv_from-fits}
 use Rattle.sst_blocks.proofs.LoadLemmas.{load_checked, load_at_checked}
 
 -- hashes are numbers of eight bytes
-fnv_from-lt : (h : ℕ) (bytes : List ℕ) → h < 2 ^ 64 → fnv_from h bytes < 2 ^ 64
-unfolding fnv_from
-fnv_from-lt h [] lt = lt
-fnv_from-lt h (b ∷ bytes) lt = fnv_from-lt (fnv_step h b) bytes
-    (mod-lt (bit_xor h b * fnv_prime) (omega arith))
-
 pub fnv1a-lt : (bytes : List ℕ) → fnv1a bytes < 2 ^ 64
-fnv1a-lt bytes = fnv_from-lt fnv_basis bytes (omega arith)
+fnv1a-lt bytes = fnv_from-fits fnv_basis bytes (omega arith)
 
 -- what a header that was written says
 record Says (v : TableVersion) (kind : BlockType) (payload head : List ℕ) : Type 0 where

@@ -23,8 +23,9 @@ use Rattle.sst_blocks.specs.Reading.{parts_at, entry_at, entries_in, key_and_num
 pub use Rattle.sst_blocks.specs.Reading.{entry_format}
 use Rattle.sst_blocks.specs.Starts.{starts_of, EntriesAt}
 use Rattle.sst_entries.specs.Strict.{IsStrict, IsStrictAfter}
+use Rattle.sst_entries.proofs.Bytes.{IsBytes, IsBytes-drop}
 use Rattle.sst_sections.specs.Version.{key_width, key_limit, key_len_bytes, key_len_at}
-use Rattle.sst_sections.proofs.Numbers.{IsBytes, IsBytes-drop, wide4, wide8, key_wide}
+use Rattle.sst_sections.proofs.Numbers.{wide4, wide8, key_wide}
 use Rattle.sst_blocks.proofs.Items.{Here, guard_some, items_in_take, items_in_again, items_strict}
 use Rattle.sst_blocks.proofs.Items.{item_holds, length-starts}
 

@@ -21,7 +21,8 @@ use Rattle.sst_sections.specs.Version.{key_width, key_limit, key_len_bytes, key_
 use Rattle.sst_blocks.specs.Format.{Advances, IsFormat, items_in}
 use Rattle.sst_blocks.proofs.Items.{items_in_take, items_in_again, guard_some, Here, length-starts}
 use Rattle.sst_blocks.proofs.Items.{item_holds, items_strict}
-use Rattle.sst_sections.proofs.Numbers.{IsBytes, IsBytes-drop, wide4, wide8, key_wide}
+use Rattle.sst_sections.proofs.Numbers.{wide4, wide8, key_wide}
+use Rattle.sst_entries.proofs.Bytes.{IsBytes, IsBytes-drop}
 
 -- the parts of a handle one after another, and then other bytes
 pub handle_parts : (v : TableVersion) (h : Handle) (rest : List ℕ)

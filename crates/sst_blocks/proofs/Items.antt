@@ -19,9 +19,10 @@ use Rattle.sst_blocks.specs.Format.{Advances, Format, IsFormat, in_order, items_
 use Rattle.sst_blocks.specs.Format.{items_of}
 use Rattle.sst_blocks.specs.Starts.{starts_of, ItemsAt, SpellsAt}
 use Rattle.sst_entries.specs.Strict.{may_follow, IsStrictAfter, is_strict_after, last_of}
-use Rattle.sst_sections.proofs.Numbers.{IsBytes, IsBytes-drop, wide4}
+use Rattle.sst_sections.proofs.Numbers.{wide4}
 use Rattle.sst_entries.proofs.Strictness.{strict_from_test, test_from_strict, test_push, test_fails}
 use Rattle.sst_entries.proofs.Strictness.{last_push}
+use Rattle.sst_entries.proofs.Bytes.{IsBytes, IsBytes-drop}
 
 -- ---- starts
 

@@ -314,10 +314,10 @@ passed : {A : Type 0} (wrong : Bool) (e : Error) (told : Result A Error) (x : A)
 passed true e told x is = absurd cc
 passed false e told x is = is
 
-no_fault : {A : Type 0} (fault : Option Error) (told : Result A Error) (x : A)
+pub unless_ok : {A : Type 0} (fault : Option Error) (told : Result A Error) (x : A)
     → unless fault told ≡ Ok x → told ≡ Ok x
-no_fault None told x is = is
-no_fault (Some e) told x is = absurd cc
+unless_ok None told x is = is
+unless_ok (Some e) told x is = absurd cc
 
 checked_kind : (v : TableVersion) (checksum : ℕ) (kind : BlockType) (payload : List ℕ) (b : Loaded)
     → checked_payload v checksum kind payload ≡ Ok b → b.kind ≡ kind
@@ -334,7 +334,8 @@ load_kind body offset size kind b told =
     let wrong = not (data_len head == uncompressed_len head) || not (24 + data_len head == size) in
     let one = passed (nat_lt size 24 || nat_lt (length body) (offset + size)) Truncated
     (unless (header_fault kind head) (if wrong then Err InvalidHeader else tail)) b told in
-    let two = no_fault (header_fault kind head) (if wrong then Err InvalidHeader else tail) b one in
+    let two = unless_ok (header_fault kind head)
+    (if wrong then Err InvalidHeader else tail) b one in
     checked_kind (version_in head) (stored_checksum head) kind
     (slice_range body (offset + 24) (offset + size)) b (passed wrong InvalidHeader tail b two)
 

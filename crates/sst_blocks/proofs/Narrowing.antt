@@ -1,6 +1,6 @@
 -- What seeks leave of what was left: the entries within a bound, and the handles of a window.
 use Rattle.std.proofs.Common.{◌≡◌, ℕ, zero, suc, ◌+◌, ◌-◌, ◌<◌, ◌≤◌, Bool, true, false, cond, List}
-use Rattle.std.proofs.Common.{[], ◌∷◌, length, get_or, take, drop, max, min, refl, sym, ap, subst}
+use Rattle.std.proofs.Common.{[], ◌∷◌, length, get_or, take, drop, max, min, refl, sym, ap}
 use Rattle.std.proofs.Common.{◌∙◌, arith, inl, inr}
 use Rattle.std.specs.Prelude.{Option, Some, None, not, filter, ◌&&◌}
 use Rattle.std.specs.List.Sorted.{IsPartitionedBy}
@@ -13,15 +13,15 @@ use Rattle.sst_entries.specs.Entry.{Entry}
 use Rattle.sst_entries.specs.Point.{is_from, is_to, within, lower_place, upper_place}
 use Rattle.sst_entries.specs.Span.{Span, rest_in, front_length}
 use Rattle.sst_entries.specs.Strict.{IsStrict, IsStrictAfter}
-use Rattle.sst_entries.proofs.Booleans.{apart, is_false, not_of, not_is}
+use Rattle.sst_entries.proofs.Booleans.{apart}
 use Rattle.sst_entries.proofs.Strictness.{strict_alone}
 use Rattle.sst_blocks.specs.Handle.{Handle}
 use Rattle.sst_blocks.specs.Handles.{reaches, is_above, AreStrictHandles, from_first, window}
 use Rattle.sst_blocks.specs.Seeking.{span_from, span_to, reaching_place, above_place, KeepsLower}
 use Rattle.sst_blocks.specs.Seeking.{KeepsUpper, KeepsLowerEdge, KeepsUpperEdge}
 use Rattle.sst_blocks.proofs.Fronts.{front_passes, front_stops}
-use Rattle.sst_blocks.proofs.Reaching.{later_reaches, from_first_drop, up_to_first_take}
-use Rattle.sst_blocks.proofs.Reaching.{front_length-take, cut}
+use Rattle.sst_blocks.proofs.Reaching.{from_first_drop, up_to_first_take}
+use Rattle.sst_blocks.proofs.Reaching.{front_length-take, cut, reach_parted}
 use Rattle.sst_blocks.proofs.Within.{before, lower_parted, lower_is, upper_parted, upper_is}
 use Rattle.sst_blocks.proofs.Within.{range_within, parted_tail, fail_behind}
 
@@ -152,10 +152,6 @@ module _ {X : Type 0} (p q : X → Bool) where
   filter_same same [] = refl
   filter_same same (x ∷ xs) = rw (same x, filter_same same xs) refl
 
-and_true : (a : Bool) → (a && true) ≡ a
-and_true true = refl
-and_true false = refl
-
 and_turn : (a b : Bool) → (b && (a && true)) ≡ (a && b)
 and_turn true true = refl
 and_turn true false = refl
@@ -195,19 +191,6 @@ keeps_lower high s t kept low es was = kept ∙ ap (within Unbounded high) was
     ∙ upper_of_lower low high es
 
 -- ---- handles
-
-reach_parted : (hs : List Handle) (key : List ℕ) (bound : ℕ) → AreStrictHandles hs
-    → IsPartitionedBy (λ h. not (reaches key bound h)) hs
-reach_parted hs key bound strict i j d le lt early =
-    elim (cases_lt i j) [
-      | inl below ↦ not_of (reaches key bound (get_or hs i d))
-          (is_false (reaches key bound (get_or hs i d))
-          (λ hit. apart (reaches key bound (get_or hs j d))
-          (later_reaches hs key bound i j d strict below lt hit)
-          (not_is (reaches key bound (get_or hs j d)) early)))
-      | inr above ↦ let e : j ≡ i = omega arith in
-          subst (λ (k : ℕ). not (reaches key bound (get_or hs k d)) ≡ true) e early
-    ]
 
 -- a lower edge that is sought leaves the window from it on
 pub reaching_left : (key : List ℕ) (bound : ℕ) (s : Span Handle) → AreStrictHandles s.list

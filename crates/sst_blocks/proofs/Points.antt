@@ -19,9 +19,10 @@ use Rattle.sst_entries.specs.Point.{is_hit, point, read_place}
 use Rattle.sst_entries.specs.Span.{front_length}
 use Rattle.sst_entries.specs.Strict.{is_before, IsStrict}
 use Rattle.sst_blocks.proofs.Fronts.{front_passes, front_stops}
-use Rattle.sst_entries.proofs.Booleans.{apart, is_false, not_is, not_of, not_not, and_left}
+use Rattle.sst_entries.proofs.Booleans.{apart, is_false, not_is, not_of, not_not}
 use Rattle.sst_entries.proofs.Booleans.{and_right}
 use Rattle.sst_entries.proofs.OrderLemmas.{less_of, lt_of_cond, tie_same, before_trans, strict_at}
+use Rattle.sst_entries.proofs.KeyLemmas.{hit_key}
 
 abbrev blank : Entry
 blank = entry [] [] 0 Value
@@ -128,10 +129,6 @@ at_key key bound e same =
     ∙ tied_itself nat_list_cmp_total key in
     ap (λ (o : Ordering). is_lt (ordering_then o (nat_cmp e.seqno bound))) tie
     ∙ lt_of_cond (nat_lt e.seqno bound) (e.seqno == bound)
-
-hit_key : (key : List ℕ) (bound : ℕ) (e : Entry) → is_hit key bound e ≡ true → e.user_key ≡ key
-hit_key key bound e h = same_text e.user_key key
-    (sym (and_left (pointwise nat_eq e.user_key key) (nat_lt e.seqno bound) h))
 
 hit_before : (key : List ℕ) (bound : ℕ) (e : Entry) → is_hit key bound e ≡ true
     → is_before (read_place key bound) e ≡ true

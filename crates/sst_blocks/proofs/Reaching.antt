@@ -21,7 +21,7 @@ use Rattle.sst_entries.specs.Point.{read_place}
 use Rattle.sst_entries.specs.Span.{Span, rest_in, front_length}
 use Rattle.sst_entries.specs.Strict.{is_before}
 use Rattle.sst_blocks.proofs.SpanLemmas.{left_empty}
-use Rattle.sst_entries.proofs.Booleans.{apart, is_false, not_is}
+use Rattle.sst_entries.proofs.Booleans.{apart, is_false, not_is, or_no}
 use Rattle.sst_entries.proofs.OrderLemmas.{lt_of_cond, before_trans, strict_at}
 
 -- ---- to reach a key is to end after it
@@ -48,17 +48,13 @@ and_false : (b : Bool) → (b && false) ≡ false
 and_false true = refl
 and_false false = refl
 
-or_false : (b : Bool) → (b || false) ≡ b
-or_false true = refl
-or_false false = refl
-
 -- nothing is numbered below 0
 pub above_reaches : (key : List ℕ) (h : Handle) → is_above key h ≡ reaches key 0 h
 above_reaches key h =
     let none : nat_lt h.seqno 0 ≡ false = le-ltb h.seqno 0 (omega arith) in
     sym (ap (λ (b : Bool). key_lt key h.end_key || (same_key h.end_key key && b)) none
     ∙ ap (λ (b : Bool). key_lt key h.end_key || b) (and_false (same_key h.end_key key))
-    ∙ or_false (key_lt key h.end_key))
+    ∙ or_no (key_lt key h.end_key))
 
 -- ---- what comes before the first that reaches does not, and what comes after it does
 

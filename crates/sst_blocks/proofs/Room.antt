@@ -1,7 +1,7 @@
 -- A payload in the grammar has room for what it counts, and what is told of one that has not.
 use Rattle.std.proofs.Common.{◌≡◌, ℕ, ◌+◌, ◌*◌, ◌≤◌, Bool, true, false, List, length, refl, sym}
 use Rattle.std.proofs.Common.{◌∙◌, arith}
-use Rattle.std.specs.Prelude.{Option, Some, None, Err, is_some}
+use Rattle.std.specs.Prelude.{Err, is_some}
 use Rattle.std.proofs.lemmas.Bool.{le-leb, leb-true}
 use Rattle.sst_sections.specs.declared.version.TableVersion.{TableVersion}
 use Rattle.sst_blocks.specs.declared.block_type.BlockType.{BlockType}
@@ -17,10 +17,7 @@ use Rattle.sst_blocks.proofs.Entries.{entries_advance, entries_in_same, length-s
 use Rattle.sst_blocks.proofs.HandleLaws.{handles_advance, handles_in_same, length-handle_spelled}
 use Rattle.sst_blocks.proofs.Items.{items_room}
 use Rattle.sst_blocks.proofs.LoadLemmas.{checksum_right}
-
-there : {A : Type 0} (o : Option A) (P : Type 0) → is_some o ≡ true → ((x : A) → o ≡ Some x → P) → P
-there None P some k = absurd cc
-there (Some x) P some k = k x refl
+use Rattle.sst_blocks.proofs.Searches.{there}
 
 -- a count fits where its items would
 pub room_there : (least : ℕ) (bytes : List ℕ) → 4 + least * num4 bytes ≤ length bytes

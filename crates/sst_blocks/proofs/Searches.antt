@@ -8,8 +8,8 @@ use Rattle.std.proofs.lemmas.List.{drop-drop, length-drop}
 use Rattle.std.proofs.lemmas.List.Folds.{find-append}
 use Rattle.sst_entries.specs.Entry.{Entry}
 use Rattle.sst_entries.specs.Strict.{may_follow}
+use Rattle.sst_entries.proofs.Bytes.{IsBytes}
 use Rattle.sst_sections.specs.Number.{num4}
-use Rattle.sst_sections.proofs.Numbers.{IsBytes}
 use Rattle.sst_blocks.specs.Format.{Advances, Format, IsFormat, items_at, items_in}
 use Rattle.sst_blocks.proofs.Items.{Walk, items_read, option_map_some, walk_all, walk_begins}
 use Rattle.sst_blocks.proofs.Items.{walk_on}
@@ -44,7 +44,9 @@ or_found : {X : Type 0} (found next : Option X) → is_some found ≡ true
 or_found (Some x) next some = refl
 or_found None next some = absurd cc
 
-there : {A : Type 0} (o : Option A) (P : Type 0) → is_some o ≡ true → ((x : A) → o ≡ Some x → P) → P
+-- there is one, and what follows of it holds
+pub there : {A : Type 0} (o : Option A) (P : Type 0) → is_some o ≡ true
+    → ((x : A) → o ≡ Some x → P) → P
 there None P some k = absurd cc
 there (Some x) P some k = k x refl
 

@@ -12,6 +12,7 @@ use Rattle.sst_entries.specs.Key.{key_lt}
 use Rattle.sst_entries.specs.Point.{is_from, is_to, within, lower_place, upper_place}
 use Rattle.sst_entries.specs.Span.{rest_in, front_length}
 use Rattle.sst_entries.specs.Strict.{IsStrict}
+use Rattle.sst_entries.proofs.Booleans.{is_false, not_not}
 use Rattle.sst_blocks.proofs.Points.{below_parted, up_to_parted}
 use Rattle.sst_blocks.proofs.SpanLemmas.{front_length-le}
 
@@ -25,10 +26,6 @@ module _ {X : Type 0} (p : X → Bool) where
   pub parted_tail : (x : X) (xs : List X) → IsPartitionedBy p (x ∷ xs) → IsPartitionedBy p xs
   parted_tail x xs h i j d le lt passed = h (suc i) (suc j) d (omega (arith, le))
       (omega (arith, lt)) passed
-
-  is_false : (b : Bool) → (b ≡ true → ⊥) → b ≡ false
-  is_false true h = absurd (h refl)
-  is_false false h = refl
 
   -- behind one that fails none passes
   pub fail_behind : (x : X) (xs : List X) → IsPartitionedBy p (x ∷ xs) → p x ≡ false
@@ -101,10 +98,6 @@ module _ {X : Type 0} (low high : X → Bool) where
   all_low x xs here more zero d lt = here
   all_low x xs here more (suc i) d lt = more i d (omega (arith, lt))
 
-  not_true : (b : Bool) → not b ≡ false → b ≡ true
-  not_true true h = refl
-  not_true false h = absurd cc
-
   -- the middle of a list that both tests cut
   pub between : (xs : List X) → IsPartitionedBy (λ x. not (low x)) xs → IsPartitionedBy high xs
       → slice_range xs (front_length (λ x. not (low x)) xs) (front_length high xs) ≡ filter both xs
@@ -119,7 +112,7 @@ module _ {X : Type 0} (low high : X → Bool) where
         | true ↦ λ t.
             let fails : not (low x) ≡ false = rw t refl in
             let all : (i : ℕ) (d : X) → i < length (x ∷ xs) → low (get_or (x ∷ xs) i d) ≡ true =
-            all_low x xs t (λ i d lt. not_true (low (get_or xs i d))
+            all_low x xs t (λ i d lt. not_not (low (get_or xs i d))
             (fail_behind below x xs l fails i d lt)) in
             let n : front_length high (x ∷ xs) - 0 ≡ front_length high (x ∷ xs) = omega arith in
             ap (λ (k : ℕ). slice_range (x ∷ xs) k (front_length high (x ∷ xs))) (begins x xs t)
@@ -142,9 +135,9 @@ module _ {X : Type 0} (low high : X → Bool) where
 
 -- ---- entries within edges
 
-not_not : (b : Bool) → not (not b) ≡ b
-not_not true = refl
-not_not false = refl
+not_twice : (b : Bool) → not (not b) ≡ b
+not_twice true = refl
+not_twice false = refl
 
 front_all : {X : Type 0} (xs : List X) → front_length (λ x. true) xs ≡ length xs
 front_all [] = refl
@@ -166,7 +159,7 @@ before low e = not (is_from low e.user_key)
 pub lower_parted : (low : Bound (List ℕ)) (es : List Entry) → IsStrict es
     → IsPartitionedBy (before low) es
 lower_parted (Included low) es strict = same_parts (λ (e : Entry). key_lt e.user_key low)
-    (before (Included low)) (λ e. sym (not_not (key_lt e.user_key low))) es
+    (before (Included low)) (λ e. sym (not_twice (key_lt e.user_key low))) es
     (below_parted es low strict)
 lower_parted (Excluded low) es strict = up_to_parted es low strict
 lower_parted Unbounded es strict = λ i j d le lt passed. absurd cc
@@ -174,7 +167,7 @@ lower_parted Unbounded es strict = λ i j d le lt passed. absurd cc
 pub lower_is : (low : Bound (List ℕ)) (es : List Entry)
     → lower_place low es ≡ front_length (before low) es
 lower_is (Included low) es = same_front (λ (e : Entry). key_lt e.user_key low)
-    (before (Included low)) (λ e. sym (not_not (key_lt e.user_key low))) es
+    (before (Included low)) (λ e. sym (not_twice (key_lt e.user_key low))) es
 lower_is (Excluded low) es = refl
 lower_is Unbounded [] = refl
 lower_is Unbounded (e ∷ es) = refl

@@ -99,8 +99,7 @@ unfoldable pub has_room_for : ℕ → List ℕ → Bool
 has_room_for least payload = nat_le (4 + least * num4 payload) (length payload)
 
 -- a payload has room for what it counts, each item as short as one of its version can be; a filter
--- is
--- in its grammar
+-- is in its grammar
 abbrev pub has_room : TableVersion → BlockType → List ℕ → Bool
 has_room v Data payload = has_room_for (13 + key_width v) payload
 has_room v Meta payload = has_room_for (13 + key_width v) payload

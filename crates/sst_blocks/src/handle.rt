@@ -98,8 +98,12 @@ impl<A: Allocator> Clone for KeyedBlockHandle<A> {
 impl<A: Allocator> KeyedBlockHandle<A> {
     /// A handle of its parts.
     pub fn new(end_key: UserKey<A>, seqno: SeqNo, handle: BlockHandle) -> KeyedBlockHandle<A>
-        ensures { result ≡
-            record { end_key = end_key; seqno = seqno; offset = handle.offset; size = handle.size } }
+        ensures { result ≡ record {
+          end_key = end_key;
+          seqno = seqno;
+          offset = handle.offset;
+          size = handle.size;
+        } }
     {
         KeyedBlockHandle {
             end_key,

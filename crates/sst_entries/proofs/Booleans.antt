@@ -54,3 +54,15 @@ and_false false b h = refl
 pub or_right : (a b : Bool) → b ≡ true → (a || b) ≡ true
 or_right true b h = refl
 or_right false b h = h
+
+pub or_left : (a b : Bool) → a ≡ true → (a || b) ≡ true
+or_left true b h = refl
+or_left false b h = absurd cc
+
+pub or_first : (a b : Bool) → (a || b) ≡ true → b ≡ false → a ≡ true
+or_first true b h none = refl
+or_first false b h none = absurd (apart b h none)
+
+pub or_no : (b : Bool) → (b || false) ≡ b
+or_no true = refl
+or_no false = refl

@@ -1,14 +1,16 @@
 -- The order of keys.
 use Rattle.std.proofs.Common.{◌≡◌, refl, sym, ◌∙◌, ap, subst, ℕ, Bool, true, false, List}
-use Rattle.std.specs.Prelude.{not}
+use Rattle.std.specs.Prelude.{not, nat_lt}
 use Rattle.std.specs.declared.cmp.Ordering.{Ordering}
 use Rattle.std.specs.declared.cmp.Ordering.TheVariants.{Less, Equal, Greater}
 use Rattle.std.specs.Ordering.{nat_cmp, is_lt, is_eq, ordering_reverse}
 use Rattle.std.specs.Cmp.Lexicographic.{slice_cmp, nat_list_cmp_total, nat_list_eq_equiv, same_text}
 use Rattle.std.specs.Cmp.Lexicographic.{texts_ties}
 use Rattle.std.proofs.lemmas.Cmp.{tied_itself}
+use Rattle.sst_entries.specs.Entry.{Entry}
 use Rattle.sst_entries.specs.Key.{same_key, key_lt}
-use Rattle.sst_entries.proofs.Booleans.{apart, is_false, not_true, not_false}
+use Rattle.sst_entries.specs.Point.{is_hit}
+use Rattle.sst_entries.proofs.Booleans.{and_left, apart, is_false, not_true, not_false}
 use Rattle.sst_entries.proofs.OrderLemmas.{lt_trans}
 
 abbrev pub KeyLe : List ℕ → List ℕ → Type 0
@@ -68,3 +70,8 @@ le_lt a b c p q =
       | true ↦ λ e. subst (λ (k : List ℕ). key_lt k c ≡ true) (same_is b a e) q
       | false ↦ λ e. lt_trans a b c (le_other a b p e) q
     ] refl
+
+-- what a point read takes has its key
+pub hit_key : (key : List ℕ) (bound : ℕ) (e : Entry) → is_hit key bound e ≡ true → e.user_key ≡ key
+hit_key key bound e h = same_is e.user_key key
+    (and_left (same_key e.user_key key) (nat_lt e.seqno bound) h)

@@ -3,6 +3,7 @@ pub mod VecSource
 pub mod FrontLemmas
 pub mod Booleans
 pub mod Lists
+pub mod Bytes
 pub mod OrderLemmas
 pub mod KeyLemmas
 pub mod Strictness

@@ -1,6 +1,12 @@
--- What holds of each of a list.
-use Rattle.std.proofs.Common.{List, [], ◌∷◌, ◌++◌}
+-- What holds of each of a list, and where there is none.
+use Rattle.std.proofs.Common.{◌≡◌, refl, List, [], ◌∷◌, ◌++◌}
+use Rattle.std.specs.Prelude.{Option, Some, None}
 use Rattle.std.specs.List.{AllByRecursion}
+
+-- what is nothing that there may be is none
+pub none_of : {X : Type 0} (o : Option X) → ((x : X) → o ≡ Some x → ⊥) → o ≡ None
+none_of None not = refl
+none_of (Some x) not = absurd (not x refl)
 
 module _ {X : Type 0} where
   pub all_more : (P Q : X → Type 0) → ((x : X) → P x → Q x) → (xs : List X) → AllByRecursion P xs

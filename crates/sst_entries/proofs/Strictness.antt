@@ -1,9 +1,10 @@
 -- Strict lists, and the test for them.
-use Rattle.std.proofs.Common.{◌≡◌, refl, Bool, true, false, List, [], ◌∷◌, ◌++◌}
-use Rattle.std.specs.Prelude.{Option, Some, None, ◌&&◌}
+use Rattle.std.proofs.Common.{◌≡◌, refl, true, false, List, [], ◌∷◌, ◌++◌}
+use Rattle.std.specs.Prelude.{Option, Some, None}
 use Rattle.sst_entries.specs.Entry.{Entry}
-use Rattle.sst_entries.specs.Strict.{may_follow, IsStrictAfter, is_strict_after, last_of}
+use Rattle.sst_entries.specs.Strict.{is_before, may_follow, IsStrictAfter, is_strict_after, last_of}
 use Rattle.sst_entries.proofs.Booleans.{and_left, and_right, and_both, and_false}
+use Rattle.sst_entries.proofs.OrderLemmas.{before_trans}
 
 pub strict_from_test : (last : Option Entry) (es : List Entry) → is_strict_after last es ≡ true
     → IsStrictAfter last es
@@ -59,3 +60,22 @@ pub strict_alone : (last : Option Entry) (es : List Entry) → IsStrictAfter las
 unfolding IsStrictAfter
 strict_alone last [] h = tt
 strict_alone last (e ∷ es) h = (refl, h.1)
+
+-- both parts of a strict list
+pub strict_front : (last : Option Entry) (es rest : List Entry) → IsStrictAfter last (es ++ rest)
+    → IsStrictAfter last es
+unfolding IsStrictAfter
+strict_front last [] rest h = tt
+strict_front last (e ∷ es) rest h = (h.0, strict_front (Some e) es rest h.1)
+
+pub strict_back : (last : Option Entry) (es rest : List Entry) → IsStrictAfter last (es ++ rest)
+    → IsStrictAfter (last_of last es) rest
+unfolding IsStrictAfter last_of
+strict_back last [] rest h = h
+strict_back last (e ∷ es) rest h = strict_back (Some e) es rest h.1
+
+-- what comes after an entry that may follow may follow too
+pub may_jump : (last : Option Entry) (x y : Entry) → may_follow last x ≡ true → is_before x y ≡ true
+    → may_follow last y ≡ true
+may_jump None x y f g = refl
+may_jump (Some l) x y f g = before_trans l x y f g

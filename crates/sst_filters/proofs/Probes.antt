@@ -2,7 +2,7 @@
 use Rattle.std.proofs.Common.{◌≡◌, refl, sym, ◌∙◌, ap, ℕ, zero, suc, ◌+◌, ◌-◌, ◌*◌, ◌/◌, ◌%◌, ◌^◌}
 use Rattle.std.proofs.Common.{◌<◌, ◌≤◌, ◌==◌, ◌||◌, ◌&&◌, Bool, true, false, List, [], ◌∷◌, ◌++◌}
 use Rattle.std.proofs.Common.{length, slice_index_or, slice_set, replicate, bit_or, mod-lt, arith}
-use Rattle.std.proofs.Common.{rules, w8, ⊎_elim, ◌≢◌, ◌⊎◌}
+use Rattle.std.proofs.Common.{w8, ⊎_elim, ◌≢◌, ◌⊎◌}
 use Rattle.std.specs.Int.{bit_at}
 use Rattle.std.specs.List.{list_any, list_all}
 use Rattle.std.proofs.lemmas.Bool.{cases_eq, cases_lt, cases_Bool}
@@ -11,7 +11,7 @@ use Rattle.std.proofs.lemmas.List.{get_or-set_same, get_or-set_other, get_or-rep
 use Rattle.std.proofs.lemmas.List.{length-replicate}
 use Rattle.std.proofs.lemmas.List.Folds.{list_any-append, list_all-append}
 use Rattle.std.proofs.lemmas.Nat.Bits.{bit_at_set_same, bit_at_set_other, bit_at-zero}
-use Rattle.sst_entries.proofs.Booleans.{apart}
+use Rattle.sst_entries.proofs.Booleans.{apart, or_no, or_right}
 use Rattle.std.proofs.Math.Numerals.{add-one}
 use Rattle.sst_filters.specs.Filter.{admits, BloomFilter, filter_in, Gains, IsFilterOf, is_in}
 use Rattle.sst_filters.specs.Filter.{is_set, probe, probes, probes_of, stride}
@@ -59,15 +59,11 @@ module _ (bytes : List ℕ) (q : ℕ) (within : q < 8 * length bytes) where
   pub bit_gained : (p : ℕ) → is_set changed p ≡ (is_set bytes p || (q == p))
   bit_gained p = ⊎_elim
       (λ (e : p ≡ q). let here : (q == p) ≡ true = yes e in ap (is_set changed) e ∙ bit_same
-      ∙ sym (or_true (is_set bytes p) (q == p) here))
+      ∙ sym (or_right (is_set bytes p) (q == p) here))
       (λ (ne : p ≢ q). let far : (q == p) ≡ false = no_other ne in bit_other p ne
       ∙ sym (or_false (is_set bytes p) (q == p) far))
       (cases_eq p q)
     where
-      or_true : (a b : Bool) → b ≡ true → (a || b) ≡ true
-      or_true true b h = refl
-      or_true false b h = h
-
       or_false : (a b : Bool) → b ≡ false → (a || b) ≡ a
       or_false true b h = refl
       or_false false b h = h
@@ -106,10 +102,6 @@ probe_is h i n len e =
 pub is_in_more : (p q : ℕ) (ps : List ℕ) → is_in p (ps ++ q ∷ []) ≡ (is_in p ps || (q == p))
 is_in_more p q ps = list_any-append (λ (x : ℕ). x == p) ps (q ∷ [])
     ∙ ap (λ (b : Bool). is_in p ps || b) (or_no (q == p))
-  where
-    or_no : (b : Bool) → (b || false) ≡ b
-    or_no true = refl
-    or_no false = refl
 
 -- one bit more has to be set
 pub all_more : (bytes : List ℕ) (q : ℕ) (ps : List ℕ)
@@ -127,10 +119,6 @@ pub set_none : (bytes : List ℕ) (m h p : ℕ) → is_set bytes p
     ≡ (is_set bytes p || is_in p (probes m h 0))
 set_none bytes m h p = sym (ap (λ (ps : List ℕ). is_set bytes p || is_in p ps) (probes_none m h)
     ∙ or_no (is_set bytes p))
-  where
-    or_no : (b : Bool) → (b || false) ≡ b
-    or_no true = refl
-    or_no false = refl
 
 -- one probe more is set
 pub set_more : (bytes now next : List ℕ) (m q h i p : ℕ) → q ≡ probe m h i →
@@ -202,15 +190,11 @@ all_probes bytes m h some (suc k) each =
     (in_more p ∙ ap (λ (b : Bool). b || (probe m h k == p)) here)) in
     let last : is_set bytes (probe m h k) ≡ true =
     each (probe m h k) (probe_within m h k some)
-    (in_more (probe m h k) ∙ or_yes (is_in (probe m h k) (probes m h k))
+    (in_more (probe m h k) ∙ or_right (is_in (probe m h k) (probes m h k))
     (probe m h k == probe m h k) (itself (probe m h k))) in
     ap (list_all (is_set bytes)) more ∙ all_more bytes (probe m h k) (probes m h k)
     ∙ ap (λ (b : Bool). b && is_set bytes (probe m h k)) front ∙ last
   where
-    or_yes : (a b : Bool) → b ≡ true → (a || b) ≡ true
-    or_yes true b e = refl
-    or_yes false b e = e
-
     itself : (n : ℕ) → (n == n) ≡ true
     itself n = ⊎_elim (λ e. e.0) (λ e. absurd (e.1 refl)) (eqb_tells n n)
 
@@ -232,10 +216,6 @@ set_by probe_list h p (x ∷ hashes) here at = ⊎_elim
     or_right (is_in p (probe_list x)) (list_any (λ y. is_in p (probe_list y)) hashes)
     (set_by probe_list h p hashes later at))
     (cases_Bool (x == h))
-  where
-    or_right : (a b : Bool) → b ≡ true → (a || b) ≡ true
-    or_right true b e = refl
-    or_right false b e = e
 
 -- so a filter admits each of its hashes
 pub admits_its_hashes : (f : BloomFilter) (hashes : List ℕ) (h : ℕ) → 0 < length f.bits
@@ -259,10 +239,6 @@ gains_hash f g h hashes gains of = record {
       (λ x. ap (is_in p) (sym (same x))) (hashes ++ h ∷ []);
 }
   where
-    or_no : (b : Bool) → (b || false) ≡ b
-    or_no true = refl
-    or_no false = refl
-
     any_more : (test : ℕ → Bool) (xs : List ℕ) (x : ℕ)
         → list_any test (xs ++ x ∷ []) ≡ (list_any test xs || test x)
     any_more test xs x = list_any-append test xs (x ∷ [])

@@ -56,8 +56,7 @@ abbrev pub payload_of : BloomFilter → List ℕ
 payload_of f = f.probe_count ∷ f.bits
 
 -- a filter as it is built: 1 to 30 probes, 8 bytes of bits or more, and a block, of which the
--- header takes
--- 24 bytes and the number of probes one, that is shorter than 2^32
+-- header takes 24 bytes and the number of probes one, that is shorter than 2^32
 pub record IsBuilt (f : BloomFilter) : Type 0 where
   pub some : 1 ≤ f.probe_count
   pub few : f.probe_count ≤ 30

@@ -1,5 +1,5 @@
 -- How large a filter is made, by the bits that a key is given, in tenths.
-use Rattle.std.specs.Prelude.{ℕ, ◌+◌, ◌-◌, ◌*◌, ◌/◌, ◌^◌, nat_le, nat_lt, List, [], ◌∷◌, Option}
+use Rattle.std.specs.Prelude.{ℕ, ◌+◌, ◌-◌, ◌*◌, ◌/◌, ◌^◌, nat_le, Option}
 use Rattle.std.specs.Prelude.{Some, None, min, max, replicate, if◌then◌else◌}
 use Rattle.sst_entries.specs.declared.error.Error.{Error}
 use Rattle.sst_entries.specs.declared.error.Error.TheVariants.{BlockTooLarge}

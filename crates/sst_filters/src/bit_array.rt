@@ -36,7 +36,8 @@ pub(crate) fn set_probes(bits: &mut [u8], count: u8, hash: u64)
     requires short { length bits.old < 2 ^ 60 }
     ensures length { length bits.new ≡ length bits.old }
     ensures bits { (p : ℕ) → p < 8 * length bits.old →
-        is_set bits.new p ≡ (is_set bits.old p || is_in p (probes (8 * length bits.old) hash count)) }
+        is_set bits.new p ≡
+        (is_set bits.old p || is_in p (probes (8 * length bits.old) hash count)) }
 {
     let len = bits.len() as u64 * 8;
     let stride = stride(hash);

@@ -91,7 +91,7 @@ fnv_from-differs (b ∷ bs) h g lh lg e =
     (mod-lt _ (omega arith)) (mod-lt _ (omega arith)) e)
 
 -- a hash fits
-fnv_from-fits : (h : ℕ) (bs : List ℕ) → h < 2 ^ 64 → fnv_from h bs < 2 ^ 64
+pub fnv_from-fits : (h : ℕ) (bs : List ℕ) → h < 2 ^ 64 → fnv_from h bs < 2 ^ 64
 unfolding fnv_from
 fnv_from-fits h [] lt = lt
 fnv_from-fits h (b ∷ bs) lt = fnv_from-fits (fnv_step h b) bs (mod-lt _ (omega arith))

@@ -5,6 +5,8 @@
 #[cfg(test)]
 mod data_blocks;
 #[cfg(test)]
+mod entries;
+#[cfg(test)]
 mod index_blocks;
 #[cfg(test)]
 mod payloads;

@@ -1,19 +1,16 @@
 -- A table that was stored in version 3.
-use Rattle.std.proofs.Common.{◌≡◌, refl, sym, ◌∙◌, ap, subst, ℕ, ◌<◌, ◌≤◌, ◌^◌, Bool, true, nat_lt}
-use Rattle.std.proofs.Common.{List, [], ◌∷◌, ◌+◌, ◌-◌, length, arith, ◌++◌}
+use Rattle.std.proofs.Common.{◌≡◌, refl, sym, ◌∙◌, ap, subst, ℕ, ◌<◌, ◌^◌, Bool}
+use Rattle.std.proofs.Common.{List, [], ◌∷◌, ◌+◌, ◌-◌, arith, ◌++◌}
 use Rattle.std.specs.List.{AllByRecursion}
 use Rattle.sst_entries.specs.Entry.{Entry, entry}
 use Rattle.sst_entries.specs.Strict.{IsStrict, IsStrictAfter, last_of}
-use Rattle.sst_sections.specs.Fnv.{fnv1a, fnv_from}
-use Rattle.sst_sections.specs.Number.{le2, le4, le8, le16}
+use Rattle.sst_sections.specs.Number.{le2, le4, le8}
 use Rattle.sst_sections.specs.declared.version.TableVersion.TheVariants.{V3}
 use Rattle.sst_filters.specs.declared.policy.BloomConstructionPolicy.TheVariants.{BitsPerKey}
 use Rattle.sst_blocks.specs.Handles.{handle_spelled, handles_payload}
 use Rattle.sst_blocks.specs.Handle.{Handle}
 use Rattle.sst_blocks.specs.Payload.{spelled, payload}
-use Rattle.lsm_formats.specs.Facts.{count_after, lowest_seqno, highest_seqno}
 use Rattle.lsm_formats.specs.Filters.{keys_after}
-use Rattle.lsm_formats.specs.MetaBlock.{name_of}
 use Rattle.lsm_formats.specs.Content.{Content}
 use Rattle.lsm_formats.specs.Chunks.{AreChunks, IsChunk}
 use Rattle.lsm_formats.specs.Parts.{ArePartsOf, IsPart}
@@ -21,8 +18,7 @@ use Rattle.lsm_formats.specs.Partitions.{is_full_index}
 use Rattle.sst_entries.specs.declared.value_type.ValueType.TheVariants.{Value}
 use Rattle.lsm_formats.specs.Index.{handles}
 use Rattle.lsm_formats.specs.File.{file, index_part}
-use Rattle.lsm_formats.specs.Fits.{Fits, EntryFits, BlockFits, SectionFits, LabelFits}
-use Rattle.sst_blocks.specs.Block.{header_len}
+use Rattle.lsm_formats.specs.Fits.{Fits, EntryFits, BlockFits, SectionFits}
 use Rattle.lsm_formats.specs.Table.{IsTable}
 use Rattle.lsm_readers.specs.Answer.{lift, lifted}
 use Rattle.lsm_ranges.specs.Run.{IsInOrder}
@@ -35,8 +31,9 @@ use Rattle.lsm_runs.specs.SeveralRuns.{union_in}
 use Rattle.lsm_formats.specs.Options.{label_of}
 use Rattle.lsm_formats.specs.declared.options.Options.{Options}
 use Rattle.lsm_formats.specs.declared.options.FilterKind.TheVariants.{Full as FullFilter}
-use Rattle.lsm_formats.specs.declared.options.IndexKind.TheVariants.{Partitioned as PartitionedIndex}
-use Rattle.lsm_formats.specs.declared.label.Label.{Label}
+use Rattle.lsm_formats.specs.declared.options.IndexKind.TheVariants.{
+  Partitioned as PartitionedIndex,
+}
 use Rattle.test_compactions.specs.Stored.{new_entries, stored_entries}
 
 -- a block for each entry, and a partition for each block

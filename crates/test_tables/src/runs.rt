@@ -79,8 +79,8 @@ pub fn run_of<A: Allocator + Copy>(alloc: A, lists: &[&[Row<'_>]]) -> Result<Tab
     damaged_run_of(alloc, lists, lists.len())
 }
 
-/// A run of the tables of some lists, where the block of data of the table at a place is damaged, if
-/// there is one.
+/// A run of the tables of some lists, where the block of data of the table at a place is damaged,
+/// if there is one.
 pub fn damaged_run_of<A: Allocator + Copy>(
     alloc: A,
     lists: &[&[Row<'_>]],

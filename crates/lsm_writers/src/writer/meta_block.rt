@@ -1,5 +1,5 @@
 //! The meta block of a table: what a reader is told of it.
-ghost use Rattle.std.specs.Prelude.{◌≡◌, [], ◌∷◌, ◌++◌, None, codes, map, unwrap_or, IfOk};
+ghost use Rattle.std.specs.Prelude.{◌≡◌, [], ◌∷◌, ◌++◌, None, map, unwrap_or, IfOk};
 ghost use Rattle.std.specs.Prelude.{IfErr, OnOk};
 ghost use Rattle.sst_entries.specs.declared.error.Error.TheVariants.{OutOfMemory};
 ghost use Rattle.sst_sections.specs.Number.{le4, le8, le16};
@@ -10,7 +10,8 @@ ghost use Rattle.lsm_formats.specs.Layout.{appended};
 ghost use Rattle.sst_blocks.specs.Encoding.{entries_fault};
 ghost use Rattle.sst_entries.specs.Strict.{IsStrict};
 ghost use Rattle.lsm_formats.specs.MetaBlock.{meta_entry, block_items, level_items, key_items};
-ghost use Rattle.lsm_formats.specs.MetaBlock.{option_items, count_items, version_number};
+ghost use Rattle.lsm_formats.specs.MetaBlock.{option_items, count_items, crate_version};
+ghost use Rattle.lsm_formats.specs.MetaBlock.{version_number};
 
 use crate::writer::meta::Metadata;
 use lsm_formats::{FILTER_HASH_TYPE, ItemName, Label, Options};
@@ -84,7 +85,7 @@ fn meta_items<A: Allocator + Clone>(
 {
     let mut items = Vec::new(alloc.clone()?);
     put_block_items(&mut items, label, options, counts, meta)?;
-    put_key_items(&mut items, label, meta)?;
+    put_level_and_key_items(&mut items, label, meta)?;
     put_option_items(&mut items, label, options, meta)?;
     put_count_items(&mut items, meta)?;
     Ok(items)
@@ -127,7 +128,7 @@ fn put_block_items<A: Allocator + Clone>(
 }
 
 /// The hash, the level, the number of items and the keys.
-fn put_key_items<A: Allocator + Clone>(
+fn put_level_and_key_items<A: Allocator + Clone>(
     items: &mut Vec<InternalValue<A>, A>,
     label: &Label,
     meta: &Metadata<A>,
@@ -250,7 +251,7 @@ fn bytes16(number: u128) -> [u8; 16]
 
 /// The version of the crate whose format is written.
 fn crate_version() -> &'static [u8]
-    ensures { result.now ≡ codes "3.1.10" }
+    ensures { result.now ≡ crate_version }
 {
     b"3.1.10"
 }

@@ -1,4 +1,4 @@
-use Rattle.std.proofs.Common.{◌≡◌, ◌∙◌, ap, subst, sym, List}
+use Rattle.std.proofs.Common.{◌∙◌, ap, subst, List}
 use Rattle.std.specs.Prelude.{Option, map}
 use Rattle.std.specs.Arc.{arc_value}
 use Rattle.sst_entries.specs.Entry.{Entry}
@@ -6,7 +6,7 @@ use Rattle.lsm_writers.specs.Writing.{IsWritable}
 use Rattle.lsm_runs.proofs.OneList.{one_way}
 use Rattle.std.specs.Option.{option_or}
 use Rattle.sst_entries.specs.declared.error.Error.{Error}
-use Rattle.sst_entries.proofs.Refusals.{faults_refusal}
+use Rattle.sst_entries.proofs.Refusals.{faults_refusal, faults_memory}
 use Rattle.lsm_writers.specs.Tables.{ids_fault, new_tables}
 use Rattle.lsm_writers.proofs.Refused.{memory_alone}
 use Rattle.lsm_compactions.specs.Chain.{run_label, tables_fault, writes_fault}
@@ -15,7 +15,6 @@ use Rattle.lsm_runs.specs.SeveralRuns.{union_in}
 use Rattle.lsm_compactions.proofs.CompactedBack.{as_written, compactable_again, fits_by, new_fault}
 use Rattle.lsm_compactions.proofs.CompactedBack.{small_numbers}
 use Rattle.lsm_compactions.proofs.Keeping.{stays_writable}
-use Rattle.lsm_writers.proofs.Refused.{faults_memory}
 use Rattle.lsm_compactions.proofs.RunWriting.{wants}
 use Rattle.lsm_compactions.proofs.compacted_run.compact_to_run.Goals as goal
 

@@ -1,6 +1,7 @@
 use Rattle.std.proofs.Common.{refl, sym, ◌∙◌, ap, arith}
 use Rattle.std.specs.Int.{w64, from_be_bytes}
-use Rattle.lsm_merge.proofs.WordLemmas.{IsBytes-drop, words_decide, words_leave}
+use Rattle.sst_entries.proofs.Bytes.{IsBytes-drop}
+use Rattle.lsm_merge.proofs.WordLemmas.{words_decide, words_leave}
 use Rattle.lsm_merge.proofs.words.compare_bytes.Goals as goal
 
 pub loop-a-init : goal.loop-a-init

@@ -1,7 +1,7 @@
 use Rattle.std.proofs.Common.{◌≡◌, length}
 use Rattle.std.specs.Ordering.{nat_cmp}
 use Rattle.std.specs.Cmp.Lexicographic.{slice_cmp}
-use Rattle.lsm_merge.proofs.WordLemmas.{IsBytes}
+use Rattle.sst_entries.proofs.Bytes.{IsBytes}
 use Rattle.lsm_merge.proofs.words.compare_bytes.Given as goal
 
 abbrev pub invariant-loop-a : goal.invariant-loop-a

@@ -7,7 +7,7 @@ use Rattle.sst_filters.specs.Filter.{BloomFilter}
 use Rattle.sst_blocks.specs.Handle.{Handle}
 use Rattle.sst_blocks.specs.Place.{Place}
 use Rattle.lsm_readers.specs.declared.pinned.PinnedBlockIndex.{PinnedBlockIndex}
-use Rattle.lsm_readers.specs.IndexKinds.{index_of}
+use Rattle.lsm_readers.specs.IndexKinds.{pinned_index_of}
 use Rattle.lsm_readers.specs.Parts.{Pinned, filter_told, pinned_told}
 use Rattle.lsm_readers.specs.Table.{pinned_of}
 use Rattle.lsm_readers.proofs.Steps.{goes_on, fails_here, fails_later, passes_fault, beside_fails, beside_first, beside_gives}
@@ -15,7 +15,7 @@ use Rattle.lsm_readers.proofs.table.load_pinned.Goals as goal
 
 -- what is told, by what stays loaded
 abbrev told : {A : Type 0} → PinnedBlockIndex A → Option (List Handle) → Option BloomFilter → Result Pinned Error
-told index tops filter = Ok (record { index = index_of index; filter_tops = tops; filter = filter })
+told index tops filter = Ok (record { index = pinned_index_of index; filter_tops = tops; filter = filter })
 
 pub returns-in_err-index : goal.returns-in_err-index
 unfolding pinned_told

@@ -6,7 +6,7 @@ use Rattle.std.specs.Prelude.{Result, Ok}
 use Rattle.sst_entries.specs.declared.error.Error.{Error}
 use Rattle.lsm_readers.specs.declared.meta.ParsedMeta.{ParsedMeta}
 use Rattle.lsm_readers.specs.declared.regions.ParsedRegions.{ParsedRegions}
-use Rattle.lsm_readers.specs.Parts.{Parts, Pinned, parts_told, number_told, pinned_told, places_told}
+use Rattle.lsm_readers.specs.Parts.{Parts, Pinned, parts_told, facts_fitting, pinned_told, places_told}
 use Rattle.lsm_readers.specs.Regions.{regions_told}
 use Rattle.lsm_readers.specs.Table.{parts_of, pinned_of}
 use Rattle.lsm_readers.proofs.Recovered.{first_from, first_none, places_fine, places_first, places_none}
@@ -35,7 +35,7 @@ pub returns-in_err-metadata-clause-told : goal.returns-in_err-metadata-clause-to
 unfolding parts_told
 returns-in_err-metadata-clause-told g c =
     passes_fault (parts_of {A = g.row.A.Denot}) c.from_residual-in_err-metadata.result _ c.in_err-metadata.field-0.0 c.from_residual-in_err-metadata.ensures.1
-    (fails_later _ _ _ _ (ap regions_told (sym c.toc.ensures.toc) ∙ sym c.in_ok-regions.ensures) (both_fail (meta_told (body_of c.args.source.now) (c.in_ok-regions.regions).metadata) (λ (facts : Facts). number_told facts c.args.global_seqno) _ _ c.in_err-metadata.ensures.told))
+    (fails_later _ _ _ _ (ap regions_told (sym c.toc.ensures.toc) ∙ sym c.in_ok-regions.ensures) (both_fail (meta_told (body_of c.args.source.now) (c.in_ok-regions.regions).metadata) (λ (facts : Facts). facts_fitting facts c.args.global_seqno) _ _ c.in_err-metadata.ensures.told))
 
 pub returns-in_err-metadata-clause-number : goal.returns-in_err-metadata-clause-number
 returns-in_err-metadata-clause-number g c = IfOk-from_err _ _ c.from_residual-in_err-metadata.ensures.0
@@ -54,7 +54,7 @@ returns-in_err-metadata-2-clause-told g c =
     let e = c.in_err-metadata-2.field-0.0 in
     let fails = beside_fails (pinned_of {A = g.row.A.Denot}) c.in_ok-metadata.metadata c.load_pinned-pinned.result (pinned_told body regions c.args.pin_filter c.args.pin_index) e c.load_pinned-pinned.ensures c.in_err-metadata-2.ensures.both in
     passes_fault (parts_of {A = g.row.A.Denot}) c.from_residual-in_err-metadata-2.result _ e c.from_residual-in_err-metadata-2.ensures.1
-    (fails_later _ _ _ _ (ap regions_told (sym c.toc.ensures.toc) ∙ sym c.in_ok-regions.ensures) (both_later (meta_told body regions.metadata) (λ (facts : Facts). number_told facts c.args.global_seqno) _ _ _ c.in_ok-metadata.ensures.told (fails_here _ _ _ fails)))
+    (fails_later _ _ _ _ (ap regions_told (sym c.toc.ensures.toc) ∙ sym c.in_ok-regions.ensures) (both_later (meta_told body regions.metadata) (λ (facts : Facts). facts_fitting facts c.args.global_seqno) _ _ _ c.in_ok-metadata.ensures.told (fails_here _ _ _ fails)))
 
 pub returns-in_err-metadata-2-clause-number : goal.returns-in_err-metadata-2-clause-number
 returns-in_err-metadata-2-clause-number g c = IfOk-from_err _ _ c.from_residual-in_err-metadata-2.ensures.0
@@ -76,7 +76,7 @@ returns-clause-told g c =
     let gives = beside_gives (pinned_of {A = g.row.A.Denot}) c.in_ok-metadata.metadata call.result (pinned_told body regions c.args.pin_filter c.args.pin_index) kept pinned call.ensures c.in_ok-metadata-2.ensures.both in
     let same = beside_first c.in_ok-metadata.metadata call.result kept pinned c.in_ok-metadata-2.ensures.both in
     goes_on _ _ _ _ (ap regions_told (sym c.toc.ensures.toc) ∙ sym c.in_ok-regions.ensures)
-    (both_on (meta_told body regions.metadata) (λ (facts : Facts). number_told facts c.args.global_seqno) _ _ _ c.in_ok-metadata.ensures.told (goes_on _ _ _ _ gives (ap (λ (m : ParsedMeta g.row.A.Denot). told_parts (facts_of m) regions (pinned_of pinned)) (sym same))))
+    (both_on (meta_told body regions.metadata) (λ (facts : Facts). facts_fitting facts c.args.global_seqno) _ _ _ c.in_ok-metadata.ensures.told (goes_on _ _ _ _ gives (ap (λ (m : ParsedMeta g.row.A.Denot). told_parts (facts_of m) regions (pinned_of pinned)) (sym same))))
 
 pub returns-in_err-regions-clause-early : goal.returns-in_err-regions-clause-early
 returns-in_err-regions-clause-early g c =

@@ -1,8 +1,8 @@
 use Rattle.std.proofs.Common.{◌∙◌, ap, sym, ℕ}
 use Rattle.std.specs.Prelude.{Option}
+use Rattle.sst_entries.proofs.Refusals.{faults_memory}
 use Rattle.lsm_compactions.specs.Chain.{chain_fault}
 use Rattle.lsm_compactions.proofs.Compactable.{some_listed}
-use Rattle.lsm_writers.proofs.Refused.{faults_memory}
 use Rattle.lsm_compactions.proofs.RunWriting.{wants}
 use Rattle.lsm_tables.proofs.chain.read_run_back.Goals as goal
 

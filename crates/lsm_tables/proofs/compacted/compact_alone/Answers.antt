@@ -1,5 +1,5 @@
 use Rattle.std.proofs.Common.{◌≡◌, ◌∙◌, ap, subst, List, [], ◌∷◌, sym}
-use Rattle.std.specs.Prelude.{IfSome, Option, MatchOption}
+use Rattle.std.specs.Prelude.{IfSome, MatchOption}
 use Rattle.sst_entries.specs.Entry.{Entry}
 use Rattle.sst_entries.proofs.Refusals.{faults_refusal}
 use Rattle.lsm_readers.specs.Table.{OpenTable}

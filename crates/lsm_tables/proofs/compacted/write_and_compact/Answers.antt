@@ -4,10 +4,10 @@ use Rattle.lsm_compactions.specs.Chain.{FitsAsTables, both_fault, ids_behind}
 use Rattle.lsm_compactions.proofs.CompactedBack.{first_refused, fits_behind, none_refused}
 use Rattle.lsm_compactions.proofs.CompactedBack.{small_numbers, then_refused}
 use Rattle.lsm_compactions.proofs.CompactedBack.{written_run_is_compactable}
-use Rattle.lsm_block_indexes.proofs.OnDemands.{none_of}
 use Rattle.lsm_compactions.proofs.RunWriting.{wants}
 use Rattle.lsm_sorted.specs.Compaction.{kept, unfiltered}
 use Rattle.sst_entries.proofs.Refusals.{faults_refusal}
+use Rattle.sst_entries.proofs.Lists.{none_of}
 use Rattle.sst_entries.specs.Error.{Faults}
 use Rattle.lsm_tables.proofs.compacted.write_and_compact.Goals as goal
 

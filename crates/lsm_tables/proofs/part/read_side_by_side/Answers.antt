@@ -1,4 +1,4 @@
-use Rattle.std.proofs.Common.{◌∙◌, ap, ◌++◌, List}
+use Rattle.std.proofs.Common.{◌∙◌, ap, ◌++◌}
 use Rattle.std.specs.Prelude.{map}
 use Rattle.std.specs.Arc.{arc_value}
 use Rattle.lsm_tables.proofs.PartRuns.{sides_held}

@@ -1,4 +1,4 @@
-use Rattle.lsm_writers.proofs.Refused.{faults_memory}
+use Rattle.sst_entries.proofs.Refusals.{faults_memory}
 use Rattle.lsm_writers.proofs.Turning.{ids_fine_first, ids_spent_first, rotation_spent}
 use Rattle.lsm_writers.proofs.multi_writer.rotate.Goals as goal
 

@@ -1,8 +1,9 @@
 use Rattle.std.proofs.Common.{◌≡◌, ◌∙◌, ap, sym, List}
 use Rattle.std.specs.Prelude.{None}
 use Rattle.sst_entries.specs.Entry.{Entry}
+use Rattle.sst_entries.proofs.Refusals.{faults_memory}
 use Rattle.lsm_writers.specs.Writing.{item_fault}
-use Rattle.lsm_writers.proofs.Refused.{faults_memory, none_some}
+use Rattle.lsm_writers.proofs.Refused.{none_some}
 use Rattle.lsm_writers.proofs.writer.admit.Goals as goal
 
 pub returns-in_err-tally-clause-refused : goal.returns-in_err-tally-clause-refused

@@ -7,9 +7,9 @@ use Rattle.std.specs.Prelude.{length}
 use Rattle.sst_sections.specs.declared.version.TableVersion.TheVariants.{V4}
 use Rattle.lsm_section_writers.proofs.Behind.{faults_none}
 use Rattle.lsm_writers.proofs.Finishing.{sections_fit, sections_written}
-use Rattle.lsm_writers.proofs.Refused.{ok_then}
 use Rattle.lsm_writers.proofs.Starting.{no_meta_yet, no_version_yet}
 use Rattle.lsm_writers.proofs.writer.write_sections.Goals as goal
+use Rattle.sst_blocks.proofs.Faults.{on_ok}
 
 pub write_version-requires : goal.write_version-requires
 write_version-requires g c =
@@ -31,7 +31,7 @@ pub returns-clause-table : goal.returns-clause-table
 returns-clause-table g c =
     let index = c.in_ok-index_blocks.ensures in
     let options = c.args.options.now in
-    ok_then c.write_meta.result c.write_meta.ensures.ok (λ written cut p.
+    on_ok _ _ c.write_meta.result c.write_meta.ensures.ok (λ written cut p.
     let keys = filtered_keys options.bloom_policy (joined cut) in
     sections_written c.args.label.now options cut c.in_ok-index_blocks.index_blocks c.in_ok-filter_blocks.filter_blocks c.args.file_writer.now c.finish.new.writer c.finish_filter.new.file_writer c.write_version.new.file_writer c.write_meta.new.file_writer c.args.index_writer c.args.filter_writer c.args.meta.now p index.ok index.fits index.count (c.in_ok-filter_blocks.ensures.ok keys p.keys) c.in_ok-write_version.ensures.ok written)
 

@@ -1,9 +1,8 @@
-use Rattle.std.proofs.Common.{◌≡◌, ◌+◌, ◌<◌, ◌++◌, ◌∷◌, [], take, drop, get_or, length, true, false, Bool, List, ℕ, Option, None, refl, rules, ap, sym, subst, ◌∙◌, arith}
-use Rattle.std.specs.Prelude.{IsTrue}
+use Rattle.std.proofs.Common.{◌≡◌, ◌+◌, ◌<◌, ◌++◌, ◌∷◌, [], take, drop, get_or, length, true, false, List, ℕ, Option, None, refl, rules, ap, sym, subst, ◌∙◌}
 use Rattle.std.proofs.lemmas.List.{take_more, take_all, take-append-drop, drop_more}
 use Rattle.sst_entries.specs.Entry.{Entry}
-use Rattle.sst_entries.specs.Strict.{IsStrict, is_strict_after, last_of, may_follow}
-use Rattle.sst_entries.proofs.Booleans.{not_true, not_false, apart}
+use Rattle.sst_entries.specs.Strict.{is_strict_after, last_of, may_follow}
+use Rattle.sst_entries.proofs.Booleans.{apart}
 use Rattle.sst_entries.proofs.Strictness.{test_push, last_push, test_fails, strict_from_test, test_from_strict}
 use Rattle.sst_entries.proofs.order.are_strict.Goals as goal
 

@@ -1,4 +1,4 @@
-use Rattle.std.proofs.Common.{◌≡◌, sym, ap, ◌∙◌, ◌*◌, ◌<◌, ◌≤◌, length, ℕ, ◌+◌, ◌%◌, ◌^◌, true, false, List, arith}
+use Rattle.std.proofs.Common.{◌≡◌, sym, ap, ◌∙◌, ◌*◌, ◌≤◌, length, ℕ, ◌+◌, ◌%◌, true, false, List, arith}
 use Rattle.std.specs.List.{list_all}
 use Rattle.sst_filters.specs.Filter.{is_set, probe, probes, stride}
 use Rattle.sst_filters.proofs.Probes.{asked_none, asked_more, asked_in_vain, next_probe, probe_is}

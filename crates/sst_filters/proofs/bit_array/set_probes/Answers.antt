@@ -1,4 +1,4 @@
-use Rattle.std.proofs.Common.{◌≡◌, refl, sym, ap, subst, ◌∙◌, ◌*◌, ◌||◌, ◌==◌, ◌<◌, length, ℕ, ◌+◌, ◌%◌, ◌^◌, Bool, true, false, List, [], arith}
+use Rattle.std.proofs.Common.{◌≡◌, subst, ◌*◌, ◌||◌, length, ℕ, ◌%◌, false, arith}
 use Rattle.sst_filters.specs.Filter.{is_in, is_set, probe, probes, stride}
 use Rattle.sst_filters.proofs.Probes.{set_none, set_more, next_probe, probe_is}
 use Rattle.sst_filters.proofs.bit_array.set_probes.Goals as goal

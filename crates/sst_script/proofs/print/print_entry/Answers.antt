@@ -1,5 +1,5 @@
 use Rattle.std.proofs.Common.{◌≡◌, ◌∙◌, refl, [], ◌∷◌, ◌++◌, rules}
-use Rattle.std.proofs.KnownBytes.{Appends-nil, Appends-trans}
+use Rattle.std.proofs.KnownBytes.{Appends-trans}
 use Rattle.std.specs.Fmt.{decimal}
 use Rattle.sst_script.specs.Answer.{entry_line}
 use Rattle.sst_script.specs.Text.{letter_of, printed}

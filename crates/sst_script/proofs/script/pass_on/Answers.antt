@@ -1,6 +1,3 @@
-use Rattle.std.proofs.Common.{◌≡◌, List, ℕ, subst}
-use Rattle.std.specs.Prelude.{Option, Result}
-use Rattle.sst_script.specs.Shown.{ShowsText}
 use Rattle.sst_script.proofs.ScriptLemmas.{shows_kept}
 use Rattle.sst_script.proofs.script.pass_on.Goals as goal
 

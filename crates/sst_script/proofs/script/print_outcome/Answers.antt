@@ -1,6 +1,4 @@
-use Rattle.std.proofs.Common.{◌≡◌, ap, subst, List, ℕ, rules}
-use Rattle.sst_entries.specs.Error.{number_of}
-use Rattle.sst_script.specs.Answer.{answer_lines, refusal_line}
+use Rattle.sst_script.specs.Answer.{answer_lines}
 use Rattle.sst_script.proofs.ScriptLemmas.{ends_shown}
 use Rattle.sst_script.proofs.script.print_outcome.Goals as goal
 

@@ -1,10 +1,11 @@
 use Rattle.std.proofs.Common.{refl}
 use Rattle.sst_sections.specs.Sections.{body_of}
 use Rattle.sst_entries.specs.Stream.{back_of}
+use Rattle.sst_entries.proofs.Lists.{none_of}
 use Rattle.lsm_block_indexes.specs.Left.{OnDemand, on_demand_left}
 use Rattle.lsm_block_indexes.proofs.AtEnds.{carries_back}
 use Rattle.lsm_block_indexes.proofs.Going.{progress, back_shortens}
-use Rattle.lsm_block_indexes.proofs.OnDemands.{none_of, demand_item, demand_first, demand_fault}
+use Rattle.lsm_block_indexes.proofs.OnDemands.{demand_item, demand_first, demand_fault}
 use Rattle.lsm_block_indexes.proofs.volatile.IterDoubleEndedIterator.next_back.Goals as goal
 
 pub returns-in-Some-clause-steps : goal.returns-in-Some-clause-steps

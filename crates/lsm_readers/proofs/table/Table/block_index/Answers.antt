@@ -7,7 +7,7 @@ use Rattle.lsm_block_indexes.specs.declared.kinds.BlockIndexImpl.{BlockIndexImpl
 use Rattle.lsm_block_indexes.specs.Kinds.{index_of}
 use Rattle.lsm_block_indexes.specs.Index.{Index}
 use Rattle.lsm_readers.specs.BlockIndexes.{NamesBlocksOf, table_index}
-use Rattle.lsm_readers.specs.IndexKinds.{Kind, kind_kept, kind_of}
+use Rattle.lsm_readers.specs.IndexKinds.{Kind, kind_kept, index_kind_of}
 use Rattle.lsm_readers.specs.Table.{IsOpen, OpenTable, table_of}
 use Rattle.lsm_readers.proofs.IndexKinds.{opened_kind}
 use Rattle.lsm_readers.proofs.OneIndex.{names_blocks}
@@ -21,7 +21,7 @@ all_name t held index is (Ok i) made es file = λ lower upper.
 all_name t held index is (Err e) made es file = tt
 
 -- and of a kind that is told
-all_of_kind : {A : Type 0} (kind said : Kind) → kind ≡ said → (r : Result (BlockIndexImpl A) Error) → IfOk r (λ i. kind_of i ≡ kind) → IfOk r (λ i. kind_of i ≡ said)
+all_of_kind : {A : Type 0} (kind said : Kind) → kind ≡ said → (r : Result (BlockIndexImpl A) Error) → IfOk r (λ i. index_kind_of i ≡ kind) → IfOk r (λ i. index_kind_of i ≡ said)
 all_of_kind kind said told (Ok i) made = made ∙ told
 all_of_kind kind said told (Err e) made = tt
 

@@ -1,5 +1,5 @@
 -- All parts are written, or nothing where there are none.
-use Rattle.std.proofs.Common.{◌≡◌, ℕ, [], true, ap, refl, sym, ◌∙◌, arith}
+use Rattle.std.proofs.Common.{◌≡◌, ℕ, true, ap, refl, sym, ◌∙◌, arith}
 use Rattle.std.specs.Prelude.{Ok, Err}
 use Rattle.sst_entries.proofs.StreamLemmas.{on_err}
 use Rattle.sst_entries.specs.declared.error.Error.TheVariants.{SectionTooLarge}

@@ -4,6 +4,7 @@ use Rattle.sst_sections.specs.declared.section.SectionName.TheVariants.{Tli}
 use Rattle.lsm_formats.specs.Partitions.{handles_block}
 use Rattle.std.specs.Prelude.{OnOk, IfOk, Ok}
 use Rattle.sst_entries.proofs.StreamLemmas.{on_err}
+use Rattle.sst_entries.proofs.Refusals.{faults_memory}
 use Rattle.std.specs.List.{AllByRecursion}
 use Rattle.sst_blocks.proofs.Faults.{on_ok}
 use Rattle.sst_sections.specs.declared.version.TableVersion.TheVariants.{V4}
@@ -12,7 +13,7 @@ use Rattle.lsm_formats.specs.Kinds.{index_parts, index_sections}
 use Rattle.lsm_formats.specs.Layout.{appended}
 use Rattle.lsm_formats.specs.declared.options.IndexKind.TheVariants.{Full}
 use Rattle.lsm_section_writers.specs.Registered.{Registered}
-use Rattle.lsm_section_writers.proofs.Empty.{empty_count, empty_fault, empty_fits, empty_front, empty_written, faults_memory, same_front, vec_is_empty, vec_is_some}
+use Rattle.lsm_section_writers.proofs.Empty.{empty_count, empty_fault, empty_fits, empty_front, empty_written, same_front, vec_is_empty, vec_is_some}
 use Rattle.lsm_section_writers.proofs.Finishing.{works_fault, works_first}
 use Rattle.lsm_section_writers.proofs.index_full.FullIndexWriterBlockIndexWriter.finish.Goals as goal
 

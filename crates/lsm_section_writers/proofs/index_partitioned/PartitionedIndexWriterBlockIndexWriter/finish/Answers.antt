@@ -3,6 +3,7 @@ use Rattle.std.proofs.Common.{◌≡◌, ℕ, [], ap, subst, length}
 use Rattle.lsm_formats.specs.Partitions.{partitioned_index}
 use Rattle.std.specs.Prelude.{OnOk, IfOk, Ok}
 use Rattle.sst_entries.proofs.StreamLemmas.{on_err}
+use Rattle.sst_entries.proofs.Refusals.{faults_memory}
 use Rattle.std.specs.List.{AllByRecursion}
 use Rattle.sst_sections.specs.declared.version.TableVersion.TheVariants.{V4}
 use Rattle.lsm_formats.specs.Fits.{SectionFits}
@@ -10,7 +11,7 @@ use Rattle.lsm_formats.specs.Kinds.{index_parts, index_sections}
 use Rattle.lsm_formats.specs.Layout.{appended}
 use Rattle.lsm_formats.specs.declared.options.IndexKind.TheVariants.{Partitioned}
 use Rattle.lsm_section_writers.specs.Registered.{Registered}
-use Rattle.lsm_section_writers.proofs.Empty.{empty_count, empty_fault, empty_fits, empty_front, empty_written, faults_memory, same_front, vec_is_empty, vec_is_some}
+use Rattle.lsm_section_writers.proofs.Empty.{empty_count, empty_fault, empty_fits, empty_front, empty_written, same_front, vec_is_empty, vec_is_some}
 use Rattle.lsm_section_writers.proofs.Finishing.{works_fault, works_first}
 use Rattle.lsm_section_writers.proofs.index_partitioned.PartitionedIndexWriterBlockIndexWriter.finish.Goals as goal
 

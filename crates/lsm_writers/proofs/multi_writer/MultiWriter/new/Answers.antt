@@ -1,4 +1,4 @@
-use Rattle.lsm_writers.proofs.Refused.{faults_memory}
+use Rattle.sst_entries.proofs.Refusals.{faults_memory}
 use Rattle.lsm_writers.proofs.Turning.{goes_on_first, ids_fine_first, ids_spent, ids_spent_first, new_tables_is}
 use Rattle.lsm_writers.proofs.multi_writer.MultiWriter.new.Goals as goal
 

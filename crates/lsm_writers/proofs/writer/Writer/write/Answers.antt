@@ -9,10 +9,10 @@ use Rattle.lsm_formats.specs.Chunks.{entry_size, is_full}
 use Rattle.lsm_formats.specs.Facts.{starts_key}
 use Rattle.lsm_writers.specs.Filtering.{MayHaveKeys, registered_key}
 use Rattle.lsm_writers.proofs.Filtered.{may_register, registered_now}
-use Rattle.sst_entries.proofs.Refusals.{faults_refusal}
+use Rattle.sst_entries.proofs.Refusals.{faults_refusal, faults_memory}
 use Rattle.sst_entries.proofs.StreamLemmas.{on_err}
 use Rattle.lsm_writers.proofs.Gaining.{filter_taken, gained_is, left_is, parts_left, parts_taken, room_taken, write_fault_is, write_fault_none}
-use Rattle.lsm_writers.proofs.Refused.{faults_memory, none_some}
+use Rattle.lsm_writers.proofs.Refused.{none_some}
 use Rattle.lsm_writers.proofs.Taking.{taken_counted, held_fits, has_room}
 use Rattle.lsm_writers.proofs.Turning.{refuses_passed}
 use Rattle.lsm_writers.proofs.writer.Writer.write.Goals as goal

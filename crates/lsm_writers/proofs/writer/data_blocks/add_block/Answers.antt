@@ -2,13 +2,13 @@ use Rattle.std.proofs.Common.{◌∙◌, ap, sym, subst, [], ◌∷◌, ◌++◌
 use Rattle.std.specs.Prelude.{None, Some}
 use Rattle.sst_sections.specs.Sections.{Written}
 use Rattle.sst_entries.proofs.StreamLemmas.{on_err}
-use Rattle.sst_entries.proofs.Strictness.{strict_alone}
+use Rattle.sst_entries.proofs.Strictness.{strict_alone, strict_back}
 use Rattle.sst_blocks.specs.Handle.{Handle}
+use Rattle.sst_blocks.proofs.Faults.{on_ok}
 use Rattle.lsm_formats.specs.Chunks.{joined}
 use Rattle.lsm_writers.specs.Cut.{AreCut}
 use Rattle.lsm_writers.proofs.Cutting.{cut_lost, cut_more, last_is_some, registered_strict}
-use Rattle.lsm_writers.proofs.Orders.{strict_back}
-use Rattle.lsm_writers.proofs.Refused.{err_then, ok_then}
+use Rattle.lsm_writers.proofs.Refused.{err_then}
 use Rattle.lsm_writers.proofs.writer.data_blocks.add_block.Goals as goal
 
 pub write_chunk-requires-clause-strict : goal.write_chunk-requires-clause-strict
@@ -25,7 +25,7 @@ returns-clause-added g c =
     let es = c.args.items.now in
     let readable = c.in_ok-handle.ensures.readable in
     let last = sym c.requires.last ∙ last_is_some None es readable.some in
-    ok_then c.register_data_block.result c.register_data_block.ensures.ok (λ more chunks before are strict.
+    on_ok _ _ c.register_data_block.result c.register_data_block.ensures.ok (λ more chunks before are strict.
     let hs = more ∙ ap (λ (h : Handle). c.args.index_writer.now.handles ++ h ∷ []) c.in_ok-handle.ensures.handle in
     cut_more chunks w c.write_chunk.new.file_writer c.args.index_writer.now.handles c.register_data_block.new.self.handles before (Some c.args.last.now) c.args.index_writer.now.failed c.register_data_block.new.self.failed es are c.requires.cut.works strict readable c.in_ok-handle.ensures.ok hs last)
 

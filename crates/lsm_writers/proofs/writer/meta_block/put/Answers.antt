@@ -1,4 +1,4 @@
-use Rattle.std.proofs.Common.{◌≡◌, ◌∙◌, ap, refl, List, ◌++◌, ◌∷◌, []}
+use Rattle.std.proofs.Common.{◌≡◌, ◌∙◌, ap, refl, ◌++◌, ◌∷◌, []}
 use Rattle.sst_entries.specs.Entry.{Entry}
 use Rattle.lsm_formats.specs.MetaBlock.{meta_entry}
 use Rattle.lsm_writers.proofs.writer.meta_block.put.Goals as goal

@@ -4,7 +4,7 @@ use Rattle.std.specs.Option.{option_map}
 use Rattle.std.proofs.lemmas.List.{take_rest}
 use Rattle.sst_entries.specs.Point.{read_place}
 use Rattle.sst_entries.specs.Strict.{is_before, may_follow}
-use Rattle.sst_sections.proofs.Numbers.{IsBytes}
+use Rattle.sst_entries.proofs.Bytes.{IsBytes}
 use Rattle.sst_blocks.proofs.Items.{walk_missing, walk_tested, walk_unordered, walk_over}
 use Rattle.sst_blocks.proofs.Searches.{keeps_next, map_next, search_begins, search_ends, search_on, search_place, search_stops, some_map}
 use Rattle.sst_blocks.proofs.reading.find.find_item.Goals as goal
