@@ -15,6 +15,6 @@ pub mod RunLoops
 pub mod RunReads
 pub mod Together
 pub mod Numbered
-pub mod Sources
+pub mod AllSources
 pub mod ScanSteps
 pub mod Spanned

@@ -8,7 +8,7 @@ use Rattle.lsm_runs.specs.RunLists.{single}
 use Rattle.lsm_runs.specs.RunRange.{RunGives, back_tables, front_tables, run_size}
 use Rattle.lsm_runs.proofs.Numbered.{newest_numbered}
 use Rattle.lsm_runs.proofs.RunLaws.{run_deals}
-use Rattle.lsm_runs.proofs.Sources.{Behind, InFront, each_asked, each_ends, together_all}
+use Rattle.lsm_runs.proofs.AllSources.{Behind, InFront, each_asked, each_ends, together_all}
 use Rattle.lsm_runs.proofs.Together.{all_of, union_cut}
 use Rattle.lsm_runs.proofs.sources.range_sources_at.Goals as goal
 
