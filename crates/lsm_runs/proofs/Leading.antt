@@ -1,23 +1,27 @@
 -- The first match in sorted entries, by the one that stands before all others.
-use Rattle.std.proofs.Common.{◌≡◌, refl, sym, ◌∙◌, ap, ℕ, Bool, true, false, cond, List, [], ◌∷◌}
-use Rattle.std.proofs.Common.{◌++◌, inl, inr}
-use Rattle.std.specs.Prelude.{Option, Some, None, find, if◌then◌else◌}
+use Rattle.std.proofs.Common.{◌≡◌, refl, sym, ◌∙◌, ap, subst, ℕ, ◌<◌, Bool, true, false, cond, List}
+use Rattle.std.proofs.Common.{[], ◌∷◌, ◌++◌, inl, inr}
+use Rattle.std.specs.Prelude.{Option, Some, None, MatchOption, find, if◌then◌else◌, nat_lt}
 use Rattle.std.specs.List.{AllByRecursion}
 use Rattle.std.specs.Ordering.{is_gt, is_lt}
 use Rattle.std.proofs.lemmas.Bool.{cases_Bool}
 use Rattle.sst_entries.specs.Entry.{Entry}
+use Rattle.sst_entries.specs.Key.{same_key}
 use Rattle.sst_entries.specs.Point.{is_hit, point}
+use Rattle.sst_entries.proofs.Booleans.{and_parts}
+use Rattle.sst_entries.proofs.KeyLemmas.{same_is}
 use Rattle.sst_entries.proofs.Lists.{all_more}
 use Rattle.sst_entries.proofs.OrderLemmas.{less_of}
 use Rattle.lsm_merge.specs.Union.{AtMost, Ascends, insert_sorted, item_cmp, sort_entries}
 use Rattle.lsm_merge.proofs.MergedLemmas.{at_most_chain, item_total}
 use Rattle.lsm_merge.proofs.UnionLemmas.{ascends_in_order}
 use Rattle.lsm_runs.specs.SeveralRuns.{leading_of}
+use Rattle.lsm_runs.proofs.Rising.{at_most_of}
 use Rattle.lsm_sorted.proofs.EntryKeyLemmas.{lt_reverse}
 
 -- ---- of entries that may be there the one that stands before the others
 
-other_way : (x y : Entry) → is_lt (item_cmp y x) ≡ is_gt (item_cmp x y)
+pub other_way : (x y : Entry) → is_lt (item_cmp y x) ≡ is_gt (item_cmp x y)
 other_way x y = ap is_lt (item_total.antisymm y x) ∙ lt_reverse (item_cmp x y)
 
 leading_by : (x y z : Entry) (b c : Bool) → is_lt (item_cmp y x) ≡ b → is_lt (item_cmp z y) ≡ c
@@ -85,6 +89,42 @@ module _ (key : List ℕ) (bound : ℕ) where
     | inl holds ↦ ap (leading_of (Some x)) (hit_first e es holds)
         ∙ ap (λ (b : Bool). if b then Some e else Some x) (other_way x e ∙ all.0)
     | inr miss ↦ ap (leading_of (Some x)) (hit_later e es miss) ∙ leads x es all.1
+  ]
+
+  -- what was found is of the key
+  abbrev pub IsOfKey : Option Entry → Type 0
+  IsOfKey found = MatchOption found (Unit {0}) (λ (e : Entry). e.user_key ≡ key)
+
+  hit_key : (e : Entry) → is_hit key bound e ≡ true → e.user_key ≡ key
+  hit_key e holds = same_is e.user_key key
+      (and_parts (same_key e.user_key key) (nat_lt e.seqno bound) holds).0
+
+  pub point_of_key : (es : List Entry) → IsOfKey (point es key bound)
+  point_of_key [] = subst IsOfKey (sym no_hit) tt
+  point_of_key (e ∷ es) = elim (cases_Bool (is_hit key bound e)) [
+    | inl holds ↦ subst IsOfKey (sym (hit_first e es holds)) (hit_key e holds)
+    | inr miss ↦ subst IsOfKey (sym (hit_later e es miss)) (point_of_key es)
+  ]
+
+  pub leading_of_key : (x y : Option Entry) → IsOfKey x → IsOfKey y → IsOfKey (leading_of x y)
+  leading_of_key None y h k = k
+  leading_of_key (Some x) None h k = h
+  leading_of_key (Some x) (Some y) h k = by_order (is_lt (item_cmp y x))
+    where
+      by_order : (b : Bool) → IsOfKey (if b then Some y else Some x)
+      by_order true = k
+      by_order false = h
+
+  -- an entry of the key stands before any of some that are numbered below it
+  pub leads_older : (x : Entry) (es : List Entry) → x.user_key ≡ key
+      → AllByRecursion (λ (e : Entry). e.seqno < x.seqno) es
+      → leading_of (Some x) (point es key bound) ≡ Some x
+  leads_older x [] is older = ap (leading_of (Some x)) no_hit
+  leads_older x (e ∷ es) is older = elim (cases_Bool (is_hit key bound e)) [
+    | inl holds ↦ ap (leading_of (Some x)) (hit_first e es holds)
+        ∙ ap (λ (b : Bool). if b then Some e else Some x) (other_way x e
+        ∙ at_most_of x e (inr (is ∙ sym (hit_key e holds), older.0)))
+    | inr miss ↦ ap (leading_of (Some x)) (hit_later e es miss) ∙ leads_older x es is older.1
   ]
 
   abbrev put : Entry → Entry → List Entry → Bool → List Entry

@@ -10,8 +10,11 @@ pub mod RunLists
 pub mod Rising
 pub mod Leading
 pub mod RunPoints
+pub mod ByAge
 pub mod RunLoops
 pub mod RunReads
 pub mod Together
+pub mod Numbered
+pub mod AllSources
 pub mod ScanSteps
 pub mod Spanned

@@ -101,7 +101,7 @@ run_strict (t ∷ ts) (es ∷ ls) h order =
 
 -- ---- sorted
 
-at_most_of : (x y : Entry) → Precedes x y → AtMost x y
+pub at_most_of : (x y : Entry) → Precedes x y → AtMost x y
 at_most_of x y h = elim h [
   | inl lower ↦ ap (λ (o : Ordering). is_gt (ordering_then o
       (ordering_then (nat_cmp y.seqno x.seqno) (nat_cmp (tag_of x.kind) (tag_of y.kind)))))

@@ -36,7 +36,7 @@ module _ (key : List ℕ) (bound : ℕ) where
   abbrev OtherKeys : List Entry → Type 0
   OtherKeys es = AllByRecursion (λ (e : Entry). same_key e.user_key key ≡ false) es
 
-  past_others : (es rest : List Entry) → OtherKeys es
+  pub past_others : (es rest : List Entry) → OtherKeys es
       → point (es ++ rest) key bound ≡ point rest key bound
   unfolding point
   past_others [] rest others = refl
@@ -44,7 +44,7 @@ module _ (key : List ℕ) (bound : ℕ) where
       ap (λ (b : Bool). cond (b && nat_lt e.seqno bound) (Some e)
       (find (is_hit key bound) (es ++ rest))) others.0 ∙ past_others es rest others.1
 
-  front_alone : (es rest : List Entry) → point rest key bound ≡ None
+  pub front_alone : (es rest : List Entry) → point rest key bound ≡ None
       → point (es ++ rest) key bound ≡ point es key bound
   unfolding point
   front_alone [] rest none = none
@@ -52,7 +52,7 @@ module _ (key : List ℕ) (bound : ℕ) where
       (front_alone es rest none)
 
   -- a range has not the key, or starts above it
-  others_outside : (r : Interval) (es : List Entry) → has_key r key ≡ false → Keys r es
+  pub others_outside : (r : Interval) (es : List Entry) → has_key r key ≡ false → Keys r es
       → OtherKeys es
   others_outside r [] miss keys = tt
   others_outside r (e ∷ es) miss keys =
@@ -71,7 +71,7 @@ module _ (key : List ℕ) (bound : ℕ) where
             keys.1,
       )
 
-  none_behind : (max : List ℕ) → key_le key max ≡ true
+  pub none_behind : (max : List ℕ) → key_le key max ≡ true
       → (ts : List OpenTable) (ls : List (List Entry)) → HoldLists ts ls
       → list_all (λ (later : Interval). key_lt max later.min) (ranges_of ts) ≡ true
       → point (joined ls) key bound ≡ None
@@ -87,7 +87,7 @@ module _ (key : List ℕ) (bound : ℕ) where
       ∙ none_behind max low ts ls h.1 b.1
 
   -- the table answers the first match in its list
-  held_answer : (t : OpenTable) (es : List Entry) → HoldsList t es
+  pub held_answer : (t : OpenTable) (es : List Entry) → HoldsList t es
       → (table_answer t key bound).told ≡ Ok (point es key bound)
   held_answer t es h =
       let pins = h.opened.recovered in
@@ -124,10 +124,10 @@ module _ (key : List ℕ) (bound : ℕ) where
 
   -- ---- several runs
 
-  abbrev behind : List (List (List Entry)) → List Entry
+  abbrev pub behind : List (List (List Entry)) → List Entry
   behind lists = all_entries (map (λ (run : List (List Entry)). ok_results (joined run)) lists)
 
-  union_more : (ls : List (List Entry)) (lists : List (List (List Entry)))
+  pub union_more : (ls : List (List Entry)) (lists : List (List (List Entry)))
       → union_in (ls ∷ lists) ≡ sort_entries (joined ls ++ behind lists)
   union_more ls lists = ap (λ (es : List Entry). sort_entries (es ++ behind lists))
       (entries_of (joined ls))

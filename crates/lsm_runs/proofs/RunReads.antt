@@ -22,8 +22,8 @@ use Rattle.lsm_readers.specs.Words.{BloomFilter}
 use Rattle.lsm_readers.proofs.IndexKinds.{index_one}
 use Rattle.lsm_readers.proofs.ReadLaws.{does_known, then_fails, then_goes}
 use Rattle.lsm_runs.specs.RunParts.{range_of}
-use Rattle.lsm_runs.specs.SeveralRuns.{LoadsEach, leading_of, loads_together, run_read, runs_read}
-use Rattle.lsm_runs.specs.SeveralRuns.{sum_within}
+use Rattle.lsm_runs.specs.SeveralRuns.{LoadsEach, leading_of, loads_together, run_read}
+use Rattle.lsm_runs.specs.SeveralRuns.{runs_read_by, sum_within}
 
 -- ---- counts together
 
@@ -179,13 +179,17 @@ found_is found = Ok found
 abbrev pub refused_by : Error → Result (Option Entry) Error
 refused_by e = Err e
 
-module _ {X : Type 0} (f : X → List OpenTable) (key : List ℕ) (bound : ℕ) (xs : List X)
-    (i : ℕ) where
+-- each run is asked, whatever was found
+abbrev pub every_run : List ℕ → ℕ → Option Entry → List OpenTable → Read (Option Entry)
+every_run key bound found tables = run_read key bound tables
+
+module _ {X : Type 0} (f : X → List OpenTable)
+    (read : Option Entry → List OpenTable → Read (Option Entry)) (xs : List X) (i : ℕ) where
   -- what the runs from a place on do behind what was found and counted, that do all runs
   abbrev pub GoesOn : Option Entry → Opened → Type 0
   GoesOn found opened = (r : Result (Option Entry) Error) (new : Opened)
-      → DoesRead r (runs_read key bound found (map f (drop i xs))) opened new
-      → DoesRead r (runs_read key bound None (map f xs)) none_opened new
+      → DoesRead r (runs_read_by read found (map f (drop i xs))) opened new
+      → DoesRead r (runs_read_by read None (map f xs)) none_opened new
 
   abbrev pub ReadsOn : Option Entry → Opened → Type 0
   ReadsOn found opened = AllByRecursion (IsInOrder range_of) (map f xs) → GoesOn found opened
@@ -193,40 +197,40 @@ module _ {X : Type 0} (f : X → List OpenTable) (key : List ℕ) (bound : ℕ) 
   module _ (x : X) (less : i < length xs) (is : x ≡ get_or xs i x) (found : Option Entry)
       (opened own : Opened) (small : AreSmall opened) (on : GoesOn found opened) where
     abbrev behind : Option Entry → Read (Option Entry)
-    behind next = runs_read key bound (leading_of found next) (map f (drop (i + 1) xs))
+    behind next = runs_read_by read (leading_of found next) (map f (drop (i + 1) xs))
 
     split : drop i xs ≡ x ∷ drop (i + 1) xs
     split = drop_more xs i x less ∙ ap (λ (y : X). y ∷ drop (i + 1) xs) (sym is)
 
     pub reads_next : (next : Option Entry) → DoesRead (found_is next)
-        (run_read key bound (f x)) none_opened own
+        (read found (f x)) none_opened own
         → (r : Result (Option Entry) Error) (new : Opened)
         → DoesRead r (behind next) (loads_together opened own) new
-        → DoesRead r (runs_read key bound None (map f xs)) none_opened new
+        → DoesRead r (runs_read_by read None (map f xs)) none_opened new
     reads_next next here r new d =
-        let both = then_goes (run_read key bound (f x)) behind next r opened
+        let both = then_goes (read found (f x)) behind next r opened
         (loads_together opened own) new (counted_on (found_is next)
-        (run_read key bound (f x)) opened own small here) d in
+        (read found (f x)) opened own small here) d in
         on r new (subst (λ (ys : List X). DoesRead r
-        (runs_read key bound found (map f ys)) opened new) (sym split) both)
+        (runs_read_by read found (map f ys)) opened new) (sym split) both)
 
     pub reads_fault : (e : Error) → DoesRead (refused_by e)
-        (run_read key bound (f x)) none_opened own
-        → DoesRead (refused_by e) (runs_read key bound None (map f xs)) none_opened
+        (read found (f x)) none_opened own
+        → DoesRead (refused_by e) (runs_read_by read None (map f xs)) none_opened
         (loads_together opened own)
     reads_fault e here =
-        let ends = then_fails (run_read key bound (f x)) behind e (refused_by e) opened
+        let ends = then_fails (read found (f x)) behind e (refused_by e) opened
         (loads_together opened own) (counted_on (refused_by e)
-        (run_read key bound (f x)) opened own small here) refl in
+        (read found (f x)) opened own small here) refl in
         on (refused_by e) (loads_together opened own)
         (subst (λ (ys : List X). DoesRead (refused_by e)
-        (runs_read key bound found (map f ys)) opened (loads_together opened own))
+        (runs_read_by read found (map f ys)) opened (loads_together opened own))
         (sym split) ends)
 
   pub reads_all : (found : Option Entry) (opened : Opened) → GoesOn found opened → length xs ≤ i
-      → DoesRead (found_is found) (runs_read key bound None (map f xs)) none_opened opened
+      → DoesRead (found_is found) (runs_read_by read None (map f xs)) none_opened opened
   reads_all found opened on past =
       on (found_is found) opened
       (subst (λ (ys : List X). DoesRead (found_is found)
-      (runs_read key bound found (map f ys)) opened opened) (sym (drop_all i xs past))
+      (runs_read_by read found (map f ys)) opened opened) (sym (drop_all i xs past))
       (does_known found opened))

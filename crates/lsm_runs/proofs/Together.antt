@@ -46,7 +46,7 @@ zip_push Q [] (z ∷ zs) x y all one = absurd all
 zip_push Q (z ∷ zs) [] x y all one = absurd all
 zip_push Q (z ∷ zs) (u ∷ us) x y all one = (all.0, zip_push Q zs us x y all.1 one)
 
-join : (xs ys : List (List Entry)) → joined (xs ++ ys) ≡ joined xs ++ joined ys
+pub join : (xs ys : List (List Entry)) → joined (xs ++ ys) ≡ joined xs ++ joined ys
 join xs ys = flat_map-append (λ (c : List Entry). c) xs ys
 
 -- what of a run's lists lies within two bounds
@@ -103,6 +103,21 @@ module _ {S : Type 0} (front back : S → Option R → S → Type 0) where
   each_ascends [] up = tt
   each_ascends (es ∷ dealt) up = (subst Ascends (sym (entries_of es)) up.0, each_ascends dealt up.1)
 
+  -- what is newest of the entries that they have together, sorted
+  pub newest_dealt : {T : Type 0} (next next_back : T → Option R → T → Type 0) (t : T)
+      (sources : List S) (found : List (List Entry)) → DealTogether front back sources found
+      → DealsNewest front back sources next next_back t
+      → DealsList next next_back (newest (sort_entries (joined found))) t
+  newest_dealt next next_back t sources found d law stops memory =
+      let results = map (λ (es : List Entry). ok_results es) d.dealt in
+      let sorted : DealSorted front back stops sources results = record {
+        deal = each_deals stops memory sources d.dealt d.deal;
+        ascend = each_ascends d.dealt d.ascend;
+      } in
+      subst (λ (es : List Entry). Deals (answer_stops stops) next next_back t
+      (ok_results (newest (sort_entries es)))) (entries_joined d.dealt ∙ d.same)
+      (law.deals stops results sorted (no_errors_joined d.dealt))
+
   module _ (low high : Bound (List ℕ)) (lists : List (List (List Entry))) where
     -- what all lists have together
     all_lists : all_entries (map (λ (run : List (List Entry)). ok_results (joined run)) lists)
@@ -114,11 +129,10 @@ module _ {S : Type 0} (front back : S → Option R → S → Type 0) where
     cut_all = ap joined (sym (map-map (within low high) joined lists))
         ∙ sym (within_joined low high (map joined lists))
 
-    union_cut : (sources : List S) (d : DealTogether front back sources (map (cut low high) lists))
-        → union_of (map (λ (es : List Entry). ok_results es) d.dealt)
+    pub union_cut : sort_entries (joined (map (cut low high) lists))
         ≡ within low high (union_in lists)
-    union_cut sources d =
-        ap sort_entries (entries_joined d.dealt ∙ d.same ∙ cut_all)
+    union_cut =
+        ap sort_entries cut_all
         ∙ sym (within_sorted low high (joined (map joined lists)))
         ∙ ap (λ (es : List Entry). within low high (sort_entries es)) (sym all_lists)
 
@@ -126,15 +140,9 @@ module _ {S : Type 0} (front back : S → Option R → S → Type 0) where
         (sources : List S) → DealTogether front back sources (map (cut low high) lists)
         → DealsNewest front back sources next next_back t
         → DealsList next next_back (newest (within low high (union_in lists))) t
-    newest_together next next_back t sources d law stops memory =
-        let results = map (λ (es : List Entry). ok_results es) d.dealt in
-        let sorted : DealSorted front back stops sources results = record {
-          deal = each_deals stops memory sources d.dealt d.deal;
-          ascend = each_ascends d.dealt d.ascend;
-        } in
-        subst (λ (es : List Entry). Deals (answer_stops stops) next next_back t
-        (ok_results (newest es))) (union_cut sources d)
-        (law.deals stops results sorted (no_errors_joined d.dealt))
+    newest_together next next_back t sources d law =
+        subst (λ (es : List Entry). DealsList next next_back (newest es) t) union_cut
+        (newest_dealt next next_back t sources (map (cut low high) lists) d law)
 
 -- ---- a loop over runs, of which those up to a place have readers
 

@@ -56,23 +56,40 @@ put_in p x (y ∷ ys) up holds = elim (cases_Bool (is_gt (item_cmp x y))) [
       (filter_keeps (AtMost x) p (y ∷ ys) above)))
 ]
 
+module _ (p : Entry → Bool) where
+  -- sorting and leaving entries out may be exchanged
+  pub filter_sorted : (xs : List Entry) → filter p (sort_entries xs) ≡ sort_entries (filter p xs)
+  filter_sorted [] = refl
+  filter_sorted (x ∷ xs) = elim (cases_Bool (p x)) [
+    | inl e ↦ put_in p x (sort_entries xs) (ascends_in_order xs) e
+        ∙ ap (insert_sorted x) (filter_sorted xs) ∙ sym (rw e refl)
+    | inr e ↦ put_out p x (sort_entries xs) e ∙ filter_sorted xs ∙ sym (rw e refl)
+  ]
+
+  pub filter_joined : (ls : List (List Entry))
+      → filter p (joined ls) ≡ joined (map (λ (es : List Entry). filter p es) ls)
+  filter_joined [] = refl
+  filter_joined (es ∷ ls) = filter-append p es (joined ls)
+      ∙ ap (λ (xs : List Entry). filter p es ++ xs) (filter_joined ls)
+
+  pub filter_ascends : (xs : List Entry) → Ascends xs → Ascends (filter p xs)
+  filter_ascends [] up = tt
+  filter_ascends (x ∷ xs) up = elim (cases_Bool (p x)) [
+    | inl e ↦ rw e (filter_keeps (AtMost x) p xs up.0, filter_ascends xs up.1)
+    | inr e ↦ rw e (filter_ascends xs up.1)
+  ]
+
 module _ (low high : Bound (List ℕ)) where
   -- sorting and cutting at bounds may be exchanged
   pub within_sorted : (xs : List Entry)
       → within low high (sort_entries xs) ≡ sort_entries (within low high xs)
-  within_sorted [] = refl
-  within_sorted (x ∷ xs) = elim (cases_Bool (is_from low x.user_key && is_to high x.user_key)) [
-    | inl e ↦ put_in _ x (sort_entries xs) (ascends_in_order xs) e
-        ∙ ap (insert_sorted x) (within_sorted xs) ∙ sym (rw e refl)
-    | inr e ↦ put_out _ x (sort_entries xs) e ∙ within_sorted xs ∙ sym (rw e refl)
-  ]
+  within_sorted xs =
+      filter_sorted (λ (e : Entry). is_from low e.user_key && is_to high e.user_key) xs
 
   pub within_joined : (ls : List (List Entry))
       → within low high (joined ls) ≡ joined (map (within low high) ls)
-  within_joined [] = refl
-  within_joined (es ∷ ls) =
-      filter-append (λ (e : Entry). is_from low e.user_key && is_to high e.user_key) es (joined ls)
-      ∙ ap (λ (xs : List Entry). within low high es ++ xs) (within_joined ls)
+  within_joined ls =
+      filter_joined (λ (e : Entry). is_from low e.user_key && is_to high e.user_key) ls
 
 pub no_errors : (es : List Entry) → errors_among (ok_results es) ≡ []
 no_errors [] = refl

@@ -2,6 +2,7 @@
 use Rattle.std.specs.Prelude.{◌≡◌, ℕ, suc, ◌-◌, Bool, true, List, [], ◌∷◌, drop, take, Option}
 use Rattle.std.specs.Prelude.{Result, if◌then◌else◌}
 use Rattle.std.specs.List.{AllByRecursion, AllZip}
+use Rattle.std.specs.declared.ops.Bound.{Bound}
 use Rattle.sst_entries.specs.declared.error.Error.{Error}
 use Rattle.sst_entries.specs.declared.error.Error.TheVariants.{OutOfMemory}
 use Rattle.sst_entries.specs.Entry.{Entry}
@@ -58,3 +59,13 @@ pub record DealTogether {S : Type 0} (front back : S → Option (Result Entry Er
   pub same : joined dealt ≡ joined found
   pub ascend : AllByRecursion Ascends dealt
   pub deal : AllZip (λ s es. DealsList front back es s) sources dealt
+
+-- each source deals what of one of these lists, which are sorted, lies within the bounds
+pub record DealWithin {S : Type 0} (front back : S → Option (Result Entry Error) → S → Type 0)
+    (low high : Bound (List ℕ)) (sources : List S) (lists : List (List Entry)) : Type 0 where
+  pub ascend : AllByRecursion Ascends lists
+  pub deal : AllZip (λ s es. DealsList front back (within low high es) s) sources lists
+
+-- beside the lists of runs, that of a source is as a run of one table
+abbrev pub single : List Entry → List (List Entry)
+single es = es ∷ []

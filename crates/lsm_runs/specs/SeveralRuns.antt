@@ -1,6 +1,6 @@
 -- What several runs answer together.
-use Rattle.std.specs.Prelude.{◌≡◌, ℕ, ◌+◌, ◌-◌, ◌^◌, ◌≤◌, List, [], ◌∷◌, map, min, Option, Some}
-use Rattle.std.specs.Prelude.{None, Result, if◌then◌else◌}
+use Rattle.std.specs.Prelude.{◌≡◌, ℕ, ◌+◌, ◌-◌, ◌^◌, ◌≤◌, Bool, false, nat_lt, List, [], ◌∷◌, map}
+use Rattle.std.specs.Prelude.{min, Option, Some, None, Result, if◌then◌else◌}
 use Rattle.std.specs.Ordering.{is_lt}
 use Rattle.sst_entries.specs.declared.error.Error.{Error}
 use Rattle.sst_entries.specs.Entry.{Entry}
@@ -29,17 +29,48 @@ leading_of None y = y
 leading_of (Some x) None = Some x
 leading_of (Some x) (Some y) = if is_lt (item_cmp y x) then Some y else Some x
 
--- a point read of several runs, one behind another, behind what was found: the entry that stands
+-- point reads of several runs, one behind another, behind what was found: the entry that stands
 -- before the others, or the refusal of the earliest run that has one
+abbrev pub runs_read_by : (Option Entry → List OpenTable → Read (Option Entry)) → Option Entry
+    → List (List OpenTable) → Read (Option Entry)
+runs_read_by read found [] = known found
+runs_read_by read found (tables ∷ runs) =
+    read_then (read found tables) (λ next. runs_read_by read (leading_of found next) runs)
+
+-- each run is asked
 abbrev pub runs_read : List ℕ → ℕ → Option Entry → List (List OpenTable) → Read (Option Entry)
-runs_read key bound found [] = known found
-runs_read key bound found (tables ∷ runs) =
-    read_then (run_read key bound tables) (λ next. runs_read key bound (leading_of found next) runs)
+runs_read key bound found runs = runs_read_by (λ _ tables. run_read key bound tables) found runs
 
 -- what it tells
 abbrev pub runs_told : List ℕ → ℕ → Option Entry → List (List OpenTable)
     → Result (Option Entry) Error
 runs_told key bound found runs = (runs_read key bound found runs).told
+
+-- a table's highest number
+abbrev pub highest_number : OpenTable → ℕ
+highest_number t = t.parts.facts.seqno_max + t.global_seqno
+
+-- all that a table has is numbered below what was found
+abbrev pub is_older : Option Entry → OpenTable → Bool
+is_older None t = false
+is_older (Some e) t = nat_lt (highest_number t) e.seqno
+
+-- a table is worth asking unless it is older than what was found
+abbrev pub worth_asking : Option Entry → Option OpenTable → Option OpenTable
+worth_asking found None = None
+worth_asking found (Some t) = if is_older found t then None else Some t
+
+-- a point read of a run behind what was found: of the one table whose range has the key, where it
+-- is worth asking
+abbrev pub run_read_behind : List ℕ → ℕ → Option Entry → List OpenTable → Read (Option Entry)
+run_read_behind key bound found tables =
+    table_read key bound (worth_asking found (table_of_key range_of key tables))
+
+-- a point read of several runs in which no table is asked that is older than what the runs before
+-- it have
+abbrev pub runs_read_by_age : List ℕ → ℕ → Option Entry → List (List OpenTable)
+    → Read (Option Entry)
+runs_read_by_age key bound found runs = runs_read_by (run_read_behind key bound) found runs
 
 -- two counts together, staying at the largest value
 abbrev pub sum_within : ℕ → ℕ → ℕ

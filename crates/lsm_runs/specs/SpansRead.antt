@@ -1,5 +1,5 @@
 -- The readers of several runs within two bounds, before any call, and the stream over them.
-use Rattle.std.specs.Prelude.{ℕ, All, List, [], ◌∷◌, Option, Some, None, Result}
+use Rattle.std.specs.Prelude.{ℕ, All, List, [], ◌∷◌, map, Option, Some, None, Result}
 use Rattle.std.specs.List.{AllZip, flat_map}
 use Rattle.std.specs.declared.ops.Bound.{Bound}
 use Rattle.sst_entries.specs.declared.error.Error.{Error}
@@ -9,7 +9,9 @@ use Rattle.lsm_block_indexes.specs.Dealt.{DealsEnding}
 use Rattle.lsm_merge.specs.declared.merge.Merger.{Merger}
 use Rattle.lsm_ranges.specs.Run.{overlap_indexes}
 use Rattle.lsm_readers.specs.Table.{OpenTable}
+use Rattle.lsm_sorted.specs.Below.{below_of}
 use Rattle.lsm_sorted.specs.NewestLaws.{AnswersNewest, IsNewestOf}
+use Rattle.lsm_sorted.specs.declared.below.Below.{Below}
 use Rattle.lsm_sorted.specs.declared.mvcc_stream.MvccStream.{MvccStream}
 use Rattle.lsm_runs.specs.RunParts.{RunSpan, ranges_of, span_of}
 use Rattle.lsm_runs.specs.RunRange.{IsRunOf, RunGives, RunRange, back_tables, front_tables}
@@ -46,3 +48,20 @@ pub record IsOverSpans {A : Type 0}
   pub of : IsNewestOf readers s
   pub answers : AnswersNewest (RunGives front_of front_tables) (RunGives back_of back_tables)
       readers next next_back s
+
+-- the same over what each of these readers gives that is numbered below a bound, and its errors
+pub record IsOverSpansBelow {A : Type 0}
+    (gives back_gives : Below (RunRange A) → Option (Result Entry Error) → Below (RunRange A)
+    → Type 0)
+    (next next_back : MvccStream (Merger (Below (RunRange A)) A) (Result Entry Error)
+    → Option (Result Entry Error)
+    → MvccStream (Merger (Below (RunRange A)) A) (Result Entry Error) → Type 0)
+    (low high : Bound (List ℕ)) (bound : ℕ) (runs : List (List OpenTable))
+    (s : MvccStream (Merger (Below (RunRange A)) A) (Result Entry Error)) : Type 0 where
+  pub readers : List (RunRange A)
+  pub spans : AllZip (λ reader run. IsRunOf run.0 run.1 reader) readers (spans_within low high runs)
+  pub deal : All (λ reader. DealsEnding (RunGives front_of front_tables)
+      (RunGives back_of back_tables) (λ _. Unit {0}) (λ _. Unit {0}) reader
+      (run_left reader)) readers
+  pub of : IsNewestOf (map (below_of bound) readers) s
+  pub answers : AnswersNewest gives back_gives (map (below_of bound) readers) next next_back s

@@ -15,15 +15,17 @@ pub use Rattle.lsm_readers.specs.Answer.{lift}
 pub use Rattle.lsm_readers.specs.Read.{DoesRead, Opens}
 pub use Rattle.lsm_readers.specs.Table.{OpenTable}
 pub use Rattle.lsm_walks.specs.Ends.{taken_at}
+pub use Rattle.lsm_sorted.specs.Below.{numbered_below}
 pub use Rattle.lsm_sorted.specs.NewestLaws.{AnswersNewest, CanAskNewest, DealsNewest, IsNewestOf}
 pub use Rattle.lsm_runs.specs.RunParts.{ends_given, range_of, span_of}
 pub use Rattle.lsm_runs.specs.RunRange.{IsRunOf, OpensAtMost, RunGives, back_tables, front_tables}
 pub use Rattle.lsm_runs.specs.RunRange.{run_left, run_size, tables_at}
-pub use Rattle.lsm_runs.specs.RunLists.{DealTogether, DealsList, HoldLists, RunsHoldLists}
-pub use Rattle.lsm_runs.specs.RunLists.{span_list}
+pub use Rattle.lsm_runs.specs.RunLists.{DealTogether, DealWithin, DealsList, HoldLists}
+pub use Rattle.lsm_runs.specs.RunLists.{RunsHoldLists, single, span_list}
 pub use Rattle.lsm_runs.specs.RunScan.{BeginsNext, BeginsScan, IsScanOf, RunScansNext, ScansItem}
 pub use Rattle.lsm_runs.specs.RunScan.{early_scan_fault, over_scan, run_scan_size, scan_fault}
 pub use Rattle.lsm_runs.specs.RunScan.{stopped_scan, tables_between, tables_scan}
-pub use Rattle.lsm_runs.specs.SpansRead.{IsOverSpans, spans_within}
-pub use Rattle.lsm_runs.specs.SeveralRuns.{LoadsEach, leading_of, loads_together, run_read}
-pub use Rattle.lsm_runs.specs.SeveralRuns.{runs_read, runs_told, union_in}
+pub use Rattle.lsm_runs.specs.SpansRead.{IsOverSpans, IsOverSpansBelow, spans_within}
+pub use Rattle.lsm_runs.specs.SeveralRuns.{LoadsEach, is_older, leading_of, loads_together}
+pub use Rattle.lsm_runs.specs.SeveralRuns.{run_read, run_read_behind, runs_read, runs_read_by_age}
+pub use Rattle.lsm_runs.specs.SeveralRuns.{runs_told, union_in, worth_asking}

@@ -7,6 +7,7 @@ pub mod PeekedLemmas
 pub mod NewestLemmas
 pub mod HeardLemmas
 pub mod MvccRuns
+pub mod BelowLemmas
 pub mod GapLemmas
 pub mod NewestPast
 pub mod OutsLemmas

@@ -1,3 +1,4 @@
+pub mod Below
 pub mod Outlook
 pub mod Hears
 pub mod Peeked

@@ -4,6 +4,7 @@
 #![tactic(auto)]
 
 mod ahead;
+mod below;
 pub mod compaction;
 mod gap;
 mod give_up;
@@ -11,6 +12,7 @@ mod mvcc_stream;
 mod newest;
 mod peeked;
 
+pub use below::{Below, each_below};
 pub use gap::up_to_gap;
 pub use lsm_merge::{IntervalHeap, Merger, Tournament, from_both_ends};
 pub use lsm_ranges::{Indexed, KeyRange, Ranged, Run, optimize_runs, overlap_chain};

@@ -38,6 +38,10 @@ pub fn newest_of<I: Iterator<Item = IterItem<A>>, A: Allocator + Clone>(
         iterators.items ⟦<NewestOf<I, A> as Iterator>⟧.next_gives nowhere
         ⟦<NewestOf<I, A> as Iterator>⟧.can_next
         ⟦<NewestOf<I, A> as Iterator>⟧.can_next) }
+    // So a `for` may go over it.
+    ensures next { All (CanDeal I.next_gives nowhere I.can_next I.can_next) iterators.items →
+        All (λ i. IsFinite (I.remaining i)) iterators.items →
+        IfOk result (λ s. ⟦<NewestOf<I, A> as Iterator>⟧.can_next s) }
     ensures err { IfErr result (λ e. e ≡ OutOfMemory) }
 {
     let merger = Merger::new(alloc, iterators)?;

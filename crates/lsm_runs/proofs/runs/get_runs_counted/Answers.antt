@@ -9,7 +9,7 @@ use Rattle.lsm_runs.specs.RunParts.{range_of}
 use Rattle.lsm_runs.specs.SeveralRuns.{loads_together}
 use Rattle.lsm_runs.proofs.RunLoops.{all_at}
 use Rattle.lsm_runs.proofs.RunPoints.{runs_in_order, runs_point}
-use Rattle.lsm_runs.proofs.RunReads.{all_each, found_is, more_each, none_each, none_small, reads_all, reads_fault, reads_next, refused_by, together_small}
+use Rattle.lsm_runs.proofs.RunReads.{all_each, every_run, found_is, more_each, none_each, none_small, reads_all, reads_fault, reads_next, refused_by, together_small}
 use Rattle.lsm_runs.proofs.runs.get_runs_counted.Goals as goal
 
 pub loop-run-init : goal.loop-run-init
@@ -25,7 +25,7 @@ loop-run-preserved g c =
       reads = λ order.
           let own = all_at arc_value (IsInOrder range_of) runs i c.run-item.result order c.loop-run-test.true c.run-item.is in
           let here = rw c.in-Ok.is at (rw c.deref.ensures at (told.ensures.read (rw c.deref.ensures own))) in
-          reads_next arc_value c.args.key.now c.args.seqno runs i c.run-item.result c.loop-run-test.true c.run-item.is c.loop-run.found c.loop-run.opened told.result.1 before.small (before.reads order) c.in-Ok.next here;
+          reads_next arc_value (every_run c.args.key.now c.args.seqno) runs i c.run-item.result c.loop-run-test.true c.run-item.is c.loop-run.found c.loop-run.opened told.result.1 before.small (before.reads order) c.in-Ok.next here;
       small = together_small c.loop-run.opened told.result.1;
       few = more_each i (length runs) c.loop-run.opened told.result.1 c.loop-run-test.true before.few told.ensures.few;
     })
@@ -38,7 +38,7 @@ returns-in-Err-clause-told g c order =
     let told = c.get_run_counted-told in
     let own = all_at arc_value (IsInOrder range_of) runs i c.run-item.result order c.loop-run-test.true c.run-item.is in
     let here = rw c.in-Err.is at (rw c.deref.ensures at (told.ensures.read (rw c.deref.ensures own))) in
-    (reads_fault arc_value c.args.key.now c.args.seqno runs i c.run-item.result c.loop-run-test.true c.run-item.is c.loop-run.found c.loop-run.opened told.result.1 before.small (before.reads order) c.in-Err.error here).told
+    (reads_fault arc_value (every_run c.args.key.now c.args.seqno) runs i c.run-item.result c.loop-run-test.true c.run-item.is c.loop-run.found c.loop-run.opened told.result.1 before.small (before.reads order) c.in-Err.error here).told
 
 pub returns-in-Err-clause-list : goal.returns-in-Err-clause-list
 returns-in-Err-clause-list g c lists held =
@@ -54,7 +54,7 @@ returns-in-Err-clause-early g c order =
     let told = c.get_run_counted-told in
     let own = all_at arc_value (IsInOrder range_of) runs i c.run-item.result order c.loop-run-test.true c.run-item.is in
     let here = rw c.in-Err.is at (rw c.deref.ensures at (told.ensures.read (rw c.deref.ensures own))) in
-    (reads_fault arc_value c.args.key.now c.args.seqno runs i c.run-item.result c.loop-run-test.true c.run-item.is c.loop-run.found c.loop-run.opened told.result.1 before.small (before.reads order) c.in-Err.error here).early
+    (reads_fault arc_value (every_run c.args.key.now c.args.seqno) runs i c.run-item.result c.loop-run-test.true c.run-item.is c.loop-run.found c.loop-run.opened told.result.1 before.small (before.reads order) c.in-Err.error here).early
 
 pub returns-in-Err-clause-calm : goal.returns-in-Err-clause-calm
 returns-in-Err-clause-calm g c order none =
@@ -64,7 +64,7 @@ returns-in-Err-clause-calm g c order none =
     let told = c.get_run_counted-told in
     let own = all_at arc_value (IsInOrder range_of) runs i c.run-item.result order c.loop-run-test.true c.run-item.is in
     let here = rw c.in-Err.is at (rw c.deref.ensures at (told.ensures.read (rw c.deref.ensures own))) in
-    (reads_fault arc_value c.args.key.now c.args.seqno runs i c.run-item.result c.loop-run-test.true c.run-item.is c.loop-run.found c.loop-run.opened told.result.1 before.small (before.reads order) c.in-Err.error here).calm none
+    (reads_fault arc_value (every_run c.args.key.now c.args.seqno) runs i c.run-item.result c.loop-run-test.true c.run-item.is c.loop-run.found c.loop-run.opened told.result.1 before.small (before.reads order) c.in-Err.error here).calm none
 
 pub returns-in-Err-clause-opened : goal.returns-in-Err-clause-opened
 returns-in-Err-clause-opened g c order =
@@ -75,7 +75,7 @@ returns-in-Err-clause-opened g c order =
     let own = all_at arc_value (IsInOrder range_of) runs i c.run-item.result order c.loop-run-test.true c.run-item.is in
     let here = rw c.in-Err.is at (rw c.deref.ensures at (told.ensures.read (rw c.deref.ensures own))) in
     rw c.together-opened.ensures
-    (reads_fault arc_value c.args.key.now c.args.seqno runs i c.run-item.result c.loop-run-test.true c.run-item.is c.loop-run.found c.loop-run.opened told.result.1 before.small (before.reads order) c.in-Err.error here).opens
+    (reads_fault arc_value (every_run c.args.key.now c.args.seqno) runs i c.run-item.result c.loop-run-test.true c.run-item.is c.loop-run.found c.loop-run.opened told.result.1 before.small (before.reads order) c.in-Err.error here).opens
 
 pub returns-in-Err-clause-few : goal.returns-in-Err-clause-few
 returns-in-Err-clause-few g c =
@@ -86,7 +86,7 @@ returns-in-Err-clause-few g c =
     (more_each i (length runs) c.loop-run.opened told.result.1 c.loop-run-test.true c.loop-run.invariant.few told.ensures.few))
 
 pub returns-clause-told : goal.returns-clause-told
-returns-clause-told g c order = (reads_all arc_value c.args.key.now c.args.seqno c.args.runs.now c.loop-run.run-index c.loop-run.found c.loop-run.opened (c.loop-run.invariant.reads order) c.loop-run-test.false).told
+returns-clause-told g c order = (reads_all arc_value (every_run c.args.key.now c.args.seqno) c.args.runs.now c.loop-run.run-index c.loop-run.found c.loop-run.opened (c.loop-run.invariant.reads order) c.loop-run-test.false).told
 
 pub returns-clause-list : goal.returns-clause-list
 returns-clause-list g c lists held =
@@ -94,10 +94,10 @@ returns-clause-list g c lists held =
     subst (λ (told : Result (Option Entry) Error). Gives (λ (x : Option Entry). x) (found_is c.loop-run.found) told) (runs_point c.args.key.now c.args.seqno None runs lists held) (returns-clause-told g c (runs_in_order runs lists held))
 
 pub returns-clause-opened : goal.returns-clause-opened
-returns-clause-opened g c order = (reads_all arc_value c.args.key.now c.args.seqno c.args.runs.now c.loop-run.run-index c.loop-run.found c.loop-run.opened (c.loop-run.invariant.reads order) c.loop-run-test.false).opens
+returns-clause-opened g c order = (reads_all arc_value (every_run c.args.key.now c.args.seqno) c.args.runs.now c.loop-run.run-index c.loop-run.found c.loop-run.opened (c.loop-run.invariant.reads order) c.loop-run-test.false).opens
 
 pub returns-clause-few : goal.returns-clause-few
 returns-clause-few g c = all_each c.loop-run.run-index (length c.args.runs.now) c.loop-run.opened c.loop-run.invariant.few
 
 pub returns-clause-early : goal.returns-clause-early
-returns-clause-early g c order = (reads_all arc_value c.args.key.now c.args.seqno c.args.runs.now c.loop-run.run-index c.loop-run.found c.loop-run.opened (c.loop-run.invariant.reads order) c.loop-run-test.false).early
+returns-clause-early g c order = (reads_all arc_value (every_run c.args.key.now c.args.seqno) c.args.runs.now c.loop-run.run-index c.loop-run.found c.loop-run.opened (c.loop-run.invariant.reads order) c.loop-run-test.false).early

@@ -1,4 +1,5 @@
 use Rattle.sst_entries.specs.Stream.{back_of, front_of}
+use Rattle.sst_entries.proofs.StreamLemmas.{can_now, can_now_back}
 use Rattle.lsm_ranges.proofs.PackLemmas.{if_ok}
 use Rattle.lsm_runs.specs.RunRange.{RunGives, back_tables, front_tables}
 use Rattle.lsm_runs.proofs.RunLaws.{if_ok_both, run_deals}
@@ -30,3 +31,9 @@ returns-clause-steps g c order =
       answers = past;
     })
     c.newest_stream.ensures.starts c.newest_stream.ensures.past
+
+pub returns-clause-next : goal.returns-clause-next
+returns-clause-next g c = if_ok c.newest_stream.result (λ s can. can_now _ _ _ _ s can) (returns-clause-can g c)
+
+pub returns-clause-next_back : goal.returns-clause-next_back
+returns-clause-next_back g c = if_ok c.newest_stream.result (λ s can. can_now_back _ _ _ _ s can) (returns-clause-can g c)

@@ -39,3 +39,6 @@ returns-clause-over g c = record {
 
 pub returns-clause-can : goal.returns-clause-can
 returns-clause-can g c = record { asks = λ can ends. c.new-2.ensures.can.asks (c.in_ok-merger.ensures.can.asks can ends) tt }
+
+pub returns-clause-next : goal.returns-clause-next
+returns-clause-next g c can ends = c.new-2.ensures.may (c.in_ok-merger.ensures.can.asks can ends) tt

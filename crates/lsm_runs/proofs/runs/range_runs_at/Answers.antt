@@ -1,0 +1,49 @@
+use Rattle.std.specs.Iterator.{at_most}
+use Rattle.std.specs.Prelude.{All}
+use Rattle.sst_entries.specs.Stream.{back_of, front_of}
+use Rattle.sst_entries.proofs.StreamLemmas.{can_now, can_now_back}
+use Rattle.lsm_ranges.proofs.PackLemmas.{if_ok}
+use Rattle.lsm_sorted.proofs.BelowLemmas.{can_below}
+use Rattle.lsm_runs.specs.RunRange.{RunGives, back_tables, front_tables, run_size}
+use Rattle.lsm_runs.proofs.Numbered.{newest_numbered, none_cut}
+use Rattle.lsm_runs.proofs.RunLaws.{if_ok_both, run_deals}
+use Rattle.lsm_runs.proofs.Together.{all_of, union_cut}
+use Rattle.lsm_runs.proofs.runs.range_runs_at.Goals as goal
+
+pub returns-clause-list : goal.returns-clause-list
+returns-clause-list g c lists held =
+    let low = c.args.range.0 in
+    let high = c.args.range.1 in
+    if_ok c.newest_stream.result
+    (λ s deals. newest_numbered c.args.seqno (RunGives front_of front_tables) (RunGives back_of back_tables) (λ _. Unit {0}) (λ _. Unit {0}) (λ u. at_most (run_size u)) _ _ s c.in_ok-within.within.items _ _
+    (union_cut (RunGives front_of front_tables) (RunGives back_of back_tables) low high lists) (c.in_ok-within.ensures.list lists held) deals)
+    (rw c.in_ok-sources.ensures.of at c.newest_stream.ensures.deals)
+
+pub returns-clause-whole : goal.returns-clause-whole
+returns-clause-whole g c lists held all = rw (none_cut c.args.seqno c.args.range.0 c.args.range.1 lists all) at (returns-clause-list g c lists held)
+
+pub returns-clause-can : goal.returns-clause-can
+returns-clause-can g c =
+    let sources = c.in_ok-sources.sources.items in
+    if_ok c.newest_stream.result
+    (λ s can. can.asks (all_of _ (λ b. can_below (RunGives front_of front_tables) (RunGives back_of back_tables) (λ _. Unit {0}) (λ _. Unit {0}) (λ u. at_most (run_size u)) b (record { asks = (run_deals b.iter).can; ends = tt })) sources) (all_of _ (λ b. tt) sources))
+    c.newest_stream.ensures.can
+
+pub returns-clause-next : goal.returns-clause-next
+returns-clause-next g c = if_ok c.newest_stream.result (λ s can. can_now _ _ _ _ s can) (returns-clause-can g c)
+
+pub returns-clause-next_back : goal.returns-clause-next_back
+returns-clause-next_back g c = if_ok c.newest_stream.result (λ s can. can_now_back _ _ _ _ s can) (returns-clause-can g c)
+
+pub returns-clause-steps : goal.returns-clause-steps
+returns-clause-steps g c order =
+    let readers = c.in_ok-within.within.items in
+    if_ok_both c.newest_stream.result
+    (λ s starts past. record {
+      readers = readers;
+      spans = c.in_ok-within.ensures.spans order;
+      deal = all_of _ (λ r. run_deals r) readers;
+      of = starts;
+      answers = past;
+    })
+    (rw c.in_ok-sources.ensures.of at c.newest_stream.ensures.starts) (rw c.in_ok-sources.ensures.of at c.newest_stream.ensures.past)

@@ -1,0 +1,40 @@
+use Rattle.std.specs.Iterator.{at_most}
+use Rattle.std.specs.Prelude.{All, map}
+use Rattle.std.proofs.Common.{◌++◌}
+use Rattle.sst_entries.specs.Stream.{back_of, front_of}
+use Rattle.sst_entries.proofs.StreamLemmas.{can_now, can_now_back}
+use Rattle.lsm_ranges.proofs.PackLemmas.{if_ok}
+use Rattle.lsm_runs.specs.RunLists.{single}
+use Rattle.lsm_runs.specs.RunRange.{RunGives, back_tables, front_tables, run_size}
+use Rattle.lsm_runs.proofs.Numbered.{newest_numbered}
+use Rattle.lsm_runs.proofs.RunLaws.{run_deals}
+use Rattle.lsm_runs.proofs.AllSources.{Behind, InFront, each_asked, each_ends, together_all}
+use Rattle.lsm_runs.proofs.Together.{all_of, union_cut}
+use Rattle.lsm_runs.proofs.sources.range_sources_at.Goals as goal
+
+pub returns-clause-list : goal.returns-clause-list
+returns-clause-list g c lists held further deal =
+    let low = c.args.range.0 in
+    let high = c.args.range.1 in
+    let all = map single further ++ lists in
+    if_ok c.newest_stream.result
+    (λ s deals. newest_numbered c.args.seqno (InFront (RunGives front_of front_tables) (RunGives back_of back_tables) g.S.Iterator.next_gives g.S.DoubleEndedIterator.next_back_gives) (Behind (RunGives front_of front_tables) (RunGives back_of back_tables) g.S.Iterator.next_gives g.S.DoubleEndedIterator.next_back_gives) _ _ _ _ _ s _ _ _
+    (union_cut (RunGives front_of front_tables) (RunGives back_of back_tables) low high all)
+    (together_all (RunGives front_of front_tables) (RunGives back_of back_tables) g.S.Iterator.next_gives g.S.DoubleEndedIterator.next_back_gives low high c.in_ok-readers.readers.items c.args.sources.items lists further (c.in_ok-readers.ensures.list lists held) deal) deals)
+    (rw c.in_ok-all.ensures.of at (rw c.in_ok-below.ensures.of at c.newest_stream.ensures.deals))
+
+pub returns-clause-can : goal.returns-clause-can
+returns-clause-can g c may ends =
+    let readers = c.in_ok-readers.readers.items in
+    let sources = c.args.sources.items in
+    if_ok c.newest_stream.result
+    (λ s can. can.asks
+    (each_asked (RunGives front_of front_tables) (RunGives back_of back_tables) g.S.Iterator.next_gives g.S.DoubleEndedIterator.next_back_gives (λ _. Unit {0}) (λ _. Unit {0}) g.S.Iterator.can_next g.S.DoubleEndedIterator.can_next_back (λ u. at_most (run_size u)) g.S.Iterator.remaining c.args.seqno readers sources (all_of _ (λ r. (run_deals r).can) readers) (all_of _ (λ r. tt) readers) may ends)
+    (each_ends (RunGives front_of front_tables) (RunGives back_of back_tables) g.S.Iterator.next_gives g.S.DoubleEndedIterator.next_back_gives (λ _. Unit {0}) (λ _. Unit {0}) g.S.Iterator.can_next g.S.DoubleEndedIterator.can_next_back (λ u. at_most (run_size u)) g.S.Iterator.remaining c.args.seqno readers sources (all_of _ (λ r. tt) readers) ends))
+    (rw c.in_ok-all.ensures.of at (rw c.in_ok-below.ensures.of at c.newest_stream.ensures.can))
+
+pub returns-clause-next : goal.returns-clause-next
+returns-clause-next g c may ends = if_ok c.newest_stream.result (λ s can. can_now _ _ _ _ s can) (returns-clause-can g c may ends)
+
+pub returns-clause-next_back : goal.returns-clause-next_back
+returns-clause-next_back g c may ends = if_ok c.newest_stream.result (λ s can. can_now_back _ _ _ _ s can) (returns-clause-can g c may ends)
