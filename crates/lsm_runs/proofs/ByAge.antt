@@ -105,17 +105,17 @@ module _ (key : List ℕ) (bound : ℕ) where
             let there = ap (λ (b : Bool). told_by found (by_first b)) holds in
             elim (cases_Bool (is_older found t)) [
               | inl older ↦ (
-                  None,
-                  there ∙ ap (λ (o : Option OpenTable). (table_read key bound o).told)
-                      (not_asked found t older),
-                  older_has found t es h.0 is older ∙ ap (leading_of found) (sym own),
-                )
+                None,
+                there ∙ ap (λ (o : Option OpenTable). (table_read key bound o).told)
+                    (not_asked found t older),
+                older_has found t es h.0 is older ∙ ap (leading_of found) (sym own),
+              )
               | inr other ↦ (
-                  point es key bound,
-                  there ∙ ap (λ (o : Option OpenTable). (table_read key bound o).told)
-                      (asked found t other) ∙ held_answer key bound t es h.0,
-                  ap (leading_of found) (sym own),
-                )
+                point es key bound,
+                there ∙ ap (λ (o : Option OpenTable). (table_read key bound o).told)
+                    (asked found t other) ∙ held_answer key bound t es h.0,
+                ap (leading_of found) (sym own),
+              )
             ]
         | inr miss ↦
             let own : point (joined (es ∷ ls)) key bound ≡ point (joined ls) key bound =

@@ -12,6 +12,8 @@ mod unopened;
 pub use bounds::share;
 pub use run_reader::RunReader;
 pub use run_scanner::RunScanner;
-pub use runs::{NewestOfRuns, NewestOfRunsAt, range_runs, range_runs_at};
-pub use runs::{get_runs, get_runs_by_age, get_runs_by_age_counted, get_runs_counted};
+pub use runs::{
+    NewestOfRuns, NewestOfRunsAt, get_runs, get_runs_by_age, get_runs_by_age_counted,
+    get_runs_counted, range_runs, range_runs_at,
+};
 pub use sources::{NewestOfSourcesAt, range_sources_at};

@@ -259,7 +259,8 @@ fn is_older<A: Allocator>(table: &Table<A>, found: &Option<InternalValue<A>>) ->
     }
 }
 
-// The same as [`get_run_counted`] behind what was found: nothing where the table is older.
+// The first match in the one table of a run whose range has the key, as [`get_run_counted`] has it;
+// nothing where all that the table has is older than what was found.
 fn get_run_behind_counted<A: Allocator + Clone>(
     run: &Run<Table<A>, A>,
     key: &[u8],
