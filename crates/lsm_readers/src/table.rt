@@ -26,6 +26,7 @@ ghost use Rattle.sst_entries.specs.declared.error.Error.TheVariants.{OutOfMemory
 
 mod queries;
 mod range;
+mod verify;
 
 use crate::inner::PinnedBlocks;
 use crate::pinned::load_handles;
