@@ -41,3 +41,7 @@ pub mod ManyReads
 pub mod ManyOfList
 pub mod BatchReads
 pub mod OneIndex
+pub mod VerifySteps
+pub mod VerifyEntries
+pub mod VerifyBlocks
+pub mod VerifyLoops

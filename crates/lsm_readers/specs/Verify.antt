@@ -98,8 +98,9 @@ spent meta item left by =
 -- its number leaves room for a bound above it, and it follows
 abbrev pub order_found : ℕ → Option Entry → Entry → Result (Unit {0}) Finding
 order_found at last e =
-    if e.seqno == 2 ^ 64 - 1 then Err (finding section.Data at fault.TooHigh)
-    else tested (may_follow last e) (finding section.Data at fault.Unordered)
+    if nat_lt e.seqno (2 ^ 64 - 1)
+    then tested (may_follow last e) (finding section.Data at fault.Unordered)
+    else Err (finding section.Data at fault.TooHigh)
 
 -- the first of all has the key that the meta block names as the least
 abbrev pub first_found : Parts → Option Entry → Entry → Result (Unit {0}) Finding

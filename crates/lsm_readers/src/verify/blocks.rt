@@ -164,13 +164,13 @@ fn handle_at<A: Allocator>(
 fn read_blocks<A: Allocator + Clone>(
     source: &BlockSource<A>,
     inner: &Inner<A>,
-    left: Unread<A>,
+    start: Unread<A>,
     handles: &IndexBlock<A>,
 ) -> Result<Unread<A>, VerifyError>
     ensures { Finds (λ (l : Left). l) result
-        (blocks_found (body_of source.now) (parts_of inner.now) left handles.now) }
+        (blocks_found (body_of source.now) (parts_of inner.now) start handles.now) }
 {
-    let mut left = left;
+    let mut left = start;
     for index in 0..handles.len() {
         let handle = handle_at(handles, index)?;
         left = read_block(source, inner, left, &handle)?;
@@ -220,13 +220,13 @@ fn read_part<A: Allocator + Clone>(
 fn read_parts<A: Allocator + Clone>(
     source: &BlockSource<A>,
     inner: &Inner<A>,
-    left: Unread<A>,
+    start: Unread<A>,
     tops: &IndexBlock<A>,
 ) -> Result<Unread<A>, VerifyError>
     ensures { Finds (λ (l : Left). l) result
-        (parts_found (body_of source.now) (parts_of inner.now) left tops.now) }
+        (parts_found (body_of source.now) (parts_of inner.now) start tops.now) }
 {
-    let mut left = left;
+    let mut left = start;
     for index in 0..tops.len() {
         let top = handle_at(tops, index)?;
         left = read_part(source, inner, left, &top)?;

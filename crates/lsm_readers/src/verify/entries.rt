@@ -75,13 +75,14 @@ fn test_order<A: Allocator>(
 ) -> Result<(), VerifyError>
     ensures { Finds (λ (_ : _). tt) result (order_found at last.now entry.now) }
 {
-    if entry.key.seqno == SeqNo::MAX {
-        return Err(found(SectionName::Data, at, Fault::TooHigh));
-    }
-    if may_follow(last, entry) {
-        Ok(())
+    if entry.key.seqno < SeqNo::MAX {
+        if may_follow(last, entry) {
+            Ok(())
+        } else {
+            Err(found(SectionName::Data, at, Fault::Unordered))
+        }
     } else {
-        Err(found(SectionName::Data, at, Fault::Unordered))
+        Err(found(SectionName::Data, at, Fault::TooHigh))
     }
 }
 
@@ -221,13 +222,13 @@ pub(super) fn read_entries<A: Allocator + Clone>(
     source: &BlockSource<A>,
     inner: &Inner<A>,
     at: u64,
-    left: Unread<A>,
+    start: Unread<A>,
     block: &DataBlock<A>,
 ) -> Result<Unread<A>, VerifyError>
     ensures { Finds (λ (l : Left). l) result
-        (entries_found (body_of source.now) (parts_of inner.now) at left block.now) }
+        (entries_found (body_of source.now) (parts_of inner.now) at start block.now) }
 {
-    let mut left = left;
+    let mut left = start;
     for index in 0..block.len() {
         let entry = entry_at(block, index)?;
         left = read_entry(source, inner, at, left, entry)?;
