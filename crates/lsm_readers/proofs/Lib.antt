@@ -45,3 +45,5 @@ pub mod VerifySteps
 pub mod VerifyEntries
 pub mod VerifyBlocks
 pub mod VerifyLoops
+pub mod VerifyEnd
+pub mod VerifyTables

@@ -91,7 +91,6 @@ module _ (meta : ℕ) (before : Option Entry) (old : Counts) (e : Entry) where
     highest = max old.highest e.seqno;
   }
 
-
   pub spent_one_ok : (new : Counts) → entry_spent meta before e old ≡ Ok new
       → SpendsOne meta before old e new
   unfolding entry_spent
@@ -159,6 +158,11 @@ module _ (body : List ℕ) (parts : Parts) (at : ℕ) where
       go true is all = (rw is (asked_goes at (admitted body parts e.user_key) all.0), all.1)
       go false is all = (rw is refl, all)
 
+  -- a test tells no more than that it passes
+  key_is : (last : Option Entry) (e : Entry) (u : Unit {0})
+      → key_found body parts at last e ≡ Ok u → key_found body parts at last e ≡ Ok tt
+  key_is last e u h = h
+
   -- ---- an entry
 
   abbrev behind : Entry → Counts → Left
@@ -174,12 +178,12 @@ module _ (body : List ℕ) (parts : Parts) (at : ℕ) where
 
   pub entry_ok : (old : Left) (e : Entry) (new : Left) → entry_found body parts at old e ≡ Ok new
       → (counts : Counts) × (new ≡ behind e counts) × ReadsOne old e counts
-  unfolding entry_found
+  unfolding entry_found entry_tested
   entry_ok old e new h =
-      let o = then_ok _ _ new h in
-      let f = then_ok _ _ new o.2 in
-      let k = then_ok _ _ new f.2 in
-      let c = then_ok _ _ new k.2 in
+      let c = then_ok _ _ new h in
+      let o = then_ok _ _ c.0 c.1 in
+      let f = then_ok _ _ c.0 o.2 in
+      let k = then_ok _ _ c.0 f.2 in
       let same : behind e c.0 ≡ new = cc in
       let order = order_ok at old.last e o.0 o.1 in (
         c.0,
@@ -187,9 +191,9 @@ module _ (body : List ℕ) (parts : Parts) (at : ℕ) where
         record {
           number = order.0;
           follows = order.1;
-          key = k.1;
+          key = key_is old.last e k.0 k.1;
           first = first_ok parts old.last e f.0 f.1;
-          spends = spent_one_ok parts.regions.metadata.offset old.last old.counts e c.0 c.1;
+          spends = spent_one_ok parts.regions.metadata.offset old.last old.counts e c.0 k.2;
         },
       )
 
@@ -230,7 +234,7 @@ module _ (body : List ℕ) (parts : Parts) (at : ℕ) where
       → Reads body parts old (e ∷ es) new → (mid : Left)
       × (entry_found body parts at old e ≡ Ok mid) × Reads body parts mid es new
       × (mid.counts.blocks ≡ old.counts.blocks) × (mid.counts.size ≡ old.counts.size)
-  unfolding IsStrictAfter last_of count_after lowest_seqno highest_seqno entry_found
+  unfolding IsStrictAfter last_of count_after lowest_seqno highest_seqno entry_found entry_tested
   reads_first old e es new r =
       let meta = parts.regions.metadata.offset in
       let s = r.spends in
@@ -243,11 +247,12 @@ module _ (body : List ℕ) (parts : Parts) (at : ℕ) where
       let counts = made meta old.last old.counts e items tombstones weak reclaimable in
       let keys = keys_one old.last e es r.admits in (
         behind e counts,
-        then_goes _ _ tt _ (order_goes at old.last e r.numbers.0 r.strict.0)
-        (then_goes _ _ tt _ (first_goes parts old.last e r.first)
-        (then_goes _ _ tt _ keys.0
-        (then_goes _ _ counts _ (spent_one_goes meta old.last old.counts e items tombstones weak
-        reclaimable (omega (arith, s.items)) t w (omega (arith, s.reclaimable))) refl))),
+        then_goes _ _ counts _
+            (then_goes _ _ tt _ (order_goes at old.last e r.numbers.0 r.strict.0)
+            (then_goes _ _ tt _ (first_goes parts old.last e r.first)
+            (then_goes _ _ tt _ keys.0
+            (spent_one_goes meta old.last old.counts e items tombstones weak reclaimable
+            (omega (arith, s.items)) t w (omega (arith, s.reclaimable)))))) refl,
         record {
           strict = r.strict.1;
           numbers = r.numbers.1;

@@ -96,8 +96,11 @@ module _ (at : ℕ) (last : Option Entry) (e : Entry) where
     where
       go : (b : Bool) → ltb e.seqno (2 ^ 64 - 1) ≡ b → order_found at last e ≡ Ok u
           → (e.seqno < 2 ^ 64 - 1) × (may_follow last e ≡ true)
-      go true is h = (ltb-true e.seqno (2 ^ 64 - 1) is, tested_ok (may_follow last e) _ u
-          (rw is at h))
+      go true is h = (
+        ltb-true e.seqno (2 ^ 64 - 1) is,
+        tested_ok (may_follow last e) _ u
+            (rw is at h),
+      )
       go false is h = absurd (let no = rw is at h in cc)
 
   pub order_goes : e.seqno < 2 ^ 64 - 1 → may_follow last e ≡ true → order_found at last e ≡ Ok tt
@@ -159,8 +162,11 @@ module _ (section : SectionName) (h : Handle) (e : Entry) where
       go : (b : Bool) → same_key h.end_key e.user_key ≡ b
           → end_named section h e.user_key e.seqno ≡ Ok u
           → (h.end_key ≡ e.user_key) × (h.seqno ≡ e.seqno)
-      go true is told = (same_is _ _ is, eqb-true h.seqno e.seqno
-          (tested_ok (h.seqno == e.seqno) _ u (rw is at told)))
+      go true is told = (
+        same_is _ _ is,
+        eqb-true h.seqno e.seqno
+            (tested_ok (h.seqno == e.seqno) _ u (rw is at told)),
+      )
       go false is told = absurd (let no = rw is at told in cc)
 
   pub end_goes : h.end_key ≡ e.user_key → h.seqno ≡ e.seqno

@@ -141,13 +141,17 @@ entry_spent meta last e counts =
       highest = max counts.highest e.seqno;
     })
 
-unfoldable pub entry_found : List ℕ → Parts → ℕ → Left → Entry → Result Left Finding
-entry_found body parts at left e =
+-- the tests of an entry, and what is left of the counts behind it
+unfoldable pub entry_tested : List ℕ → Parts → ℕ → Left → Entry → Result Counts Finding
+entry_tested body parts at left e =
     order_found at left.last e >>= λ _.
     first_found parts left.last e >>= λ _.
     key_found body parts at left.last e >>= λ _.
-    entry_spent parts.regions.metadata.offset left.last e left.counts >>= λ counts.
-    Ok (record { last = Some e; counts = counts })
+    entry_spent parts.regions.metadata.offset left.last e left.counts
+
+unfoldable pub entry_found : List ℕ → Parts → ℕ → Left → Entry → Result Left Finding
+entry_found body parts at left e =
+    entry_tested body parts at left e >>= λ counts. Ok (record { last = Some e; counts = counts })
 
 unfoldable pub entries_found : List ℕ → Parts → ℕ → Left → List Entry → Result Left Finding
 entries_found body parts at left [] = Ok left
@@ -320,11 +324,15 @@ verified_of said = record {
   item_count = said.item_count;
 }
 
+-- the index and the data blocks, and then the end
+unfoldable pub all_found : List ℕ → Parts → Result (Unit {0}) Finding
+all_found body parts =
+    index_found body parts (unread_of parts.facts) >>= λ left. end_found body parts left
+
 -- what is found first in the bytes before the trailer: in the filter, then in the index and the
 -- data blocks, in their order, then at the end
 unfoldable pub table_found : List ℕ → Parts → Result Verified Finding
 table_found body parts =
     filters_found body parts >>= λ _.
-    index_found body parts (unread_of parts.facts) >>= λ left.
-    end_found body parts left >>= λ _.
+    all_found body parts >>= λ _.
     Ok (verified_of parts.facts)

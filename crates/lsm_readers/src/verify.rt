@@ -2,7 +2,8 @@
 ghost use Rattle.std.specs.Prelude.{◌≡◌};
 ghost use Rattle.sst_sections.specs.Sections.{body_of};
 ghost use Rattle.lsm_readers.specs.Table.{parts_of};
-ghost use Rattle.lsm_readers.specs.Verify.{Finds, IsFaultAt, finding, table_found, unread_of};
+ghost use Rattle.lsm_readers.specs.Verify.{Finds, IsFaultAt, all_found, finding, table_found};
+ghost use Rattle.lsm_readers.specs.Verify.{unread_of};
 ghost use Rattle.lsm_readers.specs.declared.verify.Verified.{Verified as Verification};
 ghost use Rattle.lsm_readers.specs.declared.verify.VerifyError.TheVariants.{Found};
 
@@ -145,6 +146,20 @@ fn unread_table<A: Allocator>(inner: &Inner<A>) -> Unread<A>
     }
 }
 
+/// Reads the index and the data blocks, and tests what is left then.
+#[tactic(auto, unfolding(crate::specs::Verify::all_found))]
+fn read_all<A: Allocator + Clone>(
+    source: &BlockSource<A>,
+    inner: &Inner<A>,
+) -> Result<(), VerifyError>
+    ensures { Finds (λ (_ : _). tt) result
+        (all_found (body_of source.now) (parts_of inner.now)) }
+{
+    let mut left = unread_table(inner);
+    read_index(source, inner, &mut left)?;
+    test_left(source, inner, &left)
+}
+
 /// Reads a whole table: the filter's blocks, then the blocks of the index, and behind the handle of
 /// each data block that block. Refused with what is wrong first, or for want of memory.
 #[tactic(auto, unfolding(crate::specs::Verify::table_found))]
@@ -156,10 +171,7 @@ pub(crate) fn verify_table<A: Allocator + Clone>(
         (table_found (body_of source.now) (parts_of inner.now)) }
 {
     test_filters(source, inner)?;
-    let left = read_index(source, inner, unread_table(inner))?;
-    let end = test_left(source, inner, &left);
-    drop(left);
-    end?;
+    read_all(source, inner)?;
     Ok(Verified {
         data_block_count: inner.metadata.data_block_count,
         item_count: inner.metadata.item_count,

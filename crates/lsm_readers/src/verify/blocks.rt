@@ -5,7 +5,7 @@ ghost use Rattle.lsm_readers.specs.declared.verify.VerifyError.TheVariants.{OutO
 ghost use Rattle.sst_sections.specs.declared.section.SectionName.TheVariants as section;
 ghost use Rattle.lsm_readers.specs.Words.{Entry, Handle, body_of, parts_of};
 ghost use Rattle.lsm_readers.specs.declared.verify.Counts.{Counts as CountsLeft};
-ghost use Rattle.lsm_readers.specs.Verify.{Finds, Left, block_found, block_spent, blocks_found};
+ghost use Rattle.lsm_readers.specs.Verify.{Finds, block_found, block_spent, blocks_found};
 ghost use Rattle.lsm_readers.specs.Verify.{chunk_found, end_named, handles_found, index_found};
 ghost use Rattle.lsm_readers.specs.Verify.{last_named, part_found, parts_found, place_found};
 ghost use Rattle.lsm_readers.specs.Verify.{top_named};
@@ -123,11 +123,11 @@ fn test_last<A: Allocator>(
 fn read_block<A: Allocator + Clone>(
     source: &BlockSource<A>,
     inner: &Inner<A>,
-    left: Unread<A>,
+    left: &mut Unread<A>,
     handle: &KeyedBlockHandle<A>,
-) -> Result<Unread<A>, VerifyError>
-    ensures { Finds (λ (l : Left). l) result
-        (block_found (body_of source.now) (parts_of inner.now) left handle.now) }
+) -> Result<(), VerifyError>
+    ensures { Finds (λ (_ : _). left.new) result
+        (block_found (body_of source.now) (parts_of inner.now) left.old handle.now) }
 {
     let at = handle.offset().0;
     let begins = inner.metadata.file_size.saturating_sub(left.counts.size);
@@ -136,13 +136,10 @@ fn read_block<A: Allocator + Clone>(
     let counts = count_block(meta, handle.size(), left.counts)?;
     let place = BlockHandle::new(handle.offset(), handle.size());
     let block = load_chunk(source, &place)?;
-    let left = Unread {
-        last: left.last,
-        counts,
-    };
-    let left = read_entries(source, inner, at, left, &block)?;
+    left.counts = counts;
+    read_entries(source, inner, at, left, &block)?;
     test_last(handle, &left.last)?;
-    Ok(left)
+    Ok(())
 }
 
 /// The handle at a place in a block. Refused for want of memory alone.
@@ -164,18 +161,17 @@ fn handle_at<A: Allocator>(
 fn read_blocks<A: Allocator + Clone>(
     source: &BlockSource<A>,
     inner: &Inner<A>,
-    start: Unread<A>,
+    left: &mut Unread<A>,
     handles: &IndexBlock<A>,
-) -> Result<Unread<A>, VerifyError>
-    ensures { Finds (λ (l : Left). l) result
-        (blocks_found (body_of source.now) (parts_of inner.now) start handles.now) }
+) -> Result<(), VerifyError>
+    ensures { Finds (λ (_ : _). left.new) result
+        (blocks_found (body_of source.now) (parts_of inner.now) left.old handles.now) }
 {
-    let mut left = start;
     for index in 0..handles.len() {
         let handle = handle_at(handles, index)?;
-        left = read_block(source, inner, left, &handle)?;
+        read_block(source, inner, left, &handle)?;
     }
-    Ok(left)
+    Ok(())
 }
 
 /// Tests that a handle of a top level names the last of the handles of its partition.
@@ -204,11 +200,11 @@ fn test_top<A: Allocator>(
 fn read_part<A: Allocator + Clone>(
     source: &BlockSource<A>,
     inner: &Inner<A>,
-    left: Unread<A>,
+    left: &mut Unread<A>,
     top: &KeyedBlockHandle<A>,
-) -> Result<Unread<A>, VerifyError>
-    ensures { Finds (λ (l : Left). l) result
-        (part_found (body_of source.now) (parts_of inner.now) left top.now) }
+) -> Result<(), VerifyError>
+    ensures { Finds (λ (_ : _). left.new) result
+        (part_found (body_of source.now) (parts_of inner.now) left.old top.now) }
 {
     let place = BlockHandle::new(top.offset(), top.size());
     let handles = load_part(source, SectionName::Index, &place)?;
@@ -220,18 +216,17 @@ fn read_part<A: Allocator + Clone>(
 fn read_parts<A: Allocator + Clone>(
     source: &BlockSource<A>,
     inner: &Inner<A>,
-    start: Unread<A>,
+    left: &mut Unread<A>,
     tops: &IndexBlock<A>,
-) -> Result<Unread<A>, VerifyError>
-    ensures { Finds (λ (l : Left). l) result
-        (parts_found (body_of source.now) (parts_of inner.now) start tops.now) }
+) -> Result<(), VerifyError>
+    ensures { Finds (λ (_ : _). left.new) result
+        (parts_found (body_of source.now) (parts_of inner.now) left.old tops.now) }
 {
-    let mut left = start;
     for index in 0..tops.len() {
         let top = handle_at(tops, index)?;
-        left = read_part(source, inner, left, &top)?;
+        read_part(source, inner, left, &top)?;
     }
-    Ok(left)
+    Ok(())
 }
 
 /// Reads the index from the table's bytes, whatever of it stays loaded, and the data blocks of its
@@ -240,10 +235,10 @@ fn read_parts<A: Allocator + Clone>(
 pub(super) fn read_index<A: Allocator + Clone>(
     source: &BlockSource<A>,
     inner: &Inner<A>,
-    left: Unread<A>,
-) -> Result<Unread<A>, VerifyError>
-    ensures { Finds (λ (l : Left). l) result
-        (index_found (body_of source.now) (parts_of inner.now) left) }
+    left: &mut Unread<A>,
+) -> Result<(), VerifyError>
+    ensures { Finds (λ (_ : _). left.new) result
+        (index_found (body_of source.now) (parts_of inner.now) left.old) }
 {
     let handles = load_part(source, SectionName::Tli, &inner.regions.tli)?;
     match inner.regions.index {

@@ -4,8 +4,8 @@ ghost use Rattle.std.specs.List.{slice_get};
 ghost use Rattle.lsm_readers.specs.declared.verify.VerifyError.TheVariants.{OutOfMemory};
 ghost use Rattle.lsm_readers.specs.Words.{body_of, parts_of};
 ghost use Rattle.lsm_readers.specs.declared.verify.Counts.{Counts as CountsLeft};
-ghost use Rattle.lsm_readers.specs.Verify.{Finds, Left, admitted, entries_found, entry_found};
-ghost use Rattle.lsm_readers.specs.Verify.{entry_spent, first_found, is_reclaimable, is_weak};
+ghost use Rattle.lsm_readers.specs.Verify.{Finds, admitted, entries_found, entry_found};
+ghost use Rattle.lsm_readers.specs.Verify.{entry_spent, entry_tested, first_found, is_reclaimable, is_weak};
 ghost use Rattle.lsm_readers.specs.Verify.{key_found, may_follow, order_found, spent, starts_key};
 
 use super::{Counts, Fault, Unread, VerifyError, found};
@@ -179,27 +179,41 @@ fn count_entry<A: Allocator>(
     })
 }
 
-/// Tests an entry of the data block at a position, and counts it.
+/// Tests an entry of the data block at a position. What is left of the counts behind it.
+#[tactic(auto, unfolding(crate::specs::Verify::entry_tested))]
+fn test_entry<A: Allocator + Clone>(
+    source: &BlockSource<A>,
+    inner: &Inner<A>,
+    at: u64,
+    left: &Unread<A>,
+    entry: &InternalValue<A>,
+) -> Result<Counts, VerifyError>
+    ensures { Finds (λ (c : CountsLeft). c) result
+        (entry_tested (body_of source.now) (parts_of inner.now) at left.now entry.now) }
+{
+    test_order(at, &left.last, entry)?;
+    test_first(inner, &left.last, entry)?;
+    test_key(source, inner, at, &left.last, entry)?;
+    let meta = inner.regions.metadata.offset().0;
+    count_entry(meta, &left.last, entry, left.counts)
+}
+
+/// Reads an entry of the data block at a position.
 #[tactic(auto, unfolding(crate::specs::Verify::entry_found))]
 fn read_entry<A: Allocator + Clone>(
     source: &BlockSource<A>,
     inner: &Inner<A>,
     at: u64,
-    left: Unread<A>,
+    left: &mut Unread<A>,
     entry: InternalValue<A>,
-) -> Result<Unread<A>, VerifyError>
-    ensures { Finds (λ (l : Left). l) result
-        (entry_found (body_of source.now) (parts_of inner.now) at left entry) }
+) -> Result<(), VerifyError>
+    ensures { Finds (λ (_ : _). left.new) result
+        (entry_found (body_of source.now) (parts_of inner.now) at left.old entry) }
 {
-    test_order(at, &left.last, &entry)?;
-    test_first(inner, &left.last, &entry)?;
-    test_key(source, inner, at, &left.last, &entry)?;
-    let meta = inner.regions.metadata.offset().0;
-    let counts = count_entry(meta, &left.last, &entry, left.counts)?;
-    Ok(Unread {
-        last: Some(entry),
-        counts,
-    })
+    let counts = test_entry(source, inner, at, left, &entry)?;
+    left.last = Some(entry);
+    left.counts = counts;
+    Ok(())
 }
 
 /// The entry at a place in a block. Refused for want of memory alone.
@@ -217,21 +231,20 @@ fn entry_at<A: Allocator>(
     }
 }
 
-/// Tests the entries of the data block at a position, one after another, and counts them.
+/// Reads the entries of the data block at a position, one after another.
 pub(super) fn read_entries<A: Allocator + Clone>(
     source: &BlockSource<A>,
     inner: &Inner<A>,
     at: u64,
-    start: Unread<A>,
+    left: &mut Unread<A>,
     block: &DataBlock<A>,
-) -> Result<Unread<A>, VerifyError>
-    ensures { Finds (λ (l : Left). l) result
-        (entries_found (body_of source.now) (parts_of inner.now) at start block.now) }
+) -> Result<(), VerifyError>
+    ensures { Finds (λ (_ : _). left.new) result
+        (entries_found (body_of source.now) (parts_of inner.now) at left.old block.now) }
 {
-    let mut left = start;
     for index in 0..block.len() {
         let entry = entry_at(block, index)?;
-        left = read_entry(source, inner, at, left, entry)?;
+        read_entry(source, inner, at, left, entry)?;
     }
-    Ok(left)
+    Ok(())
 }
