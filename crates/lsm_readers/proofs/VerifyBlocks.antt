@@ -30,7 +30,7 @@ use Rattle.lsm_readers.proofs.VerifyEntries.{Reads, Spends, entries_go, entries_
 use Rattle.lsm_readers.proofs.VerifyEntries.{reads_none}
 use Rattle.lsm_readers.proofs.VerifySteps.{end_goes, end_ok, located_goes, located_ok, place_goes}
 use Rattle.lsm_readers.proofs.VerifySteps.{place_ok, some_goes, some_ok, spent_goes, spent_ok}
-use Rattle.lsm_readers.proofs.VerifySteps.{then_goes, then_ok}
+use Rattle.lsm_readers.proofs.VerifySteps.{then_goes, then_ok, told_is}
 
 -- ---- the end of a block
 
@@ -201,7 +201,7 @@ module _ (body : List ℕ) (parts : Parts) where
       let c = then_ok _ _ new n.2 in
       let e = then_ok _ _ new c.2 in
       let l = then_ok _ _ new e.2 in
-      let same : e.0 ≡ new = cc in
+      let same : e.0 ≡ new = told_is e.0 new l.2 in
       let count = count_ok meta h.size old.counts n.0 n.1 in
       let chunk = chunk_ok body h c.0 c.1 in
       let begun = with_counts old (less meta h.size old.counts count.0 count.1) in
@@ -363,11 +363,19 @@ module _ (body : List ℕ) (parts : Parts) where
       mapped [] some = some
       mapped (h ∷ hs) some = omega arith
 
+  left_fits : (old : Left) (hs : List Handle) (mid : Left) → IsPart old
+      → blocks_found body parts old hs ≡ Ok mid → IsPart mid
+  unfolding blocks_found
+  left_fits old [] mid fits told = let same : old ≡ mid = cc in subst IsPart same fits
+  left_fits old (h ∷ hs) mid fits told =
+      let one = then_ok _ _ mid told in
+      left_fits one.0 hs mid (left_part old h one.0 fits (block_ok old h one.0 fits one.1)) one.2
+
   -- the partitions of some handles of a top level
   pub record ReadsParts (old : Left) (tops : List Handle) (new : Left) : Type 0 where
-    pub parts : List (List Handle)
-    pub named : AllZip (NamesPart body) tops parts
-    pub reads : ReadsBlocks old (joined_parts parts) new
+    pub pieces : List (List Handle)
+    pub named : AllZip (NamesPart body) tops pieces
+    pub reads : ReadsBlocks old (joined_parts pieces) new
 
   parts_ok : (old : Left) (tops : List Handle) (new : Left) → IsPart old
       → parts_found body parts old tops ≡ Ok new → ReadsParts old tops new
@@ -375,30 +383,20 @@ module _ (body : List ℕ) (parts : Parts) where
   parts_ok old [] new fits told =
       let same : old ≡ new = cc in
       record {
-        parts = [];
+        pieces = [];
         named = tt;
         reads = subst (ReadsBlocks old []) same (blocks_none old fits);
       }
   parts_ok old (top ∷ tops) new fits told =
       let one = then_ok _ _ new told in
       let is = part_ok old top one.0 one.1 in
-      let more = λ (fit : IsPart one.0). parts_ok one.0 tops new fit one.2 in
-      let fit = left_fits old is.0 one.0 fits is.2 in
-      let rest = more fit in
+      let rest = parts_ok one.0 tops new (left_fits old is.0 one.0 fits is.2) one.2 in
       record {
-        parts = is.0 ∷ rest.parts;
+        pieces = is.0 ∷ rest.pieces;
         named = (is.1, rest.named);
-        reads = blocks_read old is.0 (joined_parts rest.parts) one.0 new fits is.2
+        reads = blocks_read old is.0 (joined_parts rest.pieces) one.0 new fits is.2
             (λ (again : IsPart one.0). rest.reads);
       }
-    where
-      left_fits : (old : Left) (hs : List Handle) (mid : Left) → IsPart old
-          → blocks_found body parts old hs ≡ Ok mid → IsPart mid
-      unfolding blocks_found
-      left_fits old [] mid fits told = let same : old ≡ mid = cc in subst IsPart same fits
-      left_fits old (h ∷ hs) mid fits told =
-          let one = then_ok _ _ mid told in
-          left_fits one.0 hs mid (left_part old h one.0 fits (block_ok old h one.0 fits one.1)) one.2
 
   pub parts_go : (old : Left) (tops : List Handle) (ps : List (List Handle)) (new : Left)
       → IsPart old → AllZip (NamesPart body) tops ps → ReadsBlocks old (joined_parts ps) new
@@ -436,8 +434,8 @@ module _ (body : List ℕ) (parts : Parts) where
   )
   named_ok (Some place) old hs new fits told found =
       let p = parts_ok old hs new fits found in (
-        joined_parts p.parts,
-        record { tops = hs; parts = p.parts; told = told; named = p.named; whole = refl },
+        joined_parts p.pieces,
+        record { tops = hs; parts = p.pieces; told = told; named = p.named; whole = refl },
         p.reads,
       )
 

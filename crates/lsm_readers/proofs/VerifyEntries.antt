@@ -14,7 +14,8 @@ use Rattle.lsm_readers.specs.declared.verify.Counts.{Counts}
 use Rattle.lsm_readers.specs.Parts.{Parts}
 use Rattle.lsm_readers.specs.Stored.{Admits}
 use Rattle.lsm_readers.specs.Verify.{◌>>=◌, Left, admitted, asked_found, entries_found, entry_found}
-use Rattle.lsm_readers.specs.Verify.{entry_spent, first_found, key_found, order_found, spent}
+use Rattle.lsm_readers.specs.Verify.{entry_spent, entry_tested, first_found, key_found}
+use Rattle.lsm_readers.specs.Verify.{order_found, spent}
 use Rattle.lsm_readers.proofs.VerifySteps.{IsFirst, asked_goes, asked_ok, first_goes, first_ok}
 use Rattle.lsm_readers.proofs.VerifySteps.{order_goes, order_ok, spent_goes, spent_ok, then_goes}
 use Rattle.lsm_readers.proofs.VerifySteps.{then_ok}

@@ -17,6 +17,13 @@ use Rattle.lsm_readers.specs.Verify.{◌>>=◌, asked_found, end_named, first_fo
 use Rattle.lsm_readers.specs.Verify.{last_named, located, order_found, place_found, same_found}
 use Rattle.lsm_readers.specs.Verify.{some_found, spent, tested}
 
+abbrev pub answer : {A : Type 0} → A → Result A Finding
+answer x = Ok x
+
+-- one value is told
+pub told_is : {A : Type 0} (x y : A) → answer x ≡ Ok y → x ≡ y
+told_is x y h = cc
+
 -- a step that found nothing went on from a value
 pub then_ok : {A B : Type 0} (r : Result A Finding) (f : A → Result B Finding) (y : B)
     → (r >>= f) ≡ Ok y → (x : A) × (r ≡ Ok x) × (f x ≡ Ok y)

@@ -2,7 +2,7 @@
 -- without a finding.
 use Rattle.std.proofs.Common.{◌≡◌, ℕ, ◌+◌, ◌-◌, ◌^◌, ◌≤◌, List, [], ◌∷◌, length, refl, sym, ap}
 use Rattle.std.proofs.Common.{subst, ◌∙◌, arith}
-use Rattle.std.specs.Prelude.{max, min, Option, Some, None, Result, Ok, Err}
+use Rattle.std.specs.Prelude.{max, min, Option, Some, None, Result, Ok, Err, IfErr, IfOk}
 use Rattle.std.specs.List.{AllByRecursion, AllZip}
 use Rattle.sst_sections.specs.Sections.{body_of, trailer_fault}
 use Rattle.sst_entries.specs.declared.error.Error.{Error}
@@ -17,20 +17,22 @@ use Rattle.lsm_ranges.specs.KeyRange.{Interval}
 use Rattle.lsm_readers.specs.declared.regions.ParsedRegions.{ParsedRegions}
 use Rattle.lsm_readers.specs.declared.verify.Counts.{Counts}
 use Rattle.lsm_readers.specs.declared.verify.Verified.{Verified}
+use Rattle.lsm_readers.specs.declared.verify.VerifyError.{VerifyError}
+use Rattle.lsm_readers.specs.declared.verify.VerifyError.TheVariants.{Found, OutOfMemory}
 use Rattle.lsm_readers.specs.Meta.{Facts, meta_told}
 use Rattle.lsm_readers.specs.OfList.{ends_of}
 use Rattle.lsm_readers.specs.Parts.{Parts, places_told, tops_told}
 use Rattle.lsm_readers.specs.Stored.{Admits, AreLaid, BearsOut, FilterHas, FiltersLoad, HasNoBlock}
 use Rattle.lsm_readers.specs.Stored.{IndexHas, NamesChunk, StoresList}
 use Rattle.lsm_readers.specs.Table.{IsOpen, OpenTable}
-use Rattle.lsm_readers.specs.Verify.{Left, all_found, end_found, range_found, table_found, unread_of}
+use Rattle.lsm_readers.specs.Verify.{Finds, Left, all_found, end_found, range_found, table_found, unread_of}
 use Rattle.lsm_readers.specs.Verify.{verified_of}
 use Rattle.lsm_readers.proofs.Recovered.{PinnedSteps, Steps, ok_same, pinned_steps, recovered_steps}
 use Rattle.lsm_readers.proofs.VerifyBlocks.{IsPart, ReadsBlocks, index_go, index_ok}
 use Rattle.lsm_readers.proofs.VerifyEnd.{NothingLeft, counts_go, counts_ok, filters_go, filters_ok}
 use Rattle.lsm_readers.proofs.VerifyEnd.{lowest_within, range_go, range_ok}
 use Rattle.lsm_readers.proofs.VerifyEntries.{Reads, Spends, StartsAt}
-use Rattle.lsm_readers.proofs.VerifySteps.{then_goes, then_ok}
+use Rattle.lsm_readers.proofs.VerifySteps.{then_goes, then_ok, told_is}
 
 no_fault : {A : Type 0} (fault : Option Error) (told : Result A Error) (x : A)
     → unless fault told ≡ Ok x → fault ≡ None
@@ -67,7 +69,7 @@ module _ (t : OpenTable) (open_table : IsOpen t) where
       let f = then_ok _ _ v h in
       let e = then_ok _ _ v f.2 in
       let i = then_ok _ _ e.0 e.1 in
-      let same : verified_of parts.facts ≡ v = cc in
+      let same = told_is (verified_of parts.facts) v e.2 in
       let n = then_ok _ _ e.0 i.2 in
       let read = index_ok body parts (unread_of parts.facts) i.0 (unread_fits body parts) i.1 in
       let blocks = read.reads in
@@ -232,3 +234,22 @@ module _ (t : OpenTable) (open_table : IsOpen t) where
         (then_goes _ _ tt _ (then_goes _ _ i.0 _ i.1
         (then_goes _ _ tt tt (counts_go parts (i.0).counts n.0)
         (ap (range_found body parts) n.1 ∙ range_go body parts es borne.key_range s.none))) refl)
+
+-- ---- a call that tells what is found
+
+pub all_sound : (t : OpenTable) → IsOpen t → (r : Result Verified VerifyError)
+    → Finds (λ (v : Verified). v) r (table_found (body_of t.bytes) t.parts)
+    → IfOk r (λ v. (es : List Entry) × (s : StoresList t.bytes es) × (v.item_count ≡ length es)
+    × (v.data_block_count ≡ length s.handles))
+all_sound t open_table (Ok v) told = sound t open_table v told
+all_sound t open_table (Err e) told = tt
+
+pub all_complete : (t : OpenTable) → IsOpen t → (r : Result Verified VerifyError)
+    → Finds (λ (v : Verified). v) r (table_found (body_of t.bytes) t.parts) → (es : List Entry)
+    → StoresList t.bytes es → IfErr r (λ e. e ≡ OutOfMemory)
+all_complete t open_table (Ok v) told es s = tt
+all_complete t open_table (Err OutOfMemory) told es s = refl
+all_complete t open_table (Err (Found f)) told es s =
+    let is = complete t open_table es s in
+    let no : Ok (verified_of t.parts.facts) ≡ Err f = sym is ∙ told f refl in
+    absurd cc
