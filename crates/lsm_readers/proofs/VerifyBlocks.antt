@@ -1,7 +1,7 @@
 -- Data blocks that are read without a finding: what is so of them and of their handles.
 use Rattle.std.proofs.Common.{◌≡◌, ℕ, ◌+◌, ◌-◌, ◌^◌, ◌<◌, ◌≤◌, List, [], ◌∷◌, ◌++◌, length, map}
 use Rattle.std.proofs.Common.{refl, sym, ap, subst, ◌∙◌, append-nil, arith}
-use Rattle.std.specs.Prelude.{sum_by, Option, Some, None, Result, Ok, Err}
+use Rattle.std.specs.Prelude.{sum_by, Option, Some, None, Ok}
 use Rattle.std.specs.List.{AllZip}
 use Rattle.std.proofs.lemmas.List.Sums.{sum_by-cons}
 use Rattle.sst_sections.specs.declared.section.SectionName.{SectionName}
@@ -14,19 +14,16 @@ use Rattle.sst_blocks.specs.Handles.{end_of}
 use Rattle.sst_blocks.specs.Place.{Place, place_of}
 use Rattle.lsm_formats.specs.Chunks.{joined}
 use Rattle.lsm_formats.specs.Index.{last_entry}
-use Rattle.lsm_formats.specs.Partitions.{last_end}
 use Rattle.lsm_formats.specs.Parts.{joined_parts}
 use Rattle.lsm_readers.specs.declared.verify.Counts.{Counts}
-use Rattle.lsm_readers.specs.declared.verify.Finding.{Finding}
 use Rattle.lsm_readers.specs.IndexKinds.{handles_told}
 use Rattle.lsm_readers.specs.Parts.{Parts}
-use Rattle.lsm_readers.specs.Stored.{AreLaid, HasPartitions, IndexHas, NamesChunk, NamesPart}
-use Rattle.lsm_readers.specs.Verify.{◌>>=◌, Left, block_found, block_spent, blocks_found}
-use Rattle.lsm_readers.specs.Verify.{chunk_found, entries_found, handles_found, index_found}
-use Rattle.lsm_readers.specs.Verify.{last_named, located, named_found, part_found, parts_found}
-use Rattle.lsm_readers.specs.Verify.{place_found, some_found, top_named}
+use Rattle.lsm_readers.specs.Stored.{AreLaid, IndexHas, NamesChunk, NamesPart}
+use Rattle.lsm_readers.specs.Verify.{Left, block_found, block_spent, blocks_found}
+use Rattle.lsm_readers.specs.Verify.{chunk_found, entries_found, index_found}
+use Rattle.lsm_readers.specs.Verify.{last_named, named_found, part_found, parts_found}
 use Rattle.lsm_readers.proofs.FileLengths.{last_some}
-use Rattle.lsm_readers.proofs.VerifyEntries.{Reads, Spends, entries_go, entries_low, entries_read}
+use Rattle.lsm_readers.proofs.VerifyEntries.{Reads, entries_go, entries_low, entries_read}
 use Rattle.lsm_readers.proofs.VerifyEntries.{reads_none}
 use Rattle.lsm_readers.proofs.VerifySteps.{end_goes, end_ok, located_goes, located_ok, place_goes}
 use Rattle.lsm_readers.proofs.VerifySteps.{place_ok, some_goes, some_ok, spent_goes, spent_ok}
@@ -283,12 +280,12 @@ module _ (body : List ℕ) (parts : Parts) where
           let size_is : old.counts.size ≡ h.size + size = omega (arith, r.sizes, sum) in (
             e.0,
             then_goes _ _ tt _ (place_goes (position old) h.offset r.laid.0)
-            (then_goes _ _ counts _
-            (count_goes meta h.size old.counts blocks size (omega (arith, r.blocks)) size_is)
-            (then_goes _ _ c _ (chunk_goes body h c named.0)
-            (then_goes _ _ e.0 _ e.1
-            (then_goes _ _ tt _ (ap (last_named _ h) low.3 ∙ last_goes _ h old.last c names)
-            refl)))),
+                (then_goes _ _ counts _
+                (count_goes meta h.size old.counts blocks size (omega (arith, r.blocks)) size_is)
+                (then_goes _ _ c _ (chunk_goes body h c named.0)
+                (then_goes _ _ e.0 _ e.1
+                (then_goes _ _ tt _ (ap (last_named _ h) low.3 ∙ last_goes _ h old.last c names)
+                refl)))),
             record {
               chunks = cs;
               named = named.1;

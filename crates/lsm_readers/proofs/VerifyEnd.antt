@@ -1,5 +1,5 @@
 -- The filter's blocks, and the end of a table that was read without a finding.
-use Rattle.std.proofs.Common.{◌≡◌, ℕ, ◌-◌, ◌^◌, ◌≤◌, Bool, true, List, [], ◌∷◌, length, refl, sym, ap}
+use Rattle.std.proofs.Common.{◌≡◌, ℕ, ◌-◌, ◌^◌, ◌≤◌, List, [], ◌∷◌, length, refl, sym, ap}
 use Rattle.std.proofs.Common.{◌∙◌, arith}
 use Rattle.std.specs.Prelude.{Option, Some, None, unwrap_or, Result, Ok, Err}
 use Rattle.std.specs.Option.{option_map}
@@ -19,8 +19,8 @@ use Rattle.lsm_readers.specs.declared.verify.Counts.{Counts}
 use Rattle.lsm_readers.specs.OfList.{ends_of}
 use Rattle.lsm_readers.specs.Parts.{Parts}
 use Rattle.lsm_readers.specs.Stored.{FiltersLoad, HasNoBlock, LoadsAs}
-use Rattle.lsm_readers.specs.Verify.{◌>>=◌, counts_found, filter_found, filters_by, key_same}
-use Rattle.lsm_readers.specs.Verify.{located, passed, range_found, same_found, tops_found}
+use Rattle.lsm_readers.specs.Verify.{counts_found, filter_found, filters_by}
+use Rattle.lsm_readers.specs.Verify.{located, passed, range_found, tops_found}
 use Rattle.lsm_readers.specs.Verify.{unnamed_by, unnamed_found}
 use Rattle.lsm_readers.proofs.FileLengths.{last_some}
 use Rattle.lsm_readers.proofs.VerifyEntries.{StartsAt}

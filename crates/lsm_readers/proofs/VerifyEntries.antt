@@ -1,9 +1,8 @@
 -- Entries that are read without a finding: what is so of them, and what is left of the counts then.
 use Rattle.std.proofs.Common.{◌≡◌, ℕ, ◌+◌, ◌-◌, ◌^◌, ◌<◌, ◌≤◌, Bool, true, false, cond, List, []}
-use Rattle.std.proofs.Common.{◌∷◌, ◌++◌, length, refl, sym, ap, subst, ◌∙◌, arith}
-use Rattle.std.specs.Prelude.{count_by, max, min, Option, Some, None, Result, Ok, Err}
+use Rattle.std.proofs.Common.{◌∷◌, ◌++◌, length, refl, sym, subst, ◌∙◌, arith}
+use Rattle.std.specs.Prelude.{count_by, max, min, Option, Some, Ok}
 use Rattle.std.specs.List.{AllByRecursion}
-use Rattle.std.proofs.lemmas.Bool.{cases_Bool}
 use Rattle.std.proofs.lemmas.List.Sums.{sum_by-cons}
 use Rattle.sst_entries.specs.Entry.{Entry}
 use Rattle.sst_entries.specs.Strict.{IsStrictAfter, last_of, may_follow}
@@ -13,9 +12,8 @@ use Rattle.lsm_formats.specs.Filters.{keys_after}
 use Rattle.lsm_readers.specs.declared.verify.Counts.{Counts}
 use Rattle.lsm_readers.specs.Parts.{Parts}
 use Rattle.lsm_readers.specs.Stored.{Admits}
-use Rattle.lsm_readers.specs.Verify.{◌>>=◌, Left, admitted, asked_found, entries_found, entry_found}
-use Rattle.lsm_readers.specs.Verify.{entry_spent, entry_tested, first_found, key_found}
-use Rattle.lsm_readers.specs.Verify.{order_found, spent}
+use Rattle.lsm_readers.specs.Verify.{Left, admitted, asked_found, entries_found, entry_found}
+use Rattle.lsm_readers.specs.Verify.{entry_spent, entry_tested, key_found}
 use Rattle.lsm_readers.proofs.VerifySteps.{IsFirst, asked_goes, asked_ok, first_goes, first_ok}
 use Rattle.lsm_readers.proofs.VerifySteps.{order_goes, order_ok, spent_goes, spent_ok, then_goes}
 use Rattle.lsm_readers.proofs.VerifySteps.{then_ok}

@@ -1,5 +1,5 @@
 -- A step of reading a whole table that finds nothing wrong, and what is so then.
-use Rattle.std.proofs.Common.{◌≡◌, ℕ, ◌+◌, ◌-◌, ◌^◌, ◌<◌, ◌≤◌, ◌==◌, Bool, true, false, cond, ltb}
+use Rattle.std.proofs.Common.{◌≡◌, ℕ, ◌+◌, ◌-◌, ◌^◌, ◌<◌, ◌≤◌, ◌==◌, Bool, true, false, ltb}
 use Rattle.std.proofs.Common.{List, [], ◌∷◌, length, refl, sym, ap, ◌∙◌, arith}
 use Rattle.std.specs.Prelude.{Option, Some, None, Result, Ok, Err}
 use Rattle.std.proofs.lemmas.Bool.{eq-eqb, eqb-true, le-ltb, lt-ltb, ltb-false, ltb-true}
@@ -14,7 +14,7 @@ use Rattle.lsm_formats.specs.declared.item_name.ItemName.{ItemName}
 use Rattle.lsm_readers.specs.declared.verify.Finding.{Finding}
 use Rattle.lsm_readers.specs.Parts.{Parts}
 use Rattle.lsm_readers.specs.Verify.{◌>>=◌, asked_found, end_named, first_found, key_same}
-use Rattle.lsm_readers.specs.Verify.{last_named, located, order_found, place_found, same_found}
+use Rattle.lsm_readers.specs.Verify.{located, order_found, place_found, same_found}
 use Rattle.lsm_readers.specs.Verify.{some_found, spent, tested}
 
 abbrev pub answer : {A : Type 0} → A → Result A Finding

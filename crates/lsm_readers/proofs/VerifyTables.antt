@@ -1,28 +1,27 @@
 -- An opened table that is read without a finding stores a list, and one that stores a list is read
 -- without a finding.
-use Rattle.std.proofs.Common.{◌≡◌, ℕ, ◌+◌, ◌-◌, ◌^◌, ◌≤◌, List, [], ◌∷◌, length, refl, sym, ap}
+use Rattle.std.proofs.Common.{◌≡◌, ℕ, ◌-◌, ◌^◌, ◌≤◌, List, [], ◌∷◌, length, refl, sym, ap}
 use Rattle.std.proofs.Common.{subst, ◌∙◌, arith}
-use Rattle.std.specs.Prelude.{max, min, Option, Some, None, Result, Ok, Err, IfErr, IfOk}
+use Rattle.std.specs.Prelude.{Option, Some, None, Result, Ok, Err, IfErr, IfOk}
 use Rattle.std.specs.List.{AllByRecursion, AllZip}
 use Rattle.sst_sections.specs.Sections.{body_of, trailer_fault}
 use Rattle.sst_entries.specs.declared.error.Error.{Error}
 use Rattle.sst_entries.specs.Entry.{Entry}
 use Rattle.sst_entries.specs.Error.{unless}
-use Rattle.sst_entries.specs.Strict.{IsStrict, last_of}
+use Rattle.sst_entries.specs.Strict.{last_of}
 use Rattle.sst_blocks.specs.Handle.{Handle}
 use Rattle.lsm_formats.specs.Chunks.{joined}
 use Rattle.lsm_formats.specs.Facts.{count_after, highest_seqno, lowest_seqno}
 use Rattle.lsm_formats.specs.Filters.{keys_of}
 use Rattle.lsm_ranges.specs.KeyRange.{Interval}
 use Rattle.lsm_readers.specs.declared.regions.ParsedRegions.{ParsedRegions}
-use Rattle.lsm_readers.specs.declared.verify.Counts.{Counts}
 use Rattle.lsm_readers.specs.declared.verify.Verified.{Verified}
 use Rattle.lsm_readers.specs.declared.verify.VerifyError.{VerifyError}
 use Rattle.lsm_readers.specs.declared.verify.VerifyError.TheVariants.{Found, OutOfMemory}
 use Rattle.lsm_readers.specs.Meta.{Facts, meta_told}
 use Rattle.lsm_readers.specs.OfList.{ends_of}
 use Rattle.lsm_readers.specs.Parts.{Parts, places_told, tops_told}
-use Rattle.lsm_readers.specs.Stored.{Admits, AreLaid, BearsOut, FilterHas, FiltersLoad, HasNoBlock}
+use Rattle.lsm_readers.specs.Stored.{Admits, AreLaid, BearsOut, FilterHas, FiltersLoad}
 use Rattle.lsm_readers.specs.Stored.{IndexHas, NamesChunk, StoresList}
 use Rattle.lsm_readers.specs.Table.{IsOpen, OpenTable}
 use Rattle.lsm_readers.specs.Verify.{Finds, Left, all_found, end_found, range_found, table_found, unread_of}
@@ -31,7 +30,7 @@ use Rattle.lsm_readers.proofs.Recovered.{PinnedSteps, Steps, ok_same, pinned_ste
 use Rattle.lsm_readers.proofs.VerifyBlocks.{IsPart, ReadsBlocks, index_go, index_ok}
 use Rattle.lsm_readers.proofs.VerifyEnd.{NothingLeft, counts_go, counts_ok, filters_go, filters_ok}
 use Rattle.lsm_readers.proofs.VerifyEnd.{lowest_within, range_go, range_ok}
-use Rattle.lsm_readers.proofs.VerifyEntries.{Reads, Spends, StartsAt}
+use Rattle.lsm_readers.proofs.VerifyEntries.{Reads, StartsAt}
 use Rattle.lsm_readers.proofs.VerifySteps.{then_goes, then_ok, told_is}
 
 no_fault : {A : Type 0} (fault : Option Error) (told : Result A Error) (x : A)

@@ -1,6 +1,6 @@
 -- Reading a whole table once: what each step of it finds wrong first, or what is then still to be
 -- read of what the meta block says.
-use Rattle.std.specs.Prelude.{◌≡◌, ℕ, ◌-◌, ◌^◌, ◌==◌, nat_lt, Bool, true, false, List, [], ◌∷◌}
+use Rattle.std.specs.Prelude.{◌≡◌, ℕ, ◌-◌, ◌^◌, ◌==◌, nat_lt, Bool, false, List, [], ◌∷◌}
 use Rattle.std.specs.Prelude.{map, max, min, Option, Some, None, Result, Ok, Err, if◌then◌else◌}
 use Rattle.sst_sections.specs.declared.section.SectionName.{SectionName}
 use Rattle.sst_sections.specs.declared.section.SectionName.TheVariants as section
