@@ -95,7 +95,8 @@ module _ (meta size : ℕ) (old : Counts) where
       let b = then_ok _ _ new told in
       let s = then_ok _ _ new b.2 in
       let same : less b.0 s.0 ≡ new = cc in
-      (b.0, s.0, sym same, spent_ok meta _ old.blocks 1 b.0 b.1, spent_ok meta _ old.size size s.0 s.1)
+      let fewer = spent_ok meta _ old.blocks 1 b.0 b.1 in
+      (b.0, s.0, sym same, fewer, spent_ok meta _ old.size size s.0 s.1)
 
   count_goes : (blocks rest : ℕ) → old.blocks ≡ 1 + blocks → old.size ≡ size + rest
       → block_spent meta size old ≡ Ok (less blocks rest)
@@ -135,9 +136,12 @@ module _ (body : List ℕ) (parts : Parts) where
   abbrev with_counts : Left → Counts → Left
   with_counts left counts = record { last = left.last; counts = counts }
 
+  abbrev with_size : Left → ℕ → ℕ → Left
+  with_size left blocks size =
+      with_counts left (record left.counts { blocks = blocks; size = size })
+
   same_reads : (old : Left) (blocks size : ℕ) (es : List Entry) (new : Left)
-      → Reads body parts (with_counts old (record old.counts { blocks = blocks; size = size })) es new
-      → Reads body parts old es new
+      → Reads body parts (with_size old blocks size) es new → Reads body parts old es new
   same_reads old blocks size es new r =
       let s = r.spends in
       record {
@@ -158,7 +162,7 @@ module _ (body : List ℕ) (parts : Parts) where
 
   reads_same : (old : Left) (blocks size : ℕ) (es : List Entry) (new : Left)
       → Reads body parts old es new
-      → Reads body parts (with_counts old (record old.counts { blocks = blocks; size = size })) es new
+      → Reads body parts (with_size old blocks size) es new
   reads_same old blocks size es new r =
       let s = r.spends in
       record {

@@ -24,8 +24,8 @@ use Rattle.lsm_readers.specs.Parts.{Parts, places_told, tops_told}
 use Rattle.lsm_readers.specs.Stored.{Admits, AreLaid, BearsOut, FilterHas, FiltersLoad}
 use Rattle.lsm_readers.specs.Stored.{IndexHas, NamesChunk, StoresList}
 use Rattle.lsm_readers.specs.Table.{IsOpen, OpenTable}
-use Rattle.lsm_readers.specs.Verify.{Finds, Left, all_found, end_found, range_found, table_found, unread_of}
-use Rattle.lsm_readers.specs.Verify.{verified_of}
+use Rattle.lsm_readers.specs.Verify.{Finds, Left, all_found, end_found, range_found, table_found}
+use Rattle.lsm_readers.specs.Verify.{unread_of, verified_of}
 use Rattle.lsm_readers.proofs.Recovered.{PinnedSteps, Steps, ok_same, pinned_steps, recovered_steps}
 use Rattle.lsm_readers.proofs.VerifyBlocks.{IsPart, ReadsBlocks, index_go, index_ok}
 use Rattle.lsm_readers.proofs.VerifyEnd.{NothingLeft, counts_go, counts_ok, filters_go, filters_ok}

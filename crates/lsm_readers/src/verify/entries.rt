@@ -5,8 +5,9 @@ ghost use Rattle.lsm_readers.specs.declared.verify.VerifyError.TheVariants.{OutO
 ghost use Rattle.lsm_readers.specs.Words.{body_of, parts_of};
 ghost use Rattle.lsm_readers.specs.declared.verify.Counts.{Counts as CountsLeft};
 ghost use Rattle.lsm_readers.specs.Verify.{Finds, admitted, entries_found, entry_found};
-ghost use Rattle.lsm_readers.specs.Verify.{entry_spent, entry_tested, first_found, is_reclaimable, is_weak};
-ghost use Rattle.lsm_readers.specs.Verify.{key_found, may_follow, order_found, spent, starts_key};
+ghost use Rattle.lsm_readers.specs.Verify.{entry_spent, entry_tested, first_found, is_reclaimable};
+ghost use Rattle.lsm_readers.specs.Verify.{is_weak, key_found, may_follow, order_found, spent};
+ghost use Rattle.lsm_readers.specs.Verify.{starts_key};
 
 use super::{Counts, Fault, Unread, VerifyError, found};
 use crate::Inner;
