@@ -42,3 +42,9 @@ pub mod ManyOfList
 pub mod BatchReads
 pub mod ByKey
 pub mod OneIndex
+pub mod VerifySteps
+pub mod VerifyEntries
+pub mod VerifyBlocks
+pub mod VerifyLoops
+pub mod VerifyEnd
+pub mod VerifyTables

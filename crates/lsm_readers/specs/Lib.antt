@@ -14,3 +14,4 @@ pub mod Stored
 pub mod Scan
 pub mod Ranges
 pub mod Words
+pub mod Verify

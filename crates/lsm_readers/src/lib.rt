@@ -11,6 +11,7 @@ mod point;
 mod regions;
 mod scanner;
 mod table;
+mod verify;
 
 pub use inner::Inner;
 pub use meta::ParsedMeta;
@@ -19,3 +20,4 @@ pub use point::point_in;
 pub use regions::ParsedRegions;
 pub use scanner::Scanner;
 pub use table::{Query, Table, TableInner, get_many};
+pub use verify::{Fault, Finding, Verified, VerifyError};

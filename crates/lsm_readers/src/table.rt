@@ -28,6 +28,7 @@ mod by_key;
 mod file;
 mod queries;
 mod range;
+mod verify;
 
 use crate::inner::PinnedBlocks;
 use crate::pinned::load_handles;

@@ -1,0 +1,478 @@
+-- Data blocks that are read without a finding: what is so of them and of their handles.
+use Rattle.std.proofs.Common.{◌≡◌, ℕ, ◌+◌, ◌-◌, ◌^◌, ◌<◌, ◌≤◌, List, [], ◌∷◌, ◌++◌, length, map}
+use Rattle.std.proofs.Common.{refl, sym, ap, subst, ◌∙◌, append-nil, arith}
+use Rattle.std.specs.Prelude.{sum_by, Option, Some, None, Ok}
+use Rattle.std.specs.List.{AllZip}
+use Rattle.std.proofs.lemmas.List.Sums.{sum_by-cons}
+use Rattle.sst_sections.specs.declared.section.SectionName.{SectionName}
+use Rattle.sst_entries.specs.Entry.{Entry}
+use Rattle.sst_entries.specs.Strict.{last_of}
+use Rattle.sst_blocks.specs.declared.block_type.BlockType.TheVariants.{Data}
+use Rattle.sst_blocks.specs.Block.{Loaded, entries_of, load_told}
+use Rattle.sst_blocks.specs.Handle.{Handle}
+use Rattle.sst_blocks.specs.Handles.{end_of}
+use Rattle.sst_blocks.specs.Place.{Place, place_of}
+use Rattle.lsm_formats.specs.Chunks.{joined}
+use Rattle.lsm_formats.specs.Index.{last_entry}
+use Rattle.lsm_formats.specs.Parts.{joined_parts}
+use Rattle.lsm_readers.specs.declared.verify.Counts.{Counts}
+use Rattle.lsm_readers.specs.IndexKinds.{handles_told}
+use Rattle.lsm_readers.specs.Parts.{Parts}
+use Rattle.lsm_readers.specs.Stored.{AreLaid, IndexHas, NamesChunk, NamesPart}
+use Rattle.lsm_readers.specs.Verify.{Left, block_found, block_spent, blocks_found}
+use Rattle.lsm_readers.specs.Verify.{chunk_found, entries_found, index_found}
+use Rattle.lsm_readers.specs.Verify.{last_named, named_found, part_found, parts_found}
+use Rattle.lsm_readers.proofs.FileLengths.{last_some}
+use Rattle.lsm_readers.proofs.VerifyEntries.{Reads, entries_go, entries_low, entries_read}
+use Rattle.lsm_readers.proofs.VerifyEntries.{reads_none}
+use Rattle.lsm_readers.proofs.VerifySteps.{end_goes, end_ok, located_goes, located_ok, place_goes}
+use Rattle.lsm_readers.proofs.VerifySteps.{place_ok, some_goes, some_ok, spent_goes, spent_ok}
+use Rattle.lsm_readers.proofs.VerifySteps.{then_goes, then_ok, told_is}
+
+-- ---- the end of a block
+
+-- a handle names the last of some entries
+pub record NamesLast (h : Handle) (es : List Entry) : Type 0 where
+  pub some : 0 < length es
+  pub end_key : h.end_key ≡ (last_entry es).user_key
+  pub seqno : h.seqno ≡ (last_entry es).seqno
+
+module _ (section : SectionName) (h : Handle) where
+  last_goes : (before : Option Entry) (es : List Entry) → NamesLast h es
+      → last_named section h (last_of before es) ≡ Ok tt
+  unfolding last_of
+  last_goes before [] n = absurd (omega (arith, n.some))
+  last_goes before (e ∷ es) n =
+      ap (last_named section h) (last_some e es)
+      ∙ end_goes section h (last_entry (e ∷ es)) n.end_key n.seqno
+
+  last_ok : (before : Option Entry) (es : List Entry) (u : Unit {0}) → 0 < length es
+      → last_named section h (last_of before es) ≡ Ok u → NamesLast h es
+  unfolding last_of
+  last_ok before [] u some told = absurd (omega arith)
+  last_ok before (e ∷ es) u some told =
+      let is = end_ok section h (last_entry (e ∷ es)) u
+      (ap (last_named section h) (sym (last_some e es)) ∙ told) in
+      record { some = some; end_key = is.0; seqno = is.1 }
+
+-- nothing stands before a block that has no entry
+last_none : (section : SectionName) (h : Handle) (es : List Entry) (u : Unit {0})
+    → last_named section h (last_of None es) ≡ Ok u → 0 < length es
+unfolding last_of
+last_none section h [] u told = absurd cc
+last_none section h (e ∷ es) u told = omega arith
+
+-- ---- a data block
+
+module _ (body : List ℕ) (h : Handle) where
+  chunk_ok : (c : List Entry) → chunk_found body (place_of h) ≡ Ok c
+      → (block : Loaded) × (load_told body h.offset h.size Data ≡ Ok block)
+      × (entries_of block ≡ c) × (0 < length c)
+  chunk_ok c told =
+      let b = then_ok _ _ c told in
+      let s = some_ok h.offset (entries_of b.0) c b.2 in (
+        b.0,
+        located_ok _ h.offset _ b.0 b.1,
+        s.0,
+        subst (λ (es : List Entry). 0 < length es) s.0 s.1,
+      )
+
+  chunk_goes : (c : List Entry) → NamesChunk body h c → chunk_found body (place_of h) ≡ Ok c
+  chunk_goes c n =
+      then_goes _ _ n.block c (located_goes _ h.offset _ n.block n.loads)
+      (some_goes h.offset (entries_of n.block)
+      (subst (λ (es : List Entry). 0 < length es) (sym n.entries) n.some)
+      ∙ ap (λ (es : List Entry). Ok es) n.entries)
+
+module _ (meta size : ℕ) (old : Counts) where
+  abbrev less : ℕ → ℕ → Counts
+  less blocks rest = record old { blocks = blocks; size = rest }
+
+  count_ok : (new : Counts) → block_spent meta size old ≡ Ok new → (blocks : ℕ) × (rest : ℕ)
+      × (new ≡ less blocks rest) × (old.blocks ≡ 1 + blocks) × (old.size ≡ size + rest)
+  unfolding block_spent
+  count_ok new told =
+      let b = then_ok _ _ new told in
+      let s = then_ok _ _ new b.2 in
+      let same : less b.0 s.0 ≡ new = cc in
+      let fewer = spent_ok meta _ old.blocks 1 b.0 b.1 in
+      (b.0, s.0, sym same, fewer, spent_ok meta _ old.size size s.0 s.1)
+
+  count_goes : (blocks rest : ℕ) → old.blocks ≡ 1 + blocks → old.size ≡ size + rest
+      → block_spent meta size old ≡ Ok (less blocks rest)
+  unfolding block_spent
+  count_goes blocks rest b s =
+      then_goes _ _ blocks _ (spent_goes meta _ old.blocks 1 blocks b)
+      (then_goes _ _ rest _ (spent_goes meta _ old.size size rest s) refl)
+
+module _ (body : List ℕ) (parts : Parts) where
+  -- what is left can be so much
+  pub record IsPart (left : Left) : Type 0 where
+    pub lowest : left.counts.lowest ≤ 2 ^ 64 - 1
+    pub size : left.counts.size ≤ parts.facts.file_size
+
+  abbrev pub position : Left → ℕ
+  position left = parts.facts.file_size - left.counts.size
+
+  -- the data blocks of some handles were read
+  pub record ReadsBlocks (old : Left) (hs : List Handle) (new : Left) : Type 0 where
+    pub chunks : List (List Entry)
+    pub named : AllZip (NamesChunk body) hs chunks
+    pub laid : AreLaid (position old) hs
+    pub reads : Reads body parts old (joined chunks) new
+    pub blocks : old.counts.blocks ≡ length hs + new.counts.blocks
+    pub sizes : old.counts.size ≡ sum_by (λ (h : Handle). h.size) hs + new.counts.size
+
+  pub blocks_none : (left : Left) → IsPart left → ReadsBlocks left [] left
+  blocks_none left fits = record {
+    chunks = [];
+    named = tt;
+    laid = tt;
+    reads = reads_none body parts left fits.lowest;
+    blocks = omega arith;
+    sizes = omega arith;
+  }
+
+  abbrev with_counts : Left → Counts → Left
+  with_counts left counts = record { last = left.last; counts = counts }
+
+  abbrev with_size : Left → ℕ → ℕ → Left
+  with_size left blocks size =
+      with_counts left (record left.counts { blocks = blocks; size = size })
+
+  same_reads : (old : Left) (blocks size : ℕ) (es : List Entry) (new : Left)
+      → Reads body parts (with_size old blocks size) es new → Reads body parts old es new
+  same_reads old blocks size es new r =
+      let s = r.spends in
+      record {
+        strict = r.strict;
+        numbers = r.numbers;
+        admits = r.admits;
+        first = r.first;
+        last = r.last;
+        spends = record {
+          items = s.items;
+          tombstones = s.tombstones;
+          weak = s.weak;
+          reclaimable = s.reclaimable;
+          lowest = s.lowest;
+          highest = s.highest;
+        };
+      }
+
+  reads_same : (old : Left) (blocks size : ℕ) (es : List Entry) (new : Left)
+      → Reads body parts old es new
+      → Reads body parts (with_size old blocks size) es new
+  reads_same old blocks size es new r =
+      let s = r.spends in
+      record {
+        strict = r.strict;
+        numbers = r.numbers;
+        admits = r.admits;
+        first = r.first;
+        last = r.last;
+        spends = record {
+          items = s.items;
+          tombstones = s.tombstones;
+          weak = s.weak;
+          reclaimable = s.reclaimable;
+          lowest = s.lowest;
+          highest = s.highest;
+        };
+      }
+
+  -- what is so of a data block that was read
+  pub record ReadsBlock (old : Left) (h : Handle) (new : Left) : Type 0 where
+    pub chunk : List Entry
+    pub named : NamesChunk body h chunk
+    pub lies : h.offset ≡ position old
+    pub reads : (rest : List Entry) (end : Left) → Reads body parts new rest end
+        → Reads body parts old (chunk ++ rest) end
+    pub blocks : old.counts.blocks ≡ 1 + new.counts.blocks
+    pub size : old.counts.size ≡ h.size + new.counts.size
+    pub lowest : new.counts.lowest ≤ 2 ^ 64 - 1
+
+  block_ok : (old : Left) (h : Handle) (new : Left) → IsPart old
+      → block_found body parts old h ≡ Ok new → ReadsBlock old h new
+  unfolding block_found
+  block_ok old h new fits told =
+      let meta = parts.regions.metadata.offset in
+      let p = then_ok _ _ new told in
+      let n = then_ok _ _ new p.2 in
+      let c = then_ok _ _ new n.2 in
+      let e = then_ok _ _ new c.2 in
+      let l = then_ok _ _ new e.2 in
+      let same : e.0 ≡ new = told_is e.0 new l.2 in
+      let count = count_ok meta h.size old.counts n.0 n.1 in
+      let chunk = chunk_ok body h c.0 c.1 in
+      let begun = with_counts old (less meta h.size old.counts count.0 count.1) in
+      let read = subst (λ (k : Counts). entries_found body parts h.offset (with_counts old k) c.0
+      ≡ Ok e.0) count.2 e.1 in
+      let low = entries_low body parts h.offset begun c.0 e.0 read fits.lowest in
+      let ends = last_ok _ h old.last c.0 l.0 chunk.3
+      (ap (last_named _ h) (sym low.3) ∙ l.1) in
+      subst (ReadsBlock old h) same (record {
+        chunk = c.0;
+        named = record {
+          block = chunk.0;
+          loads = chunk.1;
+          entries = chunk.2;
+          some = chunk.3;
+          end_key = ends.end_key;
+          seqno = ends.seqno;
+        };
+        lies = place_ok (position old) h.offset p.0 p.1;
+        reads = λ rest end more. same_reads old count.0 count.1 (c.0 ++ rest) end
+            (entries_read body parts h.offset begun c.0 rest e.0 end read more);
+        blocks = omega (arith, count.3, low.1);
+        size = omega (arith, count.4, low.2);
+        lowest = low.0;
+      })
+
+  left_part : (old : Left) (h : Handle) (new : Left) → IsPart old → ReadsBlock old h new
+      → IsPart new
+  left_part old h new fits r = record {
+    lowest = r.lowest;
+    size = omega (arith, fits.size, r.size);
+  }
+
+  -- one more in front of what was read
+  blocks_more : (old : Left) (h : Handle) (hs : List Handle) (mid new : Left) → IsPart old
+      → ReadsBlock old h mid → ReadsBlocks mid hs new → ReadsBlocks old (h ∷ hs) new
+  blocks_more old h hs mid new fits one more = record {
+    chunks = one.chunk ∷ more.chunks;
+    named = (one.named, more.named);
+    laid = (
+      one.lies,
+      subst (λ (at : ℕ). AreLaid at hs) (behind (position mid) (omega (arith, fits.size, one.size)))
+          more.laid,
+    );
+    reads = one.reads (joined more.chunks) new more.reads;
+    blocks = omega (arith, one.blocks, more.blocks);
+    sizes = omega (arith, one.size, more.sizes, sum_by-cons (λ (x : Handle). x.size) h hs);
+  }
+    where
+      behind : (at : ℕ) → at ≡ position old + h.size → at ≡ position old + h.size
+      behind at is = is
+
+  -- the first of what is read
+  blocks_first : (old : Left) (h : Handle) (hs : List Handle) (new : Left) → IsPart old
+      → ReadsBlocks old (h ∷ hs) new → (mid : Left) × (block_found body parts old h ≡ Ok mid)
+      × ReadsBlocks mid hs new
+  unfolding block_found
+  blocks_first old h hs new fits r = go r.chunks r.named r.reads
+    where
+      go : (cs : List (List Entry)) → AllZip (NamesChunk body) (h ∷ hs) cs
+          → Reads body parts old (joined cs) new → (mid : Left)
+          × (block_found body parts old h ≡ Ok mid) × ReadsBlocks mid hs new
+      go [] named reads = absurd named
+      go (c ∷ cs) named reads =
+          let meta = parts.regions.metadata.offset in
+          let blocks = length hs + new.counts.blocks in
+          let sum = sum_by-cons (λ (x : Handle). x.size) h hs in
+          let size = sum_by (λ (x : Handle). x.size) hs + new.counts.size in
+          let counts = less meta h.size old.counts blocks size in
+          let begun = with_counts old counts in
+          let e = entries_go body parts h.offset begun c (joined cs) new
+          (reads_same old blocks size (joined (c ∷ cs)) new reads) in
+          let low = entries_low body parts h.offset begun c e.0 e.1 fits.lowest in
+          let names : NamesLast h c = record {
+            some = (named.0).some;
+            end_key = (named.0).end_key;
+            seqno = (named.0).seqno;
+          } in
+          let size_is : old.counts.size ≡ h.size + size = omega (arith, r.sizes, sum) in (
+            e.0,
+            then_goes _ _ tt _ (place_goes (position old) h.offset r.laid.0)
+                (then_goes _ _ counts _
+                (count_goes meta h.size old.counts blocks size (omega (arith, r.blocks)) size_is)
+                (then_goes _ _ c _ (chunk_goes body h c named.0)
+                (then_goes _ _ e.0 _ e.1
+                (then_goes _ _ tt _ (ap (last_named _ h) low.3 ∙ last_goes _ h old.last c names)
+                refl)))),
+            record {
+              chunks = cs;
+              named = named.1;
+              laid = subst (λ (at : ℕ). AreLaid at hs)
+                  (omega (arith, fits.size, size_is, low.2)) r.laid.1;
+              reads = e.2;
+              blocks = omega (arith, low.1);
+              sizes = omega (arith, low.2);
+            },
+          )
+
+  -- ---- the data blocks of some handles, in front of others
+
+  pub blocks_read : (old : Left) (hs rest : List Handle) (mid new : Left) → IsPart old
+      → blocks_found body parts old hs ≡ Ok mid
+      → (IsPart mid → ReadsBlocks mid rest new) → ReadsBlocks old (hs ++ rest) new
+  unfolding blocks_found
+  blocks_read old [] rest mid new fits told more =
+      let same : old ≡ mid = cc in
+      subst (λ (l : Left). ReadsBlocks l rest new) (sym same)
+      (more (subst IsPart same fits))
+  blocks_read old (h ∷ hs) rest mid new fits told more =
+      let one = then_ok _ _ mid told in
+      let is = block_ok old h one.0 fits one.1 in
+      blocks_more old h (hs ++ rest) one.0 new fits is
+      (blocks_read one.0 hs rest mid new (left_part old h one.0 fits is) one.2 more)
+
+  pub blocks_go : (old : Left) (hs rest : List Handle) (new : Left) → IsPart old
+      → ReadsBlocks old (hs ++ rest) new → (mid : Left)
+      × (blocks_found body parts old hs ≡ Ok mid) × IsPart mid × ReadsBlocks mid rest new
+  unfolding blocks_found
+  blocks_go old [] rest new fits r = (old, refl, fits, r)
+  blocks_go old (h ∷ hs) rest new fits r =
+      let one = blocks_first old h (hs ++ rest) new fits r in
+      let is = block_ok old h one.0 fits one.1 in
+      let more = blocks_go one.0 hs rest new (left_part old h one.0 fits is) one.2 in
+      (more.0, then_goes _ _ one.0 _ one.1 more.1, more.2, more.3)
+
+  -- ---- the index
+
+  part_ok : (old : Left) (top : Handle) (mid : Left) → part_found body parts old top ≡ Ok mid
+      → (hs : List Handle) × NamesPart body top hs × (blocks_found body parts old hs ≡ Ok mid)
+  unfolding part_found
+  part_ok old top mid told =
+      let l = then_ok _ _ mid told in
+      let t = then_ok _ _ mid l.2 in
+      let some = last_none _ top (map end_of l.0) t.0 t.1 in
+      let is = last_ok _ top None (map end_of l.0) t.0 some t.1 in (
+        l.0,
+        record {
+          handles = located_ok _ top.offset _ l.0 l.1;
+          some = mapped l.0 some;
+          end_key = is.end_key;
+          seqno = is.seqno;
+        },
+        t.2,
+      )
+    where
+      mapped : (hs : List Handle) → 0 < length (map end_of hs) → 0 < length hs
+      mapped [] some = some
+      mapped (h ∷ hs) some = omega arith
+
+  part_goes : (old : Left) (top : Handle) (hs : List Handle) (mid : Left) → NamesPart body top hs
+      → blocks_found body parts old hs ≡ Ok mid → part_found body parts old top ≡ Ok mid
+  unfolding part_found
+  part_goes old top hs mid n told =
+      then_goes _ _ hs mid (located_goes _ top.offset _ hs n.handles)
+      (then_goes _ _ tt mid (last_goes _ top None (map end_of hs)
+      (record { some = mapped hs n.some; end_key = n.end_key; seqno = n.seqno })) told)
+    where
+      mapped : (hs : List Handle) → 0 < length hs → 0 < length (map end_of hs)
+      mapped [] some = some
+      mapped (h ∷ hs) some = omega arith
+
+  left_fits : (old : Left) (hs : List Handle) (mid : Left) → IsPart old
+      → blocks_found body parts old hs ≡ Ok mid → IsPart mid
+  unfolding blocks_found
+  left_fits old [] mid fits told = let same : old ≡ mid = cc in subst IsPart same fits
+  left_fits old (h ∷ hs) mid fits told =
+      let one = then_ok _ _ mid told in
+      left_fits one.0 hs mid (left_part old h one.0 fits (block_ok old h one.0 fits one.1)) one.2
+
+  -- the partitions of some handles of a top level
+  pub record ReadsParts (old : Left) (tops : List Handle) (new : Left) : Type 0 where
+    pub pieces : List (List Handle)
+    pub named : AllZip (NamesPart body) tops pieces
+    pub reads : ReadsBlocks old (joined_parts pieces) new
+
+  parts_ok : (old : Left) (tops : List Handle) (new : Left) → IsPart old
+      → parts_found body parts old tops ≡ Ok new → ReadsParts old tops new
+  unfolding parts_found
+  parts_ok old [] new fits told =
+      let same : old ≡ new = cc in
+      record {
+        pieces = [];
+        named = tt;
+        reads = subst (ReadsBlocks old []) same (blocks_none old fits);
+      }
+  parts_ok old (top ∷ tops) new fits told =
+      let one = then_ok _ _ new told in
+      let is = part_ok old top one.0 one.1 in
+      let rest = parts_ok one.0 tops new (left_fits old is.0 one.0 fits is.2) one.2 in
+      record {
+        pieces = is.0 ∷ rest.pieces;
+        named = (is.1, rest.named);
+        reads = blocks_read old is.0 (joined_parts rest.pieces) one.0 new fits is.2
+            (λ (again : IsPart one.0). rest.reads);
+      }
+
+  pub parts_go : (old : Left) (tops : List Handle) (ps : List (List Handle)) (new : Left)
+      → IsPart old → AllZip (NamesPart body) tops ps → ReadsBlocks old (joined_parts ps) new
+      → (mid : Left) × (parts_found body parts old tops ≡ Ok mid) × IsPart mid
+      × ReadsBlocks mid [] new
+  unfolding parts_found
+  parts_go old [] [] new fits named reads = (old, refl, fits, reads)
+  parts_go old [] (p ∷ ps) new fits named reads = absurd named
+  parts_go old (top ∷ tops) [] new fits named reads = absurd named
+  parts_go old (top ∷ tops) (p ∷ ps) new fits named reads =
+      let one = blocks_go old p (joined_parts ps) new fits reads in
+      let more = parts_go one.0 tops ps new one.2 named.1 one.3 in (
+        more.0,
+        then_goes _ _ one.0 _ (part_goes old top p one.0 named.0 one.1) more.1,
+        more.2,
+        more.3,
+      )
+
+  -- the index and the data blocks were read
+  pub record ReadsIndex (old new : Left) : Type 0 where
+    pub handles : List Handle
+    pub index : IndexHas body parts.regions.index parts.regions.tli handles
+    pub reads : ReadsBlocks old handles new
+
+  named_ok : (section : Option Place) (old : Left) (hs : List Handle) (new : Left) → IsPart old
+      → handles_told body parts.regions.tli ≡ Ok hs
+      → named_found body parts old section hs ≡ Ok new
+      → (handles : List Handle) × IndexHas body section parts.regions.tli handles
+      × ReadsBlocks old handles new
+  named_ok None old hs new fits told found = (
+    hs,
+    told,
+    subst (λ (xs : List Handle). ReadsBlocks old xs new) (append-nil hs)
+        (blocks_read old hs [] new new fits found (blocks_none new)),
+  )
+  named_ok (Some place) old hs new fits told found =
+      let p = parts_ok old hs new fits found in (
+        joined_parts p.pieces,
+        record { tops = hs; parts = p.pieces; told = told; named = p.named; whole = refl },
+        p.reads,
+      )
+
+  pub index_ok : (old new : Left) → IsPart old → index_found body parts old ≡ Ok new
+      → ReadsIndex old new
+  unfolding index_found
+  index_ok old new fits found =
+      let hs = then_ok _ _ new found in
+      let told = located_ok _ _ (handles_told body parts.regions.tli) hs.0 hs.1 in
+      let is = named_ok parts.regions.index old hs.0 new fits told hs.2 in
+      record { handles = is.0; index = is.1; reads = is.2 }
+
+  named_go : (section : Option Place) (old : Left) (handles : List Handle) (new : Left)
+      → IsPart old → IndexHas body section parts.regions.tli handles
+      → ReadsBlocks old handles new → (hs : List Handle)
+      × (handles_told body parts.regions.tli ≡ Ok hs) × (mid : Left)
+      × (named_found body parts old section hs ≡ Ok mid) × IsPart mid × ReadsBlocks mid [] new
+  named_go None old handles new fits has reads =
+      let one = blocks_go old handles [] new fits
+      (subst (λ (xs : List Handle). ReadsBlocks old xs new) (sym (append-nil handles)) reads) in
+      (handles, has, one.0, one.1, one.2, one.3)
+  named_go (Some place) old handles new fits has reads =
+      let all = parts_go old has.tops has.parts new fits has.named
+      (subst (λ (xs : List Handle). ReadsBlocks old xs new) (sym has.whole) reads) in
+      (has.tops, has.told, all.0, all.1, all.2, all.3)
+
+  pub index_go : (old : Left) (handles : List Handle) (new : Left) → IsPart old
+      → IndexHas body parts.regions.index parts.regions.tli handles
+      → ReadsBlocks old handles new → (mid : Left)
+      × (index_found body parts old ≡ Ok mid) × IsPart mid × ReadsBlocks mid [] new
+  unfolding index_found
+  index_go old handles new fits has reads =
+      let is = named_go parts.regions.index old handles new fits has reads in (
+        is.2,
+        then_goes _ _ is.0 _
+            (located_goes _ _ (handles_told body parts.regions.tli) is.0 is.1) is.3,
+        is.4,
+        is.5,
+      )

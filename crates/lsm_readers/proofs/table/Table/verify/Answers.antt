@@ -1,0 +1,22 @@
+use Rattle.std.proofs.Common.{ap, subst, ◌∙◌}
+use Rattle.sst_sections.specs.Sections.{body_of}
+use Rattle.lsm_readers.specs.declared.verify.Verified.{Verified}
+use Rattle.lsm_readers.specs.Table.{IsOpen, OpenTable, table_of}
+use Rattle.lsm_readers.specs.Verify.{Finds, table_found}
+use Rattle.lsm_readers.proofs.VerifyTables.{all_complete, all_sound}
+use Rattle.lsm_readers.proofs.table.Table.verify.Goals as goal
+
+pub returns-clause-told : goal.returns-clause-told
+returns-clause-told g c =
+    let shown = ap (table_of c.self.inside.source) c.deref-inner.ensures ∙ c.self.view_is in
+    subst (λ (u : OpenTable). Finds (λ (v : Verified). v) c.verify_table.result (table_found (body_of u.bytes) u.parts)) shown c.verify_table.ensures
+
+pub returns-clause-sound : goal.returns-clause-sound
+returns-clause-sound g c =
+    let held = subst IsOpen c.self.view_is c.self.invariant in
+    all_sound c.args.self.now held c.verify_table.result (returns-clause-told g c)
+
+pub returns-clause-complete : goal.returns-clause-complete
+returns-clause-complete g c es is =
+    let held = subst IsOpen c.self.view_is c.self.invariant in
+    all_complete c.args.self.now held c.verify_table.result (returns-clause-told g c) es is

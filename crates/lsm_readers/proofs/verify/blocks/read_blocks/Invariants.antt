@@ -1,0 +1,11 @@
+use Rattle.std.proofs.Common.{◌≡◌, drop}
+use Rattle.sst_sections.specs.Sections.{body_of}
+use Rattle.lsm_readers.specs.Table.{parts_of}
+use Rattle.lsm_readers.specs.Verify.{blocks_found}
+use Rattle.lsm_readers.proofs.verify.blocks.read_blocks.Given as goal
+
+-- what is found behind all handles is found behind those that are left
+abbrev pub invariant-loop-index : goal.invariant-loop-index
+invariant-loop-index g l =
+    let found = blocks_found (body_of l.source) (parts_of l.inner) in
+    found l.left (drop l.index l.handles) ≡ found l.initial.left l.handles

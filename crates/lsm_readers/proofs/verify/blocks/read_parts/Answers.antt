@@ -1,0 +1,35 @@
+use Rattle.std.proofs.Common.{◌≤◌, length, subst, sym, ◌∙◌, arith}
+use Rattle.std.specs.Prelude.{Result}
+use Rattle.sst_sections.specs.Sections.{body_of}
+use Rattle.lsm_readers.specs.declared.verify.Finding.{Finding}
+use Rattle.lsm_readers.specs.Table.{parts_of}
+use Rattle.lsm_readers.specs.Verify.{Left, Misses}
+use Rattle.lsm_readers.proofs.VerifyLoops.{parts_last, parts_miss, parts_next, passes}
+use Rattle.lsm_readers.proofs.verify.blocks.read_parts.Goals as goal
+
+pub loop-index-preserved : goal.loop-index-preserved
+loop-index-preserved g c =
+    let parts = parts_of c.args.inner.now in
+    let body = body_of c.args.source.now in
+    sym (parts_next body parts c.loop-index.left c.args.tops.now c.loop-index.index
+    c.in_ok-top.top _ c.in_ok-top.ensures.ok c.in_ok-read_part.ensures)
+    ∙ c.loop-index.invariant
+
+pub returns-in_err-read_part : goal.returns-in_err-read_part
+returns-in_err-read_part g c =
+    let parts = parts_of c.args.inner.now in
+    let body = body_of c.args.source.now in
+    let e = c.in_err-read_part.field-0.0 in
+    passes _ c.from_residual-in_err-read_part.result _ e c.from_residual-in_err-read_part.ensures.1
+    (subst (λ (r : Result Left Finding). Misses e r) c.loop-index.invariant
+    (parts_miss body parts c.loop-index.left c.args.tops.now c.loop-index.index
+    c.in_ok-top.top e c.in_ok-top.ensures.ok c.in_err-read_part.ensures))
+
+pub returns : goal.returns
+returns g c =
+    let parts = parts_of c.args.inner.now in
+    let body = body_of c.args.source.now in
+    let far : length c.args.tops.now ≤ c.loop-index.index =
+    omega (arith, c.len-index-end.ensures.value, c.loop-index-test.false) in
+    sym c.loop-index.invariant
+    ∙ parts_last body parts c.loop-index.left c.args.tops.now c.loop-index.index far

@@ -1,0 +1,338 @@
+-- Reading a whole table once: what each step of it finds wrong first, or what is then still to be
+-- read of what the meta block says.
+use Rattle.std.specs.Prelude.{◌≡◌, ℕ, ◌-◌, ◌^◌, ◌==◌, nat_lt, Bool, false, List, [], ◌∷◌}
+use Rattle.std.specs.Prelude.{map, max, min, Option, Some, None, Result, Ok, Err, if◌then◌else◌}
+use Rattle.sst_sections.specs.declared.section.SectionName.{SectionName}
+use Rattle.sst_sections.specs.declared.section.SectionName.TheVariants as section
+use Rattle.sst_entries.specs.declared.error.Error.{Error}
+use Rattle.sst_entries.specs.Entry.{Entry}
+use Rattle.sst_entries.specs.Error.{is_memory}
+use Rattle.sst_entries.specs.Key.{same_key}
+use Rattle.sst_entries.specs.Strict.{last_of}
+pub use Rattle.sst_entries.specs.Strict.{may_follow}
+use Rattle.sst_filters.specs.KeyHash.{hash_of}
+use Rattle.sst_blocks.specs.declared.block_type.BlockType.TheVariants.{Data, Filter}
+use Rattle.sst_blocks.specs.Block.{entries_of, load_at_told, load_told}
+use Rattle.sst_blocks.specs.Handle.{Handle}
+use Rattle.sst_blocks.specs.Handles.{end_of}
+use Rattle.sst_blocks.specs.Place.{Place, place_of}
+pub use Rattle.lsm_formats.specs.Facts.{is_reclaimable, is_tombstone, is_weak, one_if, starts_key}
+use Rattle.lsm_formats.specs.declared.item_name.ItemName.{ItemName}
+use Rattle.lsm_formats.specs.declared.item_name.ItemName.TheVariants as item
+use Rattle.lsm_readers.specs.declared.verify.Counts.{Counts}
+use Rattle.lsm_readers.specs.declared.verify.Fault.{Fault}
+use Rattle.lsm_readers.specs.declared.verify.Fault.TheVariants as fault
+use Rattle.lsm_readers.specs.declared.verify.Finding.{Finding}
+use Rattle.lsm_readers.specs.declared.verify.Verified.{Verified}
+use Rattle.lsm_readers.specs.declared.verify.VerifyError.{VerifyError}
+use Rattle.lsm_readers.specs.declared.verify.VerifyError.TheVariants.{Found}
+use Rattle.lsm_readers.specs.Answer.{filter_admits}
+use Rattle.lsm_readers.specs.IndexKinds.{handles_told}
+use Rattle.lsm_readers.specs.Meta.{Facts}
+use Rattle.lsm_readers.specs.Parts.{Parts}
+
+-- ---- findings
+
+infixl 10 ◌>>=◌
+-- the first finding, or else what the next step finds
+abbrev pub ◌>>=◌ : {A B : Type 0} → Result A Finding → (A → Result B Finding) → Result B Finding
+(Ok x) >>= f = f x
+(Err f) >>= g = Err f
+
+abbrev pub finding : SectionName → ℕ → Fault → Finding
+finding section offset fault = record { section = section; offset = offset; fault = fault }
+
+-- a refusal is want of memory, or the finding that is told
+abbrev pub Misses : {Y : Type 0} → VerifyError → Result Y Finding → Type 0
+Misses e told = (f : Finding) → e ≡ Found f → told ≡ Err f
+
+-- memory aside, a call finds what is told, its value seen by a view
+abbrev pub Finds : {X Y : Type 0} → (X → Y) → Result X VerifyError → Result Y Finding → Type 0
+Finds view (Ok x) told = told ≡ Ok (view x)
+Finds view (Err e) told = Misses e told
+
+-- the refusal of a load at a place is want of memory, or is found there
+abbrev pub IsFaultAt : SectionName → ℕ → Error → VerifyError → Type 0
+IsFaultAt section offset error e = (f : Finding) → e ≡ Found f →
+    (is_memory error ≡ false) × (f ≡ finding section offset (fault.Unloaded error))
+
+-- what a load at a place tells
+abbrev pub located : {X : Type 0} → SectionName → ℕ → Result X Error → Result X Finding
+located section offset (Ok x) = Ok x
+located section offset (Err e) = Err (finding section offset (fault.Unloaded e))
+
+-- nothing is found where a test passes
+abbrev pub tested : Bool → Finding → Result (Unit {0}) Finding
+tested passes f = if passes then Ok tt else Err f
+
+-- ---- what is left
+
+-- what is still to be read of a table, and the entry that was read last
+pub record Left : Type 0 where
+  pub last : Option Entry
+  pub counts : Counts
+
+-- nothing was read yet of a table that says these facts
+abbrev pub unread_of : Facts → Left
+unread_of said = record {
+  last = None;
+  counts = record {
+    blocks = said.data_block_count;
+    size = said.file_size;
+    items = said.item_count;
+    tombstones = said.tombstone_count;
+    weak = said.weak_tombstone_count;
+    reclaimable = said.weak_tombstone_reclaimable;
+    lowest = 2 ^ 64 - 1;
+    highest = 0;
+  };
+}
+
+-- what is left of a count of the meta block at a position, once some of it is read
+abbrev pub spent : ℕ → ItemName → ℕ → ℕ → Result ℕ Finding
+spent meta item left by =
+    if nat_lt left by then Err (finding section.Meta meta (fault.Unborne item)) else Ok (left - by)
+
+-- ---- an entry, in the data block at a position, behind what may be the entry before it
+
+-- its number leaves room for a bound above it, and it follows
+abbrev pub order_found : ℕ → Option Entry → Entry → Result (Unit {0}) Finding
+order_found at last e =
+    if nat_lt e.seqno (2 ^ 64 - 1)
+    then tested (may_follow last e) (finding section.Data at fault.Unordered)
+    else Err (finding section.Data at fault.TooHigh)
+
+-- the first of all has the key that the meta block names as the least
+abbrev pub first_found : Parts → Option Entry → Entry → Result (Unit {0}) Finding
+first_found parts (Some last) e = Ok tt
+first_found parts None e = tested (same_key parts.facts.key_range.min e.user_key)
+    (finding section.Meta parts.regions.metadata.offset (fault.Unborne item.KeyMin))
+
+-- whether the filter may have a key, by its blocks in the bytes
+abbrev pub admitted : List ℕ → Parts → List ℕ → Result Bool Error
+admitted body parts key = (filter_admits body parts.pinned.filter_tops None parts.regions.filter key
+    (hash_of key)).told
+
+abbrev pub asked_found : ℕ → Result Bool Error → Result (Unit {0}) Finding
+asked_found at (Ok admits) = tested admits (finding section.Data at fault.Denied)
+asked_found at (Err e) = Err (finding section.Data at (fault.Unfiltered e))
+
+-- the filter admits the key of an entry that is the first of its key
+abbrev pub key_found : List ℕ → Parts → ℕ → Option Entry → Entry → Result (Unit {0}) Finding
+key_found body parts at last e =
+    if starts_key last e then asked_found at (admitted body parts e.user_key) else Ok tt
+
+-- what is left of the counts behind it
+unfoldable pub entry_spent : ℕ → Option Entry → Entry → Counts → Result Counts Finding
+entry_spent meta last e counts =
+    spent meta item.ItemCount counts.items 1 >>= λ items.
+    spent meta item.TombstoneCount counts.tombstones (one_if (is_tombstone e)) >>= λ tombstones.
+    spent meta item.WeakTombstoneCount counts.weak (one_if (is_weak e)) >>= λ weak.
+    spent meta item.WeakTombstoneReclaimable counts.reclaimable (one_if (is_reclaimable last e))
+    >>= λ reclaimable.
+    Ok (record {
+      blocks = counts.blocks;
+      size = counts.size;
+      items = items;
+      tombstones = tombstones;
+      weak = weak;
+      reclaimable = reclaimable;
+      lowest = min counts.lowest e.seqno;
+      highest = max counts.highest e.seqno;
+    })
+
+-- the tests of an entry, and what is left of the counts behind it
+unfoldable pub entry_tested : List ℕ → Parts → ℕ → Left → Entry → Result Counts Finding
+entry_tested body parts at left e =
+    order_found at left.last e >>= λ _.
+    first_found parts left.last e >>= λ _.
+    key_found body parts at left.last e >>= λ _.
+    entry_spent parts.regions.metadata.offset left.last e left.counts
+
+unfoldable pub entry_found : List ℕ → Parts → ℕ → Left → Entry → Result Left Finding
+entry_found body parts at left e =
+    entry_tested body parts at left e >>= λ counts. Ok (record { last = Some e; counts = counts })
+
+unfoldable pub entries_found : List ℕ → Parts → ℕ → Left → List Entry → Result Left Finding
+entries_found body parts at left [] = Ok left
+entries_found body parts at left (e ∷ es) =
+    entry_found body parts at left e >>= λ left. entries_found body parts at left es
+
+-- ---- a data block and its handle
+
+-- the handle names the block at a position
+abbrev pub place_found : ℕ → ℕ → Result (Unit {0}) Finding
+place_found at offset =
+    tested (offset == at) (finding section.Data offset fault.Misplaced)
+
+unfoldable pub block_spent : ℕ → ℕ → Counts → Result Counts Finding
+block_spent meta size counts =
+    spent meta item.BlockCountData counts.blocks 1 >>= λ blocks.
+    spent meta item.FileSize counts.size size >>= λ size.
+    Ok (record counts { blocks = blocks; size = size })
+
+-- a block has an entry
+abbrev pub some_found : ℕ → List Entry → Result (List Entry) Finding
+some_found at [] = Err (finding section.Data at fault.Hollow)
+some_found at (e ∷ es) = Ok (e ∷ es)
+
+-- the entries of the data block at a place
+abbrev pub chunk_found : List ℕ → Place → Result (List Entry) Finding
+chunk_found body place =
+    located section.Data place.offset (load_told body place.offset place.size Data) >>= λ block.
+    some_found place.offset (entries_of block)
+
+-- a handle of a block in a section names this key and this number
+abbrev pub end_named : SectionName → Handle → List ℕ → ℕ → Result (Unit {0}) Finding
+end_named section h key seqno =
+    if same_key h.end_key key
+    then tested (h.seqno == seqno) (finding section h.offset fault.OtherNumber)
+    else Err (finding section h.offset fault.OtherKey)
+
+-- it names the last entry of its block
+abbrev pub last_named : SectionName → Handle → Option Entry → Result (Unit {0}) Finding
+last_named section h None = Err (finding section h.offset fault.Hollow)
+last_named section h (Some e) = end_named section h e.user_key e.seqno
+
+-- the data block of a handle, which begins where the block before it ended
+unfoldable pub block_found : List ℕ → Parts → Left → Handle → Result Left Finding
+block_found body parts left h =
+    place_found (parts.facts.file_size - left.counts.size) h.offset >>= λ _.
+    block_spent parts.regions.metadata.offset h.size left.counts >>= λ counts.
+    chunk_found body (place_of h) >>= λ chunk.
+    entries_found body parts h.offset (record { last = left.last; counts = counts }) chunk
+    >>= λ left.
+    last_named section.Data h left.last >>= λ _.
+    Ok left
+
+unfoldable pub blocks_found : List ℕ → Parts → Left → List Handle → Result Left Finding
+blocks_found body parts left [] = Ok left
+blocks_found body parts left (h ∷ hs) =
+    block_found body parts left h >>= λ left. blocks_found body parts left hs
+
+-- ---- the index
+
+-- the handles of the index block at a place in a section
+abbrev pub handles_found : List ℕ → SectionName → Place → Result (List Handle) Finding
+handles_found body section place = located section place.offset (handles_told body place)
+
+-- a handle of the top level names the last handle of its partition
+abbrev pub top_named : Handle → List Handle → Result (Unit {0}) Finding
+top_named top hs = last_named section.Index top (last_of None (map end_of hs))
+
+-- the partition of a handle of the top level, and the data blocks of its handles
+unfoldable pub part_found : List ℕ → Parts → Left → Handle → Result Left Finding
+part_found body parts left top =
+    handles_found body section.Index (place_of top) >>= λ hs.
+    top_named top hs >>= λ _.
+    blocks_found body parts left hs
+
+unfoldable pub parts_found : List ℕ → Parts → Left → List Handle → Result Left Finding
+parts_found body parts left [] = Ok left
+parts_found body parts left (top ∷ tops) =
+    part_found body parts left top >>= λ left. parts_found body parts left tops
+
+-- the data blocks of the handles of a full index, or those of the partitions below a top level
+abbrev pub named_found : List ℕ → Parts → Left → Option Place → List Handle → Result Left Finding
+named_found body parts left None hs = blocks_found body parts left hs
+named_found body parts left (Some section) tops = parts_found body parts left tops
+
+unfoldable pub index_found : List ℕ → Parts → Left → Result Left Finding
+index_found body parts left =
+    handles_found body section.Tli parts.regions.tli >>= λ hs.
+    named_found body parts left parts.regions.index hs
+
+-- ---- the filter
+
+-- nothing is kept of a block
+abbrev pub passed : {X : Type 0} → Result X Finding → Result (Unit {0}) Finding
+passed (Ok x) = Ok tt
+passed (Err f) = Err f
+
+-- the filter's block at a place loads
+abbrev pub filter_found : List ℕ → Place → Result (Unit {0}) Finding
+filter_found body place = passed
+    (located section.Filter place.offset (load_told body place.offset place.size Filter))
+
+unfoldable pub tops_found : List ℕ → List Handle → Result (Unit {0}) Finding
+tops_found body [] = Ok tt
+tops_found body (top ∷ tops) =
+    filter_found body (place_of top) >>= λ _. tops_found body tops
+
+-- each block of the filter loads
+abbrev pub filters_by : List ℕ → Option (List Handle) → Option Place → Result (Unit {0}) Finding
+filters_by body (Some tops) place = tops_found body tops
+filters_by body None (Some place) = filter_found body place
+filters_by body None None = Ok tt
+
+abbrev pub filters_found : List ℕ → Parts → Result (Unit {0}) Finding
+filters_found body parts = filters_by body parts.pinned.filter_tops parts.regions.filter
+
+-- ---- the end
+
+-- a number of the meta block is the one that was read
+abbrev pub same_found : ℕ → ItemName → ℕ → ℕ → Result (Unit {0}) Finding
+same_found meta item said read =
+    tested (said == read) (finding section.Meta meta (fault.Unborne item))
+
+-- a key of the meta block is the one that was read
+abbrev pub key_same : ℕ → ItemName → List ℕ → List ℕ → Result (Unit {0}) Finding
+key_same meta item said read =
+    tested (same_key said read) (finding section.Meta meta (fault.Unborne item))
+
+-- nothing is left of the counts, and the lowest and the highest number are those that were read
+unfoldable pub counts_found : Parts → Counts → Result (Unit {0}) Finding
+counts_found parts counts =
+    let meta = parts.regions.metadata.offset in
+    same_found meta item.BlockCountData counts.blocks 0 >>= λ _.
+    same_found meta item.FileSize counts.size 0 >>= λ _.
+    same_found meta item.ItemCount counts.items 0 >>= λ _.
+    same_found meta item.TombstoneCount counts.tombstones 0 >>= λ _.
+    same_found meta item.WeakTombstoneCount counts.weak 0 >>= λ _.
+    same_found meta item.WeakTombstoneReclaimable counts.reclaimable 0 >>= λ _.
+    same_found meta item.SeqnoMin parts.facts.seqno_min counts.lowest >>= λ _.
+    same_found meta item.SeqnoMax parts.facts.seqno_max counts.highest
+
+-- no data block lies where the first of them would
+abbrev pub unnamed_by : {X : Type 0} → Result X Error → Result (Unit {0}) Finding
+unnamed_by (Ok block) = Err (finding section.Data 0 fault.Unnamed)
+unnamed_by (Err e) = Ok tt
+
+abbrev pub unnamed_found : List ℕ → Result (Unit {0}) Finding
+unnamed_found body = unnamed_by (load_at_told body 0 Data)
+
+-- the last entry has the key that the meta block names as the greatest; where there is none, both
+-- keys are empty, and there is no data block
+abbrev pub range_found : List ℕ → Parts → Option Entry → Result (Unit {0}) Finding
+range_found body parts (Some e) =
+    key_same parts.regions.metadata.offset item.KeyMax parts.facts.key_range.max e.user_key
+range_found body parts None =
+    key_same parts.regions.metadata.offset item.KeyMin parts.facts.key_range.min [] >>= λ _.
+    key_same parts.regions.metadata.offset item.KeyMax parts.facts.key_range.max [] >>= λ _.
+    unnamed_found body
+
+unfoldable pub end_found : List ℕ → Parts → Left → Result (Unit {0}) Finding
+end_found body parts left =
+    counts_found parts left.counts >>= λ _. range_found body parts left.last
+
+-- ---- the whole
+
+-- what a table says that it has
+abbrev pub verified_of : Facts → Verified
+verified_of said = record {
+  data_block_count = said.data_block_count;
+  item_count = said.item_count;
+}
+
+-- the index and the data blocks, and then the end
+unfoldable pub all_found : List ℕ → Parts → Result (Unit {0}) Finding
+all_found body parts =
+    index_found body parts (unread_of parts.facts) >>= λ left. end_found body parts left
+
+-- what is found first in the bytes before the trailer: in the filter, then in the index and the
+-- data blocks, in their order, then at the end
+unfoldable pub table_found : List ℕ → Parts → Result Verified Finding
+table_found body parts =
+    filters_found body parts >>= λ _.
+    all_found body parts >>= λ _.
+    Ok (verified_of parts.facts)

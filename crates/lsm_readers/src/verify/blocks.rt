@@ -1,0 +1,248 @@
+//! Reading blocks of handles, and the data blocks that these name.
+ghost use Rattle.std.specs.Prelude.{◌≡◌, ◌<◌, List, IfErr, IfOk, Some, length};
+ghost use Rattle.std.specs.List.{slice_get};
+ghost use Rattle.lsm_readers.specs.declared.verify.VerifyError.TheVariants.{OutOfMemory};
+ghost use Rattle.sst_sections.specs.declared.section.SectionName.TheVariants as section;
+ghost use Rattle.lsm_readers.specs.Words.{Entry, Handle, body_of, parts_of};
+ghost use Rattle.lsm_readers.specs.declared.verify.Counts.{Counts as CountsLeft};
+ghost use Rattle.lsm_readers.specs.Verify.{Finds, block_found, block_spent, blocks_found};
+ghost use Rattle.lsm_readers.specs.Verify.{chunk_found, end_named, handles_found, index_found};
+ghost use Rattle.lsm_readers.specs.Verify.{last_named, part_found, parts_found, place_found};
+ghost use Rattle.lsm_readers.specs.Verify.{top_named};
+
+use super::entries::{read_entries, spend};
+use super::{Counts, Fault, Unread, VerifyError, found, unloaded};
+use crate::Inner;
+use crate::pinned::load_handles;
+use lsm_formats::ItemName;
+use sst_blocks::{
+    BlockHandle, BlockSource, BlockType, DataBlock, IndexBlock, InternalValue, KeyedBlockHandle,
+    Opened, SectionName, SeqNo,
+};
+use std::alloc::Allocator;
+
+/// Tests that a handle names the block at a position.
+fn test_place(at: u64, offset: u64) -> Result<(), VerifyError>
+    ensures { Finds (λ (_ : _). tt) result (place_found at offset) }
+{
+    if offset == at {
+        Ok(())
+    } else {
+        Err(found(SectionName::Data, offset, Fault::Misplaced))
+    }
+}
+
+/// Counts a data block of a size.
+#[tactic(auto, unfolding(crate::specs::Verify::block_spent))]
+fn count_block(meta: u64, size: u32, counts: Counts) -> Result<Counts, VerifyError>
+    ensures { Finds (λ (c : CountsLeft). c) result (block_spent meta size counts) }
+{
+    let blocks = spend(meta, ItemName::BlockCountData, counts.blocks, 1)?;
+    let size = spend(meta, ItemName::FileSize, counts.size, u64::from(size))?;
+    Ok(Counts {
+        blocks,
+        size,
+        ..counts
+    })
+}
+
+/// The data block of a handle, which has an entry.
+fn load_chunk<A: Allocator + Clone>(
+    source: &BlockSource<A>,
+    handle: &BlockHandle,
+) -> Result<DataBlock<A>, VerifyError>
+    ensures { Finds (λ (c : List Entry). c) result
+        (chunk_found (body_of source.now) handle.now) }
+{
+    let at = handle.offset().0;
+    let mut opened = Opened::none();
+    let block = match source.load(handle, BlockType::Data, &mut opened) {
+        Ok(block) => DataBlock::new(block),
+        Err(error) => return Err(unloaded(SectionName::Data, at, error)),
+    };
+    if block.is_empty() {
+        return Err(found(SectionName::Data, at, Fault::Hollow));
+    }
+    Ok(block)
+}
+
+/// The handles of the index block at a place in a section.
+fn load_part<A: Allocator + Clone>(
+    source: &BlockSource<A>,
+    section: SectionName,
+    place: &BlockHandle,
+) -> Result<IndexBlock<A>, VerifyError>
+    ensures { Finds (λ (hs : List Handle). hs) result
+        (handles_found (body_of source.now) section place.now) }
+{
+    match load_handles(source, place) {
+        Ok(handles) => Ok(handles),
+        Err(error) => Err(unloaded(section, place.offset().0, error)),
+    }
+}
+
+/// Tests that a handle of a block in a section names this key and this number.
+fn test_end<A: Allocator>(
+    section: SectionName,
+    handle: &KeyedBlockHandle<A>,
+    key: &[u8],
+    seqno: SeqNo,
+) -> Result<(), VerifyError>
+    ensures { Finds (λ (_ : _). tt) result (end_named section handle.now key.now seqno) }
+{
+    if handle.end_key().as_slice() != key {
+        return Err(found(section, handle.offset().0, Fault::OtherKey));
+    }
+    if handle.seqno() == seqno {
+        Ok(())
+    } else {
+        Err(found(section, handle.offset().0, Fault::OtherNumber))
+    }
+}
+
+/// Tests that a handle names the entry that was read last.
+fn test_last<A: Allocator>(
+    handle: &KeyedBlockHandle<A>,
+    last: &Option<InternalValue<A>>,
+) -> Result<(), VerifyError>
+    ensures { Finds (λ (_ : _). tt) result (last_named section.Data handle.now last.now) }
+{
+    match last {
+        None => Err(found(SectionName::Data, handle.offset().0, Fault::Hollow)),
+        Some(last) => test_end(
+            SectionName::Data,
+            handle,
+            last.key.user_key.as_slice(),
+            last.key.seqno,
+        ),
+    }
+}
+
+/// Reads the data block of a handle, which is to begin where the block before it ended.
+#[tactic(auto, unfolding(crate::specs::Verify::block_found))]
+fn read_block<A: Allocator + Clone>(
+    source: &BlockSource<A>,
+    inner: &Inner<A>,
+    left: &mut Unread<A>,
+    handle: &KeyedBlockHandle<A>,
+) -> Result<(), VerifyError>
+    ensures { Finds (λ (_ : _). left.new) result
+        (block_found (body_of source.now) (parts_of inner.now) left.old handle.now) }
+{
+    let at = handle.offset().0;
+    let begins = inner.metadata.file_size.saturating_sub(left.counts.size);
+    test_place(begins, at)?;
+    let meta = inner.regions.metadata.offset().0;
+    let counts = count_block(meta, handle.size(), left.counts)?;
+    let place = BlockHandle::new(handle.offset(), handle.size());
+    let block = load_chunk(source, &place)?;
+    left.counts = counts;
+    read_entries(source, inner, at, left, &block)?;
+    test_last(handle, &left.last)?;
+    Ok(())
+}
+
+/// The handle at a place in a block. Refused for want of memory alone.
+fn handle_at<A: Allocator>(
+    handles: &IndexBlock<A>,
+    index: usize,
+) -> Result<KeyedBlockHandle<A>, VerifyError>
+    requires { index < length handles.now }
+    ensures ok { IfOk result (λ h. slice_get handles.now index ≡ Some h) }
+    ensures err { IfErr result (λ e. e ≡ OutOfMemory) }
+{
+    match handles.handle(index) {
+        Ok(handle) => Ok(handle),
+        Err(_) => Err(VerifyError::OutOfMemory),
+    }
+}
+
+/// Reads the data blocks of some handles, one after another.
+fn read_blocks<A: Allocator + Clone>(
+    source: &BlockSource<A>,
+    inner: &Inner<A>,
+    left: &mut Unread<A>,
+    handles: &IndexBlock<A>,
+) -> Result<(), VerifyError>
+    ensures { Finds (λ (_ : _). left.new) result
+        (blocks_found (body_of source.now) (parts_of inner.now) left.old handles.now) }
+{
+    for index in 0..handles.len() {
+        let handle = handle_at(handles, index)?;
+        read_block(source, inner, left, &handle)?;
+    }
+    Ok(())
+}
+
+/// Tests that a handle of a top level names the last of the handles of its partition.
+fn test_top<A: Allocator>(
+    top: &KeyedBlockHandle<A>,
+    handles: &IndexBlock<A>,
+) -> Result<(), VerifyError>
+    ensures { Finds (λ (_ : _). tt) result (top_named top.now handles.now) }
+{
+    let count = handles.len();
+    if count == 0 {
+        return Err(found(SectionName::Index, top.offset().0, Fault::Hollow));
+    }
+    let last = handle_at(handles, count - 1)?;
+    test_end(
+        SectionName::Index,
+        top,
+        last.end_key().as_slice(),
+        last.seqno(),
+    )
+}
+
+/// Reads the partition of the index that a handle of its top level names, and the data blocks of
+/// its handles.
+#[tactic(auto, unfolding(crate::specs::Verify::part_found))]
+fn read_part<A: Allocator + Clone>(
+    source: &BlockSource<A>,
+    inner: &Inner<A>,
+    left: &mut Unread<A>,
+    top: &KeyedBlockHandle<A>,
+) -> Result<(), VerifyError>
+    ensures { Finds (λ (_ : _). left.new) result
+        (part_found (body_of source.now) (parts_of inner.now) left.old top.now) }
+{
+    let place = BlockHandle::new(top.offset(), top.size());
+    let handles = load_part(source, SectionName::Index, &place)?;
+    test_top(top, &handles)?;
+    read_blocks(source, inner, left, &handles)
+}
+
+/// Reads the partitions of the index that the handles of a top level name, one after another.
+fn read_parts<A: Allocator + Clone>(
+    source: &BlockSource<A>,
+    inner: &Inner<A>,
+    left: &mut Unread<A>,
+    tops: &IndexBlock<A>,
+) -> Result<(), VerifyError>
+    ensures { Finds (λ (_ : _). left.new) result
+        (parts_found (body_of source.now) (parts_of inner.now) left.old tops.now) }
+{
+    for index in 0..tops.len() {
+        let top = handle_at(tops, index)?;
+        read_part(source, inner, left, &top)?;
+    }
+    Ok(())
+}
+
+/// Reads the index from the table's bytes, whatever of it stays loaded, and the data blocks of its
+/// handles.
+#[tactic(auto, unfolding(crate::specs::Verify::index_found))]
+pub(super) fn read_index<A: Allocator + Clone>(
+    source: &BlockSource<A>,
+    inner: &Inner<A>,
+    left: &mut Unread<A>,
+) -> Result<(), VerifyError>
+    ensures { Finds (λ (_ : _). left.new) result
+        (index_found (body_of source.now) (parts_of inner.now) left.old) }
+{
+    let handles = load_part(source, SectionName::Tli, &inner.regions.tli)?;
+    match inner.regions.index {
+        None => read_blocks(source, inner, left, &handles),
+        Some(_) => read_parts(source, inner, left, &handles),
+    }
+}

@@ -1,0 +1,147 @@
+//! The blocks of the filter, and what is compared once all is read.
+ghost use Rattle.std.specs.Prelude.{◌≡◌, List, ℕ};
+ghost use Rattle.lsm_readers.specs.Words.{Handle, Loaded, body_of, parts_of};
+ghost use Rattle.lsm_readers.specs.Verify.{Finds, counts_found, end_found, filter_found, key_same};
+ghost use Rattle.lsm_readers.specs.Verify.{filters_found, same_found, tops_found};
+ghost use Rattle.lsm_readers.specs.Verify.{unnamed_found};
+
+use super::{Counts, Fault, Unread, VerifyError, found, unloaded};
+use crate::Inner;
+use lsm_formats::ItemName;
+use sst_blocks::{BlockHandle, BlockSource, BlockType, Error, IndexBlock, Opened, SectionName};
+use std::alloc::Allocator;
+
+/// Tests that a filter's block loads.
+fn test_filter<A: Allocator + Clone>(
+    source: &BlockSource<A>,
+    place: &BlockHandle,
+) -> Result<(), VerifyError>
+    ensures { Finds (λ (_ : _). tt) result (filter_found (body_of source.now) place.now) }
+{
+    let mut opened = Opened::none();
+    match source.load(place, BlockType::Filter, &mut opened) {
+        Ok(block) => {
+            drop(block);
+            Ok(())
+        }
+        Err(error) => Err(unloaded(SectionName::Filter, place.offset().0, error)),
+    }
+}
+
+/// Tests that the filters load that the handles of a top level name, one after another.
+fn test_parts<A: Allocator + Clone>(
+    source: &BlockSource<A>,
+    tops: &IndexBlock<A>,
+) -> Result<(), VerifyError>
+    ensures { Finds (λ (_ : _). tt) result (tops_found (body_of source.now) tops.now) }
+{
+    for index in 0..tops.len() {
+        test_filter(source, &tops.place_at(index))?;
+    }
+    Ok(())
+}
+
+/// Tests that each block of the filter loads.
+pub(super) fn test_filters<A: Allocator + Clone>(
+    source: &BlockSource<A>,
+    inner: &Inner<A>,
+) -> Result<(), VerifyError>
+    ensures { Finds (λ (_ : _). tt) result
+        (filters_found (body_of source.now) (parts_of inner.now)) }
+{
+    if let Some(tops) = &inner.pinned_filter_index {
+        return test_parts(source, tops);
+    }
+    match &inner.regions.filter {
+        Some(place) => test_filter(source, place),
+        None => Ok(()),
+    }
+}
+
+/// Tests that a number of the meta block at a position is the one that was read.
+fn test_same(meta: u64, item: ItemName, said: u64, read: u64) -> Result<(), VerifyError>
+    ensures { Finds (λ (_ : _). tt) result (same_found meta item said read) }
+{
+    if said == read {
+        Ok(())
+    } else {
+        Err(found(SectionName::Meta, meta, Fault::Unborne(item)))
+    }
+}
+
+/// Tests that nothing is left of what a meta block says, and that its lowest and highest number are
+/// those that were read.
+#[tactic(auto, unfolding(crate::specs::Verify::counts_found))]
+fn test_counts<A: Allocator>(inner: &Inner<A>, counts: &Counts) -> Result<(), VerifyError>
+    ensures { Finds (λ (_ : _). tt) result (counts_found (parts_of inner.now) counts.now) }
+{
+    let meta = inner.regions.metadata.offset().0;
+    test_same(meta, ItemName::BlockCountData, counts.blocks, 0)?;
+    test_same(meta, ItemName::FileSize, counts.size, 0)?;
+    test_same(meta, ItemName::ItemCount, counts.items, 0)?;
+    test_same(meta, ItemName::TombstoneCount, counts.tombstones, 0)?;
+    test_same(meta, ItemName::WeakTombstoneCount, counts.weak, 0)?;
+    test_same(
+        meta,
+        ItemName::WeakTombstoneReclaimable,
+        counts.reclaimable,
+        0,
+    )?;
+    let (lowest, highest) = inner.metadata.seqnos;
+    test_same(meta, ItemName::SeqnoMin, lowest, counts.lowest)?;
+    test_same(meta, ItemName::SeqnoMax, highest, counts.highest)
+}
+
+/// Tests that no data block lies at the first position.
+fn test_unnamed<A: Allocator + Clone>(source: &BlockSource<A>) -> Result<(), VerifyError>
+    ensures { Finds (λ (_ : _). tt) result (unnamed_found (body_of source.now)) }
+{
+    let mut opened = Opened::none();
+    match source.load_at(0, BlockType::Data, &mut opened) {
+        Ok(block) => {
+            drop(block);
+            Err(found(SectionName::Data, 0, Fault::Unnamed))
+        }
+        Err(Error::OutOfMemory) => Err(VerifyError::OutOfMemory),
+        Err(_) => Ok(()),
+    }
+}
+
+/// Tests a key of the meta block.
+fn test_range_key(meta: u64, item: ItemName, said: &[u8], read: &[u8]) -> Result<(), VerifyError>
+    ensures { Finds (λ (_ : _). tt) result (key_same meta item said.now read.now) }
+{
+    if said == read {
+        Ok(())
+    } else {
+        Err(found(SectionName::Meta, meta, Fault::Unborne(item)))
+    }
+}
+
+/// Tests the end of a table whose entries were read, the last of them, if any, among them.
+#[tactic(auto, unfolding(crate::specs::Verify::end_found))]
+pub(super) fn test_left<A: Allocator + Clone>(
+    source: &BlockSource<A>,
+    inner: &Inner<A>,
+    left: &Unread<A>,
+) -> Result<(), VerifyError>
+    ensures { Finds (λ (_ : _). tt) result
+        (end_found (body_of source.now) (parts_of inner.now) left.now) }
+{
+    let meta = inner.regions.metadata.offset().0;
+    let range = &inner.metadata.key_range;
+    test_counts(inner, &left.counts)?;
+    match &left.last {
+        Some(last) => test_range_key(
+            meta,
+            ItemName::KeyMax,
+            range.max().as_slice(),
+            last.key.user_key.as_slice(),
+        ),
+        None => {
+            test_range_key(meta, ItemName::KeyMin, range.min().as_slice(), &[])?;
+            test_range_key(meta, ItemName::KeyMax, range.max().as_slice(), &[])?;
+            test_unnamed(source)
+        }
+    }
+}

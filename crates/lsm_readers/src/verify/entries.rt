@@ -1,0 +1,251 @@
+//! Reading entries.
+ghost use Rattle.std.specs.Prelude.{◌≡◌, ◌<◌, IfErr, IfOk, Some, length};
+ghost use Rattle.std.specs.List.{slice_get};
+ghost use Rattle.lsm_readers.specs.declared.verify.VerifyError.TheVariants.{OutOfMemory};
+ghost use Rattle.lsm_readers.specs.Words.{body_of, parts_of};
+ghost use Rattle.lsm_readers.specs.declared.verify.Counts.{Counts as CountsLeft};
+ghost use Rattle.lsm_readers.specs.Verify.{Finds, admitted, entries_found, entry_found};
+ghost use Rattle.lsm_readers.specs.Verify.{entry_spent, entry_tested, first_found, is_reclaimable};
+ghost use Rattle.lsm_readers.specs.Verify.{is_weak, key_found, may_follow, order_found, spent};
+ghost use Rattle.lsm_readers.specs.Verify.{starts_key};
+
+use super::{Counts, Fault, Unread, VerifyError, found};
+use crate::Inner;
+use lsm_formats::ItemName;
+use sst_blocks::{
+    BlockSource, Builder, DataBlock, Error, InternalValue, Opened, SectionName, SeqNo, ValueType,
+};
+use std::alloc::Allocator;
+
+/// What is left of a count of the meta block at a position, once some of it is read.
+pub(super) fn spend(meta: u64, item: ItemName, left: u64, by: u64) -> Result<u64, VerifyError>
+    ensures { Finds (λ n. n) result (spent meta item left by) }
+{
+    if left < by {
+        return Err(found(SectionName::Meta, meta, Fault::Unborne(item)));
+    }
+    Ok(left - by)
+}
+
+/// Whether an entry is the first of its key, by the entry directly before it.
+fn starts_key<A: Allocator>(last: &Option<InternalValue<A>>, entry: &InternalValue<A>) -> bool
+    ensures { result ≡ starts_key last.now entry.now }
+{
+    match last {
+        None => true,
+        Some(last) => last.key.user_key != entry.key.user_key,
+    }
+}
+
+/// Whether an entry is a weak tombstone.
+fn is_weak<A: Allocator>(entry: &InternalValue<A>) -> bool
+    ensures { result ≡ is_weak entry.now }
+{
+    matches!(entry.key.value_type, ValueType::WeakTombstone)
+}
+
+/// Whether an entry is a value directly after a weak tombstone of its key.
+fn is_reclaimable<A: Allocator>(last: &Option<InternalValue<A>>, entry: &InternalValue<A>) -> bool
+    ensures { result ≡ is_reclaimable last.now entry.now }
+{
+    match last {
+        None => false,
+        Some(last) => {
+            matches!(entry.key.value_type, ValueType::Value)
+                && is_weak(last)
+                && last.key.user_key == entry.key.user_key
+        }
+    }
+}
+
+/// Whether an entry may stand behind the one before it.
+fn may_follow<A: Allocator>(last: &Option<InternalValue<A>>, entry: &InternalValue<A>) -> bool
+    ensures { result ≡ may_follow last.now entry.now }
+{
+    match last {
+        None => true,
+        Some(last) => entry.may_follow(Some(last)),
+    }
+}
+
+/// Tests an entry's number, and that it follows on the one before it.
+fn test_order<A: Allocator>(
+    at: u64,
+    last: &Option<InternalValue<A>>,
+    entry: &InternalValue<A>,
+) -> Result<(), VerifyError>
+    ensures { Finds (λ (_ : _). tt) result (order_found at last.now entry.now) }
+{
+    if entry.key.seqno < SeqNo::MAX {
+        if may_follow(last, entry) {
+            Ok(())
+        } else {
+            Err(found(SectionName::Data, at, Fault::Unordered))
+        }
+    } else {
+        Err(found(SectionName::Data, at, Fault::TooHigh))
+    }
+}
+
+/// Tests that the first entry of all has the key that the meta block names as the least.
+fn test_first<A: Allocator>(
+    inner: &Inner<A>,
+    last: &Option<InternalValue<A>>,
+    entry: &InternalValue<A>,
+) -> Result<(), VerifyError>
+    ensures { Finds (λ (_ : _). tt) result (first_found (parts_of inner.now) last.now entry.now) }
+{
+    if last.is_some() || inner.metadata.key_range.min() == &entry.key.user_key {
+        Ok(())
+    } else {
+        let meta = inner.regions.metadata.offset().0;
+        Err(found(SectionName::Meta, meta, Fault::Unborne(ItemName::KeyMin)))
+    }
+}
+
+/// Whether the filter may have a key, by its blocks in the table's bytes.
+fn admits<A: Allocator + Clone>(
+    source: &BlockSource<A>,
+    inner: &Inner<A>,
+    key: &[u8],
+) -> Result<bool, Error>
+    ensures { result ≡ admitted (body_of source.now) (parts_of inner.now) key.now }
+{
+    let hash = Builder::<A>::get_hash(key);
+    let mut opened = Opened::none();
+    if let Some(tops) = &inner.pinned_filter_index {
+        return match tops.find(key, SeqNo::MAX) {
+            Some(handle) => source.maybe_contains_hash(&handle, hash, &mut opened),
+            None => Ok(false),
+        };
+    }
+    match &inner.regions.filter {
+        Some(handle) => source.maybe_contains_hash(handle, hash, &mut opened),
+        None => Ok(true),
+    }
+}
+
+/// Tests that the filter admits the key of an entry that is the first of its key.
+fn test_key<A: Allocator + Clone>(
+    source: &BlockSource<A>,
+    inner: &Inner<A>,
+    at: u64,
+    last: &Option<InternalValue<A>>,
+    entry: &InternalValue<A>,
+) -> Result<(), VerifyError>
+    ensures { Finds (λ (_ : _). tt) result
+        (key_found (body_of source.now) (parts_of inner.now) at last.now entry.now) }
+{
+    if !starts_key(last, entry) {
+        return Ok(());
+    }
+    match admits(source, inner, entry.key.user_key.as_slice()) {
+        Ok(true) => Ok(()),
+        Ok(false) => Err(found(SectionName::Data, at, Fault::Denied)),
+        Err(error) => Err(found(SectionName::Data, at, Fault::Unfiltered(error))),
+    }
+}
+
+/// Counts an entry.
+#[tactic(auto, unfolding(crate::specs::Verify::entry_spent))]
+fn count_entry<A: Allocator>(
+    meta: u64,
+    last: &Option<InternalValue<A>>,
+    entry: &InternalValue<A>,
+    counts: Counts,
+) -> Result<Counts, VerifyError>
+    ensures { Finds (λ (c : CountsLeft). c) result (entry_spent meta last.now entry.now counts) }
+{
+    let tombstone = u64::from(entry.is_tombstone());
+    let weak = u64::from(is_weak(entry));
+    let reclaimable = u64::from(is_reclaimable(last, entry));
+    let items = spend(meta, ItemName::ItemCount, counts.items, 1)?;
+    let tombstones = spend(meta, ItemName::TombstoneCount, counts.tombstones, tombstone)?;
+    let weak = spend(meta, ItemName::WeakTombstoneCount, counts.weak, weak)?;
+    let reclaimable = spend(
+        meta,
+        ItemName::WeakTombstoneReclaimable,
+        counts.reclaimable,
+        reclaimable,
+    )?;
+    Ok(Counts {
+        blocks: counts.blocks,
+        size: counts.size,
+        items,
+        tombstones,
+        weak,
+        reclaimable,
+        lowest: counts.lowest.min(entry.key.seqno),
+        highest: counts.highest.max(entry.key.seqno),
+    })
+}
+
+/// Tests an entry of the data block at a position. What is left of the counts behind it.
+#[tactic(auto, unfolding(crate::specs::Verify::entry_tested))]
+fn test_entry<A: Allocator + Clone>(
+    source: &BlockSource<A>,
+    inner: &Inner<A>,
+    at: u64,
+    left: &Unread<A>,
+    entry: &InternalValue<A>,
+) -> Result<Counts, VerifyError>
+    ensures { Finds (λ (c : CountsLeft). c) result
+        (entry_tested (body_of source.now) (parts_of inner.now) at left.now entry.now) }
+{
+    test_order(at, &left.last, entry)?;
+    test_first(inner, &left.last, entry)?;
+    test_key(source, inner, at, &left.last, entry)?;
+    let meta = inner.regions.metadata.offset().0;
+    count_entry(meta, &left.last, entry, left.counts)
+}
+
+/// Reads an entry of the data block at a position.
+#[tactic(auto, unfolding(crate::specs::Verify::entry_found))]
+fn read_entry<A: Allocator + Clone>(
+    source: &BlockSource<A>,
+    inner: &Inner<A>,
+    at: u64,
+    left: &mut Unread<A>,
+    entry: InternalValue<A>,
+) -> Result<(), VerifyError>
+    ensures { Finds (λ (_ : _). left.new) result
+        (entry_found (body_of source.now) (parts_of inner.now) at left.old entry) }
+{
+    let counts = test_entry(source, inner, at, left, &entry)?;
+    left.last = Some(entry);
+    left.counts = counts;
+    Ok(())
+}
+
+/// The entry at a place in a block. Refused for want of memory alone.
+fn entry_at<A: Allocator>(
+    block: &DataBlock<A>,
+    index: usize,
+) -> Result<InternalValue<A>, VerifyError>
+    requires { index < length block.now }
+    ensures ok { IfOk result (λ e. slice_get block.now index ≡ Some e) }
+    ensures err { IfErr result (λ e. e ≡ OutOfMemory) }
+{
+    match block.entry(index) {
+        Ok(entry) => Ok(entry),
+        Err(_) => Err(VerifyError::OutOfMemory),
+    }
+}
+
+/// Reads the entries of the data block at a position, one after another.
+pub(super) fn read_entries<A: Allocator + Clone>(
+    source: &BlockSource<A>,
+    inner: &Inner<A>,
+    at: u64,
+    left: &mut Unread<A>,
+    block: &DataBlock<A>,
+) -> Result<(), VerifyError>
+    ensures { Finds (λ (_ : _). left.new) result
+        (entries_found (body_of source.now) (parts_of inner.now) at left.old block.now) }
+{
+    for index in 0..block.len() {
+        let entry = entry_at(block, index)?;
+        read_entry(source, inner, at, left, entry)?;
+    }
+    Ok(())
+}
