@@ -1,5 +1,5 @@
--- The index of an opened table names the data blocks of the list that its bytes store. Tables of one
--- list that are cut alike have the same data blocks, so their indexes tell the same.
+-- The index of an opened table names the data blocks of the list that its bytes store. Tables of
+-- one list that are cut alike have the same data blocks, so their indexes tell the same.
 use Rattle.std.proofs.Common.{◌≡◌, ℕ, List, ap, subst, sym, ◌∙◌}
 use Rattle.sst_sections.specs.declared.version.TableVersion.{TableVersion}
 use Rattle.sst_entries.specs.Entry.{Entry}

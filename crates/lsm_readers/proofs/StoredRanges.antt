@@ -254,20 +254,20 @@ list_rows g low high (e ∷ es) fits =
 
 module _ (body : List ℕ) (g : ℕ) (hs : List Handle) (cs : List (List Entry))
     (named : AllZip (NamesChunk body) hs cs) (strict : IsStrict (joined cs))
-    (room : AllByRecursion LeavesRoom (joined cs)) (fits : highest_seqno (joined cs) + g < 2 ^ 64)
-  where
-    pub window_rows : (low high : Bound (List ℕ)) → rows (bounded body g low high)
-        (ok_results (window hs (lower_edge low) (upper_edge high)))
-        ≡ ok_results (within low high (lift (joined cs) g))
-    window_rows low high =
-        let b = bounded body g low high in
-        let lo = lower_edge low in
-        let hi = upper_edge high in
-        let early = low_rows body g hs cs named strict room low high in
-        rows_ok b (window hs lo hi)
-        ∙ ap (flat_map (block_rows b)) (window_is hs lo hi)
-        ∙ skip_front (block_rows b) (from_test lo) (up_to_first (to_test hi) hs)
-        (all_to (λ h. from_test lo h ≡ false → block_rows b h ≡ []) (to_test hi) hs early)
-        ∙ skip_back (block_rows b) (to_test hi) hs (high_rows body g hs cs named strict room low high)
-        ∙ rows_whole body g low high hs cs named
-        ∙ list_rows g low high (joined cs) fits
+    (room : AllByRecursion LeavesRoom (joined cs))
+    (fits : highest_seqno (joined cs) + g < 2 ^ 64) where
+  pub window_rows : (low high : Bound (List ℕ)) → rows (bounded body g low high)
+      (ok_results (window hs (lower_edge low) (upper_edge high)))
+      ≡ ok_results (within low high (lift (joined cs) g))
+  window_rows low high =
+      let b = bounded body g low high in
+      let lo = lower_edge low in
+      let hi = upper_edge high in
+      let early = low_rows body g hs cs named strict room low high in
+      rows_ok b (window hs lo hi)
+      ∙ ap (flat_map (block_rows b)) (window_is hs lo hi)
+      ∙ skip_front (block_rows b) (from_test lo) (up_to_first (to_test hi) hs)
+      (all_to (λ h. from_test lo h ≡ false → block_rows b h ≡ []) (to_test hi) hs early)
+      ∙ skip_back (block_rows b) (to_test hi) hs (high_rows body g hs cs named strict room low high)
+      ∙ rows_whole body g low high hs cs named
+      ∙ list_rows g low high (joined cs) fits

@@ -50,7 +50,8 @@ module _ (body : List ℕ) (g : ℕ) where
   -- the entries of the blocks from where the first of them begins are those of the chunks
   laid_entries : (at : ℕ) (hs : List Handle) (cs : List (List Entry))
       → AllZip (NamesChunk body) hs cs → AreLaid at hs
-      → flat_map (entries_told g) (blocks_told body at (length hs)) ≡ map (lifted_told g) (joined cs)
+      → flat_map (entries_told g) (blocks_told body at (length hs))
+      ≡ map (lifted_told g) (joined cs)
   unfolding blocks_told
   laid_entries at [] [] named laid = refl
   laid_entries at [] (c ∷ cs) named laid = absurd named
