@@ -19,7 +19,7 @@ use Rattle.lsm_readers.specs.declared.verify.Counts.{Counts}
 use Rattle.lsm_readers.specs.IndexKinds.{handles_told}
 use Rattle.lsm_readers.specs.Parts.{Parts}
 use Rattle.lsm_readers.specs.Stored.{AreLaid, IndexHas, NamesChunk, NamesPart}
-use Rattle.lsm_readers.specs.Verify.{Left, block_found, block_spent, blocks_found}
+use Rattle.lsm_readers.specs.Verify.{Unread, block_found, block_spent, blocks_found}
 use Rattle.lsm_readers.specs.Verify.{chunk_found, entries_found, index_found}
 use Rattle.lsm_readers.specs.Verify.{last_named, named_found, part_found, parts_found}
 use Rattle.lsm_readers.proofs.FileLengths.{last_some}
@@ -107,15 +107,15 @@ module _ (meta size : ℕ) (old : Counts) where
 
 module _ (body : List ℕ) (parts : Parts) where
   -- what is left can be so much
-  pub record IsPart (left : Left) : Type 0 where
+  pub record IsPart (left : Unread) : Type 0 where
     pub lowest : left.counts.lowest ≤ 2 ^ 64 - 1
     pub size : left.counts.size ≤ parts.facts.file_size
 
-  abbrev pub position : Left → ℕ
+  abbrev pub position : Unread → ℕ
   position left = parts.facts.file_size - left.counts.size
 
   -- the data blocks of some handles were read
-  pub record ReadsBlocks (old : Left) (hs : List Handle) (new : Left) : Type 0 where
+  pub record ReadsBlocks (old : Unread) (hs : List Handle) (new : Unread) : Type 0 where
     pub chunks : List (List Entry)
     pub named : AllZip (NamesChunk body) hs chunks
     pub laid : AreLaid (position old) hs
@@ -123,7 +123,7 @@ module _ (body : List ℕ) (parts : Parts) where
     pub blocks : old.counts.blocks ≡ length hs + new.counts.blocks
     pub sizes : old.counts.size ≡ sum_by (λ (h : Handle). h.size) hs + new.counts.size
 
-  pub blocks_none : (left : Left) → IsPart left → ReadsBlocks left [] left
+  pub blocks_none : (left : Unread) → IsPart left → ReadsBlocks left [] left
   blocks_none left fits = record {
     chunks = [];
     named = tt;
@@ -133,14 +133,14 @@ module _ (body : List ℕ) (parts : Parts) where
     sizes = omega arith;
   }
 
-  abbrev with_counts : Left → Counts → Left
+  abbrev with_counts : Unread → Counts → Unread
   with_counts left counts = record { last = left.last; counts = counts }
 
-  abbrev with_size : Left → ℕ → ℕ → Left
+  abbrev with_size : Unread → ℕ → ℕ → Unread
   with_size left blocks size =
       with_counts left (record left.counts { blocks = blocks; size = size })
 
-  same_reads : (old : Left) (blocks size : ℕ) (es : List Entry) (new : Left)
+  same_reads : (old : Unread) (blocks size : ℕ) (es : List Entry) (new : Unread)
       → Reads body parts (with_size old blocks size) es new → Reads body parts old es new
   same_reads old blocks size es new r =
       let s = r.spends in
@@ -160,7 +160,7 @@ module _ (body : List ℕ) (parts : Parts) where
         };
       }
 
-  reads_same : (old : Left) (blocks size : ℕ) (es : List Entry) (new : Left)
+  reads_same : (old : Unread) (blocks size : ℕ) (es : List Entry) (new : Unread)
       → Reads body parts old es new
       → Reads body parts (with_size old blocks size) es new
   reads_same old blocks size es new r =
@@ -182,17 +182,17 @@ module _ (body : List ℕ) (parts : Parts) where
       }
 
   -- what is so of a data block that was read
-  pub record ReadsBlock (old : Left) (h : Handle) (new : Left) : Type 0 where
+  pub record ReadsBlock (old : Unread) (h : Handle) (new : Unread) : Type 0 where
     pub chunk : List Entry
     pub named : NamesChunk body h chunk
     pub lies : h.offset ≡ position old
-    pub reads : (rest : List Entry) (end : Left) → Reads body parts new rest end
+    pub reads : (rest : List Entry) (end : Unread) → Reads body parts new rest end
         → Reads body parts old (chunk ++ rest) end
     pub blocks : old.counts.blocks ≡ 1 + new.counts.blocks
     pub size : old.counts.size ≡ h.size + new.counts.size
     pub lowest : new.counts.lowest ≤ 2 ^ 64 - 1
 
-  block_ok : (old : Left) (h : Handle) (new : Left) → IsPart old
+  block_ok : (old : Unread) (h : Handle) (new : Unread) → IsPart old
       → block_found body parts old h ≡ Ok new → ReadsBlock old h new
   unfolding block_found
   block_ok old h new fits told =
@@ -229,7 +229,7 @@ module _ (body : List ℕ) (parts : Parts) where
         lowest = low.0;
       })
 
-  left_part : (old : Left) (h : Handle) (new : Left) → IsPart old → ReadsBlock old h new
+  left_part : (old : Unread) (h : Handle) (new : Unread) → IsPart old → ReadsBlock old h new
       → IsPart new
   left_part old h new fits r = record {
     lowest = r.lowest;
@@ -237,7 +237,7 @@ module _ (body : List ℕ) (parts : Parts) where
   }
 
   -- one more in front of what was read
-  blocks_more : (old : Left) (h : Handle) (hs : List Handle) (mid new : Left) → IsPart old
+  blocks_more : (old : Unread) (h : Handle) (hs : List Handle) (mid new : Unread) → IsPart old
       → ReadsBlock old h mid → ReadsBlocks mid hs new → ReadsBlocks old (h ∷ hs) new
   blocks_more old h hs mid new fits one more = record {
     chunks = one.chunk ∷ more.chunks;
@@ -256,14 +256,14 @@ module _ (body : List ℕ) (parts : Parts) where
       behind at is = is
 
   -- the first of what is read
-  blocks_first : (old : Left) (h : Handle) (hs : List Handle) (new : Left) → IsPart old
-      → ReadsBlocks old (h ∷ hs) new → (mid : Left) × (block_found body parts old h ≡ Ok mid)
+  blocks_first : (old : Unread) (h : Handle) (hs : List Handle) (new : Unread) → IsPart old
+      → ReadsBlocks old (h ∷ hs) new → (mid : Unread) × (block_found body parts old h ≡ Ok mid)
       × ReadsBlocks mid hs new
   unfolding block_found
   blocks_first old h hs new fits r = go r.chunks r.named r.reads
     where
       go : (cs : List (List Entry)) → AllZip (NamesChunk body) (h ∷ hs) cs
-          → Reads body parts old (joined cs) new → (mid : Left)
+          → Reads body parts old (joined cs) new → (mid : Unread)
           × (block_found body parts old h ≡ Ok mid) × ReadsBlocks mid hs new
       go [] named reads = absurd named
       go (c ∷ cs) named reads =
@@ -303,13 +303,13 @@ module _ (body : List ℕ) (parts : Parts) where
 
   -- ---- the data blocks of some handles, in front of others
 
-  pub blocks_read : (old : Left) (hs rest : List Handle) (mid new : Left) → IsPart old
+  pub blocks_read : (old : Unread) (hs rest : List Handle) (mid new : Unread) → IsPart old
       → blocks_found body parts old hs ≡ Ok mid
       → (IsPart mid → ReadsBlocks mid rest new) → ReadsBlocks old (hs ++ rest) new
   unfolding blocks_found
   blocks_read old [] rest mid new fits told more =
       let same : old ≡ mid = cc in
-      subst (λ (l : Left). ReadsBlocks l rest new) (sym same)
+      subst (λ (l : Unread). ReadsBlocks l rest new) (sym same)
       (more (subst IsPart same fits))
   blocks_read old (h ∷ hs) rest mid new fits told more =
       let one = then_ok _ _ mid told in
@@ -317,8 +317,8 @@ module _ (body : List ℕ) (parts : Parts) where
       blocks_more old h (hs ++ rest) one.0 new fits is
       (blocks_read one.0 hs rest mid new (left_part old h one.0 fits is) one.2 more)
 
-  pub blocks_go : (old : Left) (hs rest : List Handle) (new : Left) → IsPart old
-      → ReadsBlocks old (hs ++ rest) new → (mid : Left)
+  pub blocks_go : (old : Unread) (hs rest : List Handle) (new : Unread) → IsPart old
+      → ReadsBlocks old (hs ++ rest) new → (mid : Unread)
       × (blocks_found body parts old hs ≡ Ok mid) × IsPart mid × ReadsBlocks mid rest new
   unfolding blocks_found
   blocks_go old [] rest new fits r = (old, refl, fits, r)
@@ -330,7 +330,7 @@ module _ (body : List ℕ) (parts : Parts) where
 
   -- ---- the index
 
-  part_ok : (old : Left) (top : Handle) (mid : Left) → part_found body parts old top ≡ Ok mid
+  part_ok : (old : Unread) (top : Handle) (mid : Unread) → part_found body parts old top ≡ Ok mid
       → (hs : List Handle) × NamesPart body top hs × (blocks_found body parts old hs ≡ Ok mid)
   unfolding part_found
   part_ok old top mid told =
@@ -352,7 +352,8 @@ module _ (body : List ℕ) (parts : Parts) where
       mapped [] some = some
       mapped (h ∷ hs) some = omega arith
 
-  part_goes : (old : Left) (top : Handle) (hs : List Handle) (mid : Left) → NamesPart body top hs
+  part_goes : (old : Unread) (top : Handle) (hs : List Handle) (mid : Unread) → NamesPart body top
+      hs
       → blocks_found body parts old hs ≡ Ok mid → part_found body parts old top ≡ Ok mid
   unfolding part_found
   part_goes old top hs mid n told =
@@ -364,7 +365,7 @@ module _ (body : List ℕ) (parts : Parts) where
       mapped [] some = some
       mapped (h ∷ hs) some = omega arith
 
-  left_fits : (old : Left) (hs : List Handle) (mid : Left) → IsPart old
+  left_fits : (old : Unread) (hs : List Handle) (mid : Unread) → IsPart old
       → blocks_found body parts old hs ≡ Ok mid → IsPart mid
   unfolding blocks_found
   left_fits old [] mid fits told = let same : old ≡ mid = cc in subst IsPart same fits
@@ -373,12 +374,12 @@ module _ (body : List ℕ) (parts : Parts) where
       left_fits one.0 hs mid (left_part old h one.0 fits (block_ok old h one.0 fits one.1)) one.2
 
   -- the partitions of some handles of a top level
-  pub record ReadsParts (old : Left) (tops : List Handle) (new : Left) : Type 0 where
+  pub record ReadsParts (old : Unread) (tops : List Handle) (new : Unread) : Type 0 where
     pub pieces : List (List Handle)
     pub named : AllZip (NamesPart body) tops pieces
     pub reads : ReadsBlocks old (joined_parts pieces) new
 
-  parts_ok : (old : Left) (tops : List Handle) (new : Left) → IsPart old
+  parts_ok : (old : Unread) (tops : List Handle) (new : Unread) → IsPart old
       → parts_found body parts old tops ≡ Ok new → ReadsParts old tops new
   unfolding parts_found
   parts_ok old [] new fits told =
@@ -399,9 +400,9 @@ module _ (body : List ℕ) (parts : Parts) where
             (λ (again : IsPart one.0). rest.reads);
       }
 
-  pub parts_go : (old : Left) (tops : List Handle) (ps : List (List Handle)) (new : Left)
+  pub parts_go : (old : Unread) (tops : List Handle) (ps : List (List Handle)) (new : Unread)
       → IsPart old → AllZip (NamesPart body) tops ps → ReadsBlocks old (joined_parts ps) new
-      → (mid : Left) × (parts_found body parts old tops ≡ Ok mid) × IsPart mid
+      → (mid : Unread) × (parts_found body parts old tops ≡ Ok mid) × IsPart mid
       × ReadsBlocks mid [] new
   unfolding parts_found
   parts_go old [] [] new fits named reads = (old, refl, fits, reads)
@@ -417,12 +418,12 @@ module _ (body : List ℕ) (parts : Parts) where
       )
 
   -- the index and the data blocks were read
-  pub record ReadsIndex (old new : Left) : Type 0 where
+  pub record ReadsIndex (old new : Unread) : Type 0 where
     pub handles : List Handle
     pub index : IndexHas body parts.regions.index parts.regions.tli handles
     pub reads : ReadsBlocks old handles new
 
-  named_ok : (section : Option Place) (old : Left) (hs : List Handle) (new : Left) → IsPart old
+  named_ok : (section : Option Place) (old : Unread) (hs : List Handle) (new : Unread) → IsPart old
       → handles_told body parts.regions.tli ≡ Ok hs
       → named_found body parts old section hs ≡ Ok new
       → (handles : List Handle) × IndexHas body section parts.regions.tli handles
@@ -440,7 +441,7 @@ module _ (body : List ℕ) (parts : Parts) where
         p.reads,
       )
 
-  pub index_ok : (old new : Left) → IsPart old → index_found body parts old ≡ Ok new
+  pub index_ok : (old new : Unread) → IsPart old → index_found body parts old ≡ Ok new
       → ReadsIndex old new
   unfolding index_found
   index_ok old new fits found =
@@ -449,10 +450,10 @@ module _ (body : List ℕ) (parts : Parts) where
       let is = named_ok parts.regions.index old hs.0 new fits told hs.2 in
       record { handles = is.0; index = is.1; reads = is.2 }
 
-  named_go : (section : Option Place) (old : Left) (handles : List Handle) (new : Left)
+  named_go : (section : Option Place) (old : Unread) (handles : List Handle) (new : Unread)
       → IsPart old → IndexHas body section parts.regions.tli handles
       → ReadsBlocks old handles new → (hs : List Handle)
-      × (handles_told body parts.regions.tli ≡ Ok hs) × (mid : Left)
+      × (handles_told body parts.regions.tli ≡ Ok hs) × (mid : Unread)
       × (named_found body parts old section hs ≡ Ok mid) × IsPart mid × ReadsBlocks mid [] new
   named_go None old handles new fits has reads =
       let one = blocks_go old handles [] new fits
@@ -463,9 +464,9 @@ module _ (body : List ℕ) (parts : Parts) where
       (subst (λ (xs : List Handle). ReadsBlocks old xs new) (sym has.whole) reads) in
       (has.tops, has.told, all.0, all.1, all.2, all.3)
 
-  pub index_go : (old : Left) (handles : List Handle) (new : Left) → IsPart old
+  pub index_go : (old : Unread) (handles : List Handle) (new : Unread) → IsPart old
       → IndexHas body parts.regions.index parts.regions.tli handles
-      → ReadsBlocks old handles new → (mid : Left)
+      → ReadsBlocks old handles new → (mid : Unread)
       × (index_found body parts old ≡ Ok mid) × IsPart mid × ReadsBlocks mid [] new
   unfolding index_found
   index_go old handles new fits has reads =

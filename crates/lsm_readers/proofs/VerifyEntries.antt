@@ -12,7 +12,7 @@ use Rattle.lsm_formats.specs.Filters.{keys_after}
 use Rattle.lsm_readers.specs.declared.verify.Counts.{Counts}
 use Rattle.lsm_readers.specs.Parts.{Parts}
 use Rattle.lsm_readers.specs.Stored.{Admits}
-use Rattle.lsm_readers.specs.Verify.{Left, admitted, asked_found, entries_found, entry_found}
+use Rattle.lsm_readers.specs.Verify.{Unread, admitted, asked_found, entries_found, entry_found}
 use Rattle.lsm_readers.specs.Verify.{entry_spent, entry_tested, key_found}
 use Rattle.lsm_readers.proofs.VerifySteps.{IsFirst, asked_goes, asked_ok, first_goes, first_ok}
 use Rattle.lsm_readers.proofs.VerifySteps.{order_goes, order_ok, spent_goes, spent_ok, then_goes}
@@ -34,7 +34,7 @@ pub record Spends (before : Option Entry) (old : Counts) (es : List Entry) (new 
   pub highest : new.highest ≡ max old.highest (highest_seqno es)
 
 -- some entries were read
-pub record Reads (body : List ℕ) (parts : Parts) (old : Left) (es : List Entry) (new : Left)
+pub record Reads (body : List ℕ) (parts : Parts) (old : Unread) (es : List Entry) (new : Unread)
     : Type 0 where
   pub strict : IsStrictAfter old.last es
   pub numbers : AllByRecursion (λ (e : Entry). e.seqno < 2 ^ 64 - 1) es
@@ -46,7 +46,7 @@ pub record Reads (body : List ℕ) (parts : Parts) (old : Left) (es : List Entry
 
 -- ---- no entry, and one more in front
 
-pub reads_none : (body : List ℕ) (parts : Parts) (left : Left) → left.counts.lowest ≤ 2 ^ 64 - 1
+pub reads_none : (body : List ℕ) (parts : Parts) (left : Unread) → left.counts.lowest ≤ 2 ^ 64 - 1
     → Reads body parts left [] left
 unfolding IsStrictAfter keys_after last_of count_after lowest_seqno highest_seqno
 reads_none body parts left low = record {
@@ -164,18 +164,19 @@ module _ (body : List ℕ) (parts : Parts) (at : ℕ) where
 
   -- ---- an entry
 
-  abbrev behind : Entry → Counts → Left
+  abbrev behind : Entry → Counts → Unread
   behind e counts = record { last = Some e; counts = counts }
 
   -- what is so of an entry that was read
-  pub record ReadsOne (old : Left) (e : Entry) (counts : Counts) : Type 0 where
+  pub record ReadsOne (old : Unread) (e : Entry) (counts : Counts) : Type 0 where
     pub number : e.seqno < 2 ^ 64 - 1
     pub follows : may_follow old.last e ≡ true
     pub key : key_found body parts at old.last e ≡ Ok tt
     pub first : IsFirst parts old.last e
     pub spends : SpendsOne parts.regions.metadata.offset old.last old.counts e counts
 
-  pub entry_ok : (old : Left) (e : Entry) (new : Left) → entry_found body parts at old e ≡ Ok new
+  pub entry_ok : (old : Unread) (e : Entry) (new : Unread) → entry_found body parts at old e ≡ Ok
+      new
       → (counts : Counts) × (new ≡ behind e counts) × ReadsOne old e counts
   unfolding entry_found entry_tested
   entry_ok old e new h =
@@ -197,14 +198,14 @@ module _ (body : List ℕ) (parts : Parts) (at : ℕ) where
       )
 
   -- one more in front of what was read
-  pub reads_more : (old : Left) (e : Entry) (es : List Entry) (mid new : Left)
+  pub reads_more : (old : Unread) (e : Entry) (es : List Entry) (mid new : Unread)
       → entry_found body parts at old e ≡ Ok mid → Reads body parts mid es new
       → Reads body parts old (e ∷ es) new
   unfolding IsStrictAfter last_of count_after lowest_seqno highest_seqno
   reads_more old e es mid new h more =
       let one = entry_ok old e mid h in
       let r = one.2 in
-      let rest = subst (λ (l : Left). Reads body parts l es new) one.1 more in
+      let rest = subst (λ (l : Unread). Reads body parts l es new) one.1 more in
       let s = r.spends in
       let t = rest.spends in
       record {
@@ -229,8 +230,8 @@ module _ (body : List ℕ) (parts : Parts) (at : ℕ) where
           omega (arith, one, rest, sum_by-cons (λ (x : Entry). cond (p x) 1 0) e es)
 
   -- the first of what is read
-  pub reads_first : (old : Left) (e : Entry) (es : List Entry) (new : Left)
-      → Reads body parts old (e ∷ es) new → (mid : Left)
+  pub reads_first : (old : Unread) (e : Entry) (es : List Entry) (new : Unread)
+      → Reads body parts old (e ∷ es) new → (mid : Unread)
       × (entry_found body parts at old e ≡ Ok mid) × Reads body parts mid es new
       × (mid.counts.blocks ≡ old.counts.blocks) × (mid.counts.size ≡ old.counts.size)
   unfolding IsStrictAfter last_of count_after lowest_seqno highest_seqno entry_found entry_tested
@@ -283,36 +284,37 @@ module _ (body : List ℕ) (parts : Parts) (at : ℕ) where
   -- ---- the entries of a block, in front of others
 
   -- the lowest number that was read is no more than the highest there may be
-  pub entries_low : (old : Left) (c : List Entry) (mid : Left)
+  pub entries_low : (old : Unread) (c : List Entry) (mid : Unread)
       → entries_found body parts at old c ≡ Ok mid → old.counts.lowest ≤ 2 ^ 64 - 1
       → (mid.counts.lowest ≤ 2 ^ 64 - 1) × (mid.counts.blocks ≡ old.counts.blocks)
       × (mid.counts.size ≡ old.counts.size) × (mid.last ≡ last_of old.last c)
   unfolding entries_found last_of
   entries_low old [] mid h low =
       let same : old ≡ mid = cc in
-      subst (λ (l : Left). (l.counts.lowest ≤ 2 ^ 64 - 1) × (l.counts.blocks ≡ old.counts.blocks)
+      subst (λ (l : Unread). (l.counts.lowest ≤ 2 ^ 64 - 1) × (l.counts.blocks ≡ old.counts.blocks)
       × (l.counts.size ≡ old.counts.size) × (l.last ≡ old.last)) same (low, refl, refl, refl)
   entries_low old (e ∷ c) mid h low =
       let one = then_ok _ _ mid h in
       let is = entry_ok old e one.0 one.1 in
       let s = (is.2).spends in
-      let told = subst (λ (l : Left). entries_found body parts at l c ≡ Ok mid) is.1 one.2 in
+      let told = subst (λ (l : Unread). entries_found body parts at l c ≡ Ok mid) is.1 one.2 in
       let rest = entries_low (behind e is.0) c mid told (omega (arith, s.lowest)) in
       (rest.0, rest.1 ∙ s.blocks, rest.2 ∙ s.size, rest.3)
 
-  pub entries_read : (old : Left) (c rest : List Entry) (mid new : Left)
+  pub entries_read : (old : Unread) (c rest : List Entry) (mid new : Unread)
       → entries_found body parts at old c ≡ Ok mid → Reads body parts mid rest new
       → Reads body parts old (c ++ rest) new
   unfolding entries_found
   entries_read old [] rest mid new h more =
-      let same : old ≡ mid = cc in subst (λ (l : Left). Reads body parts l rest new) (sym same) more
+      let same : old ≡ mid = cc in subst (λ (l : Unread). Reads body parts l rest new) (sym same)
+      more
   entries_read old (e ∷ c) rest mid new h more =
       let one = then_ok _ _ mid h in
       reads_more old e (c ++ rest) one.0 new one.1
       (entries_read one.0 c rest mid new one.2 more)
 
-  pub entries_go : (old : Left) (c rest : List Entry) (new : Left)
-      → Reads body parts old (c ++ rest) new → (mid : Left)
+  pub entries_go : (old : Unread) (c rest : List Entry) (new : Unread)
+      → Reads body parts old (c ++ rest) new → (mid : Unread)
       × (entries_found body parts at old c ≡ Ok mid) × Reads body parts mid rest new
   unfolding entries_found
   entries_go old [] rest new r = (old, refl, r)

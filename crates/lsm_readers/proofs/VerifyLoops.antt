@@ -22,7 +22,7 @@ use Rattle.sst_blocks.specs.Handle.{Handle}
 use Rattle.sst_blocks.specs.Handles.{end_of}
 use Rattle.sst_blocks.specs.Place.{Place, place_of}
 use Rattle.lsm_readers.specs.Parts.{Parts}
-use Rattle.lsm_readers.specs.Verify.{◌>>=◌, Finds, IsFaultAt, Left, Misses, block_found}
+use Rattle.lsm_readers.specs.Verify.{◌>>=◌, Finds, IsFaultAt, Unread, Misses, block_found}
 use Rattle.lsm_readers.specs.Verify.{blocks_found, end_named, entries_found, entry_found}
 use Rattle.lsm_readers.specs.Verify.{filter_found, finding, last_named, located, part_found}
 use Rattle.lsm_readers.specs.Verify.{parts_found, top_named, tops_found}
@@ -101,8 +101,8 @@ module _ {S X : Type 0} (step : S → X → Result S Finding) (all : S → List 
 -- ---- entries, data blocks and partitions
 
 module _ (body : List ℕ) (parts : Parts) where
-  module _ (at : ℕ) (left : Left) (es : List Entry) where
-    pub entries_next : (i : ℕ) (e : Entry) (next : Left) → slice_get es i ≡ Some e
+  module _ (at : ℕ) (left : Unread) (es : List Entry) where
+    pub entries_next : (i : ℕ) (e : Entry) (next : Unread) → slice_get es i ≡ Some e
         → entry_found body parts at left e ≡ Ok next
         → entries_found body parts at left (drop i es)
         ≡ entries_found body parts at next (drop (i + 1) es)
@@ -123,8 +123,8 @@ module _ (body : List ℕ) (parts : Parts) where
     entries_last = last_place (entry_found body parts at) (entries_found body parts at)
         (λ s. refl) (λ s x xs. refl) left es
 
-  module _ (left : Left) (hs : List Handle) where
-    pub blocks_next : (i : ℕ) (h : Handle) (next : Left) → slice_get hs i ≡ Some h
+  module _ (left : Unread) (hs : List Handle) where
+    pub blocks_next : (i : ℕ) (h : Handle) (next : Unread) → slice_get hs i ≡ Some h
         → block_found body parts left h ≡ Ok next
         → blocks_found body parts left (drop i hs)
         ≡ blocks_found body parts next (drop (i + 1) hs)
@@ -145,7 +145,7 @@ module _ (body : List ℕ) (parts : Parts) where
     blocks_last = last_place (block_found body parts) (blocks_found body parts)
         (λ s. refl) (λ s x xs. refl) left hs
 
-    pub parts_next : (i : ℕ) (h : Handle) (next : Left) → slice_get hs i ≡ Some h
+    pub parts_next : (i : ℕ) (h : Handle) (next : Unread) → slice_get hs i ≡ Some h
         → part_found body parts left h ≡ Ok next
         → parts_found body parts left (drop i hs)
         ≡ parts_found body parts next (drop (i + 1) hs)

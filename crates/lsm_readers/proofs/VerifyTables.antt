@@ -24,7 +24,7 @@ use Rattle.lsm_readers.specs.Parts.{Parts, places_told, tops_told}
 use Rattle.lsm_readers.specs.Stored.{Admits, AreLaid, BearsOut, FilterHas, FiltersLoad}
 use Rattle.lsm_readers.specs.Stored.{IndexHas, NamesChunk, StoresList}
 use Rattle.lsm_readers.specs.Table.{IsOpen, OpenTable}
-use Rattle.lsm_readers.specs.Verify.{Finds, Left, all_found, end_found, range_found, table_found}
+use Rattle.lsm_readers.specs.Verify.{Finds, Unread, all_found, end_found, range_found, table_found}
 use Rattle.lsm_readers.specs.Verify.{unread_of, verified_of}
 use Rattle.lsm_readers.proofs.Recovered.{PinnedSteps, Steps, ok_same, pinned_steps, recovered_steps}
 use Rattle.lsm_readers.proofs.VerifyBlocks.{IsPart, ReadsBlocks, index_go, index_ok}
@@ -147,7 +147,7 @@ module _ (t : OpenTable) (open_table : IsOpen t) where
         parts.pinned.filter_tops filter.told pins.filter_tops
 
     -- nothing is left behind the list
-    abbrev ended : Left
+    abbrev ended : Unread
     ended = record {
       last = last_of None es;
       counts = record {
@@ -197,7 +197,7 @@ module _ (t : OpenTable) (open_table : IsOpen t) where
     }
 
     -- where nothing more is read, what is left is what was
-    nothing_more : (left : Left) (cs : List (List Entry)) → left.counts.lowest ≤ 2 ^ 64 - 1
+    nothing_more : (left : Unread) (cs : List (List Entry)) → left.counts.lowest ≤ 2 ^ 64 - 1
         → AllZip (NamesChunk body) [] cs → Reads body parts left (joined cs) ended
         → left.counts.blocks ≡ 0 → left.counts.size ≡ 0
         → NothingLeft parts left.counts × (left.last ≡ last_of None es)

@@ -68,12 +68,12 @@ tested passes f = if passes then Ok tt else Err f
 -- ---- what is left
 
 -- what is still to be read of a table, and the entry that was read last
-pub record Left : Type 0 where
+pub record Unread : Type 0 where
   pub last : Option Entry
   pub counts : Counts
 
 -- nothing was read yet of a table that says these facts
-abbrev pub unread_of : Facts → Left
+abbrev pub unread_of : Facts → Unread
 unread_of said = record {
   last = None;
   counts = record {
@@ -142,18 +142,18 @@ entry_spent meta last e counts =
     })
 
 -- the tests of an entry, and what is left of the counts behind it
-unfoldable pub entry_tested : List ℕ → Parts → ℕ → Left → Entry → Result Counts Finding
+unfoldable pub entry_tested : List ℕ → Parts → ℕ → Unread → Entry → Result Counts Finding
 entry_tested body parts at left e =
     order_found at left.last e >>= λ _.
     first_found parts left.last e >>= λ _.
     key_found body parts at left.last e >>= λ _.
     entry_spent parts.regions.metadata.offset left.last e left.counts
 
-unfoldable pub entry_found : List ℕ → Parts → ℕ → Left → Entry → Result Left Finding
+unfoldable pub entry_found : List ℕ → Parts → ℕ → Unread → Entry → Result Unread Finding
 entry_found body parts at left e =
     entry_tested body parts at left e >>= λ counts. Ok (record { last = Some e; counts = counts })
 
-unfoldable pub entries_found : List ℕ → Parts → ℕ → Left → List Entry → Result Left Finding
+unfoldable pub entries_found : List ℕ → Parts → ℕ → Unread → List Entry → Result Unread Finding
 entries_found body parts at left [] = Ok left
 entries_found body parts at left (e ∷ es) =
     entry_found body parts at left e >>= λ left. entries_found body parts at left es
@@ -195,7 +195,7 @@ last_named section h None = Err (finding section h.offset fault.Hollow)
 last_named section h (Some e) = end_named section h e.user_key e.seqno
 
 -- the data block of a handle, which begins where the block before it ended
-unfoldable pub block_found : List ℕ → Parts → Left → Handle → Result Left Finding
+unfoldable pub block_found : List ℕ → Parts → Unread → Handle → Result Unread Finding
 block_found body parts left h =
     place_found (parts.facts.file_size - left.counts.size) h.offset >>= λ _.
     block_spent parts.regions.metadata.offset h.size left.counts >>= λ counts.
@@ -205,7 +205,7 @@ block_found body parts left h =
     last_named section.Data h left.last >>= λ _.
     Ok left
 
-unfoldable pub blocks_found : List ℕ → Parts → Left → List Handle → Result Left Finding
+unfoldable pub blocks_found : List ℕ → Parts → Unread → List Handle → Result Unread Finding
 blocks_found body parts left [] = Ok left
 blocks_found body parts left (h ∷ hs) =
     block_found body parts left h >>= λ left. blocks_found body parts left hs
@@ -221,23 +221,24 @@ abbrev pub top_named : Handle → List Handle → Result (Unit {0}) Finding
 top_named top hs = last_named section.Index top (last_of None (map end_of hs))
 
 -- the partition of a handle of the top level, and the data blocks of its handles
-unfoldable pub part_found : List ℕ → Parts → Left → Handle → Result Left Finding
+unfoldable pub part_found : List ℕ → Parts → Unread → Handle → Result Unread Finding
 part_found body parts left top =
     handles_found body section.Index (place_of top) >>= λ hs.
     top_named top hs >>= λ _.
     blocks_found body parts left hs
 
-unfoldable pub parts_found : List ℕ → Parts → Left → List Handle → Result Left Finding
+unfoldable pub parts_found : List ℕ → Parts → Unread → List Handle → Result Unread Finding
 parts_found body parts left [] = Ok left
 parts_found body parts left (top ∷ tops) =
     part_found body parts left top >>= λ left. parts_found body parts left tops
 
 -- the data blocks of the handles of a full index, or those of the partitions below a top level
-abbrev pub named_found : List ℕ → Parts → Left → Option Place → List Handle → Result Left Finding
+abbrev pub named_found : List ℕ → Parts → Unread → Option Place → List Handle → Result Unread
+    Finding
 named_found body parts left None hs = blocks_found body parts left hs
 named_found body parts left (Some section) tops = parts_found body parts left tops
 
-unfoldable pub index_found : List ℕ → Parts → Left → Result Left Finding
+unfoldable pub index_found : List ℕ → Parts → Unread → Result Unread Finding
 index_found body parts left =
     handles_found body section.Tli parts.regions.tli >>= λ hs.
     named_found body parts left parts.regions.index hs
@@ -311,7 +312,7 @@ range_found body parts None =
     key_same parts.regions.metadata.offset item.KeyMax parts.facts.key_range.max [] >>= λ _.
     unnamed_found body
 
-unfoldable pub end_found : List ℕ → Parts → Left → Result (Unit {0}) Finding
+unfoldable pub end_found : List ℕ → Parts → Unread → Result (Unit {0}) Finding
 end_found body parts left =
     counts_found parts left.counts >>= λ _. range_found body parts left.last
 

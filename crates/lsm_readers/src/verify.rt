@@ -98,9 +98,9 @@ pub(crate) struct Unread<A: Allocator = Global> {
 }
 
 impl<A: Allocator> Model for Unread<A> {
-    ghost use Rattle.lsm_readers.specs.Verify.{Left};
+    ghost use Rattle.lsm_readers.specs.Verify.{Unread};
 
-    ghost Value = { Left };
+    ghost Value = { Unread };
 
     ghost view = { λ u. record { last = u.last; counts = u.counts } };
 }

@@ -17,7 +17,8 @@ use Rattle.sst_entries.specs.Point.{is_from, is_to, within}
 use Rattle.sst_entries.specs.Stream.{CanDeal, Deals, answer_stops, but_first, but_last, first, last}
 use Rattle.sst_entries.specs.Stream.{ok_results}
 use Rattle.sst_entries.proofs.Lists.{all_append}
-use Rattle.sst_entries.proofs.StreamLemmas.{can_after_back, can_by, can_front, can_now, can_now_back}
+use Rattle.sst_entries.proofs.StreamLemmas.{can_after_back, can_by, can_front, can_now}
+use Rattle.sst_entries.proofs.StreamLemmas.{can_now_back}
 use Rattle.sst_entries.proofs.StreamLemmas.{deals_back, deals_by, deals_front}
 use Rattle.lsm_formats.specs.Chunks.{joined}
 use Rattle.lsm_merge.specs.Ends.{R}

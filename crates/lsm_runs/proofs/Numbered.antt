@@ -12,13 +12,13 @@ use Rattle.sst_entries.specs.Stream.{Deals, answer_stops, ok_results}
 use Rattle.lsm_formats.specs.Chunks.{joined}
 use Rattle.lsm_merge.specs.Ends.{R}
 use Rattle.lsm_merge.specs.Union.{Ascends, newest, sort_entries}
-use Rattle.lsm_sorted.specs.Below.{GivesBelow, below_of, below_told, numbered_below}
+use Rattle.lsm_sorted.specs.Below.{GivesBelow, below_of, numbered_below}
 use Rattle.lsm_sorted.specs.NewestLaws.{DealsNewest}
 use Rattle.lsm_sorted.specs.declared.below.Below.{Below}
 use Rattle.lsm_sorted.proofs.BelowLemmas.{MayBoth, MayFront, below_entries, deals_below}
 use Rattle.lsm_runs.specs.RunLists.{DealTogether, DealsList}
 use Rattle.lsm_runs.specs.SeveralRuns.{union_in}
-use Rattle.lsm_runs.proofs.Together.{cut, newest_dealt, union_cut}
+use Rattle.lsm_runs.proofs.Together.{newest_dealt}
 use Rattle.lsm_runs.proofs.Unions.{filter_ascends, filter_joined, filter_sorted}
 
 -- where all are numbered below the bound, all stay

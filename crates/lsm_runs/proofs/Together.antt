@@ -19,7 +19,6 @@ use Rattle.lsm_formats.specs.Chunks.{joined}
 use Rattle.lsm_merge.specs.Ends.{R}
 use Rattle.lsm_merge.specs.MergeLaws.{DealSorted}
 use Rattle.lsm_merge.specs.Union.{Ascends, all_entries, entries_among, newest, sort_entries}
-use Rattle.lsm_merge.specs.Union.{union_of}
 use Rattle.lsm_ranges.specs.Run.{IsInOrder}
 use Rattle.lsm_readers.specs.Table.{OpenTable}
 use Rattle.lsm_sorted.specs.NewestLaws.{DealsNewest}

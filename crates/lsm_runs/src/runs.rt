@@ -30,7 +30,8 @@ use std::sync::Arc;
 /// The newest version of each key of several runs, from both ends: what [`range_runs`] gives.
 pub type NewestOfRuns<A> = NewestOf<RunReader<A>, A>;
 
-/// The same of what is numbered below a bound: what [`range_runs_at`] gives.
+/// The newest version of each key of several runs that is numbered below a bound, from both ends:
+/// what [`range_runs_at`] gives.
 pub type NewestOfRunsAt<A> = NewestOf<Below<RunReader<A>>, A>;
 
 // The reader of a run within both bounds, where a table's range reaches past them.

@@ -125,8 +125,8 @@ pub fn get_many<A: Allocator + Clone>(
     queries: &[Query<A>],
 ) -> Result<Vec<Option<InternalValue<A>>, A>, Error>
     ensures told { Gives (λ found. found.items) result (many_told table.now queries.now) }
-    // On bytes that store a list it is each query's first match in the list, its numbers lifted, and
-    // nothing but want of memory refuses it.
+    // On bytes that store a list it is each query's first match in the list, its numbers lifted,
+    // and nothing but want of memory refuses it.
     ensures list { (es : List Entry) → StoresList table.now.bytes es →
         let all = lift es table.now.global_seqno in
         Gives (λ found. found.items) result (Ok (map (λ q. point all q.key q.seqno) queries.now)) }

@@ -1,5 +1,4 @@
 use Rattle.std.specs.Iterator.{at_most}
-use Rattle.std.specs.Prelude.{All}
 use Rattle.sst_entries.specs.Stream.{back_of, front_of}
 use Rattle.sst_entries.proofs.StreamLemmas.{can_now, can_now_back}
 use Rattle.lsm_ranges.proofs.PackLemmas.{if_ok}

@@ -3,7 +3,7 @@ use Rattle.std.specs.Prelude.{Result}
 use Rattle.sst_sections.specs.Sections.{body_of}
 use Rattle.lsm_readers.specs.declared.verify.Finding.{Finding}
 use Rattle.lsm_readers.specs.Table.{parts_of}
-use Rattle.lsm_readers.specs.Verify.{Left, Misses}
+use Rattle.lsm_readers.specs.Verify.{Unread, Misses}
 use Rattle.lsm_readers.proofs.VerifyLoops.{blocks_last, blocks_miss, blocks_next, passes}
 use Rattle.lsm_readers.proofs.verify.blocks.read_blocks.Goals as goal
 
@@ -21,7 +21,7 @@ returns-in_err-read_block g c =
     let body = body_of c.args.source.now in
     let e = c.in_err-read_block.field-0.0 in
     passes _ c.from_residual-in_err-read_block.result _ e c.from_residual-in_err-read_block.ensures.1
-    (subst (λ (r : Result Left Finding). Misses e r) c.loop-index.invariant
+    (subst (λ (r : Result Unread Finding). Misses e r) c.loop-index.invariant
     (blocks_miss body parts c.loop-index.left c.args.handles.now c.loop-index.index
     c.in_ok-handle.handle e c.in_ok-handle.ensures.ok c.in_err-read_block.ensures))
 

@@ -3,7 +3,7 @@ use Rattle.std.specs.Prelude.{Result}
 use Rattle.sst_sections.specs.Sections.{body_of}
 use Rattle.lsm_readers.specs.declared.verify.Finding.{Finding}
 use Rattle.lsm_readers.specs.Table.{parts_of}
-use Rattle.lsm_readers.specs.Verify.{Left, Misses}
+use Rattle.lsm_readers.specs.Verify.{Unread, Misses}
 use Rattle.lsm_readers.proofs.VerifyLoops.{parts_last, parts_miss, parts_next, passes}
 use Rattle.lsm_readers.proofs.verify.blocks.read_parts.Goals as goal
 
@@ -21,7 +21,7 @@ returns-in_err-read_part g c =
     let body = body_of c.args.source.now in
     let e = c.in_err-read_part.field-0.0 in
     passes _ c.from_residual-in_err-read_part.result _ e c.from_residual-in_err-read_part.ensures.1
-    (subst (λ (r : Result Left Finding). Misses e r) c.loop-index.invariant
+    (subst (λ (r : Result Unread Finding). Misses e r) c.loop-index.invariant
     (parts_miss body parts c.loop-index.left c.args.tops.now c.loop-index.index
     c.in_ok-top.top e c.in_ok-top.ensures.ok c.in_err-read_part.ensures))
 
