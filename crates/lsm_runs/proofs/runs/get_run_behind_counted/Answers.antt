@@ -23,7 +23,7 @@ returns-clause-few g c = few_each _ c.get_counted.result.1 c.get_counted.ensures
 pub returns-then-is_older-clause-read : goal.returns-then-is_older-clause-read
 returns-then-is_older-clause-read g c order =
     let is = not_asked c.args.found.now c.in-Some.table.now (sym c.is_older.ensures ∙ c.if-is_older.true) in
-    rw c.none.ensures
+    rw c.none-then-is_older.ensures
     (subst (λ (o : Option OpenTable). DoesRead (found_is None) (table_read c.args.key.now c.args.seqno (worth_asking c.args.found.now o)) none_opened none_opened) (c.in-Some.ensures.found order)
     (subst (λ (o : Option OpenTable). DoesRead (found_is None) (table_read c.args.key.now c.args.seqno o) none_opened none_opened) (sym is)
     (does_known None none_opened)))
