@@ -16,10 +16,9 @@ use Rattle.lsm_iters.specs.Lift.{lift}
 use Rattle.lsm_ranges.specs.KeyRange.{has_key, key_le}
 use Rattle.lsm_ranges.specs.Run.{are_in_order, table_of_key}
 use Rattle.lsm_ranges.proofs.RunLemmas.{parts}
-use Rattle.lsm_readers.specs.Parts.{Parts}
 use Rattle.lsm_readers.specs.Read.{◌>>=◌}
 use Rattle.lsm_readers.specs.Table.{OpenTable}
-use Rattle.lsm_readers.proofs.FileParts.{table_parts}
+use Rattle.lsm_readers.proofs.StoredParts.{bears_out}
 use Rattle.lsm_runs.specs.RunLists.{HoldLists, HoldsList, RunsHoldLists}
 use Rattle.lsm_runs.specs.RunParts.{range_of, ranges_of}
 use Rattle.lsm_runs.specs.SeveralRuns.{highest_number, is_older, leading_of, run_read_behind}
@@ -55,9 +54,8 @@ held_numbers : (t : OpenTable) (es : List Entry) → HoldsList t es
 held_numbers t es h =
     let pins = h.opened.recovered in
     let highest : t.parts.facts.seqno_max ≡ highest_seqno h.stored =
-    ap (λ (p : Parts). p.facts.seqno_max)
-    (table_parts t.bytes h.stored h.table h.opened.short t.global_seqno pins.pin_filter
-    pins.pin_index t.parts pins.told) in
+    (bears_out t.bytes h.stored h.table t.global_seqno pins.pin_filter pins.pin_index t.parts
+    pins.told).seqno_max in
     subst (λ (xs : List Entry). AllByRecursion (λ (e : Entry). e.seqno ≤ highest_number t) xs)
     (sym h.lifted_is)
     (lift_numbers h.stored t.global_seqno t.parts.facts.seqno_max (omega (arith, highest)))
