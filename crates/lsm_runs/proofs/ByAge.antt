@@ -63,7 +63,7 @@ held_numbers t es h =
 module _ (key : List ℕ) (bound : ℕ) where
   -- what an older table has of the key does not stand before what was found
   older_has : (found : Option Entry) (t : OpenTable) (es : List Entry) → HoldsList t es
-      → IsOfKey key found → is_older found t ≡ true
+      → IsOfKey key bound found → is_older found t ≡ true
       → leading_of found None ≡ leading_of found (point es key bound)
   older_has None t es h is older = absurd cc
   older_has (Some e) t es h is older =
@@ -84,7 +84,7 @@ module _ (key : List ℕ) (bound : ℕ) where
   told_by found o = (table_read key bound (worth_asking found o)).told
 
   run_tells : (found : Option Entry) (ts : List OpenTable) (ls : List (List Entry))
-      → HoldLists ts ls → are_in_order (ranges_of ts) ≡ true → IsOfKey key found
+      → HoldLists ts ls → are_in_order (ranges_of ts) ≡ true → IsOfKey key bound found
       → Tells found ts (point (joined ls) key bound)
   unfolding point
   run_tells found [] [] h order is = (None, refl, refl)
@@ -133,7 +133,7 @@ module _ (key : List ℕ) (bound : ℕ) where
   told found runs = (runs_read_by_age key bound found runs).told
 
   pub age_point : (found : Option Entry) (runs : List (List OpenTable))
-      (lists : List (List (List Entry))) → RunsHoldLists runs lists → IsOfKey key found
+      (lists : List (List (List Entry))) → RunsHoldLists runs lists → IsOfKey key bound found
       → told found runs ≡ Ok (leading_of found (point (union_in lists) key bound))
   unfolding point
   age_point found [] [] h is = ap (λ (o : Option Entry). Ok o) (sym (leading_last found))

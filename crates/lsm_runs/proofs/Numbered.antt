@@ -13,8 +13,10 @@ use Rattle.lsm_formats.specs.Chunks.{joined}
 use Rattle.lsm_merge.specs.Ends.{R}
 use Rattle.lsm_merge.specs.Union.{Ascends, newest, sort_entries}
 use Rattle.lsm_sorted.specs.Below.{GivesBelow, below_of, numbered_below}
-use Rattle.lsm_sorted.specs.NewestLaws.{DealsNewest}
+use Rattle.lsm_sorted.specs.NewestLaws.{AnswersNewest, CanAskNewest, DealsNewest, IsNewestOf}
 use Rattle.lsm_sorted.specs.declared.below.Below.{Below}
+use Rattle.lsm_sorted.specs.declared.mvcc_stream.MvccStream.{MvccStream}
+use Rattle.lsm_merge.specs.declared.merge.Merger.{Merger}
 use Rattle.lsm_sorted.proofs.BelowLemmas.{MayBoth, MayFront, below_entries, deals_below}
 use Rattle.lsm_runs.specs.RunLists.{DealTogether, DealsList}
 use Rattle.lsm_runs.specs.SeveralRuns.{union_in}
@@ -102,3 +104,38 @@ module _ (bound : ℕ) where
         ∙ ap (numbered_below bound) is)
         (newest_dealt InFront Behind next next_back t (map (below_of bound) sources)
         (map (numbered_below bound) found) (together_below sources found d) law)
+
+    -- of sources that are these below the bound
+    pub newest_numbered_of : {T : Type 0} (next next_back : T → Option R → T → Type 0) (t : T)
+        (bs : List (Below S)) (sources : List S) (found : List (List Entry)) (es : List Entry)
+        → bs ≡ map (below_of bound) sources → sort_entries (joined found) ≡ es
+        → DealTogether front back sources found
+        → DealsNewest InFront Behind bs next next_back t
+        → DealsList next next_back (newest (numbered_below bound es)) t
+    newest_numbered_of next next_back t bs sources found es are is d law =
+        newest_numbered next next_back t sources found es is d
+        (subst (λ (xs : List (Below S)). DealsNewest InFront Behind xs next next_back t) are law)
+
+-- ---- of equal lists
+
+pub dealt_as : {T : Type 0} (next next_back : T → Option R → T → Type 0) (t : T)
+    (xs ys : List Entry) → xs ≡ ys → DealsList next next_back xs t → DealsList next next_back ys t
+dealt_as next next_back t xs ys is h =
+    subst (λ (es : List Entry). DealsList next next_back es t) is h
+
+pub starts_as : {X A : Type 0} (s : MvccStream (Merger X A) R) (bs cs : List X) → bs ≡ cs
+    → IsNewestOf bs s → IsNewestOf cs s
+starts_as {X} s bs cs are h = subst (λ (xs : List X). IsNewestOf xs s) are h
+
+module _ {X T : Type 0} (front back : X → Option R → X → Type 0)
+    (next next_back : T → Option R → T → Type 0) (t : T) (bs cs : List X) (are : bs ≡ cs) where
+  pub past_as : AnswersNewest front back bs next next_back t
+      → AnswersNewest front back cs next next_back t
+  past_as h = subst (λ (xs : List X). AnswersNewest front back xs next next_back t) are h
+
+  pub can_as : (can can_back : X → Type 0) (left : X → Count) (can_next can_next_back : T → Type 0)
+      → CanAskNewest front back can can_back left bs next next_back can_next can_next_back t
+      → CanAskNewest front back can can_back left cs next next_back can_next can_next_back t
+  can_as can can_back left can_next can_next_back h =
+      subst (λ (xs : List X). CanAskNewest front back can can_back left xs next next_back can_next
+      can_next_back t) are h
