@@ -2,6 +2,8 @@
 ghost use Rattle.std.specs.Prelude.{◌≡◌, ◌≤◌, ◌++◌, ◌∷◌, [], length, All, OnOk};
 ghost use Rattle.sst_sections.specs.Sections.{slot_index};
 
+use lsm_formats::ItemName;
+use lsm_readers::{Fault, Finding, VerifyError};
 use sst_blocks::{
     Block, BlockHandle, BlockOffset, BlockSource, BlockType, CompressionType, DataBlock, Error,
     InternalValue, Opened, SectionName, SectionWriter, SeqNo, Slice,
@@ -378,4 +380,54 @@ fn each_request_refused_before_a_fault(rt: HostRuntime) {
         |alloc, may_fail| refuses_the_checksum(alloc, may_fail),
     );
     assert!(rt; refused.is_ok_and(|requests| requests > 5));
+}
+
+// The item that verifying the stored table finds not borne out, where some are changed.
+fn unborne<A: Allocator + Copy>(alloc: A, changes: &[Item]) -> Result<Option<ItemName>, Error> {
+    let table = open(alloc, changed(alloc, changes)?, 0)?;
+    let verified = table.verify();
+    drop(table);
+    match verified {
+        Ok(_) => Ok(None),
+        Err(VerifyError::OutOfMemory) => Err(Error::OutOfMemory),
+        Err(VerifyError::Found(Finding { fault, .. })) => match fault {
+            Fault::Unborne(item) => Ok(Some(item)),
+            _ => Err(Error::InvalidBlock),
+        },
+    }
+}
+
+const NONE: Change = Change::Value(&[0; 8]);
+
+const THREE: Change = Change::Value(&[3, 0, 0, 0, 0, 0, 0, 0]);
+
+// An item that the entries bear out no more, and which is found.
+const UNBORNE: &[(Item, ItemName)] = &[
+    ((b"block_count#data", NONE), ItemName::BlockCountData),
+    ((b"block_count#data", THREE), ItemName::BlockCountData),
+    ((b"file_size", NONE), ItemName::FileSize),
+    ((b"item_count", NONE), ItemName::ItemCount),
+    ((b"item_count", THREE), ItemName::ItemCount),
+    ((b"key#max", EMPTY), ItemName::KeyMax),
+    ((b"key#min", EMPTY), ItemName::KeyMin),
+    ((b"seqno#max", THREE), ItemName::SeqnoMax),
+    ((b"seqno#min", THREE), ItemName::SeqnoMin),
+    ((b"tombstone_count", THREE), ItemName::TombstoneCount),
+    (
+        (b"weak_tombstone_count", THREE),
+        ItemName::WeakTombstoneCount,
+    ),
+    (
+        (b"weak_tombstone_reclaimable", THREE),
+        ItemName::WeakTombstoneReclaimable,
+    ),
+];
+
+#[test]
+fn a_verification_finds_an_item_that_is_not_borne_out(rt: HostRuntime) {
+    assert!(rt; unborne(rt.alloc(), &[]).is_ok_and(|item| item.is_none()));
+    for &(change, expected) in UNBORNE {
+        let found = unborne(rt.alloc(), &[change]);
+        assert!(rt; found.is_ok_and(|item| item == Some(expected)));
+    }
 }
