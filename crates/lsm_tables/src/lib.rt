@@ -22,10 +22,14 @@ pub use lsm_compactions::{
 pub use lsm_formats::{GlobalTableId, TableId, Timestamp, TreeId};
 pub use lsm_iters::{Bound, Iter, OwnedDataBlockIter};
 pub use lsm_readers::{
-    Inner, ParsedMeta, ParsedRegions, PinnedBlockIndex, Query, Scanner, Table, TableInner,
-    get_many, point_in,
+    Fault, Finding, Inner, ParsedMeta, ParsedRegions, PinnedBlockIndex, Query, Scanner, Table,
+    TableInner, Verified, VerifyError, get_many, point_in,
 };
-pub use lsm_runs::{NewestOfRuns, RunReader, RunScanner, get_runs, get_runs_counted, range_runs};
+pub use lsm_runs::{
+    NewestOfRuns, NewestOfRunsAt, NewestOfSourcesAt, RunReader, RunScanner, get_runs,
+    get_runs_by_age, get_runs_by_age_counted, get_runs_counted, range_runs, range_runs_at,
+    range_sources_at,
+};
 pub use lsm_sorted::compaction::Rules;
 pub use one_answer::{PointAndScan, Ranges, read_each_way};
 pub use part::compact_part_back;
