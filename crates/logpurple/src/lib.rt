@@ -1,0 +1,28 @@
+//! Sorted tables for log-structured stores: written, read from both ends, merged, compacted and
+//! packed. All that a store needs of this library, by one crate; what each call does and promises
+//! stands where it is defined.
+#![tactic(auto)]
+
+pub use lsm_formats::ItemName;
+pub use lsm_merge::Merger;
+pub use lsm_ranges::{KeyRange, Ranged, Run, optimize_runs, overlap_chain};
+pub use lsm_runs::share;
+pub use lsm_sorted::compaction::Rules;
+pub use lsm_sorted::compaction::stream::{
+    CompactionStream, DroppedKvCallback, NoCallback, NoFilter, StreamFilter, StreamFilterVerdict,
+};
+pub use lsm_sorted::{Below, MvccStream, NewestOf, each_below, newest_of};
+pub use lsm_tables::{
+    Fault, Finding, Iter, NewestOfRuns, NewestOfRunsAt, NewestOfSourcesAt, ParsedMeta, Query,
+    RunReader, RunScanner, Scanner, Table, Verified, VerifyError, compact_runs, compact_to_run,
+    get_many, get_runs, get_runs_by_age, get_runs_by_age_counted, get_runs_counted, pack_runs,
+    range_runs, range_runs_at, range_sources_at, read_run, write_and_open, write_run,
+};
+pub use lsm_writers::{
+    BloomConstructionPolicy, FilterKind, FinishedTable, IndexKind, Metadata, MultiWriter, Options,
+    TableId, TableIds, Timestamp, TreeId, Writer, is_writable, write_list,
+};
+pub use sst_blocks::{
+    Checksum, Direction, Error, InternalKey, InternalValue, IterItem, Opened, SectionName, SeqNo,
+    Slice, UserKey, UserValue, ValueType, answers_at,
+};
