@@ -1,10 +1,11 @@
 -- Data blocks that are read without a finding: what is so of them and of their handles.
 use Rattle.std.proofs.Common.{◌≡◌, ℕ, ◌+◌, ◌-◌, ◌^◌, ◌<◌, ◌≤◌, List, [], ◌∷◌, ◌++◌, length, map}
-use Rattle.std.proofs.Common.{refl, sym, ap, subst, ◌∙◌, append-nil, arith}
-use Rattle.std.specs.Prelude.{sum_by, Option, Some, None, Ok}
+use Rattle.std.proofs.Common.{refl, sym, ap, subst, ◌∙◌, append-nil, arith, inl, inr}
+use Rattle.std.specs.Prelude.{sum_by, Option, Some, None, Ok, Err, Result}
 use Rattle.std.specs.List.{AllZip}
 use Rattle.std.proofs.lemmas.List.Sums.{sum_by-cons}
 use Rattle.sst_sections.specs.declared.section.SectionName.{SectionName}
+use Rattle.sst_sections.specs.declared.section.SectionName.TheVariants as section
 use Rattle.sst_entries.specs.Entry.{Entry}
 use Rattle.sst_entries.specs.Strict.{last_of}
 use Rattle.sst_blocks.specs.declared.block_type.BlockType.TheVariants.{Data}
@@ -16,18 +17,21 @@ use Rattle.lsm_formats.specs.Chunks.{joined}
 use Rattle.lsm_formats.specs.Index.{last_entry}
 use Rattle.lsm_formats.specs.Parts.{joined_parts}
 use Rattle.lsm_readers.specs.declared.verify.Counts.{Counts}
+use Rattle.lsm_readers.specs.Findings.{IsFirstFinding, Reads, ReadsBlocks, in_block, in_index}
+use Rattle.lsm_readers.specs.Findings.{in_part}
 use Rattle.lsm_readers.specs.IndexKinds.{handles_told}
 use Rattle.lsm_readers.specs.Parts.{Parts}
 use Rattle.lsm_readers.specs.Stored.{AreLaid, IndexHas, NamesChunk, NamesPart}
-use Rattle.lsm_readers.specs.Verify.{Unread, block_found, block_spent, blocks_found}
-use Rattle.lsm_readers.specs.Verify.{chunk_found, entries_found, index_found}
-use Rattle.lsm_readers.specs.Verify.{last_named, named_found, part_found, parts_found}
+use Rattle.lsm_readers.specs.declared.verify.Finding.{Finding}
+use Rattle.lsm_readers.specs.Verify.{◌>>=◌, Unread, block_found, block_spent, blocks_found}
+use Rattle.lsm_readers.specs.Verify.{chunk_found, entries_found, filters_found, handles_found}
+use Rattle.lsm_readers.specs.Verify.{index_found, last_named, named_found, part_found}
+use Rattle.lsm_readers.specs.Verify.{parts_found, top_named, unread_of}
 use Rattle.lsm_readers.proofs.FileLengths.{last_some}
-use Rattle.lsm_readers.proofs.VerifyEntries.{Reads, entries_go, entries_low, entries_read}
-use Rattle.lsm_readers.proofs.VerifyEntries.{reads_none}
+use Rattle.lsm_readers.proofs.VerifyEntries.{entries_go, entries_low, entries_read, reads_none}
 use Rattle.lsm_readers.proofs.VerifySteps.{end_goes, end_ok, located_goes, located_ok, place_goes}
 use Rattle.lsm_readers.proofs.VerifySteps.{place_ok, some_goes, some_ok, spent_goes, spent_ok}
-use Rattle.lsm_readers.proofs.VerifySteps.{then_goes, then_ok, told_is}
+use Rattle.lsm_readers.proofs.VerifySteps.{then_err, then_goes, then_ok, told_is}
 
 -- ---- the end of a block
 
@@ -115,15 +119,10 @@ module _ (body : List ℕ) (parts : Parts) where
   position left = parts.facts.file_size - left.counts.size
 
   -- the data blocks of some handles were read
-  pub record ReadsBlocks (old : Unread) (hs : List Handle) (new : Unread) : Type 0 where
-    pub chunks : List (List Entry)
-    pub named : AllZip (NamesChunk body) hs chunks
-    pub laid : AreLaid (position old) hs
-    pub reads : Reads body parts old (joined chunks) new
-    pub blocks : old.counts.blocks ≡ length hs + new.counts.blocks
-    pub sizes : old.counts.size ≡ sum_by (λ (h : Handle). h.size) hs + new.counts.size
+  abbrev Blocks : Unread → List Handle → Unread → Type 0
+  Blocks = ReadsBlocks body parts
 
-  pub blocks_none : (left : Unread) → IsPart left → ReadsBlocks left [] left
+  pub blocks_none : (left : Unread) → IsPart left → Blocks left [] left
   blocks_none left fits = record {
     chunks = [];
     named = tt;
@@ -238,7 +237,7 @@ module _ (body : List ℕ) (parts : Parts) where
 
   -- one more in front of what was read
   blocks_more : (old : Unread) (h : Handle) (hs : List Handle) (mid new : Unread) → IsPart old
-      → ReadsBlock old h mid → ReadsBlocks mid hs new → ReadsBlocks old (h ∷ hs) new
+      → ReadsBlock old h mid → Blocks mid hs new → Blocks old (h ∷ hs) new
   blocks_more old h hs mid new fits one more = record {
     chunks = one.chunk ∷ more.chunks;
     named = (one.named, more.named);
@@ -257,14 +256,14 @@ module _ (body : List ℕ) (parts : Parts) where
 
   -- the first of what is read
   blocks_first : (old : Unread) (h : Handle) (hs : List Handle) (new : Unread) → IsPart old
-      → ReadsBlocks old (h ∷ hs) new → (mid : Unread) × (block_found body parts old h ≡ Ok mid)
-      × ReadsBlocks mid hs new
+      → Blocks old (h ∷ hs) new → (mid : Unread) × (block_found body parts old h ≡ Ok mid)
+      × Blocks mid hs new
   unfolding block_found
   blocks_first old h hs new fits r = go r.chunks r.named r.reads
     where
       go : (cs : List (List Entry)) → AllZip (NamesChunk body) (h ∷ hs) cs
           → Reads body parts old (joined cs) new → (mid : Unread)
-          × (block_found body parts old h ≡ Ok mid) × ReadsBlocks mid hs new
+          × (block_found body parts old h ≡ Ok mid) × Blocks mid hs new
       go [] named reads = absurd named
       go (c ∷ cs) named reads =
           let meta = parts.regions.metadata.offset in
@@ -305,11 +304,11 @@ module _ (body : List ℕ) (parts : Parts) where
 
   pub blocks_read : (old : Unread) (hs rest : List Handle) (mid new : Unread) → IsPart old
       → blocks_found body parts old hs ≡ Ok mid
-      → (IsPart mid → ReadsBlocks mid rest new) → ReadsBlocks old (hs ++ rest) new
+      → (IsPart mid → Blocks mid rest new) → Blocks old (hs ++ rest) new
   unfolding blocks_found
   blocks_read old [] rest mid new fits told more =
       let same : old ≡ mid = cc in
-      subst (λ (l : Unread). ReadsBlocks l rest new) (sym same)
+      subst (λ (l : Unread). Blocks l rest new) (sym same)
       (more (subst IsPart same fits))
   blocks_read old (h ∷ hs) rest mid new fits told more =
       let one = then_ok _ _ mid told in
@@ -318,8 +317,8 @@ module _ (body : List ℕ) (parts : Parts) where
       (blocks_read one.0 hs rest mid new (left_part old h one.0 fits is) one.2 more)
 
   pub blocks_go : (old : Unread) (hs rest : List Handle) (new : Unread) → IsPart old
-      → ReadsBlocks old (hs ++ rest) new → (mid : Unread)
-      × (blocks_found body parts old hs ≡ Ok mid) × IsPart mid × ReadsBlocks mid rest new
+      → Blocks old (hs ++ rest) new → (mid : Unread)
+      × (blocks_found body parts old hs ≡ Ok mid) × IsPart mid × Blocks mid rest new
   unfolding blocks_found
   blocks_go old [] rest new fits r = (old, refl, fits, r)
   blocks_go old (h ∷ hs) rest new fits r =
@@ -377,7 +376,7 @@ module _ (body : List ℕ) (parts : Parts) where
   pub record ReadsParts (old : Unread) (tops : List Handle) (new : Unread) : Type 0 where
     pub pieces : List (List Handle)
     pub named : AllZip (NamesPart body) tops pieces
-    pub reads : ReadsBlocks old (joined_parts pieces) new
+    pub reads : Blocks old (joined_parts pieces) new
 
   parts_ok : (old : Unread) (tops : List Handle) (new : Unread) → IsPart old
       → parts_found body parts old tops ≡ Ok new → ReadsParts old tops new
@@ -387,7 +386,7 @@ module _ (body : List ℕ) (parts : Parts) where
       record {
         pieces = [];
         named = tt;
-        reads = subst (ReadsBlocks old []) same (blocks_none old fits);
+        reads = subst (Blocks old []) same (blocks_none old fits);
       }
   parts_ok old (top ∷ tops) new fits told =
       let one = then_ok _ _ new told in
@@ -401,9 +400,9 @@ module _ (body : List ℕ) (parts : Parts) where
       }
 
   pub parts_go : (old : Unread) (tops : List Handle) (ps : List (List Handle)) (new : Unread)
-      → IsPart old → AllZip (NamesPart body) tops ps → ReadsBlocks old (joined_parts ps) new
+      → IsPart old → AllZip (NamesPart body) tops ps → Blocks old (joined_parts ps) new
       → (mid : Unread) × (parts_found body parts old tops ≡ Ok mid) × IsPart mid
-      × ReadsBlocks mid [] new
+      × Blocks mid [] new
   unfolding parts_found
   parts_go old [] [] new fits named reads = (old, refl, fits, reads)
   parts_go old [] (p ∷ ps) new fits named reads = absurd named
@@ -421,17 +420,17 @@ module _ (body : List ℕ) (parts : Parts) where
   pub record ReadsIndex (old new : Unread) : Type 0 where
     pub handles : List Handle
     pub index : IndexHas body parts.regions.index parts.regions.tli handles
-    pub reads : ReadsBlocks old handles new
+    pub reads : Blocks old handles new
 
   named_ok : (section : Option Place) (old : Unread) (hs : List Handle) (new : Unread) → IsPart old
       → handles_told body parts.regions.tli ≡ Ok hs
       → named_found body parts old section hs ≡ Ok new
       → (handles : List Handle) × IndexHas body section parts.regions.tli handles
-      × ReadsBlocks old handles new
+      × Blocks old handles new
   named_ok None old hs new fits told found = (
     hs,
     told,
-    subst (λ (xs : List Handle). ReadsBlocks old xs new) (append-nil hs)
+    subst (λ (xs : List Handle). Blocks old xs new) (append-nil hs)
         (blocks_read old hs [] new new fits found (blocks_none new)),
   )
   named_ok (Some place) old hs new fits told found =
@@ -452,22 +451,22 @@ module _ (body : List ℕ) (parts : Parts) where
 
   named_go : (section : Option Place) (old : Unread) (handles : List Handle) (new : Unread)
       → IsPart old → IndexHas body section parts.regions.tli handles
-      → ReadsBlocks old handles new → (hs : List Handle)
+      → Blocks old handles new → (hs : List Handle)
       × (handles_told body parts.regions.tli ≡ Ok hs) × (mid : Unread)
-      × (named_found body parts old section hs ≡ Ok mid) × IsPart mid × ReadsBlocks mid [] new
+      × (named_found body parts old section hs ≡ Ok mid) × IsPart mid × Blocks mid [] new
   named_go None old handles new fits has reads =
       let one = blocks_go old handles [] new fits
-      (subst (λ (xs : List Handle). ReadsBlocks old xs new) (sym (append-nil handles)) reads) in
+      (subst (λ (xs : List Handle). Blocks old xs new) (sym (append-nil handles)) reads) in
       (handles, has, one.0, one.1, one.2, one.3)
   named_go (Some place) old handles new fits has reads =
       let all = parts_go old has.tops has.parts new fits has.named
-      (subst (λ (xs : List Handle). ReadsBlocks old xs new) (sym has.whole) reads) in
+      (subst (λ (xs : List Handle). Blocks old xs new) (sym has.whole) reads) in
       (has.tops, has.told, all.0, all.1, all.2, all.3)
 
   pub index_go : (old : Unread) (handles : List Handle) (new : Unread) → IsPart old
       → IndexHas body parts.regions.index parts.regions.tli handles
-      → ReadsBlocks old handles new → (mid : Unread)
-      × (index_found body parts old ≡ Ok mid) × IsPart mid × ReadsBlocks mid [] new
+      → Blocks old handles new → (mid : Unread)
+      × (index_found body parts old ≡ Ok mid) × IsPart mid × Blocks mid [] new
   unfolding index_found
   index_go old handles new fits has reads =
       let is = named_go parts.regions.index old handles new fits has reads in (
@@ -477,3 +476,74 @@ module _ (body : List ℕ) (parts : Parts) where
         is.4,
         is.5,
       )
+
+  -- ---- what is found first
+
+  -- what is read further makes what was read from the start on longer
+  abbrev pub Extends : Unread → Type 0
+  Extends old = (rest : List Handle) (end : Unread) → Blocks old rest end
+      → (front : List Handle) × Blocks (unread_of parts.facts) front end
+
+  module _ (f : Finding) (filters : filters_found body parts ≡ Ok tt) where
+    blocks_err : (old : Unread) (hs : List Handle) → IsPart old → Extends old
+        → blocks_found body parts old hs ≡ Err f → IsFirstFinding body parts f
+    unfolding blocks_found
+    blocks_err old [] fits longer told = absurd cc
+    blocks_err old (h ∷ hs) fits longer told =
+        elim (then_err (block_found body parts old h) (λ l. blocks_found body parts l hs) f told) [
+          | inl here ↦ (let front = longer [] old (blocks_none old fits) in
+              in_block filters front.0 old h front.1 here)
+          | inr more ↦ (let is = block_ok old h more.0 fits more.1 in
+              blocks_err more.0 hs (left_part old h more.0 fits is)
+              (λ rest end r. longer (h ∷ rest) end (blocks_more old h rest more.0 end fits is r))
+              more.2)
+        ]
+
+    part_err : (old : Unread) (top : Handle) → IsPart old → Extends old
+        → part_found body parts old top ≡ Err f → IsFirstFinding body parts f
+    unfolding part_found
+    part_err old top fits longer told =
+        let front = longer [] old (blocks_none old fits) in
+        elim (then_err (handles_found body section.Index (place_of top))
+        (λ hs. top_named top hs >>= λ _. blocks_found body parts old hs) f told) [
+          | inl here ↦ in_part filters front.0 old top front.1
+              (ap (λ (r : Result (List Handle) Finding). r >>= top_named top) here)
+          | inr more ↦ elim (then_err (top_named top more.0)
+              (λ _. blocks_found body parts old more.0) f more.2) [
+                | inl here ↦ in_part filters front.0 old top front.1
+                    (ap (λ (r : Result (List Handle) Finding). r >>= top_named top) more.1 ∙ here)
+                | inr behind ↦ blocks_err old more.0 fits longer behind.2
+              ]
+        ]
+
+    parts_err : (old : Unread) (tops : List Handle) → IsPart old → Extends old
+        → parts_found body parts old tops ≡ Err f → IsFirstFinding body parts f
+    unfolding parts_found
+    parts_err old [] fits longer told = absurd cc
+    parts_err old (top ∷ tops) fits longer told =
+        let more_parts : Unread → Result Unread Finding = λ l. parts_found body parts l tops in
+        elim (then_err (part_found body parts old top) more_parts f told) [
+          | inl here ↦ part_err old top fits longer here
+          | inr more ↦ (let is = part_ok old top more.0 more.1 in
+              parts_err more.0 tops (left_fits old is.0 more.0 fits is.2)
+              (λ rest end r. longer (is.0 ++ rest) end
+              (blocks_read old is.0 rest more.0 end fits is.2 (λ fit. r))) more.2)
+        ]
+
+    named_err : (section : Option Place) (hs : List Handle) (old : Unread) → IsPart old
+        → Extends old → named_found body parts old section hs ≡ Err f
+        → IsFirstFinding body parts f
+    named_err None hs old fits longer told = blocks_err old hs fits longer told
+    named_err (Some place) hs old fits longer told = parts_err old hs fits longer told
+
+    pub index_err : IsPart (unread_of parts.facts)
+        → index_found body parts (unread_of parts.facts) ≡ Err f → IsFirstFinding body parts f
+    unfolding index_found
+    index_err fits told =
+        let old = unread_of parts.facts in
+        elim (then_err (handles_found body section.Tli parts.regions.tli)
+        (named_found body parts old parts.regions.index) f told) [
+          | inl here ↦ in_index filters here
+          | inr more ↦ named_err parts.regions.index more.0 old fits (λ rest end r. (rest, r))
+              more.2
+        ]

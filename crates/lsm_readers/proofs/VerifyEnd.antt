@@ -23,7 +23,7 @@ use Rattle.lsm_readers.specs.Verify.{counts_found, filter_found, filters_by}
 use Rattle.lsm_readers.specs.Verify.{located, passed, range_found, tops_found}
 use Rattle.lsm_readers.specs.Verify.{unnamed_by, unnamed_found}
 use Rattle.lsm_readers.proofs.FileLengths.{last_some}
-use Rattle.lsm_readers.proofs.VerifyEntries.{StartsAt}
+use Rattle.lsm_readers.specs.Findings.{StartsAt}
 use Rattle.lsm_readers.proofs.VerifySteps.{key_same_goes, key_same_ok, same_found_goes}
 use Rattle.lsm_readers.proofs.VerifySteps.{same_found_ok, then_goes, then_ok}
 

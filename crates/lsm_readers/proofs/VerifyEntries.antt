@@ -10,39 +10,14 @@ use Rattle.lsm_formats.specs.Facts.{count_after, highest_seqno, is_reclaimable, 
 use Rattle.lsm_formats.specs.Facts.{is_weak, lowest_seqno, one_if, starts_key}
 use Rattle.lsm_formats.specs.Filters.{keys_after}
 use Rattle.lsm_readers.specs.declared.verify.Counts.{Counts}
+use Rattle.lsm_readers.specs.Findings.{IsFirst, Reads, StartsAt}
 use Rattle.lsm_readers.specs.Parts.{Parts}
 use Rattle.lsm_readers.specs.Stored.{Admits}
 use Rattle.lsm_readers.specs.Verify.{Unread, admitted, asked_found, entries_found, entry_found}
 use Rattle.lsm_readers.specs.Verify.{entry_spent, entry_tested, key_found}
-use Rattle.lsm_readers.proofs.VerifySteps.{IsFirst, asked_goes, asked_ok, first_goes, first_ok}
+use Rattle.lsm_readers.proofs.VerifySteps.{asked_goes, asked_ok, first_goes, first_ok}
 use Rattle.lsm_readers.proofs.VerifySteps.{order_goes, order_ok, spent_goes, spent_ok, then_goes}
 use Rattle.lsm_readers.proofs.VerifySteps.{then_ok}
-
--- an entry that is the first of all has the least key that the meta block names
-abbrev pub StartsAt : Parts → Option Entry → List Entry → Type 0
-StartsAt parts last [] = Unit {0}
-StartsAt parts last (e ∷ es) = IsFirst parts last e
-
--- the counts before and after some entries
-pub record Spends (before : Option Entry) (old : Counts) (es : List Entry) (new : Counts)
-    : Type 0 where
-  pub items : old.items ≡ length es + new.items
-  pub tombstones : old.tombstones ≡ count_by is_tombstone es + new.tombstones
-  pub weak : old.weak ≡ count_by is_weak es + new.weak
-  pub reclaimable : old.reclaimable ≡ count_after is_reclaimable before es + new.reclaimable
-  pub lowest : new.lowest ≡ min old.lowest (lowest_seqno es)
-  pub highest : new.highest ≡ max old.highest (highest_seqno es)
-
--- some entries were read
-pub record Reads (body : List ℕ) (parts : Parts) (old : Unread) (es : List Entry) (new : Unread)
-    : Type 0 where
-  pub strict : IsStrictAfter old.last es
-  pub numbers : AllByRecursion (λ (e : Entry). e.seqno < 2 ^ 64 - 1) es
-  pub admits : AllByRecursion (Admits body parts.pinned.filter_tops parts.regions.filter)
-      (keys_after old.last es)
-  pub first : StartsAt parts old.last es
-  pub last : new.last ≡ last_of old.last es
-  pub spends : Spends old.last old.counts es new.counts
 
 -- ---- no entry, and one more in front
 

@@ -1,7 +1,7 @@
 -- A step of reading a whole table that finds nothing wrong, and what is so then.
 use Rattle.std.proofs.Common.{◌≡◌, ℕ, ◌+◌, ◌-◌, ◌^◌, ◌<◌, ◌≤◌, ◌==◌, Bool, true, false, ltb}
-use Rattle.std.proofs.Common.{List, [], ◌∷◌, length, refl, sym, ap, ◌∙◌, arith}
-use Rattle.std.specs.Prelude.{Option, Some, None, Result, Ok, Err}
+use Rattle.std.proofs.Common.{List, [], ◌∷◌, length, refl, sym, ap, ◌∙◌, inl, inr, arith}
+use Rattle.std.specs.Prelude.{◌⊎◌, Option, Some, None, Result, Ok, Err}
 use Rattle.std.proofs.lemmas.Bool.{eq-eqb, eqb-true, le-ltb, lt-ltb, ltb-false, ltb-true}
 use Rattle.sst_sections.specs.declared.section.SectionName.{SectionName}
 use Rattle.sst_entries.specs.declared.error.Error.{Error}
@@ -12,6 +12,7 @@ use Rattle.sst_entries.proofs.KeyLemmas.{same_is, same_itself}
 use Rattle.sst_blocks.specs.Handle.{Handle}
 use Rattle.lsm_formats.specs.declared.item_name.ItemName.{ItemName}
 use Rattle.lsm_readers.specs.declared.verify.Finding.{Finding}
+use Rattle.lsm_readers.specs.Findings.{IsFirst}
 use Rattle.lsm_readers.specs.Parts.{Parts}
 use Rattle.lsm_readers.specs.Verify.{◌>>=◌, asked_found, end_named, first_found, key_same}
 use Rattle.lsm_readers.specs.Verify.{located, order_found, place_found, same_found}
@@ -33,6 +34,12 @@ then_ok (Err e) f y h = absurd cc
 pub then_goes : {A B : Type 0} (r : Result A Finding) (f : A → Result B Finding) (x : A) (y : B)
     → r ≡ Ok x → f x ≡ Ok y → (r >>= f) ≡ Ok y
 then_goes {A = A} r f x y is rest = ap (λ (q : Result A Finding). q >>= f) is ∙ rest
+
+-- a step that found something, or the next one
+pub then_err : {A B : Type 0} (r : Result A Finding) (g : A → Result B Finding) (f : Finding)
+    → (r >>= g) ≡ Err f → (r ≡ Err f) ⊎ ((x : A) × (r ≡ Ok x) × (g x ≡ Err f))
+then_err (Ok x) g f h = inr (x, refl, h)
+then_err (Err e) g f h = inl (let same : e ≡ f = cc in ap (λ (y : Finding). Err y) same)
 
 -- ---- tests
 
@@ -113,11 +120,6 @@ module _ (at : ℕ) (last : Option Entry) (e : Entry) where
   pub order_goes : e.seqno < 2 ^ 64 - 1 → may_follow last e ≡ true → order_found at last e ≡ Ok tt
   order_goes low follows =
       rw (lt-ltb e.seqno (2 ^ 64 - 1) low) (tested_goes (may_follow last e) _ follows)
-
--- the first entry of all has the least key that the meta block names
-abbrev pub IsFirst : Parts → Option Entry → Entry → Type 0
-IsFirst parts None e = parts.facts.key_range.min ≡ e.user_key
-IsFirst parts (Some last) e = Unit {0}
 
 pub first_ok : (parts : Parts) (last : Option Entry) (e : Entry) (u : Unit {0})
     → first_found parts last e ≡ Ok u → IsFirst parts last e

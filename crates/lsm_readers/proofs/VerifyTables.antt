@@ -1,7 +1,7 @@
 -- An opened table that is read without a finding stores a list, and one that stores a list is read
 -- without a finding.
 use Rattle.std.proofs.Common.{◌≡◌, ℕ, ◌-◌, ◌^◌, ◌≤◌, List, [], ◌∷◌, length, refl, sym, ap}
-use Rattle.std.proofs.Common.{subst, ◌∙◌, arith}
+use Rattle.std.proofs.Common.{subst, ◌∙◌, inl, inr, arith}
 use Rattle.std.specs.Prelude.{Option, Some, None, Result, Ok, Err, IfErr, IfOk}
 use Rattle.std.specs.List.{AllByRecursion, AllZip}
 use Rattle.sst_sections.specs.Sections.{body_of, trailer_fault}
@@ -15,23 +15,25 @@ use Rattle.lsm_formats.specs.Facts.{count_after, highest_seqno, lowest_seqno}
 use Rattle.lsm_formats.specs.Filters.{keys_of}
 use Rattle.lsm_ranges.specs.KeyRange.{Interval}
 use Rattle.lsm_readers.specs.declared.regions.ParsedRegions.{ParsedRegions}
+use Rattle.lsm_readers.specs.declared.verify.Finding.{Finding}
 use Rattle.lsm_readers.specs.declared.verify.Verified.{Verified}
 use Rattle.lsm_readers.specs.declared.verify.VerifyError.{VerifyError}
 use Rattle.lsm_readers.specs.declared.verify.VerifyError.TheVariants.{Found, OutOfMemory}
+use Rattle.lsm_readers.specs.Findings.{IsFirstFinding, Reads, ReadsBlocks, StartsAt, at_end}
+use Rattle.lsm_readers.specs.Findings.{in_filter}
 use Rattle.lsm_readers.specs.Meta.{Facts, meta_told}
 use Rattle.lsm_readers.specs.OfList.{ends_of}
 use Rattle.lsm_readers.specs.Parts.{Parts, places_told, tops_told}
 use Rattle.lsm_readers.specs.Stored.{Admits, AreLaid, BearsOut, FilterHas, FiltersLoad}
 use Rattle.lsm_readers.specs.Stored.{IndexHas, NamesChunk, StoresList}
 use Rattle.lsm_readers.specs.Table.{IsOpen, OpenTable}
-use Rattle.lsm_readers.specs.Verify.{Finds, Unread, all_found, end_found, range_found, table_found}
-use Rattle.lsm_readers.specs.Verify.{unread_of, verified_of}
+use Rattle.lsm_readers.specs.Verify.{◌>>=◌, Finds, Unread, all_found, filters_found, index_found}
+use Rattle.lsm_readers.specs.Verify.{end_found, range_found, table_found, unread_of, verified_of}
 use Rattle.lsm_readers.proofs.Recovered.{PinnedSteps, Steps, ok_same, pinned_steps, recovered_steps}
-use Rattle.lsm_readers.proofs.VerifyBlocks.{IsPart, ReadsBlocks, index_go, index_ok}
+use Rattle.lsm_readers.proofs.VerifyBlocks.{IsPart, index_err, index_go, index_ok}
 use Rattle.lsm_readers.proofs.VerifyEnd.{NothingLeft, counts_go, counts_ok, filters_go, filters_ok}
 use Rattle.lsm_readers.proofs.VerifyEnd.{lowest_within, range_go, range_ok}
-use Rattle.lsm_readers.proofs.VerifyEntries.{Reads, StartsAt}
-use Rattle.lsm_readers.proofs.VerifySteps.{then_goes, then_ok, told_is}
+use Rattle.lsm_readers.proofs.VerifySteps.{then_err, then_goes, then_ok, told_is}
 
 no_fault : {A : Type 0} (fault : Option Error) (told : Result A Error) (x : A)
     → unless fault told ≡ Ok x → fault ≡ None
@@ -40,6 +42,28 @@ no_fault (Some e) told x is = absurd cc
 
 unread_fits : (body : List ℕ) (parts : Parts) → IsPart body parts (unread_of parts.facts)
 unread_fits body parts = record { lowest = omega arith; size = omega arith }
+
+-- what is found first
+first : (body : List ℕ) (parts : Parts) (f : Finding) → table_found body parts ≡ Err f
+    → IsFirstFinding body parts f
+unfolding table_found all_found
+first body parts f told =
+    let start = unread_of parts.facts in
+    let fits = unread_fits body parts in
+    elim (then_err (filters_found body parts)
+    (λ _. all_found body parts >>= λ _. Ok (verified_of parts.facts)) f told) [
+      | inl here ↦ in_filter here
+      | inr more ↦ elim (then_err (all_found body parts) (λ _. Ok (verified_of parts.facts)) f
+          more.2) [
+            | inl all ↦ elim (then_err (index_found body parts start) (end_found body parts) f
+                all) [
+                  | inl index ↦ index_err body parts f more.1 fits index
+                  | inr end ↦ (let read = index_ok body parts start end.0 fits end.1 in
+                      at_end more.1 read.handles end.0 read.index read.reads end.2)
+                ]
+            | inr well ↦ absurd (let never : Ok (verified_of parts.facts) ≡ Err f = well.2 in cc)
+          ]
+    ]
 
 -- what the parts of an open table are told by
 module _ (t : OpenTable) (open_table : IsOpen t) where
@@ -252,3 +276,9 @@ all_complete t open_table (Err (Found f)) told es s =
     let is = complete t open_table es s in
     let no : Ok (verified_of t.parts.facts) ≡ Err f = sym is ∙ told f refl in
     absurd cc
+
+pub all_first : (t : OpenTable) (r : Result Verified VerifyError)
+    → Finds (λ (v : Verified). v) r (table_found (body_of t.bytes) t.parts)
+    → IfErr r (λ e. (f : Finding) → e ≡ Found f → IsFirstFinding (body_of t.bytes) t.parts f)
+all_first t (Ok v) told = tt
+all_first t (Err e) told = λ f is. first (body_of t.bytes) t.parts f (told f is)

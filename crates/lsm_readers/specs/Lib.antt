@@ -15,3 +15,4 @@ pub mod Scan
 pub mod Ranges
 pub mod Words
 pub mod Verify
+pub mod Findings

@@ -1,9 +1,11 @@
 //! Whether a table's bytes store a list.
 ghost use Rattle.std.specs.Prelude.{◌≡◌, List, length, IfErr, IfOk};
+ghost use Rattle.lsm_readers.specs.Findings.{IsFirstFinding};
 ghost use Rattle.lsm_readers.specs.Verify.{Finds, table_found};
+ghost use Rattle.lsm_readers.specs.declared.verify.Finding.{Finding};
 ghost use Rattle.lsm_readers.specs.Words.{Entry, StoresList, body_of};
 ghost use Rattle.lsm_readers.specs.declared.verify.Verified.{Verified as Verification};
-ghost use Rattle.lsm_readers.specs.declared.verify.VerifyError.TheVariants.{OutOfMemory};
+ghost use Rattle.lsm_readers.specs.declared.verify.VerifyError.TheVariants.{Found, OutOfMemory};
 
 use crate::verify::verify_table;
 use crate::{Inner, Table, Verified, VerifyError};
@@ -20,6 +22,9 @@ impl<A: Allocator + Clone> Table<A> {
         // What is wrong first is found, memory aside.
         ensures told { Finds (λ (v : Verification). v) result
             (table_found (body_of self.now.bytes) self.now.parts) }
+        // What is found is wrong there, and all that is read before it is sound.
+        ensures first { IfErr result (λ e. (f : Finding) → e ≡ Found f →
+            IsFirstFinding (body_of self.now.bytes) self.now.parts f) }
         // A table that is verified stores a list, which has as many entries and data blocks.
         ensures sound { IfOk result (λ v. (es : List Entry) ×
             (t : StoresList self.now.bytes es) × (v.item_count ≡ length es) ×

@@ -132,6 +132,8 @@ fn read_block<A: Allocator + Clone>(
     let at = handle.offset().0;
     let begins = inner.metadata.file_size.saturating_sub(left.counts.size);
     test_place(begins, at)?;
+    // The blocks behind it will be asked next: their checksums cost little more with this one's.
+    source.compare_ahead(at, 4);
     let meta = inner.regions.metadata.offset().0;
     let counts = count_block(meta, handle.size(), left.counts)?;
     let place = BlockHandle::new(handle.offset(), handle.size());

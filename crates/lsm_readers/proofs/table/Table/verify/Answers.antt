@@ -3,7 +3,7 @@ use Rattle.sst_sections.specs.Sections.{body_of}
 use Rattle.lsm_readers.specs.declared.verify.Verified.{Verified}
 use Rattle.lsm_readers.specs.Table.{IsOpen, OpenTable, table_of}
 use Rattle.lsm_readers.specs.Verify.{Finds, table_found}
-use Rattle.lsm_readers.proofs.VerifyTables.{all_complete, all_sound}
+use Rattle.lsm_readers.proofs.VerifyTables.{all_complete, all_first, all_sound}
 use Rattle.lsm_readers.proofs.table.Table.verify.Goals as goal
 
 pub returns-clause-told : goal.returns-clause-told
@@ -20,3 +20,6 @@ pub returns-clause-complete : goal.returns-clause-complete
 returns-clause-complete g c es is =
     let held = subst IsOpen c.self.view_is c.self.invariant in
     all_complete c.args.self.now held c.verify_table.result (returns-clause-told g c) es is
+
+pub returns-clause-first : goal.returns-clause-first
+returns-clause-first g c = all_first c.args.self.now c.verify_table.result (returns-clause-told g c)

@@ -20,7 +20,8 @@ returns-in_err-read_block g c =
     let parts = parts_of c.args.inner.now in
     let body = body_of c.args.source.now in
     let e = c.in_err-read_block.field-0.0 in
-    passes _ c.from_residual-in_err-read_block.result _ e c.from_residual-in_err-read_block.ensures.1
+    let passed = c.from_residual-in_err-read_block in
+    passes _ passed.result _ e passed.ensures.1
     (subst (λ (r : Result Unread Finding). Misses e r) c.loop-index.invariant
     (blocks_miss body parts c.loop-index.left c.args.handles.now c.loop-index.index
     c.in_ok-handle.handle e c.in_ok-handle.ensures.ok c.in_err-read_block.ensures))

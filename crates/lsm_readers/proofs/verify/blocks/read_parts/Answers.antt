@@ -20,7 +20,8 @@ returns-in_err-read_part g c =
     let parts = parts_of c.args.inner.now in
     let body = body_of c.args.source.now in
     let e = c.in_err-read_part.field-0.0 in
-    passes _ c.from_residual-in_err-read_part.result _ e c.from_residual-in_err-read_part.ensures.1
+    let passed = c.from_residual-in_err-read_part in
+    passes _ passed.result _ e passed.ensures.1
     (subst (λ (r : Result Unread Finding). Misses e r) c.loop-index.invariant
     (parts_miss body parts c.loop-index.left c.args.tops.now c.loop-index.index
     c.in_ok-top.top e c.in_ok-top.ensures.ok c.in_err-read_part.ensures))

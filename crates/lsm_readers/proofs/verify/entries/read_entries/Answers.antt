@@ -20,7 +20,8 @@ returns-in_err-read_entry g c =
     let parts = parts_of c.args.inner.now in
     let body = body_of c.args.source.now in
     let e = c.in_err-read_entry.field-0.0 in
-    passes _ c.from_residual-in_err-read_entry.result _ e c.from_residual-in_err-read_entry.ensures.1
+    let passed = c.from_residual-in_err-read_entry in
+    passes _ passed.result _ e passed.ensures.1
     (subst (λ (r : Result Unread Finding). Misses e r) c.loop-index.invariant
     (entries_miss body parts c.args.at c.loop-index.left c.args.block.now c.loop-index.index
     c.in_ok-entry.entry e c.in_ok-entry.ensures.ok c.in_err-read_entry.ensures))

@@ -1,0 +1,80 @@
+-- What is so of a table that was read up to some place, and what is found there first.
+use Rattle.std.specs.Prelude.{◌≡◌, ℕ, ◌+◌, ◌-◌, ◌^◌, ◌<◌, List, [], ◌∷◌, length, count_by, max, min}
+use Rattle.std.specs.Prelude.{sum_by, Option, Some, None, Ok, Err}
+use Rattle.std.specs.List.{AllByRecursion, AllZip}
+use Rattle.sst_sections.specs.declared.section.SectionName.TheVariants as section
+use Rattle.sst_entries.specs.Entry.{Entry}
+use Rattle.sst_entries.specs.Strict.{IsStrictAfter, last_of}
+use Rattle.sst_blocks.specs.Handle.{Handle}
+use Rattle.sst_blocks.specs.Place.{place_of}
+use Rattle.lsm_formats.specs.Chunks.{joined}
+use Rattle.lsm_formats.specs.Facts.{count_after, highest_seqno, is_reclaimable, is_tombstone}
+use Rattle.lsm_formats.specs.Facts.{is_weak, lowest_seqno}
+use Rattle.lsm_formats.specs.Filters.{keys_after}
+use Rattle.lsm_readers.specs.declared.verify.Counts.{Counts}
+use Rattle.lsm_readers.specs.declared.verify.Finding.{Finding}
+use Rattle.lsm_readers.specs.Parts.{Parts}
+use Rattle.lsm_readers.specs.Stored.{Admits, AreLaid, IndexHas, NamesChunk}
+use Rattle.lsm_readers.specs.Verify.{◌>>=◌, Unread, block_found, end_found, filters_found}
+use Rattle.lsm_readers.specs.Verify.{handles_found, top_named, unread_of}
+
+-- an entry that is the first of all has the least key that the meta block names
+abbrev pub IsFirst : Parts → Option Entry → Entry → Type 0
+IsFirst parts None e = parts.facts.key_range.min ≡ e.user_key
+IsFirst parts (Some last) e = Unit {0}
+
+-- an entry that is the first of all has the least key that the meta block names
+abbrev pub StartsAt : Parts → Option Entry → List Entry → Type 0
+StartsAt parts last [] = Unit {0}
+StartsAt parts last (e ∷ es) = IsFirst parts last e
+
+-- the counts before and after some entries
+pub record Spends (before : Option Entry) (old : Counts) (es : List Entry) (new : Counts)
+    : Type 0 where
+  pub items : old.items ≡ length es + new.items
+  pub tombstones : old.tombstones ≡ count_by is_tombstone es + new.tombstones
+  pub weak : old.weak ≡ count_by is_weak es + new.weak
+  pub reclaimable : old.reclaimable ≡ count_after is_reclaimable before es + new.reclaimable
+  pub lowest : new.lowest ≡ min old.lowest (lowest_seqno es)
+  pub highest : new.highest ≡ max old.highest (highest_seqno es)
+
+-- some entries were read
+pub record Reads (body : List ℕ) (parts : Parts) (old : Unread) (es : List Entry) (new : Unread)
+    : Type 0 where
+  pub strict : IsStrictAfter old.last es
+  pub numbers : AllByRecursion (λ (e : Entry). e.seqno < 2 ^ 64 - 1) es
+  pub admits : AllByRecursion (Admits body parts.pinned.filter_tops parts.regions.filter)
+      (keys_after old.last es)
+  pub first : StartsAt parts old.last es
+  pub last : new.last ≡ last_of old.last es
+  pub spends : Spends old.last old.counts es new.counts
+
+-- the data blocks of some handles were read: they lie behind one another, and each handle names the
+-- entries of its block
+pub record ReadsBlocks (body : List ℕ) (parts : Parts) (old : Unread) (hs : List Handle)
+    (new : Unread) : Type 0 where
+  pub chunks : List (List Entry)
+  pub named : AllZip (NamesChunk body) hs chunks
+  pub laid : AreLaid (parts.facts.file_size - old.counts.size) hs
+  pub reads : Reads body parts old (joined chunks) new
+  pub blocks : old.counts.blocks ≡ length hs + new.counts.blocks
+  pub sizes : old.counts.size ≡ sum_by (λ (h : Handle). h.size) hs + new.counts.size
+
+-- what is found first, and that all which is read before it is sound: in a block of the filter; in
+-- the block of the index, or its top level; in a partition of the index, or in a data block, behind
+-- the data blocks of some handles that were read; or at the end, once those of the whole index were
+pub data IsFirstFinding (body : List ℕ) (parts : Parts) (f : Finding) : Type 0 where
+  in_filter : filters_found body parts ≡ Err f → IsFirstFinding body parts f
+  in_index : filters_found body parts ≡ Ok tt
+      → handles_found body section.Tli parts.regions.tli ≡ Err f → IsFirstFinding body parts f
+  in_part : filters_found body parts ≡ Ok tt → (front : List Handle) (left : Unread) (top : Handle)
+      → ReadsBlocks body parts (unread_of parts.facts) front left
+      → (handles_found body section.Index (place_of top) >>= top_named top) ≡ Err f
+      → IsFirstFinding body parts f
+  in_block : filters_found body parts ≡ Ok tt → (front : List Handle) (left : Unread) (h : Handle)
+      → ReadsBlocks body parts (unread_of parts.facts) front left
+      → block_found body parts left h ≡ Err f → IsFirstFinding body parts f
+  at_end : filters_found body parts ≡ Ok tt → (handles : List Handle) (left : Unread)
+      → IndexHas body parts.regions.index parts.regions.tli handles
+      → ReadsBlocks body parts (unread_of parts.facts) handles left
+      → end_found body parts left ≡ Err f → IsFirstFinding body parts f
