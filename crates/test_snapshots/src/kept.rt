@@ -1,0 +1,73 @@
+//! A table's bytes, its meta block, and reads by a key alone.
+use lsm_formats::ItemName;
+use lsm_tables::{Table, Verified};
+use sst_blocks::{Error, SeqNo, ValueType};
+use std::alloc::{Allocator, Global};
+use test_tables::rows::{Row, fill, new_writer};
+use test_tables::tables::open;
+
+const ROWS: &[Row<'static>] = &[
+    (b"a", 4, ValueType::Value, b"one"),
+    (b"a", 2, ValueType::Value, b"two"),
+    (b"b", 3, ValueType::Value, b"three"),
+];
+
+fn table<A: Allocator + Copy>(alloc: A) -> Result<Table<A>, Error> {
+    open(alloc, fill(new_writer(alloc)?, alloc, ROWS)?.bytes, 0)
+}
+
+// The number of the entry of a key below a bound.
+fn found<A: Allocator + Clone>(
+    table: &Table<A>,
+    key: &[u8],
+    seqno: SeqNo,
+) -> Result<Option<SeqNo>, Error> {
+    match table.get_by_key(key, seqno)? {
+        Some(item) => Ok(Some(item.key.seqno)),
+        None => Ok(None),
+    }
+}
+
+// What is found of `a` below 4, and of `c`.
+fn both_found(alloc: Global) -> Result<(Option<SeqNo>, Option<SeqNo>), Error> {
+    let table = table(alloc)?;
+    let first = found(&table, b"a", 4);
+    let second = found(&table, b"c", 4);
+    drop(table);
+    Ok((first?, second?))
+}
+
+#[test]
+fn a_key_is_read_without_its_hash(rt: HostRuntime) {
+    assert!(rt; both_found(rt.alloc()) == Ok((Some(2), None)));
+}
+
+// Whether a table of the bytes of another answers the same, and how many keys it says it has.
+fn count_again<A: Allocator + Copy>(alloc: A, table: &Table<A>) -> Result<u8, Error> {
+    let again = open(alloc, table.bytes()?, 0);
+    let counted = again?.meta_item(ItemName::KeyCount)?;
+    match counted.as_slice().first() {
+        Some(count) => Ok(*count),
+        None => Ok(0),
+    }
+}
+
+// How many keys a table says that it has, how long its file is, and what it is verified to have.
+fn told(alloc: Global) -> Result<(u8, bool, Option<Verified>), Error> {
+    let table = table(alloc)?;
+    let count = count_again(alloc, &table);
+    let marks = 8 * (table.file_len() / 2048 + 1);
+    let is_marked = table.marks_size() == marks;
+    let verified = table.verify().ok();
+    drop(table);
+    Ok((count?, is_marked, verified))
+}
+
+#[test]
+fn a_table_is_kept_and_verified_by_its_bytes(rt: HostRuntime) {
+    let verified = Verified {
+        data_block_count: 1,
+        item_count: 3,
+    };
+    assert!(rt; told(rt.alloc()) == Ok((2, true, Some(verified))));
+}
