@@ -1,0 +1,40 @@
+//! What a caller proves of calls of its own, where it names the one crate `logpurple`: a read of a
+//! table that stores a list, and a loop over what several runs have below a number. Neither needs a
+//! proof file.
+#![tactic(auto)]
+
+ghost use Rattle.std.specs.Prelude.{◌≡◌, IfOk, List};
+ghost use Rattle.logpurple.specs.Words.{Entry, StoresList, point};
+
+use logpurple::{Error, InternalValue, Run, SeqNo, Table, range_runs_at};
+use std::alloc::Allocator;
+use std::ops::Bound;
+use std::sync::Arc;
+
+/// The first entry of a key numbered below `seqno`, of a table that was opened without a global
+/// number. Whoever wrote a list, or has verified the table, has the premise.
+pub fn find<A: Allocator + Clone>(
+    table: &Table<A>,
+    key: &[u8],
+    seqno: SeqNo,
+) -> Result<Option<InternalValue<A>>, Error>
+    ensures { (es : List Entry) → StoresList table.now.bytes es → table.now.global_seqno ≡ 0 →
+        IfOk result (λ found. found ≡ point es key.now seqno) }
+{
+    table.get_by_key(key, seqno)
+}
+
+/// How many keys several runs have, by versions numbered below `seqno`.
+pub fn count_below<A: Allocator + Clone>(
+    alloc: A,
+    runs: &[Arc<Run<Table<A>, A>, A>],
+    seqno: SeqNo,
+) -> Result<u64, Error> {
+    let all = (Bound::Unbounded, Bound::Unbounded);
+    let mut count = 0u64;
+    for item in range_runs_at(alloc, runs, all, seqno)? {
+        item?;
+        count = count.saturating_add(1);
+    }
+    Ok(count)
+}
