@@ -1,9 +1,10 @@
 //! A table's bytes, its meta block, and reads by a key alone.
 use lsm_formats::ItemName;
-use lsm_tables::{Table, Verified};
-use sst_blocks::{Error, SeqNo, ValueType};
+use lsm_tables::{Fault, Finding, Table, Verified, VerifyError};
+use sst_blocks::{Error, SectionName, SeqNo, ValueType};
 use std::alloc::{Allocator, Global};
 use test_tables::rows::{Row, fill, new_writer};
+use test_tables::runs::{Tables, damaged_run_of};
 use test_tables::tables::open;
 
 const ROWS: &[Row<'static>] = &[
@@ -70,4 +71,30 @@ fn a_table_is_kept_and_verified_by_its_bytes(rt: HostRuntime) {
         item_count: 3,
     };
     assert!(rt; told(rt.alloc()) == Ok((2, true, Some(verified))));
+}
+
+// What is wrong first in the first table of a run.
+fn first_wrong<A: Allocator + Clone>(run: &Tables<A>) -> Option<VerifyError> {
+    match run.as_slice().first() {
+        Some(table) => table.verify().err(),
+        None => None,
+    }
+}
+
+// What is wrong first in a table whose block of data is damaged.
+fn wrong(alloc: Global) -> Result<Option<VerifyError>, Error> {
+    let run = damaged_run_of(alloc, &[ROWS], 0)?;
+    let wrong = first_wrong(&run);
+    drop(run);
+    Ok(wrong)
+}
+
+#[test]
+fn a_damaged_block_is_found_where_it_is(rt: HostRuntime) {
+    let found = Finding {
+        section: SectionName::Data,
+        offset: 0,
+        fault: Fault::Unloaded(Error::ChecksumMismatch),
+    };
+    assert!(rt; wrong(rt.alloc()) == Ok(Some(VerifyError::Found(found))));
 }
