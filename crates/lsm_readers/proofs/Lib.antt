@@ -48,3 +48,4 @@ pub mod VerifyBlocks
 pub mod VerifyLoops
 pub mod VerifyEnd
 pub mod VerifyTables
+pub mod VerifyEarly
