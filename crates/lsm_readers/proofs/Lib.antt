@@ -35,6 +35,7 @@ pub mod StoredPoints
 pub mod StoredScans
 pub mod StoredRanges
 pub mod StoredParts
+pub mod StoredOne
 pub mod FileStored
 pub mod TableRanges
 pub mod ManyReads
@@ -48,3 +49,4 @@ pub mod VerifyBlocks
 pub mod VerifyLoops
 pub mod VerifyEnd
 pub mod VerifyTables
+pub mod VerifyEarly

@@ -1,7 +1,7 @@
 -- Steps that are taken one after another over a list, by their places: what is found in the whole
 -- of it is found in what is left of it.
 use Rattle.std.proofs.Common.{◌≡◌, ℕ, zero, suc, ◌+◌, ◌<◌, ◌≤◌, List, [], ◌∷◌, length, map, drop}
-use Rattle.std.proofs.Common.{refl, sym, ap, ◌∙◌, arith}
+use Rattle.std.proofs.Common.{Bool, true, false, cond, refl, sym, ap, ◌∙◌, arith}
 use Rattle.std.specs.Prelude.{Option, None, Some, Result, Ok, Err}
 use Rattle.std.specs.Option.{option_map}
 use Rattle.std.specs.List.{slice_get}
@@ -12,7 +12,7 @@ use Rattle.std.proofs.lemmas.Result.{err_from_is_err_and}
 use Rattle.sst_sections.specs.declared.section.SectionName.{SectionName}
 use Rattle.sst_sections.specs.declared.section.SectionName.TheVariants.{Index as IndexSection}
 use Rattle.sst_entries.specs.declared.error.Error.{Error}
-use Rattle.sst_entries.specs.Error.{Fails}
+use Rattle.sst_entries.specs.Error.{Fails, is_memory}
 use Rattle.lsm_readers.specs.declared.verify.Finding.{Finding}
 use Rattle.lsm_readers.specs.declared.verify.VerifyError.{VerifyError}
 use Rattle.lsm_readers.specs.declared.verify.VerifyError.TheVariants.{Found, OutOfMemory}
@@ -22,11 +22,11 @@ use Rattle.sst_blocks.specs.Handle.{Handle}
 use Rattle.sst_blocks.specs.Handles.{end_of}
 use Rattle.sst_blocks.specs.Place.{Place, place_of}
 use Rattle.lsm_readers.specs.Parts.{Parts}
-use Rattle.lsm_readers.specs.Verify.{◌>>=◌, Finds, IsFaultAt, Unread, Misses, block_found}
+use Rattle.lsm_readers.specs.Verify.{◌>>=◌, Finds, Unread, Misses, block_found, fault_at}
 use Rattle.lsm_readers.specs.Verify.{blocks_found, end_named, entries_found, entry_found}
 use Rattle.lsm_readers.specs.Verify.{filter_found, finding, last_named, located, part_found}
 use Rattle.lsm_readers.specs.Verify.{parts_found, top_named, tops_found}
-use Rattle.lsm_readers.specs.declared.verify.Fault.TheVariants.{Hollow}
+use Rattle.lsm_readers.specs.declared.verify.Fault.TheVariants.{Hollow, Unloaded}
 
 -- the list from a place on
 pub drop_at : {X : Type 0} (xs : List X) (i : ℕ) (x : X) → slice_get xs i ≡ Some x
@@ -67,14 +67,22 @@ pub passes : {X Y : Type 0} (view : X → Y) (r : Result X VerifyError) (told : 
     (e : VerifyError) → IsErrAnd r (λ y. y ≡ e) → Misses e told → Finds view r told
 passes view r told e is misses = let p = err_from_is_err_and r is in rw (p.1, p.2) misses
 
+abbrev fault_by : SectionName → ℕ → Error → Bool → VerifyError
+fault_by section offset error memory =
+    cond memory OutOfMemory (Found (finding section offset (Unloaded error)))
+
 -- the refusal of a load at a place
 pub misses_at : {X : Type 0} (section : SectionName) (offset : ℕ) (error : Error) (e : VerifyError)
-    (told : Result X Error) → IsFaultAt section offset error e → Fails error told
+    (told : Result X Error) → e ≡ fault_at section offset error → Fails error told
     → Misses e (located section offset told)
-misses_at {X} section offset error e told is fails = λ f found.
-    let at = is f found in
-    ap (λ (r : Result X Error). located section offset r) (fails at.0)
-    ∙ ap (λ (g : Finding). Err g) (sym at.1)
+misses_at {X} section offset error e told is fails = go (is_memory error) refl
+  where
+    go : (b : Bool) → is_memory error ≡ b → Misses e (located section offset told)
+    go true memory = wanted e (located section offset told)
+        (is ∙ ap (fault_by section offset error) memory)
+    go false memory = finds_it e (finding section offset (Unloaded error))
+        (located section offset told) (is ∙ ap (fault_by section offset error) memory)
+        (ap (λ (r : Result X Error). located section offset r) (fails memory))
 
 -- ---- one step after another
 

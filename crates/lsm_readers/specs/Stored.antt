@@ -94,7 +94,10 @@ pub record FilterHas (body : List ℕ) (filter_tli place : Option Place) (keys :
 
 -- ---- the table
 
--- what a table says of itself is so of a list of entries in the blocks of some handles
+-- what a table says of itself is so of a list of entries in the blocks of some handles. Nothing is
+-- compared with its version, its id, its moment and its count of index blocks, nor with what is not
+-- among the facts: how many filter blocks, keys and bytes of keys and values there are, the level,
+-- and how blocks are built
 pub record BearsOut (said : Facts) (es : List Entry) (hs : List Handle) : Type 0 where
   pub data_block_count : said.data_block_count ≡ length hs
   pub key_range : said.key_range ≡ ends_of es

@@ -1,7 +1,8 @@
 -- Reading a whole table once: what each step of it finds wrong first, or what is then still to be
 -- read of what the meta block says.
-use Rattle.std.specs.Prelude.{◌≡◌, ℕ, ◌-◌, ◌^◌, ◌==◌, nat_lt, Bool, false, List, [], ◌∷◌}
+use Rattle.std.specs.Prelude.{◌≡◌, ℕ, ◌-◌, ◌^◌, ◌==◌, nat_lt, Bool, List, [], ◌∷◌}
 use Rattle.std.specs.Prelude.{map, max, min, Option, Some, None, Result, Ok, Err, if◌then◌else◌}
+use Rattle.std.specs.Result.{IsErrAnd}
 use Rattle.sst_sections.specs.declared.section.SectionName.{SectionName}
 use Rattle.sst_sections.specs.declared.section.SectionName.TheVariants as section
 use Rattle.sst_entries.specs.declared.error.Error.{Error}
@@ -11,8 +12,9 @@ use Rattle.sst_entries.specs.Key.{same_key}
 use Rattle.sst_entries.specs.Strict.{last_of}
 pub use Rattle.sst_entries.specs.Strict.{may_follow}
 use Rattle.sst_filters.specs.KeyHash.{hash_of}
-use Rattle.sst_blocks.specs.declared.block_type.BlockType.TheVariants.{Data, Filter}
-use Rattle.sst_blocks.specs.Block.{entries_of, load_at_told, load_told}
+use Rattle.sst_blocks.specs.declared.block_type.BlockType.{BlockType}
+use Rattle.sst_blocks.specs.declared.block_type.BlockType.TheVariants.{Data, Filter, Index}
+use Rattle.sst_blocks.specs.Block.{entries_of, load_at_told, load_told, place_fault}
 use Rattle.sst_blocks.specs.Handle.{Handle}
 use Rattle.sst_blocks.specs.Handles.{end_of}
 use Rattle.sst_blocks.specs.Place.{Place, place_of}
@@ -25,7 +27,7 @@ use Rattle.lsm_readers.specs.declared.verify.Fault.TheVariants as fault
 use Rattle.lsm_readers.specs.declared.verify.Finding.{Finding}
 use Rattle.lsm_readers.specs.declared.verify.Verified.{Verified}
 use Rattle.lsm_readers.specs.declared.verify.VerifyError.{VerifyError}
-use Rattle.lsm_readers.specs.declared.verify.VerifyError.TheVariants.{Found}
+use Rattle.lsm_readers.specs.declared.verify.VerifyError.TheVariants.{Found, OutOfMemory}
 use Rattle.lsm_readers.specs.Answer.{filter_admits}
 use Rattle.lsm_readers.specs.IndexKinds.{handles_told}
 use Rattle.lsm_readers.specs.Meta.{Facts}
@@ -51,10 +53,11 @@ abbrev pub Finds : {X Y : Type 0} → (X → Y) → Result X VerifyError → Res
 Finds view (Ok x) told = told ≡ Ok (view x)
 Finds view (Err e) told = Misses e told
 
--- the refusal of a load at a place is want of memory, or is found there
-abbrev pub IsFaultAt : SectionName → ℕ → Error → VerifyError → Type 0
-IsFaultAt section offset error e = (f : Finding) → e ≡ Found f →
-    (is_memory error ≡ false) × (f ≡ finding section offset (fault.Unloaded error))
+-- the refusal of a load at a place: want of memory where memory was refused, else it is found there
+abbrev pub fault_at : SectionName → ℕ → Error → VerifyError
+fault_at section offset error =
+    if is_memory error then OutOfMemory
+    else Found (finding section offset (fault.Unloaded error))
 
 -- what a load at a place tells
 abbrev pub located : {X : Type 0} → SectionName → ℕ → Result X Error → Result X Finding
@@ -337,3 +340,37 @@ table_found body parts =
     filters_found body parts >>= λ _.
     all_found body parts >>= λ _.
     Ok (verified_of parts.facts)
+
+-- ---- before memory is taken
+
+-- what is found so is the refusal, whatever memory there is
+abbrev pub FindsFirst : {X : Type 0} → Result X VerifyError → Option Finding → Type 0
+FindsFirst result early = (f : Finding) → early ≡ Some f → IsErrAnd result (λ e. e ≡ Found f)
+
+-- what a load's fault that needs no memory is found to be
+abbrev pub early_from : SectionName → ℕ → Option Error → Option Finding
+early_from section offset None = None
+early_from section offset (Some e) = Some (finding section offset (fault.Unloaded e))
+
+-- what is found so of the block of a kind at a place in a section
+abbrev pub early_at : List ℕ → SectionName → Place → BlockType → Option Finding
+early_at body section place kind =
+    early_from section place.offset (place_fault body place.offset place.size kind)
+
+-- where the filter's blocks lie
+abbrev pub filter_places : Option (List Handle) → Option Place → List Place
+filter_places (Some tops) place = map place_of tops
+filter_places None (Some place) = place ∷ []
+filter_places None None = []
+
+-- what is found so at the first of the filter's blocks, or, where there are none, at the block
+-- behind them
+abbrev pub early_filters : List ℕ → List Place → Option Finding → Option Finding
+early_filters body [] behind = behind
+early_filters body (place ∷ places) behind = early_at body section.Filter place Filter
+
+-- what is found so at the first block of all: the filter's, or, where there is none, the index's
+abbrev pub table_early : List ℕ → Parts → Option Finding
+table_early body parts =
+    early_filters body (filter_places parts.pinned.filter_tops parts.regions.filter)
+    (early_at body section.Tli parts.regions.tli Index)

@@ -345,8 +345,10 @@ pub(crate) fn load_item<A: Allocator + Clone>(
     handle: &BlockHandle,
     name: ItemName,
 ) -> Result<Slice<A>, Error>
-    ensures { Gives (λ (v : List ℕ). v) result
+    ensures told { Gives (λ (v : List ℕ). v) result
         (meta_item_told (body_of source.now) handle.now name) }
+    ensures early { let body = body_of source.now in
+        FaultsFirst result (place_fault body handle.now.offset handle.now.size Meta) }
 {
     let mut opened = Opened::none();
     let block = source.load(handle, BlockType::Meta, &mut opened)?;

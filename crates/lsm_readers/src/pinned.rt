@@ -1,9 +1,10 @@
 //! What of a table's index stays loaded, and what depends on that: this is all that differs between
 //! the kinds of an index.
 ghost use Rattle.std.specs.Prelude.{◌≡◌, List, IfOk, IfErr};
+ghost use Rattle.sst_blocks.specs.declared.block_type.BlockType.TheVariants.{Index};
 ghost use Rattle.sst_entries.specs.declared.error.Error.TheVariants.{OutOfMemory};
-ghost use Rattle.lsm_readers.specs.Words.{DoesRead, Gives, Handle, body_of, handle_in_block};
-ghost use Rattle.lsm_readers.specs.Words.{handle_by};
+ghost use Rattle.lsm_readers.specs.Words.{DoesRead, FaultsFirst, Gives, Handle, body_of};
+ghost use Rattle.lsm_readers.specs.Words.{handle_by, handle_in_block, place_fault};
 ghost use Rattle.lsm_readers.specs.Words.{handles_told, index_len, pinned_index_of, index_over};
 ghost use Rattle.lsm_readers.specs.Words.{index_read, index_told, kind_kept, index_kind_of};
 ghost use Rattle.lsm_readers.specs.Words.{on_each_read, partitioned};
@@ -33,8 +34,10 @@ pub(crate) fn load_handles<A: Allocator + Clone>(
     source: &BlockSource<A>,
     handle: &BlockHandle,
 ) -> Result<IndexBlock<A>, Error>
-    ensures { Gives (λ (handles : List Handle). handles) result
+    ensures told { Gives (λ (handles : List Handle). handles) result
         (handles_told (body_of source.now) handle.now) }
+    ensures early { let body = body_of source.now in
+        FaultsFirst result (place_fault body handle.now.offset handle.now.size Index) }
 {
     let mut opened = Opened::none();
     let block = source.load(handle, BlockType::Index, &mut opened)?;

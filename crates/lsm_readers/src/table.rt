@@ -465,8 +465,8 @@ impl<A: Allocator + Clone> Table<A> {
 
 impl<A: Allocator> Table<A> {
     /// A law, which does nothing: a table whose bytes store a list says of itself what the list
-    /// says, and its key range is the list's ends; what writers make of a list stores it; and any
-    /// table was recovered from its bytes, which are in memory.
+    /// says, and its key range is the list's ends; they store no other list; what writers make of a
+    /// list stores it; and any table was recovered from its bytes, which are in memory.
     pub fn tells_its_list(&self)
         ensures parts { (es : List Entry) (t : IsTable self.now.bytes es) →
             SaysList t self.now.parts }
@@ -474,6 +474,8 @@ impl<A: Allocator> Table<A> {
             BearsOut self.now.parts.facts es t.handles }
         ensures range { (es : List Entry) → StoresList self.now.bytes es →
             ⟦<Table<A> as Ranged>⟧.range self.now ≡ ends_of es }
+        ensures one { (xs ys : List Entry) → StoresList self.now.bytes xs →
+            StoresList self.now.bytes ys → xs ≡ ys }
         ensures written { (es : List Entry) → IsTable self.now.bytes es →
             StoresList self.now.bytes es }
         ensures open { IsOpen self.now }

@@ -2,8 +2,10 @@
 ghost use Rattle.std.specs.Prelude.{◌≡◌};
 ghost use Rattle.sst_sections.specs.Sections.{body_of};
 ghost use Rattle.lsm_readers.specs.Table.{parts_of};
-ghost use Rattle.lsm_readers.specs.Verify.{Finds, IsFaultAt, all_found, finding, table_found};
-ghost use Rattle.lsm_readers.specs.Verify.{unread_of};
+ghost use Rattle.sst_blocks.specs.declared.block_type.BlockType.TheVariants.{Index};
+ghost use Rattle.sst_sections.specs.declared.section.SectionName.TheVariants.{Tli};
+ghost use Rattle.lsm_readers.specs.Verify.{Finds, FindsFirst, all_found, early_at, fault_at};
+ghost use Rattle.lsm_readers.specs.Verify.{finding, table_early, table_found, unread_of};
 ghost use Rattle.lsm_readers.specs.declared.verify.Verified.{Verified as Verification};
 ghost use Rattle.lsm_readers.specs.declared.verify.VerifyError.TheVariants.{Found};
 
@@ -116,9 +118,9 @@ fn found(section: SectionName, offset: u64, fault: Fault) -> VerifyError
     })
 }
 
-/// What a load's refusal is found to be: want of memory, or a block that does not load.
+/// What a load's refusal is found to be: want of memory, or else a block that does not load.
 fn unloaded(section: SectionName, offset: u64, error: Error) -> VerifyError
-    ensures { IsFaultAt section offset error result }
+    ensures { result ≡ fault_at section offset error }
 {
     match error {
         Error::OutOfMemory => VerifyError::OutOfMemory,
@@ -152,8 +154,11 @@ fn read_all<A: Allocator + Clone>(
     source: &BlockSource<A>,
     inner: &Inner<A>,
 ) -> Result<(), VerifyError>
-    ensures { Finds (λ (_ : _). tt) result
+    ensures told { Finds (λ (_ : _). tt) result
         (all_found (body_of source.now) (parts_of inner.now)) }
+    // What is found before memory is taken is the refusal, whatever memory there is.
+    ensures early { let tli = (parts_of inner.now).regions.tli in
+        FindsFirst result (early_at (body_of source.now) Tli tli Index) }
 {
     let mut left = unread_table(inner);
     read_index(source, inner, &mut left)?;
@@ -167,8 +172,10 @@ pub(crate) fn verify_table<A: Allocator + Clone>(
     source: &BlockSource<A>,
     inner: &Inner<A>,
 ) -> Result<Verified, VerifyError>
-    ensures { Finds (λ (v : Verification). v) result
+    ensures told { Finds (λ (v : Verification). v) result
         (table_found (body_of source.now) (parts_of inner.now)) }
+    // What is found before memory is taken is the refusal, whatever memory there is.
+    ensures early { FindsFirst result (table_early (body_of source.now) (parts_of inner.now)) }
 {
     test_filters(source, inner)?;
     read_all(source, inner)?;

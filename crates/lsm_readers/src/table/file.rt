@@ -1,8 +1,9 @@
 //! What a table is kept by, and what its meta block says beside what opening reads.
 ghost use Rattle.std.specs.Prelude.{◌≡◌, ◌+◌, ◌*◌, ◌/◌, ◌⊎◌, IfErr, IfOk, List, length, ℕ};
+ghost use Rattle.sst_blocks.specs.declared.block_type.BlockType.TheVariants.{Meta};
 ghost use Rattle.sst_entries.specs.declared.error.Error.TheVariants.{OutOfMemory};
 ghost use Rattle.lsm_readers.specs.Meta.{meta_item_told};
-ghost use Rattle.lsm_readers.specs.Words.{Gives, body_of};
+ghost use Rattle.lsm_readers.specs.Words.{FaultsFirst, Gives, body_of, place_fault};
 
 use crate::meta::load_item;
 use crate::{Inner, Table};
@@ -41,9 +42,13 @@ impl<A: Allocator + Clone> Table<A> {
     /// loaded for it. Refused as loading a block is, then [`Error::MetaKeyMissing`] where it has no
     /// such item; and [`Error::OutOfMemory`].
     pub fn meta_item(&self, name: ItemName) -> Result<UserValue<A>, Error>
-        ensures { let place = self.now.parts.regions.metadata in
+        ensures told { let place = self.now.parts.regions.metadata in
             Gives (λ (value : List ℕ). value) result
             (meta_item_told (body_of self.now.bytes) place name) }
+        // What is found before memory is taken is the refusal, whatever memory there is.
+        ensures early { let place = self.now.parts.regions.metadata in
+            FaultsFirst result
+            (place_fault (body_of self.now.bytes) place.offset place.size Meta) }
     {
         let inner: &Inner<A> = &self.inner;
         load_item(&self.source, &inner.regions.metadata, name)

@@ -1,7 +1,7 @@
 //! Whether a table's bytes store a list.
 ghost use Rattle.std.specs.Prelude.{◌≡◌, List, length, IfErr, IfOk};
 ghost use Rattle.lsm_readers.specs.Findings.{IsFirstFinding};
-ghost use Rattle.lsm_readers.specs.Verify.{Finds, table_found};
+ghost use Rattle.lsm_readers.specs.Verify.{Finds, FindsFirst, table_early, table_found};
 ghost use Rattle.lsm_readers.specs.declared.verify.Finding.{Finding};
 ghost use Rattle.lsm_readers.specs.Words.{Entry, StoresList, body_of};
 ghost use Rattle.lsm_readers.specs.declared.verify.Verified.{Verified as Verification};
@@ -22,6 +22,10 @@ impl<A: Allocator + Clone> Table<A> {
         // What is wrong first is found, memory aside.
         ensures told { Finds (λ (v : Verification). v) result
             (table_found (body_of self.now.bytes) self.now.parts) }
+        // A fault of the first block that is loaded which takes no memory to be found is told
+        // whatever memory there is.
+        ensures early { FindsFirst result
+            (table_early (body_of self.now.bytes) self.now.parts) }
         // What is found is wrong there, and all that is read before it is sound.
         ensures first { IfErr result (λ e. (f : Finding) → e ≡ Found f →
             IsFirstFinding (body_of self.now.bytes) self.now.parts f) }

@@ -2,11 +2,13 @@
 ghost use Rattle.std.specs.Prelude.{◌≡◌, ◌<◌, List, IfErr, IfOk, Some, length};
 ghost use Rattle.std.specs.List.{slice_get};
 ghost use Rattle.lsm_readers.specs.declared.verify.VerifyError.TheVariants.{OutOfMemory};
+ghost use Rattle.sst_blocks.specs.declared.block_type.BlockType.TheVariants as block;
 ghost use Rattle.sst_sections.specs.declared.section.SectionName.TheVariants as section;
 ghost use Rattle.lsm_readers.specs.Words.{Entry, Handle, body_of, parts_of};
 ghost use Rattle.lsm_readers.specs.declared.verify.Counts.{Counts as CountsLeft};
-ghost use Rattle.lsm_readers.specs.Verify.{Finds, block_found, block_spent, blocks_found};
-ghost use Rattle.lsm_readers.specs.Verify.{chunk_found, end_named, handles_found, index_found};
+ghost use Rattle.lsm_readers.specs.Verify.{Finds, FindsFirst, block_found, block_spent};
+ghost use Rattle.lsm_readers.specs.Verify.{blocks_found, chunk_found, early_at, end_named};
+ghost use Rattle.lsm_readers.specs.Verify.{handles_found, index_found};
 ghost use Rattle.lsm_readers.specs.Verify.{last_named, part_found, parts_found, place_found};
 ghost use Rattle.lsm_readers.specs.Verify.{top_named};
 
@@ -51,8 +53,10 @@ fn load_chunk<A: Allocator + Clone>(
     source: &BlockSource<A>,
     handle: &BlockHandle,
 ) -> Result<DataBlock<A>, VerifyError>
-    ensures { Finds (λ (c : List Entry). c) result
+    ensures told { Finds (λ (c : List Entry). c) result
         (chunk_found (body_of source.now) handle.now) }
+    ensures early { let body = body_of source.now in
+        FindsFirst result (early_at body section.Data handle.now block.Data) }
 {
     let at = handle.offset().0;
     let mut opened = Opened::none();
@@ -72,8 +76,10 @@ fn load_part<A: Allocator + Clone>(
     section: SectionName,
     place: &BlockHandle,
 ) -> Result<IndexBlock<A>, VerifyError>
-    ensures { Finds (λ (hs : List Handle). hs) result
+    ensures told { Finds (λ (hs : List Handle). hs) result
         (handles_found (body_of source.now) section place.now) }
+    ensures early { let body = body_of source.now in
+        FindsFirst result (early_at body section place.now block.Index) }
 {
     match load_handles(source, place) {
         Ok(handles) => Ok(handles),
@@ -239,8 +245,10 @@ pub(super) fn read_index<A: Allocator + Clone>(
     inner: &Inner<A>,
     left: &mut Unread<A>,
 ) -> Result<(), VerifyError>
-    ensures { Finds (λ (_ : _). left.new) result
+    ensures told { Finds (λ (_ : _). left.new) result
         (index_found (body_of source.now) (parts_of inner.now) left.old) }
+    ensures early { let tli = (parts_of inner.now).regions.tli in
+        FindsFirst result (early_at (body_of source.now) section.Tli tli block.Index) }
 {
     let handles = load_part(source, SectionName::Tli, &inner.regions.tli)?;
     match inner.regions.index {

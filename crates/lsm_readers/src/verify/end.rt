@@ -1,8 +1,13 @@
 //! The blocks of the filter, and what is compared once all is read.
-ghost use Rattle.std.specs.Prelude.{◌≡◌, List, ℕ};
-ghost use Rattle.lsm_readers.specs.Words.{Handle, Loaded, body_of, parts_of};
-ghost use Rattle.lsm_readers.specs.Verify.{Finds, counts_found, end_found, filter_found, key_same};
-ghost use Rattle.lsm_readers.specs.Verify.{filters_found, same_found, tops_found};
+ghost use Rattle.std.specs.Prelude.{◌≡◌, IsOk, List, [], None, Some, map, ℕ};
+ghost use Rattle.sst_entries.specs.declared.error.Error.{Error};
+ghost use Rattle.sst_blocks.specs.declared.block_type.BlockType.TheVariants as block;
+ghost use Rattle.sst_sections.specs.declared.section.SectionName.TheVariants as section;
+ghost use Rattle.lsm_readers.specs.Words.{Handle, Loaded, body_of, parts_of, place_of};
+ghost use Rattle.lsm_readers.specs.Words.{position_fault};
+ghost use Rattle.lsm_readers.specs.Verify.{Finds, FindsFirst, counts_found, early_at};
+ghost use Rattle.lsm_readers.specs.Verify.{early_filters, end_found, filter_found, filter_places};
+ghost use Rattle.lsm_readers.specs.Verify.{filters_found, key_same, same_found, tops_found};
 ghost use Rattle.lsm_readers.specs.Verify.{unnamed_found};
 
 use super::{Counts, Fault, Unread, VerifyError, found, unloaded};
@@ -16,7 +21,9 @@ fn test_filter<A: Allocator + Clone>(
     source: &BlockSource<A>,
     place: &BlockHandle,
 ) -> Result<(), VerifyError>
-    ensures { Finds (λ (_ : _). tt) result (filter_found (body_of source.now) place.now) }
+    ensures told { Finds (λ (_ : _). tt) result (filter_found (body_of source.now) place.now) }
+    ensures early { let body = body_of source.now in
+        FindsFirst result (early_at body section.Filter place.now block.Filter) }
 {
     let mut opened = Opened::none();
     match source.load(place, BlockType::Filter, &mut opened) {
@@ -33,7 +40,10 @@ fn test_parts<A: Allocator + Clone>(
     source: &BlockSource<A>,
     tops: &IndexBlock<A>,
 ) -> Result<(), VerifyError>
-    ensures { Finds (λ (_ : _). tt) result (tops_found (body_of source.now) tops.now) }
+    ensures told { Finds (λ (_ : _). tt) result (tops_found (body_of source.now) tops.now) }
+    ensures early { let places = map place_of tops.now in
+        FindsFirst result (early_filters (body_of source.now) places None) }
+    ensures calm { map place_of tops.now ≡ [] → IsOk result }
 {
     for index in 0..tops.len() {
         test_filter(source, &tops.place_at(index))?;
@@ -46,8 +56,14 @@ pub(super) fn test_filters<A: Allocator + Clone>(
     source: &BlockSource<A>,
     inner: &Inner<A>,
 ) -> Result<(), VerifyError>
-    ensures { Finds (λ (_ : _). tt) result
+    ensures told { Finds (λ (_ : _). tt) result
         (filters_found (body_of source.now) (parts_of inner.now)) }
+    ensures early { let parts = parts_of inner.now in
+        let places = filter_places parts.pinned.filter_tops parts.regions.filter in
+        FindsFirst result (early_filters (body_of source.now) places None) }
+    // Where there is no block nothing is refused.
+    ensures calm { let parts = parts_of inner.now in
+        filter_places parts.pinned.filter_tops parts.regions.filter ≡ [] → IsOk result }
 {
     if let Some(tops) = &inner.pinned_filter_index {
         return test_parts(source, tops);
@@ -94,7 +110,10 @@ fn test_counts<A: Allocator>(inner: &Inner<A>, counts: &Counts) -> Result<(), Ve
 
 /// Tests that no data block lies at the first position.
 fn test_unnamed<A: Allocator + Clone>(source: &BlockSource<A>) -> Result<(), VerifyError>
-    ensures { Finds (λ (_ : _). tt) result (unnamed_found (body_of source.now)) }
+    ensures told { Finds (λ (_ : _). tt) result (unnamed_found (body_of source.now)) }
+    // A load that is refused before memory is taken is no want of memory.
+    ensures calm { (e : Error) → position_fault (body_of source.now) 0 block.Data ≡ Some e →
+        IsOk result }
 {
     let mut opened = Opened::none();
     match source.load_at(0, BlockType::Data, &mut opened) {

@@ -3,6 +3,7 @@ use Rattle.lsm_readers.specs.Table.{IsOpen}
 use Rattle.lsm_readers.proofs.FileParts.{table_parts}
 use Rattle.lsm_readers.proofs.FileStored.{open_stores}
 use Rattle.lsm_readers.proofs.Recovered.{range_is}
+use Rattle.lsm_readers.proofs.StoredOne.{stored_one}
 use Rattle.lsm_readers.proofs.StoredParts.{bears_out}
 use Rattle.lsm_readers.proofs.table.Table.tells_its_list.Goals as goal
 
@@ -24,6 +25,9 @@ returns-clause-range g c es t =
     let seen = c.args.self.now in
     let held = subst IsOpen c.self.view_is c.self.invariant in
     range_is seen held.recovered ∙ (returns-clause-facts g c es t).key_range
+
+pub returns-clause-one : goal.returns-clause-one
+returns-clause-one g c xs ys s t = stored_one c.args.self.now.bytes xs ys s t
 
 pub returns-clause-written : goal.returns-clause-written
 returns-clause-written g c es t = (open_stores c.args.self.now (subst IsOpen c.self.view_is c.self.invariant) es t).0

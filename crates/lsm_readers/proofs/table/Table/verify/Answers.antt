@@ -2,14 +2,21 @@ use Rattle.std.proofs.Common.{ap, subst, ◌∙◌}
 use Rattle.sst_sections.specs.Sections.{body_of}
 use Rattle.lsm_readers.specs.declared.verify.Verified.{Verified}
 use Rattle.lsm_readers.specs.Table.{IsOpen, OpenTable, table_of}
-use Rattle.lsm_readers.specs.Verify.{Finds, table_found}
+use Rattle.lsm_readers.specs.Verify.{Finds, FindsFirst, table_early, table_found}
 use Rattle.lsm_readers.proofs.VerifyTables.{all_complete, all_first, all_sound}
 use Rattle.lsm_readers.proofs.table.Table.verify.Goals as goal
 
 pub returns-clause-told : goal.returns-clause-told
 returns-clause-told g c =
     let shown = ap (table_of c.self.inside.source) c.deref-inner.ensures ∙ c.self.view_is in
-    subst (λ (u : OpenTable). Finds (λ (v : Verified). v) c.verify_table.result (table_found (body_of u.bytes) u.parts)) shown c.verify_table.ensures
+    subst (λ (u : OpenTable). Finds (λ (v : Verified). v) c.verify_table.result
+    (table_found (body_of u.bytes) u.parts)) shown c.verify_table.ensures.told
+
+pub returns-clause-early : goal.returns-clause-early
+returns-clause-early g c =
+    let shown = ap (table_of c.self.inside.source) c.deref-inner.ensures ∙ c.self.view_is in
+    subst (λ (u : OpenTable). FindsFirst c.verify_table.result
+    (table_early (body_of u.bytes) u.parts)) shown c.verify_table.ensures.early
 
 pub returns-clause-sound : goal.returns-clause-sound
 returns-clause-sound g c =

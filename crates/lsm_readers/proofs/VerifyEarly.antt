@@ -1,0 +1,210 @@
+-- What a verification finds before memory is taken.
+use Rattle.std.proofs.Common.{◌≡◌, ℕ, zero, suc, ◌+◌, ◌<◌, ◌≤◌, Bool, true, false, cond, List, []}
+use Rattle.std.proofs.Common.{◌∷◌, length, map, refl, sym, ap, ◌∙◌, arith}
+use Rattle.std.specs.Prelude.{◌==◌, ◌||◌, not, nat_lt, Option, Some, None, Result, Ok, Err}
+use Rattle.std.specs.Prelude.{slice_index, slice_range}
+use Rattle.std.specs.List.{slice_get}
+use Rattle.std.specs.Option.{option_map, option_or}
+use Rattle.std.specs.Result.{IsErrAnd}
+use Rattle.sst_sections.specs.Fnv.{fnv1a}
+use Rattle.sst_sections.specs.declared.section.SectionName.{SectionName}
+use Rattle.sst_sections.specs.declared.section.SectionName.TheVariants.{Filter as FilterSection}
+use Rattle.sst_entries.specs.declared.error.Error.{Error}
+use Rattle.sst_entries.specs.declared.error.Error.TheVariants.{ChecksumMismatch, InvalidBlock}
+use Rattle.sst_entries.specs.declared.error.Error.TheVariants.{InvalidHeader, InvalidTag}
+use Rattle.sst_entries.specs.declared.error.Error.TheVariants.{OutOfMemory as NoMemory}
+use Rattle.sst_entries.specs.declared.error.Error.TheVariants.{Truncated, UnsupportedCompression}
+use Rattle.sst_entries.specs.declared.error.TagName.TheVariants.{BlockType as BlockTypeTag}
+use Rattle.sst_entries.specs.Error.{is_memory}
+use Rattle.sst_blocks.specs.declared.block_type.BlockType.{BlockType}
+use Rattle.sst_blocks.specs.declared.block_type.BlockType.TheVariants.{Filter}
+use Rattle.sst_blocks.specs.Block.{data_len, has_room, header_fault, header_len, place_fault}
+use Rattle.sst_blocks.specs.Block.{position_fault, stored_checksum, uncompressed_len, version_in}
+use Rattle.sst_blocks.specs.Handle.{Handle}
+use Rattle.sst_blocks.specs.Place.{Place, place_of}
+use Rattle.lsm_readers.specs.declared.verify.Fault.TheVariants.{Unloaded}
+use Rattle.lsm_readers.specs.declared.verify.Finding.{Finding}
+use Rattle.lsm_readers.specs.declared.verify.VerifyError.{VerifyError}
+use Rattle.lsm_readers.specs.declared.verify.VerifyError.TheVariants.{Found, OutOfMemory}
+use Rattle.lsm_readers.specs.Verify.{FindsFirst, early_at, early_filters, early_from, fault_at}
+use Rattle.lsm_readers.specs.Verify.{finding}
+
+-- ---- what a load finds before memory is taken is no want of memory
+
+abbrev pub NoWant : Option Error → Type 0
+NoWant o = (e : Error) → o ≡ Some e → is_memory e ≡ false
+
+some_fault : (d : Error) → is_memory d ≡ false → NoWant (Some d)
+some_fault d is e h = let same : d ≡ e = cc in ap is_memory (sym same) ∙ is
+
+no_fault : NoWant None
+no_fault e h = absurd cc
+
+or_fault : (a b : Option Error) → NoWant a → NoWant b → NoWant (option_or a b)
+or_fault (Some d) b in_a in_b = in_a
+or_fault None b in_a in_b = in_b
+
+if_fault : (t : Bool) (a b : Option Error) → NoWant a → NoWant b → NoWant (cond t a b)
+if_fault true a b in_a in_b = in_a
+if_fault false a b in_a in_b = in_b
+
+header_want : (kind : BlockType) (head : List ℕ) → NoWant (header_fault kind head)
+header_want kind head =
+    if_fault _ _ _ (some_fault InvalidHeader refl)
+    (if_fault _ _ _ (some_fault (InvalidTag BlockTypeTag (slice_index head 4)) refl)
+    (if_fault _ _ _ (some_fault UnsupportedCompression refl) no_fault))
+
+-- the checksum's fault, then that of the room
+payload_want : (t u : Bool)
+    → NoWant (option_or (cond t (Some ChecksumMismatch) None) (cond u (Some InvalidBlock) None))
+payload_want t u =
+    or_fault (cond t (Some ChecksumMismatch) None) (cond u (Some InvalidBlock) None)
+    (if_fault t _ _ (some_fault ChecksumMismatch refl) no_fault)
+    (if_fault u _ _ (some_fault InvalidBlock refl) no_fault)
+
+pub place_want : (body : List ℕ) (offset size : ℕ) (kind : BlockType)
+    → NoWant (place_fault body offset size kind)
+unfolding place_fault
+place_want body offset size kind =
+    let head = slice_range body offset (offset + header_len) in
+    let payload = slice_range body (offset + header_len) (offset + size) in
+    if_fault (nat_lt size header_len || nat_lt (length body) (offset + size)) (Some Truncated) _
+    (some_fault Truncated refl)
+    (or_fault (header_fault kind head) _ (header_want kind head)
+    (if_fault (not (data_len head == uncompressed_len head)
+    || not (header_len + data_len head == size)) (Some InvalidHeader) _
+    (some_fault InvalidHeader refl)
+    (payload_want (not (fnv1a payload == stored_checksum head))
+    (not (has_room (version_in head) kind payload)))))
+
+pub position_want : (body : List ℕ) (position : ℕ) (kind : BlockType)
+    → NoWant (position_fault body position kind)
+unfolding position_fault
+position_want body position kind =
+    let head = slice_range body position (position + header_len) in
+    let end = position + header_len + data_len head in
+    let payload = slice_range body (position + header_len) end in
+    if_fault (nat_lt (length body) (position + header_len)) (Some Truncated) _
+    (some_fault Truncated refl)
+    (or_fault (header_fault kind head) _ (header_want kind head)
+    (if_fault (not (data_len head == uncompressed_len head)) (Some InvalidHeader) _
+    (some_fault InvalidHeader refl)
+    (if_fault (nat_lt (length body) end) (Some Truncated) _ (some_fault Truncated refl)
+    (payload_want (not (fnv1a payload == stored_checksum head))
+    (not (has_room (version_in head) kind payload))))))
+
+-- so where there is one, the refusal is none either
+pub refused_want : (o : Option Error) → NoWant o → (error d : Error) → o ≡ Some d
+    → Some d ≡ Some error → error ≡ NoMemory → ⊥
+refused_want o want error d is first memory =
+    let same : d ≡ error = cc in
+    let no : true ≡ false = ap is_memory (sym memory) ∙ ap is_memory (sym same) ∙ want d is in
+    absurd cc
+
+-- ---- a load at a place
+
+-- that was refused
+pub refused_first : (section : SectionName) (offset : ℕ) (o : Option Error) → NoWant o
+    → (error : Error) (e : VerifyError) → e ≡ fault_at section offset error
+    → ((d : Error) → o ≡ Some d → Some d ≡ Some error)
+    → (f : Finding) → early_from section offset o ≡ Some f → e ≡ Found f
+refused_first section offset None want error e is first f early = absurd cc
+refused_first section offset (Some d) want error e is first f early =
+    let both : Some d ≡ Some error = first d refl in
+    let same : d ≡ error = cc in
+    let fault : is_memory error ≡ false = ap is_memory (sym same) ∙ want d refl in
+    let at : finding section offset (Unloaded d) ≡ f = cc in
+    is
+    ∙ ap (λ (b : Bool). cond b OutOfMemory (Found (finding section offset (Unloaded error)))) fault
+    ∙ ap (λ (x : Error). Found (finding section offset (Unloaded x))) (sym same)
+    ∙ ap (λ (x : Finding). Found x) at
+
+pub place_first : (body : List ℕ) (section : SectionName) (place : Place) (kind : BlockType)
+    (offset : ℕ) (error : Error) (e : VerifyError) → offset ≡ place.offset
+    → e ≡ fault_at section offset error
+    → ((d : Error) → place_fault body place.offset place.size kind ≡ Some d → Some d ≡ Some error)
+    → (f : Finding) → early_at body section place kind ≡ Some f → e ≡ Found f
+place_first body section place kind offset error e at is first =
+    refused_first section place.offset (place_fault body place.offset place.size kind)
+    (place_want body place.offset place.size kind) error e
+    (is ∙ ap (λ (n : ℕ). fault_at section n error) at) first
+
+-- that gave a block
+pub loaded_first : (section : SectionName) (offset : ℕ) (o : Option Error)
+    → ((d : Error) → o ≡ Some d → Some d ≡ None)
+    → (f : Finding) → early_from section offset o ≡ Some f → ⊥
+loaded_first section offset None first f early = absurd cc
+loaded_first section offset (Some d) first f early =
+    absurd (let no : Some d ≡ None = first d refl in cc)
+
+-- ---- a call that passes a refusal on
+
+pub passes_first : {X : Type 0} (r : Result X VerifyError) (e : VerifyError)
+    (early : Option Finding) → IsErrAnd r (λ y. y ≡ e)
+    → ((f : Finding) → early ≡ Some f → e ≡ Found f) → FindsFirst r early
+passes_first (Ok x) e early is first = absurd is
+passes_first (Err d) e early is first = λ f h. is ∙ first f h
+
+-- ---- the filter's blocks
+
+-- the first of them, where there is one, or what is behind them
+pub filters_first : (body : List ℕ) (places : List Place) (behind : Option Finding)
+    (e : VerifyError) → ((f : Finding) → early_filters body places None ≡ Some f → e ≡ Found f)
+    → (places ≡ [] → false ≡ true)
+    → (f : Finding) → early_filters body places behind ≡ Some f → e ≡ Found f
+filters_first body [] behind e first some f h =
+    absurd (let no : false ≡ true = some refl in cc)
+filters_first body (place ∷ places) behind e first some f h = first f h
+
+pub filters_behind : (body : List ℕ) (places : List Place) (behind : Option Finding)
+    (P : Finding → Type 0) → ((f : Finding) → early_filters body places None ≡ Some f → ⊥)
+    → ((f : Finding) → behind ≡ Some f → P f)
+    → (f : Finding) → early_filters body places behind ≡ Some f → P f
+filters_behind body [] behind P none next f h = next f h
+filters_behind body (place ∷ places) behind P none next f h = absurd (none f h)
+
+-- by the handles of a top level, one after another
+module _ (body : List ℕ) where
+  abbrev early_tops : List Handle → Option Finding
+  early_tops tops = early_filters body (map place_of tops) None
+
+  at_first : (tops : List Handle) (place : Place)
+      → option_map place_of (slice_get tops 0) ≡ Some place
+      → early_tops tops ≡ early_at body FilterSection place Filter
+  at_first [] place here = absurd cc
+  at_first (top ∷ tops) place here =
+      let same : place_of top ≡ place = cc in
+      ap (λ (p : Place). early_at body FilterSection p Filter) same
+
+  -- nothing is found so where some of them were read
+  abbrev pub Passed : List Handle → ℕ → Type 0
+  Passed tops i = 0 < i → (f : Finding) → early_tops tops ≡ Some f → ⊥
+
+  pub passed_none : (tops : List Handle) → Passed tops 0
+  passed_none tops some = absurd (omega (arith, some))
+
+  pub passed_more : (tops : List Handle) (i : ℕ) (place : Place)
+      → option_map place_of (slice_get tops i) ≡ Some place → Passed tops i
+      → ((f : Finding) → early_at body FilterSection place Filter ≡ Some f → ⊥)
+      → Passed tops (i + 1)
+  passed_more tops zero place here before none some f h =
+      none f (sym (at_first tops place here) ∙ h)
+  passed_more tops (suc i) place here before none some f h = before (omega arith) f h
+
+  pub passed_err : (tops : List Handle) (i : ℕ) (place : Place) (e : VerifyError)
+      → option_map place_of (slice_get tops i) ≡ Some place → Passed tops i
+      → ((f : Finding) → early_at body FilterSection place Filter ≡ Some f → e ≡ Found f)
+      → (f : Finding) → early_tops tops ≡ Some f → e ≡ Found f
+  passed_err tops zero place e here before first f h =
+      first f (sym (at_first tops place here) ∙ h)
+  passed_err tops (suc i) place e here before first f h = absurd (before (omega arith) f h)
+
+  pub passed_all : (tops : List Handle) (i : ℕ) → length tops ≤ i → Passed tops i
+      → (f : Finding) → early_tops tops ≡ Some f → ⊥
+  passed_all [] i far before f h = absurd cc
+  passed_all (top ∷ tops) i far before f h = before (omega (arith, far)) f h
+
+pub some_place : (tops : List Handle) (i : ℕ) (place : Place)
+    → option_map place_of (slice_get tops i) ≡ Some place → map place_of tops ≡ [] → ⊥
+some_place [] i place here none = absurd cc
+some_place (top ∷ tops) i place here none = absurd cc
