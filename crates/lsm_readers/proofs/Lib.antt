@@ -37,6 +37,7 @@ pub mod StoredRanges
 pub mod StoredParts
 pub mod FileStored
 pub mod TableRanges
+pub mod Sizes
 pub mod ManyReads
 pub mod ManyOfList
 pub mod BatchReads
