@@ -38,6 +38,7 @@ pub mod StoredParts
 pub mod StoredOne
 pub mod FileStored
 pub mod TableRanges
+pub mod Sizes
 pub mod ManyReads
 pub mod ManyOfList
 pub mod BatchReads

@@ -13,6 +13,7 @@ pub mod OfList
 pub mod Stored
 pub mod Scan
 pub mod Ranges
+pub mod Sizes
 pub mod Words
 pub mod Verify
 pub mod Findings

@@ -39,3 +39,4 @@ pub use Rattle.lsm_readers.specs.Table.{IsOpen, IsRecovered, OpenTable, parts_of
 pub use Rattle.lsm_block_indexes.specs.Dealt.{DealsEnding}
 pub use Rattle.lsm_readers.specs.Ranges.{DealsAll, DealsWithin, IsRangeOf, LoadsAtMost}
 pub use Rattle.lsm_readers.specs.Ranges.{blocks_within, index_within, range_told}
+pub use Rattle.lsm_readers.specs.Sizes.{size_of, size_told, size_within, sizes_told}
