@@ -1,7 +1,9 @@
 -- The readers of several runs within two bounds, before any call, and the stream over them.
-use Rattle.std.specs.Prelude.{ℕ, All, List, [], ◌∷◌, map, Option, Some, None, Result}
+use Rattle.std.specs.Prelude.{ℕ, All, List, [], ◌∷◌, ◌++◌, map, Option, Some, None, Result}
 use Rattle.std.specs.List.{AllZip, flat_map}
 use Rattle.std.specs.declared.ops.Bound.{Bound}
+use Rattle.either.specs.declared.Either.{Either}
+use Rattle.either.specs.declared.Either.TheVariants.{Left, Right}
 use Rattle.sst_entries.specs.declared.error.Error.{Error}
 use Rattle.sst_entries.specs.Entry.{Entry}
 use Rattle.sst_entries.specs.Stream.{back_of, front_of}
@@ -65,3 +67,26 @@ pub record IsOverSpansBelow {A : Type 0}
       (run_left reader)) readers
   pub of : IsNewestOf (map (below_of bound) readers) s
   pub answers : AnswersNewest gives back_gives (map (below_of bound) readers) next next_back s
+
+-- further sources, and behind them readers of runs
+abbrev pub with_readers : {R S : Type 0} → List S → List R → List (Either R S)
+with_readers sources readers = map (λ y. Right y) sources ++ map (λ x. Left x) readers
+
+-- the same over what further sources, and behind them these readers, give that is numbered below a
+-- bound, and their errors
+pub record IsOverSourcesBelow {S A : Type 0}
+    (gives back_gives : Below (Either (RunRange A) S) → Option (Result Entry Error)
+    → Below (Either (RunRange A) S) → Type 0)
+    (next next_back : MvccStream (Merger (Below (Either (RunRange A) S)) A) (Result Entry Error)
+    → Option (Result Entry Error)
+    → MvccStream (Merger (Below (Either (RunRange A) S)) A) (Result Entry Error) → Type 0)
+    (low high : Bound (List ℕ)) (bound : ℕ) (runs : List (List OpenTable)) (sources : List S)
+    (s : MvccStream (Merger (Below (Either (RunRange A) S)) A) (Result Entry Error)) : Type 0 where
+  pub readers : List (RunRange A)
+  pub spans : AllZip (λ reader run. IsRunOf run.0 run.1 reader) readers (spans_within low high runs)
+  pub deal : All (λ reader. DealsEnding (RunGives front_of front_tables)
+      (RunGives back_of back_tables) (λ _. Unit {0}) (λ _. Unit {0}) reader
+      (run_left reader)) readers
+  pub of : IsNewestOf (map (below_of bound) (with_readers sources readers)) s
+  pub answers : AnswersNewest gives back_gives
+      (map (below_of bound) (with_readers sources readers)) next next_back s

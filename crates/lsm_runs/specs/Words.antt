@@ -25,7 +25,8 @@ pub use Rattle.lsm_runs.specs.RunLists.{RunsHoldLists, single, span_list}
 pub use Rattle.lsm_runs.specs.RunScan.{BeginsNext, BeginsScan, IsScanOf, RunScansNext, ScansItem}
 pub use Rattle.lsm_runs.specs.RunScan.{early_scan_fault, over_scan, run_scan_size, scan_fault}
 pub use Rattle.lsm_runs.specs.RunScan.{stopped_scan, tables_between, tables_scan}
-pub use Rattle.lsm_runs.specs.SpansRead.{IsOverSpans, IsOverSpansBelow, spans_within}
+pub use Rattle.lsm_runs.specs.SpansRead.{IsOverSourcesBelow, IsOverSpans, IsOverSpansBelow}
+pub use Rattle.lsm_runs.specs.SpansRead.{spans_within, with_readers}
 pub use Rattle.lsm_runs.specs.SeveralRuns.{LoadsEach, is_older, leading_of, loads_together}
 pub use Rattle.lsm_runs.specs.SeveralRuns.{run_read, run_read_behind, runs_read, runs_read_by_age}
 pub use Rattle.lsm_runs.specs.SeveralRuns.{runs_told, union_in, worth_asking}

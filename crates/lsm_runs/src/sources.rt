@@ -1,11 +1,12 @@
 //! Reading several runs and further sources, as a table in memory, as one.
-ghost use Rattle.std.specs.Prelude.{◌≡◌, ◌++◌, All, IfErr, IfOk, List, map};
+ghost use Rattle.std.specs.Prelude.{◌≡◌, ◌++◌, ◌<◌, All, IfErr, IfOk, List, map};
 ghost use Rattle.std.specs.Arc.{arc_value};
 ghost use Rattle.std.specs.Iterator.{IsFinite};
-ghost use Rattle.either.specs.declared.Either.TheVariants.{Left, Right};
+ghost use Rattle.std.specs.List.{AllByRecursion};
 ghost use Rattle.sst_entries.specs.declared.error.Error.TheVariants.{OutOfMemory};
-ghost use Rattle.lsm_runs.specs.Words.{CanDeal, DealWithin, DealsList, Entry, RunsHoldLists};
-ghost use Rattle.lsm_runs.specs.Words.{newest, numbered_below, single, union_in, within};
+ghost use Rattle.lsm_runs.specs.Words.{CanDeal, DealWithin, DealsList, Entry, IsInOrder};
+ghost use Rattle.lsm_runs.specs.Words.{IsOverSourcesBelow, RunsHoldLists, newest, numbered_below};
+ghost use Rattle.lsm_runs.specs.Words.{range_of, single, union_in, with_readers, within};
 
 use crate::RunReader;
 use crate::runs::{newest_stream, readers_within};
@@ -29,8 +30,7 @@ fn all_sources<R: Drop, S: Drop, A: Allocator>(
     further: Vec<S, A>,
     readers: Vec<R, A>,
 ) -> Result<Vec<Either<R, S>, A>, Error>
-    ensures of { IfOk result (λ v. v.items ≡
-        map (λ y. Right y) further.items ++ map (λ x. Left x) readers.items) }
+    ensures of { IfOk result (λ v. v.items ≡ with_readers further.items readers.items) }
     ensures err { IfErr result (λ e. e ≡ OutOfMemory) }
 {
     let sources = further
@@ -64,6 +64,26 @@ pub fn range_sources_at<S: DoubleEndedIterator<Item = IterItem<A>> + Drop, A: Al
         let all = union_in (map single further ++ lists) in
         let found = newest (numbered_below seqno (within range.0 range.1 all)) in
         IfOk result (λ s. DealsList gives back_gives found s) }
+    // Where every number is below `seqno` it deals what is newest of all that lies within the
+    // bounds.
+    ensures whole { let gives = ⟦<NewestOfSourcesAt<S, A> as Iterator>⟧.next_gives in
+        let back_gives = ⟦<NewestOfSourcesAt<S, A> as DoubleEndedIterator>⟧.next_back_gives in
+        (lists : List (List (List Entry))) → RunsHoldLists (map arc_value runs.now) lists →
+        (further : List (List Entry)) →
+        DealWithin S.next_gives S.next_back_gives range.0 range.1 sources.items further →
+        let all = union_in (map single further ++ lists) in
+        All (λ e. e.seqno < seqno) all → let found = newest (within range.0 range.1 all) in
+        IfOk result (λ s. DealsList gives back_gives found s) }
+    // Of any tables in runs in order it is over the sources, whatever they give, and behind them
+    // over the readers of the spans within the bounds, each below `seqno`: where one of them is
+    // refused, want of memory too, that error stands in its place, and what is dealt goes on by the
+    // stream's steps.
+    ensures steps { AllByRecursion (IsInOrder range_of) (map arc_value runs.now) → IfOk result
+        (IsOverSourcesBelow ⟦<Below<Either<RunReader<A>, S>> as Iterator>⟧.next_gives
+        ⟦<Below<Either<RunReader<A>, S>> as DoubleEndedIterator>⟧.next_back_gives
+        ⟦<NewestOfSourcesAt<S, A> as Iterator>⟧.next_gives
+        ⟦<NewestOfSourcesAt<S, A> as DoubleEndedIterator>⟧.next_back_gives
+        range.0 range.1 seqno (map arc_value runs.now) sources.items) }
     // Where both ends of the sources may be asked, and they end, both ends may be asked however
     // often, whatever the tables' bytes are.
     ensures can { All (CanDeal S.next_gives S.next_back_gives S.can_next S.can_next_back)

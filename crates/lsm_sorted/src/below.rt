@@ -38,6 +38,9 @@ impl<I: Iterator<Item = IterItem<A>>, A: Allocator> Below<I> {
         ensures can { CanStep I.next_gives nowhere iter ⟦<Below<I> as Iterator>⟧.next_gives nowhere
             result I.can_next I.can_next I.remaining ⟦<Below<I> as Iterator>⟧.can_next
             ⟦<Below<I> as Iterator>⟧.can_next }
+        // So a `for` may go over it.
+        ensures next { CanDeal I.next_gives nowhere I.can_next I.can_next iter →
+            IsFinite (I.remaining iter) → ⟦<Below<I> as Iterator>⟧.can_next result }
     {
         Below { iter, seqno }
     }
@@ -55,6 +58,14 @@ impl<I: DoubleEndedIterator<Item = IterItem<A>>, A: Allocator> Below<I> {
             ⟦<Below<I> as DoubleEndedIterator>⟧.next_back_gives self.now I.can_next I.can_next_back
             I.remaining ⟦<Below<I> as Iterator>⟧.can_next
             ⟦<Below<I> as DoubleEndedIterator>⟧.can_next_back }
+        // So a `for` may go over it, from the front or from the back.
+        ensures next { (iter : I) (seqno : _) → self.now ≡ below_of seqno iter →
+            CanDeal I.next_gives I.next_back_gives I.can_next I.can_next_back iter →
+            IsFinite (I.remaining iter) → ⟦<Below<I> as Iterator>⟧.can_next self.now }
+        ensures next_back { (iter : I) (seqno : _) → self.now ≡ below_of seqno iter →
+            CanDeal I.next_gives I.next_back_gives I.can_next I.can_next_back iter →
+            IsFinite (I.remaining iter) →
+            ⟦<Below<I> as DoubleEndedIterator>⟧.can_next_back self.now }
     {}
 }
 

@@ -75,6 +75,15 @@ pub fn newest_from_both_ends<I: DoubleEndedIterator<Item = IterItem<A>>, A: Allo
         ⟦<NewestOf<I, A> as DoubleEndedIterator>⟧.next_back_gives
         ⟦<NewestOf<I, A> as Iterator>⟧.can_next
         ⟦<NewestOf<I, A> as DoubleEndedIterator>⟧.can_next_back stream.now }
+    // So a `for` may go over it, from the front or from the back.
+    ensures next { (its : List I) → IsNewestOf its stream.now →
+        All (CanDeal I.next_gives I.next_back_gives I.can_next I.can_next_back) its →
+        All (λ i. IsFinite (I.remaining i)) its →
+        ⟦<NewestOf<I, A> as Iterator>⟧.can_next stream.now }
+    ensures next_back { (its : List I) → IsNewestOf its stream.now →
+        All (CanDeal I.next_gives I.next_back_gives I.can_next I.can_next_back) its →
+        All (λ i. IsFinite (I.remaining i)) its →
+        ⟦<NewestOf<I, A> as DoubleEndedIterator>⟧.can_next_back stream.now }
 {
     from_both_ends(stream.source());
     stream.from_both_ends();

@@ -7,8 +7,8 @@ use Rattle.lsm_ranges.proofs.PackLemmas.{if_ok}
 use Rattle.lsm_sorted.specs.Below.{below_of}
 use Rattle.lsm_runs.specs.RunLists.{single}
 use Rattle.lsm_runs.specs.RunRange.{RunGives, back_tables, front_tables, run_size}
-use Rattle.lsm_runs.proofs.Numbered.{can_as, newest_numbered_of}
-use Rattle.lsm_runs.proofs.RunLaws.{run_deals}
+use Rattle.lsm_runs.proofs.Numbered.{can_as, dealt_as, newest_numbered_of, none_cut, past_as, starts_as}
+use Rattle.lsm_runs.proofs.RunLaws.{if_ok_both, run_deals}
 use Rattle.lsm_runs.proofs.AllSources.{Behind, InFront, each_asked, each_ends, together_all}
 use Rattle.lsm_runs.proofs.Together.{all_of, union_cut}
 use Rattle.lsm_runs.proofs.sources.range_sources_at.Goals as goal
@@ -24,6 +24,26 @@ returns-clause-list g c lists held further deal =
     (union_cut {S = ℕ} (λ _ _ _. ℕ) (λ _ _ _. ℕ) low high all)
     (together_all (RunGives front_of front_tables) (RunGives back_of back_tables) g.S.Iterator.next_gives g.S.DoubleEndedIterator.next_back_gives low high c.in_ok-readers.readers.items c.args.sources.items lists further (c.in_ok-readers.ensures.list lists held) deal) deals)
     c.newest_stream.ensures.deals
+
+pub returns-clause-whole : goal.returns-clause-whole
+returns-clause-whole g c lists held further deal below =
+    if_ok c.newest_stream.result
+    (λ s deals. dealt_as _ _ s _ _ (none_cut c.args.seqno c.args.range.0 c.args.range.1 (map single further ++ lists) below) deals)
+    (returns-clause-list g c lists held further deal)
+
+pub returns-clause-steps : goal.returns-clause-steps
+returns-clause-steps g c order =
+    let readers = c.in_ok-readers.readers.items in
+    let are = c.in_ok-below.ensures.of ∙ ap (map (below_of c.args.seqno)) c.in_ok-all.ensures.of in
+    if_ok_both c.newest_stream.result
+    (λ s starts past. record {
+      readers = readers;
+      spans = c.in_ok-readers.ensures.spans order;
+      deal = all_of _ (λ r. run_deals r) readers;
+      of = starts_as s _ _ are starts;
+      answers = past_as _ _ _ _ s _ _ are past;
+    })
+    c.newest_stream.ensures.starts c.newest_stream.ensures.past
 
 pub returns-clause-can : goal.returns-clause-can
 returns-clause-can g c may ends =

@@ -1,3 +1,4 @@
+use Rattle.sst_entries.proofs.StreamLemmas.{can_now, can_now_back}
 use Rattle.lsm_merge.specs.MergeLaws.{every_error}
 use Rattle.lsm_merge.specs.Union.{union_of}
 use Rattle.lsm_merge.proofs.UnionLemmas.{merged_union}
@@ -52,3 +53,9 @@ returns-clause-can g c its h =
     let of = merger_read its c.args.stream.now m c.source.ensures h in
     let starts = starts_read its c.args.stream.now m c.source.ensures h in
     record { asks = λ can ends. (c.from_both_ends-2.ensures.can m starts).asks ((c.from_both_ends.ensures.can its of).asks can ends) tt }
+
+pub returns-clause-next : goal.returns-clause-next
+returns-clause-next g c its h can ends = can_now _ _ _ _ c.args.stream.now ((returns-clause-can g c its h).asks can ends)
+
+pub returns-clause-next_back : goal.returns-clause-next_back
+returns-clause-next_back g c its h can ends = can_now_back _ _ _ _ c.args.stream.now ((returns-clause-can g c its h).asks can ends)
