@@ -347,6 +347,10 @@ table_found body parts =
     all_found body parts >>= λ _.
     Ok (verified_of parts.facts)
 
+-- the file's bytes have another checksum, which is found at the first of them
+abbrev pub other_checksum : Finding
+other_checksum = finding section.Data 0 fault.OtherChecksum
+
 -- ---- before memory is taken
 
 -- what is found so is the refusal, whatever memory there is
