@@ -1,7 +1,8 @@
 -- Reading a whole table once: what each step of it finds wrong first, or what is then still to be
 -- read of what the meta block says.
-use Rattle.std.specs.Prelude.{◌≡◌, ℕ, ◌-◌, ◌^◌, ◌==◌, nat_lt, Bool, List, [], ◌∷◌}
-use Rattle.std.specs.Prelude.{map, max, min, Option, Some, None, Result, Ok, Err, if◌then◌else◌}
+use Rattle.std.specs.Prelude.{◌≡◌, ℕ, ◌-◌, ◌^◌, ◌==◌, nat_lt, Bool, true, false}
+use Rattle.std.specs.Prelude.{List, [], ◌∷◌, map, max, min, Option, Some, None, Result, Ok, Err}
+use Rattle.std.specs.Prelude.{if◌then◌else◌}
 use Rattle.std.specs.Result.{IsErrAnd}
 use Rattle.sst_sections.specs.declared.section.SectionName.{SectionName}
 use Rattle.sst_sections.specs.declared.section.SectionName.TheVariants as section
@@ -47,6 +48,11 @@ finding section offset fault = record { section = section; offset = offset; faul
 -- a refusal is want of memory, or the finding that is told
 abbrev pub Misses : {Y : Type 0} → VerifyError → Result Y Finding → Type 0
 Misses e told = (f : Finding) → e ≡ Found f → told ≡ Err f
+
+-- a refusal is no want of memory
+abbrev pub is_found : VerifyError → Bool
+is_found OutOfMemory = false
+is_found (Found f) = true
 
 -- memory aside, a call finds what is told, its value seen by a view
 abbrev pub Finds : {X Y : Type 0} → (X → Y) → Result X VerifyError → Result Y Finding → Type 0
@@ -340,6 +346,10 @@ table_found body parts =
     filters_found body parts >>= λ _.
     all_found body parts >>= λ _.
     Ok (verified_of parts.facts)
+
+-- the file's bytes have another checksum, which is found at the first of them
+abbrev pub other_checksum : Finding
+other_checksum = finding section.Data 0 fault.OtherChecksum
 
 -- ---- before memory is taken
 

@@ -1,11 +1,13 @@
 //! Reading a whole table once, to see whether its bytes store a list.
-ghost use Rattle.std.specs.Prelude.{◌≡◌};
+ghost use Rattle.std.specs.Prelude.{◌≡◌, ◌≢◌, IfErr, IfOk};
+ghost use Rattle.sst_sections.specs.Fnv.{fnv1a};
 ghost use Rattle.sst_sections.specs.Sections.{body_of};
 ghost use Rattle.lsm_readers.specs.Table.{parts_of};
 ghost use Rattle.sst_blocks.specs.declared.block_type.BlockType.TheVariants.{Index};
 ghost use Rattle.sst_sections.specs.declared.section.SectionName.TheVariants.{Tli};
 ghost use Rattle.lsm_readers.specs.Verify.{Finds, FindsFirst, all_found, early_at, fault_at};
-ghost use Rattle.lsm_readers.specs.Verify.{finding, table_early, table_found, unread_of};
+ghost use Rattle.lsm_readers.specs.Verify.{finding, other_checksum, table_early, table_found};
+ghost use Rattle.lsm_readers.specs.Verify.{unread_of};
 ghost use Rattle.lsm_readers.specs.declared.verify.Verified.{Verified as Verification};
 ghost use Rattle.lsm_readers.specs.declared.verify.VerifyError.TheVariants.{Found};
 
@@ -17,7 +19,7 @@ use crate::Inner;
 use blocks::read_index;
 use end::{test_filters, test_left};
 use lsm_formats::ItemName;
-use sst_blocks::{BlockSource, Error, InternalValue, SectionName, SeqNo};
+use sst_blocks::{BlockSource, Checksum, Error, InternalValue, SectionName, SeqNo, hash};
 use std::alloc::{Allocator, Global};
 use std::marker::Model;
 
@@ -46,10 +48,13 @@ pub enum Fault {
     Unborne(ItemName),
     /// A data block that no handle names.
     Unnamed,
+    /// The file's bytes have another checksum than the one that was given.
+    OtherChecksum,
 }
 
 /// What is wrong, and where: the section and the position of the block at which it is found. What a
-/// handle names wrong is found at the block that it names.
+/// handle names wrong is found at the block that it names, and another checksum at the file's first
+/// byte.
 #[derive(Debug, Drop, PartialEq, Eq)]
 pub struct Finding {
     /// The section.
@@ -125,6 +130,19 @@ fn unloaded(section: SectionName, offset: u64, error: Error) -> VerifyError
     match error {
         Error::OutOfMemory => VerifyError::OutOfMemory,
         error => found(section, offset, Fault::Unloaded(error)),
+    }
+}
+
+/// Tests that some bytes have a checksum.
+pub(crate) fn test_checksum(bytes: &[u8], checksum: Checksum) -> Result<(), VerifyError>
+    ensures same { IfOk result (λ _. fnv1a bytes.now ≡ checksum.0) }
+    ensures other { IfErr result (λ e. fnv1a bytes.now ≢ checksum.0) }
+    ensures told { IfErr result (λ e. e ≡ Found other_checksum) }
+{
+    if u128::from(hash(bytes)) == checksum.0 {
+        Ok(())
+    } else {
+        Err(found(SectionName::Data, 0, Fault::OtherChecksum))
     }
 }
 

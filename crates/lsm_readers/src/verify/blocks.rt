@@ -1,5 +1,5 @@
 //! Reading blocks of handles, and the data blocks that these name.
-ghost use Rattle.std.specs.Prelude.{◌≡◌, ◌<◌, List, IfErr, IfOk, Some, length};
+ghost use Rattle.std.specs.Prelude.{◌≡◌, ◌<◌, List, IfErr, IfOk, Some, length, true};
 ghost use Rattle.std.specs.List.{slice_get};
 ghost use Rattle.lsm_readers.specs.declared.verify.VerifyError.TheVariants.{OutOfMemory};
 ghost use Rattle.sst_blocks.specs.declared.block_type.BlockType.TheVariants as block;
@@ -8,7 +8,7 @@ ghost use Rattle.lsm_readers.specs.Words.{Entry, Handle, body_of, parts_of};
 ghost use Rattle.lsm_readers.specs.declared.verify.Counts.{Counts as CountsLeft};
 ghost use Rattle.lsm_readers.specs.Verify.{Finds, FindsFirst, block_found, block_spent};
 ghost use Rattle.lsm_readers.specs.Verify.{blocks_found, chunk_found, early_at, end_named};
-ghost use Rattle.lsm_readers.specs.Verify.{handles_found, index_found};
+ghost use Rattle.lsm_readers.specs.Verify.{handles_found, index_found, is_found};
 ghost use Rattle.lsm_readers.specs.Verify.{last_named, part_found, parts_found, place_found};
 ghost use Rattle.lsm_readers.specs.Verify.{top_named};
 
@@ -25,7 +25,8 @@ use std::alloc::Allocator;
 
 /// Tests that a handle names the block at a position.
 fn test_place(at: u64, offset: u64) -> Result<(), VerifyError>
-    ensures { Finds (λ (_ : _). tt) result (place_found at offset) }
+    ensures told { Finds (λ (_ : _). tt) result (place_found at offset) }
+    ensures calm { IfErr result (λ e. is_found e ≡ true) }
 {
     if offset == at {
         Ok(())
@@ -37,7 +38,8 @@ fn test_place(at: u64, offset: u64) -> Result<(), VerifyError>
 /// Counts a data block of a size.
 #[tactic(auto, unfolding(crate::specs::Verify::block_spent))]
 fn count_block(meta: u64, size: u32, counts: Counts) -> Result<Counts, VerifyError>
-    ensures { Finds (λ (c : CountsLeft). c) result (block_spent meta size counts) }
+    ensures told { Finds (λ (c : CountsLeft). c) result (block_spent meta size counts) }
+    ensures calm { IfErr result (λ e. is_found e ≡ true) }
 {
     let blocks = spend(meta, ItemName::BlockCountData, counts.blocks, 1)?;
     let size = spend(meta, ItemName::FileSize, counts.size, u64::from(size))?;
@@ -94,7 +96,8 @@ fn test_end<A: Allocator>(
     key: &[u8],
     seqno: SeqNo,
 ) -> Result<(), VerifyError>
-    ensures { Finds (λ (_ : _). tt) result (end_named section handle.now key.now seqno) }
+    ensures told { Finds (λ (_ : _). tt) result (end_named section handle.now key.now seqno) }
+    ensures calm { IfErr result (λ e. is_found e ≡ true) }
 {
     if handle.end_key().as_slice() != key {
         return Err(found(section, handle.offset().0, Fault::OtherKey));
@@ -111,7 +114,8 @@ fn test_last<A: Allocator>(
     handle: &KeyedBlockHandle<A>,
     last: &Option<InternalValue<A>>,
 ) -> Result<(), VerifyError>
-    ensures { Finds (λ (_ : _). tt) result (last_named section.Data handle.now last.now) }
+    ensures told { Finds (λ (_ : _). tt) result (last_named section.Data handle.now last.now) }
+    ensures calm { IfErr result (λ e. is_found e ≡ true) }
 {
     match last {
         None => Err(found(SectionName::Data, handle.offset().0, Fault::Hollow)),

@@ -1,5 +1,5 @@
 //! The blocks of the filter, and what is compared once all is read.
-ghost use Rattle.std.specs.Prelude.{◌≡◌, IsOk, List, [], None, Some, map, ℕ};
+ghost use Rattle.std.specs.Prelude.{◌≡◌, IfErr, IsOk, List, [], None, Some, map, true, ℕ};
 ghost use Rattle.sst_entries.specs.declared.error.Error.{Error};
 ghost use Rattle.sst_blocks.specs.declared.block_type.BlockType.TheVariants as block;
 ghost use Rattle.sst_sections.specs.declared.section.SectionName.TheVariants as section;
@@ -7,8 +7,8 @@ ghost use Rattle.lsm_readers.specs.Words.{Handle, Loaded, body_of, parts_of, pla
 ghost use Rattle.lsm_readers.specs.Words.{position_fault};
 ghost use Rattle.lsm_readers.specs.Verify.{Finds, FindsFirst, counts_found, early_at};
 ghost use Rattle.lsm_readers.specs.Verify.{early_filters, end_found, filter_found, filter_places};
-ghost use Rattle.lsm_readers.specs.Verify.{filters_found, key_same, same_found, tops_found};
-ghost use Rattle.lsm_readers.specs.Verify.{unnamed_found};
+ghost use Rattle.lsm_readers.specs.Verify.{filters_found, is_found, key_same, same_found};
+ghost use Rattle.lsm_readers.specs.Verify.{tops_found, unnamed_found};
 
 use super::{Counts, Fault, Unread, VerifyError, found, unloaded};
 use crate::Inner;
@@ -76,7 +76,8 @@ pub(super) fn test_filters<A: Allocator + Clone>(
 
 /// Tests that a number of the meta block at a position is the one that was read.
 fn test_same(meta: u64, item: ItemName, said: u64, read: u64) -> Result<(), VerifyError>
-    ensures { Finds (λ (_ : _). tt) result (same_found meta item said read) }
+    ensures told { Finds (λ (_ : _). tt) result (same_found meta item said read) }
+    ensures calm { IfErr result (λ e. is_found e ≡ true) }
 {
     if said == read {
         Ok(())
@@ -89,7 +90,8 @@ fn test_same(meta: u64, item: ItemName, said: u64, read: u64) -> Result<(), Veri
 /// those that were read.
 #[tactic(auto, unfolding(crate::specs::Verify::counts_found))]
 fn test_counts<A: Allocator>(inner: &Inner<A>, counts: &Counts) -> Result<(), VerifyError>
-    ensures { Finds (λ (_ : _). tt) result (counts_found (parts_of inner.now) counts.now) }
+    ensures told { Finds (λ (_ : _). tt) result (counts_found (parts_of inner.now) counts.now) }
+    ensures calm { IfErr result (λ e. is_found e ≡ true) }
 {
     let meta = inner.regions.metadata.offset().0;
     test_same(meta, ItemName::BlockCountData, counts.blocks, 0)?;
@@ -128,7 +130,8 @@ fn test_unnamed<A: Allocator + Clone>(source: &BlockSource<A>) -> Result<(), Ver
 
 /// Tests a key of the meta block.
 fn test_range_key(meta: u64, item: ItemName, said: &[u8], read: &[u8]) -> Result<(), VerifyError>
-    ensures { Finds (λ (_ : _). tt) result (key_same meta item said.now read.now) }
+    ensures told { Finds (λ (_ : _). tt) result (key_same meta item said.now read.now) }
+    ensures calm { IfErr result (λ e. is_found e ≡ true) }
 {
     if said == read {
         Ok(())

@@ -1,13 +1,13 @@
 //! Reading entries.
-ghost use Rattle.std.specs.Prelude.{◌≡◌, ◌<◌, IfErr, IfOk, Some, length};
+ghost use Rattle.std.specs.Prelude.{◌≡◌, ◌<◌, IfErr, IfOk, Some, length, true};
 ghost use Rattle.std.specs.List.{slice_get};
 ghost use Rattle.lsm_readers.specs.declared.verify.VerifyError.TheVariants.{OutOfMemory};
 ghost use Rattle.lsm_readers.specs.Words.{body_of, parts_of};
 ghost use Rattle.lsm_readers.specs.declared.verify.Counts.{Counts as CountsLeft};
 ghost use Rattle.lsm_readers.specs.Verify.{Finds, admitted, entries_found, entry_found};
 ghost use Rattle.lsm_readers.specs.Verify.{entry_spent, entry_tested, first_found, is_reclaimable};
-ghost use Rattle.lsm_readers.specs.Verify.{is_weak, key_found, may_follow, order_found, spent};
-ghost use Rattle.lsm_readers.specs.Verify.{starts_key};
+ghost use Rattle.lsm_readers.specs.Verify.{is_found, is_weak, key_found, may_follow, order_found};
+ghost use Rattle.lsm_readers.specs.Verify.{spent, starts_key};
 
 use super::{Counts, Fault, Unread, VerifyError, found};
 use crate::Inner;
@@ -19,7 +19,8 @@ use std::alloc::Allocator;
 
 /// What is left of a count of the meta block at a position, once some of it is read.
 pub(super) fn spend(meta: u64, item: ItemName, left: u64, by: u64) -> Result<u64, VerifyError>
-    ensures { Finds (λ n. n) result (spent meta item left by) }
+    ensures told { Finds (λ n. n) result (spent meta item left by) }
+    ensures calm { IfErr result (λ e. is_found e ≡ true) }
 {
     if left < by {
         return Err(found(SectionName::Meta, meta, Fault::Unborne(item)));
@@ -74,7 +75,8 @@ fn test_order<A: Allocator>(
     last: &Option<InternalValue<A>>,
     entry: &InternalValue<A>,
 ) -> Result<(), VerifyError>
-    ensures { Finds (λ (_ : _). tt) result (order_found at last.now entry.now) }
+    ensures told { Finds (λ (_ : _). tt) result (order_found at last.now entry.now) }
+    ensures calm { IfErr result (λ e. is_found e ≡ true) }
 {
     if entry.key.seqno < SeqNo::MAX {
         if may_follow(last, entry) {
@@ -93,7 +95,9 @@ fn test_first<A: Allocator>(
     last: &Option<InternalValue<A>>,
     entry: &InternalValue<A>,
 ) -> Result<(), VerifyError>
-    ensures { Finds (λ (_ : _). tt) result (first_found (parts_of inner.now) last.now entry.now) }
+    ensures told { Finds (λ (_ : _). tt) result
+        (first_found (parts_of inner.now) last.now entry.now) }
+    ensures calm { IfErr result (λ e. is_found e ≡ true) }
 {
     if last.is_some() || inner.metadata.key_range.min() == &entry.key.user_key {
         Ok(())
@@ -133,8 +137,9 @@ fn test_key<A: Allocator + Clone>(
     last: &Option<InternalValue<A>>,
     entry: &InternalValue<A>,
 ) -> Result<(), VerifyError>
-    ensures { Finds (λ (_ : _). tt) result
+    ensures told { Finds (λ (_ : _). tt) result
         (key_found (body_of source.now) (parts_of inner.now) at last.now entry.now) }
+    ensures calm { IfErr result (λ e. is_found e ≡ true) }
 {
     if !starts_key(last, entry) {
         return Ok(());
@@ -154,7 +159,9 @@ fn count_entry<A: Allocator>(
     entry: &InternalValue<A>,
     counts: Counts,
 ) -> Result<Counts, VerifyError>
-    ensures { Finds (λ (c : CountsLeft). c) result (entry_spent meta last.now entry.now counts) }
+    ensures told { Finds (λ (c : CountsLeft). c) result
+        (entry_spent meta last.now entry.now counts) }
+    ensures calm { IfErr result (λ e. is_found e ≡ true) }
 {
     let tombstone = u64::from(entry.is_tombstone());
     let weak = u64::from(is_weak(entry));
@@ -189,8 +196,9 @@ fn test_entry<A: Allocator + Clone>(
     left: &Unread<A>,
     entry: &InternalValue<A>,
 ) -> Result<Counts, VerifyError>
-    ensures { Finds (λ (c : CountsLeft). c) result
+    ensures told { Finds (λ (c : CountsLeft). c) result
         (entry_tested (body_of source.now) (parts_of inner.now) at left.now entry.now) }
+    ensures calm { IfErr result (λ e. is_found e ≡ true) }
 {
     test_order(at, &left.last, entry)?;
     test_first(inner, &left.last, entry)?;
@@ -208,8 +216,9 @@ fn read_entry<A: Allocator + Clone>(
     left: &mut Unread<A>,
     entry: InternalValue<A>,
 ) -> Result<(), VerifyError>
-    ensures { Finds (λ (_ : _). left.new) result
+    ensures told { Finds (λ (_ : _). left.new) result
         (entry_found (body_of source.now) (parts_of inner.now) at left.old entry) }
+    ensures calm { IfErr result (λ e. is_found e ≡ true) }
 {
     let counts = test_entry(source, inner, at, left, &entry)?;
     left.last = Some(entry);

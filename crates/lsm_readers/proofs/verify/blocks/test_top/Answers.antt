@@ -26,4 +26,4 @@ returns g c =
     subst (λ (r : Result (Unit {0}) Finding). Finds (λ (_ : Unit {0}). tt) c.test_end.result r)
     (ap (λ (k : List ℕ). end_named Index top k c.seqno.result) key
     ∙ ap (λ (n : ℕ). end_named Index top last.end_key n) c.seqno.ensures ∙ sym told)
-    c.test_end.ensures
+    c.test_end.ensures.told
