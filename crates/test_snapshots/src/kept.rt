@@ -1,8 +1,10 @@
 //! A table's bytes, its meta block, and reads by a key alone.
+use crate::written_is_found;
 use lsm_formats::ItemName;
 use lsm_tables::{Table, Verified};
 use sst_blocks::{Error, SeqNo, ValueType};
 use std::alloc::{Allocator, Global};
+use test_tables::lists::list_of;
 use test_tables::rows::{Row, fill, new_writer};
 use test_tables::tables::open;
 
@@ -70,4 +72,20 @@ fn a_table_is_kept_and_verified_by_its_bytes(rt: HostRuntime) {
         item_count: 3,
     };
     assert!(rt; told(rt.alloc()) == Ok((2, true, Some(verified))));
+}
+
+// The numbers of the entries of `a` below 4 and of `c`, in a list that is written and opened.
+fn written_are_found(alloc: Global) -> Result<[Option<SeqNo>; 2], Error> {
+    let mut numbers = [None; 2];
+    for (number, key) in numbers.iter_mut().zip([b"a", b"c"]) {
+        if let Some(Some(item)) = written_is_found(alloc, list_of(alloc, ROWS)?, key, 4)? {
+            *number = Some(item.key.seqno);
+        }
+    }
+    Ok(numbers)
+}
+
+#[test]
+fn what_is_written_is_found(rt: HostRuntime) {
+    assert!(rt; written_are_found(rt.alloc()) == Ok([Some(2), None]));
 }
