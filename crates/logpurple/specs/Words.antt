@@ -19,6 +19,7 @@ pub use Rattle.lsm_readers.specs.Stored.{BearsOut, StoresList}
 pub use Rattle.lsm_runs.specs.RunLists.{DealWithin, DealsList, HoldLists, HoldsList, RunsHoldLists}
 pub use Rattle.lsm_runs.specs.RunParts.{range_of}
 pub use Rattle.lsm_runs.specs.SeveralRuns.{runs_told, union_in}
+pub use Rattle.lsm_compactions.specs.AnyRuns.{AreTablesBy, HasMade, WritesSome}
 pub use Rattle.lsm_compactions.specs.Chain.{FitsAsTables, IsRunOfList, tables_fault}
-pub use Rattle.lsm_compactions.specs.Compacted.{AreCompactable, kept_in}
+pub use Rattle.lsm_compactions.specs.Compacted.{AreCompactable, AreWrittenBy, kept_in}
 pub use Rattle.lsm_compactions.specs.Written.{IsOpened, opening_fault}

@@ -13,10 +13,11 @@ pub use lsm_sorted::compaction::stream::{
 };
 pub use lsm_sorted::{Below, MvccStream, NewestOf, each_below, newest_of};
 pub use lsm_tables::{
-    Fault, Finding, Iter, NewestOfRuns, NewestOfRunsAt, NewestOfSourcesAt, ParsedMeta, Query,
-    RunReader, RunScanner, Scanner, Table, Verified, VerifyError, compact_runs, compact_to_run,
-    get_many, get_runs, get_runs_by_age, get_runs_by_age_counted, get_runs_counted, pack_runs,
-    range_runs, range_runs_at, range_sources_at, read_run, write_and_open, write_run,
+    CompactionOutcome, Fault, Finding, Iter, NewestOfRuns, NewestOfRunsAt, NewestOfSourcesAt,
+    ParsedMeta, Query, RunReader, RunScanner, Scanner, Table, Verified, VerifyError,
+    compact_any_runs, compact_runs, compact_to_run, get_many, get_runs, get_runs_by_age,
+    get_runs_by_age_counted, get_runs_counted, pack_runs, range_runs, range_runs_at,
+    range_sources_at, read_run, write_and_open, write_run,
 };
 pub use lsm_writers::{
     BloomConstructionPolicy, FilterKind, FinishedTable, IndexKind, Metadata, MultiWriter, Options,

@@ -8,6 +8,7 @@ pub mod PackingResult
 pub mod PackedAble
 pub mod WrittenBy
 pub mod WritesOn
+pub mod AnyWritten
 pub mod Scanners
 pub mod Keeping
 pub mod Versions

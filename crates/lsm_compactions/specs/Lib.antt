@@ -2,6 +2,7 @@ pub mod Written
 pub mod Chain
 pub mod Packed
 pub mod Compacted
+pub mod AnyRuns
 pub mod ReadsCompacted
 pub mod ListRuns
 pub mod PartReads

@@ -35,21 +35,22 @@ fn scanner_of<A: Allocator + Clone>(run: &Arc<Run<Table<A>, A>, A>) -> Result<Ru
     RunScanner::culled(run.clone()?, (None, None))
 }
 
-// A scanner of each run.
+// A scanner of each run that has a table.
 fn scanners_of<A: Allocator + Clone>(
     alloc: A,
     runs: &[Arc<Run<Table<A>, A>, A>],
 ) -> Result<Vec<RunScanner<A>, A>, Error>
-    requires { AreCompactable (map arc_value runs.now) }
     // They deal together what each run has.
     ensures list { let gives = ⟦<RunScanner<A> as Iterator>⟧.next_gives in
         (able : AreCompactable (map arc_value runs.now)) →
         IfOk result (λ v. DealTogether gives nowhere v.items (map joined able.lists)) }
-    ensures err { IfErr result (λ e. e ≡ OutOfMemory) }
+    ensures err { AreCompactable (map arc_value runs.now) → IfErr result (λ e. e ≡ OutOfMemory) }
 {
     let mut scanners = Vec::new(alloc);
     for run in runs {
-        scanners.push(scanner_of(run)?)?;
+        if !run.as_slice().is_empty() {
+            scanners.push(scanner_of(run)?)?;
+        }
     }
     Ok(scanners)
 }
@@ -79,20 +80,19 @@ fn kept_from<I: Iterator<Item = IterItem<A>>, A: Allocator + Clone>(
     Ok(stream)
 }
 
-// What is kept of all entries of the runs together, in order.
-fn kept_of<A: Allocator + Clone>(
+// What is kept of all entries of the runs together, in order where the runs may be compacted.
+pub(crate) fn kept_of<A: Allocator + Clone>(
     alloc: A,
     runs: &[Arc<Run<Table<A>, A>, A>],
     rules: Rules,
 ) -> Result<CompactionStream<Merger<RunScanner<A>, A>>, Error>
-    requires { AreCompactable (map arc_value runs.now) }
     ensures can { IfOk result
         ⟦<CompactionStream<Merger<RunScanner<A>, A>> as Iterator>⟧.can_next }
     ensures list { let gives =
         ⟦<CompactionStream<Merger<RunScanner<A>, A>> as Iterator>⟧.next_gives in
         (able : AreCompactable (map arc_value runs.now)) →
         IfOk result (DealsList gives nowhere (kept_in rules able.lists)) }
-    ensures err { IfErr result (λ e. e ≡ OutOfMemory) }
+    ensures err { AreCompactable (map arc_value runs.now) → IfErr result (λ e. e ≡ OutOfMemory) }
 {
     let scanners = scanners_of(alloc.clone()?, runs)?;
     kept_from(alloc, scanners, rules)

@@ -2,11 +2,13 @@
 //! several runs that are packed.
 #![tactic(auto)]
 
+mod any_runs;
 mod compact;
 mod compacted_run;
 mod pack;
 mod written_run;
 
+pub use any_runs::{CompactionOutcome, compact_any_runs};
 pub use compact::{compact_runs, compaction_law};
 pub use compacted_run::compact_to_run;
 pub use pack::{pack_runs, packing_law};

@@ -17,7 +17,8 @@ pub use lsm_block_indexes::{
     OwnedIndexBlockIter, TwoLevelBlockIndex, VolatileBlockIndex,
 };
 pub use lsm_compactions::{
-    compact_runs, compact_to_run, compaction_law, pack_runs, packing_law, write_run,
+    CompactionOutcome, compact_any_runs, compact_runs, compact_to_run, compaction_law, pack_runs,
+    packing_law, write_run,
 };
 pub use lsm_formats::{GlobalTableId, TableId, Timestamp, TreeId};
 pub use lsm_iters::{Bound, Iter, OwnedDataBlockIter};
@@ -31,6 +32,7 @@ pub use lsm_runs::{
     range_sources_at,
 };
 pub use lsm_sorted::compaction::Rules;
+pub use lsm_writers::{FinishedTable, MultiWriter, TableIds};
 pub use one_answer::{PointAndScan, Ranges, read_each_way};
 pub use part::compact_part_back;
 pub use reads::{Reads, read_run};

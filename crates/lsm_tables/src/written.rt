@@ -1,8 +1,9 @@
 //! A list that is written as a table, opened and read.
-ghost use Rattle.std.specs.Prelude.{◌≡◌, [], IfOk, MatchOption};
+ghost use Rattle.std.specs.Prelude.{◌≡◌, [], IfOk, IfSome, MatchOption};
 ghost use Rattle.sst_entries.specs.Error.{Faults};
 ghost use Rattle.lsm_formats.specs.Options.{label_of};
 ghost use Rattle.lsm_writers.specs.Writing.{IsWritable};
+ghost use Rattle.lsm_readers.specs.Stored.{StoresList};
 ghost use Rattle.lsm_compactions.specs.Written.{IsOpened, ReadsList, opening_fault};
 
 use crate::{Scanner, Table};
@@ -25,6 +26,10 @@ pub fn write_and_open<A: Allocator + Clone>(
     requires { IsWritable items.items }
     ensures table { IfOk result (λ t. MatchOption t (items.items ≡ [])
         (λ table. IsOpened (label_of id 0 created_at) items.items global_seqno table)) }
+    // Its bytes store the list, so that what is promised of reads holds of it,
+    ensures stored { IfOk result (λ t. IfSome t (λ table. StoresList table.bytes items.items)) }
+    // with the global number.
+    ensures global { IfOk result (λ t. IfSome t (λ table. table.global_seqno ≡ global_seqno)) }
     ensures refused { Faults result
         (opening_fault (label_of id 0 created_at) items.items global_seqno) }
 {
@@ -33,6 +38,8 @@ pub fn write_and_open<A: Allocator + Clone>(
         Some(table) => {
             let (bytes, checksum) = (table.bytes, table.checksum);
             let opened = Table::recover(alloc, bytes, checksum, global_seqno, 0, true, true)?;
+            // What was written of the list stores it.
+            opened.tells_its_list();
             Ok(Some(opened))
         }
     }

@@ -1,8 +1,10 @@
 //! A table's bytes, its meta block, and reads by a key alone.
+use crate::written_is_found;
 use lsm_formats::ItemName;
 use lsm_tables::{Fault, Finding, Table, Verified, VerifyError};
 use sst_blocks::{Error, SectionName, SeqNo, ValueType};
 use std::alloc::{Allocator, Global};
+use test_tables::lists::list_of;
 use test_tables::rows::{Row, fill, new_writer};
 use test_tables::runs::{Tables, damaged_run_of};
 use test_tables::tables::open;
@@ -97,4 +99,20 @@ fn a_damaged_block_is_found_where_it_is(rt: HostRuntime) {
         fault: Fault::Unloaded(Error::ChecksumMismatch),
     };
     assert!(rt; wrong(rt.alloc()) == Ok(Some(VerifyError::Found(found))));
+}
+
+// The numbers of the entries of `a` below 4 and of `c`, in a list that is written and opened.
+fn written_are_found(alloc: Global) -> Result<[Option<SeqNo>; 2], Error> {
+    let mut numbers = [None; 2];
+    for (number, key) in numbers.iter_mut().zip([b"a", b"c"]) {
+        if let Some(Some(item)) = written_is_found(alloc, list_of(alloc, ROWS)?, key, 4)? {
+            *number = Some(item.key.seqno);
+        }
+    }
+    Ok(numbers)
+}
+
+#[test]
+fn what_is_written_is_found(rt: HostRuntime) {
+    assert!(rt; written_are_found(rt.alloc()) == Ok([Some(2), None]));
 }

@@ -5,6 +5,11 @@
 #[cfg(test)]
 mod ages;
 #[cfg(test)]
+mod any_runs;
+mod found;
+#[cfg(test)]
 mod kept;
 #[cfg(test)]
 mod ranges;
+
+pub use found::written_is_found;

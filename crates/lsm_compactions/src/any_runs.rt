@@ -1,0 +1,101 @@
+//! Compacting several runs of tables whose bytes nobody has verified.
+ghost use Rattle.std.specs.Prelude.{◌≡◌, IfErr, IfOk, List, map};
+ghost use Rattle.std.specs.Arc.{arc_value};
+ghost use Rattle.std.specs.Iterator.{IsFinite};
+ghost use Rattle.sst_entries.specs.declared.error.Error.TheVariants.{OutOfMemory};
+ghost use Rattle.lsm_compactions.specs.Words.{AreCompactable, AreTablesBy, DealsWritable, Entry};
+ghost use Rattle.lsm_compactions.specs.Words.{Faults, FitsBy, HasMade};
+ghost use Rattle.lsm_compactions.specs.Words.{IsFreshRun, RunsHoldLists, RunsOn, kept_in};
+ghost use Rattle.lsm_compactions.specs.Words.{writes_fault};
+
+use crate::compact::kept_of;
+use lsm_ranges::Run;
+use lsm_readers::Table;
+use lsm_sorted::compaction::Rules;
+use lsm_writers::{FinishedTable, MultiWriter, TableIds, tables_law};
+use sst_blocks::{Error, IterItem};
+use std::alloc::{Allocator, Global};
+use std::sync::Arc;
+
+/// What a compaction of any tables came to.
+#[derive(Drop)]
+#[derive_where(Debug)]
+pub enum CompactionOutcome<A: Allocator = Global> {
+    /// The finished tables, none where nothing is kept, and the writer's counter of ids behind
+    /// them.
+    Tables(Vec<FinishedTable<A>, A>, TableIds),
+    /// An entry came that does not follow the one before it, or that is numbered `u64::MAX`: a
+    /// table does not hold what a writer makes, or a run is out of order, or a key has one number
+    /// twice. No table was kept.
+    OutOfOrder,
+}
+
+// Writes what a stream deals, as long as each entry may follow the one before it, and finishes.
+// Refused as the stream and the writer are.
+fn write_in_order<I: Iterator<Item = IterItem<A>> + Drop, A: Allocator + Clone>(
+    items: I,
+    mut writer: MultiWriter<A>,
+) -> Result<CompactionOutcome<A>, Error>
+    requires fresh { IsFreshRun writer }
+    requires next { RunsOn writer }
+    requires can { I.can_next items }
+    requires finite { IsFinite (I.remaining items) }
+    // A list that can be written is written whole.
+    ensures written { (d : DealsWritable I.next_gives items) →
+        IfOk result (AreTablesBy writer d.list) }
+    ensures refused { (d : DealsWritable I.next_gives items) →
+        Faults result (writes_fault writer d.list) }
+    // Whatever the stream gives, tables are those of a list that can be written.
+    ensures made { IfOk result (HasMade writer) }
+{
+    for item in items {
+        let item = item?;
+        if !writer.can_follow(&item.key) {
+            return Ok(CompactionOutcome::OutOfOrder);
+        }
+        writer.write(item)?;
+    }
+    let left = writer.table_ids();
+    let tables = writer.finish()?;
+    Ok(CompactionOutcome::Tables(tables, left))
+}
+
+/// Compacts several runs of any tables that were opened into new tables: what a
+/// [`CompactionStream`](lsm_sorted::compaction::stream::CompactionStream) without a filter keeps of
+/// all their entries together is written by `writer`, in one pass, for as long as it comes in
+/// order. A run without a table is passed over. Nothing is asked of the runs, so that a store may
+/// compact tables of files that it did not verify.
+///
+/// Where the runs may be given to [`compact_runs`](crate::compact_runs), the answer is the finished
+/// tables and the counter that it answers, and the refusal its refusal. Of any tables it is refused
+/// with the first fault of loading their blocks, as [`MultiWriter::write`] and
+/// [`MultiWriter::finish`] are, and [`Error::OutOfMemory`]. Whatever is answered, the runs are as
+/// they were.
+pub fn compact_any_runs<A: Allocator + Clone>(
+    alloc: A,
+    runs: &[Arc<Run<Table<A>, A>, A>],
+    rules: Rules,
+    writer: MultiWriter<A>,
+) -> Result<CompactionOutcome<A>, Error>
+    requires fresh { IsFreshRun writer }
+    // Of runs that may be compacted the tables are those of what is kept of all entries together,
+    // as the writer cuts them: their entries come in order.
+    ensures tables { AreCompactable (map arc_value runs.now) →
+        (lists : List (List (List Entry))) → RunsHoldLists (map arc_value runs.now) lists →
+        IfOk result (AreTablesBy writer (kept_in rules lists)) }
+    // The refusal is the writer's first one: reading refuses nothing but for want of memory.
+    ensures refused { AreCompactable (map arc_value runs.now) →
+        (lists : List (List (List Entry))) → RunsHoldLists (map arc_value runs.now) lists →
+        Faults result (writes_fault writer (kept_in rules lists)) }
+    // Where their tables fit, and an id is left for each, that is for want of memory alone.
+    ensures taken { AreCompactable (map arc_value runs.now) →
+        (lists : List (List (List Entry))) → RunsHoldLists (map arc_value runs.now) lists →
+        FitsBy writer (kept_in rules lists) → IfErr result (λ e. e ≡ OutOfMemory) }
+    // Whatever the tables hold, what is made are tables of a list that can be written.
+    ensures made { IfOk result (HasMade writer) }
+{
+    // A list whose tables fit is taken whole.
+    tables_law();
+    let stream = kept_of(alloc, runs, rules)?;
+    write_in_order(stream, writer)
+}
