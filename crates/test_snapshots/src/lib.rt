@@ -8,3 +8,5 @@ mod ages;
 mod kept;
 #[cfg(test)]
 mod ranges;
+#[cfg(test)]
+mod sizes;
