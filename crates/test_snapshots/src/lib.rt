@@ -11,5 +11,7 @@ mod found;
 mod kept;
 #[cfg(test)]
 mod ranges;
+#[cfg(test)]
+mod sizes;
 
 pub use found::written_is_found;
