@@ -1,12 +1,12 @@
 //! What a caller proves of calls of its own, where it names the one crate `logpurple`: a read of a
-//! table that stores a list, and a loop over what several runs have below a number. Neither needs a
-//! proof file.
+//! table that stores a list, a list that is written, opened and read, and a loop over what several
+//! runs have below a number. None needs a proof file.
 #![tactic(auto)]
 
-ghost use Rattle.std.specs.Prelude.{◌≡◌, IfOk, List};
-ghost use Rattle.logpurple.specs.Words.{Entry, StoresList, point};
+ghost use Rattle.std.specs.Prelude.{◌≡◌, [], IfOk, List, MatchOption};
+ghost use Rattle.logpurple.specs.Words.{Entry, IsWritable, StoresList, point};
 
-use logpurple::{Error, InternalValue, Run, SeqNo, Table, range_runs_at};
+use logpurple::{Error, InternalValue, Run, SeqNo, Table, Timestamp, range_runs_at, write_and_open};
 use std::alloc::Allocator;
 use std::ops::Bound;
 use std::sync::Arc;
@@ -22,6 +22,24 @@ pub fn find<A: Allocator + Clone>(
         IfOk result (λ found. found ≡ point es key.now seqno) }
 {
     table.get_by_key(key, seqno)
+}
+
+/// The first entry of a key numbered below `seqno` in a list that is written as a table and opened;
+/// `None` where the list has no entry.
+pub fn write_and_find<A: Allocator + Clone>(
+    alloc: A,
+    items: Vec<InternalValue<A>, A>,
+    key: &[u8],
+    seqno: SeqNo,
+) -> Result<Option<Option<InternalValue<A>>>, Error>
+    requires { IsWritable items.items }
+    ensures { IfOk result (λ r. MatchOption r (items.items ≡ [])
+        (λ found. found ≡ point items.items key.now seqno)) }
+{
+    match write_and_open(alloc, 1, Timestamp::from(0), items, 0)? {
+        None => Ok(None),
+        Some(table) => Ok(Some(table.get_by_key(key, seqno)?)),
+    }
 }
 
 /// How many keys several runs have, by versions numbered below `seqno`.

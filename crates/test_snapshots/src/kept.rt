@@ -1,5 +1,5 @@
 //! A table's bytes, its meta block, and reads by a key alone.
-use crate::written_is_found;
+use example_calling::write_and_find;
 use lsm_formats::ItemName;
 use lsm_tables::{Fault, Finding, Table, Verified, VerifyError};
 use sst_blocks::{Error, SectionName, SeqNo, ValueType};
@@ -105,7 +105,7 @@ fn a_damaged_block_is_found_where_it_is(rt: HostRuntime) {
 fn written_are_found(alloc: Global) -> Result<[Option<SeqNo>; 2], Error> {
     let mut numbers = [None; 2];
     for (number, key) in numbers.iter_mut().zip([b"a", b"c"]) {
-        if let Some(Some(item)) = written_is_found(alloc, list_of(alloc, ROWS)?, key, 4)? {
+        if let Some(Some(item)) = write_and_find(alloc, list_of(alloc, ROWS)?, key, 4)? {
             *number = Some(item.key.seqno);
         }
     }
@@ -113,6 +113,6 @@ fn written_are_found(alloc: Global) -> Result<[Option<SeqNo>; 2], Error> {
 }
 
 #[test]
-fn what_is_written_is_found(rt: HostRuntime) {
+fn what_is_write_and_find(rt: HostRuntime) {
     assert!(rt; written_are_found(rt.alloc()) == Ok([Some(2), None]));
 }

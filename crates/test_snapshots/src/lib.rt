@@ -6,12 +6,9 @@
 mod ages;
 #[cfg(test)]
 mod any_runs;
-mod found;
 #[cfg(test)]
 mod kept;
 #[cfg(test)]
 mod ranges;
 #[cfg(test)]
 mod sizes;
-
-pub use found::written_is_found;
