@@ -22,4 +22,6 @@ pub use Rattle.lsm_runs.specs.SeveralRuns.{runs_told, union_in}
 pub use Rattle.lsm_compactions.specs.AnyRuns.{AreTablesBy, HasMade, WritesSome}
 pub use Rattle.lsm_compactions.specs.Chain.{FitsAsTables, IsRunOfList, tables_fault}
 pub use Rattle.lsm_compactions.specs.Compacted.{AreCompactable, AreWrittenBy, kept_in}
+pub use Rattle.lsm_compactions.specs.OpenedBy.{AreOpenedBy, HasRunBy, IsOpenedBy, IsRunBy}
+pub use Rattle.lsm_compactions.specs.OpenedBy.{default_opening, run_with_fault}
 pub use Rattle.lsm_compactions.specs.Written.{IsOpened, opening_fault}

@@ -1,6 +1,6 @@
 -- A stream that is written for as long as its entries come in order.
 use Rattle.std.proofs.Common.{◌≡◌, sym, ◌∙◌, subst, false, true, List, [], ◌∷◌, ◌++◌, ◌<◌, ◌-◌, ◌^◌}
-use Rattle.std.proofs.Common.{IsTrue, Bool, ltb-true}
+use Rattle.std.proofs.Common.{Bool, ltb-true}
 use Rattle.std.specs.Prelude.{nat_lt}
 use Rattle.std.specs.List.{AllByRecursion}
 use Rattle.sst_entries.specs.Entry.{Entry}

@@ -1,4 +1,5 @@
 pub mod Opening
+pub mod HeldRuns
 pub mod RunWriting
 pub mod RunBack
 pub mod Packing
@@ -18,3 +19,4 @@ pub mod ShownRanges
 pub mod Compactable
 pub mod CompactedBack
 pub mod ListRuns
+pub mod OpenedRuns

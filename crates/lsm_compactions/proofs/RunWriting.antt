@@ -4,54 +4,40 @@ use Rattle.std.proofs.Common.{Bool, true, false, cond, List, [], ◌∷◌, ◌+
 use Rattle.std.proofs.Common.{inr, arith, length-append, append-nil, le-ltb, lt-ltb, ltb-false}
 use Rattle.std.proofs.Common.{ltb-true}
 use Rattle.std.specs.Prelude.{Option, Some, None, Result, Ok, Err, IfErr, IfSome, IsErrAnd}
-use Rattle.std.specs.Prelude.{MatchOption, map, max, nat_le, nat_lt, unwrap_or}
-use Rattle.std.specs.List.{AllByRecursion, list_all}
-use Rattle.std.specs.Option.{option_map, option_map_or, option_or}
+use Rattle.std.specs.Prelude.{MatchOption, max, nat_le, nat_lt}
+use Rattle.std.specs.List.{AllByRecursion}
+use Rattle.std.specs.Option.{option_map_or, option_or}
 use Rattle.std.proofs.lemmas.Bool.{cases_Bool, eqb-true, leb-false, leb-true}
-use Rattle.std.proofs.lemmas.List.{map-append, nil_from_length}
 use Rattle.sst_entries.specs.declared.error.Error.{Error}
 use Rattle.sst_entries.specs.declared.error.Error.TheVariants.{GlobalSeqNoTooLarge, OutOfMemory}
 use Rattle.sst_entries.specs.declared.error.Error.TheVariants.{WriterFailed}
 use Rattle.sst_entries.specs.Entry.{Entry}
-use Rattle.sst_entries.specs.Key.{key_lt}
-use Rattle.sst_entries.specs.Strict.{IsStrict}
-use Rattle.sst_entries.proofs.Booleans.{and_both, and_parts}
-use Rattle.sst_entries.proofs.OrderLemmas.{lt_trans}
 use Rattle.lsm_formats.specs.declared.label.Label.{Label}
 use Rattle.lsm_formats.specs.declared.options.Options.{Options}
 use Rattle.lsm_formats.specs.Chunks.{joined}
 use Rattle.lsm_formats.specs.Facts.{highest_seqno}
-use Rattle.lsm_formats.specs.Index.{last_entry}
 use Rattle.lsm_formats.specs.Options.{default_options, label_of}
 use Rattle.lsm_formats.specs.Table.{IsTable}
-use Rattle.lsm_ranges.specs.KeyRange.{Interval, is_well_formed, key_le}
-use Rattle.lsm_ranges.specs.Run.{are_in_order}
-use Rattle.lsm_ranges.proofs.IntervalLemmas.{lt_then_le}
-use Rattle.lsm_ranges.proofs.RunLemmas.{in_order_from}
 use Rattle.lsm_writers.specs.declared.writer.FinishedTable.{FinishedTable}
 use Rattle.lsm_writers.specs.Cut.{rest_chunk}
-use Rattle.lsm_writers.specs.Tables.{AreFinished, AreInKeyOrder, AreTables, IsBelow, TablesWriting}
+use Rattle.lsm_writers.specs.Tables.{AreFinished, AreInKeyOrder, AreTables, TablesWriting}
 use Rattle.lsm_writers.specs.Tables.{Takes, all_written, drawn, first_id, first_label, ids_fault}
 use Rattle.lsm_writers.specs.Tables.{is_due, new_tables, next_id, next_label, next_writing, rotated}
 use Rattle.lsm_writers.specs.Tables.{rotation_fault, standing, tables_of, took, took_fault}
 use Rattle.lsm_writers.specs.Tables.{turn_fault, with_options}
 use Rattle.lsm_writers.specs.Writing.{IsTableOf, Writing, fresh_writing, gained, write_fault}
 use Rattle.lsm_writers.specs.Writing.{written}
-use Rattle.lsm_writers.proofs.Cutting.{last_is_some, rest_is}
+use Rattle.lsm_writers.proofs.Cutting.{rest_is}
 use Rattle.lsm_writers.proofs.ListWriting.{same_label, written_gained}
 use Rattle.lsm_writers.proofs.CutTables.{no_end, some_length}
 use Rattle.lsm_writers.proofs.Orders.{nothing_last}
-use Rattle.lsm_readers.specs.Answer.{lift, lifted}
-use Rattle.lsm_readers.specs.OfList.{ends_of, list_told, parts_said}
+use Rattle.lsm_readers.specs.OfList.{list_told, parts_said}
 use Rattle.lsm_readers.specs.Parts.{Parts}
 use Rattle.lsm_readers.specs.Scan.{fault_of}
 use Rattle.lsm_readers.specs.Table.{OpenTable}
-use Rattle.lsm_readers.proofs.Ends.{keys_within}
-use Rattle.lsm_readers.proofs.FileStored.{open_stores}
+use Rattle.lsm_compactions.proofs.HeldRuns.{AreHeld, held_table, none_held, run_held}
 use Rattle.lsm_compactions.specs.Chain.{AreCutOf, AreOpened, AreWritten, FitsAsTables, IsOpenedOf}
 use Rattle.lsm_compactions.specs.Chain.{IsRunOfList, ids_behind, run_label}
-use Rattle.lsm_runs.specs.RunLists.{HoldLists}
-use Rattle.lsm_runs.specs.RunParts.{ranges_of}
 use Rattle.lsm_compactions.specs.Written.{number_fault}
 
 -- ---- the ids of a writer of many tables
@@ -350,14 +336,24 @@ fault_same true p = refl
 fault_same false p = refl
 
 module _ (es : List Entry) (g : ℕ) (bytes : List ℕ) (t : IsTable bytes es) where
-  number_told : number_fault es g ≡ fault_of (list_told t g true true)
-  number_told = fault_same (nat_lt (2 ^ 64 - 1) (highest_seqno es + g)) (parts_said t true true)
+  module _ (pin_filter pin_index : Bool) where
+    number_told : number_fault es g ≡ fault_of (list_told t g pin_filter pin_index)
+    number_told = fault_same (nat_lt (2 ^ 64 - 1) (highest_seqno es + g))
+        (parts_said t pin_filter pin_index)
+
+    pub fits_by : (parts : Parts) → list_told t g pin_filter pin_index ≡ Ok parts
+        → number_fault es g ≡ None
+    fits_by parts told = number_told ∙ ap fault_of told
+
+    pub passes_by : (e : Error) → list_told t g pin_filter pin_index ≡ Err e
+        → number_fault es g ≡ Some e
+    passes_by e told = number_told ∙ ap fault_of told
 
   pub number_fits : (parts : Parts) → list_told t g true true ≡ Ok parts → number_fault es g ≡ None
-  number_fits parts told = number_told ∙ ap fault_of told
+  number_fits = fits_by true true
 
   pub number_passes : (e : Error) → list_told t g true true ≡ Err e → number_fault es g ≡ Some e
-  number_passes e told = number_told ∙ ap fault_of told
+  number_passes = passes_by true true
 
 pub small_number : (es : List Entry) (g : ℕ) → highest_seqno es + g < 2 ^ 64
     → number_fault es g ≡ None
@@ -396,13 +392,13 @@ fault_by m n g true large = ap (λ (b : Bool). cond b (Some GlobalSeqNoTooLarge)
 fault_by m n g false small = ap (λ (b : Bool). cond b (Some GlobalSeqNoTooLarge) None)
     (fault_else m n g small (nat_lt (2 ^ 64 - 1) (n + g)) refl)
 
-number_joined : (xs ys : List Entry) (g : ℕ)
+pub number_joined : (xs ys : List Entry) (g : ℕ)
     → number_fault (xs ++ ys) g ≡ option_or (number_fault xs g) (number_fault ys g)
 number_joined xs ys g =
     ap (λ (n : ℕ). cond (nat_lt (2 ^ 64 - 1) (n + g)) (Some GlobalSeqNoTooLarge) None)
     (highest_joined xs ys) ∙ fault_by (highest_seqno xs) (highest_seqno ys) g _ refl
 
-no_number : (g : ℕ) → g < 2 ^ 64 → number_fault [] g ≡ None
+pub no_number : (g : ℕ) → g < 2 ^ 64 → number_fault [] g ≡ None
 unfolding highest_seqno
 no_number g small = small_number [] g (omega (arith, small))
 
@@ -480,99 +476,16 @@ many_opened label [] g (t ∷ ts) h = absurd h
 many_opened label (es ∷ ls) g [] h = absurd h
 many_opened label (es ∷ ls) g (t ∷ ts) h = ap suc (many_opened (next_label label) ls g ts h.1)
 
-abbrev lifted_lists : List (List Entry) → ℕ → List (List Entry)
-lifted_lists ls g = map (λ (es : List Entry). lift es g) ls
-
-lift_joined : (ls : List (List Entry)) (g : ℕ) → joined (lifted_lists ls g) ≡ lift (joined ls) g
-lift_joined [] g = refl
-lift_joined (es ∷ ls) g = ap (λ (xs : List Entry). lift es g ++ xs) (lift_joined ls g)
-    ∙ sym (map-append (lifted g) es (joined ls))
-
-hold_lists : (label : Label) (lists : List (List Entry)) (g : ℕ) (ts : List OpenTable)
-    → AreOpened label lists g ts → HoldLists ts (lifted_lists lists g)
-hold_lists label [] g [] h = tt
-hold_lists label [] g (t ∷ ts) h = absurd h
-hold_lists label (es ∷ ls) g [] h = absurd h
-hold_lists label (es ∷ ls) g (t ∷ ts) h = (
-  record {
-    stored = es;
-    opened = h.0.opened;
-    table = (open_stores t h.0.opened es h.0.is.table).0;
-    lifted_is =
-        ap (lift es) (sym h.0.is.number_is);
-  },
-  hold_lists (next_label label) ls g ts h.1,
+-- each of them stores its list
+pub all_held : (label : Label) (lists : List (List Entry)) (g : ℕ) (ts : List OpenTable)
+    → AreOpened label lists g ts → AreHeld g lists ts
+all_held label [] g [] h = tt
+all_held label [] g (t ∷ ts) h = absurd h
+all_held label (es ∷ ls) g [] h = absurd h
+all_held label (es ∷ ls) g (t ∷ ts) h = (
+  held_table g es t h.0.is.some h.0.opened h.0.is.table h.0.is.number_is,
+  all_held (next_label label) ls g ts h.1,
 )
-
-ranges_are : (label : Label) (lists : List (List Entry)) (g : ℕ) (ts : List OpenTable)
-    → AreOpened label lists g ts → ranges_of ts ≡ map ends_of lists
-ranges_are label [] g [] h = refl
-ranges_are label [] g (t ∷ ts) h = absurd h
-ranges_are label (es ∷ ls) g [] h = absurd h
-ranges_are label (es ∷ ls) g (t ∷ ts) h =
-    let rest = ranges_are (next_label label) ls g ts h.1 in
-    ap (λ (r : Interval). r ∷ ranges_of ts) h.0.range
-    ∙ ap (λ (rs : List Interval). ends_of es ∷ rs) rest
-
--- a list with entries, which are strict
-abbrev IsKept : List Entry → Type 0
-IsKept es = (es ≡ [] → ⊥) × IsStrict es
-
-all_kept : (label : Label) (lists : List (List Entry)) (g : ℕ) (ts : List OpenTable)
-    → AreOpened label lists g ts → AllByRecursion IsKept lists
-all_kept label [] g [] h = tt
-all_kept label [] g (t ∷ ts) h = absurd h
-all_kept label (es ∷ ls) g [] h = absurd h
-all_kept label (es ∷ ls) g (t ∷ ts) h = (
-  (h.0.is.some, h.0.is.table.strict),
-  all_kept
-      (next_label label) ls g ts h.1,
-)
-
-last_max : (e : Entry) (es : List Entry) → (ends_of (e ∷ es)).max ≡ (last_entry (e ∷ es)).user_key
-last_max e es = ap (λ (o : Option Entry). unwrap_or (option_map (λ (x : Entry). x.user_key) o) [])
-    (last_is_some None (e ∷ es) (omega arith))
-
-formed : (e : Entry) (es : List Entry) → IsStrict (e ∷ es)
-    → is_well_formed (ends_of (e ∷ es)) ≡ true
-formed e es strict =
-    let r = ends_of (e ∷ es) in
-    (and_parts (key_le r.min e.user_key) (key_le e.user_key r.max)
-    (keys_within (e ∷ es) strict).0).1
-
--- what is below the first key of the next list is below all later ones
-all_later : (key : List ℕ) (ls : List (List Entry)) → AllByRecursion IsKept ls → AreInKeyOrder ls
-    → ((e : Entry) (es : List Entry) (rest : List (List Entry)) → ls ≡ (e ∷ es) ∷ rest
-    → key_lt key e.user_key ≡ true) → list_all (λ (later : Interval). key_lt key later.min)
-    (map ends_of ls) ≡ true
-all_later key [] kept order low = refl
-all_later key ([] ∷ ls) kept order low = absurd (kept.0.0 refl)
-all_later key ((e ∷ es) ∷ ls) kept order low =
-    let here : key_lt key e.user_key ≡ true = low e es ls refl in
-    let last = (last_entry (e ∷ es)).user_key in
-    let up : key_le e.user_key last ≡ true = subst (λ (k : List ℕ). key_le e.user_key k ≡ true)
-    (last_max e es) (formed e es kept.0.1) in
-    let to : key_lt key last ≡ true = lt_then_le key e.user_key last here up in
-    and_both _ _ here (all_later key ls kept.1 order.1
-    (λ x xs rest is. lt_trans key last x.user_key to
-    (subst (λ (us : List (List Entry)). IsBelow (e ∷ es) us) is order.0)))
-
-lists_in_order : (ls : List (List Entry)) → AllByRecursion IsKept ls → AreInKeyOrder ls
-    → are_in_order (map ends_of ls) ≡ true
-lists_in_order [] kept order = refl
-lists_in_order ([] ∷ ls) kept order = absurd (kept.0.0 refl)
-lists_in_order ((e ∷ es) ∷ ls) kept order =
-    let r = ends_of (e ∷ es) in
-    let before : list_all (λ (later : Interval). key_lt r.max later.min) (map ends_of ls) ≡ true =
-    all_later r.max ls kept.1 order.1 (λ x xs rest is. subst
-    (λ (k : List ℕ). key_lt k x.user_key ≡ true) (sym (last_max e es))
-    (subst (λ (us : List (List Entry)). IsBelow (e ∷ es) us) is order.0)) in
-    in_order_from r (map ends_of ls) (record {
-      formed = formed e es kept.0.1;
-      before =
-          before;
-      rest = lists_in_order ls kept.1 order.1;
-    })
 
 -- the numbers of each table fit where the highest does
 pub all_fit : {A : Type 0} (ids : Option ℕ) (target moment : ℕ) (es : List Entry)
@@ -594,29 +507,17 @@ module _ {A : Type 0} (ids : Option ℕ) (target moment : ℕ) (es : List Entry)
   abbrev the_label : Label
   the_label = run_label ids target moment
 
-  run_of : (ts ≡ [] → ⊥) → IsRunOfList es g ts
-  run_of some = record {
-    lists = lifted_lists w.lists g;
-    whole = lift_joined w.lists g ∙ ap (λ (xs : List Entry). lift xs g) w.cut.whole;
-    hold = hold_lists the_label w.lists g ts h;
-    order = ap are_in_order (ranges_are the_label w.lists g ts h)
-        ∙ lists_in_order w.lists (all_kept the_label w.lists g ts h) w.order;
-    some = some;
-  }
-
-  none_of : ts ≡ [] → es ≡ []
-  none_of none =
-      let no : w.lists ≡ [] = nil_from_length w.lists
-      (many_opened the_label w.lists g ts h ∙ ap length none) in
-      sym w.cut.whole ∙ ap joined no
+  held : AreHeld g w.lists ts
+  held = all_held the_label w.lists g ts h
 
   cut_of : AreCutOf the_label target es g ts
   cut_of = record { lists = w.lists; cut = w.cut; opened = h }
 
   pub run_put : (r : Option (List OpenTable)) → IsPut ts r
       → MatchOption r (es ≡ []) (λ run. IsRunOfList es g run)
-  run_put None none = none_of none
-  run_put (Some run) p = subst (IsRunOfList es g) (sym p.0) (run_of p.1)
+  run_put None none = none_held es g w.lists ts w.cut.whole held none
+  run_put (Some run) p = subst (IsRunOfList es g) (sym p.0)
+      (run_held es g w.lists ts w.cut.whole held w.order p.1)
 
   pub cut_put : (r : Option (List OpenTable)) → IsPut ts r
       → IfSome r (λ run. AreCutOf the_label target es g run)

@@ -1,5 +1,5 @@
 -- What several runs have can be written again once a part of them is compacted.
-use Rattle.std.proofs.Common.{◌≡◌, refl, ◌∙◌, ap, ◌-◌, ◌^◌, ◌<◌, Bool, false, true, List}
+use Rattle.std.proofs.Common.{◌≡◌, refl, ◌∙◌, ap, ◌-◌, ◌^◌, ◌<◌, Bool, false, List}
 use Rattle.std.proofs.Common.{[], ◌∷◌, count_by, arith}
 use Rattle.std.specs.Prelude.{nat_lt, not}
 use Rattle.std.specs.List.{AllByRecursion}

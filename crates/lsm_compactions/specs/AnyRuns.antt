@@ -6,7 +6,8 @@ use Rattle.lsm_writers.specs.Tables.{TablesWriting}
 use Rattle.lsm_writers.specs.Writing.{IsWritable}
 use Rattle.lsm_compactions.specs.Compacted.{AreWrittenBy}
 use Rattle.lsm_compactions.specs.declared.any_runs.CompactionOutcome.{CompactionOutcome}
-use Rattle.lsm_compactions.specs.declared.any_runs.CompactionOutcome.TheVariants.{OutOfOrder, Tables}
+use Rattle.lsm_compactions.specs.declared.any_runs.CompactionOutcome.TheVariants.{OutOfOrder}
+use Rattle.lsm_compactions.specs.declared.any_runs.CompactionOutcome.TheVariants.{Tables}
 
 -- it came to the tables of this list, as a writer makes them that had written nothing
 abbrev pub AreTablesBy : {A : Type 0} → TablesWriting → List Entry → CompactionOutcome A → Type 0

@@ -3,6 +3,7 @@ pub mod Chain
 pub mod Packed
 pub mod Compacted
 pub mod AnyRuns
+pub mod OpenedBy
 pub mod ReadsCompacted
 pub mod ListRuns
 pub mod PartReads

@@ -5,11 +5,15 @@
 mod any_runs;
 mod compact;
 mod compacted_run;
+mod open_options;
 mod pack;
+mod runs_with;
 mod written_run;
 
 pub use any_runs::{CompactionOutcome, compact_any_runs};
 pub use compact::{compact_runs, compaction_law};
 pub use compacted_run::compact_to_run;
+pub use open_options::OpenOptions;
 pub use pack::{pack_runs, packing_law};
+pub use runs_with::{compact_to_run_with, write_run_with};
 pub use written_run::write_run;

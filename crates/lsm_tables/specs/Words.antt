@@ -20,4 +20,6 @@ pub use Rattle.lsm_compactions.specs.AnyRuns.{AreTablesBy, HasMade, WritesSome}
 pub use Rattle.lsm_compactions.specs.Chain.{FitsAsTables, IsRunOfList, both_fault, chain_fault}
 pub use Rattle.lsm_compactions.specs.Chain.{ids_behind, tables_fault}
 pub use Rattle.lsm_compactions.specs.Compacted.{AreCompactable, kept_in}
+pub use Rattle.lsm_compactions.specs.OpenedBy.{AreOpenedBy, HasRunBy, IsOpenedBy, IsRunBy}
+pub use Rattle.lsm_compactions.specs.OpenedBy.{default_opening, run_with_fault}
 pub use Rattle.lsm_compactions.specs.PartReads.{HoldSides, ReadsKept, ReadsOf, ShowAlike}

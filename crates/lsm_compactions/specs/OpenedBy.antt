@@ -1,0 +1,52 @@
+-- Finished tables that are opened as is told, and stay.
+use Rattle.std.specs.Prelude.{◌≡◌, ◌≢◌, ℕ, true, List, [], Option, None, Ok, MatchOption}
+use Rattle.std.specs.List.{AllZip}
+use Rattle.std.specs.Option.{option_or}
+use Rattle.sst_entries.specs.declared.error.Error.{Error}
+use Rattle.sst_entries.specs.Entry.{Entry}
+use Rattle.lsm_writers.specs.declared.writer.FinishedTable.{FinishedTable}
+use Rattle.lsm_writers.specs.Tables.{TablesWriting}
+use Rattle.lsm_readers.specs.Parts.{recovered_told}
+use Rattle.lsm_readers.specs.Table.{IsOpen, OpenTable}
+use Rattle.lsm_compactions.specs.Chain.{writes_fault}
+use Rattle.lsm_compactions.specs.Written.{number_fault}
+use Rattle.lsm_compactions.specs.declared.any_runs.CompactionOutcome.{CompactionOutcome}
+use Rattle.lsm_compactions.specs.declared.any_runs.CompactionOutcome.TheVariants.{OutOfOrder}
+use Rattle.lsm_compactions.specs.declared.any_runs.CompactionOutcome.TheVariants.{Tables}
+use Rattle.lsm_compactions.specs.declared.open_options.OpenOptions.{OpenOptions}
+
+-- no global number, tree 0, and what can stay loaded does
+abbrev pub default_opening : OpenOptions
+default_opening =
+    record { global_seqno = 0; tree_id = 0; pin_filter = true; pin_index = true }
+
+-- a finished table that was opened as is told
+pub record IsOpenedBy {A : Type 0} (how : OpenOptions) (f : FinishedTable A) (t : OpenTable)
+    : Type 0 where
+  pub bytes_are : t.bytes ≡ f.bytes
+  pub checksum_is : t.checksum ≡ f.checksum.0
+  pub number_is : t.global_seqno ≡ how.global_seqno
+  pub tree_is : t.tree_id ≡ how.tree_id
+  pub told : recovered_told t.bytes how.global_seqno how.pin_filter how.pin_index ≡ Ok t.parts
+  pub opened : IsOpen t
+
+-- so each of some, in their order
+abbrev pub AreOpenedBy : {A : Type 0} → OpenOptions → List (FinishedTable A) → List OpenTable
+    → Type 0
+AreOpenedBy how fs ts = AllZip (IsOpenedBy how) fs ts
+
+-- a run of them where there are some, and none where there is no table
+abbrev pub IsRunBy : {A : Type 0} → OpenOptions → List (FinishedTable A) → Option (List OpenTable)
+    → Type 0
+IsRunBy how fs r = MatchOption r (fs ≡ []) (λ run. (fs ≢ []) × AreOpenedBy how fs run)
+
+-- so is what a compaction came to: none where entries came out of order
+abbrev pub HasRunBy : {A : Type 0} → OpenOptions → CompactionOutcome A → Option (List OpenTable)
+    → Type 0
+HasRunBy how (Tables tables left) r = IsRunBy how tables.items r
+HasRunBy how OutOfOrder r = r ≡ None
+
+-- what a writer refuses of a list and opening the tables then: a number that is too large once it
+-- is lifted
+abbrev pub run_with_fault : TablesWriting → List Entry → ℕ → Option Error
+run_with_fault w es g = option_or (writes_fault w es) (number_fault es g)

@@ -1,0 +1,102 @@
+//! Opening finished tables.
+ghost use Rattle.std.specs.Prelude.{◌≡◌, IfOk, List};
+ghost use Rattle.lsm_formats.specs.declared.label.Label.{Label};
+ghost use Rattle.lsm_formats.specs.declared.options.Options.{Options};
+ghost use Rattle.lsm_compactions.specs.Words.{AreFinished, AreOpenedBy, Entry, Faults, Gives};
+ghost use Rattle.lsm_compactions.specs.Words.{IsOpenedBy, IsTableWith, OpenTable, StoresList};
+ghost use Rattle.lsm_compactions.specs.Words.{joined, number_fault, recovered_told};
+
+use lsm_formats::TreeId;
+use lsm_readers::Table;
+use lsm_writers::FinishedTable;
+use sst_blocks::{Error, SeqNo};
+use std::alloc::Allocator;
+
+/// How finished tables are opened.
+#[derive(Clone, Copy, Debug, PartialEq, Eq)]
+pub struct OpenOptions {
+    /// The number that is added to every stored number.
+    pub global_seqno: SeqNo,
+    /// The id of the tree that the table belongs to.
+    pub tree_id: TreeId,
+    /// Whether the one block of a full filter stays loaded.
+    pub pin_filter: bool,
+    /// Whether the block of a full index stays loaded.
+    pub pin_index: bool,
+}
+
+impl Default for OpenOptions {
+    ghost use Rattle.std.specs.Prelude.{◌≡◌};
+    ghost use Rattle.lsm_compactions.specs.OpenedBy.{default_opening};
+
+    /// No global number, tree 0, and both the filter and the index stay loaded.
+    fn default() -> OpenOptions
+        ensures { result ≡ default_opening }
+    {
+        OpenOptions {
+            global_seqno: 0,
+            tree_id: 0,
+            pin_filter: true,
+            pin_index: true,
+        }
+    }
+}
+
+impl OpenOptions {
+    /// Opens a finished table, whose bytes are shared: the finished table stays as it is.
+    ///
+    /// Refused as [`Table::recover`] is of its bytes. A table that was written of a list with an
+    /// index block restart interval of 1 is refused [`Error::GlobalSeqNoTooLarge`] where the
+    /// highest number plus the global one passes `u64`, and else [`Error::OutOfMemory`] alone.
+    pub fn open<A: Allocator + Clone>(
+        &self,
+        alloc: A,
+        table: &FinishedTable<A>,
+    ) -> Result<Table<A>, Error>
+        ensures told { Gives (λ (t : OpenTable). t.parts) result
+            (recovered_told table.now.bytes self.now.global_seqno self.now.pin_filter
+            self.now.pin_index) }
+        // It has the bytes and the checksum, and was opened as is told.
+        ensures opened { IfOk result (IsOpenedBy self.now table.now) }
+        // What was written of a list stores it, so that what is promised of reads holds.
+        ensures stored { (label : Label) (options : Options) (es : List Entry) →
+            IsTableWith label options es table.now.id table.now.checksum.0 table.now.bytes →
+            IfOk result (λ t. StoresList t.bytes es) }
+        ensures refused { (label : Label) (options : Options) (es : List Entry) →
+            IsTableWith label options es table.now.id table.now.checksum.0 table.now.bytes →
+            options.index_block_restart_interval ≡ 1 →
+            Faults result (number_fault es self.now.global_seqno) }
+    {
+        let opened = Table::recover(
+            alloc,
+            table.bytes.clone()?,
+            table.checksum,
+            self.global_seqno,
+            self.tree_id,
+            self.pin_filter,
+            self.pin_index,
+        )?;
+        // It is open.
+        opened.tells_its_list();
+        Ok(opened)
+    }
+}
+
+// Opens finished tables, which stay as they are.
+pub(crate) fn open_all<A: Allocator + Clone>(
+    alloc: A,
+    tables: &[FinishedTable<A>],
+    how: &OpenOptions,
+) -> Result<Vec<Table<A>, A>, Error>
+    ensures opened { IfOk result (λ v. AreOpenedBy how.now tables.now v.items) }
+    ensures refused { (options : Options) (label : Label) (lists : List (List Entry)) →
+        options.index_block_restart_interval ≡ 1 → AreFinished options label lists tables.now →
+        Faults result (number_fault (joined lists) how.now.global_seqno) }
+{
+    let how = *how;
+    let mut opened = Vec::new(alloc.clone()?);
+    for table in tables {
+        opened.push(how.open(alloc.clone()?, table)?)?;
+    }
+    Ok(opened)
+}

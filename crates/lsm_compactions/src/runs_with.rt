@@ -1,0 +1,148 @@
+//! Runs of tables that a writer of the caller's makes, handed out with the finished tables.
+ghost use Rattle.std.specs.Prelude.{◌≡◌, ◌∷◌, ◌+◌, ◌^◌, ◌<◌, [], IfErr, IfOk, IfSome, List};
+ghost use Rattle.std.specs.Prelude.{MatchOption, map};
+ghost use Rattle.std.specs.Arc.{arc_value};
+ghost use Rattle.sst_entries.specs.declared.error.Error.TheVariants.{OutOfMemory};
+ghost use Rattle.lsm_compactions.specs.Words.{AreCompactable, AreTablesBy, AreWrittenBy, Entry};
+ghost use Rattle.lsm_compactions.specs.Words.{Faults, FitsBy, HasMade, HasRunBy, IsFreshRun};
+ghost use Rattle.lsm_compactions.specs.Words.{IsRunBy, IsRunOfList, IsWritable, RunsHoldLists, RunsOn};
+ghost use Rattle.lsm_compactions.specs.Words.{TablesWriting, highest_seqno, kept_in, lift};
+ghost use Rattle.lsm_compactions.specs.Words.{number_fault, run_with_fault, writes_fault};
+
+use crate::open_options::open_all;
+use crate::{CompactionOutcome, OpenOptions, compact_any_runs};
+use lsm_ranges::Run;
+use lsm_readers::Table;
+use lsm_sorted::compaction::Rules;
+use lsm_writers::{FinishedTable, MultiWriter, TableIds, tables_law};
+use sst_blocks::{Error, InternalValue};
+use std::alloc::Allocator;
+use std::sync::Arc;
+
+// Writes a list as a writer cuts it, and finishes. Refused as the writer is.
+fn write_by<A: Allocator + Clone>(
+    mut writer: MultiWriter<A>,
+    items: Vec<InternalValue<A>, A>,
+) -> Result<(Vec<FinishedTable<A>, A>, TableIds), Error>
+    requires fresh { IsFreshRun writer }
+    requires next { RunsOn writer }
+    requires list { IsWritable items.items }
+    ensures written { IfOk result (λ r. AreWrittenBy writer items.items r.0.items r.1) }
+    ensures refused { Faults result (writes_fault writer items.items) }
+{
+    for item in items {
+        writer.write(item)?;
+    }
+    let left = writer.table_ids();
+    let tables = writer.finish()?;
+    Ok((tables, left))
+}
+
+/// Writes a list as `writer` cuts it, with its options, level and moment, and opens each table as
+/// is told; the run has them in order, and there is none where the list has no entry. The finished
+/// tables come beside it, so that a store keeps their bytes, with the writer's counter of ids
+/// behind them.
+///
+/// Refused as [`MultiWriter::write`] and [`MultiWriter::finish`] are, then as
+/// [`OpenOptions::open`] is: of tables with an index block restart interval of 1
+/// [`Error::GlobalSeqNoTooLarge`] where the highest number plus the global one passes `u64`; and
+/// [`Error::OutOfMemory`].
+pub fn write_run_with<A: Allocator + Clone>(
+    alloc: A,
+    writer: MultiWriter<A>,
+    items: Vec<InternalValue<A>, A>,
+    how: &OpenOptions,
+) -> Result<(Vec<FinishedTable<A>, A>, Option<Run<Table<A>, A>>, TableIds), Error>
+    requires fresh { IsFreshRun writer }
+    requires list { IsWritable items.items }
+    // The finished tables are those of the list, as the writer cuts it.
+    ensures tables { IfOk result (λ r. AreWrittenBy writer items.items r.0.items r.2) }
+    // The run has just these, opened as is told, in their order.
+    ensures opened { IfOk result (λ r. IsRunBy how.now r.0.items r.1) }
+    // Together they hold the list, one behind another, and stand in order.
+    ensures run { IfOk result (λ r. MatchOption r.1 (items.items ≡ [])
+        (λ run. IsRunOfList items.items how.now.global_seqno run)) }
+    // Where the lifted list can be written, the run may be compacted.
+    ensures able { IsWritable (lift items.items how.now.global_seqno) →
+        IfOk result (λ r. IfSome r.1 (λ run. AreCompactable (run ∷ []))) }
+    // Memory aside, the refusal is the writer's first one, or else that of the numbers.
+    ensures refused { writer.present.options.index_block_restart_interval ≡ 1 →
+        Faults result (run_with_fault writer items.items how.now.global_seqno) }
+    // A list whose tables fit, with an id left for each, is refused for want of memory alone.
+    ensures taken { writer.present.options.index_block_restart_interval ≡ 1 →
+        FitsBy writer items.items → highest_seqno items.items + how.now.global_seqno < 2 ^ 64 →
+        IfErr result (λ e. e ≡ OutOfMemory) }
+{
+    // A list whose tables fit is taken whole.
+    tables_law();
+    let own = alloc.clone()?;
+    let (tables, left) = write_by(writer, items)?;
+    let opened = open_all(own, &tables, how)?;
+    Ok((tables, Run::new(opened), left))
+}
+
+// Opens what a compaction made, and puts it in a run; none where there is no table.
+fn open_outcome<A: Allocator + Clone>(
+    alloc: A,
+    outcome: &CompactionOutcome<A>,
+    how: &OpenOptions,
+) -> Result<Option<Run<Table<A>, A>>, Error>
+    ensures opened { IfOk result (HasRunBy how.now outcome.now) }
+    ensures refused { (w : TablesWriting) (es : List Entry) →
+        w.present.options.index_block_restart_interval ≡ 1 → AreTablesBy w es outcome.now →
+        Faults result (number_fault es how.now.global_seqno) }
+{
+    match outcome {
+        CompactionOutcome::Tables(tables, _) => Ok(Run::new(open_all(alloc, tables, how)?)),
+        CompactionOutcome::OutOfOrder => Ok(None),
+    }
+}
+
+/// Compacts several runs of any tables that were opened, as [`compact_any_runs`], and opens each
+/// new table as is told: what came of it, with the finished tables and the counter of ids, and
+/// beside it the run that has them in order; no run where nothing is kept, or where entries came
+/// out of order.
+///
+/// Refused as [`compact_any_runs`] is, then as [`OpenOptions::open`]; and [`Error::OutOfMemory`].
+/// Whatever is answered, the given runs are as they were.
+pub fn compact_to_run_with<A: Allocator + Clone>(
+    alloc: A,
+    runs: &[Arc<Run<Table<A>, A>, A>],
+    rules: Rules,
+    writer: MultiWriter<A>,
+    how: &OpenOptions,
+) -> Result<(CompactionOutcome<A>, Option<Run<Table<A>, A>>), Error>
+    requires fresh { IsFreshRun writer }
+    // Of runs that may be compacted the finished tables are those of what is kept, as the writer
+    // cuts it; whatever tables hold, those of a list that can be written.
+    ensures tables { AreCompactable (map arc_value runs.now) →
+        (lists : List (List (List Entry))) → RunsHoldLists (map arc_value runs.now) lists →
+        IfOk result (λ r. AreTablesBy writer (kept_in rules lists) r.0) }
+    ensures made { IfOk result (λ r. HasMade writer r.0) }
+    // The run has just these, opened as is told, in their order.
+    ensures opened { IfOk result (λ r. HasRunBy how.now r.0 r.1) }
+    // Together they hold what is kept, one behind another, and stand in order.
+    ensures run { AreCompactable (map arc_value runs.now) →
+        (lists : List (List (List Entry))) → RunsHoldLists (map arc_value runs.now) lists →
+        let left = kept_in rules lists in IfOk result (λ r. MatchOption r.1 (left ≡ [])
+        (λ run. IsRunOfList left how.now.global_seqno run)) }
+    // Without a global number the run may be compacted again, whatever the tables held.
+    ensures able { how.now.global_seqno ≡ 0 →
+        IfOk result (λ r. IfSome r.1 (λ run. AreCompactable (run ∷ []))) }
+    // Memory aside, the refusal is the writer's first one, or else that of the numbers.
+    ensures refused { AreCompactable (map arc_value runs.now) →
+        (lists : List (List (List Entry))) → RunsHoldLists (map arc_value runs.now) lists →
+        writer.present.options.index_block_restart_interval ≡ 1 →
+        Faults result (run_with_fault writer (kept_in rules lists) how.now.global_seqno) }
+    // Where what is kept fits as tables, with an id left for each, that is want of memory alone.
+    ensures taken { AreCompactable (map arc_value runs.now) →
+        (lists : List (List (List Entry))) → RunsHoldLists (map arc_value runs.now) lists →
+        let left = kept_in rules lists in
+        writer.present.options.index_block_restart_interval ≡ 1 → FitsBy writer left →
+        highest_seqno left + how.now.global_seqno < 2 ^ 64 → IfErr result (λ e. e ≡ OutOfMemory) }
+{
+    let own = alloc.clone()?;
+    let outcome = compact_any_runs(own, runs, rules, writer)?;
+    let opened = open_outcome(alloc, &outcome, how)?;
+    Ok((outcome, opened))
+}
