@@ -1,8 +1,8 @@
 //! A table's bytes, its meta block, and reads by a key alone.
 use example_calling::write_and_find;
 use lsm_formats::ItemName;
-use lsm_tables::{Fault, Finding, Table, Verified, VerifyError};
-use sst_blocks::{Error, SectionName, SeqNo, ValueType};
+use lsm_tables::{Fault, Finding, OpenOptions, Table, Verified, VerifyError};
+use sst_blocks::{Checksum, Error, SectionName, SeqNo, ValueType};
 use std::alloc::{Allocator, Global};
 use test_tables::lists::list_of;
 use test_tables::rows::{Row, fill, new_writer};
@@ -101,6 +101,26 @@ fn a_damaged_block_is_found_where_it_is(rt: HostRuntime) {
     assert!(rt; wrong(rt.alloc()) == Ok(Some(VerifyError::Found(found))));
 }
 
+// Whether a table is verified with its file's checksum, and what is found with another.
+fn verified_with(alloc: Global) -> Result<(bool, Option<VerifyError>), Error> {
+    let written = fill(new_writer(alloc)?, alloc, ROWS)?;
+    let table = OpenOptions::default().open(alloc, &written)?;
+    let own = table.verify_with(written.checksum).is_ok();
+    let other = table.verify_with(Checksum(0)).err();
+    drop(table);
+    Ok((own, other))
+}
+
+#[test]
+fn the_checksum_of_a_file_is_compared_where_it_is_given(rt: HostRuntime) {
+    let found = Finding {
+        section: SectionName::Data,
+        offset: 0,
+        fault: Fault::OtherChecksum,
+    };
+    assert!(rt; verified_with(rt.alloc()) == Ok((true, Some(VerifyError::Found(found)))));
+}
+
 // The numbers of the entries of `a` below 4 and of `c`, in a list that is written and opened.
 fn written_are_found(alloc: Global) -> Result<[Option<SeqNo>; 2], Error> {
     let mut numbers = [None; 2];
@@ -113,6 +133,6 @@ fn written_are_found(alloc: Global) -> Result<[Option<SeqNo>; 2], Error> {
 }
 
 #[test]
-fn what_is_write_and_find(rt: HostRuntime) {
+fn what_is_written_is_found(rt: HostRuntime) {
     assert!(rt; written_are_found(rt.alloc()) == Ok([Some(2), None]));
 }

@@ -7,6 +7,8 @@ mod ages;
 #[cfg(test)]
 mod any_runs;
 #[cfg(test)]
+mod handed_out;
+#[cfg(test)]
 mod kept;
 #[cfg(test)]
 mod ranges;
