@@ -5,8 +5,8 @@ ghost use Rattle.std.specs.Arc.{arc_value};
 ghost use Rattle.sst_entries.specs.declared.error.Error.TheVariants.{OutOfMemory};
 ghost use Rattle.lsm_compactions.specs.Words.{AreCompactable, AreTablesBy, AreWrittenBy, Entry};
 ghost use Rattle.lsm_compactions.specs.Words.{Faults, FitsBy, HasMade, HasRunBy, IsFreshRun};
-ghost use Rattle.lsm_compactions.specs.Words.{IsRunBy, IsRunOfList, IsWritable, RunsHoldLists, RunsOn};
-ghost use Rattle.lsm_compactions.specs.Words.{TablesWriting, highest_seqno, kept_in, lift};
+ghost use Rattle.lsm_compactions.specs.Words.{IsRunBy, IsRunOfList, IsWritable, RunsHoldLists};
+ghost use Rattle.lsm_compactions.specs.Words.{RunsOn, TablesWriting, highest_seqno, kept_in, lift};
 ghost use Rattle.lsm_compactions.specs.Words.{number_fault, run_with_fault, writes_fault};
 
 use crate::open_options::open_all;

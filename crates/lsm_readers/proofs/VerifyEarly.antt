@@ -26,7 +26,8 @@ use Rattle.lsm_readers.specs.declared.verify.Fault.TheVariants.{Unloaded}
 use Rattle.lsm_readers.specs.declared.verify.Finding.{Finding}
 use Rattle.lsm_readers.specs.declared.verify.VerifyError.{VerifyError}
 use Rattle.lsm_readers.specs.declared.verify.VerifyError.TheVariants.{Found, OutOfMemory}
-use Rattle.lsm_readers.specs.Verify.{FindsFirst, early_at, early_filters, early_from, fault_at}
+use Rattle.lsm_readers.specs.Verify.{FindsFirst, early_at, early_filters, early_from}
+use Rattle.lsm_readers.specs.Verify.{load_refusal}
 use Rattle.lsm_readers.specs.Verify.{finding}
 
 -- ---- what a load finds before memory is taken is no want of memory
@@ -105,7 +106,7 @@ refused_want o want error d is first memory =
 
 -- that was refused
 pub refused_first : (section : SectionName) (offset : ℕ) (o : Option Error) → NoWant o
-    → (error : Error) (e : VerifyError) → e ≡ fault_at section offset error
+    → (error : Error) (e : VerifyError) → e ≡ load_refusal section offset error
     → ((d : Error) → o ≡ Some d → Some d ≡ Some error)
     → (f : Finding) → early_from section offset o ≡ Some f → e ≡ Found f
 refused_first section offset None want error e is first f early = absurd cc
@@ -121,13 +122,13 @@ refused_first section offset (Some d) want error e is first f early =
 
 pub place_first : (body : List ℕ) (section : SectionName) (place : Place) (kind : BlockType)
     (offset : ℕ) (error : Error) (e : VerifyError) → offset ≡ place.offset
-    → e ≡ fault_at section offset error
+    → e ≡ load_refusal section offset error
     → ((d : Error) → place_fault body place.offset place.size kind ≡ Some d → Some d ≡ Some error)
     → (f : Finding) → early_at body section place kind ≡ Some f → e ≡ Found f
 place_first body section place kind offset error e at is first =
     refused_first section place.offset (place_fault body place.offset place.size kind)
     (place_want body place.offset place.size kind) error e
-    (is ∙ ap (λ (n : ℕ). fault_at section n error) at) first
+    (is ∙ ap (λ (n : ℕ). load_refusal section n error) at) first
 
 -- that gave a block
 pub loaded_first : (section : SectionName) (offset : ℕ) (o : Option Error)

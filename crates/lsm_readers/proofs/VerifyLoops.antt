@@ -22,7 +22,7 @@ use Rattle.sst_blocks.specs.Handle.{Handle}
 use Rattle.sst_blocks.specs.Handles.{end_of}
 use Rattle.sst_blocks.specs.Place.{Place, place_of}
 use Rattle.lsm_readers.specs.Parts.{Parts}
-use Rattle.lsm_readers.specs.Verify.{◌>>=◌, Finds, Unread, Misses, block_found, fault_at}
+use Rattle.lsm_readers.specs.Verify.{◌>>=◌, Finds, Unread, Misses, block_found, load_refusal}
 use Rattle.lsm_readers.specs.Verify.{blocks_found, end_named, entries_found, entry_found}
 use Rattle.lsm_readers.specs.Verify.{filter_found, finding, last_named, located, part_found}
 use Rattle.lsm_readers.specs.Verify.{parts_found, top_named, tops_found}
@@ -73,7 +73,7 @@ fault_by section offset error memory =
 
 -- the refusal of a load at a place
 pub misses_at : {X : Type 0} (section : SectionName) (offset : ℕ) (error : Error) (e : VerifyError)
-    (told : Result X Error) → e ≡ fault_at section offset error → Fails error told
+    (told : Result X Error) → e ≡ load_refusal section offset error → Fails error told
     → Misses e (located section offset told)
 misses_at {X} section offset error e told is fails = go (is_memory error) refl
   where

@@ -60,8 +60,8 @@ Finds view (Ok x) told = told ≡ Ok (view x)
 Finds view (Err e) told = Misses e told
 
 -- the refusal of a load at a place: want of memory where memory was refused, else it is found there
-abbrev pub fault_at : SectionName → ℕ → Error → VerifyError
-fault_at section offset error =
+abbrev pub load_refusal : SectionName → ℕ → Error → VerifyError
+load_refusal section offset error =
     if is_memory error then OutOfMemory
     else Found (finding section offset (fault.Unloaded error))
 

@@ -5,9 +5,9 @@ ghost use Rattle.sst_sections.specs.Sections.{body_of};
 ghost use Rattle.lsm_readers.specs.Table.{parts_of};
 ghost use Rattle.sst_blocks.specs.declared.block_type.BlockType.TheVariants.{Index};
 ghost use Rattle.sst_sections.specs.declared.section.SectionName.TheVariants.{Tli};
-ghost use Rattle.lsm_readers.specs.Verify.{Finds, FindsFirst, all_found, early_at, fault_at};
-ghost use Rattle.lsm_readers.specs.Verify.{finding, other_checksum, table_early, table_found};
-ghost use Rattle.lsm_readers.specs.Verify.{unread_of};
+ghost use Rattle.lsm_readers.specs.Verify.{Finds, FindsFirst, all_found, early_at, finding};
+ghost use Rattle.lsm_readers.specs.Verify.{load_refusal, other_checksum, table_early};
+ghost use Rattle.lsm_readers.specs.Verify.{table_found, unread_of};
 ghost use Rattle.lsm_readers.specs.declared.verify.Verified.{Verified as Verification};
 ghost use Rattle.lsm_readers.specs.declared.verify.VerifyError.TheVariants.{Found};
 
@@ -125,7 +125,7 @@ fn found(section: SectionName, offset: u64, fault: Fault) -> VerifyError
 
 /// What a load's refusal is found to be: want of memory, or else a block that does not load.
 fn unloaded(section: SectionName, offset: u64, error: Error) -> VerifyError
-    ensures { result ≡ fault_at section offset error }
+    ensures { result ≡ load_refusal section offset error }
 {
     match error {
         Error::OutOfMemory => VerifyError::OutOfMemory,

@@ -50,7 +50,7 @@ fn wrong_case(table: &Table) -> Option<usize> {
     None
 }
 
-// The same of the table of some bytes, whose index stays loaded or does not.
+// The first case that the table of some bytes answers otherwise, its index kept loaded or not.
 fn wrong_in(
     alloc: Global,
     bytes: Result<Slice, Error>,
