@@ -1,14 +1,13 @@
 //! Lists that are written as runs, which are compacted and read.
+use crate::memory::{Work, requests};
 use crate::runs::{EVICTING, KEEPING, ZEROING};
 use lsm_tables::{Rules, compact_run_back};
 use sst_blocks::{Error, SeqNo, ValueType};
 use std::alloc::Allocator;
 use std::ops::Bound;
-use std::test::Fail;
-use test_refusing::{Refusing, each_refused};
 use test_tables::lists::{list_of, read_names};
 use test_tables::rows::Row;
-use test_tables::runs::{ALL, Bounds, Name, is_right, owned_range};
+use test_tables::runs::{ALL, Bounds, Name, owned_range};
 
 const VALUES: [Row<'static>; 2] = [
     (b"a", 10, ValueType::Value, b"x"),
@@ -66,7 +65,7 @@ fn found_at<A: Allocator + Copy>(
 }
 
 // A threshold, a bound, and what is found of the values of `a`.
-const FOUND: [(SeqNo, SeqNo, Option<Name>); 5] = [
+const FOUND: &[(SeqNo, SeqNo, Option<Name>)] = &[
     (5, 11, Some((b'a', 10))),
     (5, 7, Some((b'a', 3))),
     (5, 3, None),
@@ -75,30 +74,22 @@ const FOUND: [(SeqNo, SeqNo, Option<Name>); 5] = [
 ];
 
 #[test]
-fn versions_stay_that_a_reader_may_see(rt: HostRuntime) -> Result<(), Fail> {
-    for (threshold, bound, name) in FOUND {
-        assert_eq!(rt; found_at(rt.alloc(), threshold, bound)?, name);
+fn versions_stay_that_a_reader_may_see(rt: HostRuntime) {
+    for &(threshold, bound, name) in FOUND {
+        assert!(rt; found_at(rt.alloc(), threshold, bound) == Ok(name));
     }
-    Ok(())
 }
 
 #[test]
-fn a_tombstone_that_is_evicted_leaves_no_run(rt: HostRuntime) -> Result<(), Fail> {
+fn a_tombstone_goes_or_stays_and_small_numbers_become_0(rt: HostRuntime) {
     let alloc = rt.alloc();
-    let evicted = read_kept(alloc, &TOMBSTONE, EVICTING, b"a", 7, ALL)?;
-    assert!(rt; evicted == None);
-    let stays = read_kept(alloc, &TOMBSTONE, KEEPING, b"a", 7, ALL)?;
+    assert!(rt; read_kept(alloc, &TOMBSTONE, EVICTING, b"a", 7, ALL) == Ok(None));
     let name = Some((b'a', 4));
-    assert!(rt; stays == Some([name, None, name]));
-    assert!(rt; read_kept(alloc, &[], KEEPING, b"a", 7, ALL)? == None);
-    Ok(())
-}
-
-#[test]
-fn numbers_below_the_threshold_become_0(rt: HostRuntime) -> Result<(), Fail> {
-    let read = read_kept(rt.alloc(), &THREE_KEYS, ZEROING, b"b", 1, ALL)?;
-    assert!(rt; read == Some([Some((b'b', 0)), Some((b'a', 10)), Some((b'c', 6))]));
-    Ok(())
+    let stays = read_kept(alloc, &TOMBSTONE, KEEPING, b"a", 7, ALL);
+    assert!(rt; stays == Ok(Some([name, None, name])));
+    assert!(rt; read_kept(alloc, &[], KEEPING, b"a", 7, ALL) == Ok(None));
+    let zeroed = read_kept(alloc, &THREE_KEYS, ZEROING, b"b", 1, ALL);
+    assert!(rt; zeroed == Ok(Some([Some((b'b', 0)), Some((b'a', 10)), Some((b'c', 6))])));
 }
 
 // Bounds, and the ends of what is kept of three keys within them.
@@ -164,11 +155,12 @@ fn a_key_that_is_too_long_is_refused(rt: HostRuntime) {
     assert!(rt; refusal_of_a_key(rt.alloc(), 1_048_576) == Ok(true));
 }
 
+/// Whether a@3 is found below 7 of the values of `a`.
+pub(crate) fn list_is_kept<A: Allocator + Copy>(alloc: A) -> Result<bool, Error> {
+    Ok(found_at(alloc, 5, 7)? == Some((b'a', 3)))
+}
+
 #[test]
 fn a_list_is_compacted_with_each_request_refused(rt: HostRuntime) {
-    let right = Some((b'a', 3));
-    let answers = each_refused(rt.alloc(), |heap: &Refusing, may_fail: bool| {
-        is_right(found_at(heap, 5, 7).map(|found| found == right), may_fail)
-    });
-    assert!(rt; answers.is_ok());
+    assert!(rt; requests(rt.alloc(), &Work::List).is_ok());
 }

@@ -1,18 +1,20 @@
 //! Runs that are compacted with a filter: what the new tables have, and what is reported.
+ghost use Rattle.std.specs.Prelude.{All};
 ghost use Rattle.std.specs.Iterator.{IsFinite};
+ghost use Rattle.sst_entries.specs.Stream.{CanDeal, nowhere};
 
-use crate::runs::{T, V, Version, W, opened, run_of_tables, runs_of, scanned, version_of};
+use crate::listed::{Listed, NONE, Version, are, asked_all, found, put, scanned, version_of};
+use crate::runs::{T, V, W, opened, run_of_tables, runs_of};
 use lsm_merge::Merger;
 use lsm_sorted::compaction::stream::{
     CompactionStream, DroppedKvCallback, StreamFilter, StreamFilterVerdict,
 };
-use lsm_tables::{RunScanner, Table, get_runs};
+use lsm_tables::RunScanner;
 use lsm_writers::{FinishedTable, MultiWriter, TableIds, Timestamp};
 use sst_blocks::{Error, InternalValue, IterItem, SeqNo, Slice, UserValue, ValueType};
 use std::alloc::{Allocator, Global};
-use std::test::Fail;
 use test_tables::large::add;
-use test_tables::rows::Row;
+use test_tables::rows::{Row, written};
 use test_tables::runs::Tables;
 
 // Drops the version of one number, makes that of another a tombstone, and keeps all others.
@@ -43,24 +45,17 @@ impl<A: Allocator> StreamFilter<A> for DropsAndHides {
     }
 }
 
-// The first three versions that were reported, and how many were.
-type Reports = ([Option<Version>; 3], usize);
-
 // Remembers what it received.
 #[derive(Clone, Copy)]
 struct Received {
-    reports: Reports,
+    reports: Listed,
 }
 
 impl<A: Allocator> DroppedKvCallback<A> for Received {
     ghost gets = { λ c x d. Unit {0} };
 
     fn on_dropped(&mut self, kv: &InternalValue<A>) {
-        let (versions, count) = &mut self.reports;
-        if let Some(slot) = versions.get_mut(*count) {
-            *slot = Some(version_of(kv));
-        }
-        *count = count.saturating_add(1);
+        put(&mut self.reports, version_of(kv));
     }
 }
 
@@ -85,13 +80,25 @@ fn scanners<A: Allocator + Copy>(
     Ok(scanners)
 }
 
-// Writes a result. `Source(3)` where it is an entry that may not follow.
-fn put<A: Allocator + Copy>(writer: &mut MultiWriter<A>, item: IterItem<A>) -> Result<(), Error> {
-    let item = item?;
-    if !writer.can_follow(&item.key) {
-        return Err(Error::Source(3));
+// Writes an entry. `Source(3)` where it may not follow.
+fn write_item<A: Allocator + Copy>(
+    writer: &mut MultiWriter<A>,
+    item: InternalValue<A>,
+) -> Result<(), Error> {
+    if writer.can_follow(&item.key) {
+        writer.write(item)
+    } else {
+        drop(item);
+        Err(Error::Source(3))
     }
-    writer.write(item)
+}
+
+// Writes a result, if it is an entry.
+fn write<A: Allocator + Copy>(writer: &mut MultiWriter<A>, item: IterItem<A>) -> Result<(), Error> {
+    match item {
+        Ok(item) => write_item(writer, item),
+        Err(error) => Err(error),
+    }
 }
 
 // Writes all that a stream gives.
@@ -103,72 +110,93 @@ fn put_all<A: Allocator + Copy, I: Iterator<Item = IterItem<A>>>(
     requires finite { IsFinite (I.remaining stream.old) }
 {
     while let Some(item) = stream.next() {
-        put(writer, item)?;
+        write(writer, item)?;
     }
     Ok(())
 }
 
-// What a writer has written, if it has written all, and what was reported.
-fn finished<A: Allocator + Copy>(
-    writer: MultiWriter<A>,
-    reports: Result<Reports, Error>,
-) -> Result<(Vec<FinishedTable<A>, A>, Reports), Error> {
-    let reports = reports?;
-    Ok((writer.finish()?, reports))
-}
-
-// Writes what a compaction at threshold 5 with a filter leaves of some scanners' entries, and tells
-// what is reported.
-fn put_kept<A: Allocator + Copy>(
+// Writes what a compaction at threshold 5 with a filter leaves of some sources' entries, and tells
+// what is reported. It is generic in the sources, so that none of their parts is looked at.
+fn put_left<I: Iterator<Item = IterItem<A>> + Drop, A: Allocator + Copy>(
     alloc: A,
     writer: &mut MultiWriter<A>,
-    scanners: Vec<RunScanner<A>, A>,
+    sources: Vec<I, A>,
     filter: DropsAndHides,
-) -> Result<Reports, Error> {
-    let received = Received {
-        reports: ([None; 3], 0),
-    };
-    let merger = Merger::new(alloc, scanners)?;
+    reports: &mut Listed,
+) -> Result<(), Error>
+    requires can { All (CanDeal I.next_gives nowhere I.can_next I.can_next) sources.items }
+    requires finite { All (λ s. IsFinite (I.remaining s)) sources.items }
+{
+    let merger = Merger::new(alloc, sources)?;
     let mut stream = CompactionStream::new(merger, 5)
         .with_filter(filter)
-        .with_drop_callback(received);
+        .with_drop_callback(Received { reports: NONE });
     let done = put_all(writer, &mut stream);
-    let received = stream.into_callback();
-    done?;
-    Ok(received.reports)
+    *reports = stream.into_callback().reports;
+    done
 }
 
-// New tables of what is left of some runs, each key in one of its own, and what is reported.
+// What it leaves of some runs.
+fn put_runs<A: Allocator + Copy>(
+    alloc: A,
+    writer: &mut MultiWriter<A>,
+    runs: &[Tables<A>],
+    filter: DropsAndHides,
+    reports: &mut Listed,
+) -> Result<(), Error> {
+    let scanners = scanners(alloc, runs)?;
+    put_left(alloc, writer, scanners, filter, reports)
+}
+
+// New tables of what is left of some runs, each key in one of its own; and what is reported.
 fn compacted<A: Allocator + Copy>(
     alloc: A,
     runs: &[Tables<A>],
     filter: DropsAndHides,
-) -> Result<(Vec<FinishedTable<A>, A>, Reports), Error> {
-    let scanners = scanners(alloc, runs)?;
+    reports: &mut Listed,
+) -> Result<Vec<FinishedTable<A>, A>, Error> {
     let mut writer = MultiWriter::new(alloc, TableIds::new(1), 0, 0, Timestamp::from(0))?;
-    let reports = put_kept(alloc, &mut writer, scanners, filter);
-    finished(writer, reports)
+    let done = put_runs(alloc, &mut writer, runs, filter, reports);
+    written(writer, done)?.finish()
 }
 
-// The tables of what is kept, opened.
-fn compacted_tables<A: Allocator + Copy>(
-    alloc: A,
+// The finished tables of what is left of some lists' runs.
+fn compacted_of(
+    alloc: Global,
     lists: &[&[Row<'_>]],
     filter: DropsAndHides,
-) -> Result<(Vec<Table<A>, A>, Reports), Error> {
+    reports: &mut Listed,
+) -> Result<Vec<FinishedTable>, Error> {
     let runs = runs_of(alloc, lists)?;
-    let (tables, reports) = compacted(alloc, &runs, filter)?;
-    Ok((opened(alloc, tables)?, reports))
+    let tables = compacted(alloc, &runs, filter, reports);
+    drop(runs);
+    tables
 }
 
-// What the newest version of `a` is in some tables.
-fn newest_of_a(
+// The run of what is left, or none.
+fn run_left(
     alloc: Global,
-    tables: Vec<Table<Global>, Global>,
-) -> Result<Option<Version>, Error> {
-    let runs = run_of_tables(alloc, tables)?;
-    let found = get_runs(&runs, b"a", 100)?;
-    Ok(found.map(|item| version_of(&item)))
+    lists: &[&[Row<'_>]],
+    filter: DropsAndHides,
+    reports: &mut Listed,
+) -> Result<Vec<Tables<Global>>, Error> {
+    let tables = compacted_of(alloc, lists, filter, reports)?;
+    run_of_tables(alloc, opened(alloc, tables)?)
+}
+
+// What scans of a run's tables give, if there is a run, and what a read finds.
+fn listed_and_found(
+    runs: &[Tables<Global>],
+    at: (&[u8], SeqNo),
+) -> Result<(Listed, Option<Version>), Error> {
+    let mut listed = NONE;
+    for run in runs {
+        listed = scanned(run.as_slice(), listed)?;
+    }
+    match found(runs, at)? {
+        Some((version, _)) => Ok((listed, Some(version))),
+        None => Ok((listed, None)),
+    }
 }
 
 // What some lists' runs leave, what is read of `a` then, and what is reported.
@@ -176,10 +204,11 @@ fn left(
     alloc: Global,
     lists: &[&[Row<'_>]],
     filter: DropsAndHides,
-) -> Result<(Vec<Version>, Option<Version>, Reports), Error> {
-    let (tables, reports) = compacted_tables(alloc, lists, filter)?;
-    let versions = scanned(alloc, &tables)?;
-    Ok((versions, newest_of_a(alloc, tables)?, reports))
+) -> Result<(Listed, Option<Version>, Listed), Error> {
+    let mut reports = NONE;
+    let runs = run_left(alloc, lists, filter, &mut reports);
+    let (versions, newest) = asked_all(runs, (b"a".as_slice(), 100), listed_and_found)?;
+    Ok((versions, newest, reports))
 }
 
 const A10: Row<'static> = (b"a", 10, V, b"x");
@@ -197,61 +226,58 @@ const DROPS_10_AND_HIDES_9: DropsAndHides = DropsAndHides {
     hidden: 9,
 };
 
-// Rows, what is left of them, the newest version of `a` then, and what is reported.
+// Lists of rows, what is left of them, the newest version of `a` then, and what is reported.
 type Case = (
-    &'static [Row<'static>],
+    &'static [&'static [Row<'static>]],
     &'static [Version],
     Option<Version>,
-    Reports,
+    &'static [Version],
 );
 
-const CASES: [Case; 4] = [
+const CASES: &[Case] = &[
     // What is dropped hides nothing: the version after it is kept.
     (
-        &[A10, A3],
+        &[&[A10, A3]],
         &[(b'a', 3, V)],
         Some((b'a', 3, V)),
-        ([Some((b'a', 10, V)), None, None], 1),
+        &[(b'a', 10, V)],
     ),
     // What takes its place hides what is older; what is replaced by a tombstone is told and
     // written.
     (
-        &[A10, A4, A3, B9],
+        &[&[A10, A4, A3, B9]],
         &[(b'a', 4, V), (b'b', 9, T)],
         Some((b'a', 4, V)),
-        (
-            [Some((b'a', 10, V)), Some((b'a', 3, V)), Some((b'b', 9, V))],
-            3,
-        ),
+        &[(b'a', 10, V), (b'a', 3, V), (b'b', 9, V)],
     ),
     // The filter is not asked of a weak tombstone.
     (
-        &[A10_W, A3],
+        &[&[A10_W, A3]],
         &[(b'a', 10, W), (b'a', 3, V)],
         Some((b'a', 10, W)),
-        ([None; 3], 0),
+        &[],
     ),
     // Where all is dropped there is no table.
-    (&[A10], &[], None, ([Some((b'a', 10, V)), None, None], 1)),
+    (&[&[A10]], &[], None, &[(b'a', 10, V)]),
+    // The version that is dropped is in one run, and the older one in the next.
+    (
+        &[&[A10], &[A3]],
+        &[(b'a', 3, V)],
+        Some((b'a', 3, V)),
+        &[(b'a', 10, V)],
+    ),
 ];
 
-#[test]
-fn a_dropped_version_hides_none_that_is_older(rt: HostRuntime) -> Result<(), Fail> {
-    for (rows, kept, newest, reports) in CASES {
-        let (versions, found, told) = left(rt.alloc(), &[rows], DROPS_10_AND_HIDES_9)?;
-        assert!(rt; versions.as_slice() == kept);
-        assert!(rt; found == newest);
-        assert!(rt; told == reports);
-    }
-    Ok(())
+// Whether what is left, what is read and what is reported is what a case says.
+fn leaves(alloc: Global, case: &Case) -> Result<[bool; 3], Error> {
+    let &(lists, kept, newest, reports) = case;
+    let (versions, found, told) = left(alloc, lists, DROPS_10_AND_HIDES_9)?;
+    Ok([are(&versions, kept), found == newest, are(&told, reports)])
 }
 
-// The version that is dropped is in one run, and the older one in the next.
 #[test]
-fn a_dropped_version_hides_none_of_another_run(rt: HostRuntime) -> Result<(), Fail> {
-    let (versions, found, told) = left(rt.alloc(), &[&[A10], &[A3]], DROPS_10_AND_HIDES_9)?;
-    assert!(rt; versions.as_slice() == [(b'a', 3, V)].as_slice());
-    assert!(rt; found == Some((b'a', 3, V)));
-    assert!(rt; told == ([Some((b'a', 10, V)), None, None], 1));
-    Ok(())
+fn a_dropped_version_hides_none_that_is_older(rt: HostRuntime) {
+    for case in CASES {
+        assert!(rt; leaves(rt.alloc(), case) == Ok([true; 3]));
+    }
 }

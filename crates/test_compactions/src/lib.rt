@@ -10,9 +10,15 @@ mod filtered;
 #[cfg(test)]
 mod kept;
 #[cfg(test)]
+mod listed;
+#[cfg(test)]
+mod memory;
+#[cfg(test)]
 mod packed;
 #[cfg(test)]
 mod packing;
+#[cfg(test)]
+mod part;
 #[cfg(test)]
 mod reads;
 #[cfg(test)]

@@ -1,14 +1,13 @@
 //! Which tables go into which run, and what is read of them before and after.
-use crate::packed::shared;
-use crate::runs::{V, Version, newest_in};
+use crate::listed::{Listed, NONE, asked_all, found, newest_in, put};
+use crate::runs::{V, packed, shared};
 use lsm_ranges::{Run, overlap_chain};
-use lsm_tables::{Table, get_runs, pack_runs};
+use lsm_tables::Table;
 use lsm_writers::{TableId, Timestamp, Writer};
 use sst_blocks::{Error, SeqNo, Slice};
 use std::alloc::Global;
-use std::test::Fail;
 use test_tables::large::add;
-use test_tables::rows::{Row, fill};
+use test_tables::rows::{Row, fill, written};
 use test_tables::runs::Tables;
 use test_tables::tables::open;
 
@@ -46,12 +45,21 @@ fn runs(alloc: Global, lists: &[&[Ends]]) -> Result<Vec<Run<Table<Global>>>, Err
 
 // Whether tables have these ids.
 fn has_ids(tables: &[Table<Global>], ids: &[TableId]) -> bool {
-    tables.len() == ids.len() && tables.iter().zip(ids).all(|(table, id)| table.id() == *id)
+    for (table, id) in tables.iter().zip(ids.iter()) {
+        if table.id() != *id {
+            return false;
+        }
+    }
+    tables.len() == ids.len()
 }
 
-fn have_ids(runs: &[Tables<Global>], ids: &[&[TableId]]) -> bool {
-    let right = |(run, ids): (&Tables<Global>, &&[TableId])| has_ids(run.as_slice(), ids);
-    runs.len() == ids.len() && runs.iter().zip(ids).all(right)
+fn have_ids(runs: &[Tables<Global>], ids: &[&[TableId]]) -> Result<bool, Error> {
+    for (run, ids) in runs.iter().zip(ids.iter()) {
+        if !has_ids(run.as_slice(), ids) {
+            return Ok(false);
+        }
+    }
+    Ok(runs.len() == ids.len())
 }
 
 // In each: some runs, the ids of the tables that go into each packed run, and the places that a
@@ -62,7 +70,7 @@ type Packing = (
     &'static [&'static [(usize, usize)]],
 );
 
-const PACKINGS: [Packing; 6] = [
+const PACKINGS: &[Packing] = &[
     (&[], &[], &[]),
     (
         &[&[(0, b"a", b"b")], &[(1, b"a", b"b")]],
@@ -96,57 +104,32 @@ const PACKINGS: [Packing; 6] = [
     ),
 ];
 
+// Whether each place is one of those that it may be.
+fn are_among(chain: &[(usize, usize)], places: &[&[(usize, usize)]]) -> bool {
+    for (place, places) in chain.iter().zip(places.iter()) {
+        if !places.contains(place) {
+            return false;
+        }
+    }
+    chain.len() == places.len()
+}
+
 // Whether a chain through some runs has one of the places, each in its turn.
 fn has_chain(
-    alloc: Global,
-    lists: &[&[Ends]],
-    places: &[&[(usize, usize)]],
+    runs: &[Run<Table<Global>>],
+    of: (Global, &[&[(usize, usize)]]),
 ) -> Result<bool, Error> {
-    let chain = overlap_chain(alloc, &runs(alloc, lists)?)?;
-    let right = |(place, places): (&(usize, usize), &&[(usize, usize)])| places.contains(place);
-    Ok(chain.len() == places.len() && chain.iter().zip(places).all(right))
+    Ok(are_among(&overlap_chain(of.0, runs)?, of.1))
 }
 
-#[test]
-fn a_chain_goes_through_tables_that_overlap(rt: HostRuntime) -> Result<(), Fail> {
-    for (lists, _, places) in PACKINGS {
-        assert!(rt; has_chain(rt.alloc(), lists, places)?);
-    }
-    Ok(())
+// Some runs, shared.
+fn given(alloc: Global, lists: &[&[Ends]]) -> Result<Vec<Tables<Global>>, Error> {
+    shared(alloc, runs(alloc, lists)?)
 }
 
-// Whether given runs are packed into runs of these tables.
-fn are_packed(alloc: Global, given: &[Tables<Global>], ids: &[&[TableId]]) -> Result<bool, Error> {
-    let packed = shared(alloc, pack_runs(alloc, given)?)?;
-    Ok(have_ids(&packed, ids))
-}
-
-// Whether some runs are packed into runs of these tables, and the given runs stay.
-fn packs(alloc: Global, lists: &[&[Ends]], ids: &[&[TableId]]) -> Result<bool, Error> {
-    let given = shared(alloc, runs(alloc, lists)?)?;
-    let packed = shared(alloc, pack_runs(alloc, &given)?)?;
-    Ok(have_ids(&packed, ids) && given.len() == lists.len())
-}
-
-#[test]
-fn tables_go_behind_those_that_they_overlap(rt: HostRuntime) -> Result<(), Fail> {
-    for (lists, ids, _) in PACKINGS {
-        assert!(rt; packs(rt.alloc(), lists, ids)?);
-    }
-    Ok(())
-}
-
-// Its tables overlap: of several runs they would not stay in one.
-#[test]
-fn one_run_stays_as_it_is(rt: HostRuntime) -> Result<(), Fail> {
-    assert!(rt;
-        packs(
-            rt.alloc(),
-            &[&[(0, b"a", b"z"), (1, b"c", b"d")]],
-            &[&[0, 1]]
-        )?
-    );
-    Ok(())
+// Whether some runs are packed into runs of these tables.
+fn are_packed(given: &[Tables<Global>], of: (Global, &[&[TableId]])) -> Result<bool, Error> {
+    asked_all(packed(of.0, given), of.1, have_ids)
 }
 
 // A run whose tables were taken out.
@@ -156,70 +139,91 @@ fn emptied(alloc: Global, ends: &[Ends]) -> Result<Run<Table<Global>>, Error> {
     Ok(run)
 }
 
-// Whether a run is packed alone that stands beside one without tables.
-fn leaves_out_what_is_empty(alloc: Global) -> Result<bool, Error> {
+// A run beside one without tables.
+fn beside_an_empty_one(alloc: Global) -> Result<Vec<Tables<Global>>, Error> {
     let mut given = runs(alloc, &[&[(0, b"a", b"b")]])?;
-    add(&mut given, emptied(alloc, &[(1, b"c", b"d")]))?;
-    let given = shared(alloc, given)?;
-    are_packed(alloc, &given, &[&[0]])
+    let added = add(&mut given, emptied(alloc, &[(1, b"c", b"d")]));
+    shared(alloc, written(given, added)?)
 }
 
 #[test]
-fn a_run_without_tables_is_left_out(rt: HostRuntime) -> Result<(), Fail> {
-    assert!(rt; leaves_out_what_is_empty(rt.alloc())?);
-    Ok(())
+fn a_run_without_tables_is_left_out(rt: HostRuntime) {
+    let alloc = rt.alloc();
+    let ids: &[&[TableId]] = &[&[0]];
+    let packed = asked_all(beside_an_empty_one(alloc), (alloc, ids), are_packed);
+    assert!(rt; packed == Ok(true));
 }
 
-fn number_of(runs: &[Tables<Global>], key: &[u8]) -> Result<Option<SeqNo>, Error> {
-    Ok(get_runs(runs, key, SeqNo::MAX)?.map(|item| item.key.seqno))
-}
-
-// The numbers that reads of a table's keys find.
-fn add_numbers(
-    numbers: &mut Vec<Option<SeqNo>>,
-    runs: &[Tables<Global>],
-    ends: &Ends,
-) -> Result<(), Error> {
-    numbers.push(number_of(runs, ends.1)?)?;
-    numbers.push(number_of(runs, ends.2)?)?;
-    Ok(())
-}
-
-// The numbers that reads of all tables' keys find.
-fn numbers(
-    alloc: Global,
-    runs: &[Tables<Global>],
-    lists: &[&[Ends]],
-) -> Result<Vec<Option<SeqNo>>, Error> {
-    let mut numbers = Vec::new(alloc);
-    for tables in lists {
-        for ends in *tables {
-            add_numbers(&mut numbers, runs, ends)?;
+// Puts what a read finds behind others. `Source(3)` where it finds nothing.
+fn put_found(listed: &mut Listed, runs: &[Tables<Global>], key: &[u8]) -> Result<(), Error> {
+    match found(runs, (key, SeqNo::MAX))? {
+        Some((version, _)) => {
+            put(listed, version);
+            Ok(())
         }
+        None => Err(Error::Source(3)),
     }
-    Ok(numbers)
+}
+
+// What reads of the keys of a run's tables find, behind others.
+fn put_ends(listed: &mut Listed, runs: &[Tables<Global>], tables: &[Ends]) -> Result<(), Error> {
+    for (_, first, last) in tables {
+        put_found(listed, runs, first)?;
+        put_found(listed, runs, last)?;
+    }
+    Ok(())
+}
+
+// What point reads of all tables' keys find.
+fn found_of(runs: &[Tables<Global>], lists: &[&[Ends]]) -> Result<Listed, Error> {
+    let mut listed = NONE;
+    for tables in lists {
+        put_ends(&mut listed, runs, tables)?;
+    }
+    Ok(listed)
 }
 
 // What point reads of all keys and a range give.
-type Read = (Vec<Option<SeqNo>>, Vec<Version>);
-
-fn read(alloc: Global, runs: &[Tables<Global>], lists: &[&[Ends]]) -> Result<Read, Error> {
-    Ok((numbers(alloc, runs, lists)?, newest_in(alloc, runs)?))
+fn read(runs: &[Tables<Global>], of: (Global, &[&[Ends]])) -> Result<(Listed, Listed), Error> {
+    Ok((found_of(runs, of.1)?, newest_in(runs, of.0)?))
 }
 
-// Whether reads of runs give the same once they are packed, and each key has an entry.
-fn read_the_same(alloc: Global, lists: &[&[Ends]]) -> Result<bool, Error> {
-    let given = shared(alloc, runs(alloc, lists)?)?;
-    let before = read(alloc, &given, lists)?;
-    let packed = shared(alloc, pack_runs(alloc, &given)?)?;
-    let after = read(alloc, &packed, lists)?;
-    Ok(before == after && before.0.iter().all(|number| number.is_some()))
+// Whether reads of runs give the same once they are packed. Each key has an entry.
+fn read_the_same(runs: &[Tables<Global>], of: (Global, &[&[Ends]])) -> Result<bool, Error> {
+    let before = read(runs, of)?;
+    Ok(asked_all(packed(of.0, runs), of, read)? == before)
+}
+
+// Whether given runs are packed as a packing says, stay, and are read as before.
+fn packs(given: &[Tables<Global>], of: (Global, &Packing)) -> Result<[bool; 3], Error> {
+    let (alloc, &(lists, ids, _)) = of;
+    let packed = are_packed(given, (alloc, ids))?;
+    let same = read_the_same(given, (alloc, lists))?;
+    Ok([packed, given.len() == lists.len(), same])
+}
+
+// Whether a chain through a packing's runs is as it says, and what comes of packing them.
+fn comes_out(alloc: Global, packing: &Packing) -> Result<(bool, [bool; 3]), Error> {
+    let &(lists, _, places) = packing;
+    let chain = asked_all(runs(alloc, lists), (alloc, places), has_chain)?;
+    Ok((
+        chain,
+        asked_all(given(alloc, lists), (alloc, packing), packs)?,
+    ))
 }
 
 #[test]
-fn packed_runs_are_read_as_before(rt: HostRuntime) -> Result<(), Fail> {
-    for (lists, _, _) in PACKINGS {
-        assert!(rt; read_the_same(rt.alloc(), lists)?);
+fn tables_go_behind_those_that_they_overlap_and_are_read_as_before(rt: HostRuntime) {
+    for packing in PACKINGS {
+        assert!(rt; comes_out(rt.alloc(), packing) == Ok((true, [true; 3])));
     }
-    Ok(())
+}
+
+// Its tables overlap: of several runs they would not stay in one.
+#[test]
+fn one_run_stays_as_it_is(rt: HostRuntime) {
+    let alloc = rt.alloc();
+    let ids: &[&[TableId]] = &[&[0, 1]];
+    let given = given(alloc, &[&[(0, b"a", b"z"), (1, b"c", b"d")]]);
+    assert!(rt; asked_all(given, (alloc, ids), are_packed) == Ok(true));
 }

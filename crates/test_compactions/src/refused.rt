@@ -1,21 +1,13 @@
 //! What making a run refuses where no id is left for a table.
-use crate::runs::{KEEPING, V, runs_of};
-use lsm_tables::{compact_part_back, compact_to_run};
-use lsm_writers::{TableIds, Timestamp};
+use crate::listed::Numbers;
+use crate::part::found_around_a_part;
+use crate::runs::{KEEPING, V, new_run, runs_of, spent};
 use sst_blocks::Error;
 use std::alloc::Global;
-use std::test::Fail;
 use test_tables::rows::Row;
-use test_tables::runs::{ALL, owned_range};
+use test_tables::runs::ALL;
 
 const ROWS: [Row<'static>; 2] = [(b"a", 9, V, b"x"), (b"b", 4, V, b"y")];
-
-// A counter behind the last id.
-fn spent() -> TableIds {
-    let mut ids = TableIds::new(u64::MAX);
-    ids.next();
-    ids
-}
 
 // Whether a large value was made, which is let go of here, or why not. It is generic, so that no
 // part of the value is looked at.
@@ -26,33 +18,21 @@ fn made<T: Drop>(value: Result<T, Error>) -> Result<(), Error> {
 
 fn compacted(alloc: Global) -> Result<(), Error> {
     let runs = runs_of(alloc, &[&ROWS])?;
-    let moment = Timestamp::from(0);
-    made(compact_to_run(alloc, &runs, KEEPING, spent(), 0, moment))
+    let answer = made(new_run(alloc, &runs, KEEPING, spent()));
+    drop(runs);
+    answer
 }
 
-fn compacted_in_its_place(alloc: Global) -> Result<(), Error> {
+fn compacted_in_its_place(alloc: Global) -> Result<[Numbers; 2], Error> {
     let part = runs_of(alloc, &[&ROWS])?;
-    let (moment, range) = (Timestamp::from(0), owned_range(alloc, ALL)?);
-    let ids = spent();
-    made(compact_part_back(
-        alloc,
-        &[],
-        &part,
-        &[],
-        KEEPING,
-        ids,
-        0,
-        moment,
-        b"a",
-        10,
-        range,
-    ))
+    let found = found_around_a_part(alloc, &[], &part, &[], KEEPING, spent(), b"a", 10, ALL);
+    drop(part);
+    found
 }
 
 #[test]
-fn no_run_is_made_without_an_id(rt: HostRuntime) -> Result<(), Fail> {
+fn no_run_is_made_without_an_id(rt: HostRuntime) {
     let alloc = rt.alloc();
     assert!(rt; compacted(alloc) == Err(Error::TableIdsSpent));
     assert!(rt; compacted_in_its_place(alloc) == Err(Error::TableIdsSpent));
-    Ok(())
 }

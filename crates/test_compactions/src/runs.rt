@@ -1,5 +1,6 @@
 //! Runs that may be compacted, and what their new tables have.
-ghost use Rattle.std.specs.Prelude.{◌≡◌, ◌+◌, ◌++◌, IfOk, IsPermutation, OnOk, map};
+ghost use Rattle.std.specs.Prelude.{◌≡◌, ◌+◌, ◌++◌, [], ◌∷◌, IfOk, IfSome};
+ghost use Rattle.std.specs.Prelude.{IsPermutation, OnOk, map};
 ghost use Rattle.std.specs.Arc.{arc_value};
 ghost use Rattle.lsm_readers.specs.Answer.{lift};
 ghost use Rattle.lsm_writers.specs.Writing.{IsWritable};
@@ -7,15 +8,15 @@ ghost use Rattle.lsm_compactions.specs.Compacted.{AreCompactable};
 ghost use Rattle.lsm_compactions.specs.ListRuns.{HasList};
 
 use lsm_ranges::Run;
-use lsm_tables::{Rules, Table, compact_runs, write_run};
-use lsm_writers::{FinishedTable, MultiWriter, TableIds, Timestamp, is_writable};
-use sst_blocks::{Direction, Error, InternalValue, SeqNo, ValueType};
+use lsm_tables::{Rules, Table, compact_runs, compact_to_run, pack_runs, write_run};
+use lsm_writers::{FinishedTable, MultiWriter, TableId, TableIds, Timestamp, is_writable};
+use sst_blocks::{Error, InternalValue, SeqNo, ValueType};
 use std::alloc::Allocator;
 use std::sync::Arc;
 use test_tables::large::add;
-use test_tables::lists::{answers_within, list_of};
+use test_tables::lists::list_of;
 use test_tables::rows::Row;
-use test_tables::runs::{ALL, Tables};
+use test_tables::runs::Tables;
 use test_tables::tables::open;
 
 pub(crate) const V: ValueType = ValueType::Value;
@@ -23,9 +24,6 @@ pub(crate) const V: ValueType = ValueType::Value;
 pub(crate) const T: ValueType = ValueType::Tombstone;
 
 pub(crate) const W: ValueType = ValueType::WeakTombstone;
-
-/// A key of one byte, 0 for any other, a number and a kind.
-pub(crate) type Version = (u8, SeqNo, ValueType);
 
 /// Threshold 5; tombstones and numbers stay.
 pub(crate) const KEEPING: Rules = Rules {
@@ -124,6 +122,14 @@ pub(crate) fn runs_with<A: Allocator + Copy>(
     }
 }
 
+/// The run of a list, without a global number.
+pub(crate) fn run_of_list<A: Allocator + Copy>(
+    alloc: A,
+    rows: &[Row<'_>],
+) -> Result<Tables<A>, Error> {
+    written(alloc, list_of(alloc, rows)?, 0)
+}
+
 /// A run of each of some lists, without a global number.
 pub(crate) fn runs_of<A: Allocator + Copy>(
     alloc: A,
@@ -141,9 +147,43 @@ pub(crate) fn opened<A: Allocator + Copy>(
 ) -> Result<Vec<Table<A>, A>, Error> {
     let mut opened = Vec::new(alloc);
     for table in tables {
-        opened.push(open(alloc, table.bytes, 0)?)?;
+        add(&mut opened, open(alloc, table.bytes, 0))?;
     }
     Ok(opened)
+}
+
+/// The tables of what is kept of some runs, cut at a target size, and the counter of ids behind
+/// them.
+pub(crate) fn finished<A: Allocator + Copy>(
+    alloc: A,
+    runs: &[Tables<A>],
+    rules: Rules,
+    target_size: u64,
+    ids: TableIds,
+) -> Result<(Vec<FinishedTable<A>, A>, TableIds), Error>
+    requires { AreCompactable (map arc_value runs.now) }
+{
+    let Rules {
+        watermark,
+        evict,
+        zeroing,
+    } = rules;
+    let writer = MultiWriter::new(alloc, ids, target_size, 0, Timestamp::from(0))?;
+    compact_runs(alloc, runs, watermark, evict, zeroing, writer)
+}
+
+/// Those of what is kept of some lists' runs.
+pub(crate) fn finished_of<A: Allocator + Copy>(
+    alloc: A,
+    lists: &[&[Row<'_>]],
+    rules: Rules,
+    target_size: u64,
+    ids: TableIds,
+) -> Result<(Vec<FinishedTable<A>, A>, TableIds), Error> {
+    let runs = runs_of(alloc, lists)?;
+    let made = finished(alloc, &runs, rules, target_size, ids);
+    drop(runs);
+    made
 }
 
 /// The tables of what is kept of some runs, each key in one of its own.
@@ -154,14 +194,22 @@ pub(crate) fn compacted<A: Allocator + Copy>(
 ) -> Result<Vec<Table<A>, A>, Error>
     requires { AreCompactable (map arc_value runs.now) }
 {
-    let Rules {
-        watermark,
-        evict,
-        zeroing,
-    } = rules;
-    let writer = MultiWriter::new(alloc, TableIds::new(1), 0, 0, Timestamp::from(0))?;
-    let (tables, _) = compact_runs(alloc, runs, watermark, evict, zeroing, writer)?;
+    let (tables, _) = finished(alloc, runs, rules, 0, TableIds::new(1))?;
     opened(alloc, tables)
+}
+
+/// The tables of what is kept of some lists' runs, each key in one of its own.
+pub(crate) fn compacted_of<A: Allocator + Copy>(
+    alloc: A,
+    lists: &[&[Row<'_>]],
+    rules: Rules,
+) -> Result<Vec<Table<A>, A>, Error> {
+    let (tables, _) = finished_of(alloc, lists, rules, 0, TableIds::new(1))?;
+    opened(alloc, tables)
+}
+
+fn share<A: Allocator + Copy>(alloc: A, run: Run<Table<A>, A>) -> Result<Tables<A>, Error> {
+    Ok(Arc::new(alloc, run)?)
 }
 
 /// The runs of some tables: one, or none where there is no table.
@@ -171,56 +219,48 @@ pub(crate) fn run_of_tables<A: Allocator + Copy>(
 ) -> Result<Vec<Tables<A>, A>, Error> {
     let mut runs = Vec::new(alloc);
     if let Some(run) = Run::new(tables) {
-        runs.push(Arc::new(alloc, run)?)?;
+        add(&mut runs, share(alloc, run))?;
     }
     Ok(runs)
 }
 
-/// The version that an entry is.
-pub(crate) fn version_of<A: Allocator>(item: &InternalValue<A>) -> Version {
-    let key = match item.key.user_key.as_slice() {
-        [byte] => *byte,
-        _ => 0,
-    };
-    (key, item.key.seqno, item.key.value_type)
-}
-
-// Puts what a scan of a table gives behind others.
-fn add_scanned<A: Allocator + Copy>(
-    versions: &mut Vec<Version, A>,
-    table: &Table<A>,
-) -> Result<(), Error> {
-    for item in table.scan()? {
-        versions.push(version_of(&item?))?;
-    }
-    Ok(())
-}
-
-/// What scans of some tables give.
-pub(crate) fn scanned<A: Allocator + Copy>(
-    alloc: A,
-    tables: &[Table<A>],
-) -> Result<Vec<Version, A>, Error> {
-    let mut versions = Vec::new(alloc);
-    for table in tables {
-        add_scanned(&mut versions, table)?;
-    }
-    Ok(versions)
-}
-
-// Six steps from the front.
-const FRONT: [Direction; 6] = [Direction::Front; 6];
-
-/// The first six of the newest versions that some runs have.
-pub(crate) fn newest_in<A: Allocator + Copy>(
+/// The run of what is kept of some runs, each key in a table of its own, if anything is, and the
+/// counter of ids behind it.
+pub(crate) fn new_run<A: Allocator + Copy>(
     alloc: A,
     runs: &[Tables<A>],
-) -> Result<Vec<Version, A>, Error> {
-    let mut versions = Vec::new(alloc);
-    for answer in answers_within(alloc, runs, ALL, &FRONT)? {
-        if let Some(item) = answer {
-            add(&mut versions, item.map(|item| version_of(&item)))?;
-        }
+    rules: Rules,
+    ids: TableIds,
+) -> Result<(Option<Run<Table<A>, A>>, TableIds), Error>
+    requires { AreCompactable (map arc_value runs.now) }
+    ensures { IfOk result (λ r. IfSome r.0 (λ run. AreCompactable (run ∷ []))) }
+{
+    compact_to_run(alloc, runs, rules, ids, 0, Timestamp::from(0))
+}
+
+/// A counter whose last id was drawn.
+pub(crate) fn spent() -> TableIds {
+    let mut ids = TableIds::new(TableId::MAX);
+    ids.next();
+    ids
+}
+
+/// Runs that are shared, each.
+pub(crate) fn shared<A: Allocator + Copy>(
+    alloc: A,
+    runs: Vec<Run<Table<A>, A>, A>,
+) -> Result<Vec<Tables<A>, A>, Error> {
+    let mut tables = Vec::new(alloc);
+    for run in runs {
+        add(&mut tables, share(alloc, run))?;
     }
-    Ok(versions)
+    Ok(tables)
+}
+
+/// What some runs are packed into.
+pub(crate) fn packed<A: Allocator + Copy>(
+    alloc: A,
+    runs: &[Tables<A>],
+) -> Result<Vec<Tables<A>, A>, Error> {
+    shared(alloc, pack_runs(alloc, runs)?)
 }

@@ -7,14 +7,15 @@ ghost use Rattle.lsm_compactions.specs.Compacted.{AreCompactable};
 ghost use Rattle.lsm_runs.specs.RunLists.{HoldsList};
 ghost use Rattle.test_compactions.specs.Stored.{new_entries, stored_entries};
 
-use crate::runs::{V, Version, compacted, newest_in, scanned, version_of};
+use crate::listed::{NONE, Version, are, asked_all, newest_in, scanned, version_of};
+use crate::runs::{V, compacted};
 use lsm_ranges::Run;
 use lsm_tables::{Rules, RunReader, Table};
 use lsm_writers::{Timestamp, write_list};
 use sst_blocks::{Checksum, Error, InternalValue, Slice};
 use std::alloc::Global;
 use std::sync::Arc;
-use std::test::Fail;
+use test_tables::large::{add, asked, asked_if_any};
 use test_tables::runs::{ALL, Tables, owned_range};
 use test_tables::stored::two_levels;
 
@@ -87,73 +88,85 @@ fn run(alloc: Global) -> Result<Tables<Global>, Error>
 
 // Whether tables are of these versions.
 fn has_versions(tables: &[Table<Global>], versions: &[u8]) -> bool {
-    let right = |(table, version): (&Table<Global>, &u8)| table.metadata.table_version == *version;
-    tables.len() == versions.len() && tables.iter().zip(versions).all(right)
-}
-
-// Whether a reader gives these versions and then nothing.
-fn gives(reader: &mut RunReader<Global>, versions: &[Version]) -> Result<bool, Error> {
-    for version in versions {
-        match reader.next() {
-            Some(item) => {
-                if version_of(&item?) != *version {
-                    return Ok(false);
-                }
-            }
-            None => return Ok(false),
+    for (table, version) in tables.iter().zip(versions.iter()) {
+        if table.metadata.table_version != *version {
+            return false;
         }
     }
-    Ok(reader.next().is_none())
+    tables.len() == versions.len()
 }
 
-// The reader of the run, in a list, which is empty where there is none.
-fn readers(alloc: Global) -> Result<Vec<RunReader<Global>>, Error> {
-    let mut readers = Vec::new(alloc);
-    let run = run(alloc)?;
-    if let Some(reader) = RunReader::new(run, owned_range(alloc, ALL)?)? {
-        readers.push(reader)?;
+// The version of the next entry, if any.
+fn next_of(reader: &mut RunReader<Global>) -> Result<Option<Version>, Error> {
+    match reader.next() {
+        Some(Ok(item)) => Ok(Some(version_of(&item))),
+        Some(Err(error)) => Err(error),
+        None => Ok(None),
     }
-    Ok(readers)
 }
 
-// Whether the reader of the run gives these versions and then nothing.
-fn run_gives(alloc: Global, versions: &[Version]) -> Result<bool, Error> {
-    let mut readers = readers(alloc)?;
-    match readers.first_mut() {
-        Some(reader) => gives(reader, versions),
-        None => Ok(false),
+// Whether a reader gives all entries and then nothing.
+fn gives_all(reader: &mut RunReader<Global>) -> Result<bool, Error> {
+    for version in &ENTRIES {
+        if next_of(reader)? != Some(*version) {
+            return Ok(false);
+        }
     }
+    Ok(next_of(reader)? == None)
 }
+
+// The reader of the run, if there is one.
+fn reader(alloc: Global) -> Result<Option<RunReader<Global>>, Error> {
+    let range = owned_range(alloc, ALL)?;
+    RunReader::new(run(alloc)?, range)
+}
+
+// The run, in a list.
+fn runs(alloc: Global) -> Result<Vec<Tables<Global>>, Error> {
+    let mut runs = Vec::new(alloc);
+    add(&mut runs, run(alloc))?;
+    Ok(runs)
+}
+
+// Whether the newest versions of the run are these.
+fn has_newest(alloc: Global, versions: &[Version]) -> Result<bool, Error> {
+    let newest = asked_all(runs(alloc), alloc, newest_in)?;
+    Ok(are(&newest, versions))
+}
+
+const NEWEST: [Version; 3] = [(b'a', 9, V), (b'b', 1, V), (b'c', 2, V)];
 
 #[test]
-fn a_stored_table_and_a_new_one_are_read_as_one_run(rt: HostRuntime) -> Result<(), Fail> {
-    let alloc = rt.alloc();
-    assert!(rt; run_gives(alloc, &ENTRIES)?);
-    let newest = [(b'a', 9, V), (b'b', 1, V), (b'c', 2, V)];
-    assert!(rt; newest_in(alloc, &[run(alloc)?])?.as_slice() == newest.as_slice());
-    Ok(())
+fn a_stored_table_and_a_new_one_are_read_as_one_run(rt: HostRuntime) {
+    assert!(rt; asked_if_any(reader(rt.alloc()), gives_all) == Ok(Some(true)));
+    assert!(rt; has_newest(rt.alloc(), &NEWEST) == Ok(true));
 }
+
+const AT_0: Rules = Rules {
+    watermark: 0,
+    evict: false,
+    zeroing: false,
+};
 
 // The tables of what is kept of the run at watermark 0.
 fn kept(alloc: Global) -> Result<Vec<Table>, Error> {
-    let runs = [run(alloc)?];
-    compacted(
-        alloc,
-        &runs,
-        Rules {
-            watermark: 0,
-            evict: false,
-            zeroing: false,
-        },
-    )
+    compacted(alloc, &[run(alloc)?], AT_0)
+}
+
+// Whether these are of version 4, and have these entries.
+fn are_kept(tables: &[Table<Global>], entries: &[Version]) -> Result<(bool, bool), Error> {
+    let versions = scanned(tables, NONE)?;
+    Ok((has_versions(tables, &[4, 4, 4]), are(&versions, entries)))
+}
+
+// Whether the tables of the run are of version 3 and of version 4.
+fn has_both_versions(run: &Tables<Global>) -> Result<bool, Error> {
+    Ok(has_versions(run.as_slice(), &[3, 4]))
 }
 
 #[test]
-fn a_stored_table_is_compacted_into_tables_of_version_4(rt: HostRuntime) -> Result<(), Fail> {
-    let alloc = rt.alloc();
-    assert!(rt; has_versions(run(alloc)?.as_slice(), &[3, 4]));
-    let tables = kept(alloc)?;
-    assert!(rt; has_versions(&tables, &[4, 4, 4]));
-    assert!(rt; scanned(alloc, &tables)?.as_slice() == ENTRIES.as_slice());
-    Ok(())
+fn a_stored_table_is_compacted_into_tables_of_version_4(rt: HostRuntime) {
+    assert!(rt; asked(run(rt.alloc()), has_both_versions) == Ok(true));
+    let kept = asked_all(kept(rt.alloc()), ENTRIES.as_slice(), are_kept);
+    assert!(rt; kept == Ok((true, true)));
 }

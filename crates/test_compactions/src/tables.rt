@@ -3,13 +3,16 @@ ghost use Rattle.std.specs.Prelude.{map};
 ghost use Rattle.std.specs.Arc.{arc_value};
 ghost use Rattle.lsm_compactions.specs.Compacted.{AreCompactable};
 
-use crate::runs::{T, V, Version, newest_in, opened, run_of_tables, runs_of, scanned};
-use lsm_tables::{compact_runs, get_runs};
-use lsm_writers::{MultiWriter, TableId, TableIds, Timestamp};
+use crate::listed::{
+    Listed, NONE, Numbers, Version, are, asked_all, newest_in, numbers_in, scanned,
+};
+use crate::memory::{Work, makes_many};
+use crate::runs::{KEEPING, T, V, finished, finished_of, opened, run_of_tables, runs_of, spent};
+use lsm_tables::Rules;
+use lsm_writers::{FinishedTable, TableId, TableIds};
 use sst_blocks::{Error, SeqNo};
 use std::alloc::{Allocator, Global};
-use std::test::Fail;
-use test_refusing::{Refusing, each_refused};
+use test_tables::large::asked;
 use test_tables::rows::Row;
 use test_tables::runs::Tables;
 
@@ -40,18 +43,31 @@ const KEPT: [Version; 8] = [
 // The ids of the first five tables, and the id behind them.
 type Ids = ([Option<TableId>; 5], Option<TableId>);
 
-// What is kept of three lists' runs, and the ids of the new tables from 5 on.
-fn written(alloc: Global, target_size: u64) -> Result<(Vec<Version>, Ids), Error> {
-    let runs = runs_of(alloc, &THREE_LISTS)?;
-    let ids = TableIds::new(5);
-    let writer = MultiWriter::new(alloc, ids, target_size, 0, Timestamp::from(0))?;
-    let (tables, mut left) = compact_runs(alloc, &runs, 5, false, false, writer)?;
+fn ids_of(tables: &[FinishedTable], mut left: TableIds) -> Ids {
     let mut ids = [None; 5];
     for (slot, table) in ids.iter_mut().zip(tables.iter()) {
         *slot = Some(table.id);
     }
-    let tables = opened(alloc, tables)?;
-    Ok((scanned(alloc, &tables)?, (ids, left.next())))
+    (ids, left.next())
+}
+
+// What some tables have.
+fn listed_of(alloc: Global, tables: Vec<FinishedTable>) -> Result<Listed, Error> {
+    asked_all(opened(alloc, tables), NONE, scanned)
+}
+
+// What is kept of three lists' runs, and the ids of the new tables from 5 on.
+fn written(alloc: Global, target_size: u64) -> Result<(Listed, Ids), Error> {
+    let ids = TableIds::new(5);
+    let (tables, left) = finished_of(alloc, &THREE_LISTS, KEEPING, target_size, ids)?;
+    let ids = ids_of(&tables, left);
+    Ok((listed_of(alloc, tables)?, ids))
+}
+
+// Whether that is what is to be kept, under these ids.
+fn is_written(alloc: Global, target_size: u64, ids: &Ids) -> Result<bool, Error> {
+    let (kept, drawn) = written(alloc, target_size)?;
+    Ok(are(&kept, &KEPT) && drawn == *ids)
 }
 
 // A target size, and the ids of the new tables. At target 0 the first one stays without entries.
@@ -64,13 +80,10 @@ const CUTS: [(u64, Ids); 2] = [
 ];
 
 #[test]
-fn three_runs_become_tables_under_ids_that_run_on(rt: HostRuntime) -> Result<(), Fail> {
-    for (target_size, ids) in CUTS {
-        let (kept, drawn) = written(rt.alloc(), target_size)?;
-        assert!(rt; kept.as_slice() == KEPT.as_slice());
-        assert!(rt; drawn == ids);
+fn three_runs_become_tables_under_ids_that_run_on(rt: HostRuntime) {
+    for (target_size, ids) in &CUTS {
+        assert!(rt; is_written(rt.alloc(), *target_size, ids) == Ok(true));
     }
-    Ok(())
 }
 
 const VERSIONS_OF_A: &[Row<'static>] = &[
@@ -90,82 +103,87 @@ const VERSIONS_OF_THREE: &[Row<'static>] = &[
     (b"c", 0, V, &LONG),
 ];
 
+// Threshold 0; tombstones and numbers stay.
+const AT_0: Rules = Rules {
+    watermark: 0,
+    evict: false,
+    zeroing: false,
+};
+
+// The newest versions in the run of some tables.
+fn newest_of(alloc: Global, tables: Vec<FinishedTable>) -> Result<Listed, Error> {
+    asked_all(
+        run_of_tables(alloc, opened(alloc, tables)?),
+        alloc,
+        newest_in,
+    )
+}
+
 // How many tables a list is compacted into at a target of 1,024 bytes, and how many keys are read
 // of these.
 fn counts(alloc: Global, rows: &[Row<'_>]) -> Result<(usize, usize), Error> {
-    let runs = runs_of(alloc, &[rows])?;
-    let writer = MultiWriter::new(alloc, TableIds::new(1), 1_024, 0, Timestamp::from(0))?;
-    let (tables, _) = compact_runs(alloc, &runs, 0, false, false, writer)?;
+    let (tables, _) = finished_of(alloc, &[rows], AT_0, 1_024, TableIds::new(1))?;
     let count = tables.len();
-    let runs = run_of_tables(alloc, opened(alloc, tables)?)?;
-    Ok((count, newest_in(alloc, &runs)?.len()))
+    Ok((count, newest_of(alloc, tables)?.1))
 }
 
 #[test]
-fn the_versions_of_a_key_stay_in_one_table(rt: HostRuntime) -> Result<(), Fail> {
-    assert!(rt; counts(rt.alloc(), VERSIONS_OF_A)? == (1, 1));
-    assert!(rt; counts(rt.alloc(), VERSIONS_OF_THREE)? == (3, 3));
-    Ok(())
+fn the_versions_of_a_key_stay_in_one_table(rt: HostRuntime) {
+    assert!(rt; counts(rt.alloc(), VERSIONS_OF_A) == Ok((1, 1)));
+    assert!(rt; counts(rt.alloc(), VERSIONS_OF_THREE) == Ok((3, 3)));
 }
 
-// A counter whose last id was drawn.
-fn spent() -> TableIds {
-    let mut ids = TableIds::new(TableId::MAX);
-    ids.next();
-    ids
+// How many tables are made.
+fn count_of<A: Allocator>(made: &(Vec<FinishedTable<A>, A>, TableIds)) -> Result<usize, Error> {
+    Ok(made.0.len())
 }
 
 // What a compaction into a table for each key answers.
 fn refusal<A: Allocator + Copy>(alloc: A, runs: &[Tables<A>], ids: TableIds) -> Result<usize, Error>
     requires { AreCompactable (map arc_value runs.now) }
 {
-    let writer = MultiWriter::new(alloc, ids, 0, 0, Timestamp::from(0))?;
-    let (tables, _) = compact_runs(alloc, runs, 0, false, false, writer)?;
-    Ok(tables.len())
+    asked(finished(alloc, runs, AT_0, 0, ids), count_of)
 }
 
 // What is read of some runs: the numbers of `a`, `b` and `c`, and the newest versions.
-type Read = ([Option<SeqNo>; 3], Vec<Version>);
-
-fn number_of<A: Allocator + Copy>(runs: &[Tables<A>], key: &[u8]) -> Result<Option<SeqNo>, Error> {
-    Ok(get_runs(runs, key, SeqNo::MAX)?.map(|item| item.key.seqno))
+fn read(alloc: Global, runs: &[Tables<Global>]) -> Result<(Numbers, Listed), Error> {
+    Ok((numbers_in(runs, SeqNo::MAX)?, newest_in(runs, alloc)?))
 }
 
-fn numbers<A: Allocator + Copy>(runs: &[Tables<A>]) -> Result<[Option<SeqNo>; 3], Error> {
-    let a = number_of(runs, b"a")?;
-    let b = number_of(runs, b"b")?;
-    Ok([a, b, number_of(runs, b"c")?])
+// What is answered where ids are wanted, and whether some runs are read as before.
+fn refused_of(
+    alloc: Global,
+    runs: &[Tables<Global>],
+    ids: TableIds,
+) -> Result<(Result<usize, Error>, bool), Error>
+    requires { AreCompactable (map arc_value runs.now) }
+{
+    let before = read(alloc, runs)?;
+    let answer = refusal(alloc, runs, ids);
+    let stay = read(alloc, runs)? == before && before.0 == [Some(9), Some(6), Some(7)];
+    Ok((answer, stay))
 }
 
-fn read(alloc: Global, runs: &[Tables<Global>]) -> Result<Read, Error> {
-    Ok((numbers(runs)?, newest_in(alloc, runs)?))
-}
-
-// What is answered where ids are wanted, and whether the runs are read as before.
+// That of three lists' runs.
 fn refused(alloc: Global, ids: TableIds) -> Result<(Result<usize, Error>, bool), Error> {
     let runs = runs_of(alloc, &THREE_LISTS)?;
-    let before = read(alloc, &runs)?;
-    let answer = refusal(alloc, &runs, ids);
-    let after = read(alloc, &runs)?;
-    Ok((
-        answer,
-        before == after && before.0 == [Some(9), Some(6), Some(7)],
-    ))
+    let answer = refused_of(alloc, &runs, ids);
+    drop(runs);
+    answer
+}
+
+// Whether a counter has too few ids, and the runs stay.
+fn is_refused(alloc: Global, ids: TableIds) -> bool {
+    refused(alloc, ids) == Ok((Err(Error::TableIdsSpent), true))
 }
 
 #[test]
-fn runs_stay_where_the_ids_are_spent(rt: HostRuntime) -> Result<(), Fail> {
+fn runs_stay_where_the_ids_are_spent(rt: HostRuntime) {
     let alloc = rt.alloc();
-    for ids in [
-        TableIds::new(TableId::MAX - 1),
-        TableIds::new(TableId::MAX),
-        spent(),
-    ] {
-        assert!(rt; refused(alloc, ids)? == (Err(Error::TableIdsSpent), true));
-    }
-    let kept = (Ok(5), true);
-    assert!(rt; refused(alloc, TableIds::new(TableId::MAX - 5))? == kept);
-    Ok(())
+    assert!(rt; is_refused(alloc, TableIds::new(TableId::MAX - 1)));
+    assert!(rt; is_refused(alloc, TableIds::new(TableId::MAX)));
+    assert!(rt; is_refused(alloc, spent()));
+    assert!(rt; refused(alloc, TableIds::new(TableId::MAX - 5)) == Ok((Ok(5), true)));
 }
 
 const TWO_LISTS: [&[Row<'static>]; 2] = [
@@ -173,26 +191,28 @@ const TWO_LISTS: [&[Row<'static>]; 2] = [
     &[(b"a", 5, V, b"y"), (b"c", 7, T, b"")],
 ];
 
-// Whether a compaction answers right, and its runs, whose memory is plenty, are read as before.
-fn leaves_its_runs<A: Allocator + Copy>(
+// Whether a compaction is answered right.
+fn is_answered(answer: Result<usize, Error>, may_fail: bool) -> bool {
+    match answer {
+        Ok(tables) => tables == 2,
+        Err(error) => may_fail && error == Error::OutOfMemory,
+    }
+}
+
+/// Whether a compaction answers right, and its runs, whose memory is plenty, are read as before.
+pub(crate) fn leaves_its_runs<A: Allocator + Copy>(
     alloc: A,
     plenty: A,
     may_fail: bool,
 ) -> Result<bool, Error> {
     let runs = runs_of(plenty, &TWO_LISTS)?;
-    let right = match refusal(alloc, &runs, TableIds::new(5)) {
-        Ok(tables) => tables == 2,
-        Err(error) => may_fail && error == Error::OutOfMemory,
-    };
-    Ok(right && numbers(&runs)? == [Some(9), None, Some(7)])
+    let right = is_answered(refusal(alloc, &runs, TableIds::new(5)), may_fail);
+    let read = numbers_in(&runs, SeqNo::MAX);
+    drop(runs);
+    Ok(right && read? == [Some(9), None, Some(7)])
 }
 
 #[test]
 fn runs_stay_with_each_request_refused(rt: HostRuntime) {
-    let alloc = rt.alloc();
-    let answers = each_refused(alloc, |heap: &Refusing, may_fail: bool| {
-        let plenty = Refusing::new(alloc, 0);
-        leaves_its_runs(heap, &plenty, may_fail) == Ok(true)
-    });
-    assert!(rt; answers.is_ok_and(|requests| requests > 20));
+    assert!(rt; makes_many(rt.alloc(), &Work::Runs));
 }

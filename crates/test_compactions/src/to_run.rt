@@ -3,14 +3,16 @@ ghost use Rattle.std.specs.Prelude.{◌∷◌, [], IfOk, IfSome, map};
 ghost use Rattle.std.specs.Arc.{arc_value};
 ghost use Rattle.lsm_compactions.specs.Compacted.{AreCompactable};
 
-use crate::reads::numbers_of;
-use crate::runs::{EVICTING, KEEPING, T, V, Version, runs_of, scanned};
-use lsm_tables::{Rules, compact_to_run, read_run};
-use lsm_writers::{TableId, TableIds, Timestamp};
+use crate::listed::{Listed, NONE, Numbers, Version, are, scanned};
+use crate::part::numbers_of;
+use crate::runs::{EVICTING, KEEPING, T, V, new_run, runs_of};
+use lsm_ranges::Run;
+use lsm_tables::{Rules, Table, read_run};
+use lsm_writers::{TableId, TableIds};
 use sst_blocks::{Error, SeqNo};
-use std::alloc::{Allocator, Global};
+use std::alloc::Global;
 use std::sync::Arc;
-use std::test::Fail;
+use test_tables::large::asked;
 use test_tables::rows::Row;
 use test_tables::runs::{ALL, Tables, owned_range};
 
@@ -36,8 +38,7 @@ fn kept_run(
     requires { AreCompactable (map arc_value runs.now) }
     ensures { IfOk result (λ r. IfSome r.0 (λ run. AreCompactable (arc_value run ∷ []))) }
 {
-    let created_at = Timestamp::from(0);
-    let (run, left) = compact_to_run(alloc, runs, rules, ids, 0, created_at)?;
+    let (run, left) = new_run(alloc, runs, rules, ids)?;
     match run {
         Some(run) => Ok((Some(Arc::new(alloc, run)?), left)),
         None => Ok((None, left)),
@@ -45,7 +46,7 @@ fn kept_run(
 }
 
 // The entries of a run, the ids of its first four tables, and the id behind them.
-type Kept = (Vec<Version>, [Option<TableId>; 4], Option<TableId>);
+type Kept = (Listed, [Option<TableId>; 4], Option<TableId>);
 
 fn ids_of(run: &Tables<Global>) -> [Option<TableId>; 4] {
     let mut ids = [None; 4];
@@ -55,12 +56,21 @@ fn ids_of(run: &Tables<Global>) -> [Option<TableId>; 4] {
     ids
 }
 
-fn kept(alloc: Global, run: &Option<Tables<Global>>, mut left: TableIds) -> Result<Kept, Error> {
+// What there is of a run, if there is one, and of the counter behind it.
+fn kept(made: &(Option<Tables<Global>>, TableIds)) -> Result<Kept, Error> {
+    let (run, mut left) = (&made.0, made.1);
     match run {
-        Some(run) => Ok((scanned(alloc, run.as_slice())?, ids_of(run), left.next())),
-        None => Ok((Vec::new(alloc), [None; 4], left.next())),
+        Some(run) => Ok((scanned(run.as_slice(), NONE)?, ids_of(run), left.next())),
+        None => Ok((NONE, [None; 4], left.next())),
     }
 }
+
+// Threshold 10; tombstones are evicted, and numbers become 0.
+const ALL_AT_10: Rules = Rules {
+    watermark: 10,
+    evict: true,
+    zeroing: true,
+};
 
 // What is kept of a run that is compacted at threshold 10, without tombstones and under the number
 // 0.
@@ -70,30 +80,41 @@ fn kept_again(alloc: Global, run: Option<Tables<Global>>, ids: TableIds) -> Resu
     let Some(run) = run else {
         return Err(Error::Source(2));
     };
-    let (run, left) = kept_run(
-        alloc,
-        &[run],
-        Rules {
-            watermark: 10,
-            evict: true,
-            zeroing: true,
-        },
-        ids,
-    )?;
-    kept(alloc, &run, left)
+    asked(kept_run(alloc, &[run], ALL_AT_10, ids), kept)
 }
 
-// What is kept of some lists' runs at threshold 5, and of the run of that.
-fn kept_twice(alloc: Global, lists: &[&[Row<'_>]]) -> Result<(Kept, Kept), Error> {
+// The run of what is kept of some lists' runs at threshold 5, and the counter of ids, from 5 on,
+// behind it.
+fn kept_of(
+    alloc: Global,
+    lists: &[&[Row<'_>]],
+    rules: Rules,
+) -> Result<(Option<Tables<Global>>, TableIds), Error>
+    ensures { IfOk result (λ r. IfSome r.0 (λ run. AreCompactable (arc_value run ∷ []))) }
+{
     let runs = runs_of(alloc, lists)?;
-    let (run, ids) = kept_run(alloc, &runs, KEEPING, TableIds::new(5))?;
-    let once = kept(alloc, &run, ids)?;
-    Ok((once, kept_again(alloc, run, ids)?))
+    let made = kept_run(alloc, &runs, rules, TableIds::new(5));
+    drop(runs);
+    made
+}
+
+// What is kept of some lists' runs, and of the run of that.
+fn kept_twice(alloc: Global, lists: &[&[Row<'_>]]) -> Result<(Kept, Kept), Error> {
+    let made = kept_of(alloc, lists, KEEPING)?;
+    let once = kept(&made);
+    let (run, ids) = made;
+    let again = kept_again(alloc, run, ids);
+    Ok((once?, again?))
 }
 
 // Whether these entries are in tables of these ids, with this one behind them.
-fn are(kept: &Kept, entries: &[Version], ids: [Option<TableId>; 4], next: Option<TableId>) -> bool {
-    kept.0.as_slice() == entries && kept.1 == ids && kept.2 == next
+fn is_kept(
+    kept: &Kept,
+    entries: &[Version],
+    ids: [Option<TableId>; 4],
+    next: Option<TableId>,
+) -> bool {
+    are(&kept.0, entries) && kept.1 == ids && kept.2 == next
 }
 
 const ONCE: [Version; 5] = [
@@ -106,50 +127,60 @@ const ONCE: [Version; 5] = [
 
 const TWICE: [Version; 3] = [(b'a', 0, V), (b'c', 0, V), (b'd', 0, V)];
 
-// The first id of each counter is for a table that stays without entries.
-#[test]
-fn two_runs_become_one_which_is_compacted_again(rt: HostRuntime) -> Result<(), Fail> {
-    let (once, again) = kept_twice(rt.alloc(), &[NEWER, OLDER])?;
-    let ids = [Some(6), Some(7), Some(8), Some(9)];
-    assert!(rt; are(&once, &ONCE, ids, Some(10)));
-    let ids = [Some(11), Some(12), Some(13), None];
-    assert!(rt; are(&again, &TWICE, ids, Some(14)));
-    Ok(())
-}
+const IDS_ONCE: [Option<TableId>; 4] = [Some(6), Some(7), Some(8), Some(9)];
 
-// What is kept of a tombstone's run at threshold 5, where it is evicted.
-fn none_kept(alloc: Global) -> Result<Kept, Error> {
-    let runs = runs_of(alloc, &[ONE_TOMBSTONE])?;
-    let (run, left) = kept_run(alloc, &runs, EVICTING, TableIds::new(5))?;
-    kept(alloc, &run, left)
+const IDS_TWICE: [Option<TableId>; 4] = [Some(11), Some(12), Some(13), None];
+
+// Whether both are so. The first id of each counter is for a table that stays without entries.
+fn are_kept(alloc: Global) -> Result<[bool; 2], Error> {
+    let (once, again) = kept_twice(alloc, &[NEWER, OLDER])?;
+    Ok([
+        is_kept(&once, &ONCE, IDS_ONCE, Some(10)),
+        is_kept(&again, &TWICE, IDS_TWICE, Some(14)),
+    ])
 }
 
 #[test]
-fn where_nothing_is_kept_there_is_no_run(rt: HostRuntime) -> Result<(), Fail> {
-    let none = none_kept(rt.alloc())?;
-    assert!(rt; are(&none, &[], [None; 4], Some(6)));
-    Ok(())
+fn two_runs_become_one_which_is_compacted_again(rt: HostRuntime) {
+    assert!(rt; are_kept(rt.alloc()) == Ok([true, true]));
 }
 
-// The numbers that reads of what is kept of two lists find, of a version below a bound and of a
-// range.
-fn read_kept<A: Allocator + Copy>(alloc: A, seqno: SeqNo) -> Result<[Option<SeqNo>; 3], Error> {
+// Whether nothing is kept of a tombstone's run at threshold 5, where it is evicted.
+fn is_none_kept(alloc: Global) -> Result<bool, Error> {
+    let none = asked(kept_of(alloc, &[ONE_TOMBSTONE], EVICTING), kept)?;
+    Ok(is_kept(&none, &[], [None; 4], Some(6)))
+}
+
+#[test]
+fn where_nothing_is_kept_there_is_no_run(rt: HostRuntime) {
+    assert!(rt; is_none_kept(rt.alloc()) == Ok(true));
+}
+
+// The numbers that reads of a run find, of a version below a bound and of a range.
+fn read_of(alloc: Global, run: Run<Table<Global>>, seqno: SeqNo) -> Result<Numbers, Error> {
+    let range = owned_range(alloc, ALL)?;
+    numbers_of(alloc, read_run(alloc, run, b"a", seqno, range)?)
+}
+
+// The run of what is kept of two lists, if there is one. It is not shared.
+fn run_of_two(alloc: Global) -> Result<(Option<Run<Table<Global>>>, TableIds), Error> {
     let runs = runs_of(alloc, &[NEWER, OLDER])?;
-    let (ids, moment) = (TableIds::new(5), Timestamp::from(0));
-    let (run, _) = compact_to_run(alloc, &runs, KEEPING, ids, 0, moment)?;
-    match run {
-        Some(run) => {
-            let range = owned_range(alloc, ALL)?;
-            numbers_of(alloc, read_run(alloc, run, b"a", seqno, range)?)
-        }
+    let made = new_run(alloc, &runs, KEEPING, TableIds::new(5));
+    drop(runs);
+    made
+}
+
+// The numbers that reads of that find.
+fn read_kept(alloc: Global, seqno: SeqNo) -> Result<Numbers, Error> {
+    match run_of_two(alloc)?.0 {
+        Some(run) => read_of(alloc, run, seqno),
         None => Ok([None; 3]),
     }
 }
 
 #[test]
-fn the_new_run_is_read(rt: HostRuntime) -> Result<(), Fail> {
-    assert!(rt; read_kept(rt.alloc(), 10)? == [Some(9), Some(9), Some(1)]);
-    assert!(rt; read_kept(rt.alloc(), 9)? == [Some(3), Some(9), Some(1)]);
-    assert!(rt; read_kept(rt.alloc(), 3)? == [None, Some(9), Some(1)]);
-    Ok(())
+fn the_new_run_is_read(rt: HostRuntime) {
+    assert!(rt; read_kept(rt.alloc(), 10) == Ok([Some(9), Some(9), Some(1)]));
+    assert!(rt; read_kept(rt.alloc(), 9) == Ok([Some(3), Some(9), Some(1)]));
+    assert!(rt; read_kept(rt.alloc(), 3) == Ok([None, Some(9), Some(1)]));
 }

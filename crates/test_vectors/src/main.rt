@@ -52,25 +52,37 @@ fn print_answer<W: Write>(output: &mut W, answer: &Answer) -> io::Result<()> {
 
 // Answers each line, up to the last one.
 fn answer_lines<A: Allocator + Copy, R: BufRead, W: Write>(
-    alloc: A,
+    script: &mut Script<A>,
+    line: &mut Vec<u8, A>,
     input: &mut R,
     output: &mut W,
-) -> anyhow::Result<()> {
-    let mut script = Script::new(alloc);
-    let mut line = Vec::new(alloc);
+) -> io::Result<()> {
     for _ in 0..u64::MAX {
-        if !read_line(input, &mut line)? {
+        if !read_line(input, line)? {
             return Ok(());
         }
-        print_answer(output, &script.answer(&line))?;
+        print_answer(output, &script.answer(line.as_slice()))?;
     }
     Ok(())
 }
 
+// Answers all that is read, and writes it out. Generic in both ends, so that none of their parts is
+// looked at.
+fn answer_all<A: Allocator + Copy, R: BufRead + Drop, W: Write + Drop>(
+    alloc: A,
+    mut input: R,
+    mut output: W,
+) -> io::Result<()> {
+    let mut script = Script::new(alloc);
+    let mut line = Vec::new(alloc);
+    let answered = answer_lines(&mut script, &mut line, &mut input, &mut output);
+    drop(script);
+    let flushed = output.flush();
+    answered.and(flushed)
+}
+
 fn main(rt: HostRuntime) -> anyhow::Result<()> {
-    let mut input = BufReader::new(rt.alloc(), rt.stdin())?;
-    let mut output = BufWriter::new(rt.alloc(), rt.stdout())?;
-    answer_lines(rt.alloc(), &mut input, &mut output)?;
-    output.flush()?;
-    Ok(())
+    let input = BufReader::new(rt.alloc(), rt.stdin())?;
+    let output = BufWriter::new(rt.alloc(), rt.stdout())?;
+    Ok(answer_all(rt.alloc(), input, output)?)
 }

@@ -1,7 +1,7 @@
 //! What tables say of themselves, and what is read of them.
 use crate::digest::Digest;
-use lsm_readers::{ParsedMeta, Table};
-use sst_blocks::{Checksum, Error, SeqNo, Slice};
+use lsm_readers::{ParsedMeta, Scanner, Table};
+use sst_blocks::{Checksum, Error, Opened, SeqNo, Slice};
 use std::alloc::Allocator;
 
 /// A point read.
@@ -29,15 +29,16 @@ fn open<A: Allocator + Copy>(alloc: A, bytes: &[u8], pins: Pins) -> Result<Table
     Table::recover(alloc, bytes, Checksum(0), 0, 0, pins.filter, pins.index)
 }
 
-// What is asked of a table, which is let go of here alone, or why there is none. Generic in it, so
-// that none of its parts is looked at.
-fn asked<T: Drop, F: FnOnce(&T) -> Result<u64, Error> + Drop>(
+/// What is asked of a large value and of another, or why there is no large one, which is let go of
+/// here alone. Generic in it, so that none of its parts is looked at.
+pub fn asked<T: Drop, C: Copy, U, F: FnOnce(&T, C) -> Result<U, Error> + Drop>(
     made: Result<T, Error>,
+    with: C,
     ask: F,
-) -> Result<u64, Error>
+) -> Result<U, Error>
     requires { F.IsAlwaysCallable ask }
 {
-    ask(&made?)
+    ask(&made?, with)
 }
 
 // The counts of a meta block.
@@ -66,6 +67,18 @@ fn put_facts<A: Allocator>(digest: &mut Digest, table: &Table<A>) {
     digest.put_number(table.pinned_block_index_size() as u64);
 }
 
+// The answer of a point read; what it loads.
+fn put_read<A: Allocator + Copy>(
+    digest: &mut Digest,
+    table: &Table<A>,
+    read: &PointRead<A>,
+) -> Opened {
+    let key = read.key.as_slice();
+    let (found, opened) = table.get_counted(key, read.bound, Table::<A>::key_hash(key));
+    digest.put_found(&found);
+    opened
+}
+
 // The answers of point reads, with the loads of each where these are asked for.
 fn put_reads<A: Allocator + Copy>(
     digest: &mut Digest,
@@ -74,13 +87,30 @@ fn put_reads<A: Allocator + Copy>(
     with_loads: bool,
 ) {
     for read in reads {
-        let key = read.key.as_slice();
-        let (found, opened) = table.get_counted(key, read.bound, Table::<A>::key_hash(key));
-        digest.put_found(&found);
+        let opened = put_read(digest, table, read);
         if with_loads {
             digest.put_opened(&opened);
         }
     }
+}
+
+// What a walk answers, up to its end or to some number of steps. Generic in it, so that none of its
+// parts is looked at.
+fn put_steps<W: Drop, F: Fn(&mut W, &mut Digest) -> bool + Drop>(
+    digest: &mut Digest,
+    walk: Result<W, Error>,
+    steps: u64,
+    step: F,
+) -> Result<(), Error>
+    requires { F.IsAlwaysCallable step }
+{
+    let mut walk = walk?;
+    for _ in 0..steps {
+        if !step(&mut walk, digest) {
+            break;
+        }
+    }
+    Ok(())
 }
 
 // The entries from the front, up to some number of steps.
@@ -89,35 +119,31 @@ fn put_walk<A: Allocator + Copy>(
     table: &Table<A>,
     steps: u64,
 ) -> Result<(), Error> {
-    let mut iter = table.iter()?;
-    for _ in 0..steps {
-        if !digest.put_step(&iter.next()) {
-            break;
-        }
-    }
-    Ok(())
+    put_steps(
+        digest,
+        table.iter(),
+        steps,
+        |iter, digest| digest.put_step(&iter.next()),
+    )
 }
 
 // The entries from the back.
 fn put_walk_back<A: Allocator + Copy>(digest: &mut Digest, table: &Table<A>) -> Result<(), Error> {
-    let mut iter = table.iter()?;
-    for _ in 0..ALL {
-        if !digest.put_step(&iter.next_back()) {
-            break;
-        }
-    }
-    Ok(())
+    put_steps(
+        digest,
+        table.iter(),
+        ALL,
+        |iter, digest| digest.put_step(&iter.next_back()),
+    )
+}
+
+fn scan_step<A: Allocator + Copy>(scan: &mut Scanner<A>, digest: &mut Digest) -> bool {
+    digest.put_step(&scan.next())
 }
 
 // The entries as a scan gives them.
 fn put_scan<A: Allocator + Copy>(digest: &mut Digest, table: &Table<A>) -> Result<(), Error> {
-    let mut scan = table.scan()?;
-    for _ in 0..ALL {
-        if !digest.put_step(&scan.next()) {
-            break;
-        }
-    }
-    Ok(())
+    put_steps(digest, table.scan(), ALL, scan_step)
 }
 
 // All that a table says and reads.
@@ -141,10 +167,7 @@ pub fn read_all<A: Allocator + Copy>(
     pins: Pins,
     reads: &[PointRead<A>],
 ) -> Result<u64, Error> {
-    asked(
-        open(alloc, bytes, pins),
-        |table| digest_of_all(table, reads),
-    )
+    asked(open(alloc, bytes, pins), reads, digest_of_all)
 }
 
 // What point reads of a damaged table and a walk over it answer.
@@ -185,8 +208,5 @@ pub fn read_damaged<A: Allocator + Copy>(
     reads: &[PointRead<A>],
 ) -> Result<u64, Error> {
     let bytes = changed(alloc, bytes, changes)?;
-    asked(
-        open(alloc, &bytes, pins),
-        |table| digest_of_damaged(table, reads),
-    )
+    asked(open(alloc, &bytes, pins), reads, digest_of_damaged)
 }

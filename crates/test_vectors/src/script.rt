@@ -1,7 +1,8 @@
 //! The commands, and what was told so far.
-use crate::reading::{Pins, PointRead, read_all, read_damaged};
+use crate::reading::{Pins, PointRead, asked, read_all, read_damaged};
 use crate::words::{bytes_of, number_of, numbers_of, split_word};
 use crate::writing::{Choices, write_table};
+use lsm_writers::FinishedTable;
 use sst_blocks::{Error, InternalValue, Slice, ValueType};
 use std::alloc::Allocator;
 use std::mem;
@@ -66,6 +67,14 @@ fn choices_of(numbers: &[u64]) -> Choices {
     }
 }
 
+fn choices_in<A: Allocator>(alloc: A, words: &[u8]) -> Result<Choices, Error> {
+    Ok(choices_of(&numbers_of(alloc, words)?))
+}
+
+fn pins_in<A: Allocator>(alloc: A, words: &[u8]) -> Result<Pins, Error> {
+    Ok(pins_of(&numbers_of(alloc, words)?))
+}
+
 fn kind_of(word: &[u8]) -> ValueType {
     match word {
         b"1" => ValueType::Tombstone,
@@ -96,6 +105,25 @@ fn read_of<A: Allocator + Copy>(alloc: A, line: &[u8]) -> Result<PointRead<A>, E
         key: slice_of(alloc, key)?,
         bound: number_of(bound),
     })
+}
+
+// Whether a table has these bytes, and their checksum.
+fn written_as<A: Allocator>(table: &FinishedTable<A>, bytes: &[u8]) -> Result<Answer, Error> {
+    Ok(Answer::Written {
+        is_same: table.bytes.as_slice() == bytes,
+        checksum: table.checksum.0,
+    })
+}
+
+// Puts a value behind others, or says why there is none.
+fn add<T: Drop, A: Allocator>(values: &mut Vec<T, A>, made: Result<T, Error>) -> Result<(), Error> {
+    values.push(made?)?;
+    Ok(())
+}
+
+fn silent(done: Result<(), Error>) -> Result<Answer, Error> {
+    done?;
+    Ok(Answer::Silent)
 }
 
 impl<A: Allocator + Copy> Script<A> {
@@ -130,41 +158,43 @@ impl<A: Allocator + Copy> Script<A> {
     // Keeps what the lines behind are to use.
     fn note(&mut self, name: &[u8], words: &[u8]) -> Result<Answer, Error> {
         match name {
-            b"table" => self.table = bytes_of(self.alloc, words)?,
-            b"entry" => self.items.push(item_of(self.alloc, words)?)?,
-            b"query" => self.reads.push(read_of(self.alloc, words)?)?,
-            b"forget" => self.forget(),
-            _ => return Ok(Answer::Unknown),
+            b"table" => silent(self.set_table(words)),
+            b"entry" => silent(add(&mut self.items, item_of(self.alloc, words))),
+            b"query" => silent(add(&mut self.reads, read_of(self.alloc, words))),
+            b"forget" => silent(self.forget()),
+            _ => Ok(Answer::Unknown),
         }
-        Ok(Answer::Silent)
     }
 
-    fn forget(&mut self) {
+    fn set_table(&mut self, words: &[u8]) -> Result<(), Error> {
+        self.table = bytes_of(self.alloc, words)?;
+        Ok(())
+    }
+
+    fn forget(&mut self) -> Result<(), Error> {
         self.items.clear();
         self.reads.clear();
+        Ok(())
     }
 
     fn write(&mut self, words: &[u8]) -> Result<Answer, Error> {
-        let numbers = numbers_of(self.alloc, words)?;
+        let choices = choices_in(self.alloc, words)?;
         let items = mem::replace(&mut self.items, Vec::new(self.alloc));
-        let table = write_table(self.alloc, &choices_of(&numbers), items)?;
-        Ok(Answer::Written {
-            is_same: table.bytes.as_slice() == self.table.as_slice(),
-            checksum: table.checksum.0,
-        })
+        let table = write_table(self.alloc, &choices, items);
+        asked(table, self.table.as_slice(), written_as)
     }
 
     fn read(&self, words: &[u8]) -> Result<Answer, Error> {
-        let numbers = numbers_of(self.alloc, words)?;
-        let checksum = read_all(self.alloc, &self.table, pins_of(&numbers), &self.reads)?;
-        Ok(Answer::Read(checksum))
+        let pins = pins_in(self.alloc, words)?;
+        Ok(Answer::Read(read_all(self.alloc, &self.table, pins, &self.reads)?))
     }
 
     fn damage(&self, words: &[u8]) -> Result<Answer, Error> {
         let numbers = numbers_of(self.alloc, words)?;
         let pins = pins_of(&numbers);
         let changes = numbers.get(2..).unwrap_or(&[]);
-        let checksum = read_damaged(self.alloc, &self.table, pins, changes, &self.reads)?;
-        Ok(Answer::Read(checksum))
+        let checksum = read_damaged(self.alloc, &self.table, pins, changes, &self.reads);
+        drop(numbers);
+        Ok(Answer::Read(checksum?))
     }
 }
