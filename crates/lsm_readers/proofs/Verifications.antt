@@ -1,5 +1,5 @@
--- A verification by steps: what is found first in what is left stays the same over a step that reads
--- a block, and one step fewer is left.
+-- A verification by steps: what is found first in what is left stays the same over a step that
+-- reads a block, and one step fewer is left.
 use Rattle.std.proofs.Common.{◌≡◌, ℕ, ◌+◌, List, [], ◌∷◌, length, map, refl, sym, ap}
 use Rattle.std.proofs.Common.{subst, ◌∙◌, arith}
 use Rattle.std.specs.Prelude.{Option, Some, None, Result, Ok, Err, IfErr, IfNone, IfSome}

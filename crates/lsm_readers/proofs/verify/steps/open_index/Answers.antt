@@ -22,5 +22,5 @@ returns-in-None-clause-goes g c = λ left.
 pub returns-in-Some-clause-goes : goal.returns-in-Some-clause-goes
 returns-in-Some-clause-goes g c = λ left.
     rw (c.none-in-Some.ensures, c.all-handles.ensures)
-    (tops_goes (body_of c.args.source.now) (parts_of c.args.inner.now) c.in-Some.field-0 c.in-Some.is
-    c.in_ok-handles.handles left c.in_ok-handles.ensures.told)
+    (tops_goes (body_of c.args.source.now) (parts_of c.args.inner.now) c.in-Some.field-0
+    c.in-Some.is c.in_ok-handles.handles left c.in_ok-handles.ensures.told)
