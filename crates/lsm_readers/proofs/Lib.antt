@@ -51,3 +51,5 @@ pub mod VerifyLoops
 pub mod VerifyEnd
 pub mod VerifyTables
 pub mod VerifyEarly
+pub mod Verifications
+pub mod HandlesLeft

@@ -17,3 +17,5 @@ pub mod Sizes
 pub mod Words
 pub mod Verify
 pub mod Findings
+pub mod Handles
+pub mod Verification

@@ -19,5 +19,5 @@ pub use pinned::PinnedBlockIndex;
 pub use point::point_in;
 pub use regions::ParsedRegions;
 pub use scanner::Scanner;
-pub use table::{Query, Table, TableInner, get_many};
+pub use table::{Query, Table, TableInner, Verification, get_many};
 pub use verify::{Fault, Finding, Verified, VerifyError};

@@ -29,6 +29,7 @@ mod by_key;
 mod file;
 mod queries;
 mod range;
+mod verification;
 mod verify;
 
 use crate::inner::PinnedBlocks;
@@ -48,6 +49,7 @@ use std::fmt;
 use std::marker::Model;
 use std::ops::{Bound, Deref};
 use std::sync::Arc;
+pub use verification::Verification;
 
 /// What the handles of a table share, but for its bytes.
 pub type TableInner<A = Global> = Inner<A>;

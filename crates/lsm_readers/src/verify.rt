@@ -14,6 +14,7 @@ ghost use Rattle.lsm_readers.specs.declared.verify.VerifyError.TheVariants.{Foun
 mod blocks;
 mod end;
 mod entries;
+mod steps;
 
 use crate::Inner;
 use blocks::read_index;
@@ -22,6 +23,7 @@ use lsm_formats::ItemName;
 use sst_blocks::{BlockSource, Checksum, Error, InternalValue, SectionName, SeqNo, hash};
 use std::alloc::{Allocator, Global};
 use std::marker::Model;
+pub(crate) use steps::{Stage, step_stage};
 
 /// What is wrong at a place of a table's bytes.
 #[derive(Debug, Drop, PartialEq, Eq)]
@@ -147,7 +149,7 @@ pub(crate) fn test_checksum(bytes: &[u8], checksum: Checksum) -> Result<(), Veri
 }
 
 /// A table of which nothing was read yet.
-fn unread_table<A: Allocator>(inner: &Inner<A>) -> Unread<A>
+pub(crate) fn unread_table<A: Allocator>(inner: &Inner<A>) -> Unread<A>
     ensures { result ≡ unread_of (parts_of inner.now).facts }
 {
     let said = &inner.metadata;

@@ -73,7 +73,7 @@ fn load_chunk<A: Allocator + Clone>(
 }
 
 /// The handles of the index block at a place in a section.
-fn load_part<A: Allocator + Clone>(
+pub(super) fn load_part<A: Allocator + Clone>(
     source: &BlockSource<A>,
     section: SectionName,
     place: &BlockHandle,
@@ -130,7 +130,7 @@ fn test_last<A: Allocator>(
 
 /// Reads the data block of a handle, which is to begin where the block before it ended.
 #[tactic(auto, unfolding(crate::specs::Verify::block_found))]
-fn read_block<A: Allocator + Clone>(
+pub(super) fn read_block<A: Allocator + Clone>(
     source: &BlockSource<A>,
     inner: &Inner<A>,
     left: &mut Unread<A>,
@@ -155,7 +155,7 @@ fn read_block<A: Allocator + Clone>(
 }
 
 /// The handle at a place in a block. Refused for want of memory alone.
-fn handle_at<A: Allocator>(
+pub(super) fn handle_at<A: Allocator>(
     handles: &IndexBlock<A>,
     index: usize,
 ) -> Result<KeyedBlockHandle<A>, VerifyError>
@@ -187,7 +187,7 @@ fn read_blocks<A: Allocator + Clone>(
 }
 
 /// Tests that a handle of a top level names the last of the handles of its partition.
-fn test_top<A: Allocator>(
+pub(super) fn test_top<A: Allocator>(
     top: &KeyedBlockHandle<A>,
     handles: &IndexBlock<A>,
 ) -> Result<(), VerifyError>

@@ -17,7 +17,7 @@ use sst_blocks::{BlockHandle, BlockSource, BlockType, Error, IndexBlock, Opened,
 use std::alloc::Allocator;
 
 /// Tests that a filter's block loads.
-fn test_filter<A: Allocator + Clone>(
+pub(super) fn test_filter<A: Allocator + Clone>(
     source: &BlockSource<A>,
     place: &BlockHandle,
 ) -> Result<(), VerifyError>

@@ -1,0 +1,46 @@
+use Rattle.std.specs.Prelude.{Err, Ok}
+use Rattle.std.proofs.Common.{◌≡◌, ap, subst, sym, ◌∙◌}
+use Rattle.sst_sections.specs.Sections.{body_of}
+use Rattle.lsm_readers.specs.Findings.{IsFirstFinding}
+use Rattle.lsm_readers.specs.Table.{IsOpen, OpenTable}
+use Rattle.lsm_readers.specs.Verify.{Misses, table_found}
+use Rattle.lsm_readers.specs.Verification.{Verifying}
+use Rattle.lsm_readers.specs.declared.verify.Finding.{Finding}
+use Rattle.lsm_readers.specs.declared.verify.Verified.{Verified}
+use Rattle.lsm_readers.specs.declared.verify.VerifyError.TheVariants.{Found, OutOfMemory}
+use Rattle.lsm_readers.proofs.VerifySteps.{answer}
+use Rattle.lsm_readers.proofs.VerifyTables.{all_complete, all_first, all_sound}
+use Rattle.lsm_readers.proofs.Verifications.{refuses_with}
+use Rattle.lsm_readers.proofs.table.verification.Verification.step.Goals as goal
+
+pub returns-in_err-read_next-clause-first : goal.returns-in_err-read_next-clause-first
+returns-in_err-read_next-clause-first g c =
+    let e = c.in_err-read_next.field-0.0 in
+    let shown = ap (λ (v : Verifying). v.table) c.self.view_is in
+    let misses = subst (λ (t : OpenTable). Misses e (table_found (body_of t.bytes) t.parts)) shown
+    (λ f found. sym c.self.invariant ∙ c.in_err-read_next.ensures.refused f found) in
+    refuses_with (λ e. (f : Finding) → e ≡ Found f →
+    IsFirstFinding (body_of c.args.self.now.table.bytes) c.args.self.now.table.parts f)
+    c.from_residual.result e c.from_residual.ensures.1
+    (all_first c.args.self.now.table (Err e) misses)
+
+pub returns-in_err-read_next-clause-complete : goal.returns-in_err-read_next-clause-complete
+returns-in_err-read_next-clause-complete g c = λ es stored.
+    let e = c.in_err-read_next.field-0.0 in
+    let shown = ap (λ (v : Verifying). v.table) c.self.view_is in
+    let misses = subst (λ (t : OpenTable). Misses e (table_found (body_of t.bytes) t.parts)) shown
+    (λ f found. sym c.self.invariant ∙ c.in_err-read_next.ensures.refused f found) in
+    let held = subst IsOpen shown c.read_next.ensures.open in
+    refuses_with (λ e. e ≡ OutOfMemory) c.from_residual.result e c.from_residual.ensures.1
+    (all_complete c.args.self.now.table held (Err e) misses es stored)
+
+pub returns-then-branch-clause-sound : goal.returns-then-branch-clause-sound
+returns-then-branch-clause-sound g c =
+    let shown = ap (λ (v : Verifying). v.table) c.self.view_is in
+    let ends = c.in_ok-read_next.ensures.ends c.if-branch.true in
+    let told = sym c.self.invariant ∙ ends.rest
+    ∙ ap (λ (v : Verified). answer v) (sym c.says.ensures) in
+    let held = subst IsOpen shown c.read_next.ensures.open in
+    all_sound c.args.self.now.table held (Ok c.says.result)
+    (subst (λ (t : OpenTable). table_found (body_of t.bytes) t.parts ≡ answer c.says.result) shown
+    told)

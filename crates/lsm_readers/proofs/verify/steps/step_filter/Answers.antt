@@ -1,0 +1,61 @@
+use Rattle.std.specs.Prelude.{IfErr, IfOk}
+use Rattle.std.proofs.Common.{◌+◌, List, drop, ap, subst, sym, ◌∙◌}
+use Rattle.sst_sections.specs.Sections.{body_of}
+use Rattle.sst_blocks.specs.Place.{Place}
+use Rattle.lsm_readers.specs.Table.{parts_of}
+use Rattle.lsm_readers.specs.Verify.{Misses}
+use Rattle.lsm_readers.specs.Verification.{Goes, ahead_of, before_index, places_in, rest_found}
+use Rattle.lsm_readers.proofs.HandlesLeft.{none_at}
+use Rattle.lsm_readers.proofs.VerifyLoops.{drop_at}
+use Rattle.lsm_readers.proofs.Verifications.{filter_goes, filter_misses, refuses}
+use Rattle.lsm_readers.proofs.verify.steps.step_filter.Goals as goal
+
+pub returns-in_err-test_filter-in-Some-clause-refused :
+    goal.returns-in_err-test_filter-in-Some-clause-refused
+returns-in_err-test_filter-in-Some-clause-refused g c = λ left.
+    let parts = parts_of c.args.inner.now in
+    let body = body_of c.args.source.now in
+    let places = places_in parts in
+    let i = c.args.index in
+    let place = c.in-Some.place in
+    let e = c.in_err-test_filter-in-Some.field-0.0 in
+    let head = drop_at places i place (sym c.filter_at.ensures.place ∙ c.in-Some.is) in
+    refuses c.from_residual.result e (rest_found body parts (before_index (drop i places)) left)
+    c.from_residual.ensures.1
+    (λ f found. ap (λ (ps : List Place). rest_found body parts (before_index ps) left) head
+    ∙ filter_misses body parts place (drop (i + 1) places) left e
+    c.in_err-test_filter-in-Some.ensures.told f found)
+
+pub returns-in_ok-test_filter-in-Some-clause-goes :
+    goal.returns-in_ok-test_filter-in-Some-clause-goes
+returns-in_ok-test_filter-in-Some-clause-goes g c = λ left.
+    let parts = parts_of c.args.inner.now in
+    let body = body_of c.args.source.now in
+    let places = places_in parts in
+    let i = c.args.index in
+    let place = c.in-Some.place in
+    let more = drop (i + 1) places in
+    let head = drop_at places i place (sym c.filter_at.ensures.place ∙ c.in-Some.is) in
+    subst (λ (ps : List Place). Goes body parts (before_index ps) left (before_index more) left)
+    (sym head)
+    (filter_goes body parts place more left tt c.in_ok-test_filter-in-Some.ensures.told)
+
+pub returns-in-None-clause-goes : goal.returns-in-None-clause-goes
+returns-in-None-clause-goes g c = λ left.
+    let parts = parts_of c.args.inner.now in
+    let body = body_of c.args.source.now in
+    let none = none_at (places_in parts) c.args.index
+    (sym c.filter_at.ensures.place ∙ c.in-None.is) in
+    subst (λ (ps : List Place). IfOk c.open_index.result (λ stage.
+    Goes body parts (before_index ps) left (ahead_of parts stage) left)) (sym none)
+    (c.open_index.ensures.goes left)
+
+pub returns-in-None-clause-refused : goal.returns-in-None-clause-refused
+returns-in-None-clause-refused g c = λ left.
+    let parts = parts_of c.args.inner.now in
+    let body = body_of c.args.source.now in
+    let none = none_at (places_in parts) c.args.index
+    (sym c.filter_at.ensures.place ∙ c.in-None.is) in
+    subst (λ (ps : List Place). IfErr c.open_index.result (λ e.
+    Misses e (rest_found body parts (before_index ps) left))) (sym none)
+    (c.open_index.ensures.refused left)

@@ -1,0 +1,128 @@
+-- A verification that is made by steps: what is left to read, what is found first there, and how
+-- many steps that takes.
+use Rattle.std.specs.Prelude.{◌≡◌, ℕ, ◌+◌, ◌-◌, List, [], ◌∷◌, drop, length, Option, Some, None}
+use Rattle.std.specs.Prelude.{Result, Ok, Err}
+use Rattle.sst_sections.specs.Sections.{body_of}
+use Rattle.sst_sections.specs.declared.section.SectionName.TheVariants as section
+use Rattle.sst_blocks.specs.Handle.{Handle}
+use Rattle.sst_blocks.specs.Place.{Place, place_of}
+use Rattle.lsm_readers.specs.declared.verify.Finding.{Finding}
+use Rattle.lsm_readers.specs.declared.verify.Verified.{Verified}
+use Rattle.lsm_readers.specs.declared.verify.steps.Stage.{Stage}
+use Rattle.lsm_readers.specs.declared.verify.steps.Stage.TheVariants as stage
+use Rattle.lsm_readers.specs.Parts.{Parts}
+use Rattle.lsm_readers.specs.Table.{OpenTable}
+use Rattle.lsm_readers.specs.Verify.{◌>>=◌, Unread, blocks_found, end_found, filter_found}
+use Rattle.lsm_readers.specs.Verify.{filter_places, handles_found, index_found, parts_found}
+use Rattle.lsm_readers.specs.Verify.{table_found, top_named, unread_of, verified_of}
+
+-- ---- what is left to read
+
+-- these blocks of the filter, and then the index; or the data blocks of these handles, and then
+-- these partitions of the index
+pub data Ahead : Type 0 where
+  before_index : (places : List Place) → Ahead
+  in_index : (handles : List Handle) (tops : List Handle) → Ahead
+
+-- where the filter's blocks lie that a table has
+abbrev pub places_in : Parts → List Place
+places_in parts = filter_places parts.pinned.filter_tops parts.regions.filter
+
+abbrev pub ahead_of : {A : Type 0} → Parts → Stage A → Ahead
+ahead_of parts (stage.Filter index) = before_index (drop index (places_in parts))
+ahead_of parts (stage.Index handles tops) = in_index handles tops
+
+-- ---- what is found first there
+
+-- the filter's blocks at some places load
+unfoldable pub places_found : List ℕ → List Place → Result (Unit {0}) Finding
+places_found body [] = Ok tt
+places_found body (place ∷ places) =
+    filter_found body place >>= λ _. places_found body places
+
+-- the end, behind what is left once the index was read
+abbrev pub ended_found : List ℕ → Parts → Result Unread Finding → Result Verified Finding
+ended_found body parts read =
+    (read >>= λ left. end_found body parts left) >>= λ _. Ok (verified_of parts.facts)
+
+-- the handles of the partition that a handle of the top level names
+unfoldable pub partition_found : List ℕ → Handle → Result (List Handle) Finding
+partition_found body top =
+    handles_found body section.Index (place_of top) >>= λ handles.
+    top_named top handles >>= λ _.
+    Ok handles
+
+-- what is found first in what is left to read
+unfoldable pub rest_found : List ℕ → Parts → Ahead → Unread → Result Verified Finding
+rest_found body parts (before_index places) left =
+    places_found body places >>= λ _. ended_found body parts (index_found body parts left)
+rest_found body parts (in_index handles tops) left =
+    ended_found body parts
+    (blocks_found body parts left handles >>= λ left. parts_found body parts left tops)
+
+-- ---- how many steps that takes
+
+abbrev pub count_told : Result (List Handle) Finding → ℕ
+count_told (Ok handles) = length handles
+count_told (Err f) = 0
+
+-- one for the partition of each handle, and one for each data block of its handles
+abbrev pub parts_steps : List ℕ → List Handle → ℕ
+parts_steps body [] = 0
+parts_steps body (top ∷ tops) =
+    1 + count_told (handles_found body section.Index (place_of top)) + parts_steps body tops
+
+-- those behind the block of a full index, or behind a top level
+abbrev pub named_steps : List ℕ → Option Place → Result (List Handle) Finding → ℕ
+named_steps body index (Err f) = 0
+named_steps body None (Ok handles) = length handles
+named_steps body (Some section) (Ok tops) = parts_steps body tops
+
+-- one for each block that is left to read: what is wrong is found no later
+unfoldable pub steps_left : List ℕ → Parts → Ahead → ℕ
+steps_left body parts (before_index places) =
+    length places + 1 + named_steps body parts.regions.index
+    (handles_found body section.Tli parts.regions.tli)
+steps_left body parts (in_index handles tops) = length handles + parts_steps body tops
+
+-- ---- a step
+
+-- a step that read a block: what is found first is found behind it, and one step fewer is left
+pub record Goes (body : List ℕ) (parts : Parts) (old : Ahead) (before : Unread) (new : Ahead)
+    (after : Unread) : Type 0 where
+  pub rest : rest_found body parts new after ≡ rest_found body parts old before
+  pub steps : steps_left body parts old ≡ 1 + steps_left body parts new
+
+-- nothing was left to read, and nothing is wrong at the end
+pub record Ends (body : List ℕ) (parts : Parts) (old : Ahead) (before : Unread) : Type 0 where
+  pub rest : rest_found body parts old before ≡ Ok (verified_of parts.facts)
+  pub steps : steps_left body parts old ≡ 0
+
+-- ---- a verification
+
+-- the table, what is left to read of it, and what is left of its counts
+pub record Verifying : Type 0 where
+  pub table : OpenTable
+  pub ahead : Ahead
+  pub left : Unread
+
+-- what is found first in what is left is what is found first in the whole
+abbrev pub IsOfTable : OpenTable → Ahead → Unread → Type 0
+IsOfTable t ahead left =
+    rest_found (body_of t.bytes) t.parts ahead left ≡ table_found (body_of t.bytes) t.parts
+
+-- a verification of a table that read nothing yet
+abbrev pub verifying : OpenTable → Verifying
+verifying t = record {
+  table = t;
+  ahead = before_index (places_in t.parts);
+  left = unread_of t.parts.facts;
+}
+
+-- how many steps are left before the last
+abbrev pub steps_of : Verifying → ℕ
+steps_of v = steps_left (body_of v.table.bytes) v.table.parts v.ahead
+
+-- the sizes of the data blocks that were read, together: what is gone of what the table says
+abbrev pub bytes_read : Verifying → ℕ
+bytes_read v = v.table.parts.facts.file_size - v.left.counts.size

@@ -1,0 +1,354 @@
+//! Reading a whole table by steps, a block each.
+ghost use Rattle.std.specs.Prelude.{◌≡◌, ◌∷◌, ◌<◌, ◌-◌, ◌^◌, [], List, IfErr, IfOk, IfNone, IfSome};
+ghost use Rattle.std.specs.Prelude.{Ok, drop, false, length, true};
+ghost use Rattle.std.specs.List.{slice_get};
+ghost use Rattle.lsm_readers.specs.Words.{Handle, body_of, parts_of};
+ghost use Rattle.lsm_readers.specs.declared.verify.VerifyError.TheVariants.{OutOfMemory};
+ghost use Rattle.lsm_readers.specs.Verify.{Finds, Misses, Unread as UnreadLeft, block_found};
+ghost use Rattle.lsm_readers.specs.Verify.{blocks_found};
+ghost use Rattle.lsm_readers.specs.Handles.{handles_from};
+ghost use Rattle.lsm_readers.specs.Parts.{Parts};
+ghost use Rattle.lsm_readers.specs.Verification.{Ends, Goes, ahead_of, before_index, in_index};
+ghost use Rattle.lsm_readers.specs.Verification.{partition_found, places_in};
+ghost use Rattle.lsm_readers.specs.Verification.{rest_found};
+
+use super::blocks::{handle_at, load_part, read_block, test_top};
+use super::end::{test_filter, test_left};
+use super::{Unread, VerifyError};
+use crate::Inner;
+use sst_blocks::{BlockHandle, BlockSource, IndexBlock, KeyedBlockHandle, SectionName};
+use std::alloc::{Allocator, Global};
+use std::marker::Model;
+
+/// The handles of an index block that are left. A contract sees their list.
+#[derive(Drop)]
+pub(crate) struct HandlesLeft<A: Allocator = Global> {
+    block: Option<IndexBlock<A>>,
+    // the place of the next handle in the block
+    index: usize,
+}
+
+impl<A: Allocator> Model for HandlesLeft<A> {
+    ghost use Rattle.std.specs.Prelude.{List};
+    ghost use Rattle.sst_blocks.specs.Handle.{Handle};
+    ghost use Rattle.lsm_readers.specs.Handles.{handles_from};
+
+    ghost Value = { List Handle };
+
+    ghost view = { λ h. handles_from h.index h.block };
+}
+
+/// What is left to read of a table.
+#[derive(Drop)]
+pub(crate) enum Stage<A: Allocator = Global> {
+    /// The filter's blocks from a place on, and then the index.
+    Filter(usize),
+    /// The data blocks of some handles, and then some partitions of the index.
+    Index {
+        handles: HandlesLeft<A>,
+        tops: HandlesLeft<A>,
+    },
+}
+
+impl<A: Allocator> Stage<A> {
+    /// Nothing was read yet.
+    pub(crate) fn start() -> Stage<A>
+        ensures { (parts : Parts) → ahead_of parts result ≡ before_index (places_in parts) }
+    {
+        Stage::Filter(0)
+    }
+}
+
+impl<A: Allocator> Unread<A> {
+    /// What is left of the sizes of the data blocks.
+    pub(crate) fn size_left(&self) -> u64
+        ensures { result ≡ self.now.counts.size }
+    {
+        self.counts.size
+    }
+}
+
+/// How many handles a block has, where there is one.
+fn count_in<A: Allocator>(block: &Option<IndexBlock<A>>) -> usize
+    ensures { result ≡ length (handles_from 0 block.now) }
+{
+    match block {
+        Some(block) => block.len(),
+        None => 0,
+    }
+}
+
+/// The handle at a place in a block, where there is one. Refused for want of memory alone.
+fn handle_in<A: Allocator>(
+    block: &IndexBlock<A>,
+    index: usize,
+) -> Result<Option<KeyedBlockHandle<A>>, VerifyError>
+    ensures ok { IfOk result (λ h. h ≡ slice_get block.now index) }
+    ensures err { IfErr result (λ e. e ≡ OutOfMemory) }
+{
+    if index < block.len() {
+        Ok(Some(handle_at(block, index)?))
+    } else {
+        Ok(None)
+    }
+}
+
+impl<A: Allocator> HandlesLeft<A> {
+    /// No handles.
+    fn none() -> HandlesLeft<A>
+        ensures { result ≡ [] }
+    {
+        HandlesLeft {
+            block: None,
+            index: 0,
+        }
+    }
+
+    /// All handles of a block.
+    fn all(block: IndexBlock<A>) -> HandlesLeft<A>
+        ensures { result ≡ block }
+    {
+        HandlesLeft {
+            block: Some(block),
+            index: 0,
+        }
+    }
+
+    /// The next of them, where one is left. Refused for want of memory alone.
+    fn next(&self) -> Result<Option<KeyedBlockHandle<A>>, VerifyError>
+        ensures ok { IfOk result (λ h. h ≡ slice_get self.now 0) }
+        ensures err { IfErr result (λ e. e ≡ OutOfMemory) }
+    {
+        match &self.block {
+            Some(block) => handle_in(block, self.index),
+            None => Ok(None),
+        }
+    }
+
+    /// Leaves out the next of them, where one is left.
+    fn pass(&mut self)
+        ensures { self.new ≡ drop 1 self.old }
+    {
+        if self.index < count_in(&self.block) {
+            self.index += 1;
+        }
+    }
+}
+
+/// A copy of what is still to be read. Refused for want of memory alone.
+fn copy_left<A: Allocator>(left: &Unread<A>) -> Result<Unread<A>, VerifyError>
+    ensures ok { IfOk result (λ copy. copy ≡ left.now) }
+    ensures err { IfErr result (λ e. e ≡ OutOfMemory) }
+{
+    match left.last.clone() {
+        Ok(last) => Ok(Unread {
+            last,
+            counts: left.counts,
+        }),
+        Err(_) => Err(VerifyError::OutOfMemory),
+    }
+}
+
+/// Reads the data block of the first of some handles, where one is left. Where that is refused
+/// nothing changes.
+fn step_block<A: Allocator + Clone>(
+    source: &BlockSource<A>,
+    inner: &Inner<A>,
+    handles: &mut HandlesLeft<A>,
+    left: &mut Unread<A>,
+) -> Result<bool, VerifyError>
+    ensures read { IfOk result (λ read. read ≡ true →
+        (h : Handle) × (handles.old ≡ h ∷ handles.new) ×
+        (block_found (body_of source.now) (parts_of inner.now) left.old h ≡ Ok left.new)) }
+    ensures none { IfOk result (λ read. read ≡ false →
+        (handles.old ≡ []) × (handles.new ≡ []) × (left.new ≡ left.old)) }
+    ensures refused { IfErr result (λ e. Misses e
+        (blocks_found (body_of source.now) (parts_of inner.now) left.old handles.old)) }
+    ensures unchanged { IfErr result (λ _.
+        (handles.new ≡ handles.old) × (left.new ≡ left.old)) }
+{
+    let handle = match handles.next()? {
+        Some(handle) => handle,
+        None => return Ok(false),
+    };
+    let mut read = copy_left(left)?;
+    read_block(source, inner, &mut read, &handle)?;
+    *left = read;
+    handles.pass();
+    Ok(true)
+}
+
+/// The partition of the index that a handle of its top level names.
+#[tactic(auto, unfolding(crate::specs::Verification::partition_found))]
+fn load_partition<A: Allocator + Clone>(
+    source: &BlockSource<A>,
+    top: &KeyedBlockHandle<A>,
+) -> Result<IndexBlock<A>, VerifyError>
+    ensures { Finds (λ (handles : List Handle). handles) result
+        (partition_found (body_of source.now) top.now) }
+{
+    let place = BlockHandle::new(top.offset(), top.size());
+    let handles = load_part(source, SectionName::Index, &place)?;
+    test_top(top, &handles)?;
+    Ok(handles)
+}
+
+/// Reads the partition of the first of some handles of a top level, where one is left. Where that
+/// is refused nothing changes.
+fn step_part<A: Allocator + Clone>(
+    source: &BlockSource<A>,
+    tops: &mut HandlesLeft<A>,
+) -> Result<Option<IndexBlock<A>>, VerifyError>
+    ensures read { IfOk result (λ read. IfSome read (λ handles.
+        (top : Handle) × (tops.old ≡ top ∷ tops.new) ×
+        (partition_found (body_of source.now) top ≡ Ok handles))) }
+    ensures none { IfOk result (λ read. IfNone read ((tops.old ≡ []) × (tops.new ≡ []))) }
+    ensures refused { IfErr result (λ e. (top : Handle) (rest : List Handle) →
+        tops.old ≡ top ∷ rest → Misses e (partition_found (body_of source.now) top)) }
+    ensures wanted { IfErr result (λ e. tops.old ≡ [] → e ≡ OutOfMemory) }
+    ensures unchanged { IfErr result (λ _. tops.new ≡ tops.old) }
+{
+    let top = match tops.next()? {
+        Some(top) => top,
+        None => return Ok(None),
+    };
+    let handles = load_partition(source, &top)?;
+    tops.pass();
+    Ok(Some(handles))
+}
+
+/// Reads the next data block or, where the partition at hand has none left, the next partition; or
+/// else tests the end, and answers `true`. Where it answers or is refused nothing changes.
+fn step_index<A: Allocator + Clone>(
+    source: &BlockSource<A>,
+    inner: &Inner<A>,
+    handles: &mut HandlesLeft<A>,
+    tops: &mut HandlesLeft<A>,
+    left: &mut Unread<A>,
+) -> Result<bool, VerifyError>
+    ensures goes { IfOk result (λ ends. ends ≡ false →
+        Goes (body_of source.now) (parts_of inner.now) (in_index handles.old tops.old) left.old
+        (in_index handles.new tops.new) left.new) }
+    ensures ends { IfOk result (λ ends. ends ≡ true →
+        Ends (body_of source.now) (parts_of inner.now) (in_index handles.old tops.old) left.old) }
+    ensures answered { IfOk result (λ ends. ends ≡ true →
+        (handles.new ≡ handles.old) × (tops.new ≡ tops.old) × (left.new ≡ left.old)) }
+    ensures refused { let ahead = in_index handles.old tops.old in
+        IfErr result (λ e. Misses e
+        (rest_found (body_of source.now) (parts_of inner.now) ahead left.old)) }
+    ensures unchanged { IfErr result (λ _.
+        (handles.new ≡ handles.old) × (tops.new ≡ tops.old) × (left.new ≡ left.old)) }
+{
+    if step_block(source, inner, handles, left)? {
+        return Ok(false);
+    }
+    match step_part(source, tops)? {
+        Some(block) => {
+            *handles = HandlesLeft::all(block);
+            Ok(false)
+        }
+        None => {
+            test_left(source, inner, left)?;
+            Ok(true)
+        }
+    }
+}
+
+/// Where the filter's block at a place among them lies, where there is one.
+fn filter_at<A: Allocator>(inner: &Inner<A>, index: usize) -> Option<BlockHandle>
+    ensures place { result ≡ slice_get (places_in (parts_of inner.now)) index }
+    ensures room { IfSome result (λ _. index < 2 ^ 64 - 1) }
+{
+    match &inner.pinned_filter_index {
+        Some(tops) => {
+            if index < tops.len() {
+                Some(tops.place_at(index))
+            } else {
+                None
+            }
+        }
+        None => {
+            if index == 0 {
+                inner.regions.filter
+            } else {
+                None
+            }
+        }
+    }
+}
+
+/// Reads the block of the index, or its top level.
+fn open_index<A: Allocator + Clone>(
+    source: &BlockSource<A>,
+    inner: &Inner<A>,
+) -> Result<Stage<A>, VerifyError>
+    ensures goes { (left : UnreadLeft) → let parts = parts_of inner.now in
+        IfOk result (λ stage. Goes (body_of source.now) parts (before_index []) left
+        (ahead_of parts stage) left) }
+    ensures refused { (left : UnreadLeft) → IfErr result (λ e. Misses e
+        (rest_found (body_of source.now) (parts_of inner.now) (before_index []) left)) }
+{
+    let handles = load_part(source, SectionName::Tli, &inner.regions.tli)?;
+    let handles = HandlesLeft::all(handles);
+    match inner.regions.index {
+        None => Ok(Stage::Index {
+            handles,
+            tops: HandlesLeft::none(),
+        }),
+        Some(_) => Ok(Stage::Index {
+            handles: HandlesLeft::none(),
+            tops: handles,
+        }),
+    }
+}
+
+/// Reads the filter's block at a place among them or, behind all of them, that of the index.
+fn step_filter<A: Allocator + Clone>(
+    source: &BlockSource<A>,
+    inner: &Inner<A>,
+    index: usize,
+) -> Result<Stage<A>, VerifyError>
+    ensures goes { (left : UnreadLeft) → let parts = parts_of inner.now in
+        let ahead = before_index (drop index (places_in parts)) in
+        IfOk result (λ stage. Goes (body_of source.now) parts ahead left
+        (ahead_of parts stage) left) }
+    ensures refused { (left : UnreadLeft) → let parts = parts_of inner.now in
+        let ahead = before_index (drop index (places_in parts)) in
+        IfErr result (λ e. Misses e (rest_found (body_of source.now) parts ahead left)) }
+{
+    match filter_at(inner, index) {
+        Some(place) => {
+            test_filter(source, &place)?;
+            Ok(Stage::Filter(index + 1))
+        }
+        None => open_index(source, inner),
+    }
+}
+
+/// Reads a further block of a table or, where none is left, tests the end, and answers `true`.
+/// Where it answers or is refused nothing changes.
+pub(crate) fn step_stage<A: Allocator + Clone>(
+    source: &BlockSource<A>,
+    inner: &Inner<A>,
+    stage: &mut Stage<A>,
+    left: &mut Unread<A>,
+) -> Result<bool, VerifyError>
+    ensures goes { let parts = parts_of inner.now in IfOk result (λ ends. ends ≡ false →
+        Goes (body_of source.now) parts (ahead_of parts stage.old) left.old
+        (ahead_of parts stage.new) left.new) }
+    ensures ends { let parts = parts_of inner.now in IfOk result (λ ends. ends ≡ true →
+        Ends (body_of source.now) parts (ahead_of parts stage.old) left.old) }
+    ensures answered { IfOk result (λ ends. ends ≡ true →
+        (stage.new ≡ stage.old) × (left.new ≡ left.old)) }
+    ensures refused { let parts = parts_of inner.now in let ahead = ahead_of parts stage.old in
+        IfErr result (λ e. Misses e (rest_found (body_of source.now) parts ahead left.old)) }
+    ensures unchanged { IfErr result (λ _. (stage.new ≡ stage.old) × (left.new ≡ left.old)) }
+{
+    match stage {
+        Stage::Filter(index) => {
+            *stage = step_filter(source, inner, *index)?;
+            Ok(false)
+        }
+        Stage::Index { handles, tops } => step_index(source, inner, handles, tops, left),
+    }
+}
