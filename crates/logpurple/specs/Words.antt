@@ -16,6 +16,7 @@ pub use Rattle.lsm_writers.specs.Tables.{AreTables}
 pub use Rattle.lsm_writers.specs.Writing.{IsTableOf, IsWritable}
 pub use Rattle.lsm_readers.specs.Answer.{lift}
 pub use Rattle.lsm_readers.specs.Stored.{BearsOut, StoresList}
+pub use Rattle.lsm_readers.specs.Verification.{bytes_read, steps_of, verifying}
 pub use Rattle.lsm_runs.specs.RunLists.{DealWithin, DealsList, HoldLists, HoldsList, RunsHoldLists}
 pub use Rattle.lsm_runs.specs.RunParts.{range_of}
 pub use Rattle.lsm_runs.specs.SeveralRuns.{runs_told, union_in}

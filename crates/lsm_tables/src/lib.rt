@@ -24,7 +24,7 @@ pub use lsm_formats::{GlobalTableId, TableId, Timestamp, TreeId};
 pub use lsm_iters::{Bound, Iter, OwnedDataBlockIter};
 pub use lsm_readers::{
     Fault, Finding, Inner, ParsedMeta, ParsedRegions, PinnedBlockIndex, Query, Scanner, Table,
-    TableInner, Verified, VerifyError, get_many, point_in,
+    TableInner, Verification, Verified, VerifyError, get_many, point_in,
 };
 pub use lsm_runs::{
     NewestOfRuns, NewestOfRunsAt, NewestOfSourcesAt, RunReader, RunScanner, get_runs,

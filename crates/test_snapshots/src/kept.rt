@@ -121,6 +121,36 @@ fn the_checksum_of_a_file_is_compared_where_it_is_given(rt: HostRuntime) {
     assert!(rt; verified_with(rt.alloc()) == Ok((true, Some(VerifyError::Found(found)))));
 }
 
+// After how many steps a verification answers, and what; ten steps at most.
+fn steps_of<A: Allocator + Clone>(table: &Table<A>) -> (u8, Option<Verified>) {
+    let mut verification = table.verification();
+    for steps in 0..10u8 {
+        match verification.step() {
+            Ok(Some(verified)) => return (steps, Some(verified)),
+            Ok(None) => {}
+            Err(_) => return (steps, None),
+        }
+    }
+    (10, None)
+}
+
+fn stepped(alloc: Global) -> Result<(u8, Option<Verified>), Error> {
+    let table = table(alloc)?;
+    let told = steps_of(&table);
+    drop(table);
+    Ok(told)
+}
+
+#[test]
+fn a_verification_reads_a_block_with_each_step(rt: HostRuntime) {
+    let verified = Verified {
+        data_block_count: 1,
+        item_count: 3,
+    };
+    // The filter, the index and the data block come before the answer.
+    assert!(rt; stepped(rt.alloc()) == Ok((3, Some(verified))));
+}
+
 // The numbers of the entries of `a` below 4 and of `c`, in a list that is written and opened.
 fn written_are_found(alloc: Global) -> Result<[Option<SeqNo>; 2], Error> {
     let mut numbers = [None; 2];
