@@ -4,27 +4,12 @@ use Rattle.std.proofs.Common.{◌∷◌, ◌++◌, append-nil, count_by, arith}
 use Rattle.std.specs.Prelude.{IfSome, MatchOption, None, Option, Some, map}
 use Rattle.std.specs.List.{AllByRecursion}
 use Rattle.std.proofs.lemmas.Simd.{map-map}
-use Rattle.sst_entries.specs.Entry.{Entry}
-use Rattle.sst_entries.specs.Stream.{ok_results}
-use Rattle.sst_entries.specs.Strict.{IsStrict}
-use Rattle.lsm_formats.specs.Chunks.{joined}
-use Rattle.lsm_merge.specs.Union.{all_entries, sort_entries}
-use Rattle.lsm_merge.proofs.MergedLemmas.{all_inserted}
-use Rattle.lsm_sorted.specs.Point.{seen}
-use Rattle.lsm_sorted.specs.ReadLaw.{AllNewer}
-use Rattle.lsm_sorted.specs.Compaction.{zeroed}
-use Rattle.lsm_sorted.specs.declared.compaction.Rules.{Rules}
-use Rattle.lsm_sorted.proofs.KeptLemmas.{all_kept, zeroed_below}
-use Rattle.lsm_sorted.proofs.PartLemmas.{reads_alike_of_part}
-use Rattle.lsm_readers.specs.Table.{OpenTable}
-use Rattle.lsm_runs.specs.SeveralRuns.{union_in}
-use Rattle.lsm_runs.proofs.OneList.{one_way}
-use Rattle.lsm_runs.proofs.Unions.{entries_joined}
-use Rattle.lsm_compactions.specs.Compacted.{AreCompactable, kept_in}
-use Rattle.lsm_compactions.specs.ListRuns.{HasList, HaveAll}
-use Rattle.lsm_compactions.specs.Packed.{HoldUnion}
-use Rattle.lsm_compactions.specs.ReadsCompacted.{AreReplaced, joined_in}
-use Rattle.lsm_compactions.proofs.Replaced.{points}
+use Rattle.logpurple.specs.Words.{AllNewer, AreCompactable, AreReplaced, Entry, HasList}
+use Rattle.logpurple.specs.Words.{HaveAll, HoldUnion, IsStrict, OpenTable, Rules, all_entries}
+use Rattle.logpurple.specs.Words.{joined, joined_in, kept_in, ok_results, seen, sort_entries}
+use Rattle.logpurple.specs.Words.{union_in, zeroed}
+use Rattle.logpurple.proofs.Laws.{all_inserted, all_kept, entries_joined, one_way, points}
+use Rattle.logpurple.proofs.Laws.{reads_alike_of_part, zeroed_below}
 use Rattle.example_store.specs.Story.{HoldBelow, Holding, IsSound, IsStory, Tells, holding}
 use Rattle.example_store.specs.Story.{option_list}
 use Rattle.example_store.proofs.Stories.{able_none, seen_more}

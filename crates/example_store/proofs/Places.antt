@@ -10,17 +10,12 @@ use Rattle.std.specs.declared.cmp.Ordering.TheVariants.{Less, Equal, Greater}
 use Rattle.std.specs.List.Sorted.{IsPartitionedBy, IsPartitionPoint}
 use Rattle.std.proofs.lemmas.Bool.{cases_Bool, cases_lt}
 use Rattle.std.proofs.lemmas.Option.{slice_get_read}
-use Rattle.sst_entries.specs.Entry.{Entry}
-use Rattle.sst_entries.specs.Key.{same_key}
-use Rattle.sst_entries.specs.Point.{is_hit, point, read_place}
-use Rattle.sst_entries.specs.Span.{front_length}
-use Rattle.sst_entries.specs.Strict.{IsStrict, is_before, version_cmp}
-use Rattle.sst_entries.proofs.Booleans.{apart, is_false}
-use Rattle.sst_entries.proofs.KeyLemmas.{hit_key, lt_other, same_itself}
-use Rattle.sst_entries.proofs.OrderLemmas.{before_trans, number_total, strict_at}
+use Rattle.logpurple.specs.Words.{Entry, IsStrict, front_length, is_before, is_hit, point}
+use Rattle.logpurple.specs.Words.{read_place, same_key, version_cmp}
+use Rattle.logpurple.proofs.Laws.{AllBefore, apart, before_trans, hit_key, is_false, lt_other}
+use Rattle.logpurple.proofs.Laws.{number_total, pairs_of, precedes_of, read_hit, read_other}
+use Rattle.logpurple.proofs.Laws.{read_past, same_itself, strict_at, strict_from}
 use Rattle.example_store.specs.Recent.{IsPut}
-use Rattle.sst_blocks.proofs.Points.{read_hit, read_other, read_past}
-use Rattle.lsm_merge.proofs.Pairs.{AllBefore, pairs_of, precedes_of, strict_from}
 
 -- ---- a place at which a test ends
 

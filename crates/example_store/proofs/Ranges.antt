@@ -5,27 +5,13 @@ use Rattle.std.specs.Prelude.{Option, Some, None, nat_lt, ◌&&◌, map, IfOk, R
 use Rattle.std.specs.List.{AllByRecursion}
 use Rattle.std.specs.declared.ops.Bound.{Bound}
 use Rattle.std.proofs.lemmas.Bool.{cases_Bool, lt-ltb, ltb-true}
-use Rattle.sst_entries.specs.declared.error.Error.{Error}
-use Rattle.sst_entries.specs.Entry.{Entry}
-use Rattle.sst_entries.specs.Key.{same_key}
-use Rattle.sst_entries.specs.Point.{is_from, is_hit, is_to, point, within}
-use Rattle.sst_entries.specs.Strict.{IsStrict}
-use Rattle.sst_entries.proofs.Booleans.{and_false}
-use Rattle.sst_entries.proofs.KeyLemmas.{hit_key}
-use Rattle.lsm_merge.specs.Union.{newest, sort_entries}
-use Rattle.lsm_merge.proofs.MergedLemmas.{all_inserted}
-use Rattle.lsm_merge.proofs.UnionLemmas.{ascends_in_order}
-use Rattle.lsm_sorted.specs.Below.{numbered_below}
-use Rattle.lsm_sorted.specs.Point.{seen, shown}
-use Rattle.lsm_runs.specs.RunLists.{DealWithin, DealsList, single}
-use Rattle.lsm_runs.specs.SeveralRuns.{leading_of, union_in}
-use Rattle.lsm_runs.proofs.Leading.{leading_sorted, leads_older}
-use Rattle.lsm_merge.proofs.Pairs.{as_pairs}
-use Rattle.lsm_runs.proofs.Rising.{ascends_of}
-use Rattle.lsm_runs.proofs.Unions.{filter_ascends}
-use Rattle.lsm_compactions.specs.ReadsCompacted.{all_shown}
-use Rattle.lsm_compactions.proofs.Replaced.{union_up}
-use Rattle.lsm_compactions.proofs.ShownRanges.{ranges_by_points}
+use Rattle.logpurple.specs.Words.{DealWithin, DealsList, Entry, Error, IsStrict, all_shown}
+use Rattle.logpurple.specs.Words.{is_from, is_hit, is_to, leading_of, newest, numbered_below}
+use Rattle.logpurple.specs.Words.{point, same_key, seen, shown, single, sort_entries, union_in}
+use Rattle.logpurple.specs.Words.{within}
+use Rattle.logpurple.proofs.Laws.{all_inserted, and_false, as_pairs, ascends_in_order}
+use Rattle.logpurple.proofs.Laws.{ascends_of, filter_ascends, hit_key, leading_sorted}
+use Rattle.logpurple.proofs.Laws.{leads_older, ranges_by_points, union_up}
 use Rattle.example_store.specs.Story.{Holding, IsSound, IsStory, Tells}
 use Rattle.example_store.proofs.Places.{hit_first, hit_later}
 use Rattle.example_store.proofs.Stories.{low_lists, read_more, story_later}

@@ -4,18 +4,10 @@ use Rattle.std.proofs.Common.{false, List, [], arith, ltb, le-ltb}
 use Rattle.std.specs.Prelude.{Option, Some, None, Result, Ok, Err, IfErr, IfSome, IsErrAnd}
 use Rattle.std.specs.Prelude.{MatchOption}
 use Rattle.std.specs.Option.{option_map, option_or}
-use Rattle.sst_entries.specs.declared.error.Error.{Error}
-use Rattle.sst_entries.specs.Entry.{Entry}
-use Rattle.sst_entries.specs.Error.{is_memory}
-use Rattle.lsm_formats.specs.declared.label.Label.{Label}
-use Rattle.lsm_formats.specs.Facts.{highest_seqno}
-use Rattle.lsm_writers.specs.Writing.{IsWritable}
-use Rattle.lsm_readers.specs.Table.{OpenTable}
-use Rattle.lsm_compactions.specs.Chain.{AreCutOf, IsRunOfList, chain_fault, tables_fault}
-use Rattle.lsm_compactions.specs.ListRuns.{HasList}
-use Rattle.lsm_compactions.specs.Written.{number_fault}
-use Rattle.lsm_compactions.proofs.CompactedBack.{small_numbers}
-use Rattle.lsm_compactions.proofs.ListRuns.{of_cut_unlifted}
+use Rattle.logpurple.specs.Words.{AreCutOf, Entry, Error, HasList, IsRunOfList, IsWritable}
+use Rattle.logpurple.specs.Words.{Label, OpenTable, chain_fault, highest_seqno, is_memory}
+use Rattle.logpurple.specs.Words.{number_fault, tables_fault}
+use Rattle.logpurple.proofs.Laws.{of_cut_unlifted, small_numbers}
 
 -- a refusal that is passed on, memory aside
 pub passed_on : {X : Type 0} (r : Result X Error) (e : Error) (told : Option Error)

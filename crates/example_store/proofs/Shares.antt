@@ -7,13 +7,9 @@ use Rattle.std.specs.declared.ops.Bound.{Bound}
 use Rattle.std.specs.declared.vec.IntoIter.{IntoIter}
 use Rattle.std.proofs.lemmas.List.{map-append, take_more}
 use Rattle.std.proofs.lemmas.List.Elements.{filter-append}
-use Rattle.sst_entries.specs.declared.error.Error.{Error}
-use Rattle.sst_entries.specs.Entry.{Entry}
-use Rattle.sst_entries.specs.Point.{is_from, is_to, within}
-use Rattle.sst_entries.specs.Stream.{Deals, answer_stops, ok_results}
-use Rattle.sst_entries.proofs.StreamLemmas.{map_append}
-use Rattle.sst_entries.proofs.VecSource.{vec_deals}
-use Rattle.lsm_runs.specs.RunLists.{DealsList}
+use Rattle.logpurple.specs.Words.{Deals, DealsList, Entry, Error, answer_stops, is_from, is_to}
+use Rattle.logpurple.specs.Words.{ok_results, within}
+use Rattle.logpurple.proofs.Laws.{map_append, vec_deals}
 
 pub shared_more : {X Y : Type 0} (f : X → Y) (shared : List X) (x : X) (y : Y)
     (before rest all : List Y) → f x ≡ y → before ≡ y ∷ rest → map f shared ++ before ≡ all

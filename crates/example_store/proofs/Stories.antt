@@ -5,29 +5,14 @@ use Rattle.std.specs.Prelude.{Option, Some, None, map}
 use Rattle.std.specs.List.{AllByRecursion}
 use Rattle.std.specs.Option.{option_or}
 use Rattle.std.proofs.lemmas.Bool.{cases_Bool}
-use Rattle.sst_entries.specs.Entry.{Entry}
-use Rattle.sst_entries.specs.Point.{is_hit, point}
-use Rattle.sst_entries.specs.Stream.{ok_results}
-use Rattle.sst_entries.specs.Strict.{IsStrict, IsStrictAfter}
-use Rattle.sst_entries.proofs.Lists.{all_more}
-use Rattle.lsm_formats.specs.Chunks.{joined}
-use Rattle.lsm_merge.specs.Union.{all_entries, sort_entries}
-use Rattle.lsm_merge.proofs.MergedLemmas.{all_inserted}
-use Rattle.lsm_merge.proofs.Pairs.{as_pairs, from_pairs}
-use Rattle.lsm_sorted.specs.Point.{seen, shown}
-use Rattle.lsm_sorted.specs.ReadLaw.{Distinct}
-use Rattle.lsm_writers.specs.Writing.{IsWritable}
-use Rattle.lsm_readers.specs.Table.{OpenTable}
-use Rattle.lsm_runs.specs.RunLists.{RunsHoldLists}
-use Rattle.lsm_runs.specs.SeveralRuns.{leading_of, union_in}
-use Rattle.lsm_runs.proofs.Leading.{IsOfKey, leading_sorted, leads_older, point_of_key}
-use Rattle.lsm_runs.proofs.OneList.{one_way}
-use Rattle.lsm_runs.proofs.Rising.{ascends_of}
-use Rattle.lsm_runs.proofs.Unions.{entries_of}
-use Rattle.lsm_compactions.specs.Compacted.{AreCompactable}
-use Rattle.lsm_compactions.specs.ListRuns.{HasList}
-use Rattle.lsm_compactions.proofs.Replaced.{union_count, union_up}
-use Rattle.lsm_compactions.proofs.Versions.{at, count_join, distinct_once, once_strict}
+use Rattle.logpurple.specs.Words.{AreCompactable, Distinct, Entry, HasList, IsStrict}
+use Rattle.logpurple.specs.Words.{IsStrictAfter, IsWritable, OpenTable, RunsHoldLists}
+use Rattle.logpurple.specs.Words.{all_entries, is_hit, joined, leading_of, ok_results, point}
+use Rattle.logpurple.specs.Words.{seen, shown, sort_entries, union_in}
+use Rattle.logpurple.proofs.Laws.{IsOfKey, all_inserted, all_more, as_pairs, ascends_of, at}
+use Rattle.logpurple.proofs.Laws.{count_join, distinct_once, entries_of, from_pairs}
+use Rattle.logpurple.proofs.Laws.{leading_sorted, leads_older, once_strict, one_way}
+use Rattle.logpurple.proofs.Laws.{point_of_key, union_count, union_up}
 use Rattle.example_store.specs.Recent.{IsPut}
 use Rattle.example_store.specs.Story.{AreNumbered, HoldBelow, Holding, IsSound, IsStory, Tells}
 use Rattle.example_store.specs.Story.{holding}

@@ -1,3 +1,2 @@
 pub mod Recent
 pub mod Story
-pub mod Words

@@ -1,7 +1,6 @@
 -- Entries in order, and one that is put between them.
 use Rattle.std.specs.Prelude.{◌≡◌, ℕ, List, ◌∷◌, ◌++◌}
-use Rattle.sst_entries.specs.Entry.{Entry}
-use Rattle.sst_entries.specs.Point.{point}
+use Rattle.logpurple.specs.Words.{Entry, point}
 
 -- an entry was put between those of a list, and each read finds it before all of them
 pub record IsPut (e : Entry) (old new : List Entry) : Type 0 where

@@ -3,8 +3,8 @@ use Rattle.std.specs.Prelude.{◌≡◌, ℕ, ◌-◌, ◌^◌, ◌<◌, ◌≤�
 use Rattle.std.specs.Prelude.{if◌then◌else◌, length, None, Option, Some}
 use Rattle.std.specs.List.{AllByRecursion}
 use Rattle.std.specs.Option.{option_map}
-use Rattle.example_store.specs.Words.{AreCompactable, Entry, Error, KeyTooLong, OpenTable}
-use Rattle.example_store.specs.Words.{RunsHoldLists, SeqNoOverflow, ValueTooLong, seen, union_in}
+use Rattle.logpurple.specs.Words.{AreCompactable, Entry, Error, KeyTooLong, OpenTable}
+use Rattle.logpurple.specs.Words.{RunsHoldLists, SeqNoOverflow, ValueTooLong, seen, union_in}
 
 -- what a store has: the entries that are in no table yet, the tables of its runs, the counter of
 -- their ids and how large each is to be; the number of the next write, the number from which on

@@ -4,9 +4,9 @@ ghost use Rattle.std.specs.Prelude.{None, OnErr, OnOk, Option};
 ghost use Rattle.std.specs.Iterator.{IsFinite};
 ghost use Rattle.std.specs.List.{AllByRecursion};
 ghost use Rattle.example_store.specs.Recent.{IsPut};
-ghost use Rattle.example_store.specs.Words.{CanDeal, DealsList, Entry, Gives, IsStrict};
-ghost use Rattle.example_store.specs.Words.{OutOfMemory, front_length, is_before, is_from, is_to};
-ghost use Rattle.example_store.specs.Words.{ok_results, point, read_place, within};
+ghost use Rattle.logpurple.specs.Words.{CanDeal, DealsList, Entry, Gives, IsStrict};
+ghost use Rattle.logpurple.specs.Words.{OutOfMemory, front_length, is_before, is_from, is_to};
+ghost use Rattle.logpurple.specs.Words.{ok_results, point, read_place, within};
 
 use logpurple::{Error, InternalValue, IterItem, SeqNo, UserKey};
 use std::alloc::{Allocator, Global};
@@ -23,7 +23,7 @@ pub struct Memtable<A: Allocator = Global> {
 
 impl<A: Allocator> Model for Memtable<A> {
     ghost use Rattle.std.specs.Prelude.{List};
-    ghost use Rattle.example_store.specs.Words.{Entry, IsStrict};
+    ghost use Rattle.logpurple.specs.Words.{Entry, IsStrict};
 
     ghost Value = { List Entry };
 

@@ -5,9 +5,9 @@ ghost use Rattle.std.specs.Prelude.{false};
 ghost use Rattle.std.specs.Arc.{arc_value};
 ghost use Rattle.std.specs.Option.{option_map};
 ghost use Rattle.example_store.specs.Story.{Tells, value_in, write_fault};
-ghost use Rattle.example_store.specs.Words.{Entry, Gives, HasList, IsStrict, IsWritable};
-ghost use Rattle.example_store.specs.Words.{OutOfMemory, Refuses, RunsHoldLists, Tombstone, Value};
-ghost use Rattle.example_store.specs.Words.{entry, is_memory, point, shown, tables_fault, union_in};
+ghost use Rattle.logpurple.specs.Words.{Entry, Gives, HasList, IsStrict, IsWritable};
+ghost use Rattle.logpurple.specs.Words.{OutOfMemory, Refuses, RunsHoldLists, Tombstone, Value};
+ghost use Rattle.logpurple.specs.Words.{entry, is_memory, point, shown, tables_fault, union_in};
 
 mod compact;
 mod range;

@@ -3,9 +3,9 @@ ghost use Rattle.std.specs.Prelude.{◌≡◌, IfErr, IfOk, List, OnErr, OnOk, S
 ghost use Rattle.std.specs.Prelude.{length, map, max, true};
 ghost use Rattle.std.specs.Arc.{arc_value};
 ghost use Rattle.example_store.specs.Story.{Tells, option_list};
-ghost use Rattle.example_store.specs.Words.{AreCompactable, AreInOrder, Entry, HaveAll, HoldUnion};
-ghost use Rattle.example_store.specs.Words.{IsLeastSize, OutOfMemory, RunsHoldLists, is_memory};
-ghost use Rattle.example_store.specs.Words.{kept_in, range_of, rules_by, tables_fault, union_in};
+ghost use Rattle.logpurple.specs.Words.{AreCompactable, AreInOrder, Entry, HaveAll, HoldUnion};
+ghost use Rattle.logpurple.specs.Words.{IsLeastSize, OutOfMemory, RunsHoldLists, is_memory};
+ghost use Rattle.logpurple.specs.Words.{kept_in, range_of, rules_by, tables_fault, union_in};
 
 use crate::Store;
 use logpurple::{Error, Rules, Run, SeqNo, Table, TableIds, Timestamp, compact_to_run, pack_runs};

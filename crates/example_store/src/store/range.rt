@@ -1,8 +1,8 @@
 //! Ranges of a store at a snapshot.
 ghost use Rattle.std.specs.Prelude.{◌≡◌, ◌≤◌, IfErr, IfOk, List};
 ghost use Rattle.example_store.specs.Story.{Tells};
-ghost use Rattle.example_store.specs.Words.{DealsList, Entry, OutOfMemory, all_shown, newest};
-ghost use Rattle.example_store.specs.Words.{numbered_below, sort_entries, within};
+ghost use Rattle.logpurple.specs.Words.{DealsList, Entry, OutOfMemory, all_shown, newest};
+ghost use Rattle.logpurple.specs.Words.{numbered_below, sort_entries, within};
 
 use crate::Store;
 use logpurple::{Error, IterItem, NewestOfSourcesAt, SeqNo, UserKey, range_sources_at};

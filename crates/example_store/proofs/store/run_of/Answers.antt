@@ -1,6 +1,6 @@
 use Rattle.std.proofs.Common.{◌≡◌, sym, ◌∙◌, rules}
 use Rattle.std.specs.Arc.{arc_value}
-use Rattle.example_store.specs.Words.{run_label, tables_fault}
+use Rattle.logpurple.specs.Words.{run_label, tables_fault}
 use Rattle.example_store.proofs.Refusing.{passed_on, run_fault, run_list, shared_list}
 use Rattle.example_store.proofs.store.run_of.Goals as goal
 

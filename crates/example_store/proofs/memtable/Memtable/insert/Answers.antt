@@ -1,7 +1,5 @@
 use Rattle.std.proofs.Common.{sym, subst, ap, ◌∙◌, List}
-use Rattle.sst_entries.specs.Entry.{Entry}
-use Rattle.sst_entries.specs.Span.{front_length}
-use Rattle.sst_entries.specs.Strict.{IsStrict, is_before}
+use Rattle.logpurple.specs.Words.{Entry, IsStrict, front_length, is_before}
 use Rattle.example_store.specs.Recent.{IsPut}
 use Rattle.example_store.proofs.Places.{Older, is_put, put_in_order}
 use Rattle.example_store.proofs.memtable.Memtable.insert.Goals as goal

@@ -1,8 +1,8 @@
 use Rattle.std.proofs.Common.{◌≡◌, sym, ◌∙◌, ap, subst, List, true, false, arith, rules}
 use Rattle.std.specs.Prelude.{map, max}
 use Rattle.std.specs.Arc.{arc_value}
+use Rattle.logpurple.specs.Words.{OpenTable, RunsHoldLists, rules_by}
 use Rattle.example_store.specs.Story.{Holding, IsSound, holding}
-use Rattle.example_store.specs.Words.{OpenTable, RunsHoldLists, rules_by}
 use Rattle.example_store.proofs.Compacting.{low_compacted, sound_replaced, tells_compacted}
 use Rattle.example_store.proofs.store.Store.compact.Goals as goal
 

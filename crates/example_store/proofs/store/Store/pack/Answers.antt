@@ -1,11 +1,10 @@
 use Rattle.std.proofs.Common.{length, ◌≡◌, sym, ◌∙◌, ap, subst, List}
 use Rattle.std.specs.Prelude.{map}
 use Rattle.std.specs.Arc.{arc_value}
-use Rattle.lsm_ranges.specs.Packing.{IsLeastSize}
-use Rattle.lsm_runs.specs.RunParts.{range_of}
-use Rattle.lsm_runs.proofs.RunPoints.{runs_in_order}
+use Rattle.logpurple.specs.Words.{AreCompactable, IsLeastSize, OpenTable, RunsHoldLists}
+use Rattle.logpurple.specs.Words.{range_of}
+use Rattle.logpurple.proofs.Laws.{runs_in_order}
 use Rattle.example_store.specs.Story.{Holding, holding}
-use Rattle.example_store.specs.Words.{AreCompactable, OpenTable, RunsHoldLists}
 use Rattle.example_store.proofs.Compacting.{low_packed, sound_replaced, tells_packed}
 use Rattle.example_store.proofs.store.Store.pack.Goals as goal
 

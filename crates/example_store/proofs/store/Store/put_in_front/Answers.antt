@@ -1,8 +1,8 @@
 use Rattle.std.proofs.Common.{sym, ◌∙◌, ap, subst, List, ◌∷◌}
 use Rattle.std.specs.Prelude.{map}
 use Rattle.std.specs.Arc.{arc_value}
+use Rattle.logpurple.specs.Words.{Entry, HasList, IsStrict}
 use Rattle.example_store.specs.Story.{Holding, IsSound}
-use Rattle.example_store.specs.Words.{Entry, HasList, IsStrict}
 use Rattle.example_store.proofs.Stories.{sound_flushed, tells_flushed}
 use Rattle.example_store.proofs.store.Store.put_in_front.Goals as goal
 

@@ -1,9 +1,9 @@
 use Rattle.std.proofs.Common.{◌≡◌, sym, ◌∙◌, ap, subst, List, [], ◌∷◌, ◌++◌}
 use Rattle.std.specs.Prelude.{map}
 use Rattle.std.specs.Arc.{arc_value}
-use Rattle.lsm_runs.specs.RunLists.{single}
+use Rattle.logpurple.specs.Words.{Entry, IsStrict, OpenTable, RunsHoldLists, all_shown, newest}
+use Rattle.logpurple.specs.Words.{numbered_below, single, sort_entries, union_in, within}
 use Rattle.example_store.specs.Story.{Holding, IsSound}
-use Rattle.example_store.specs.Words.{Entry, IsStrict, OpenTable, RunsHoldLists, all_shown, newest, numbered_below, sort_entries, union_in, within}
 use Rattle.example_store.proofs.Ranges.{dealt_told, one_source, range_told}
 use Rattle.example_store.proofs.store.Store.range.Goals as goal
 

@@ -1,5 +1,5 @@
 use Rattle.std.proofs.Common.{sym, subst, true, false}
-use Rattle.example_store.specs.Words.{HaveAll, kept_in, rules_by, run_label}
+use Rattle.logpurple.specs.Words.{HaveAll, kept_in, rules_by, run_label}
 use Rattle.example_store.proofs.Compacting.{made_of}
 use Rattle.example_store.proofs.Refusing.{run_list}
 use Rattle.example_store.proofs.store.compact.compacted.Goals as goal
