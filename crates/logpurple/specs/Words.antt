@@ -1,28 +1,49 @@
 -- The words that contracts of these calls cite, so that a caller's contract asks for them in one
 -- place.
 pub use Rattle.sst_entries.specs.Entry.{Entry, entry}
-pub use Rattle.sst_entries.specs.Error.{Faults, FaultsFirst, Gives, is_memory, number_of}
-pub use Rattle.sst_entries.specs.Point.{point, within}
+pub use Rattle.sst_entries.specs.Error.{Faults, FaultsFirst, Gives, Refuses, is_memory, number_of}
+pub use Rattle.sst_entries.specs.Key.{same_key}
+pub use Rattle.sst_entries.specs.Point.{is_from, is_hit, is_to, read_place, within}
+unfoldable pub use Rattle.sst_entries.specs.Point.{point}
+pub use Rattle.sst_entries.specs.Span.{front_length}
 pub use Rattle.sst_entries.specs.Stream.{CanDeal, Deals, answer_stops, ok_results}
-pub use Rattle.sst_entries.specs.Strict.{IsStrict}
-pub use Rattle.lsm_merge.specs.Union.{newest}
+pub use Rattle.sst_entries.specs.Strict.{IsStrict, is_before, version_cmp}
+unfoldable pub use Rattle.sst_entries.specs.Strict.{IsStrictAfter}
+pub use Rattle.sst_entries.specs.declared.error.Error.{Error}
+pub use Rattle.sst_entries.specs.declared.error.Error.TheVariants.{KeyTooLong, OutOfMemory}
+pub use Rattle.sst_entries.specs.declared.error.Error.TheVariants.{SeqNoOverflow, ValueTooLong}
+pub use Rattle.sst_entries.specs.declared.value_type.ValueType.{ValueType}
+pub use Rattle.sst_entries.specs.declared.value_type.ValueType.TheVariants.{Tombstone, Value}
+pub use Rattle.lsm_ranges.specs.Packing.{AreInOrder, IsLeastSize}
 pub use Rattle.lsm_ranges.specs.Run.{IsInOrder}
+pub use Rattle.lsm_merge.specs.Union.{all_entries, newest, sort_entries}
 pub use Rattle.lsm_sorted.specs.Below.{numbered_below}
-pub use Rattle.lsm_sorted.specs.Compaction.{kept, unfiltered}
+pub use Rattle.lsm_sorted.specs.Compaction.{kept, unfiltered, zeroed}
+pub use Rattle.lsm_sorted.specs.Point.{seen, shown}
+pub use Rattle.lsm_sorted.specs.ReadLaw.{AllNewer, Distinct}
+pub use Rattle.lsm_sorted.specs.declared.compaction.Rules.{Rules}
+pub use Rattle.lsm_formats.specs.Chunks.{joined}
 pub use Rattle.lsm_formats.specs.Facts.{highest_seqno}
 pub use Rattle.lsm_formats.specs.Options.{default_options, label_of}
 pub use Rattle.lsm_formats.specs.Table.{IsTable}
+pub use Rattle.lsm_formats.specs.declared.label.Label.{Label}
 pub use Rattle.lsm_writers.specs.Tables.{AreTables}
 pub use Rattle.lsm_writers.specs.Writing.{IsTableOf, IsWritable}
 pub use Rattle.lsm_readers.specs.Answer.{lift}
 pub use Rattle.lsm_readers.specs.Stored.{BearsOut, StoresList}
+pub use Rattle.lsm_readers.specs.Table.{OpenTable}
 pub use Rattle.lsm_readers.specs.Verification.{bytes_read, steps_of, verifying}
 pub use Rattle.lsm_runs.specs.RunLists.{DealWithin, DealsList, HoldLists, HoldsList, RunsHoldLists}
+pub use Rattle.lsm_runs.specs.RunLists.{single}
 pub use Rattle.lsm_runs.specs.RunParts.{range_of}
-pub use Rattle.lsm_runs.specs.SeveralRuns.{runs_told, union_in}
+pub use Rattle.lsm_runs.specs.SeveralRuns.{leading_of, runs_told, union_in}
 pub use Rattle.lsm_compactions.specs.AnyRuns.{AreTablesBy, HasMade, WritesSome}
-pub use Rattle.lsm_compactions.specs.Chain.{FitsAsTables, IsRunOfList, tables_fault}
-pub use Rattle.lsm_compactions.specs.Compacted.{AreCompactable, AreWrittenBy, kept_in}
+pub use Rattle.lsm_compactions.specs.Chain.{AreCutOf, FitsAsTables, IsRunOfList, chain_fault}
+pub use Rattle.lsm_compactions.specs.Chain.{run_label, tables_fault}
+pub use Rattle.lsm_compactions.specs.Compacted.{AreCompactable, AreWrittenBy, kept_in, rules_by}
+pub use Rattle.lsm_compactions.specs.ListRuns.{HasList, HaveAll}
 pub use Rattle.lsm_compactions.specs.OpenedBy.{AreOpenedBy, HasRunBy, IsOpenedBy, IsRunBy}
 pub use Rattle.lsm_compactions.specs.OpenedBy.{default_opening, run_with_fault}
-pub use Rattle.lsm_compactions.specs.Written.{IsOpened, opening_fault}
+pub use Rattle.lsm_compactions.specs.Packed.{HoldUnion}
+pub use Rattle.lsm_compactions.specs.ReadsCompacted.{AreReplaced, all_shown, joined_in}
+pub use Rattle.lsm_compactions.specs.Written.{IsOpened, number_fault, opening_fault}

@@ -1,0 +1,152 @@
+-- What a range of a store shows is what its story says.
+use Rattle.std.proofs.Common.{◌≡◌, refl, sym, ◌∙◌, ap, subst, ℕ, ◌<◌, ◌≤◌, inl, inr, Bool, true}
+use Rattle.std.proofs.Common.{false, cond, List, [], ◌∷◌, ◌++◌, append-nil, filter, arith}
+use Rattle.std.specs.Prelude.{Option, Some, None, nat_lt, ◌&&◌, map, IfOk, Result, Ok, Err}
+use Rattle.std.specs.List.{AllByRecursion}
+use Rattle.std.specs.declared.ops.Bound.{Bound}
+use Rattle.std.proofs.lemmas.Bool.{cases_Bool, lt-ltb, ltb-true}
+use Rattle.logpurple.specs.Words.{DealWithin, DealsList, Entry, Error, IsStrict, all_shown}
+use Rattle.logpurple.specs.Words.{is_from, is_hit, is_to, leading_of, newest, numbered_below}
+use Rattle.logpurple.specs.Words.{point, same_key, seen, shown, single, sort_entries, union_in}
+use Rattle.logpurple.specs.Words.{within}
+use Rattle.logpurple.proofs.Laws.{all_inserted, and_false, as_pairs, ascends_in_order}
+use Rattle.logpurple.proofs.Laws.{ascends_of, filter_ascends, hit_key, leading_sorted}
+use Rattle.logpurple.proofs.Laws.{leads_older, ranges_by_points, union_up}
+use Rattle.example_store.specs.Story.{Holding, IsSound, IsStory, Tells}
+use Rattle.example_store.proofs.Places.{hit_first, hit_later}
+use Rattle.example_store.proofs.Stories.{low_lists, read_more, story_later}
+
+-- ---- entries numbered below a bound
+
+module _ (below : ℕ) where
+  -- a read at the bound or above sees in them what a read at the bound sees in all
+  read_below : (key : List ℕ) (bound : ℕ) → below ≤ bound → (es : List Entry)
+      → point (numbered_below below es) key bound ≡ point es key below
+  unfolding point
+  read_below key bound le [] = refl
+  read_below key bound le (e ∷ es) =
+      let rest = read_below key bound le es in
+      elim (cases_Bool (nat_lt e.seqno below)) [
+        | inl low ↦
+            let less : e.seqno < below = ltb-true e.seqno below low in
+            let high : nat_lt e.seqno bound ≡ true = lt-ltb e.seqno bound (omega (arith, less, le))
+            in
+            rw (low, high) (ap (λ (o : Option Entry).
+            cond (same_key e.user_key key && true) (Some e) o) rest)
+        | inr high ↦
+            let miss : (same_key e.user_key key && false) ≡ false =
+            and_false (same_key e.user_key key) false refl in
+            rw (high, miss) rest
+      ]
+
+  -- leaving out by two tests may be exchanged
+  exchanged : (p q : Entry → Bool) (es : List Entry)
+      → filter p (filter q es) ≡ filter q (filter p es)
+  exchanged p q [] = refl
+  exchanged p q (e ∷ es) =
+      let rest = exchanged p q es in
+      elim (cases_Bool (p e)) [
+        | inl first ↦ elim (cases_Bool (q e)) [
+          | inl second ↦ rw (second, first, second) (ap (λ (xs : List Entry). e ∷ xs) rest)
+          | inr other ↦ rw (other, first, other) rest
+        ]
+        | inr none ↦ elim (cases_Bool (q e)) [
+          | inl second ↦ rw (second, none) rest
+          | inr other ↦ rw (other, none) rest
+        ]
+      ]
+
+  module _ (low high : Bound (List ℕ)) where
+    below_within : (es : List Entry)
+        → numbered_below below (within low high es) ≡ within low high (numbered_below below es)
+    below_within es = exchanged (λ (e : Entry). nat_lt e.seqno below)
+        (λ (e : Entry). is_from low e.user_key && is_to high e.user_key) es
+
+    -- what is read alike is shown alike by ranges
+    pub shown_alike : (oldest : ℕ) → oldest ≤ below → (lists : List (List (List Entry)))
+        (ws : List Entry)
+        → ((key : List ℕ) (bound : ℕ) → oldest ≤ bound
+        → seen (union_in lists) key bound ≡ seen (sort_entries ws) key bound)
+        → all_shown (newest (numbered_below below (within low high (union_in lists))))
+        ≡ all_shown (newest (numbered_below below (within low high (sort_entries ws))))
+    shown_alike oldest kept lists ws same =
+        let xs = union_in lists in
+        let ys = sort_entries ws in
+        let p = λ (e : Entry). nat_lt e.seqno below in
+        ap (λ (es : List Entry). all_shown (newest es)) (below_within xs)
+        ∙ ranges_by_points low high (numbered_below below xs) (numbered_below below ys)
+        (filter_ascends p xs (union_up lists)) (filter_ascends p ys (ascends_in_order ws)) below
+        (λ key bound le. ap shown (read_below key bound le xs) ∙ same key below kept
+        ∙ sym (ap shown (read_below key bound le ys)))
+        ∙ sym (ap (λ (es : List Entry). all_shown (newest es)) (below_within ys))
+
+-- ---- a story, sorted
+
+all_in_order : (P : Entry → Type 0) (es : List Entry) → AllByRecursion P es
+    → AllByRecursion P (sort_entries es)
+all_in_order P [] h = tt
+all_in_order P (e ∷ es) h = all_inserted P e (sort_entries es) h.0 (all_in_order P es h.1)
+
+pub story_below : (n : ℕ) (ws : List Entry) → IsStory n ws
+    → AllByRecursion (λ (e : Entry). e.seqno < n) ws
+story_below n [] h = tt
+story_below n (e ∷ ws) h =
+    let less = h.0 in
+    (less, story_below n ws (story_later e.seqno n ws (omega (arith, less)) h.1))
+
+module _ (key : List ℕ) (bound : ℕ) where
+  nothing : point [] key bound ≡ None
+  unfolding point
+  nothing = refl
+
+  -- reads of it sorted are reads of it
+  pub sorted_story : (n : ℕ) (ws : List Entry) → IsStory n ws
+      → point (sort_entries ws) key bound ≡ point ws key bound
+  sorted_story n [] h = refl
+  sorted_story n (e ∷ ws) h =
+      let rest = point (sort_entries ws) key bound in
+      let more = sorted_story e.seqno ws h.1 in
+      let older = all_in_order (λ (x : Entry). x.seqno < e.seqno) ws
+      (story_below e.seqno ws h.1) in
+      leading_sorted key bound (e ∷ []) ws (tt, tt)
+      ∙ elim (cases_Bool (is_hit key bound e)) [
+        | inl hit ↦
+            ap (λ (o : Option Entry). leading_of o rest) (hit_first e key bound [] hit)
+            ∙ leads_older key bound e (sort_entries ws) (hit_key key bound e hit) older
+            ∙ sym (hit_first e key bound ws hit)
+        | inr miss ↦
+            ap (λ (o : Option Entry). leading_of o rest)
+            (hit_later e key bound [] miss ∙ nothing)
+            ∙ more ∙ sym (hit_later e key bound ws miss)
+      ]
+
+-- ---- ranges of a store
+
+pub range_told : (s : Holding) (ws : List Entry) (low high : Bound (List ℕ)) (below : ℕ)
+    → IsSound s → IsStrict s.recent → (told : Tells s ws) → s.oldest ≤ below
+    → all_shown (newest (numbered_below below (within low high
+    (union_in (map single (s.recent ∷ []) ++ told.lists)))))
+    ≡ all_shown (newest (numbered_below below (within low high (sort_entries ws))))
+range_told s ws low high below sound strict told kept =
+    shown_alike below low high s.oldest kept ((s.recent ∷ []) ∷ told.lists) ws (λ key bound reads.
+    ap shown (read_more s.recent (s.recent ∷ []) (append-nil s.recent) told.lists s.flushed s.next
+    sound.recent (low_lists s ws sound told) strict key bound)
+    ∙ told.same key bound reads
+    ∙ sym (ap shown (sorted_story key bound s.next ws told.story)))
+
+-- a stream that deals a list of which this holds
+pub dealt_told : {S : Type 0} (front back : S → Option (Result Entry Error) → S → Type 0)
+    (Q : List Entry → Type 0) (r : Result S Error) (es : List Entry)
+    → IfOk r (DealsList front back es) → Q es
+    → IfOk r (λ s. (xs : List Entry) × DealsList front back xs s × Q xs)
+dealt_told front back Q (Ok s) es deals holds = (es, deals, holds)
+dealt_told front back Q (Err e) es deals holds = tt
+
+-- one source, of a list in order
+pub one_source : {S : Type 0} (front back : S → Option (Result Entry Error) → S → Type 0)
+    (low high : Bound (List ℕ)) (sources : List S) (s : S) (es : List Entry) → sources ≡ s ∷ []
+    → IsStrict es → DealsList front back (within low high es) s
+    → DealWithin front back low high sources (es ∷ [])
+one_source {S} front back low high sources s es is strict deals =
+    subst (λ (ss : List S). DealWithin front back low high ss (es ∷ [])) (sym is)
+    (record { ascend = (ascends_of es (as_pairs es strict), tt); deal = (deals, tt) })

@@ -1,0 +1,57 @@
+-- What calls refuse, told by those that pass it on.
+use Rattle.std.proofs.Common.{◌≡◌, refl, sym, ◌∙◌, ap, subst, ℕ, ◌+◌, ◌-◌, ◌^◌}
+use Rattle.std.proofs.Common.{false, List, [], arith, ltb, le-ltb}
+use Rattle.std.specs.Prelude.{Option, Some, None, Result, Ok, Err, IfErr, IfSome, IsErrAnd}
+use Rattle.std.specs.Prelude.{MatchOption}
+use Rattle.std.specs.Option.{option_map, option_or}
+use Rattle.logpurple.specs.Words.{AreCutOf, Entry, Error, HasList, IsRunOfList, IsWritable}
+use Rattle.logpurple.specs.Words.{Label, OpenTable, chain_fault, highest_seqno, is_memory}
+use Rattle.logpurple.specs.Words.{number_fault, tables_fault}
+use Rattle.logpurple.proofs.Laws.{of_cut_unlifted, small_numbers}
+
+-- a refusal that is passed on, memory aside
+pub passed_on : {X : Type 0} (r : Result X Error) (e : Error) (told : Option Error)
+    → IsErrAnd r (λ y. y ≡ e) → (is_memory e ≡ false → told ≡ Some e)
+    → IfErr r (λ y. is_memory y ≡ false → told ≡ Some y)
+passed_on (Ok x) e told is fault = tt
+passed_on (Err y) e told is fault =
+    subst (λ (z : Error). is_memory z ≡ false → told ≡ Some z) (sym is) fault
+
+number_fits : (es : List Entry) → IsWritable es → number_fault es 0 ≡ None
+number_fits es p =
+    let low : ltb (2 ^ 64 - 1) (highest_seqno es + 0) ≡ false =
+    le-ltb _ _ (omega (arith, small_numbers es p.numbered)) in
+    rw low refl
+
+or_none : (a : Option Error) → option_or a None ≡ a
+or_none None = refl
+or_none (Some e) = refl
+
+-- with no global number, what a run refuses is what writing its tables refuses
+pub run_fault : (ids : Option ℕ) (target moment : ℕ) (es : List Entry) → moment ≡ 0
+    → IsWritable es → chain_fault ids target moment es 0 ≡ tables_fault ids target 0 es
+run_fault ids target moment es now p =
+    ap (option_or (tables_fault ids target moment es)) (number_fits es p)
+    ∙ or_none (tables_fault ids target moment es)
+    ∙ ap (λ (n : ℕ). tables_fault ids target n es) now
+
+-- a run that was written of a list
+pub run_list : (label : Label) (target : ℕ) (es : List Entry) (r : Option (List OpenTable))
+    → MatchOption r (es ≡ []) (λ run. IsRunOfList es 0 run)
+    → IfSome r (λ run. AreCutOf label target es 0 run)
+    → MatchOption r (es ≡ []) (λ run. HasList es run)
+run_list label target es None run cut = run
+run_list label target es (Some x) run cut = of_cut_unlifted label target es x run cut
+
+pub shared_list : {X : Type 0} (f : X → List OpenTable) (es : List Entry) (o : Option X)
+    (r : Option (List OpenTable)) → option_map f o ≡ r
+    → MatchOption r (es ≡ []) (λ run. HasList es run)
+    → MatchOption o (es ≡ []) (λ x. HasList es (f x))
+shared_list {X} f es o r same told =
+    own o (subst (λ (p : Option (List OpenTable)). MatchOption p (es ≡ []) (λ run. HasList es run))
+    (sym same) told)
+  where
+    own : (o : Option X) → MatchOption (option_map f o) (es ≡ []) (λ run. HasList es run)
+        → MatchOption o (es ≡ []) (λ x. HasList es (f x))
+    own None h = h
+    own (Some x) h = h

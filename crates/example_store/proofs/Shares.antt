@@ -1,0 +1,68 @@
+-- Lists that are shared one by one.
+use Rattle.std.proofs.Common.{◌≡◌, refl, sym, ◌∙◌, ap, subst, ℕ, ◌+◌, ◌<◌, true, false, List, []}
+use Rattle.std.proofs.Common.{◌∷◌, ◌++◌, append-nil, append_assoc, get_or, length, take}
+use Rattle.std.specs.Prelude.{◌&&◌, map, Result, Ok}
+use Rattle.std.specs.Vec.Iter.{into_iter_items, into_iter_steps, into_iter_steps_back}
+use Rattle.std.specs.declared.ops.Bound.{Bound}
+use Rattle.std.specs.declared.vec.IntoIter.{IntoIter}
+use Rattle.std.proofs.lemmas.List.{map-append, take_more}
+use Rattle.std.proofs.lemmas.List.Elements.{filter-append}
+use Rattle.logpurple.specs.Words.{Deals, DealsList, Entry, Error, answer_stops, is_from, is_to}
+use Rattle.logpurple.specs.Words.{ok_results, within}
+use Rattle.logpurple.proofs.Laws.{map_append, vec_deals}
+
+pub shared_more : {X Y : Type 0} (f : X → Y) (shared : List X) (x : X) (y : Y)
+    (before rest all : List Y) → f x ≡ y → before ≡ y ∷ rest → map f shared ++ before ≡ all
+    → map f (shared ++ x ∷ []) ++ rest ≡ all
+shared_more {X} {Y} f shared x y before rest all is next so_far =
+    ap (λ (ys : List Y). ys ++ rest) (map-append f shared (x ∷ []))
+    ∙ append_assoc (map f shared) (f x ∷ []) rest
+    ∙ ap (λ (z : Y). map f shared ++ z ∷ rest) is
+    ∙ ap (λ (ys : List Y). map f shared ++ ys) (sym next)
+    ∙ so_far
+
+pub shared_all : {X Y : Type 0} (f : X → Y) (shared : List X) (rest all : List Y) → rest ≡ []
+    → map f shared ++ rest ≡ all → map f shared ≡ all
+shared_all {X} {Y} f shared rest all none so_far = sym (append-nil (map f shared))
+    ∙ ap (λ (ys : List Y). map f shared ++ ys) (sym none) ∙ so_far
+
+-- ---- a vector's iterator over shares
+
+module _ {Z : Type 0} where
+  pub deals_items : (s : IntoIter (Result Entry Error) Z) (es : List Entry)
+      → into_iter_items s ≡ ok_results es
+      → DealsList into_iter_steps into_iter_steps_back es s
+  deals_items s es is stops memory =
+      subst (λ (rs : List (Result Entry Error)). Deals (answer_stops stops) into_iter_steps
+      into_iter_steps_back s rs) is (vec_deals (answer_stops stops) s)
+
+-- ---- entries within bounds, one more
+
+module _ (low high : Bound (List ℕ)) (items : List Entry) (i : ℕ) (item : Entry)
+    (less : i < length items) (is : item ≡ get_or items i item) where
+  next_is : take (i + 1) items ≡ take i items ++ item ∷ []
+  next_is = take_more items i item less
+      ∙ ap (λ (e : Entry). take i items ++ e ∷ []) (sym is)
+
+  pub one_within : (found : List (Result Entry Error))
+      → found ≡ ok_results (within low high (take i items))
+      → (is_from low item.user_key && is_to high item.user_key) ≡ true
+      → found ++ Ok item ∷ [] ≡ ok_results (within low high (take (i + 1) items))
+  one_within found so_far inside =
+      ap (λ (rs : List (Result Entry Error)). rs ++ Ok item ∷ []) so_far
+      ∙ sym (map_append (within low high (take i items)) (item ∷ []))
+      ∙ ap ok_results (sym (ap (within low high) next_is
+      ∙ filter-append (λ (e : Entry). is_from low e.user_key && is_to high e.user_key)
+      (take i items) (item ∷ [])
+      ∙ ap (λ (es : List Entry). within low high (take i items) ++ es) (rw inside refl)))
+
+  pub none_within : (found : List (Result Entry Error))
+      → found ≡ ok_results (within low high (take i items))
+      → (is_from low item.user_key && is_to high item.user_key) ≡ false
+      → found ≡ ok_results (within low high (take (i + 1) items))
+  none_within found so_far outside =
+      so_far ∙ ap ok_results (sym (ap (within low high) next_is
+      ∙ filter-append (λ (e : Entry). is_from low e.user_key && is_to high e.user_key)
+      (take i items) (item ∷ [])
+      ∙ ap (λ (es : List Entry). within low high (take i items) ++ es) (rw outside refl)
+      ∙ append-nil (within low high (take i items))))

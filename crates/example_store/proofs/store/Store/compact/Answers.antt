@@ -1,0 +1,37 @@
+use Rattle.std.proofs.Common.{◌≡◌, sym, ◌∙◌, ap, subst, List, true, false, arith, rules}
+use Rattle.std.specs.Prelude.{map, max}
+use Rattle.std.specs.Arc.{arc_value}
+use Rattle.logpurple.specs.Words.{OpenTable, RunsHoldLists, rules_by}
+use Rattle.example_store.specs.Story.{Holding, IsSound, holding}
+use Rattle.example_store.proofs.Compacting.{low_compacted, sound_replaced, tells_compacted}
+use Rattle.example_store.proofs.store.Store.compact.Goals as goal
+
+pub invariant_of-self : goal.invariant_of-self
+invariant_of-self g c =
+    let i = c.self.inside in
+    let own = holding i.memtable (map arc_value i.runs.items) i.ids i.target i.next i.flushed i.oldest in
+    let able = c.self.invariant.runs.able in
+    let rules_are = rules_by c.args.watermark true false in
+    let hold = subst (λ (rs : List (List OpenTable)). RunsHoldLists rs able.lists) (ap (map arc_value) (sym c.deref.ensures.value)) able.hold in
+    sound_replaced i.memtable (map arc_value i.runs.items) (map arc_value c.in_ok-runs.runs.items) i.ids c.in_ok-runs.ids i.target i.next i.flushed i.oldest c.max-self-inside.result c.self.invariant
+    (low_compacted own rules_are (map arc_value c.in_ok-runs.runs.items) c.self.invariant (c.in_ok-runs.ensures.kept able.lists hold) c.in_ok-runs.ensures.able)
+
+pub returns-clause-story : goal.returns-clause-story
+returns-clause-story g c ws told =
+    let is = c.self.view_is in
+    let s = c.args.self.now in
+    let same : map arc_value c.deref.result.now ≡ s.runs = ap (map arc_value) c.deref.ensures.value ∙ ap (λ (h : Holding). h.runs) is in
+    let hold = subst (λ (rs : List (List OpenTable)). RunsHoldLists rs told.lists) (sym same) told.hold in
+    let highest : c.max-self-inside.result ≡ max c.self.inside.oldest c.args.watermark = search rules in
+    let oldest = ap (λ (h : Holding). h.oldest) is in
+    tells_compacted s _ ws (rules_by c.args.watermark true false) (subst IsSound is c.self.invariant) told
+    (c.in_ok-runs.ensures.kept told.lists hold)
+    (ap (λ (h : Holding). h.recent) is)
+    (ap (λ (h : Holding). h.next) is)
+    (omega (arith, highest, oldest))
+    (omega (arith, highest))
+
+pub returns-clause-made : goal.returns-clause-made
+returns-clause-made g c lists hold =
+    let same : map arc_value c.deref.result.now ≡ c.args.self.now.runs = ap (map arc_value) c.deref.ensures.value ∙ ap (λ (h : Holding). h.runs) c.self.view_is in
+    c.in_ok-runs.ensures.kept lists (subst (λ (rs : List (List OpenTable)). RunsHoldLists rs lists) (sym same) hold)

@@ -1,0 +1,39 @@
+use Rattle.std.proofs.Common.{length, ◌≡◌, sym, ◌∙◌, ap, subst, List}
+use Rattle.std.specs.Prelude.{map}
+use Rattle.std.specs.Arc.{arc_value}
+use Rattle.logpurple.specs.Words.{AreCompactable, IsLeastSize, OpenTable, RunsHoldLists}
+use Rattle.logpurple.specs.Words.{range_of}
+use Rattle.logpurple.proofs.Laws.{runs_in_order}
+use Rattle.example_store.specs.Story.{Holding, holding}
+use Rattle.example_store.proofs.Compacting.{low_packed, sound_replaced, tells_packed}
+use Rattle.example_store.proofs.store.Store.pack.Goals as goal
+
+pub invariant_of-self : goal.invariant_of-self
+invariant_of-self g c =
+    let i = c.self.inside in
+    let own = holding i.memtable (map arc_value i.runs.items) i.ids i.target i.next i.flushed i.oldest in
+    let able = c.self.invariant.runs.able in
+    let given = ap (map arc_value) (sym c.deref.ensures.value) in
+    let hold = subst (λ (rs : List (List OpenTable)). RunsHoldLists rs able.lists) given able.hold in
+    sound_replaced i.memtable (map arc_value i.runs.items) (map arc_value c.in_ok-packed.packed.items) i.ids i.ids i.target i.next i.flushed i.oldest i.oldest c.self.invariant
+    (low_packed own (map arc_value c.in_ok-packed.packed.items) c.self.invariant (c.in_ok-packed.ensures.list able.lists hold) (c.in_ok-packed.ensures.able (subst AreCompactable given able)))
+
+pub returns-clause-story : goal.returns-clause-story
+returns-clause-story g c ws told =
+    let is = c.self.view_is in
+    let s = c.args.self.now in
+    let same : map arc_value c.deref.result.now ≡ s.runs = ap (map arc_value) c.deref.ensures.value ∙ ap (λ (h : Holding). h.runs) is in
+    let hold = subst (λ (rs : List (List OpenTable)). RunsHoldLists rs told.lists) (sym same) told.hold in
+    tells_packed s _ ws told (c.in_ok-packed.ensures.list told.lists hold)
+    (ap (λ (h : Holding). h.recent) is)
+    (ap (λ (h : Holding). h.next) is)
+    (ap (λ (h : Holding). h.oldest) is)
+
+pub returns-clause-least : goal.returns-clause-least
+returns-clause-least g c =
+    let same : map arc_value c.deref.result.now ≡ c.args.self.now.runs = ap (map arc_value) c.deref.ensures.value ∙ ap (λ (h : Holding). h.runs) c.self.view_is in
+    let able = c.self.invariant.runs.able in
+    let hold = subst (λ (rs : List (List OpenTable)). RunsHoldLists rs able.lists) (ap (map arc_value) (sym c.deref.ensures.value)) able.hold in
+    let packed = c.in_ok-packed.packed.items in
+    subst (λ (rs : List (List OpenTable)). IsLeastSize range_of rs (length (map arc_value packed))) same
+    (c.in_ok-packed.ensures.least (runs_in_order (map arc_value c.deref.result.now) able.lists hold))

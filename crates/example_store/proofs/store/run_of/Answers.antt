@@ -1,0 +1,18 @@
+use Rattle.std.proofs.Common.{◌≡◌, sym, ◌∙◌, rules}
+use Rattle.std.specs.Arc.{arc_value}
+use Rattle.logpurple.specs.Words.{run_label, tables_fault}
+use Rattle.example_store.proofs.Refusing.{passed_on, run_fault, run_list, shared_list}
+use Rattle.example_store.proofs.store.run_of.Goals as goal
+
+pub returns-in_err-run-clause-refused : goal.returns-in_err-run-clause-refused
+returns-in_err-run-clause-refused g c =
+    let moment : c.from.result ≡ 0 = search rules in
+    let es = c.args.items.items in
+    passed_on c.from_residual-in_err-run.result c.in_err-run.field-0.0 (tables_fault c.args.ids c.args.target 0 es) c.from_residual-in_err-run.ensures.1
+    (λ fine. sym (run_fault c.args.ids c.args.target c.from.result es moment c.requires) ∙ c.in_err-run.ensures.refused fine)
+
+pub returns-clause-run : goal.returns-clause-run
+returns-clause-run g c =
+    let es = c.args.items.items in
+    shared_list arc_value es c.in_ok-share_run.field-0 c.in_ok-run.run' c.in_ok-share_run.ensures.ok
+    (run_list (run_label c.args.ids c.args.target c.from.result) c.args.target es c.in_ok-run.run' c.in_ok-run.ensures.run c.in_ok-run.ensures.cut)

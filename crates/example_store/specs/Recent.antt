@@ -1,0 +1,11 @@
+-- Entries in order, and one that is put between them.
+use Rattle.std.specs.Prelude.{◌≡◌, ℕ, List, ◌∷◌, ◌++◌}
+use Rattle.logpurple.specs.Words.{Entry, point}
+
+-- an entry was put between those of a list, and each read finds it before all of them
+pub record IsPut (e : Entry) (old new : List Entry) : Type 0 where
+  pub front : List Entry
+  pub behind : List Entry
+  pub old_is : old ≡ front ++ behind
+  pub new_is : new ≡ front ++ e ∷ behind
+  pub reads : (key : List ℕ) (bound : ℕ) → point new key bound ≡ point (e ∷ old) key bound

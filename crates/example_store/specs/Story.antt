@@ -1,0 +1,79 @@
+-- What a store has, and the story of its writes that it tells.
+use Rattle.std.specs.Prelude.{◌≡◌, ℕ, ◌-◌, ◌^◌, ◌<◌, ◌≤◌, nat_le, nat_lt, List, [], ◌∷◌, ◌++◌}
+use Rattle.std.specs.Prelude.{if◌then◌else◌, length, None, Option, Some}
+use Rattle.std.specs.List.{AllByRecursion}
+use Rattle.std.specs.Option.{option_map}
+use Rattle.logpurple.specs.Words.{AreCompactable, Entry, Error, KeyTooLong, OpenTable}
+use Rattle.logpurple.specs.Words.{RunsHoldLists, SeqNoOverflow, ValueTooLong, seen, union_in}
+
+-- what a store has: the entries that are in no table yet, the tables of its runs, the counter of
+-- their ids and how large each is to be; the number of the next write, the number from which on
+-- those entries are numbered, and the oldest snapshot that it keeps
+pub record Holding : Type 0 where
+  pub recent : List Entry
+  pub runs : List (List OpenTable)
+  pub ids : Option ℕ
+  pub target : ℕ
+  pub next : ℕ
+  pub flushed : ℕ
+  pub oldest : ℕ
+
+-- it of its parts
+abbrev pub holding : List Entry → List (List OpenTable) → Option ℕ → ℕ → ℕ → ℕ → ℕ → Holding
+holding recent runs ids target next flushed oldest = record {
+  recent = recent;
+  runs = runs;
+  ids = ids;
+  target = target;
+  next = next;
+  flushed = flushed;
+  oldest = oldest;
+}
+
+-- a story is the list of all writes, the newest first: each has a number below that of the one
+-- before it, and the first a number below the next
+abbrev pub IsStory : ℕ → List Entry → Type 0
+IsStory next [] = Unit {0}
+IsStory next (e ∷ ws) = (e.seqno < next) × IsStory e.seqno ws
+
+-- the runs may be compacted, and all that they have is numbered below a bound
+pub record HoldBelow (bound : ℕ) (runs : List (List OpenTable)) : Type 0 where
+  pub able : AreCompactable runs
+  pub low : AllByRecursion (λ (e : Entry). e.seqno < bound) (union_in able.lists)
+
+-- entries are numbered from one number on, and below another
+abbrev pub AreNumbered : ℕ → ℕ → List Entry → Type 0
+AreNumbered from to es = AllByRecursion (λ (e : Entry). (from ≤ e.seqno) × (e.seqno < to)) es
+
+-- what is so of every store: what is in a table is older than what is not
+pub record IsSound (s : Holding) : Type 0 where
+  pub recent : AreNumbered s.flushed s.next s.recent
+  pub runs : HoldBelow s.flushed s.runs
+  pub order : s.flushed ≤ s.next
+  pub room : s.next < 2 ^ 64 - 1
+
+-- a store tells a story: of each key a reader sees in what the store has, at each snapshot that it
+-- keeps, what the story says
+pub record Tells (s : Holding) (ws : List Entry) : Type 0 where
+  pub story : IsStory s.next ws
+  pub lists : List (List (List Entry))
+  pub hold : RunsHoldLists s.runs lists
+  pub same : (key : List ℕ) (bound : ℕ) → s.oldest ≤ bound
+      → seen (s.recent ++ union_in lists) key bound ≡ seen ws key bound
+
+-- the value of a key at a snapshot, none where it was deleted last, or never written
+abbrev pub value_in : List Entry → List ℕ → ℕ → Option (List ℕ)
+value_in ws key bound = option_map (λ v. v.1) (seen ws key bound)
+
+-- what is wrong with a write under a number: its key or its value is longer than a table takes, or
+-- no number is left behind it
+abbrev pub write_fault : ℕ → List ℕ → List ℕ → Option Error
+write_fault next key value =
+    if nat_lt 65535 (length key) then Some KeyTooLong
+    else (if nat_lt (2 ^ 32 - 1) (length value) then Some ValueTooLong
+    else (if nat_le (2 ^ 64 - 2) next then Some SeqNoOverflow else None))
+
+-- a list of at most one
+abbrev pub option_list : {X : Type 0} → Option X → List X
+option_list None = []
+option_list (Some x) = x ∷ []

@@ -1,0 +1,198 @@
+//! The entries that are in no table yet.
+ghost use Rattle.std.specs.Prelude.{◌≡◌, ◌<◌, ◌≤◌, ◌&&◌, [], length, not, IfErr, IfOk, List, Ok};
+ghost use Rattle.std.specs.Prelude.{None, OnErr, OnOk, Option};
+ghost use Rattle.std.specs.Iterator.{IsFinite};
+ghost use Rattle.std.specs.List.{AllByRecursion};
+ghost use Rattle.example_store.specs.Recent.{IsPut};
+ghost use Rattle.logpurple.specs.Words.{CanDeal, DealsList, Entry, Gives, IsStrict};
+ghost use Rattle.logpurple.specs.Words.{OutOfMemory, front_length, is_before, is_from, is_to};
+ghost use Rattle.logpurple.specs.Words.{ok_results, point, read_place, within};
+
+use logpurple::{Error, InternalValue, IterItem, SeqNo, UserKey};
+use std::alloc::{Allocator, Global};
+use std::marker::Model;
+use std::ops::Bound;
+use std::vec::IntoIter;
+
+/// The newest entries of a store in order: keys upward, and the newest of a key first. A contract
+/// sees the list.
+#[derive(Drop)]
+pub struct Memtable<A: Allocator = Global> {
+    items: Vec<InternalValue<A>, A>,
+}
+
+impl<A: Allocator> Model for Memtable<A> {
+    ghost use Rattle.std.specs.Prelude.{List};
+    ghost use Rattle.logpurple.specs.Words.{Entry, IsStrict};
+
+    ghost Value = { List Entry };
+
+    ghost view = { λ m. m.items.items };
+
+    ghost invariant = { λ m. IsStrict m.items.items };
+}
+
+impl<A: Allocator + Clone> Memtable<A> {
+    /// No entries.
+    pub fn new(alloc: A) -> Memtable<A>
+        ensures { result ≡ [] }
+    {
+        Memtable {
+            items: Vec::new(alloc),
+        }
+    }
+
+    /// How many entries there are.
+    pub fn len(&self) -> usize
+        ensures { result ≡ length self.now }
+    {
+        self.items.len()
+    }
+
+    /// Adds an entry that is numbered above all others. Refused for want of memory alone; nothing
+    /// is added then.
+    pub fn insert(&mut self, item: InternalValue<A>) -> Result<(), Error>
+        requires newest { AllByRecursion (λ (e : Entry). e.seqno < item.seqno) self.old }
+        // It stands where the order has it, and a read finds it before what was there.
+        ensures put { OnOk result (IsPut item self.old self.new) }
+        ensures err { OnErr result (self.new ≡ self.old) }
+        ensures memory { IfErr result (λ e. e ≡ OutOfMemory) }
+    {
+        let place = count_before(&self.items, &item);
+        self.items.insert(place, item)?;
+        Ok(())
+    }
+
+    /// The first entry of a key numbered below `seqno`. Refused for want of memory alone.
+    pub fn get(&self, key: &[u8], seqno: SeqNo) -> Result<Option<InternalValue<A>>, Error>
+        ensures { Gives (λ (x : Option Entry). x) result (Ok (point self.now key.now seqno)) }
+    {
+        let place = count_up_to(&self.items, key, seqno);
+        let Some(item) = self.items.get(place) else {
+            return Ok(None);
+        };
+        if !item.key.user_key.equals(key) {
+            return Ok(None);
+        }
+        Ok(Some(item.clone()?))
+    }
+
+    /// The entries, shared: no bytes are copied. Refused for want of memory alone.
+    pub fn share(&self, alloc: A) -> Result<Vec<InternalValue<A>, A>, Error>
+        ensures items { IfOk result (λ shared. shared.items ≡ self.now) }
+        ensures strict { IsStrict self.now }
+        ensures memory { IfErr result (λ e. e ≡ OutOfMemory) }
+    {
+        share_items(alloc, &self.items)
+    }
+
+    /// The entries within two bounds, shared, in order, from both ends. Refused for want of memory
+    /// alone.
+    pub fn within(
+        &self,
+        alloc: A,
+        bounds: &(Bound<UserKey<A>>, Bound<UserKey<A>>),
+    ) -> Result<IntoIter<IterItem<A>, A>, Error>
+        ensures list { let gives = ⟦<IntoIter<IterItem<A>, A> as Iterator>⟧.next_gives in
+            let back_gives = ⟦<IntoIter<IterItem<A>, A> as DoubleEndedIterator>⟧.next_back_gives in
+            IfOk result (DealsList gives back_gives
+            (within bounds.now.0 bounds.now.1 self.now)) }
+        ensures strict { IsStrict self.now }
+        // Both ends may be asked, and it ends.
+        ensures can { IfOk result (CanDeal
+            ⟦<IntoIter<IterItem<A>, A> as Iterator>⟧.next_gives
+            ⟦<IntoIter<IterItem<A>, A> as DoubleEndedIterator>⟧.next_back_gives
+            ⟦<IntoIter<IterItem<A>, A> as Iterator>⟧.can_next
+            ⟦<IntoIter<IterItem<A>, A> as DoubleEndedIterator>⟧.can_next_back) }
+        ensures ends { IfOk result (λ s.
+            IsFinite (⟦<IntoIter<IterItem<A>, A> as Iterator>⟧.remaining s)) }
+        ensures memory { IfErr result (λ e. e ≡ OutOfMemory) }
+    {
+        let found = items_within(alloc, &self.items, bounds)?;
+        Ok(found.into_iter())
+    }
+}
+
+// How many entries of a list in order come before an entry.
+fn count_before<A: Allocator>(items: &[InternalValue<A>], item: &InternalValue<A>) -> usize
+    ensures exact { IsStrict items.now →
+        result ≡ front_length (λ e. is_before e item.now) items.now }
+    ensures within { result ≤ length items.now }
+{
+    items.partition_point(|other| item.may_follow(Some(other)))
+}
+
+// How many entries of a list in order do not come after the place of a key and a number.
+fn count_up_to<A: Allocator>(items: &[InternalValue<A>], key: &[u8], seqno: SeqNo) -> usize
+    ensures exact { IsStrict items.now →
+        result ≡ front_length (λ e. not (is_before (read_place key.now seqno) e)) items.now }
+    ensures within { result ≤ length items.now }
+{
+    items.partition_point(|item| {
+        let found = &item.key;
+        !key.cmp(found.user_key.as_slice())
+            .then(found.seqno.cmp(&seqno))
+            .is_lt()
+    })
+}
+
+// Shares of some entries.
+fn share_items<A: Allocator>(
+    alloc: A,
+    items: &[InternalValue<A>],
+) -> Result<Vec<InternalValue<A>, A>, Error>
+    ensures items { IfOk result (λ shared. shared.items ≡ items.now) }
+    ensures memory { IfErr result (λ e. e ≡ OutOfMemory) }
+{
+    let mut shared = Vec::new(alloc);
+    for item in items {
+        shared.push(item.clone()?)?;
+    }
+    Ok(shared)
+}
+
+// Shares of the entries whose keys lie within two bounds.
+fn items_within<A: Allocator>(
+    alloc: A,
+    items: &[InternalValue<A>],
+    bounds: &(Bound<UserKey<A>>, Bound<UserKey<A>>),
+) -> Result<Vec<IterItem<A>, A>, Error>
+    ensures items { IfOk result (λ found.
+        found.items ≡ ok_results (within bounds.now.0 bounds.now.1 items.now)) }
+    ensures memory { IfErr result (λ e. e ≡ OutOfMemory) }
+{
+    let mut found = Vec::new(alloc);
+    for item in items {
+        if is_within(bounds, item.key.user_key.as_slice()) {
+            found.push(Ok(item.clone()?))?;
+        }
+    }
+    Ok(found)
+}
+
+// Whether a key lies within two bounds.
+fn is_within<A: Allocator>(bounds: &(Bound<UserKey<A>>, Bound<UserKey<A>>), key: &[u8]) -> bool
+    ensures { result ≡ (is_from bounds.now.0 key.now && is_to bounds.now.1 key.now) }
+{
+    is_from(&bounds.0, key) && is_to(&bounds.1, key)
+}
+
+fn is_from<A: Allocator>(low: &Bound<UserKey<A>>, key: &[u8]) -> bool
+    ensures { result ≡ is_from low.now key.now }
+{
+    match low {
+        Bound::Included(low) => !key.cmp(low.as_slice()).is_lt(),
+        Bound::Excluded(low) => low.as_slice().cmp(key).is_lt(),
+        Bound::Unbounded => true,
+    }
+}
+
+fn is_to<A: Allocator>(high: &Bound<UserKey<A>>, key: &[u8]) -> bool
+    ensures { result ≡ is_to high.now key.now }
+{
+    match high {
+        Bound::Included(high) => !high.as_slice().cmp(key).is_lt(),
+        Bound::Excluded(high) => key.cmp(high.as_slice()).is_lt(),
+        Bound::Unbounded => true,
+    }
+}

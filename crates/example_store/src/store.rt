@@ -1,0 +1,337 @@
+//! A store: writes under their numbers, and reads at snapshots.
+ghost use Rattle.std.specs.Prelude.{◌≡◌, ◌+◌, ◌-◌, ◌^◌, ◌<◌, ◌≤◌, [], ◌∷◌, ◌++◌, map, Err, IfErr};
+ghost use Rattle.std.specs.Prelude.{IfOk, List, MatchOption, None, Ok, OnErr, OnOk, Option, Some};
+ghost use Rattle.std.specs.Prelude.{false};
+ghost use Rattle.std.specs.Arc.{arc_value};
+ghost use Rattle.std.specs.Option.{option_map};
+ghost use Rattle.example_store.specs.Story.{Tells, value_in, write_fault};
+ghost use Rattle.logpurple.specs.Words.{Entry, Gives, HasList, IsStrict, IsWritable};
+ghost use Rattle.logpurple.specs.Words.{OutOfMemory, Refuses, RunsHoldLists, Tombstone, Value};
+ghost use Rattle.logpurple.specs.Words.{entry, is_memory, point, shown, tables_fault, union_in};
+
+mod compact;
+mod range;
+
+use crate::Memtable;
+use logpurple::{
+    Error, InternalValue, Run, SeqNo, Slice, Table, TableIds, Timestamp, ValueType, get_runs,
+    write_run,
+};
+pub use range::Range;
+use std::alloc::{Allocator, Global};
+use std::marker::Model;
+use std::sync::Arc;
+
+/// A store. Each write gets the next number; a snapshot is a number, and sees all writes below it.
+///
+/// A contract sees what the store has, and says by which list of writes it is told.
+#[derive(Drop)]
+pub struct Store<A: Allocator = Global> {
+    alloc: A,
+    // how many entries the memtable has when it is flushed
+    limit: usize,
+    // how many bytes of data blocks a table has before the next one begins
+    target: u64,
+    memtable: Memtable<A>,
+    // the newest first
+    runs: Vec<Arc<Run<Table<A>, A>, A>, A>,
+    ids: TableIds,
+    next: SeqNo,
+    // the number from which on the memtable's entries are numbered
+    flushed: SeqNo,
+    // the oldest snapshot that is kept
+    oldest: SeqNo,
+}
+
+impl<A: Allocator> Model for Store<A> {
+    ghost use Rattle.std.specs.Prelude.{map};
+    ghost use Rattle.std.specs.Arc.{arc_value};
+    ghost use Rattle.example_store.specs.Story.{Holding, IsSound, holding};
+
+    ghost Value = { Holding };
+
+    ghost view = { λ s. holding s.memtable (map arc_value s.runs.items) s.ids s.target s.next
+        s.flushed s.oldest };
+
+    ghost invariant = { λ s. IsSound (holding s.memtable (map arc_value s.runs.items) s.ids
+        s.target s.next s.flushed s.oldest) };
+}
+
+impl<A: Allocator + Clone> Store<A> {
+    /// A store without entries. Its memtable is flushed before it has more than `limit` entries, to
+    /// tables that each but the last have at least `target` bytes of data blocks.
+    pub fn new(alloc: A, limit: usize, target: u64) -> Result<Store<A>, Error>
+        ensures story { IfOk result (λ store. Tells store []) }
+        ensures next { IfOk result (λ store. store.next ≡ 0) }
+        ensures oldest { IfOk result (λ store. store.oldest ≡ 0) }
+        ensures memory { IfErr result (λ e. e ≡ OutOfMemory) }
+    {
+        let memtable = Memtable::new(alloc.clone()?);
+        let runs = Vec::new(alloc.clone()?);
+        Ok(Store {
+            alloc,
+            limit,
+            target,
+            memtable,
+            runs,
+            ids: TableIds::new(1),
+            next: 0,
+            flushed: 0,
+            oldest: 0,
+        })
+    }
+
+    /// The snapshot of all writes so far.
+    pub fn snapshot(&self) -> SeqNo
+        ensures { result ≡ self.now.next }
+    {
+        self.next
+    }
+
+    /// The oldest snapshot that is kept: at it and at later ones a read answers what the writes
+    /// say.
+    pub fn oldest_snapshot(&self) -> SeqNo
+        ensures { result ≡ self.now.oldest }
+    {
+        self.oldest
+    }
+
+    /// Writes a value. Refused [`Error::KeyTooLong`], [`Error::ValueTooLong`], and
+    /// [`Error::SeqNoOverflow`] where no number is left; then as [`Store::flush`], where the
+    /// memtable is full. Where it is refused, nothing is written, and nothing is lost.
+    pub fn put(&mut self, key: &[u8], value: &[u8]) -> Result<(), Error>
+        ensures written { (ws : List Entry) → Tells self.old ws →
+            OnOk result (Tells self.new (entry key.now value.now self.old.next Value ∷ ws)) }
+        ensures kept { (ws : List Entry) → Tells self.old ws → OnErr result (Tells self.new ws) }
+        ensures next { OnOk result (self.new.next ≡ self.old.next + 1) }
+        ensures stays { OnErr result (self.new.next ≡ self.old.next) }
+        ensures oldest { self.new.oldest ≡ self.old.oldest }
+        // What is wrong with the write is found before anything is done.
+        ensures fault { (e : Error) → write_fault self.old.next key.now value.now ≡ Some e →
+            result ≡ Err e }
+        // Otherwise, memory aside, it is refused what flushing is.
+        ensures refused { write_fault self.old.next key.now value.now ≡ None →
+            IfErr result (λ e. is_memory e ≡ false →
+            tables_fault self.old.ids self.old.target 0 self.old.recent ≡ Some e) }
+    {
+        self.write(key, value, ValueType::Value)
+    }
+
+    /// Deletes a key, whether it has a value or not. Refused as [`Store::put`].
+    pub fn delete(&mut self, key: &[u8]) -> Result<(), Error>
+        ensures written { (ws : List Entry) → Tells self.old ws →
+            OnOk result (Tells self.new (entry key.now [] self.old.next Tombstone ∷ ws)) }
+        ensures kept { (ws : List Entry) → Tells self.old ws → OnErr result (Tells self.new ws) }
+        ensures next { OnOk result (self.new.next ≡ self.old.next + 1) }
+        ensures stays { OnErr result (self.new.next ≡ self.old.next) }
+        ensures oldest { self.new.oldest ≡ self.old.oldest }
+        ensures fault { (e : Error) → write_fault self.old.next key.now [] ≡ Some e →
+            result ≡ Err e }
+        ensures refused { write_fault self.old.next key.now [] ≡ None →
+            IfErr result (λ e. is_memory e ≡ false →
+            tables_fault self.old.ids self.old.target 0 self.old.recent ≡ Some e) }
+    {
+        self.write(key, b"", ValueType::Tombstone)
+    }
+
+    fn write(&mut self, key: &[u8], value: &[u8], kind: ValueType) -> Result<(), Error>
+        ensures written { (ws : List Entry) → Tells self.old ws →
+            OnOk result (Tells self.new (entry key.now value.now self.old.next kind ∷ ws)) }
+        ensures kept { (ws : List Entry) → Tells self.old ws → OnErr result (Tells self.new ws) }
+        ensures next { OnOk result (self.new.next ≡ self.old.next + 1) }
+        ensures stays { OnErr result (self.new.next ≡ self.old.next) }
+        ensures oldest { self.new.oldest ≡ self.old.oldest }
+        ensures fault { (e : Error) → write_fault self.old.next key.now value.now ≡ Some e →
+            result ≡ Err e }
+        ensures refused { write_fault self.old.next key.now value.now ≡ None →
+            IfErr result (λ e. is_memory e ≡ false →
+            tables_fault self.old.ids self.old.target 0 self.old.recent ≡ Some e) }
+    {
+        check_write(self.next, key, value)?;
+        self.make_room()?;
+        let item = entry_of(&self.alloc, key, value, self.next, kind)?;
+        self.add(item)
+    }
+
+    // Flushes a memtable that is full.
+    fn make_room(&mut self) -> Result<(), Error>
+        ensures story { (ws : List Entry) → Tells self.old ws → Tells self.new ws }
+        ensures next { self.new.next ≡ self.old.next }
+        ensures oldest { self.new.oldest ≡ self.old.oldest }
+        ensures refused { IfErr result (λ e. is_memory e ≡ false →
+            tables_fault self.old.ids self.old.target 0 self.old.recent ≡ Some e) }
+    {
+        if self.memtable.len() < self.limit {
+            return Ok(());
+        }
+        self.flush()
+    }
+
+    // Adds an entry that has the next number.
+    fn add(&mut self, item: InternalValue<A>) -> Result<(), Error>
+        requires number { item.seqno ≡ self.old.next }
+        requires room { self.old.next < 2 ^ 64 - 2 }
+        ensures written { (ws : List Entry) → Tells self.old ws →
+            OnOk result (Tells self.new (item ∷ ws)) }
+        ensures next { OnOk result (self.new.next ≡ self.old.next + 1) }
+        ensures oldest { self.new.oldest ≡ self.old.oldest }
+        ensures err { OnErr result (self.new ≡ self.old) }
+        ensures memory { IfErr result (λ e. e ≡ OutOfMemory) }
+    {
+        self.memtable.insert(item)?;
+        self.next += 1;
+        Ok(())
+    }
+
+    /// Writes the memtable's entries as a run of tables, in front of the others. Refused as
+    /// [`write_run`] is: where no id of a table is left, and where a section is too large. Where it
+    /// is refused, the store has what it had.
+    pub fn flush(&mut self) -> Result<(), Error>
+        ensures story { (ws : List Entry) → Tells self.old ws → Tells self.new ws }
+        ensures emptied { OnOk result (self.new.recent ≡ []) }
+        ensures next { self.new.next ≡ self.old.next }
+        ensures oldest { self.new.oldest ≡ self.old.oldest }
+        ensures err { OnErr result (self.new ≡ self.old) }
+        // Memory aside, it is refused what writing the entries as tables is.
+        ensures refused { IfErr result (λ e. is_memory e ≡ false →
+            tables_fault self.old.ids self.old.target 0 self.old.recent ≡ Some e) }
+    {
+        let fresh = Memtable::new(self.alloc.clone()?);
+        let items = self.memtable.share(self.alloc.clone()?)?;
+        let (run, ids) = run_of(self.alloc.clone()?, self.ids, self.target, items)?;
+        match run {
+            Some(run) => self.put_in_front(run, ids, fresh),
+            None => Ok(()),
+        }
+    }
+
+    // Puts a run of the memtable's entries in front of the others, in place of them. Where it is
+    // refused, the store has what it had.
+    fn put_in_front(
+        &mut self,
+        run: Arc<Run<Table<A>, A>, A>,
+        ids: TableIds,
+        fresh: Memtable<A>,
+    ) -> Result<(), Error>
+        requires list { HasList self.old.recent (arc_value run) }
+        requires strict { IsStrict self.old.recent }
+        requires empty { fresh ≡ [] }
+        ensures story { (ws : List Entry) → Tells self.old ws → Tells self.new ws }
+        ensures emptied { OnOk result (self.new.recent ≡ []) }
+        ensures next { self.new.next ≡ self.old.next }
+        ensures oldest { self.new.oldest ≡ self.old.oldest }
+        ensures err { OnErr result (self.new ≡ self.old) }
+        ensures memory { IfErr result (λ e. e ≡ OutOfMemory) }
+    {
+        self.runs.insert(0, run)?;
+        self.memtable = fresh;
+        self.flushed = self.next;
+        self.ids = ids;
+        Ok(())
+    }
+
+    /// The value that a key has at a snapshot, none where it was deleted last, or never written.
+    /// Refused for want of memory alone.
+    pub fn get(&self, key: &[u8], snapshot: SeqNo) -> Result<Option<Slice<A>>, Error>
+        // At a snapshot that is kept it is the value that the writes say.
+        ensures told { (ws : List Entry) → Tells self.now ws → self.now.oldest ≤ snapshot →
+            IfOk result (λ value. value ≡ value_in ws key.now snapshot) }
+        ensures memory { IfErr result (λ e. e ≡ OutOfMemory) }
+    {
+        let found = find_in(&self.memtable, &self.runs, key, snapshot)?;
+        Ok(value_of(found))
+    }
+}
+
+// Whether a write may be taken under a number: refused where its key or its value is longer than a
+// table takes, or no number is left.
+fn check_write(next: SeqNo, key: &[u8], value: &[u8]) -> Result<(), Error>
+    ensures { Refuses result (write_fault next key.now value.now) }
+{
+    if key.len() > 65_535 {
+        return Err(Error::KeyTooLong);
+    }
+    if value.len() > 4_294_967_295 {
+        return Err(Error::ValueTooLong);
+    }
+    if next >= SeqNo::MAX - 1 {
+        return Err(Error::SeqNoOverflow);
+    }
+    Ok(())
+}
+
+// An entry with a key and a value of its own.
+fn entry_of<A: Allocator + Clone>(
+    alloc: &A,
+    key: &[u8],
+    value: &[u8],
+    seqno: SeqNo,
+    kind: ValueType,
+) -> Result<InternalValue<A>, Error>
+    ensures ok { IfOk result (λ item. item ≡ entry key.now value.now seqno kind) }
+    ensures memory { IfErr result (λ e. e ≡ OutOfMemory) }
+{
+    let key = Slice::from(alloc.clone()?, key)?;
+    let value = Slice::from(alloc.clone()?, value)?;
+    Ok(InternalValue::from_components(key, value, seqno, kind))
+}
+
+// A run of a list that can be written, none where it has no entry, and the counter of ids behind
+// its tables.
+fn run_of<A: Allocator + Clone>(
+    alloc: A,
+    ids: TableIds,
+    target: u64,
+    items: Vec<InternalValue<A>, A>,
+) -> Result<(Option<Arc<Run<Table<A>, A>, A>>, TableIds), Error>
+    requires { IsWritable items.items }
+    ensures run { IfOk result (λ r. MatchOption r.0 (items.items ≡ [])
+        (λ run. HasList items.items (arc_value run))) }
+    ensures refused { IfErr result (λ e. is_memory e ≡ false →
+        tables_fault ids target 0 items.items ≡ Some e) }
+{
+    let own = alloc.clone()?;
+    let (run, left) = write_run(own, ids, target, Timestamp::from(0), items, 0)?;
+    Ok((share_run(alloc, run)?, left))
+}
+
+// A run that can be shared, where there is one.
+fn share_run<A: Allocator + Clone>(
+    alloc: A,
+    run: Option<Run<Table<A>, A>>,
+) -> Result<Option<Arc<Run<Table<A>, A>, A>>, Error>
+    ensures ok { IfOk result (λ shared. option_map arc_value shared ≡ run) }
+    ensures memory { IfErr result (λ e. e ≡ OutOfMemory) }
+{
+    match run {
+        Some(run) => Ok(Some(Arc::new(alloc, run)?)),
+        None => Ok(None),
+    }
+}
+
+// The first entry of a key numbered below `seqno`, in a memtable and then in runs.
+fn find_in<A: Allocator + Clone>(
+    memtable: &Memtable<A>,
+    runs: &[Arc<Run<Table<A>, A>, A>],
+    key: &[u8],
+    seqno: SeqNo,
+) -> Result<Option<InternalValue<A>>, Error>
+    ensures { (lists : List (List (List Entry))) → RunsHoldLists (map arc_value runs.now) lists →
+        Gives (λ (x : Option Entry). x) result
+        (Ok (point (memtable.now ++ union_in lists) key.now seqno)) }
+{
+    if let Some(item) = memtable.get(key, seqno)? {
+        return Ok(Some(item));
+    }
+    get_runs(runs, key, seqno)
+}
+
+// The value of an entry that is no tombstone.
+fn value_of<A: Allocator>(found: Option<InternalValue<A>>) -> Option<Slice<A>>
+    ensures { result ≡ option_map (λ v. v.1) (shown found) }
+{
+    match found {
+        Some(item) if !item.is_tombstone() => Some(item.value),
+        _ => None,
+    }
+}

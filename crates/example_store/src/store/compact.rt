@@ -1,0 +1,139 @@
+//! Compacting and packing the runs of a store.
+ghost use Rattle.std.specs.Prelude.{◌≡◌, IfErr, IfOk, List, OnErr, OnOk, Some, false};
+ghost use Rattle.std.specs.Prelude.{length, map, max, true};
+ghost use Rattle.std.specs.Arc.{arc_value};
+ghost use Rattle.example_store.specs.Story.{Tells, option_list};
+ghost use Rattle.logpurple.specs.Words.{AreCompactable, AreInOrder, Entry, HaveAll, HoldUnion};
+ghost use Rattle.logpurple.specs.Words.{IsLeastSize, OutOfMemory, RunsHoldLists, is_memory};
+ghost use Rattle.logpurple.specs.Words.{kept_in, range_of, rules_by, tables_fault, union_in};
+
+use crate::Store;
+use logpurple::{Error, Rules, Run, SeqNo, Table, TableIds, Timestamp, compact_to_run, pack_runs};
+use std::alloc::Allocator;
+use std::sync::Arc;
+
+/// Runs that a store shares, the newest first.
+type Runs<A> = Vec<Arc<Run<Table<A>, A>, A>, A>;
+
+impl<A: Allocator + Clone> Store<A> {
+    /// Puts one run in the place of all, of what readers at the watermark and at later snapshots
+    /// see of them; older snapshots are kept no longer. What is in the memtable stays there.
+    /// Refused as [`compact_to_run`] is; the store then has what it had.
+    pub fn compact(&mut self, watermark: SeqNo) -> Result<(), Error>
+        ensures story { (ws : List Entry) → Tells self.old ws → Tells self.new ws }
+        ensures oldest { OnOk result (self.new.oldest ≡ max self.old.oldest watermark) }
+        ensures next { self.new.next ≡ self.old.next }
+        ensures recent { self.new.recent ≡ self.old.recent }
+        // The runs have what is kept of all that they had.
+        ensures made { (lists : List (List (List Entry))) → RunsHoldLists self.old.runs lists →
+            OnOk result (HaveAll (kept_in (rules_by watermark true false) lists) self.new.runs) }
+        ensures err { OnErr result (self.new ≡ self.old) }
+        // Memory aside, it is refused what writing what is kept of the runs as tables is.
+        ensures refused { (lists : List (List (List Entry))) → RunsHoldLists self.old.runs lists →
+            IfErr result (λ e. is_memory e ≡ false →
+            tables_fault self.old.ids self.old.target 0
+            (kept_in (rules_by watermark true false) lists) ≡ Some e) }
+    {
+        let alloc = self.alloc.clone()?;
+        let (runs, ids) = compacted(alloc, &self.runs, watermark, self.ids, self.target)?;
+        self.runs = runs;
+        self.ids = ids;
+        self.oldest = self.oldest.max(watermark);
+        Ok(())
+    }
+
+    /// Puts the tables of all runs in as few runs as there can be. Refused for want of memory
+    /// alone; the store then has what it had.
+    pub fn pack(&mut self) -> Result<(), Error>
+        ensures story { (ws : List Entry) → Tells self.old ws → Tells self.new ws }
+        ensures oldest { self.new.oldest ≡ self.old.oldest }
+        ensures next { self.new.next ≡ self.old.next }
+        // No fewer runs can do.
+        ensures least { OnOk result (IsLeastSize range_of self.old.runs (length self.new.runs)) }
+        ensures err { OnErr result (self.new ≡ self.old) }
+        ensures memory { IfErr result (λ e. e ≡ OutOfMemory) }
+    {
+        let packed = packed(self.alloc.clone()?, &self.runs)?;
+        self.runs = packed;
+        Ok(())
+    }
+}
+
+// What is kept of some runs, as one run, or none where nothing is kept; and the counter of ids
+// behind its tables.
+fn compacted<A: Allocator + Clone>(
+    alloc: A,
+    runs: &[Arc<Run<Table<A>, A>, A>],
+    watermark: SeqNo,
+    ids: TableIds,
+    target: u64,
+) -> Result<(Runs<A>, TableIds), Error>
+    requires { AreCompactable (map arc_value runs.now) }
+    ensures kept { (lists : List (List (List Entry))) →
+        RunsHoldLists (map arc_value runs.now) lists →
+        IfOk result (λ r. HaveAll (kept_in (rules_by watermark true false) lists)
+        (map arc_value r.0.items)) }
+    ensures able { IfOk result (λ r. AreCompactable (map arc_value r.0.items)) }
+    ensures refused { (lists : List (List (List Entry))) →
+        RunsHoldLists (map arc_value runs.now) lists →
+        IfErr result (λ e. is_memory e ≡ false →
+        tables_fault ids target 0 (kept_in (rules_by watermark true false) lists) ≡ Some e) }
+{
+    let rules = Rules {
+        watermark,
+        evict: true,
+        zeroing: false,
+    };
+    let own = alloc.clone()?;
+    let (run, left) = compact_to_run(own, runs, rules, ids, target, Timestamp::from(0))?;
+    Ok((at_most_one(alloc, run)?, left))
+}
+
+// One run that can be shared, or none.
+fn at_most_one<A: Allocator + Clone>(
+    alloc: A,
+    run: Option<Run<Table<A>, A>>,
+) -> Result<Runs<A>, Error>
+    ensures ok { IfOk result (λ shared. map arc_value shared.items ≡ option_list run) }
+    ensures memory { IfErr result (λ e. e ≡ OutOfMemory) }
+{
+    let mut shared = Vec::new(alloc.clone()?);
+    let Some(run) = run else {
+        return Ok(shared);
+    };
+    shared.push(Arc::new(alloc, run)?)?;
+    Ok(shared)
+}
+
+// The tables of some runs in the fewest runs.
+fn packed<A: Allocator + Clone>(
+    alloc: A,
+    runs: &[Arc<Run<Table<A>, A>, A>],
+) -> Result<Runs<A>, Error>
+    ensures list { (lists : List (List (List Entry))) →
+        RunsHoldLists (map arc_value runs.now) lists →
+        IfOk result (λ packed. HoldUnion (map arc_value packed.items) (union_in lists)) }
+    ensures able { AreCompactable (map arc_value runs.now) →
+        IfOk result (λ packed. AreCompactable (map arc_value packed.items)) }
+    ensures least { IfOk result (λ packed. AreInOrder range_of (map arc_value runs.now) →
+        IsLeastSize range_of (map arc_value runs.now) (length (map arc_value packed.items))) }
+    ensures memory { IfErr result (λ e. e ≡ OutOfMemory) }
+{
+    let packed = pack_runs(alloc.clone()?, runs)?;
+    share_all(alloc, packed)
+}
+
+// Runs that can be shared.
+fn share_all<A: Allocator + Clone>(
+    alloc: A,
+    runs: Vec<Run<Table<A>, A>, A>,
+) -> Result<Runs<A>, Error>
+    ensures ok { IfOk result (λ shared. map arc_value shared.items ≡ runs.items) }
+    ensures memory { IfErr result (λ e. e ≡ OutOfMemory) }
+{
+    let mut shared = Vec::new(alloc.clone()?);
+    for run in runs {
+        shared.push(Arc::new(alloc.clone()?, run)?)?;
+    }
+    Ok(shared)
+}

@@ -1,0 +1,42 @@
+//! Ranges of a store at a snapshot.
+ghost use Rattle.std.specs.Prelude.{◌≡◌, ◌≤◌, IfErr, IfOk, List};
+ghost use Rattle.example_store.specs.Story.{Tells};
+ghost use Rattle.logpurple.specs.Words.{DealsList, Entry, OutOfMemory, all_shown, newest};
+ghost use Rattle.logpurple.specs.Words.{numbered_below, sort_entries, within};
+
+use crate::Store;
+use logpurple::{Error, IterItem, NewestOfSourcesAt, SeqNo, UserKey, range_sources_at};
+use std::alloc::Allocator;
+use std::ops::Bound;
+use std::vec::IntoIter;
+
+/// The newest entry of each key that a snapshot sees, from both ends: what [`Store::range`] gives.
+pub type Range<A> = NewestOfSourcesAt<IntoIter<IterItem<A>, A>, A>;
+
+impl<A: Allocator + Clone> Store<A> {
+    /// The newest entry of each key within two bounds that a snapshot sees, from both ends; that of
+    /// a key that was deleted last is a tombstone, or is not there. Refused for want of memory
+    /// alone.
+    pub fn range(
+        &self,
+        bounds: (Bound<UserKey<A>>, Bound<UserKey<A>>),
+        snapshot: SeqNo,
+    ) -> Result<Range<A>, Error>
+        // At a snapshot that is kept, what it shows is what the writes say.
+        ensures told { let gives = ⟦<Range<A> as Iterator>⟧.next_gives in
+            let back_gives = ⟦<Range<A> as DoubleEndedIterator>⟧.next_back_gives in
+            (ws : List Entry) → Tells self.now ws → self.now.oldest ≤ snapshot →
+            IfOk result (λ s. (es : List Entry) × DealsList gives back_gives es s ×
+            (all_shown es ≡ all_shown (newest (numbered_below snapshot
+            (within bounds.0 bounds.1 (sort_entries ws)))))) }
+        ensures next { IfOk result (λ s. ⟦<Range<A> as Iterator>⟧.can_next s) }
+        ensures next_back { IfOk result (λ s.
+            ⟦<Range<A> as DoubleEndedIterator>⟧.can_next_back s) }
+        ensures memory { IfErr result (λ e. e ≡ OutOfMemory) }
+    {
+        let recent = self.memtable.within(self.alloc.clone()?, &bounds)?;
+        let mut sources = Vec::new(self.alloc.clone()?);
+        sources.push(recent)?;
+        range_sources_at(self.alloc.clone()?, &self.runs, sources, bounds, snapshot)
+    }
+}
