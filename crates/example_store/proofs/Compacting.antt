@@ -10,7 +10,7 @@ use Rattle.logpurple.specs.Words.{joined, joined_in, kept_in, ok_results, seen, 
 use Rattle.logpurple.specs.Words.{union_in, zeroed}
 use Rattle.logpurple.proofs.Laws.{all_inserted, all_kept, entries_joined, one_way, points}
 use Rattle.logpurple.proofs.Laws.{reads_alike_of_part, zeroed_below}
-use Rattle.example_store.specs.Story.{HoldBelow, Holding, IsSound, IsStory, Tells, holding}
+use Rattle.example_store.specs.Story.{HoldBelow, Holding, IsStore, IsStory, IsTold, holding}
 use Rattle.example_store.specs.Story.{option_list}
 use Rattle.example_store.proofs.Stories.{able_none, seen_more}
 
@@ -36,15 +36,15 @@ replaced rules lists made strict is = record {
   safe = inr (none_newer (union_in lists));
 }
 
-module _ (s t : Holding) (ws : List Entry) (rules : Rules) (sound : IsSound s) where
-  strict_lists : (told : Tells s ws) → IsStrict (union_in told.lists)
+module _ (s t : Holding) (ws : List Entry) (rules : Rules) (sound : IsStore s) where
+  strict_lists : (told : IsTold s ws) → IsStrict (union_in told.lists)
   strict_lists told = subst (λ (ls : List (List (List Entry))). IsStrict (union_in ls))
       (one_way s.runs sound.runs.able.lists told.lists sound.runs.able.hold told.hold)
       sound.runs.able.writable.strict
 
-  pub tells_compacted : (told : Tells s ws) → HaveAll (kept_in rules told.lists) t.runs
+  pub tells_compacted : (told : IsTold s ws) → HaveAll (kept_in rules told.lists) t.runs
       → t.recent ≡ s.recent → t.next ≡ s.next → s.oldest ≤ t.oldest → rules.watermark ≤ t.oldest
-      → Tells t ws
+      → IsTold t ws
   tells_compacted told have recent next later kept = record {
     story = subst (λ (n : ℕ). IsStory n ws) (sym next) told.story;
     lists = have.lists;
@@ -70,7 +70,7 @@ union_of_joined lists = ap sort_entries (ap all_entries (sym (map-map
     (λ (es : List Entry). ok_results es) joined lists)) ∙ entries_joined (map joined lists))
 
 -- what is kept is numbered as before
-pub low_compacted : (s : Holding) (rules : Rules) (runs : List (List OpenTable)) (sound : IsSound s)
+pub low_compacted : (s : Holding) (rules : Rules) (runs : List (List OpenTable)) (sound : IsStore s)
     → HaveAll (kept_in rules sound.runs.able.lists) runs → AreCompactable runs
     → HoldBelow s.flushed runs
 low_compacted s rules runs sound have able =
@@ -89,9 +89,9 @@ low_compacted s rules runs sound have able =
 
 -- ---- packing
 
-pub tells_packed : (s t : Holding) (ws : List Entry) → (told : Tells s ws)
+pub tells_packed : (s t : Holding) (ws : List Entry) → (told : IsTold s ws)
     → HoldUnion t.runs (union_in told.lists) → t.recent ≡ s.recent → t.next ≡ s.next
-    → t.oldest ≡ s.oldest → Tells t ws
+    → t.oldest ≡ s.oldest → IsTold t ws
 tells_packed s t ws told has recent next oldest = record {
   story = subst (λ (n : ℕ). IsStory n ws) (sym next) told.story;
   lists = has.lists;
@@ -102,7 +102,7 @@ tells_packed s t ws told has recent next oldest = record {
       ∙ told.same key bound (omega (arith, oldest, reads));
 }
 
-pub low_packed : (s : Holding) (runs : List (List OpenTable)) (sound : IsSound s)
+pub low_packed : (s : Holding) (runs : List (List OpenTable)) (sound : IsStore s)
     → HoldUnion runs (union_in sound.runs.able.lists) → AreCompactable runs
     → HoldBelow s.flushed runs
 low_packed s runs sound has able =
@@ -135,8 +135,8 @@ able_of (Some run) h = h
 
 pub sound_replaced : (recent : List Entry) (runs new : List (List OpenTable)) (ids left : Option ℕ)
     (target next flushed oldest later : ℕ)
-    → IsSound (holding recent runs ids target next flushed oldest) → HoldBelow flushed new
-    → IsSound (holding recent new left target next flushed later)
+    → IsStore (holding recent runs ids target next flushed oldest) → HoldBelow flushed new
+    → IsStore (holding recent new left target next flushed later)
 sound_replaced recent runs new ids left target next flushed oldest later sound low = record {
   recent = sound.recent;
   runs = low;

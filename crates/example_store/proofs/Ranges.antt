@@ -12,7 +12,7 @@ use Rattle.logpurple.specs.Words.{within}
 use Rattle.logpurple.proofs.Laws.{all_inserted, and_false, as_pairs, ascends_in_order}
 use Rattle.logpurple.proofs.Laws.{ascends_of, filter_ascends, hit_key, leading_sorted}
 use Rattle.logpurple.proofs.Laws.{leads_older, ranges_by_points, union_up}
-use Rattle.example_store.specs.Story.{Holding, IsSound, IsStory, Tells}
+use Rattle.example_store.specs.Story.{Holding, IsStore, IsStory, IsTold}
 use Rattle.example_store.proofs.Places.{hit_first, hit_later}
 use Rattle.example_store.proofs.Stories.{low_lists, read_more, story_later}
 
@@ -123,7 +123,7 @@ module _ (key : List ℕ) (bound : ℕ) where
 -- ---- ranges of a store
 
 pub range_told : (s : Holding) (ws : List Entry) (low high : Bound (List ℕ)) (below : ℕ)
-    → IsSound s → IsStrict s.recent → (told : Tells s ws) → s.oldest ≤ below
+    → IsStore s → IsStrict s.recent → (told : IsTold s ws) → s.oldest ≤ below
     → all_shown (newest (numbered_below below (within low high
     (union_in (map single (s.recent ∷ []) ++ told.lists)))))
     ≡ all_shown (newest (numbered_below below (within low high (sort_entries ws))))

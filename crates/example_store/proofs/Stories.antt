@@ -14,7 +14,7 @@ use Rattle.logpurple.proofs.Laws.{count_join, distinct_once, entries_of, from_pa
 use Rattle.logpurple.proofs.Laws.{leading_sorted, leads_older, once_strict, one_way}
 use Rattle.logpurple.proofs.Laws.{point_of_key, union_count, union_up}
 use Rattle.example_store.specs.Recent.{IsPut}
-use Rattle.example_store.specs.Story.{AreNumbered, HoldBelow, Holding, IsSound, IsStory, Tells}
+use Rattle.example_store.specs.Story.{AreNumbered, HoldBelow, Holding, IsStore, IsStory, IsTold}
 use Rattle.example_store.specs.Story.{holding}
 use Rattle.example_store.proofs.Places.{all_put, hit_first, hit_later}
 
@@ -166,9 +166,9 @@ all_older from n es h = all_more (λ (e : Entry). (from ≤ e.seqno) × (e.seqno
     (λ (e : Entry). e.seqno < n) (λ e both. both.1) es h
 
 -- an entry with the next number
-pub tells_more : (s t : Holding) (e : Entry) (ws : List Entry) → Tells s ws
+pub tells_more : (s t : Holding) (e : Entry) (ws : List Entry) → IsTold s ws
     → IsPut e s.recent t.recent → e.seqno ≡ s.next → t.next ≡ s.next + 1 → t.runs ≡ s.runs
-    → t.oldest ≡ s.oldest → Tells t (e ∷ ws)
+    → t.oldest ≡ s.oldest → IsTold t (e ∷ ws)
 tells_more s t e ws told put number next runs oldest = record {
   story = (
     omega (arith, number, next),
@@ -193,7 +193,7 @@ numbered_more from next later e old new put h order number is =
 
 -- ---- flushing
 
-pub writable_recent : (s : Holding) → IsSound s → IsStrict s.recent → IsWritable s.recent
+pub writable_recent : (s : Holding) → IsStore s → IsStrict s.recent → IsWritable s.recent
 writable_recent s sound strict = record {
   strict = strict;
   numbered = all_more (λ (e : Entry). (s.flushed ≤ e.seqno) × (e.seqno < s.next))
@@ -203,7 +203,7 @@ writable_recent s sound strict = record {
 }
 
 -- a run of what was in no table, in front of the others
-pub able_flushed : (s : Holding) (run : List OpenTable) → IsSound s → IsStrict s.recent
+pub able_flushed : (s : Holding) (run : List OpenTable) → IsStore s → IsStrict s.recent
     → HasList s.recent run → HoldBelow s.next (run ∷ s.runs)
 able_flushed s run sound strict has =
     let able = sound.runs.able in
@@ -228,16 +228,16 @@ able_flushed s run sound strict has =
     }
 
 -- the lists of the runs are those of any other clause
-pub low_lists : (s : Holding) (ws : List Entry) → IsSound s → (told : Tells s ws)
+pub low_lists : (s : Holding) (ws : List Entry) → IsStore s → (told : IsTold s ws)
     → AllByRecursion (λ (e : Entry). e.seqno < s.flushed) (union_in told.lists)
 low_lists s ws sound told =
     subst (λ (ls : List (List (List Entry))). AllByRecursion (λ (e : Entry). e.seqno < s.flushed)
     (union_in ls)) (one_way s.runs sound.runs.able.lists told.lists sound.runs.able.hold told.hold)
     sound.runs.low
 
-pub tells_flushed : (s t : Holding) (run : List OpenTable) (ws : List Entry) → IsSound s
-    → IsStrict s.recent → HasList s.recent run → Tells s ws → t.recent ≡ []
-    → t.runs ≡ run ∷ s.runs → t.next ≡ s.next → t.oldest ≡ s.oldest → Tells t ws
+pub tells_flushed : (s t : Holding) (run : List OpenTable) (ws : List Entry) → IsStore s
+    → IsStrict s.recent → HasList s.recent run → IsTold s ws → t.recent ≡ []
+    → t.runs ≡ run ∷ s.runs → t.next ≡ s.next → t.oldest ≡ s.oldest → IsTold t ws
 tells_flushed s t run ws sound strict has told none runs next oldest = record {
   story = subst (λ (n : ℕ). IsStory n ws) (sym next) told.story;
   lists = has.lists ∷ told.lists;
@@ -251,8 +251,8 @@ tells_flushed s t run ws sound strict has told none runs next oldest = record {
 }
 
 -- nothing was written to a table
-pub tells_still : (s t : Holding) (ws : List Entry) → Tells s ws → t.recent ≡ s.recent
-    → t.runs ≡ s.runs → t.next ≡ s.next → t.oldest ≡ s.oldest → Tells t ws
+pub tells_still : (s t : Holding) (ws : List Entry) → IsTold s ws → t.recent ≡ s.recent
+    → t.runs ≡ s.runs → t.next ≡ s.next → t.oldest ≡ s.oldest → IsTold t ws
 tells_still s t ws told recent runs next oldest = record {
   story = subst (λ (n : ℕ). IsStory n ws) (sym next) told.story;
   lists = told.lists;
@@ -286,7 +286,7 @@ none_below bound = record {
 }
 
 pub sound_new : (recent : List Entry) (runs : List (List OpenTable)) (ids : Option ℕ) (target : ℕ)
-    → recent ≡ [] → runs ≡ [] → IsSound (holding recent runs ids target 0 0 0)
+    → recent ≡ [] → runs ≡ [] → IsStore (holding recent runs ids target 0 0 0)
 sound_new recent runs ids target none empty = record {
   recent = subst (AreNumbered 0 0) (sym none) tt;
   runs = subst (HoldBelow 0) (sym empty) (none_below 0);
@@ -295,7 +295,7 @@ sound_new recent runs ids target none empty = record {
 }
 
 pub tells_new : (recent : List Entry) (runs : List (List OpenTable)) (ids : Option ℕ) (target : ℕ)
-    → recent ≡ [] → runs ≡ [] → Tells (holding recent runs ids target 0 0 0) []
+    → recent ≡ [] → runs ≡ [] → IsTold (holding recent runs ids target 0 0 0) []
 tells_new recent runs ids target none empty = record {
   story = tt;
   lists = [];
@@ -308,14 +308,14 @@ tells_new recent runs ids target none empty = record {
 
 module _ (recent new : List Entry) (runs : List (List OpenTable)) (ids : Option ℕ)
     (target next flushed oldest : ℕ) where
-  pub older_recent : (n : ℕ) → IsSound (holding recent runs ids target next flushed oldest)
+  pub older_recent : (n : ℕ) → IsStore (holding recent runs ids target next flushed oldest)
       → n ≡ next → AllByRecursion (λ (e : Entry). e.seqno < n) recent
   older_recent n sound is = subst (λ (m : ℕ). AllByRecursion (λ (e : Entry). e.seqno < m) recent)
       (sym is) (all_older flushed next recent sound.recent)
 
-  pub sound_more : (e : Entry) → IsSound (holding recent runs ids target next flushed oldest)
+  pub sound_more : (e : Entry) → IsStore (holding recent runs ids target next flushed oldest)
       → IsPut e recent new → e.seqno ≡ next → next < 2 ^ 64 - 2
-      → IsSound (holding new runs ids target (next + 1) flushed oldest)
+      → IsStore (holding new runs ids target (next + 1) flushed oldest)
   sound_more e sound put number room = record {
     recent = numbered_more flushed next (next + 1) e recent new put sound.recent sound.order number
         refl;
@@ -325,9 +325,9 @@ module _ (recent new : List Entry) (runs : List (List OpenTable)) (ids : Option 
   }
 
   pub sound_flushed : (run : List OpenTable) (left : Option ℕ) (all : List (List OpenTable))
-      → IsSound (holding recent runs ids target next flushed oldest) → IsStrict recent
+      → IsStore (holding recent runs ids target next flushed oldest) → IsStrict recent
       → HasList recent run → new ≡ [] → all ≡ run ∷ runs
-      → IsSound (holding new all left target next next oldest)
+      → IsStore (holding new all left target next next oldest)
   sound_flushed run left all sound strict has none is = record {
     recent = subst (AreNumbered next next) (sym none) tt;
     runs = subst (HoldBelow next) (sym is)

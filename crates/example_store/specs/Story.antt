@@ -46,7 +46,7 @@ abbrev pub AreNumbered : ℕ → ℕ → List Entry → Type 0
 AreNumbered from to es = AllByRecursion (λ (e : Entry). (from ≤ e.seqno) × (e.seqno < to)) es
 
 -- what is so of every store: what is in a table is older than what is not
-pub record IsSound (s : Holding) : Type 0 where
+pub record IsStore (s : Holding) : Type 0 where
   pub recent : AreNumbered s.flushed s.next s.recent
   pub runs : HoldBelow s.flushed s.runs
   pub order : s.flushed ≤ s.next
@@ -54,7 +54,7 @@ pub record IsSound (s : Holding) : Type 0 where
 
 -- a store tells a story: of each key a reader sees in what the store has, at each snapshot that it
 -- keeps, what the story says
-pub record Tells (s : Holding) (ws : List Entry) : Type 0 where
+pub record IsTold (s : Holding) (ws : List Entry) : Type 0 where
   pub story : IsStory s.next ws
   pub lists : List (List (List Entry))
   pub hold : RunsHoldLists s.runs lists
@@ -67,8 +67,8 @@ value_in ws key bound = option_map (λ v. v.1) (seen ws key bound)
 
 -- what is wrong with a write under a number: its key or its value is longer than a table takes, or
 -- no number is left behind it
-abbrev pub write_fault : ℕ → List ℕ → List ℕ → Option Error
-write_fault next key value =
+abbrev pub put_fault : ℕ → List ℕ → List ℕ → Option Error
+put_fault next key value =
     if nat_lt 65535 (length key) then Some KeyTooLong
     else (if nat_lt (2 ^ 32 - 1) (length value) then Some ValueTooLong
     else (if nat_le (2 ^ 64 - 2) next then Some SeqNoOverflow else None))

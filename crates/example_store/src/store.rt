@@ -4,7 +4,7 @@ ghost use Rattle.std.specs.Prelude.{IfOk, List, MatchOption, None, Ok, OnErr, On
 ghost use Rattle.std.specs.Prelude.{false};
 ghost use Rattle.std.specs.Arc.{arc_value};
 ghost use Rattle.std.specs.Option.{option_map};
-ghost use Rattle.example_store.specs.Story.{Tells, value_in, write_fault};
+ghost use Rattle.example_store.specs.Story.{IsTold, value_in, put_fault};
 ghost use Rattle.logpurple.specs.Words.{Entry, Gives, HasList, IsStrict, IsWritable};
 ghost use Rattle.logpurple.specs.Words.{OutOfMemory, Refuses, RunsHoldLists, Tombstone, Value};
 ghost use Rattle.logpurple.specs.Words.{entry, is_memory, point, shown, tables_fault, union_in};
@@ -46,14 +46,14 @@ pub struct Store<A: Allocator = Global> {
 impl<A: Allocator> Model for Store<A> {
     ghost use Rattle.std.specs.Prelude.{map};
     ghost use Rattle.std.specs.Arc.{arc_value};
-    ghost use Rattle.example_store.specs.Story.{Holding, IsSound, holding};
+    ghost use Rattle.example_store.specs.Story.{Holding, IsStore, holding};
 
     ghost Value = { Holding };
 
     ghost view = { λ s. holding s.memtable (map arc_value s.runs.items) s.ids s.target s.next
         s.flushed s.oldest };
 
-    ghost invariant = { λ s. IsSound (holding s.memtable (map arc_value s.runs.items) s.ids
+    ghost invariant = { λ s. IsStore (holding s.memtable (map arc_value s.runs.items) s.ids
         s.target s.next s.flushed s.oldest) };
 }
 
@@ -61,7 +61,7 @@ impl<A: Allocator + Clone> Store<A> {
     /// A store without entries. Its memtable is flushed before it has more than `limit` entries, to
     /// tables that each but the last have at least `target` bytes of data blocks.
     pub fn new(alloc: A, limit: usize, target: u64) -> Result<Store<A>, Error>
-        ensures story { IfOk result (λ store. Tells store []) }
+        ensures story { IfOk result (λ store. IsTold store []) }
         ensures next { IfOk result (λ store. store.next ≡ 0) }
         ensures oldest { IfOk result (λ store. store.oldest ≡ 0) }
         ensures memory { IfErr result (λ e. e ≡ OutOfMemory) }
@@ -100,17 +100,17 @@ impl<A: Allocator + Clone> Store<A> {
     /// [`Error::SeqNoOverflow`] where no number is left; then as [`Store::flush`], where the
     /// memtable is full. Where it is refused, nothing is written, and nothing is lost.
     pub fn put(&mut self, key: &[u8], value: &[u8]) -> Result<(), Error>
-        ensures written { (ws : List Entry) → Tells self.old ws →
-            OnOk result (Tells self.new (entry key.now value.now self.old.next Value ∷ ws)) }
-        ensures kept { (ws : List Entry) → Tells self.old ws → OnErr result (Tells self.new ws) }
+        ensures written { (ws : List Entry) → IsTold self.old ws →
+            OnOk result (IsTold self.new (entry key.now value.now self.old.next Value ∷ ws)) }
+        ensures kept { (ws : List Entry) → IsTold self.old ws → OnErr result (IsTold self.new ws) }
         ensures next { OnOk result (self.new.next ≡ self.old.next + 1) }
         ensures stays { OnErr result (self.new.next ≡ self.old.next) }
         ensures oldest { self.new.oldest ≡ self.old.oldest }
         // What is wrong with the write is found before anything is done.
-        ensures fault { (e : Error) → write_fault self.old.next key.now value.now ≡ Some e →
+        ensures fault { (e : Error) → put_fault self.old.next key.now value.now ≡ Some e →
             result ≡ Err e }
         // Otherwise, memory aside, it is refused what flushing is.
-        ensures refused { write_fault self.old.next key.now value.now ≡ None →
+        ensures refused { put_fault self.old.next key.now value.now ≡ None →
             IfErr result (λ e. is_memory e ≡ false →
             tables_fault self.old.ids self.old.target 0 self.old.recent ≡ Some e) }
     {
@@ -119,15 +119,15 @@ impl<A: Allocator + Clone> Store<A> {
 
     /// Deletes a key, whether it has a value or not. Refused as [`Store::put`].
     pub fn delete(&mut self, key: &[u8]) -> Result<(), Error>
-        ensures written { (ws : List Entry) → Tells self.old ws →
-            OnOk result (Tells self.new (entry key.now [] self.old.next Tombstone ∷ ws)) }
-        ensures kept { (ws : List Entry) → Tells self.old ws → OnErr result (Tells self.new ws) }
+        ensures written { (ws : List Entry) → IsTold self.old ws →
+            OnOk result (IsTold self.new (entry key.now [] self.old.next Tombstone ∷ ws)) }
+        ensures kept { (ws : List Entry) → IsTold self.old ws → OnErr result (IsTold self.new ws) }
         ensures next { OnOk result (self.new.next ≡ self.old.next + 1) }
         ensures stays { OnErr result (self.new.next ≡ self.old.next) }
         ensures oldest { self.new.oldest ≡ self.old.oldest }
-        ensures fault { (e : Error) → write_fault self.old.next key.now [] ≡ Some e →
+        ensures fault { (e : Error) → put_fault self.old.next key.now [] ≡ Some e →
             result ≡ Err e }
-        ensures refused { write_fault self.old.next key.now [] ≡ None →
+        ensures refused { put_fault self.old.next key.now [] ≡ None →
             IfErr result (λ e. is_memory e ≡ false →
             tables_fault self.old.ids self.old.target 0 self.old.recent ≡ Some e) }
     {
@@ -135,15 +135,15 @@ impl<A: Allocator + Clone> Store<A> {
     }
 
     fn write(&mut self, key: &[u8], value: &[u8], kind: ValueType) -> Result<(), Error>
-        ensures written { (ws : List Entry) → Tells self.old ws →
-            OnOk result (Tells self.new (entry key.now value.now self.old.next kind ∷ ws)) }
-        ensures kept { (ws : List Entry) → Tells self.old ws → OnErr result (Tells self.new ws) }
+        ensures written { (ws : List Entry) → IsTold self.old ws →
+            OnOk result (IsTold self.new (entry key.now value.now self.old.next kind ∷ ws)) }
+        ensures kept { (ws : List Entry) → IsTold self.old ws → OnErr result (IsTold self.new ws) }
         ensures next { OnOk result (self.new.next ≡ self.old.next + 1) }
         ensures stays { OnErr result (self.new.next ≡ self.old.next) }
         ensures oldest { self.new.oldest ≡ self.old.oldest }
-        ensures fault { (e : Error) → write_fault self.old.next key.now value.now ≡ Some e →
+        ensures fault { (e : Error) → put_fault self.old.next key.now value.now ≡ Some e →
             result ≡ Err e }
-        ensures refused { write_fault self.old.next key.now value.now ≡ None →
+        ensures refused { put_fault self.old.next key.now value.now ≡ None →
             IfErr result (λ e. is_memory e ≡ false →
             tables_fault self.old.ids self.old.target 0 self.old.recent ≡ Some e) }
     {
@@ -155,7 +155,7 @@ impl<A: Allocator + Clone> Store<A> {
 
     // Flushes a memtable that is full.
     fn make_room(&mut self) -> Result<(), Error>
-        ensures story { (ws : List Entry) → Tells self.old ws → Tells self.new ws }
+        ensures story { (ws : List Entry) → IsTold self.old ws → IsTold self.new ws }
         ensures next { self.new.next ≡ self.old.next }
         ensures oldest { self.new.oldest ≡ self.old.oldest }
         ensures refused { IfErr result (λ e. is_memory e ≡ false →
@@ -171,8 +171,8 @@ impl<A: Allocator + Clone> Store<A> {
     fn add(&mut self, item: InternalValue<A>) -> Result<(), Error>
         requires number { item.seqno ≡ self.old.next }
         requires room { self.old.next < 2 ^ 64 - 2 }
-        ensures written { (ws : List Entry) → Tells self.old ws →
-            OnOk result (Tells self.new (item ∷ ws)) }
+        ensures written { (ws : List Entry) → IsTold self.old ws →
+            OnOk result (IsTold self.new (item ∷ ws)) }
         ensures next { OnOk result (self.new.next ≡ self.old.next + 1) }
         ensures oldest { self.new.oldest ≡ self.old.oldest }
         ensures err { OnErr result (self.new ≡ self.old) }
@@ -187,7 +187,7 @@ impl<A: Allocator + Clone> Store<A> {
     /// [`write_run`] is: where no id of a table is left, and where a section is too large. Where it
     /// is refused, the store has what it had.
     pub fn flush(&mut self) -> Result<(), Error>
-        ensures story { (ws : List Entry) → Tells self.old ws → Tells self.new ws }
+        ensures story { (ws : List Entry) → IsTold self.old ws → IsTold self.new ws }
         ensures emptied { OnOk result (self.new.recent ≡ []) }
         ensures next { self.new.next ≡ self.old.next }
         ensures oldest { self.new.oldest ≡ self.old.oldest }
@@ -216,7 +216,7 @@ impl<A: Allocator + Clone> Store<A> {
         requires list { HasList self.old.recent (arc_value run) }
         requires strict { IsStrict self.old.recent }
         requires empty { fresh ≡ [] }
-        ensures story { (ws : List Entry) → Tells self.old ws → Tells self.new ws }
+        ensures story { (ws : List Entry) → IsTold self.old ws → IsTold self.new ws }
         ensures emptied { OnOk result (self.new.recent ≡ []) }
         ensures next { self.new.next ≡ self.old.next }
         ensures oldest { self.new.oldest ≡ self.old.oldest }
@@ -234,7 +234,7 @@ impl<A: Allocator + Clone> Store<A> {
     /// Refused for want of memory alone.
     pub fn get(&self, key: &[u8], snapshot: SeqNo) -> Result<Option<Slice<A>>, Error>
         // At a snapshot that is kept it is the value that the writes say.
-        ensures told { (ws : List Entry) → Tells self.now ws → self.now.oldest ≤ snapshot →
+        ensures told { (ws : List Entry) → IsTold self.now ws → self.now.oldest ≤ snapshot →
             IfOk result (λ value. value ≡ value_in ws key.now snapshot) }
         ensures memory { IfErr result (λ e. e ≡ OutOfMemory) }
     {
@@ -246,7 +246,7 @@ impl<A: Allocator + Clone> Store<A> {
 // Whether a write may be taken under a number: refused where its key or its value is longer than a
 // table takes, or no number is left.
 fn check_write(next: SeqNo, key: &[u8], value: &[u8]) -> Result<(), Error>
-    ensures { Refuses result (write_fault next key.now value.now) }
+    ensures { Refuses result (put_fault next key.now value.now) }
 {
     if key.len() > 65_535 {
         return Err(Error::KeyTooLong);

@@ -5,7 +5,7 @@ use Rattle.std.specs.Prelude.{Option, None, Some}
 use Rattle.std.specs.List.{slice_get}
 use Rattle.std.proofs.lemmas.List.{drop_all, drop_more}
 use Rattle.sst_blocks.specs.Handle.{Handle}
-use Rattle.lsm_readers.specs.Handles.{handles_from}
+use Rattle.lsm_readers.specs.Handles.{handles_ahead}
 
 -- the first of what is left stands at the place
 pub first_left : {X : Type 0} (xs : List X) (i : ℕ) → slice_get (drop i xs) 0 ≡ slice_get xs i
@@ -41,13 +41,13 @@ none_more xs i far =
 
 -- the next one is left out
 pub passed : (block : Option (List Handle)) (i : ℕ)
-    → i < length (handles_from 0 block)
-    → handles_from (i + 1) block ≡ drop 1 (handles_from i block)
+    → i < length (handles_ahead 0 block)
+    → handles_ahead (i + 1) block ≡ drop 1 (handles_ahead i block)
 passed None i within = absurd (omega (arith, within))
 passed (Some hs) i within = drop_one hs i within
 
 -- where there is none nothing is left out
-pub passed_none : (block : Option (List Handle)) (i : ℕ) → length (handles_from 0 block) ≤ i
-    → handles_from i block ≡ drop 1 (handles_from i block)
+pub passed_none : (block : Option (List Handle)) (i : ℕ) → length (handles_ahead 0 block) ≤ i
+    → handles_ahead i block ≡ drop 1 (handles_ahead i block)
 passed_none None i far = refl
 passed_none (Some hs) i far = none_more hs i far

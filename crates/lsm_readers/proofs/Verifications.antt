@@ -17,8 +17,8 @@ use Rattle.lsm_readers.specs.Verify.{end_found, filter_found, filter_places, fil
 use Rattle.lsm_readers.specs.Verify.{handles_found, index_found, part_found}
 use Rattle.lsm_readers.specs.Verify.{parts_found, table_found, top_named, tops_found, unread_of}
 use Rattle.lsm_readers.specs.Verify.{named_found, verified_of}
-use Rattle.lsm_readers.specs.Verification.{Ends, Goes, before_index, count_told, ended_found}
-use Rattle.lsm_readers.specs.Verification.{in_index, named_steps, partition_found, parts_steps}
+use Rattle.lsm_readers.specs.Verification.{GoesOne, IsThrough, before_index, count_told}
+use Rattle.lsm_readers.specs.Verification.{ended_found, in_index, named_steps, partition_found, parts_steps}
 use Rattle.lsm_readers.specs.Verification.{places_found, places_in, rest_found, steps_left}
 use Rattle.lsm_readers.proofs.VerifyLoops.{wanted}
 use Rattle.lsm_readers.proofs.VerifySteps.{answer, then_ok, told_is}
@@ -100,7 +100,7 @@ module _ (body : List ℕ) (parts : Parts) where
 
   pub filter_goes : (place : Place) (places : List Place) (left : Unread) (u : Unit {0})
       → filter_found body place ≡ Ok u
-      → Goes body parts (before_index (place ∷ places)) left (before_index places) left
+      → GoesOne body parts (before_index (place ∷ places)) left (before_index places) left
   unfolding rest_found places_found steps_left
   filter_goes place places left u is = record {
     rest = sym (ap (λ (r : Result (Unit {0}) Finding). (r >>= λ _. places_found body places)
@@ -139,7 +139,7 @@ module _ (body : List ℕ) (parts : Parts) where
 
   index_goes_by : (index : Option Place) → parts.regions.index ≡ index → (hs : List Handle)
       (left : Unread) → handles_found body section.Tli parts.regions.tli ≡ Ok hs
-      → Goes body parts (before_index []) left
+      → GoesOne body parts (before_index []) left
       (in_index (opened index hs).0 (opened index hs).1) left
   unfolding rest_found places_found index_found steps_left
   index_goes_by index kind hs left is = record {
@@ -156,12 +156,12 @@ module _ (body : List ℕ) (parts : Parts) where
 
   pub full_goes : parts.regions.index ≡ None → (hs : List Handle) (left : Unread)
       → handles_found body section.Tli parts.regions.tli ≡ Ok hs
-      → Goes body parts (before_index []) left (in_index hs []) left
+      → GoesOne body parts (before_index []) left (in_index hs []) left
   full_goes = index_goes_by None
 
   pub tops_goes : (place : Place) → parts.regions.index ≡ Some place → (hs : List Handle)
       (left : Unread) → handles_found body section.Tli parts.regions.tli ≡ Ok hs
-      → Goes body parts (before_index []) left (in_index [] hs) left
+      → GoesOne body parts (before_index []) left (in_index [] hs) left
   tops_goes place = index_goes_by (Some place)
 
   pub index_misses : (left : Unread) (e : VerifyError)
@@ -176,7 +176,7 @@ module _ (body : List ℕ) (parts : Parts) where
 
   pub block_goes : (h : Handle) (hs tops : List Handle) (left next : Unread)
       → block_found body parts left h ≡ Ok next
-      → Goes body parts (in_index (h ∷ hs) tops) left (in_index hs tops) next
+      → GoesOne body parts (in_index (h ∷ hs) tops) left (in_index hs tops) next
   unfolding rest_found blocks_found steps_left
   block_goes h hs tops left next is = record {
     rest = sym (ap (λ (r : Result Unread Finding). ended_found body parts
@@ -227,7 +227,7 @@ module _ (body : List ℕ) (parts : Parts) where
 
   pub part_goes : (top : Handle) (tops hs : List Handle) (left : Unread)
       → partition_found body top ≡ Ok hs
-      → Goes body parts (in_index [] (top ∷ tops)) left (in_index hs tops) left
+      → GoesOne body parts (in_index [] (top ∷ tops)) left (in_index hs tops) left
   unfolding rest_found blocks_found parts_found steps_left
   part_goes top tops hs left is = record {
     rest = sym (ap (λ (r : Result Unread Finding). ended_found body parts
@@ -260,7 +260,7 @@ module _ (body : List ℕ) (parts : Parts) where
   -- ---- the end
 
   pub ends_here : (left : Unread) (u : Unit {0}) → end_found body parts left ≡ Ok u
-      → Ends body parts (in_index [] []) left
+      → IsThrough body parts (in_index [] []) left
   unfolding rest_found blocks_found parts_found steps_left
   ends_here left u is = record {
     rest = ap (λ (r : Result (Unit {0}) Finding). r >>= λ _. Ok (verified_of parts.facts)) is;

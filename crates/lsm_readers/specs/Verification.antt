@@ -88,13 +88,13 @@ steps_left body parts (in_index handles tops) = length handles + parts_steps bod
 -- ---- a step
 
 -- a step that read a block: what is found first is found behind it, and one step fewer is left
-pub record Goes (body : List ℕ) (parts : Parts) (old : Ahead) (before : Unread) (new : Ahead)
+pub record GoesOne (body : List ℕ) (parts : Parts) (old : Ahead) (before : Unread) (new : Ahead)
     (after : Unread) : Type 0 where
   pub rest : rest_found body parts new after ≡ rest_found body parts old before
   pub steps : steps_left body parts old ≡ 1 + steps_left body parts new
 
 -- nothing was left to read, and nothing is wrong at the end
-pub record Ends (body : List ℕ) (parts : Parts) (old : Ahead) (before : Unread) : Type 0 where
+pub record IsThrough (body : List ℕ) (parts : Parts) (old : Ahead) (before : Unread) : Type 0 where
   pub rest : rest_found body parts old before ≡ Ok (verified_of parts.facts)
   pub steps : steps_left body parts old ≡ 0
 

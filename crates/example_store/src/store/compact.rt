@@ -2,7 +2,7 @@
 ghost use Rattle.std.specs.Prelude.{◌≡◌, IfErr, IfOk, List, OnErr, OnOk, Some, false};
 ghost use Rattle.std.specs.Prelude.{length, map, max, true};
 ghost use Rattle.std.specs.Arc.{arc_value};
-ghost use Rattle.example_store.specs.Story.{Tells, option_list};
+ghost use Rattle.example_store.specs.Story.{IsTold, option_list};
 ghost use Rattle.logpurple.specs.Words.{AreCompactable, AreInOrder, Entry, HaveAll, HoldUnion};
 ghost use Rattle.logpurple.specs.Words.{IsLeastSize, OutOfMemory, RunsHoldLists, is_memory};
 ghost use Rattle.logpurple.specs.Words.{kept_in, range_of, rules_by, tables_fault, union_in};
@@ -20,7 +20,7 @@ impl<A: Allocator + Clone> Store<A> {
     /// see of them; older snapshots are kept no longer. What is in the memtable stays there.
     /// Refused as [`compact_to_run`] is; the store then has what it had.
     pub fn compact(&mut self, watermark: SeqNo) -> Result<(), Error>
-        ensures story { (ws : List Entry) → Tells self.old ws → Tells self.new ws }
+        ensures story { (ws : List Entry) → IsTold self.old ws → IsTold self.new ws }
         ensures oldest { OnOk result (self.new.oldest ≡ max self.old.oldest watermark) }
         ensures next { self.new.next ≡ self.old.next }
         ensures recent { self.new.recent ≡ self.old.recent }
@@ -45,7 +45,7 @@ impl<A: Allocator + Clone> Store<A> {
     /// Puts the tables of all runs in as few runs as there can be. Refused for want of memory
     /// alone; the store then has what it had.
     pub fn pack(&mut self) -> Result<(), Error>
-        ensures story { (ws : List Entry) → Tells self.old ws → Tells self.new ws }
+        ensures story { (ws : List Entry) → IsTold self.old ws → IsTold self.new ws }
         ensures oldest { self.new.oldest ≡ self.old.oldest }
         ensures next { self.new.next ≡ self.old.next }
         // No fewer runs can do.

@@ -1,6 +1,6 @@
 //! Ranges of a store at a snapshot.
 ghost use Rattle.std.specs.Prelude.{◌≡◌, ◌≤◌, IfErr, IfOk, List};
-ghost use Rattle.example_store.specs.Story.{Tells};
+ghost use Rattle.example_store.specs.Story.{IsTold};
 ghost use Rattle.logpurple.specs.Words.{DealsList, Entry, OutOfMemory, all_shown, newest};
 ghost use Rattle.logpurple.specs.Words.{numbered_below, sort_entries, within};
 
@@ -25,7 +25,7 @@ impl<A: Allocator + Clone> Store<A> {
         // At a snapshot that is kept, what it shows is what the writes say.
         ensures told { let gives = ⟦<Range<A> as Iterator>⟧.next_gives in
             let back_gives = ⟦<Range<A> as DoubleEndedIterator>⟧.next_back_gives in
-            (ws : List Entry) → Tells self.now ws → self.now.oldest ≤ snapshot →
+            (ws : List Entry) → IsTold self.now ws → self.now.oldest ≤ snapshot →
             IfOk result (λ s. (es : List Entry) × DealsList gives back_gives es s ×
             (all_shown es ≡ all_shown (newest (numbered_below snapshot
             (within bounds.0 bounds.1 (sort_entries ws)))))) }

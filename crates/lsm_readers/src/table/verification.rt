@@ -3,7 +3,7 @@ ghost use Rattle.std.specs.Prelude.{◌≡◌, ◌+◌, IfErr, IfNone, IfOk, IfS
 ghost use Rattle.std.specs.Prelude.{true};
 ghost use Rattle.lsm_readers.specs.Findings.{IsFirstFinding};
 ghost use Rattle.lsm_readers.specs.Verify.{Misses, table_found, verified_of};
-ghost use Rattle.lsm_readers.specs.Verification.{Ends, Goes, ahead_of, bytes_read};
+ghost use Rattle.lsm_readers.specs.Verification.{GoesOne, IsThrough, ahead_of, bytes_read};
 ghost use Rattle.lsm_readers.specs.Verification.{rest_found, steps_of, verifying};
 ghost use Rattle.lsm_readers.specs.Words.{Entry, IsOpen, StoresList, body_of};
 ghost use Rattle.lsm_readers.specs.declared.verify.Finding.{Finding};
@@ -82,10 +82,10 @@ impl<A: Allocator + Clone> Table<A> {
     fn read_next(&self, stage: &mut Stage<A>, left: &mut Unread<A>) -> Result<bool, VerifyError>
         ensures open { IsOpen self.now }
         ensures goes { let parts = self.now.parts in IfOk result (λ ends. ends ≡ false →
-            Goes (body_of self.now.bytes) parts (ahead_of parts stage.old) left.old
+            GoesOne (body_of self.now.bytes) parts (ahead_of parts stage.old) left.old
             (ahead_of parts stage.new) left.new) }
         ensures ends { let parts = self.now.parts in IfOk result (λ ends. ends ≡ true →
-            Ends (body_of self.now.bytes) parts (ahead_of parts stage.old) left.old) }
+            IsThrough (body_of self.now.bytes) parts (ahead_of parts stage.old) left.old) }
         ensures answered { IfOk result (λ ends. ends ≡ true →
             (stage.new ≡ stage.old) × (left.new ≡ left.old)) }
         ensures refused { let parts = self.now.parts in IfErr result (λ e. Misses e

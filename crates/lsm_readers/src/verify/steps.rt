@@ -6,11 +6,10 @@ ghost use Rattle.lsm_readers.specs.Words.{Handle, body_of, parts_of};
 ghost use Rattle.lsm_readers.specs.declared.verify.VerifyError.TheVariants.{OutOfMemory};
 ghost use Rattle.lsm_readers.specs.Verify.{Finds, Misses, Unread as UnreadLeft, block_found};
 ghost use Rattle.lsm_readers.specs.Verify.{blocks_found};
-ghost use Rattle.lsm_readers.specs.Handles.{handles_from};
+ghost use Rattle.lsm_readers.specs.Handles.{handles_ahead};
 ghost use Rattle.lsm_readers.specs.Parts.{Parts};
-ghost use Rattle.lsm_readers.specs.Verification.{Ends, Goes, ahead_of, before_index, in_index};
-ghost use Rattle.lsm_readers.specs.Verification.{partition_found, places_in};
-ghost use Rattle.lsm_readers.specs.Verification.{rest_found};
+ghost use Rattle.lsm_readers.specs.Verification.{GoesOne, IsThrough, ahead_of, before_index};
+ghost use Rattle.lsm_readers.specs.Verification.{in_index, partition_found, places_in, rest_found};
 
 use super::blocks::{handle_at, load_part, read_block, test_top};
 use super::end::{test_filter, test_left};
@@ -31,11 +30,11 @@ pub(crate) struct HandlesLeft<A: Allocator = Global> {
 impl<A: Allocator> Model for HandlesLeft<A> {
     ghost use Rattle.std.specs.Prelude.{List};
     ghost use Rattle.sst_blocks.specs.Handle.{Handle};
-    ghost use Rattle.lsm_readers.specs.Handles.{handles_from};
+    ghost use Rattle.lsm_readers.specs.Handles.{handles_ahead};
 
     ghost Value = { List Handle };
 
-    ghost view = { λ h. handles_from h.index h.block };
+    ghost view = { λ h. handles_ahead h.index h.block };
 }
 
 /// What is left to read of a table.
@@ -70,7 +69,7 @@ impl<A: Allocator> Unread<A> {
 
 /// How many handles a block has, where there is one.
 fn count_in<A: Allocator>(block: &Option<IndexBlock<A>>) -> usize
-    ensures { result ≡ length (handles_from 0 block.now) }
+    ensures { result ≡ length (handles_ahead 0 block.now) }
 {
     match block {
         Some(block) => block.len(),
@@ -227,10 +226,11 @@ fn step_index<A: Allocator + Clone>(
     left: &mut Unread<A>,
 ) -> Result<bool, VerifyError>
     ensures goes { IfOk result (λ ends. ends ≡ false →
-        Goes (body_of source.now) (parts_of inner.now) (in_index handles.old tops.old) left.old
+        GoesOne (body_of source.now) (parts_of inner.now) (in_index handles.old tops.old) left.old
         (in_index handles.new tops.new) left.new) }
     ensures ends { IfOk result (λ ends. ends ≡ true →
-        Ends (body_of source.now) (parts_of inner.now) (in_index handles.old tops.old) left.old) }
+        IsThrough (body_of source.now) (parts_of inner.now) (in_index handles.old tops.old)
+        left.old) }
     ensures answered { IfOk result (λ ends. ends ≡ true →
         (handles.new ≡ handles.old) × (tops.new ≡ tops.old) × (left.new ≡ left.old)) }
     ensures refused { let ahead = in_index handles.old tops.old in
@@ -283,7 +283,7 @@ fn open_index<A: Allocator + Clone>(
     inner: &Inner<A>,
 ) -> Result<Stage<A>, VerifyError>
     ensures goes { (left : UnreadLeft) → let parts = parts_of inner.now in
-        IfOk result (λ stage. Goes (body_of source.now) parts (before_index []) left
+        IfOk result (λ stage. GoesOne (body_of source.now) parts (before_index []) left
         (ahead_of parts stage) left) }
     ensures refused { (left : UnreadLeft) → IfErr result (λ e. Misses e
         (rest_found (body_of source.now) (parts_of inner.now) (before_index []) left)) }
@@ -310,7 +310,7 @@ fn step_filter<A: Allocator + Clone>(
 ) -> Result<Stage<A>, VerifyError>
     ensures goes { (left : UnreadLeft) → let parts = parts_of inner.now in
         let ahead = before_index (drop index (places_in parts)) in
-        IfOk result (λ stage. Goes (body_of source.now) parts ahead left
+        IfOk result (λ stage. GoesOne (body_of source.now) parts ahead left
         (ahead_of parts stage) left) }
     ensures refused { (left : UnreadLeft) → let parts = parts_of inner.now in
         let ahead = before_index (drop index (places_in parts)) in
@@ -334,10 +334,10 @@ pub(crate) fn step_stage<A: Allocator + Clone>(
     left: &mut Unread<A>,
 ) -> Result<bool, VerifyError>
     ensures goes { let parts = parts_of inner.now in IfOk result (λ ends. ends ≡ false →
-        Goes (body_of source.now) parts (ahead_of parts stage.old) left.old
+        GoesOne (body_of source.now) parts (ahead_of parts stage.old) left.old
         (ahead_of parts stage.new) left.new) }
     ensures ends { let parts = parts_of inner.now in IfOk result (λ ends. ends ≡ true →
-        Ends (body_of source.now) parts (ahead_of parts stage.old) left.old) }
+        IsThrough (body_of source.now) parts (ahead_of parts stage.old) left.old) }
     ensures answered { IfOk result (λ ends. ends ≡ true →
         (stage.new ≡ stage.old) × (left.new ≡ left.old)) }
     ensures refused { let parts = parts_of inner.now in let ahead = ahead_of parts stage.old in

@@ -2,7 +2,7 @@ use Rattle.std.proofs.Common.{◌≡◌, sym, ◌∙◌, ap, subst, List, true, 
 use Rattle.std.specs.Prelude.{map, max}
 use Rattle.std.specs.Arc.{arc_value}
 use Rattle.logpurple.specs.Words.{OpenTable, RunsHoldLists, rules_by}
-use Rattle.example_store.specs.Story.{Holding, IsSound, holding}
+use Rattle.example_store.specs.Story.{Holding, IsStore, holding}
 use Rattle.example_store.proofs.Compacting.{low_compacted, sound_replaced, tells_compacted}
 use Rattle.example_store.proofs.store.Store.compact.Goals as goal
 
@@ -24,7 +24,7 @@ returns-clause-story g c ws told =
     let hold = subst (λ (rs : List (List OpenTable)). RunsHoldLists rs told.lists) (sym same) told.hold in
     let highest : c.max-self-inside.result ≡ max c.self.inside.oldest c.args.watermark = search rules in
     let oldest = ap (λ (h : Holding). h.oldest) is in
-    tells_compacted s _ ws (rules_by c.args.watermark true false) (subst IsSound is c.self.invariant) told
+    tells_compacted s _ ws (rules_by c.args.watermark true false) (subst IsStore is c.self.invariant) told
     (c.in_ok-runs.ensures.kept told.lists hold)
     (ap (λ (h : Holding). h.recent) is)
     (ap (λ (h : Holding). h.next) is)

@@ -2,7 +2,7 @@ use Rattle.std.proofs.Common.{sym, ◌∙◌, ap, subst, List, ◌∷◌}
 use Rattle.std.specs.Prelude.{map}
 use Rattle.std.specs.Arc.{arc_value}
 use Rattle.logpurple.specs.Words.{Entry, HasList, IsStrict}
-use Rattle.example_store.specs.Story.{Holding, IsSound}
+use Rattle.example_store.specs.Story.{Holding, IsStore}
 use Rattle.example_store.proofs.Stories.{sound_flushed, tells_flushed}
 use Rattle.example_store.proofs.store.Store.put_in_front.Goals as goal
 
@@ -19,7 +19,7 @@ invariant_of-self-2 g c =
 pub returns-clause-story : goal.returns-clause-story
 returns-clause-story g c ws told =
     let is = c.self.view_is in
-    tells_flushed c.args.self.now _ (arc_value c.args.run) ws (subst IsSound is c.self.invariant) c.requires.strict c.requires.list told
+    tells_flushed c.args.self.now _ (arc_value c.args.run) ws (subst IsStore is c.self.invariant) c.requires.strict c.requires.list told
     c.requires.empty
     (ap (map arc_value) c.in_ok-insert.ensures.items ∙ ap (λ (h : Holding). arc_value c.args.run ∷ h.runs) is)
     (ap (λ (h : Holding). h.next) is)

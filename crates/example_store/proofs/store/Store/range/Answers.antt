@@ -3,7 +3,7 @@ use Rattle.std.specs.Prelude.{map}
 use Rattle.std.specs.Arc.{arc_value}
 use Rattle.logpurple.specs.Words.{Entry, IsStrict, OpenTable, RunsHoldLists, all_shown, newest}
 use Rattle.logpurple.specs.Words.{numbered_below, single, sort_entries, union_in, within}
-use Rattle.example_store.specs.Story.{Holding, IsSound}
+use Rattle.example_store.specs.Story.{Holding, IsStore}
 use Rattle.example_store.proofs.Ranges.{dealt_told, one_source, range_told}
 use Rattle.example_store.proofs.store.Store.range.Goals as goal
 
@@ -24,4 +24,4 @@ returns-clause-told g c ws told kept =
     dealt_told _ _ (λ (xs : List Entry). all_shown xs ≡ says) c.range_sources_at.result found
     (c.range_sources_at.ensures.list told.lists hold (es ∷ []) (one_source _ _ low high _ c.in_ok-recent.recent es sources c.within.ensures.strict c.in_ok-recent.ensures.list))
     (subst (λ (xs : List Entry). all_shown (newest (numbered_below below (within low high (union_in (map single (xs ∷ []) ++ told.lists))))) ≡ says) (sym recent)
-    (range_told s ws low high below (subst IsSound is c.self.invariant) (subst IsStrict recent c.within.ensures.strict) told kept))
+    (range_told s ws low high below (subst IsStore is c.self.invariant) (subst IsStrict recent c.within.ensures.strict) told kept))

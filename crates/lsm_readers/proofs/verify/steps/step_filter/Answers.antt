@@ -4,7 +4,7 @@ use Rattle.sst_sections.specs.Sections.{body_of}
 use Rattle.sst_blocks.specs.Place.{Place}
 use Rattle.lsm_readers.specs.Table.{parts_of}
 use Rattle.lsm_readers.specs.Verify.{Misses}
-use Rattle.lsm_readers.specs.Verification.{Goes, ahead_of, before_index, places_in, rest_found}
+use Rattle.lsm_readers.specs.Verification.{GoesOne, ahead_of, before_index, places_in, rest_found}
 use Rattle.lsm_readers.proofs.HandlesLeft.{none_at}
 use Rattle.lsm_readers.proofs.VerifyLoops.{drop_at}
 use Rattle.lsm_readers.proofs.Verifications.{filter_goes, filter_misses, refuses}
@@ -36,7 +36,7 @@ returns-in_ok-test_filter-in-Some-clause-goes g c = λ left.
     let place = c.in-Some.place in
     let more = drop (i + 1) places in
     let head = drop_at places i place (sym c.filter_at.ensures.place ∙ c.in-Some.is) in
-    subst (λ (ps : List Place). Goes body parts (before_index ps) left (before_index more) left)
+    subst (λ (ps : List Place). GoesOne body parts (before_index ps) left (before_index more) left)
     (sym head)
     (filter_goes body parts place more left tt c.in_ok-test_filter-in-Some.ensures.told)
 
@@ -47,7 +47,7 @@ returns-in-None-clause-goes g c = λ left.
     let none = none_at (places_in parts) c.args.index
     (sym c.filter_at.ensures.place ∙ c.in-None.is) in
     subst (λ (ps : List Place). IfOk c.open_index.result (λ stage.
-    Goes body parts (before_index ps) left (ahead_of parts stage) left)) (sym none)
+    GoesOne body parts (before_index ps) left (ahead_of parts stage) left)) (sym none)
     (c.open_index.ensures.goes left)
 
 pub returns-in-None-clause-refused : goal.returns-in-None-clause-refused

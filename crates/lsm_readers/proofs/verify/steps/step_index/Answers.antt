@@ -2,7 +2,7 @@ use Rattle.std.proofs.Common.{List, ap, subst, sym, ◌∙◌}
 use Rattle.sst_sections.specs.Sections.{body_of}
 use Rattle.sst_blocks.specs.Handle.{Handle}
 use Rattle.lsm_readers.specs.Table.{parts_of}
-use Rattle.lsm_readers.specs.Verification.{Goes, in_index, rest_found}
+use Rattle.lsm_readers.specs.Verification.{GoesOne, in_index, rest_found}
 use Rattle.lsm_readers.proofs.Verifications.{at_none, at_some, block_goes, block_misses}
 use Rattle.lsm_readers.proofs.Verifications.{end_misses, ends_here, next_misses, part_goes, refuses}
 use Rattle.lsm_readers.proofs.verify.steps.step_index.Goals as goal
@@ -27,7 +27,7 @@ returns-then-branch-clause-goes g c = λ no.
     let behind = c.step_block.new.handles in
     let next = c.step_block.new.left in
     let read = c.in_ok-step_block.ensures.read c.if-branch.true in
-    subst (λ (hs : List Handle). Goes body parts (in_index hs tops) left (in_index behind tops)
+    subst (λ (hs : List Handle). GoesOne body parts (in_index hs tops) left (in_index behind tops)
     next) (sym read.1) (block_goes body parts read.0 behind tops left next read.2)
 
 pub returns-in_err-block-clause-refused : goal.returns-in_err-block-clause-refused
