@@ -18,7 +18,8 @@ use Rattle.lsm_readers.specs.Verify.{handles_found, index_found, part_found}
 use Rattle.lsm_readers.specs.Verify.{parts_found, table_found, top_named, tops_found, unread_of}
 use Rattle.lsm_readers.specs.Verify.{named_found, verified_of}
 use Rattle.lsm_readers.specs.Verification.{GoesOne, IsThrough, before_index, count_told}
-use Rattle.lsm_readers.specs.Verification.{ended_found, in_index, named_steps, partition_found, parts_steps}
+use Rattle.lsm_readers.specs.Verification.{ended_found, in_index, named_steps, partition_found}
+use Rattle.lsm_readers.specs.Verification.{parts_steps}
 use Rattle.lsm_readers.specs.Verification.{places_found, places_in, rest_found, steps_left}
 use Rattle.lsm_readers.proofs.VerifyLoops.{wanted}
 use Rattle.lsm_readers.proofs.VerifySteps.{answer, then_ok, told_is}
