@@ -1,10 +1,9 @@
 //! Which partition of a filter a read asks: that of the first handle whose end key is greater, or
 //! equal and numbered below `u64::MAX`.
+use crate::tables::asked_with;
 use lsm_tables::Table;
 use sst_blocks::{Error, SeqNo};
 use std::alloc::Global;
-use std::test::Fail;
-use test_tables::large::asked;
 use test_tables::stored::filter_parts;
 use test_tables::tables::{open, overwritten};
 
@@ -32,7 +31,8 @@ const LARGEST_AT_LAST: Changes = &[
 // The number that a read finds, and how many blocks of the filter and of data it loads.
 type Read = (Option<SeqNo>, u64, u64);
 
-fn counted_read(table: &Table, key: &[u8], seqno: SeqNo) -> Result<Read, Error> {
+fn counted_read(table: &Table, of: (&[u8], SeqNo)) -> Result<Read, Error> {
+    let (key, seqno) = of;
     let (found, opened) = table.get_counted(key, seqno, Table::<Global>::key_hash(key));
     match found? {
         Some(item) => Ok((Some(item.key.seqno), opened.filter_loads, opened.data_loads)),
@@ -43,10 +43,7 @@ fn counted_read(table: &Table, key: &[u8], seqno: SeqNo) -> Result<Read, Error> 
 // What the stored table answers, once it is changed.
 fn read_changed(alloc: Global, changes: Changes, key: &[u8], seqno: SeqNo) -> Result<Read, Error> {
     let bytes = overwritten(alloc, &filter_parts::BYTES, changes)?;
-    asked(
-        open(alloc, bytes, 0),
-        |table| counted_read(table, key, seqno),
-    )
+    asked_with(open(alloc, bytes, 0), (key, seqno), counted_read)
 }
 
 // What is changed, a key and a bound, and what is read.
@@ -66,9 +63,8 @@ const CASES: &[Case] = &[
 ];
 
 #[test]
-fn a_handle_of_the_largest_number_is_passed_over(rt: HostRuntime) -> Result<(), Fail> {
+fn a_handle_of_the_largest_number_is_passed_over(rt: HostRuntime) {
     for &(changes, key, seqno, expected) in CASES {
-        assert_eq!(rt; read_changed(rt.alloc(), changes, key, seqno)?, expected);
+        assert!(rt; read_changed(rt.alloc(), changes, key, seqno) == Ok(expected));
     }
-    Ok(())
 }

@@ -68,7 +68,7 @@ fn index_in(table: &Table) -> Result<BlockIndexImpl, Error> {
 }
 
 fn index_of(alloc: Global, parts: bool, pin: bool) -> Result<BlockIndexImpl, Error> {
-    asked(opened(alloc, parts, pin), |table| index_in(table))
+    asked(opened(alloc, parts, pin), index_in)
 }
 
 // The kind of an index, and whether it names the blocks.
@@ -83,12 +83,12 @@ fn kind(index: &BlockIndexImpl) -> &'static str {
 }
 
 fn told_by(index: &BlockIndexImpl) -> Result<Told, Error> {
-    let right = asked_mut(index.iter(), |handles| all_named(handles))?;
+    let right = asked_mut(index.iter(), all_named)?;
     Ok((kind(index), right))
 }
 
 fn told(alloc: Global, parts: bool, pin: bool) -> Result<Told, Error> {
-    asked(index_of(alloc, parts, pin), |index| told_by(index))
+    asked(index_of(alloc, parts, pin), told_by)
 }
 
 // Whether an index has partitions, whether it is to stay loaded, and what kind it is then.

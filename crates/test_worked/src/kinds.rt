@@ -5,9 +5,10 @@ ghost use Rattle.lsm_writers.specs.Writing.{IsFresh};
 use crate::tables::{ROWS, Sections, bytes_of, sections};
 use lsm_tables::{ParsedRegions, Scanner, Table};
 use lsm_writers::{BloomConstructionPolicy, FinishedTable, Timestamp, Writer};
-use sst_blocks::{BlockSource, BlockType, Checksum, DataBlock, Error, Opened, SeqNo, ValueType};
+use sst_blocks::{
+    BlockSource, BlockType, Checksum, DataBlock, Error, IterItem, Opened, SeqNo, ValueType,
+};
 use std::alloc::{Allocator, Global};
-use std::test::Fail;
 use test_refusing::{Refusing, each_refused};
 use test_tables::large::asked;
 use test_tables::rows::{Row, fill, new_writer};
@@ -87,128 +88,102 @@ fn laid_in(source: &BlockSource) -> Result<Laid, Error> {
         BlockType::Meta,
         &mut Opened::none(),
     );
-    let (index, filter) = asked(meta, |meta| counted(meta))?;
-    Ok((sections(source), index, filter))
+    let (index, filter) = asked(meta, counted)?;
+    Ok((sections(source)?, index, filter))
 }
 
 fn laid(alloc: Global, table: Result<FinishedTable, Error>) -> Result<Laid, Error> {
     let bytes = bytes_of(table)?;
-    asked(BlockSource::new(alloc, bytes), |source| laid_in(source))
+    asked(BlockSource::new(alloc, bytes), laid_in)
 }
 
 const DATA: Option<(u64, u64)> = Some((0, 184));
 
-// Where an index in four parts lies, and one in a single part.
-const OF_INDEX_PARTS: [Laid; 2] = [
-    (
-        [
-            DATA,
-            Some((184, 212)),
-            Some((396, 128)),
-            None,
-            None,
-            Some((524, 1)),
-            Some((525, 1099)),
-        ],
-        Some(4),
-        Some(1),
-    ),
-    (
-        [
-            DATA,
-            Some((184, 128)),
-            Some((312, 53)),
-            None,
-            None,
-            Some((365, 1)),
-            Some((366, 1099)),
-        ],
-        Some(1),
-        Some(1),
-    ),
-];
+// An index in four parts, and one in a single part.
+const OF_INDEX_PARTS: Laid = (
+    [
+        DATA,
+        Some((184, 212)),
+        Some((396, 128)),
+        None,
+        None,
+        Some((524, 1)),
+        Some((525, 1099)),
+    ],
+    Some(4),
+    Some(1),
+);
 
-fn laid_index_parts(alloc: Global) -> Result<[Laid; 2], Error> {
-    Ok([
-        laid(alloc, index_parts(alloc))?,
-        laid(alloc, forgotten_index_parts(alloc))?,
-    ])
+const OF_ONE_INDEX_PART: Laid = (
+    [
+        DATA,
+        Some((184, 128)),
+        Some((312, 53)),
+        None,
+        None,
+        Some((365, 1)),
+        Some((366, 1099)),
+    ],
+    Some(1),
+    Some(1),
+);
+
+// A filter in two parts, one in a single part, and one without keys.
+const OF_FILTER_PARTS: Laid = (
+    [
+        DATA,
+        None,
+        Some((184, 128)),
+        Some((312, 66)),
+        Some((378, 78)),
+        Some((456, 1)),
+        Some((457, 1099)),
+    ],
+    Some(1),
+    Some(2),
+);
+
+const OF_ONE_FILTER_PART: Laid = (
+    [
+        DATA,
+        None,
+        Some((184, 128)),
+        Some((312, 33)),
+        Some((345, 53)),
+        Some((398, 1)),
+        Some((399, 1099)),
+    ],
+    Some(1),
+    Some(1),
+);
+
+const OF_NO_FILTER_PARTS: Laid = (
+    [
+        DATA,
+        None,
+        Some((184, 128)),
+        None,
+        None,
+        Some((312, 1)),
+        Some((313, 1099)),
+    ],
+    Some(1),
+    Some(0),
+);
+
+// Whether a table is laid so.
+fn is_laid(alloc: Global, table: Result<FinishedTable, Error>, expected: &Laid) -> bool {
+    laid(alloc, table) == Ok(*expected)
 }
 
 #[test]
-fn sections_of_a_partitioned_index(rt: HostRuntime) -> Result<(), Fail> {
-    assert!(rt; laid_index_parts(rt.alloc())? == OF_INDEX_PARTS);
-    Ok(())
-}
-
-// Where a filter in two parts lies, one in a single part, and one without keys.
-const OF_FILTER_PARTS: [Laid; 3] = [
-    (
-        [
-            DATA,
-            None,
-            Some((184, 128)),
-            Some((312, 66)),
-            Some((378, 78)),
-            Some((456, 1)),
-            Some((457, 1099)),
-        ],
-        Some(1),
-        Some(2),
-    ),
-    (
-        [
-            DATA,
-            None,
-            Some((184, 128)),
-            Some((312, 33)),
-            Some((345, 53)),
-            Some((398, 1)),
-            Some((399, 1099)),
-        ],
-        Some(1),
-        Some(1),
-    ),
-    (
-        [
-            DATA,
-            None,
-            Some((184, 128)),
-            None,
-            None,
-            Some((312, 1)),
-            Some((313, 1099)),
-        ],
-        Some(1),
-        Some(0),
-    ),
-];
-
-fn laid_filter_parts(alloc: Global) -> Result<[Laid; 3], Error> {
-    Ok([
-        laid(alloc, filter_parts(alloc))?,
-        laid(alloc, forgotten_filter_parts(alloc))?,
-        laid(alloc, no_filter_parts(alloc))?,
-    ])
-}
-
-#[test]
-fn sections_of_a_partitioned_filter(rt: HostRuntime) -> Result<(), Fail> {
-    assert!(rt; laid_filter_parts(rt.alloc())? == OF_FILTER_PARTS);
-    Ok(())
-}
-
-// How long a table is, and its checksum.
-fn told(table: &FinishedTable) -> (usize, Checksum) {
-    (table.bytes.len(), table.checksum)
-}
-
-#[test]
-fn partitions_of_the_index_byte_for_byte(rt: HostRuntime) -> Result<(), Fail> {
-    let (length, checksum) = asked(index_parts(rt.alloc()), |table| Ok(told(table)))?;
-    assert_eq!(rt; length, 1744);
-    assert!(rt; checksum == Checksum(0x3e3e_26fe_b3b2_fc42));
-    Ok(())
+fn sections_of_partitioned_indexes_and_filters(rt: HostRuntime) {
+    let alloc = rt.alloc();
+    assert!(rt; is_laid(alloc, index_parts(alloc), &OF_INDEX_PARTS));
+    assert!(rt; is_laid(alloc, forgotten_index_parts(alloc), &OF_ONE_INDEX_PART));
+    assert!(rt; is_laid(alloc, filter_parts(alloc), &OF_FILTER_PARTS));
+    assert!(rt; is_laid(alloc, forgotten_filter_parts(alloc), &OF_ONE_FILTER_PART));
+    assert!(rt; is_laid(alloc, no_filter_parts(alloc), &OF_NO_FILTER_PARTS));
 }
 
 /// The table of a@1, with the value `x`, as it is written where nothing is asked for.
@@ -217,21 +192,26 @@ pub(crate) fn one_key(alloc: Global) -> Result<FinishedTable, Error> {
     fill(Writer::new(alloc, 1, 0, Timestamp::from(0))?, alloc, &rows)
 }
 
-// Whether a table's filter is the one of the key `a`.
+// How long a table is, its checksum, and whether its filter is the one of the key `a`.
+type Bytes = (usize, Checksum, bool);
+
 fn has_filter_of_a(table: &FinishedTable) -> bool {
     let payload: [u8; 9] = [0x06, 0x01, 0x30, 0x00, 0x02, 0x40, 0x00, 0x08, 0x00];
     table.bytes.as_slice().get(124..133) == Some(payload.as_slice())
 }
 
+fn told(table: &FinishedTable) -> Result<Bytes, Error> {
+    Ok((table.bytes.len(), table.checksum, has_filter_of_a(table)))
+}
+
+const INDEX_PARTS: Bytes = (1744, Checksum(0x3e3e_26fe_b3b2_fc42), false);
+
+const ONE_KEY: Bytes = (1353, Checksum(0xdb3f_d8f7_6139_63e8), true);
+
 #[test]
-fn the_filter_of_one_key_byte_for_byte(rt: HostRuntime) -> Result<(), Fail> {
-    let ((length, checksum), has_filter) = asked(one_key(rt.alloc()), |table| {
-        Ok((told(table), has_filter_of_a(table)))
-    })?;
-    assert_eq!(rt; length, 1353);
-    assert!(rt; checksum == Checksum(0xdb3f_d8f7_6139_63e8));
-    assert!(rt; has_filter);
-    Ok(())
+fn partitions_of_the_index_and_the_filter_of_one_key_byte_for_byte(rt: HostRuntime) {
+    assert!(rt; asked(index_parts(rt.alloc()), told) == Ok(INDEX_PARTS));
+    assert!(rt; asked(one_key(rt.alloc()), told) == Ok(ONE_KEY));
 }
 
 // How many of the rows reads find.
@@ -245,8 +225,8 @@ fn count_read<A: Allocator + Copy>(table: &Table<A>) -> Result<usize, Error> {
     Ok(found)
 }
 
-fn one_more(found: Result<usize, Error>, given: Result<(), Error>) -> Result<usize, Error> {
-    given?;
+fn one_more<A: Allocator>(found: Result<usize, Error>, item: IterItem<A>) -> Result<usize, Error> {
+    item?;
     Ok(found?.saturating_add(1))
 }
 
@@ -254,7 +234,7 @@ fn one_more(found: Result<usize, Error>, given: Result<(), Error>) -> Result<usi
 fn count_scanned<A: Allocator + Copy>(scan: Scanner<A>) -> Result<usize, Error> {
     let mut found = Ok(0_usize);
     for item in scan {
-        found = one_more(found, item.map(drop));
+        found = one_more(found, item);
     }
     found
 }
@@ -268,14 +248,16 @@ fn count_found<A: Allocator + Copy>(table: &Table<A>) -> Result<usize, Error> {
 // Writes a table with partitions of the index and opens it; how many of its rows are found.
 fn rows_found<A: Allocator + Copy>(alloc: A) -> Result<usize, Error> {
     let bytes = bytes_of(index_parts(alloc))?;
-    asked(open(alloc, bytes, 0), |table| count_found(table))
+    asked(open(alloc, bytes, 0), count_found)
 }
 
 // Whether a read finds a row.
 fn read<A: Allocator + Copy>(table: &Table<A>, row: &Row<'_>) -> Result<bool, Error> {
     let bound = row.1.saturating_add(1);
-    let found = table.get(row.0, bound, Table::<A>::key_hash(row.0))?;
-    Ok(found.map(|item| item.key.seqno) == Some(row.1))
+    match table.get(row.0, bound, Table::<A>::key_hash(row.0))? {
+        Some(item) => Ok(item.key.seqno == row.1),
+        None => Ok(false),
+    }
 }
 
 // Whether the rows are found, also where there is no memory for marks, or a refused request is
@@ -288,10 +270,9 @@ fn finds_its_rows(heap: &Refusing, may_fail: bool) -> bool {
 }
 
 #[test]
-fn each_request_refused_is_told(rt: HostRuntime) -> Result<(), Fail> {
-    let answers = each_refused(rt.alloc(), |heap, may_fail| finds_its_rows(heap, may_fail));
+fn each_request_refused_is_told(rt: HostRuntime) {
+    let answers = each_refused(rt.alloc(), finds_its_rows);
     let heap = Refusing::new(rt.alloc(), 0);
     assert!(rt; finds_its_rows(&heap, false));
-    assert_eq!(rt; answers, Ok(heap.requests()));
-    Ok(())
+    assert!(rt; answers == Ok(heap.requests()));
 }

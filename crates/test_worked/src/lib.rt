@@ -13,6 +13,8 @@ mod layout;
 #[cfg(test)]
 mod lists;
 #[cfg(test)]
+mod memory;
+#[cfg(test)]
 mod pins;
 #[cfg(test)]
 mod point_reads;

@@ -4,7 +4,6 @@ use crate::kinds::{filter_parts, index_parts, one_key};
 use crate::tables::{bytes_of, written, written_in_blocks};
 use sst_blocks::{Error, Slice, ValueType};
 use std::alloc::Global;
-use std::test::Fail;
 use test_tables::pins::{
     OF_FILTER_PARTS, OF_FOUR_BLOCKS, OF_ONE_ENTRY, OF_ONE_ENTRY_FILTERED, OF_TWO_LEVELS, Read,
     Sizes, Starts, all_answered, all_sizes, starts_of,
@@ -32,41 +31,26 @@ const OF_ONE: [Sizes; 4] = [(0, 0, 29), (0, 0, 0), (0, 0, 29), (0, 0, 0)];
 
 const OF_ONE_FILTERED: [Sizes; 4] = [(33, 9, 29), (33, 9, 0), (33, 0, 29), (33, 0, 0)];
 
-#[test]
-fn one_entry_under_each_pair_of_pins(rt: HostRuntime) -> Result<(), Fail> {
-    let plain = written(rt.alloc(), &ONE_ROW);
-    assert!(rt; is_read(rt.alloc(), plain, OF_ONE, &OF_ONE_ENTRY)?);
-    let filtered = bytes_of(one_key(rt.alloc()));
-    assert!(rt;
-        is_read(
-            rt.alloc(),
-            filtered,
-            OF_ONE_FILTERED,
-            &OF_ONE_ENTRY_FILTERED
-        )?
-    );
-    Ok(())
-}
-
 const OF_FOUR: [Sizes; 4] = [(0, 0, 104), (0, 0, 0), (0, 0, 104), (0, 0, 0)];
 
 const OF_PARTS: [Sizes; 4] = [(66, 0, 104), (66, 0, 0), (66, 0, 104), (66, 0, 0)];
 
-#[test]
-fn four_blocks_under_each_pair_of_pins(rt: HostRuntime) -> Result<(), Fail> {
-    let plain = written_in_blocks(rt.alloc());
-    assert!(rt; is_read(rt.alloc(), plain, OF_FOUR, &OF_FOUR_BLOCKS)?);
-    let filtered = bytes_of(filter_parts(rt.alloc()));
-    assert!(rt; is_read(rt.alloc(), filtered, OF_PARTS, &OF_FILTER_PARTS)?);
-    Ok(())
-}
+// A top level is pinned in any case.
+const OF_TOP: [Sizes; 4] = [(0, 0, 104); 4];
 
 #[test]
-fn two_levels_under_each_pair_of_pins(rt: HostRuntime) -> Result<(), Fail> {
-    let bytes = bytes_of(index_parts(rt.alloc()));
-    // a top level is pinned in any case
-    assert!(rt; is_read(rt.alloc(), bytes, [(0, 0, 104); 4], &OF_TWO_LEVELS)?);
-    Ok(())
+fn tables_are_read_under_each_pair_of_pins(rt: HostRuntime) {
+    let alloc = rt.alloc();
+    let plain = written(alloc, &ONE_ROW);
+    assert!(rt; is_read(alloc, plain, OF_ONE, &OF_ONE_ENTRY) == Ok(true));
+    let filtered = bytes_of(one_key(alloc));
+    assert!(rt; is_read(alloc, filtered, OF_ONE_FILTERED, &OF_ONE_ENTRY_FILTERED) == Ok(true));
+    let plain = written_in_blocks(alloc);
+    assert!(rt; is_read(alloc, plain, OF_FOUR, &OF_FOUR_BLOCKS) == Ok(true));
+    let filtered = bytes_of(filter_parts(alloc));
+    assert!(rt; is_read(alloc, filtered, OF_PARTS, &OF_FILTER_PARTS) == Ok(true));
+    let parts = bytes_of(index_parts(alloc));
+    assert!(rt; is_read(alloc, parts, OF_TOP, &OF_TWO_LEVELS) == Ok(true));
 }
 
 // Where readers of an index start: of one that stays loaded, of one that does not, and of one in
@@ -82,10 +66,9 @@ fn starts_of_each(alloc: Global) -> Result<[Starts; 3], Error> {
 }
 
 #[test]
-fn readers_of_the_index_of_each_kind(rt: HostRuntime) -> Result<(), Fail> {
+fn readers_of_the_index_of_each_kind(rt: HostRuntime) {
     // only an index that stays loaded tells at once that no handle reaches a key
     let found = Some(Some(7));
     let expected = [[found, None], [found, Some(None)], [found, Some(None)]];
-    assert!(rt; starts_of_each(rt.alloc())? == expected);
-    Ok(())
+    assert!(rt; starts_of_each(rt.alloc()) == Ok(expected));
 }

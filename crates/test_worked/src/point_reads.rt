@@ -1,13 +1,12 @@
 //! Point reads of a table that is written and opened.
-use crate::tables::{opened_in_blocks, written, written_in_blocks};
+use crate::memory::{Work, makes_many};
+use crate::tables::{asked_with, opened_in_blocks, written, written_in_blocks};
 use lsm_tables::{Table, point_in};
 use sst_blocks::{
     Block, BlockHandle, BlockSource, BlockType, Counted, Error, InternalValue, LoadBlocks, Opened,
     SeqNo, Slice, ValueType,
 };
 use std::alloc::{Allocator, Global};
-use std::test::Fail;
-use test_refusing::each_refused;
 use test_tables::large::asked;
 use test_tables::rows::Row;
 use test_tables::tables::{open, read};
@@ -44,7 +43,10 @@ type Reads = [Read; 3];
 fn number_of<A: Allocator>(
     found: Result<Option<InternalValue<A>>, Error>,
 ) -> Result<Option<SeqNo>, Error> {
-    Ok(found?.map(|item| item.key.seqno))
+    match found? {
+        Some(item) => Ok(Some(item.key.seqno)),
+        None => Ok(None),
+    }
 }
 
 // The one handle that is listed, if any.
@@ -95,10 +97,10 @@ fn repeated_read<A: Allocator + Copy>(
 
 // Three reads of a table.
 fn reads_of<A: Allocator + Copy>(
-    heap: Global,
-    source: &BlockSource<A>,
     table: &Table<A>,
+    by: (Global, &BlockSource<A>),
 ) -> Result<Reads, Error> {
+    let (heap, source) = by;
     Ok([
         repeated_read(heap, source, table, b"a", 8)?,
         repeated_read(heap, source, table, b"a", 5)?,
@@ -118,24 +120,17 @@ fn table_of<A: Allocator + Copy>(alloc: A, bytes: &Slice<A>) -> Result<Table<A>,
 
 // Three reads of the table of some bytes.
 fn reads_in<A: Allocator + Copy>(
-    heap: Global,
-    alloc: A,
-    bytes: &Slice<A>,
     source: &BlockSource<A>,
+    by: (Global, A, &Slice<A>),
 ) -> Result<Reads, Error> {
-    asked(
-        table_of(alloc, bytes),
-        |table| reads_of(heap, source, table),
-    )
+    let (heap, alloc, bytes) = by;
+    asked_with(table_of(alloc, bytes), (heap, source), reads_of)
 }
 
 // The three reads of the rows' table, over one allocator.
 fn three_reads<A: Allocator + Copy>(heap: Global, alloc: A) -> Result<Reads, Error> {
     let bytes = written_in_blocks(alloc)?;
-    asked(
-        source_of(alloc, &bytes),
-        |source| reads_in(heap, alloc, &bytes, source),
-    )
+    asked_with(source_of(alloc, &bytes), (heap, alloc, &bytes), reads_in)
 }
 
 // Each block has a header of 24 bytes, a count of 4, and 17 bytes and the key for its one entry.
@@ -145,75 +140,62 @@ const EXPECTED: Reads = [
     (None, None),
 ];
 
-#[test]
-fn a_read_asks_for_one_handle_at_most(rt: HostRuntime) -> Result<(), Fail> {
-    assert_eq!(rt; three_reads(rt.alloc(), rt.alloc())?, EXPECTED);
-    Ok(())
+/// Whether the reads are so.
+pub(crate) fn are_right<A: Allocator + Copy>(heap: Global, alloc: A) -> Result<bool, Error> {
+    Ok(three_reads(heap, alloc)? == EXPECTED)
 }
 
 #[test]
-fn each_request_of_writing_and_reading_refused(rt: HostRuntime) -> Result<(), Fail> {
-    let heap = rt.alloc();
-    let refused = each_refused(
-        heap,
-        move |alloc, may_fail| match three_reads(heap, alloc) {
-            Ok(answer) => answer == EXPECTED,
-            Err(Error::OutOfMemory) => may_fail,
-            Err(_) => false,
-        },
-    );
-    assert!(rt; refused.is_ok_and(|requests| requests > 20));
-    Ok(())
+fn a_read_asks_for_one_handle_at_most(rt: HostRuntime) {
+    assert!(rt; are_right(rt.alloc(), rt.alloc()) == Ok(true));
+}
+
+#[test]
+fn each_request_of_writing_and_reading_refused(rt: HostRuntime) {
+    assert!(rt; makes_many(rt.alloc(), &Work::PointReads));
 }
 
 // Whether a table finds a@7 and b@1 and nothing else, with one load at most.
-fn answers<A: Allocator + Copy>(table: &Table<A>) -> bool {
-    read(table, b"a", 8) == (Ok(Some(7)), 1)
-        && read(table, b"a", 5) == (Ok(None), 1)
-        && read(table, b"b", 2) == (Ok(Some(1)), 1)
-        && read(table, b"c", 100) == (Ok(None), 0)
+fn answers(table: &Table) -> Result<bool, Error> {
+    Ok(
+        read(table, b"a", 8) == (Ok(Some(7)), 1)
+            && read(table, b"a", 5) == (Ok(None), 1)
+            && read(table, b"b", 2) == (Ok(Some(1)), 1)
+            && read(table, b"c", 100) == (Ok(None), 0),
+    )
 }
 
+// A clone of a table that answers. `Source(4)` where it does not.
 fn cloned(table: &Table) -> Result<Table, Error> {
-    Ok(table.clone()?)
+    if answers(table)? {
+        Ok(table.clone()?)
+    } else {
+        Err(Error::Source(4))
+    }
 }
 
-// Whether a table answers, and its clone once the table is gone.
-fn clone_answers(alloc: Global) -> Result<bool, Error> {
-    let table = opened_in_blocks(alloc, 0)?;
-    let copy = cloned(&table);
-    let answered = answers(&table);
-    drop(table);
-    asked(copy, |copy| Ok(answered && answers(copy)))
-}
-
+// It answers as the table did, once that is gone.
 #[test]
-fn a_clone_outlives_its_original(rt: HostRuntime) -> Result<(), Fail> {
-    assert!(rt; clone_answers(rt.alloc())?);
-    Ok(())
+fn a_clone_outlives_its_original(rt: HostRuntime) {
+    let copy = asked(opened_in_blocks(rt.alloc(), 0), cloned);
+    assert!(rt; asked(copy, answers) == Ok(true));
 }
 
 // What a read of a@8 opens.
-fn opened_by(table: &Table) -> Opened {
-    table
-        .get_counted(b"a", 8, Table::<Global>::key_hash(b"a"))
-        .1
-}
-
-fn opened_by_a_read(alloc: Global) -> Result<Opened, Error> {
-    asked(opened_in_blocks(alloc, 0), |table| Ok(opened_by(table)))
+fn opened_by(table: &Table) -> Result<Opened, Error> {
+    let hash = Table::<Global>::key_hash(b"a");
+    Ok(table.get_counted(b"a", 8, hash).1)
 }
 
 #[test]
-fn a_read_opens_nothing_but_data(rt: HostRuntime) -> Result<(), Fail> {
+fn a_read_opens_nothing_but_data(rt: HostRuntime) {
     let expected = Opened {
         data_loads: 1,
         index_loads: 0,
         filter_loads: 0,
         meta_loads: 0,
     };
-    assert_eq!(rt; opened_by_a_read(rt.alloc())?, expected);
-    Ok(())
+    assert!(rt; asked(opened_in_blocks(rt.alloc(), 0), opened_by) == Ok(expected));
 }
 
 // The highest number of a table, and what reads of `a` below 14, 13 and 10 find.
@@ -231,17 +213,13 @@ fn highest_and_reads(table: &Table) -> Result<(SeqNo, [Option<SeqNo>; 3]), Error
 fn lifted_reads(alloc: Global, global_seqno: SeqNo) -> Result<(SeqNo, [Option<SeqNo>; 3]), Error> {
     let rows: [Row<'static>; 1] = [(b"a", 3, ValueType::Value, b"")];
     let bytes = written(alloc, &rows)?;
-    asked(
-        open(alloc, bytes, global_seqno),
-        |table| highest_and_reads(table),
-    )
+    asked(open(alloc, bytes, global_seqno), highest_and_reads)
 }
 
 #[test]
-fn the_global_number_is_added(rt: HostRuntime) -> Result<(), Fail> {
-    assert!(rt; lifted_reads(rt.alloc(), 10)? == (13, [Some(13), None, None]));
+fn the_global_number_is_added(rt: HostRuntime) {
+    assert!(rt; lifted_reads(rt.alloc(), 10) == Ok((13, [Some(13), None, None])));
     assert!(rt; lifted_reads(rt.alloc(), u64::MAX - 3).is_ok());
     let refused = lifted_reads(rt.alloc(), u64::MAX - 2);
     assert!(rt; refused == Err(Error::GlobalSeqNoTooLarge));
-    Ok(())
 }

@@ -1,13 +1,12 @@
 //! What a table says of itself.
-use crate::tables::written;
+use crate::tables::{asked_with, written};
 use lsm_ranges::Ranged;
 use lsm_tables::Table;
 use sst_blocks::{Error, ValueType};
 use std::alloc::Global;
 use std::ops::Bound;
-use std::test::Fail;
-use test_tables::large::asked;
 use test_tables::rows::Row;
+use test_tables::runs::Bounds;
 use test_tables::tables::open;
 
 // A table of `a` and `b`.
@@ -34,42 +33,38 @@ fn pins_one_handle(table: &Table) -> bool {
 }
 
 // Whether a table says its id.
-fn says_its_id(alloc: Global, table: &Table) -> Result<bool, Error> {
+fn says_its_id(table: &Table, alloc: Global) -> Result<bool, Error> {
     Ok(format!(in alloc; "{table:?}")?.starts_with("Table:1("))
 }
 
 // Whether a table says its id, the ends of its range and the sizes of what it has pinned.
-fn shows_itself(alloc: Global) -> Result<bool, Error> {
-    asked(table_of_two(alloc), |table| {
-        Ok(says_its_id(alloc, table)? && is_from_a_to_b(table) && pins_one_handle(table))
-    })
+fn shows_itself(table: &Table, alloc: Global) -> Result<bool, Error> {
+    Ok(says_its_id(table, alloc)? && is_from_a_to_b(table) && pins_one_handle(table))
 }
 
 #[test]
-fn a_table_shows_its_id_and_its_range(rt: HostRuntime) -> Result<(), Fail> {
-    assert!(rt; shows_itself(rt.alloc())?);
-    Ok(())
+fn a_table_shows_its_id_and_its_range(rt: HostRuntime) {
+    let shown = asked_with(table_of_two(rt.alloc()), rt.alloc(), shows_itself);
+    assert!(rt; shown == Ok(true));
 }
 
-// Whether a table of `a` to `b` overlaps two bounds.
-fn overlaps(alloc: Global, low: Bound<&[u8]>, high: Bound<&[u8]>) -> Result<bool, Error> {
-    asked(
-        table_of_two(alloc),
-        |table| Ok(table.check_key_range_overlap(&(low, high))),
-    )
+// Whether a table overlaps two bounds.
+fn overlaps(table: &Table, bounds: &Bounds<'_>) -> Result<bool, Error> {
+    Ok(table.check_key_range_overlap(bounds))
 }
+
+// Bounds, and whether a table of `a` to `b` overlaps them.
+const BOUNDS: &[(Bounds<'static>, bool)] = &[
+    ((Bound::Unbounded, Bound::Unbounded), true),
+    ((Bound::Included(b"b"), Bound::Included(b"c")), true),
+    ((Bound::Excluded(b"b"), Bound::Unbounded), false),
+    ((Bound::Unbounded, Bound::Excluded(b"a")), false),
+];
 
 #[test]
-fn a_table_overlaps_the_bounds_that_its_range_reaches(rt: HostRuntime) -> Result<(), Fail> {
-    let (a, b, c) = (b"a".as_slice(), b"b".as_slice(), b"c".as_slice());
-    let bounds = [
-        (Bound::Unbounded, Bound::Unbounded, true),
-        (Bound::Included(b), Bound::Included(c), true),
-        (Bound::Excluded(b), Bound::Unbounded, false),
-        (Bound::Unbounded, Bound::Excluded(a), false),
-    ];
-    for &(low, high, expected) in &bounds {
-        assert_eq!(rt; overlaps(rt.alloc(), low, high)?, expected);
+fn a_table_overlaps_the_bounds_that_its_range_reaches(rt: HostRuntime) {
+    for (bounds, expected) in BOUNDS {
+        let overlaps = asked_with(table_of_two(rt.alloc()), bounds, overlaps);
+        assert!(rt; overlaps == Ok(*expected));
     }
-    Ok(())
 }

@@ -1,19 +1,25 @@
 //! Tables that are written and opened.
-use crate::tables::{bytes_of, written};
+use crate::tables::{asked_with, bytes_of, written};
 use lsm_tables::Table;
 use sst_blocks::{Error, ValueType};
 use std::alloc::Global;
-use std::test::Fail;
 use test_tables::large::asked;
 use test_tables::rows::{Row, fill, new_writer};
 use test_tables::tables::{open, read};
+
+// Whether a value is made, which is let go of here, or why not. It is generic, so that no part of
+// the value is looked at.
+fn made<T: Drop>(value: Result<T, Error>) -> Result<(), Error> {
+    value?;
+    Ok(())
+}
 
 // Opens a table whose index has an interval of two.
 fn open_interval_of_two(alloc: Global) -> Result<(), Error> {
     let rows: [Row<'static>; 1] = [(b"a", 1, ValueType::Value, b"x")];
     let writer = new_writer(alloc)?.use_index_block_restart_interval(2);
     let bytes = bytes_of(fill(writer, alloc, &rows))?;
-    asked(open(alloc, bytes, 0), |_| Ok(()))
+    made(open(alloc, bytes, 0))
 }
 
 #[test]
@@ -24,9 +30,10 @@ fn an_index_interval_of_two_is_written_and_not_opened(rt: HostRuntime) {
 // Whether an entry may follow a@1 in a table.
 fn may_follow(alloc: Global, second: Row<'static>) -> Result<bool, Error> {
     let first: Row<'static> = (b"a", 1, ValueType::Value, b"x");
-    match asked(written(alloc, &[first, second]), |_| Ok(true)) {
+    match made(written(alloc, &[first, second])) {
+        Ok(()) => Ok(true),
         Err(Error::Source(0)) => Ok(false),
-        answer => answer,
+        Err(error) => Err(error),
     }
 }
 
@@ -40,11 +47,10 @@ const SECONDS: &[(Row<'static>, bool)] = &[
 ];
 
 #[test]
-fn entries_follow_in_strict_order(rt: HostRuntime) -> Result<(), Fail> {
+fn entries_follow_in_strict_order(rt: HostRuntime) {
     for &(second, expected) in SECONDS {
-        assert_eq!(rt; may_follow(rt.alloc(), second)?, expected);
+        assert!(rt; may_follow(rt.alloc(), second) == Ok(expected));
     }
-    Ok(())
 }
 
 const TOMBSTONES: [Row<'static>; 5] = [
@@ -57,58 +63,56 @@ const TOMBSTONES: [Row<'static>; 5] = [
 
 // How many tombstones, weak ones, values behind those and entries a table has, and its lowest and
 // its highest number.
-fn counts_of(table: &Table) -> [u64; 6] {
+fn counts_of(table: &Table) -> Result<[u64; 6], Error> {
     let (lowest, highest) = table.metadata.seqnos;
-    [
+    Ok([
         table.tombstone_count(),
         table.weak_tombstone_count(),
         table.weak_tombstone_reclaimable(),
         table.metadata.item_count,
         lowest,
         highest,
-    ]
+    ])
 }
 
-fn counts(alloc: Global) -> Result<[u64; 6], Error> {
-    let table = open(alloc, written(alloc, &TOMBSTONES)?, 0);
-    asked(table, |table| Ok(counts_of(table)))
+// The table of some rows.
+fn table_of(alloc: Global, rows: &[Row<'_>]) -> Result<Table, Error> {
+    open(alloc, written(alloc, rows)?, 0)
 }
 
 #[test]
-fn counts_of_tombstones_come_back(rt: HostRuntime) -> Result<(), Fail> {
-    assert_eq!(rt; counts(rt.alloc())?, [3, 2, 1, 5, 5, 9]);
-    Ok(())
+fn counts_of_tombstones_come_back(rt: HostRuntime) {
+    let counts = asked(table_of(rt.alloc(), &TOMBSTONES), counts_of);
+    assert!(rt; counts == Ok([3, 2, 1, 5, 5, 9]));
 }
 
 // Whether a table finds each of some rows right above its number.
-fn finds_all(table: &Table, rows: &[Row<'_>]) -> bool {
+fn finds_all(table: &Table, rows: &[Row<'_>]) -> Result<bool, Error> {
     for (key, seqno, _, _) in rows {
         if read(table, key, seqno.saturating_add(1)) != (Ok(Some(*seqno)), 1) {
-            return false;
+            return Ok(false);
         }
     }
-    true
+    Ok(true)
 }
 
-// Whether each entry of a table is found.
+// Whether each entry of a table of some rows is found.
 fn all_are_found(alloc: Global, rows: &[Row<'_>]) -> Result<bool, Error> {
-    let table = open(alloc, written(alloc, rows)?, 0);
-    asked(table, |table| Ok(finds_all(table, rows)))
+    asked_with(table_of(alloc, rows), rows, finds_all)
 }
 
-#[test]
-fn entries_of_each_kind_come_back(rt: HostRuntime) -> Result<(), Fail> {
-    assert!(rt; all_are_found(rt.alloc(), &TOMBSTONES)?);
-    Ok(())
-}
-
-#[test]
-fn the_longest_key_comes_back(rt: HostRuntime) -> Result<(), Fail> {
-    let longest = vec![in rt.alloc(); 0x61u8; 1_048_576]?;
+// Whether the longest key is found, and one behind it.
+fn longest_is_found(alloc: Global) -> Result<bool, Error> {
+    let longest = vec![in alloc; 0x61u8; 1_048_576]?;
     let rows: [Row<'_>; 2] = [
         (&longest, 2, ValueType::Value, b"x"),
         (b"b", 1, ValueType::Value, b"y"),
     ];
-    assert!(rt; all_are_found(rt.alloc(), &rows)?);
-    Ok(())
+    all_are_found(alloc, &rows)
+}
+
+#[test]
+fn entries_of_each_kind_and_the_longest_key_come_back(rt: HostRuntime) {
+    assert!(rt; all_are_found(rt.alloc(), &TOMBSTONES) == Ok(true));
+    assert!(rt; longest_is_found(rt.alloc()) == Ok(true));
 }
