@@ -70,7 +70,10 @@ fn wrong_case(runs: &[Tables<Global>]) -> Option<usize> {
 
 // The first of the cases whose answer is wrong, where the runs are those of `TWO_RUNS`.
 fn wrong_case_of(alloc: Global) -> Result<Option<usize>, Error> {
-    Ok(wrong_case(&runs_of(alloc, TWO_RUNS)?))
+    let runs = runs_of(alloc, TWO_RUNS)?;
+    let wrong = wrong_case(&runs);
+    drop(runs);
+    Ok(wrong)
 }
 
 #[test]
@@ -84,7 +87,9 @@ const DAMAGED: Result<Option<SeqNo>, Error> = Err(Error::ChecksumMismatch);
 // What a read below 10 answers of two runs, where the first table of the one at a place is damaged.
 fn read_damaged(alloc: Global, damaged: usize, key: &[u8]) -> Result<Answer, Error> {
     let runs = damaged_runs_of(alloc, TWO_RUNS, (damaged, 0))?;
-    Ok(read(&runs, key, 10))
+    let answer = read(&runs, key, 10);
+    drop(runs);
+    Ok(answer)
 }
 
 // Whether a read of two damaged runs is refused with that many loads of data.

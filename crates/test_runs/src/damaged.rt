@@ -157,7 +157,9 @@ const TWO_RUNS: &[Lists] = &[THREE_TABLES, THREE_TABLES];
 // The number that a read of both runs finds.
 fn found<A: Allocator + Copy>(alloc: A, key: &[u8]) -> Result<Option<SeqNo>, Error> {
     let runs = damaged_runs_of(alloc, TWO_RUNS, (0, 1))?;
-    number_in(&runs, key, 1)
+    let number = number_in(&runs, key, 1);
+    drop(runs);
+    number
 }
 
 #[test]

@@ -190,7 +190,9 @@ fn found<A: Allocator + Copy>(
     seqno: SeqNo,
 ) -> Result<Option<SeqNo>, Error> {
     let runs = runs_of(alloc, lists)?;
-    number_in(&runs, key, seqno)
+    let number = number_in(&runs, key, seqno);
+    drop(runs);
+    number
 }
 
 // A key, a bound, and the number that is found.

@@ -43,8 +43,8 @@ impl<A: Allocator + Copy> Scan for RunScanner<A> {
     }
 }
 
-// Both of two values. Generic in them, so that neither is looked at where the other is not.
-fn both<T: Drop, U: Drop>(
+/// Both of two values. Generic in them, so that neither is looked at where the other is not.
+pub fn both<T: Drop, U: Drop>(
     first: Result<T, Error>,
     second: Result<U, Error>,
 ) -> Result<(T, U), Error> {

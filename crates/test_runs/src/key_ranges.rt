@@ -1,10 +1,10 @@
 //! Ranges of numbers as keys, and reversed bounds.
-use crate::tables::both;
+use crate::walks::both;
 use lsm_ranges::KeyRange;
 use sst_blocks::{Error, Slice};
 use std::alloc::Global;
 use std::ops::Bound;
-use test_tables::large::{add, asked};
+use test_tables::large::add;
 use test_tables::runs::Bounds;
 
 fn range_of(alloc: Global, min: &[u8], max: &[u8]) -> Result<KeyRange, Error> {
@@ -89,10 +89,10 @@ fn ranges_of_numbers_reach_from_the_least_to_the_greatest(rt: HostRuntime) {
 
 // Whether the range from "a" to "z" overlaps with two bounds.
 fn overlaps(alloc: Global, bounds: Bounds<'_>) -> Result<bool, Error> {
-    asked(
-        range_of(alloc, b"a", b"z"),
-        |range| Ok(range.overlaps_with_bounds(&bounds)),
-    )
+    let range = range_of(alloc, b"a", b"z")?;
+    let overlaps = range.overlaps_with_bounds(&bounds);
+    drop(range);
+    Ok(overlaps)
 }
 
 // Reversed bounds, and whether the range overlaps with them: each is held against its own edge

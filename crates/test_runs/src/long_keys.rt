@@ -18,6 +18,14 @@ fn number(answer: Result<bool, Error>) -> u8 {
     }
 }
 
+// The number of a refusal, 0 for none. Generic in what is made, so that none of it is looked at.
+fn refusal<T: Drop>(made: Result<T, Error>) -> u8 {
+    match made {
+        Ok(_) => 0,
+        Err(error) => error.number(),
+    }
+}
+
 // What writing an entry of a key answers.
 fn put(alloc: Global, writer: &mut Writer, key: &[u8]) -> u8 {
     number(put_rows(alloc, writer, &[(key, 1, ValueType::Value, b"")]))
@@ -36,8 +44,7 @@ fn put_three(alloc: Global, writer: &mut Writer, longest: &[u8], longer: &[u8]) 
 fn up_to_the_end(alloc: Global, longest: &[u8], longer: &[u8]) -> Result<[u8; 4], Error> {
     let mut writer = new_writer(alloc)?;
     let [first, second, third] = put_three(alloc, &mut writer, longest, longer);
-    let last = writer.finish().err().map_or(0, |error| error.number());
-    Ok([first, second, third, last])
+    Ok([first, second, third, refusal(writer.finish())])
 }
 
 // What is answered with the longest key and one that is a byte longer.

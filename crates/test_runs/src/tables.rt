@@ -43,12 +43,3 @@ pub(crate) fn opened<A: Allocator + Copy>(alloc: A, bytes: &[u8]) -> Result<Tabl
 pub(crate) fn is_made<T: Drop>(made: Result<T, Error>) -> bool {
     made.is_ok()
 }
-
-/// Both of two values. Generic in them, so that neither is looked at where the other is not.
-pub(crate) fn both<T: Drop, U: Drop>(
-    first: Result<T, Error>,
-    second: Result<U, Error>,
-) -> Result<(T, U), Error> {
-    let first = first?;
-    Ok((first, second?))
-}

@@ -55,8 +55,12 @@ fn opened(alloc: Global, table: &FinishedTable) -> Result<Table, Error> {
 }
 
 // How many entries a table has.
+fn count_of(table: &Table) -> Result<u64, Error> {
+    Ok(table.metadata.item_count)
+}
+
 fn count(alloc: Global, table: &FinishedTable) -> Result<u64, Error> {
-    asked(opened(alloc, table), |table| Ok(table.metadata.item_count))
+    asked(opened(alloc, table), count_of)
 }
 
 // How many tables there are, and how many entries each of the first three has.
@@ -71,7 +75,10 @@ fn counts(alloc: Global, tables: &[FinishedTable]) -> Result<Counts, Error> {
 }
 
 fn cut_at(alloc: Global, target: u64) -> Result<Counts, Error> {
-    asked(tables(alloc, target), |tables| counts(alloc, tables))
+    let tables = tables(alloc, target)?;
+    let counts = counts(alloc, &tables);
+    drop(tables);
+    counts
 }
 
 // How long the blocks of the versions of `a` are: each has a header of 24 bytes, a count of 4, and

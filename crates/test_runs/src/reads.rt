@@ -1,20 +1,11 @@
 //! A point read and what memory it asks for.
+use crate::several::number_of;
 use crate::tables::{is_made, opened, written_in_parts};
 use lsm_tables::Table;
-use sst_blocks::{Error, InternalValue, SeqNo};
+use sst_blocks::{Error, SeqNo};
 use std::alloc::{Allocator, Global};
 use test_refusing::Refusing;
 use test_tables::large::asked;
-
-fn number_of<A: Allocator>(
-    found: Result<Option<InternalValue<A>>, Error>,
-) -> Result<Option<SeqNo>, Error> {
-    match found {
-        Ok(Some(item)) => Ok(Some(item.key.seqno)),
-        Ok(None) => Ok(None),
-        Err(error) => Err(error),
-    }
-}
 
 // The number that a read of `a` below 8 finds, if any, and how many blocks of data and of the index
 // it loads.
@@ -24,13 +15,13 @@ fn read<A: Allocator + Copy>(table: &Table<A>) -> (Result<Option<SeqNo>, Error>,
 }
 
 // Whether a read finds a@7 by one block of each.
-fn finds<A: Allocator + Copy>(table: &Table<A>) -> bool {
-    read(table) == (Ok(Some(7)), [1, 1])
+fn finds<A: Allocator + Copy>(table: &Table<A>) -> Result<bool, Error> {
+    Ok(read(table) == (Ok(Some(7)), [1, 1]))
 }
 
 // Whether the table of some bytes is opened, and a read of it finds a@7.
 fn is_found<A: Allocator + Copy>(alloc: A, bytes: &[u8]) -> bool {
-    asked(opened(alloc, bytes), |table| Ok(finds(table))) == Ok(true)
+    asked(opened(alloc, bytes), finds) == Ok(true)
 }
 
 // How many requests for memory the opening makes.

@@ -1,11 +1,10 @@
 //! Whole entries of each kind that come back from one table.
 use crate::rows::{B6, B8, C5, ROWS};
-use crate::walks::{is_found, walks};
+use crate::whole::{is_found, walks};
 use lsm_tables::{Iter, Table};
 use sst_blocks::{Direction, Error, Slice};
 use std::alloc::Global;
 use std::ops::Bound;
-use test_tables::large::asked;
 use test_tables::pins::{Pins, open_with};
 use test_tables::rows::{Row, fill, new_writer};
 use test_tables::runs::{Bounds, owned_range};
@@ -78,10 +77,10 @@ fn seen_in(alloc: Global, table: &Table) -> [bool; 6] {
 // What comes whole of the table of some bytes.
 fn seen(alloc: Global, bytes: Result<Slice, Error>, pins: Pins) -> Result<[bool; 6], Error> {
     let bytes = bytes?;
-    asked(
-        open_with(alloc, bytes.as_slice(), pins),
-        |table| Ok(seen_in(alloc, table)),
-    )
+    let table = open_with(alloc, bytes.as_slice(), pins)?;
+    let seen = seen_in(alloc, &table);
+    drop(table);
+    Ok(seen)
 }
 
 fn is_seen(alloc: Global, bytes: Result<Slice, Error>, pins: Pins) -> bool {

@@ -1,17 +1,13 @@
 //! Whole entries of each kind that come back from one run, and from two of them.
-ghost use Rattle.std.specs.Prelude.{◌≡◌, ◌-◌, ◌<◌, ◌≤◌, true, IfOk, length, unwrap_or};
-ghost use Rattle.std.specs.Arc.{arc_value};
-ghost use Rattle.lsm_ranges.specs.Run.{ArePlacesOf};
-
 use crate::rows::{A7, A9, B6, B8, C5, D2, D3, ROWS};
-use crate::tables::both;
-use crate::walks::{is_answer, is_found, walks, walks_some};
+use crate::walks::{WHOLE, reader_of, scanner_of};
+use crate::whole::{is_answer, is_found, walks, walks_some};
 use lsm_tables::{RunReader, RunScanner, get_runs};
 use sst_blocks::{Direction, Error, IterItem};
-use std::alloc::{Allocator, Global};
+use std::alloc::Global;
 use test_tables::lists::answers_within;
 use test_tables::rows::Row;
-use test_tables::runs::{ALL, Bounds, Lists, Tables, owned_range, run_of, runs_of};
+use test_tables::runs::{ALL, Lists, Tables, run_of, runs_of};
 
 const F: Direction = Direction::Front;
 
@@ -23,58 +19,12 @@ const ONE_RUN: Lists = &[&[A9, A7, B8, B6], &[C5, D3, D2]];
 // Two runs of them, of two tables each.
 const TWO_RUNS: &[Lists] = &[&[&[A9, B8], &[D3]], &[&[A7, B6], &[C5, D2]]];
 
-// The reader of a run within bounds.
-fn reader_of<A: Allocator + Copy>(
-    alloc: A,
-    run: Result<Tables<A>, Error>,
-    bounds: Bounds<'_>,
-) -> Result<Option<RunReader<A>>, Error> {
-    let (run, range) = both(run, owned_range(alloc, bounds))?;
-    RunReader::new(run, range)
-}
-
-// A first and a last place, where they are not those of all tables.
-type Span = (Option<usize>, Option<usize>);
-
-// Whether some tables have a span.
-fn has_span(count: usize, span: Span) -> bool
-    ensures { result ≡ true → (unwrap_or span.0 0 ≤ unwrap_or span.1 (count - 1)) ×
-        (unwrap_or span.1 (count - 1) < count) }
-{
-    let last = span.1.unwrap_or(count.saturating_sub(1));
-    if last >= count {
-        return false;
-    }
-    span.0.unwrap_or(0) <= last
-}
-
-// The run, where it has a span. `Source(3)` where it has none.
-fn spanned<A: Allocator>(run: Result<Tables<A>, Error>, span: Span) -> Result<Tables<A>, Error>
-    ensures { IfOk result (λ run. let tables = arc_value run in
-        ArePlacesOf tables (unwrap_or span.0 0, unwrap_or span.1 (length tables - 1))) }
-{
-    let run = run?;
-    if has_span(run.as_slice().len(), span) {
-        Ok(run)
-    } else {
-        Err(Error::Source(3))
-    }
-}
-
-// The scanner of a span of a run. `Source(3)` where it has no such span.
-fn scanner_of<A: Allocator + Copy>(
-    run: Result<Tables<A>, Error>,
-    span: Span,
-) -> Result<RunScanner<A>, Error> {
-    RunScanner::culled(spanned(run, span)?, span)
-}
-
 fn reader(alloc: Global) -> Result<Option<RunReader<Global>>, Error> {
     reader_of(alloc, run_of(alloc, ONE_RUN), ALL)
 }
 
 fn scanner(alloc: Global) -> Result<RunScanner<Global>, Error> {
-    scanner_of(run_of(alloc, ONE_RUN), (None, None))
+    scanner_of(run_of(alloc, ONE_RUN), WHOLE)
 }
 
 #[test]
@@ -100,7 +50,10 @@ fn finds_each(runs: &[Tables<Global>]) -> bool {
 }
 
 fn found_in(alloc: Global, lists: &[Lists]) -> Result<bool, Error> {
-    Ok(finds_each(&runs_of(alloc, lists)?))
+    let runs = runs_of(alloc, lists)?;
+    let found = finds_each(&runs);
+    drop(runs);
+    Ok(found)
 }
 
 #[test]

@@ -1,7 +1,7 @@
 //! Scans whose steps are refused memory. What steps through them is generic in them, so that none
 //! of their parts is looked at.
 use crate::tables::{is_made, opened, written_in_parts};
-use lsm_tables::Scanner;
+use lsm_tables::{Scanner, Table};
 use sst_blocks::{Error, IterItem, Opened, SeqNo};
 use std::alloc::{Allocator, Global};
 use test_refusing::{Refusing, each_refused};
@@ -74,7 +74,7 @@ fn is_scanned<S: Steps + Drop>(scan: Result<S, Error>, may_fail: bool) -> bool {
 
 // The scan of the table of some bytes, which is let go of.
 fn scan_of<A: Allocator + Copy>(alloc: A, bytes: &[u8]) -> Result<Scanner<A>, Error> {
-    asked(opened(alloc, bytes), |table| table.scan())
+    asked(opened(alloc, bytes), Table::scan)
 }
 
 // How many requests for memory are made before the first step.
