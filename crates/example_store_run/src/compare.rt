@@ -2,7 +2,7 @@
 ghost use Rattle.std.specs.Iterator.{IsFinite};
 
 use example_store::Store;
-use logpurple::{Error, InternalValue, IterItem, SeqNo, Slice};
+use logpurple::{Direction, Error, InternalValue, IterItem, SeqNo, Slice};
 use std::alloc::Global;
 use std::collections::BTreeMap;
 use std::ops::Bound;
@@ -99,8 +99,8 @@ fn compare_item(item: &InternalValue<Global>, rows: &[(u32, u32)], count: &mut C
     }
 }
 
-// Walks all entries, which should have the values of these rows.
-fn compare_items<I: Iterator<Item = IterItem<Global>> + Drop>(
+// Compares all entries in turn, which should have the values of these rows.
+fn compare_each<I: Iterator<Item = IterItem<Global>> + Drop>(
     items: I,
     rows: &[(u32, u32)],
 ) -> Result<Count, Error>
@@ -111,20 +111,36 @@ fn compare_items<I: Iterator<Item = IterItem<Global>> + Drop>(
     for item in items {
         compare_item(&item?, rows, &mut count);
     }
-    count.wrong = count
-        .wrong
-        .saturating_add(rows.len().saturating_sub(count.all));
+    let missing = rows.len().saturating_sub(count.all);
+    count.wrong = count.wrong.saturating_add(missing);
     Ok(count)
 }
 
-fn compare_front(store: &Store, rows: &[(u32, u32)], snapshot: SeqNo) -> Result<Count, Error> {
-    let all = (Bound::Unbounded, Bound::Unbounded);
-    compare_items(store.range(all, snapshot)?, rows)
+// Compares all entries from one end on. Generic in what has them, so that its parts are looked at
+// once for both ends.
+fn compare_from<I: DoubleEndedIterator<Item = IterItem<Global>> + Drop>(
+    end: Direction,
+    items: I,
+    rows: &[(u32, u32)],
+) -> Result<Count, Error>
+    requires can { I.can_next items }
+    requires can_back { I.can_next_back items }
+    requires finite { IsFinite (I.remaining items) }
+{
+    match end {
+        Direction::Front => compare_each(items, rows),
+        Direction::Back => compare_each(items.rev(), rows),
+    }
 }
 
-fn compare_back(store: &Store, rows: &[(u32, u32)], snapshot: SeqNo) -> Result<Count, Error> {
+fn compare_range(
+    end: Direction,
+    store: &Store,
+    rows: &[(u32, u32)],
+    snapshot: SeqNo,
+) -> Result<Count, Error> {
     let all = (Bound::Unbounded, Bound::Unbounded);
-    compare_items(store.range(all, snapshot)?.rev(), rows)
+    compare_from(end, store.range(all, snapshot)?, rows)
 }
 
 /// Compares what each key has at a snapshot, and what there is from either end.
@@ -137,9 +153,9 @@ pub fn compare(
 ) -> Result<Compared, Error> {
     let mut rows = rows_of(alloc, plain)?;
     let gets = compare_gets(store, plain, snapshot)?;
-    let front = compare_front(store, &rows, snapshot)?;
+    let front = compare_range(Direction::Front, store, &rows, snapshot)?;
     rows.reverse();
-    let back = compare_back(store, &rows, snapshot)?;
+    let back = compare_range(Direction::Back, store, &rows, snapshot)?;
     Ok(Compared {
         moment,
         snapshot,
