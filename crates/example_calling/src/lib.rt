@@ -6,7 +6,9 @@
 ghost use Rattle.std.specs.Prelude.{◌≡◌, [], IfOk, List, MatchOption};
 ghost use Rattle.logpurple.specs.Words.{Entry, IsWritable, StoresList, point};
 
-use logpurple::{Error, InternalValue, Run, SeqNo, Table, Timestamp, range_runs_at, write_and_open};
+use logpurple::{
+    Error, InternalValue, Run, SeqNo, Table, Timestamp, range_runs_at, write_and_open,
+};
 use std::alloc::Allocator;
 use std::ops::Bound;
 use std::sync::Arc;
