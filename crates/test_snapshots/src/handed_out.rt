@@ -31,11 +31,6 @@ const ALL_STAY: Rules = Rules {
     zeroing: false,
 };
 
-// A writer that begins a table with each key.
-fn writer<A: Allocator + Clone>(alloc: A) -> Result<MultiWriter<A>, Error> {
-    MultiWriter::new(alloc, TableIds::new(7), 0, 0, Timestamp::from(0))
-}
-
 // How many tables a run has, and the highest number of the first of them.
 fn told<A: Allocator + Clone>(run: &Option<Run<Table<A>, A>>) -> (usize, SeqNo) {
     let Some(run) = run else {
@@ -48,10 +43,11 @@ fn told<A: Allocator + Clone>(run: &Option<Run<Table<A>, A>>) -> (usize, SeqNo) 
     }
 }
 
-// How many tables of a list are handed out, and what its run is told to have.
+// How many tables of one key each are handed out of a list, and what its run is told to have.
 fn written(alloc: Global) -> Result<(usize, (usize, SeqNo)), Error> {
     let items = list_of(alloc, ROWS)?;
-    let (tables, run, _) = write_run_with(alloc, writer(alloc)?, items, &LIFTED)?;
+    let writer = MultiWriter::new(alloc, TableIds::new(7), 0, 0, Timestamp::from(0))?;
+    let (tables, run, _) = write_run_with(alloc, writer, items, &LIFTED)?;
     Ok((tables.len(), told(&run)))
 }
 
@@ -60,11 +56,12 @@ fn a_run_is_written_as_its_writer_and_its_options_say(rt: HostRuntime) {
     assert!(rt; written(rt.alloc()) == Ok((2, (2, 14))));
 }
 
-// How many tables a compaction hands out, and what its run is told to have.
+// How many tables of one key each a compaction hands out, and what its run is told to have.
 fn compacted(alloc: Global) -> Result<(usize, (usize, SeqNo)), Error> {
     let runs = runs_of(alloc, RUNS)?;
+    let writer = MultiWriter::new(alloc, TableIds::new(7), 0, 0, Timestamp::from(0))?;
     let how = OpenOptions::default();
-    let (outcome, run) = compact_to_run_with(alloc, &runs, ALL_STAY, writer(alloc)?, &how)?;
+    let (outcome, run) = compact_to_run_with(alloc, &runs, ALL_STAY, writer, &how)?;
     let made = match &outcome {
         CompactionOutcome::Tables(tables, _) => tables.len(),
         CompactionOutcome::OutOfOrder => 0,
