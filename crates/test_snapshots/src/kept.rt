@@ -147,8 +147,8 @@ fn a_verification_reads_a_block_with_each_step(rt: HostRuntime) {
         data_block_count: 1,
         item_count: 3,
     };
-    // The filter, the index and the data block come before the answer.
-    assert!(rt; stepped(rt.alloc()) == Ok((3, Some(verified))));
+    // The index and the data block come before the answer: the table has no filter.
+    assert!(rt; stepped(rt.alloc()) == Ok((2, Some(verified))));
 }
 
 // The numbers of the entries of `a` below 4 and of `c`, in a list that is written and opened.
