@@ -4,5 +4,6 @@ pub mod Entry
 pub mod Key
 pub mod Strict
 pub mod Stream
+pub mod Lending
 pub mod Span
 pub mod Point

@@ -1,0 +1,65 @@
+//! Entries whose key and value lie in borrowed bytes.
+ghost use Rattle.std.specs.Prelude.{◌≡◌};
+ghost use Rattle.sst_entries.specs.Kind.{is_tombstone_kind};
+ghost use Rattle.sst_entries.specs.Lending.{entry_cmp, entry_of_ref};
+ghost use Rattle.sst_entries.specs.Strict.{version_cmp};
+
+use crate::{InternalValue, SeqNo, ValueType, compare_versions};
+use std::alloc::Allocator;
+use std::cmp::Ordering;
+
+/// An entry whose key and value lie in borrowed bytes.
+#[derive(Clone, Copy, Debug, PartialEq, Eq)]
+pub struct EntryRef<'a> {
+    /// The key.
+    pub user_key: &'a [u8],
+    /// The number of this version of it.
+    pub seqno: SeqNo,
+    /// The version's kind.
+    pub value_type: ValueType,
+    /// The value.
+    pub value: &'a [u8],
+}
+
+impl<'a> EntryRef<'a> {
+    /// Whether the entry is one of the two kinds of tombstone.
+    #[inline]
+    pub fn is_tombstone(&self) -> bool
+        ensures { result ≡ is_tombstone_kind (entry_of_ref self.now).kind }
+    {
+        self.value_type.is_tombstone()
+    }
+
+    /// Compares by key upward, then by number downward. Kind and value are not looked at.
+    #[inline]
+    pub fn compare_version(&self, other: &EntryRef<'_>) -> Ordering
+        ensures { result ≡ version_cmp (entry_of_ref self.now) (entry_of_ref other.now) }
+    {
+        compare_versions(self.user_key, self.seqno, other.user_key, other.seqno)
+    }
+
+    /// Compares as [`crate::InternalKey`]s are: by key upward, by number downward, and in a
+    /// remaining tie by tag upward.
+    #[inline]
+    pub fn compare_key(&self, other: &EntryRef<'_>) -> Ordering
+        ensures { result ≡ entry_cmp (entry_of_ref self.now) (entry_of_ref other.now) }
+    {
+        self.compare_version(other)
+            .then(self.value_type.cmp(&other.value_type))
+    }
+}
+
+impl<A: Allocator> InternalValue<A> {
+    /// The entry, borrowed.
+    #[inline]
+    pub fn as_entry_ref(&self) -> EntryRef<'_>
+        ensures { entry_of_ref result ≡ self.now }
+    {
+        EntryRef {
+            user_key: self.key.user_key.as_slice(),
+            seqno: self.key.seqno,
+            value_type: self.key.value_type,
+            value: self.value.as_slice(),
+        }
+    }
+}
