@@ -5,8 +5,8 @@ pub use Rattle.sst_entries.proofs.Lists.{all_more}
 pub use Rattle.sst_entries.proofs.OrderLemmas.{before_trans, number_total, strict_at}
 pub use Rattle.sst_entries.proofs.StreamLemmas.{map_append}
 pub use Rattle.sst_entries.proofs.VecSource.{vec_deals}
-pub use Rattle.sst_blocks.proofs.Points.{past_parted, read_hit, read_other, read_past}
-pub use Rattle.lsm_merge.proofs.MergedLemmas.{all_inserted}
+pub use Rattle.sst_blocks.proofs.Points.{parted, past_parted, read_hit, read_other, read_past}
+pub use Rattle.lsm_merge.proofs.MergedLemmas.{all_in_order, all_inserted, all_sorted_in}
 pub use Rattle.lsm_merge.proofs.Pairs.{AllBefore, as_pairs, from_pairs, pairs_of, precedes_of}
 pub use Rattle.lsm_merge.proofs.Pairs.{strict_from}
 pub use Rattle.lsm_merge.proofs.UnionLemmas.{ascends_in_order}
@@ -16,6 +16,7 @@ pub use Rattle.lsm_runs.proofs.Leading.{IsOfKey, leading_sorted, leads_older, po
 pub use Rattle.lsm_runs.proofs.OneList.{one_way}
 pub use Rattle.lsm_runs.proofs.Rising.{ascends_of}
 pub use Rattle.lsm_runs.proofs.RunPoints.{runs_in_order}
+pub use Rattle.lsm_runs.proofs.Shares.{shared_all, shared_more}
 pub use Rattle.lsm_runs.proofs.Unions.{entries_joined, entries_of, filter_ascends}
 pub use Rattle.lsm_compactions.proofs.CompactedBack.{small_numbers}
 pub use Rattle.lsm_compactions.proofs.ListRuns.{of_cut_unlifted}

@@ -45,10 +45,17 @@ all_inserted P x (y ∷ ys) p h = elim (is_gt (item_cmp x y)) as
     (λ b. AllByRecursion P (cond b (y ∷ insert_sorted x ys) (x ∷ y ∷ ys)))
     [ true ↦ (h.0, all_inserted P x ys p h.1) | false ↦ (p, h) ]
 
-all_in_order : (P : Entry → Type 0) (xs : List Entry) → AllByRecursion P xs
+pub all_in_order : (P : Entry → Type 0) (xs : List Entry) → AllByRecursion P xs
     → AllByRecursion P (sort_entries xs)
 all_in_order P [] h = tt
 all_in_order P (x ∷ xs) h = all_inserted P x (sort_entries xs) h.0 (all_in_order P xs h.1)
+
+-- what all entries have, they have once they are sorted into others that have it
+pub all_sorted_in : (P : Entry → Type 0) (es all : List Entry) → AllByRecursion P es
+    → AllByRecursion P (sort_entries all) → AllByRecursion P (sort_entries (es ++ all))
+all_sorted_in P [] all h k = k
+all_sorted_in P (e ∷ es) all h k = all_inserted P e (sort_entries (es ++ all)) h.0
+    (all_sorted_in P es all h.1 k)
 
 all_entries_all : (P : Entry → Type 0) (lists : List (List R))
     → ((j : ℕ) → j < length lists → AllByRecursion P (entries_among (slice_index_or lists j [])))

@@ -1,22 +1,19 @@
 -- A block that a load by its place gives is given at its position too, and reaches as far as the
 -- place does.
-use Rattle.std.proofs.Common.{◌≡◌, ℕ, ◌+◌, ◌-◌, ◌≤◌, ◌==◌, not, Bool, true, false, List, length}
-use Rattle.std.proofs.Common.{drop, slice_range, refl, sym, ap, ◌∙◌, arith, inl, inr, if◌then◌else◌}
-use Rattle.std.specs.Prelude.{Option, Some, None, Ok, Err}
+use Rattle.std.proofs.Common.{◌≡◌, ℕ, ◌+◌, ◌-◌, ◌≤◌, not, List, length}
+use Rattle.std.proofs.Common.{drop, slice_range, refl, sym, ap, ◌∙◌, arith, inl, inr}
+use Rattle.std.specs.Prelude.{Some, None, Ok, Err}
 use Rattle.std.proofs.lemmas.Bool.{cases_lt}
 use Rattle.std.proofs.lemmas.List.{length-drop, length-take}
-use Rattle.sst_sections.specs.declared.version.TableVersion.{TableVersion}
-use Rattle.sst_sections.specs.Fnv.{fnv1a}
 use Rattle.sst_entries.specs.declared.error.Error.{Error}
-use Rattle.sst_entries.specs.declared.error.Error.TheVariants.{ChecksumMismatch, InvalidHeader}
+use Rattle.sst_entries.specs.declared.error.Error.TheVariants.{InvalidHeader}
 use Rattle.sst_entries.specs.declared.error.Error.TheVariants.{Truncated}
-use Rattle.sst_entries.specs.Error.{unless}
 use Rattle.sst_blocks.specs.declared.block_type.BlockType.{BlockType}
-use Rattle.sst_blocks.specs.Block.{Loaded, checked_payload, data_len, grammar_fault, header_fault}
+use Rattle.sst_blocks.specs.Block.{Loaded, checked_payload, data_len, header_fault}
 use Rattle.sst_blocks.specs.Block.{load_at_told, load_told, stored_checksum, uncompressed_len}
 use Rattle.sst_blocks.specs.Block.{version_in}
 use Rattle.sst_blocks.proofs.LoadLemmas.{load_at_checked, load_checked, load_fault, load_lengths}
-use Rattle.sst_blocks.proofs.LoadLemmas.{load_truncated}
+use Rattle.sst_blocks.proofs.LoadLemmas.{load_truncated, payload_is}
 
 -- numbers that are not apart are the same
 same_number : (a b : ℕ) → ((a ≡ b → ⊥) → ⊥) → a ≡ b
@@ -27,22 +24,6 @@ same_number a b near = elim (cases_lt a b) [
     | inr ge ↦ omega (arith, le, ge)
   ]
 ]
-
--- what passes the tests of a payload has it
-two_tests : (p : Bool) (fault : Option Error) (payload : List ℕ) (b made : Loaded)
-    → made.payload ≡ payload → (if p then Err ChecksumMismatch else unless fault (Ok made)) ≡ Ok b
-    → b.payload ≡ payload
-two_tests true fault payload b made is h = absurd cc
-two_tests false (Some e) payload b made is h = absurd cc
-two_tests false None payload b made is h = let same : made ≡ b = cc in
-    sym (ap (λ (x : Loaded). x.payload) same) ∙ is
-
-payload_is : (v : TableVersion) (checksum : ℕ) (kind : BlockType) (payload : List ℕ) (b : Loaded)
-    → checked_payload v checksum kind payload ≡ Ok b → b.payload ≡ payload
-unfolding checked_payload
-payload_is v checksum kind payload b h = two_tests (not (fnv1a payload == checksum))
-    (grammar_fault v kind payload) payload b (record
-    { version = v; kind = kind; payload = payload }) refl h
 
 module _ (body : List ℕ) (at size : ℕ) (kind : BlockType) (b : Loaded)
     (told : load_told body at size kind ≡ Ok b) where

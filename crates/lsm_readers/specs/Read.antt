@@ -12,7 +12,7 @@ use Rattle.sst_blocks.specs.Place.{Place}
 
 infixl 10 ◌>>=◌
 -- the first fault, or else what the next step tells
-abbrev pub ◌>>=◌ : {A B : Type 0} → Result A Error → (A → Result B Error) → Result B Error
+abbrev pub ◌>>=◌ : {A B E : Type 0} → Result A E → (A → Result B E) → Result B E
 (Ok x) >>= f = f x
 (Err e) >>= f = Err e
 

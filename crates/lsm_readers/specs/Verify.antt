@@ -33,14 +33,9 @@ use Rattle.lsm_readers.specs.Answer.{filter_admits}
 use Rattle.lsm_readers.specs.IndexKinds.{handles_told}
 use Rattle.lsm_readers.specs.Meta.{Facts}
 use Rattle.lsm_readers.specs.Parts.{Parts}
+pub use Rattle.lsm_readers.specs.Read.{◌>>=◌}
 
 -- ---- findings
-
-infixl 10 ◌>>=◌
--- the first finding, or else what the next step finds
-abbrev pub ◌>>=◌ : {A B : Type 0} → Result A Finding → (A → Result B Finding) → Result B Finding
-(Ok x) >>= f = f x
-(Err f) >>= g = Err f
 
 abbrev pub finding : SectionName → ℕ → Fault → Finding
 finding section offset fault = record { section = section; offset = offset; fault = fault }

@@ -3,7 +3,7 @@ ghost use Rattle.std.specs.Prelude.{◌≡◌, ◌-◌, ◌<◌, ◌≤◌, Opti
 ghost use Rattle.std.specs.Prelude.{length, replicate, slice_set};
 ghost use Rattle.std.specs.List.{All};
 ghost use Rattle.lsm_readers.specs.Batch.{AreFound, IsLookup, query_told};
-ghost use Rattle.lsm_readers.specs.Words.{Entry, Gives, Place, admitted_handle, parts_of};
+ghost use Rattle.lsm_readers.specs.Words.{Entry, Gives, admitted_handle, parts_of};
 ghost use Rattle.lsm_readers.specs.Words.{with_load};
 ghost use Rattle.sst_blocks.specs.declared.block_type.BlockType.TheVariants.{Data};
 

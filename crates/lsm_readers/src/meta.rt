@@ -1,5 +1,5 @@
 //! What a table says of itself in its meta block.
-ghost use Rattle.std.specs.Prelude.{◌≡◌, ◌-◌, ◌^◌, List, ℕ, Result, IfOk, IfErr, codes};
+ghost use Rattle.std.specs.Prelude.{◌≡◌, ◌-◌, List, ℕ, Result};
 ghost use Rattle.sst_entries.specs.Error.{FaultsFirst, Gives};
 ghost use Rattle.sst_blocks.specs.Block.{place_fault};
 ghost use Rattle.sst_blocks.specs.declared.block_type.BlockType.TheVariants.{Meta};

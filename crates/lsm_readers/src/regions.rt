@@ -1,6 +1,5 @@
 //! Where the parts of a table lie.
 ghost use Rattle.std.specs.Prelude.{◌≡◌, Result, Option};
-ghost use Rattle.sst_entries.specs.Error.{Gives};
 ghost use Rattle.lsm_readers.specs.Regions.{region_told, optional_told, needed_told, regions_told};
 
 use sst_blocks::{BlockHandle, BlockOffset, Error, Section, SectionName, Toc};

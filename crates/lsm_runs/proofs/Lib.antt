@@ -18,3 +18,4 @@ pub mod Numbered
 pub mod AllSources
 pub mod ScanSteps
 pub mod Spanned
+pub mod Shares

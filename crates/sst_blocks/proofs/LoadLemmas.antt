@@ -145,7 +145,7 @@ two_tests false (Some e) payload b made is h = absurd cc
 two_tests false None payload b made is h = let same : made ≡ b = cc in
     sym (ap (λ (x : Loaded). x.payload) same) ∙ is
 
-payload_is : (v : TableVersion) (checksum : ℕ) (kind : BlockType) (payload : List ℕ) (b : Loaded)
+pub payload_is : (v : TableVersion) (checksum : ℕ) (kind : BlockType) (payload : List ℕ) (b : Loaded)
     → checked_payload v checksum kind payload ≡ Ok b → b.payload ≡ payload
 unfolding checked_payload
 payload_is v checksum kind payload b h = two_tests (not (fnv1a payload == checksum))

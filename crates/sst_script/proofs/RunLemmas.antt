@@ -1,9 +1,8 @@
 -- The lists of runs, and what is read of them.
 use Rattle.std.proofs.Common.{◌≡◌, refl, sym, ◌∙◌, ap, subst, ℕ, suc, ◌+◌, ◌<◌, Bool}
-use Rattle.std.proofs.Common.{List, [], ◌∷◌, ◌++◌, append_assoc, append-nil, length, get_or}
+use Rattle.std.proofs.Common.{List, [], ◌∷◌, length, get_or}
 use Rattle.std.proofs.Common.{drop, drop-cons, add-one}
 use Rattle.std.specs.Prelude.{Option, Result, Ok, Err, ◌||◌, map}
-use Rattle.std.proofs.lemmas.List.{map-append}
 use Rattle.std.specs.declared.ops.Bound.{Bound}
 use Rattle.sst_entries.specs.declared.error.Error.{Error}
 use Rattle.sst_entries.specs.Entry.{Entry}
@@ -88,23 +87,6 @@ number_gives rs key n found b told is =
 pub memory_fails : {X Y : Type 0} (e : Error) (found : X) (other : Y) → Fails e (Ok found)
     → Fails e (Ok other)
 memory_fails {X} e found other fails memory = let no : Ok found ≡ Err e = fails memory in absurd cc
-
--- ---- a list whose values are shared one by one
-
-pub shared_more : {X Y : Type 0} (f : X → Y) (shared : List X) (x : X) (y : Y)
-    (before rest all : List Y) → f x ≡ y → before ≡ y ∷ rest → map f shared ++ before ≡ all
-    → map f (shared ++ x ∷ []) ++ rest ≡ all
-shared_more {X} {Y} f shared x y before rest all is next so_far =
-    ap (λ (ys : List Y). ys ++ rest) (map-append f shared (x ∷ []))
-    ∙ append_assoc (map f shared) (f x ∷ []) rest
-    ∙ ap (λ (z : Y). map f shared ++ z ∷ rest) is
-    ∙ ap (λ (ys : List Y). map f shared ++ ys) (sym next)
-    ∙ so_far
-
-pub shared_all : {X Y : Type 0} (f : X → Y) (shared : List X) (rest all : List Y) → rest ≡ []
-    → map f shared ++ rest ≡ all → map f shared ≡ all
-shared_all {X} {Y} f shared rest all none so_far = sym (append-nil (map f shared))
-    ∙ ap (λ (ys : List Y). map f shared ++ ys) (sym none) ∙ so_far
 
 -- ---- a list, from a place on
 

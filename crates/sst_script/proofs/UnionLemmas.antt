@@ -18,7 +18,8 @@ use Rattle.sst_entries.proofs.KeyLemmas.{same_itself}
 use Rattle.sst_entries.proofs.Lists.{all_more}
 use Rattle.sst_entries.proofs.OrderLemmas.{before_trans, less_of, number_total, tie_same}
 use Rattle.lsm_merge.specs.Union.{all_entries, insert_sorted, item_cmp, sort_entries}
-use Rattle.lsm_merge.proofs.MergedLemmas.{Above, above_at_most, all_inserted, item_total}
+use Rattle.lsm_merge.proofs.MergedLemmas.{Above, above_at_most, all_inserted, all_sorted_in}
+use Rattle.lsm_merge.proofs.MergedLemmas.{item_total}
 use Rattle.lsm_merge.proofs.Pairs.{AllBefore, pairs_of, strict_from}
 use Rattle.lsm_merge.proofs.UnionLemmas.{then_less}
 use Rattle.lsm_runs.proofs.Unions.{entries_of}
@@ -72,13 +73,6 @@ put_strict x (y ∷ ys) h a =
           )
     ] refl
 
--- what all entries have, they have once they are sorted into others that have it
-all_sorted : (P : Entry → Type 0) (es all : List Entry) → AllByRecursion P es
-    → AllByRecursion P (sort_entries all) → AllByRecursion P (sort_entries (es ++ all))
-all_sorted P [] all h k = k
-all_sorted P (e ∷ es) all h k = all_inserted P e (sort_entries (es ++ all)) h.0
-    (all_sorted P es all h.1 k)
-
 -- each entry of a list differs from each of another
 abbrev AreApart : List Entry → List Entry → Type 0
 AreApart es ys = AllByRecursion (λ (e : Entry). AllByRecursion (Apart e) ys) es
@@ -90,7 +84,7 @@ sorted_strict (e ∷ es) all h k a =
     let own : AllByRecursion (Apart e) es = all_more (λ (y : Entry). is_before e y ≡ true) (Apart e)
     (λ y p. inl p) es h.0 in
     put_strict e (sort_entries (es ++ all)) (sorted_strict es all h.1 k a.1)
-    (all_sorted (Apart e) es all own a.0)
+    (all_sorted_in (Apart e) es all own a.0)
 
 -- ---- entries whose key and number another list has not
 
@@ -149,6 +143,6 @@ union_more run rs one all fresh =
     let strict = strict_from (sort_entries (run.list ++ all_of rs))
     (sorted_strict run.list (all_of rs) (pairs_of run.list one.strict)
     (pairs_of (union rs) all.strict) (each_apart rs run.list fresh)) in
-    let numbered = all_sorted (λ (e : Entry). e.seqno < 2 ^ 64 - 1) run.list
+    let numbered = all_sorted_in (λ (e : Entry). e.seqno < 2 ^ 64 - 1) run.list
     (all_of rs) one.numbered all.numbered in
     subst IsWritable (sym is) (record { strict = strict; numbered = numbered })

@@ -1,5 +1,5 @@
 //! Many point reads of one table.
-ghost use Rattle.std.specs.Prelude.{◌≡◌, IfOk, IsOk, List, Ok, [], map};
+ghost use Rattle.std.specs.Prelude.{◌≡◌, IsOk, List, Ok, [], map};
 ghost use Rattle.std.specs.List.{All};
 ghost use Rattle.lsm_readers.specs.Batch.{AreFound, IsLookup};
 ghost use Rattle.lsm_readers.specs.Words.{Entry, FaultsFirst, Gives, StoresList, lift, point};

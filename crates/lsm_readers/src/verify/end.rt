@@ -1,9 +1,9 @@
 //! The blocks of the filter, and what is compared once all is read.
-ghost use Rattle.std.specs.Prelude.{◌≡◌, IfErr, IsOk, List, [], None, Some, map, true, ℕ};
+ghost use Rattle.std.specs.Prelude.{◌≡◌, IfErr, IsOk, [], None, Some, map, true};
 ghost use Rattle.sst_entries.specs.declared.error.Error.{Error};
 ghost use Rattle.sst_blocks.specs.declared.block_type.BlockType.TheVariants as block;
 ghost use Rattle.sst_sections.specs.declared.section.SectionName.TheVariants as section;
-ghost use Rattle.lsm_readers.specs.Words.{Handle, Loaded, body_of, parts_of, place_of};
+ghost use Rattle.lsm_readers.specs.Words.{body_of, parts_of, place_of};
 ghost use Rattle.lsm_readers.specs.Words.{position_fault};
 ghost use Rattle.lsm_readers.specs.Verify.{Finds, FindsFirst, counts_found, early_at};
 ghost use Rattle.lsm_readers.specs.Verify.{early_filters, end_found, filter_found, filter_places};

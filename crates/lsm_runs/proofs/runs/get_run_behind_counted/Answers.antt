@@ -1,5 +1,5 @@
 use Rattle.std.proofs.Common.{sym, ◌∙◌, subst}
-use Rattle.std.specs.Prelude.{None, Option, Some}
+use Rattle.std.specs.Prelude.{None, Option}
 use Rattle.sst_blocks.specs.Opened.{none_opened}
 use Rattle.lsm_readers.specs.Read.{DoesRead}
 use Rattle.lsm_readers.specs.Table.{OpenTable}

@@ -1,7 +1,7 @@
 use Rattle.std.proofs.Common.{◌≡◌, ◌∙◌, refl, sym, []}
 use Rattle.std.specs.Arc.{arc_value}
 use Rattle.std.proofs.lemmas.List.{nil_from_length}
-use Rattle.sst_script.proofs.RunLemmas.{shared_all, shared_more}
+use Rattle.lsm_runs.proofs.Shares.{shared_all, shared_more}
 use Rattle.sst_script.proofs.runs.share_all.Goals as goal
 
 pub loop-run-init : goal.loop-run-init
