@@ -16,3 +16,4 @@ pub mod Narrowing
 pub mod StrictHandles
 pub mod MarkLemmas
 pub mod Asked
+pub mod Cursors

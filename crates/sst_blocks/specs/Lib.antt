@@ -11,10 +11,10 @@ pub mod Starts
 pub mod Encoding
 pub mod Opened
 pub mod SeenHandle
-pub mod Seen
 pub mod Seeking
 pub mod Words
 pub mod Placed
+pub mod Cursor
 pub mod Asked
 pub use Rattle.sst_sections.specs.Number
 pub use Rattle.sst_sections.specs.Version

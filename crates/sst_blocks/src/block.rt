@@ -17,12 +17,13 @@ ghost use Rattle.sst_entries.specs.declared.error.Error.TheVariants.{OutOfMemory
 
 mod header;
 
-use crate::data_block::{EntryRef, entry_head_len};
+use crate::data_block::entry_head_len;
 use crate::index_block::{HandleRef, handle_head_len};
 use crate::reading::starts_in;
 use crate::starts::{Starts, has_room_for};
 use crate::{
-    BlockHandle, BlockOffset, BlockType, CompressionType, Error, SectionWriter, Slice, TableVersion,
+    BlockHandle, BlockOffset, BlockType, CompressionType, EntryRef, Error, SectionWriter, Slice,
+    TableVersion,
 };
 pub use header::Header;
 use std::alloc::{AllocError, Allocator, Global};

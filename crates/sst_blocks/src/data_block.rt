@@ -7,7 +7,8 @@ ghost use Rattle.std.specs.List.Sorted.{IsPartitionedBy};
 ghost use Rattle.std.specs.Option.{option_map};
 ghost use Rattle.sst_blocks.specs.Words.{AreSpellable, CanDeal, Deals, EndsAtError, EntriesAt};
 ghost use Rattle.sst_blocks.specs.Words.{Entry, Faults, FaultsFirst, HoldsEntries, IsStrict};
-ghost use Rattle.sst_blocks.specs.Words.{answer_stops, data_block_bound_of, entries_fault};
+ghost use Rattle.sst_blocks.specs.Words.{answer_stops, cursor_of, data_block_bound_of};
+ghost use Rattle.sst_blocks.specs.Words.{entries_fault};
 ghost use Rattle.sst_blocks.specs.Words.{entries_in, entries_of, entry_of_ref, front_length};
 ghost use Rattle.sst_blocks.specs.Words.{has_room_for, header_len, is_memory};
 ghost use Rattle.sst_sections.specs.Version.{key_width};
@@ -17,6 +18,7 @@ ghost use Rattle.sst_entries.specs.declared.error.Error.{Error};
 ghost use Rattle.sst_entries.specs.declared.error.Error.TheVariants.{OutOfMemory, InvalidBlock};
 ghost use Rattle.sst_sections.specs.declared.version.TableVersion.TheVariants.{V4};
 
+mod cursor;
 mod encode;
 mod entry_ref;
 mod find;
@@ -25,9 +27,10 @@ mod iter;
 use crate::item::{block_bound, encode};
 use crate::reading::{front_len, item_at, key_at};
 use crate::starts::Starts;
-use crate::{Block, Error, InternalValue, SeqNo, Slice, TableVersion};
+use crate::{Block, EntryRef, Error, InternalValue, SeqNo, Slice, TableVersion};
+pub use cursor::Cursor;
 use entry_ref::head_len;
-pub(crate) use entry_ref::{EntryRef, head_len as entry_head_len};
+pub(crate) use entry_ref::head_len as entry_head_len;
 pub(crate) use find::{find_entry, share_entry};
 pub use iter::Iter;
 use sst_entries::compare_versions;
@@ -143,9 +146,10 @@ impl<A: Allocator> DataBlock<A> {
         self.len() == 0
     }
 
+    /// The entry of a place, lent from where it lies.
     #[inline(always)]
     #[tactic(auto, unfolding(crate::specs::Reading::entries_in))]
-    fn entry_ref(&self, index: usize) -> EntryRef<'_>
+    pub fn entry_ref(&self, index: usize) -> EntryRef<'_>
         requires { index < length self.now }
         ensures { slice_get self.now index ≡ Some (entry_of_ref result) }
     {
@@ -236,6 +240,13 @@ impl<A: Allocator> DataBlock<A> {
         Iter::new(self)
     }
 
+    /// The entries, lent from the front by a cursor that takes the block.
+    pub fn into_cursor(self) -> Cursor<A>
+        ensures { result ≡ cursor_of self }
+    {
+        Cursor::new(self.version, self.payload, self.starts)
+    }
+
     /// The first entry of a key numbered below `seqno`. Refused [`Error::OutOfMemory`] alone.
     pub fn point_read(&self, key: &[u8], seqno: SeqNo) -> Result<Option<InternalValue<A>>, Error>
         ensures found { IfOk result (λ found. found ≡ point self.now key.now seqno) }
@@ -250,7 +261,7 @@ impl<A: Allocator> DataBlock<A> {
             return Ok(None);
         }
         let entry = self.entry_ref(index);
-        if entry.key != key {
+        if entry.user_key != key {
             return Ok(None);
         }
         Ok(Some(self.share(index, &entry)?))

@@ -2,22 +2,13 @@
 ghost use Rattle.std.specs.Prelude.{◌≡◌, ◌+◌, ◌≤◌, length};
 ghost use Rattle.std.specs.Option.{option_map};
 ghost use Rattle.sst_blocks.specs.Reading.{parts_at};
-ghost use Rattle.sst_blocks.specs.Seen.{entry_of_ref};
+ghost use Rattle.sst_entries.specs.Lending.{entry_of_ref};
 ghost use Rattle.sst_sections.specs.Version.{key_width};
 
 use crate::reading::ItemRef;
-use crate::{SeqNo, TableVersion, ValueType};
+use crate::{EntryRef, SeqNo, TableVersion, ValueType};
 use sst_entries::compare_versions;
 use sst_sections::number::{key_len_at, key_width, u32_at, u64_at};
-
-/// An entry whose key and value lie in borrowed bytes.
-#[derive(Clone, Copy)]
-pub(crate) struct EntryRef<'a> {
-    pub(crate) key: &'a [u8],
-    pub(crate) value: &'a [u8],
-    pub(crate) seqno: SeqNo,
-    pub(crate) kind: ValueType,
-}
 
 /// The length of what stands before an entry's key: its tag, its number and both lengths.
 #[inline]
@@ -50,10 +41,10 @@ fn read_parts(
     let (value, rest) = rest.split_at(value_len);
     Some((
         EntryRef {
-            key,
-            value,
+            user_key: key,
             seqno,
-            kind,
+            value_type: kind,
+            value,
         },
         rest,
     ))
@@ -63,7 +54,7 @@ impl<'a> ItemRef<'a> for EntryRef<'a> {
     ghost use Rattle.sst_blocks.specs.Format.{Advances, IsFormat};
     ghost use Rattle.sst_blocks.specs.Payload.{IsSpellable};
     ghost use Rattle.sst_blocks.specs.Reading.{entry_format};
-    ghost use Rattle.sst_blocks.specs.Seen.{entry_of_ref};
+    ghost use Rattle.sst_entries.specs.Lending.{entry_of_ref};
     ghost use Rattle.sst_entries.specs.Entry.{Entry};
 
     ghost Told = { Entry };
@@ -97,13 +88,13 @@ impl<'a> ItemRef<'a> for EntryRef<'a> {
     fn may_follow(&self, last: &Option<EntryRef<'a>>) -> bool {
         match last {
             None => true,
-            Some(last) => compare_versions(last.key, last.seqno, self.key, self.seqno).is_lt(),
+            Some(last) => last.compare_version(self).is_lt(),
         }
     }
 
     #[inline]
     fn is_past(&self, key: &[u8], seqno: SeqNo) -> bool {
-        compare_versions(key, seqno, self.key, self.seqno).is_lt()
+        compare_versions(key, seqno, self.user_key, self.seqno).is_lt()
     }
 
     #[inline(always)]

@@ -4,14 +4,13 @@ ghost use Rattle.std.specs.Prelude.{is_some, unwrap_or, drop, find, slice_range}
 ghost use Rattle.std.specs.Prelude.{IsTrue, IfOk, IfErr, IfSome, OnOk};
 ghost use Rattle.std.specs.Option.{option_map};
 ghost use Rattle.sst_blocks.specs.Reading.{entries_in, entry_at};
-ghost use Rattle.sst_blocks.specs.Seen.{entry_of_ref};
+ghost use Rattle.sst_entries.specs.Lending.{entry_of_ref};
 ghost use Rattle.sst_entries.specs.declared.error.Error.TheVariants.{InvalidBlock, OutOfMemory};
 ghost use Rattle.sst_entries.specs.Point.{read_place};
 ghost use Rattle.sst_entries.specs.Strict.{is_before};
 
-use super::entry_ref::EntryRef;
 use crate::reading::find_item;
-use crate::{Error, InternalValue, SeqNo, Slice, TableVersion};
+use crate::{EntryRef, Error, InternalValue, SeqNo, Slice, TableVersion};
 use std::alloc::Allocator;
 
 /// The first entry of a payload that a read of a key at a number comes before, and where it begins.
@@ -50,20 +49,20 @@ pub(crate) fn share_entry<A: Allocator>(
     key_at: usize,
     entry: &EntryRef<'_>,
 ) -> Result<InternalValue<A>, Error>
-    requires within { key_at + length entry.now.key.now + length entry.now.value.now ≤
+    requires within { key_at + length entry.now.user_key.now + length entry.now.value.now ≤
         length bytes.now }
-    requires short { key_at + length entry.now.key.now + length entry.now.value.now < 2 ^ 64 }
-    requires key { slice_range bytes.now key_at (key_at + length entry.now.key.now) ≡
-        entry.now.key.now }
-    requires value { let value_at = key_at + length entry.now.key.now in
+    requires short { key_at + length entry.now.user_key.now + length entry.now.value.now < 2 ^ 64 }
+    requires key { slice_range bytes.now key_at (key_at + length entry.now.user_key.now) ≡
+        entry.now.user_key.now }
+    requires value { let value_at = key_at + length entry.now.user_key.now in
         slice_range bytes.now value_at (value_at + length entry.now.value.now) ≡
         entry.now.value.now }
     ensures found { IfOk result (λ e. e ≡ entry_of_ref entry.now) }
     ensures err { IfErr result (λ e. e ≡ OutOfMemory) }
 {
-    let value_at = key_at + entry.key.len();
+    let value_at = key_at + entry.user_key.len();
     let end = value_at + entry.value.len();
     let key = bytes.slice(key_at, value_at)?;
     let value = bytes.slice(value_at, end)?;
-    Ok(InternalValue::from_components(key, value, entry.seqno, entry.kind))
+    Ok(InternalValue::from_components(key, value, entry.seqno, entry.value_type))
 }

@@ -148,7 +148,7 @@ impl<A: Allocator + Clone> BlockSource<A> {
         let Some((at, entry)) = first else {
             return Ok(None);
         };
-        if entry.key != key {
+        if entry.user_key != key {
             return Ok(None);
         }
         let key_at = sound.start + at + entry_head_len(version);

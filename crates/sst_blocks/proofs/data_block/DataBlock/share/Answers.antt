@@ -1,6 +1,6 @@
 use Rattle.std.proofs.Common.{arith}
 use Rattle.std.proofs.lemmas.Option.{slice_get_within}
-use Rattle.sst_blocks.specs.Seen.{entry_of_ref}
+use Rattle.sst_entries.specs.Lending.{entry_of_ref}
 use Rattle.sst_blocks.proofs.Entries.{block_holds, block_len}
 use Rattle.sst_blocks.proofs.data_block.DataBlock.share.Goals as goal
 

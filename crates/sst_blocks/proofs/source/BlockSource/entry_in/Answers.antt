@@ -3,8 +3,8 @@ use Rattle.std.specs.Option.{option_map}
 use Rattle.std.proofs.lemmas.Result.{err_from_is_err_and}
 use Rattle.sst_sections.specs.Sections.{body_of}
 use Rattle.sst_sections.specs.Version.{key_width}
-use Rattle.sst_blocks.specs.Seen.{entry_of_ref}
-use Rattle.sst_blocks.specs.declared.data_block.entry_ref.EntryRef.{EntryRef}
+use Rattle.sst_entries.specs.Lending.{entry_of_ref}
+use Rattle.sst_entries.specs.declared.entry_ref.EntryRef.{EntryRef}
 use Rattle.sst_blocks.proofs.Asked.{body_within, entries_told, entries_wrong, found_hit, found_none, found_other, shares_there, spelled_strict, sure_fault, sure_none, sure_some}
 use Rattle.sst_blocks.proofs.Points.{keys_apart, keys_same}
 use Rattle.sst_blocks.proofs.Room.{room_long}
@@ -52,7 +52,7 @@ returns-then-ne-clause-told g c =
     let part : slice_range c.body.result.now s.start s.end ≡ slice_range (body_of c.args.self.now) s.start s.end = ap (λ (b : List ℕ). slice_range b s.start s.end) c.body.ensures.body in
     let first : c.in_ok-first.first ≡ Some (c.in-Some.at, c.in-Some.entry) = search rules in
     let some = sym c.in_ok-first.ensures.found ∙ ap (option_map (λ (x : ℕ × EntryRef). entry_of_ref x.1)) first in
-    let other = keys_apart c.in-Some.entry.key.now c.args.key.now c.ne.result c.ne.ensures c.if-ne.true in
+    let other = keys_apart c.in-Some.entry.user_key.now c.args.key.now c.ne.result c.ne.ensures c.if-ne.true in
     let strict = spelled_strict s.header.version (slice_range c.body.result.now s.start s.end) c.in_ok-first.ensures.whole in
     entries_told s.header.version s.header.checksum _ _ part c.requires.sound.sum c.args.key.now c.args.seqno None c.in_ok-first.ensures.whole (found_other _ c.args.key.now c.args.seqno (entry_of_ref c.in-Some.entry) strict some other)
 
@@ -62,7 +62,7 @@ returns-then-ne-clause-sure g c =
     let part : slice_range c.body.result.now s.start s.end ≡ slice_range (body_of c.args.self.now) s.start s.end = ap (λ (b : List ℕ). slice_range b s.start s.end) c.body.ensures.body in
     let first : c.in_ok-first.first ≡ Some (c.in-Some.at, c.in-Some.entry) = search rules in
     let some = sym c.in_ok-first.ensures.found ∙ ap (option_map (λ (x : ℕ × EntryRef). entry_of_ref x.1)) first in
-    let other = keys_apart c.in-Some.entry.key.now c.args.key.now c.ne.result c.ne.ensures c.if-ne.true in
+    let other = keys_apart c.in-Some.entry.user_key.now c.args.key.now c.ne.result c.ne.ensures c.if-ne.true in
     let strict = spelled_strict s.header.version (slice_range c.body.result.now s.start s.end) c.in_ok-first.ensures.whole in
     sure_none _ (entries_told s.header.version s.header.checksum _ _ part c.requires.sound.sum c.args.key.now c.args.seqno None c.in_ok-first.ensures.whole (found_other _ c.args.key.now c.args.seqno (entry_of_ref c.in-Some.entry) strict some other))
 
@@ -108,13 +108,13 @@ share_entry-requires-clause-key g c =
     let place = rw first at c.in_ok-first.ensures.place in
     let is : key_at ≡ s.start + c.in-Some.at + (13 + key_width s.header.version) = omega (arith, c.head_len.ensures) in
     let shares = shares_there s.header.version c.args.self.now s.start s.end c.in-Some.at key_at (entry_of_ref c.in-Some.entry) c.requires.sound.ordered c.requires.sound.within is (rw c.body.ensures.body at place) in
-    ap (λ (b : List ℕ). slice_range b key_at (key_at + length c.in-Some.entry.key.now)) c.self.view_is ∙ shares.key
+    ap (λ (b : List ℕ). slice_range b key_at (key_at + length c.in-Some.entry.user_key.now)) c.self.view_is ∙ shares.key
 
 pub share_entry-requires-clause-value : goal.share_entry-requires-clause-value
 share_entry-requires-clause-value g c =
     let s = c.args.sound.now in
     let key_at = s.start + c.in-Some.at + c.head_len.result in
-    let value_at = key_at + length c.in-Some.entry.key.now in
+    let value_at = key_at + length c.in-Some.entry.user_key.now in
     let first : c.in_ok-first.first ≡ Some (c.in-Some.at, c.in-Some.entry) = search rules in
     let place = rw first at c.in_ok-first.ensures.place in
     let is : key_at ≡ s.start + c.in-Some.at + (13 + key_width s.header.version) = omega (arith, c.head_len.ensures) in
@@ -127,7 +127,7 @@ returns-in_err-share_entry-clause-sure g c =
     let part : slice_range c.body.result.now s.start s.end ≡ slice_range (body_of c.args.self.now) s.start s.end = ap (λ (b : List ℕ). slice_range b s.start s.end) c.body.ensures.body in
     let first : c.in_ok-first.first ≡ Some (c.in-Some.at, c.in-Some.entry) = search rules in
     let some = sym c.in_ok-first.ensures.found ∙ ap (option_map (λ (x : ℕ × EntryRef). entry_of_ref x.1)) first in
-    let same = keys_same c.in-Some.entry.key.now c.args.key.now c.ne.result c.ne.ensures c.if-ne.false in
+    let same = keys_same c.in-Some.entry.user_key.now c.args.key.now c.ne.result c.ne.ensures c.if-ne.false in
     sure_some _ _ (entry_of_ref c.in-Some.entry) (entries_told s.header.version s.header.checksum _ _ part c.requires.sound.sum c.args.key.now c.args.seqno _ c.in_ok-first.ensures.whole (found_hit _ c.args.key.now c.args.seqno (entry_of_ref c.in-Some.entry) some same))
 
 pub returns-clause-told : goal.returns-clause-told
@@ -136,7 +136,7 @@ returns-clause-told g c =
     let part : slice_range c.body.result.now s.start s.end ≡ slice_range (body_of c.args.self.now) s.start s.end = ap (λ (b : List ℕ). slice_range b s.start s.end) c.body.ensures.body in
     let first : c.in_ok-first.first ≡ Some (c.in-Some.at, c.in-Some.entry) = search rules in
     let some = sym c.in_ok-first.ensures.found ∙ ap (option_map (λ (x : ℕ × EntryRef). entry_of_ref x.1)) first in
-    let same = keys_same c.in-Some.entry.key.now c.args.key.now c.ne.result c.ne.ensures c.if-ne.false in
+    let same = keys_same c.in-Some.entry.user_key.now c.args.key.now c.ne.result c.ne.ensures c.if-ne.false in
     rw c.in_ok-share_entry.ensures.found (entries_told s.header.version s.header.checksum _ _ part c.requires.sound.sum c.args.key.now c.args.seqno _ c.in_ok-first.ensures.whole (found_hit _ c.args.key.now c.args.seqno (entry_of_ref c.in-Some.entry) some same))
 
 pub returns-clause-sure : goal.returns-clause-sure
@@ -145,5 +145,5 @@ returns-clause-sure g c =
     let part : slice_range c.body.result.now s.start s.end ≡ slice_range (body_of c.args.self.now) s.start s.end = ap (λ (b : List ℕ). slice_range b s.start s.end) c.body.ensures.body in
     let first : c.in_ok-first.first ≡ Some (c.in-Some.at, c.in-Some.entry) = search rules in
     let some = sym c.in_ok-first.ensures.found ∙ ap (option_map (λ (x : ℕ × EntryRef). entry_of_ref x.1)) first in
-    let same = keys_same c.in-Some.entry.key.now c.args.key.now c.ne.result c.ne.ensures c.if-ne.false in
+    let same = keys_same c.in-Some.entry.user_key.now c.args.key.now c.ne.result c.ne.ensures c.if-ne.false in
     sure_some _ _ (entry_of_ref c.in-Some.entry) (entries_told s.header.version s.header.checksum _ _ part c.requires.sound.sum c.args.key.now c.args.seqno _ c.in_ok-first.ensures.whole (found_hit _ c.args.key.now c.args.seqno (entry_of_ref c.in-Some.entry) some same))
