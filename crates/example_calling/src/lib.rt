@@ -1,13 +1,18 @@
 //! What a caller proves of calls of its own, where it names the one crate `logpurple`: a read of a
 //! table that stores a list, a list that is written, opened and read, and a loop over what several
-//! runs have below a number. None needs a proof file.
+//! runs have below a number. The reads need no proof file, and the loop one invariant.
 #![tactic(auto)]
 
-ghost use Rattle.std.specs.Prelude.{◌≡◌, [], IfOk, List, MatchOption};
-ghost use Rattle.logpurple.specs.Words.{Entry, IsWritable, StoresList, point};
+ghost use Rattle.std.specs.Prelude.{◌≡◌, ◌-◌, ◌^◌, [], IfOk, List, MatchOption};
+ghost use Rattle.std.specs.Prelude.{length, map, min};
+ghost use Rattle.std.specs.Arc.{arc_value};
+ghost use Rattle.std.specs.Iterator.{IsFinite};
+ghost use Rattle.logpurple.specs.Words.{DealsList, Entry, IsWritable};
+ghost use Rattle.logpurple.specs.Words.{RunsHoldLists, StoresList, newest, numbered_below, point};
+ghost use Rattle.logpurple.specs.Words.{union_in};
 
 use logpurple::{
-    Error, InternalValue, Run, SeqNo, Table, Timestamp, range_runs_at, write_and_open,
+    Error, InternalValue, IterItem, Run, SeqNo, Table, Timestamp, range_runs_at, write_and_open,
 };
 use std::alloc::Allocator;
 use std::ops::Bound;
@@ -44,15 +49,31 @@ pub fn write_and_find<A: Allocator + Clone>(
     }
 }
 
-/// How many keys several runs have, by versions numbered below `seqno`.
+/// How many keys several runs have, by versions numbered below `seqno`, up to `u64::MAX`.
 pub fn count_below<A: Allocator + Clone>(
     alloc: A,
     runs: &[Arc<Run<Table<A>, A>, A>],
     seqno: SeqNo,
-) -> Result<u64, Error> {
+) -> Result<u64, Error>
+    ensures { (lists : List (List (List Entry))) → RunsHoldLists (map arc_value runs.now) lists →
+        let found = newest (numbered_below seqno (union_in lists)) in
+        IfOk result (λ count. count ≡ min (length found) (2 ^ 64 - 1)) }
+{
     let all = (Bound::Unbounded, Bound::Unbounded);
+    count(range_runs_at(alloc, runs, all, seqno)?)
+}
+
+// How many entries a stream gives, up to `u64::MAX`.
+fn count<I: DoubleEndedIterator<Item = IterItem<A>> + Drop, A: Allocator>(
+    items: I,
+) -> Result<u64, Error>
+    requires can { I.can_next items }
+    requires finite { IsFinite (I.remaining items) }
+    ensures { (es : List Entry) → DealsList I.next_gives I.next_back_gives es items →
+        IfOk result (λ count. count ≡ min (length es) (2 ^ 64 - 1)) }
+{
     let mut count = 0u64;
-    for item in range_runs_at(alloc, runs, all, seqno)? {
+    for item in items {
         item?;
         count = count.saturating_add(1);
     }

@@ -3,7 +3,7 @@ pub use Rattle.sst_entries.proofs.Booleans.{and_false, apart, is_false}
 pub use Rattle.sst_entries.proofs.KeyLemmas.{hit_key, lt_other, same_itself}
 pub use Rattle.sst_entries.proofs.Lists.{all_more}
 pub use Rattle.sst_entries.proofs.OrderLemmas.{before_trans, number_total, strict_at}
-pub use Rattle.sst_entries.proofs.StreamLemmas.{map_append}
+pub use Rattle.sst_entries.proofs.StreamLemmas.{deals_front, map_append}
 pub use Rattle.sst_entries.proofs.VecSource.{vec_deals}
 pub use Rattle.sst_blocks.proofs.Points.{parted, past_parted, read_hit, read_other, read_past}
 pub use Rattle.lsm_merge.proofs.MergedLemmas.{all_in_order, all_inserted, all_sorted_in}

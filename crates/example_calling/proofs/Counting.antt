@@ -1,0 +1,64 @@
+-- A stream whose entries are counted one by one: what it still deals.
+use Rattle.std.proofs.Common.{◌≡◌, refl, sym, ◌∙◌, ap, ℕ, ◌+◌, ◌-◌, ◌^◌, ◌≤◌, List, [], ◌∷◌, length}
+use Rattle.std.proofs.Common.{arith}
+use Rattle.std.specs.Prelude.{Option, Some, None, Result, Ok, min}
+use Rattle.logpurple.specs.Words.{DealsList, Entry, Error, answer_stops, is_memory, ok_results}
+use Rattle.logpurple.proofs.Laws.{deals_front}
+
+module _ {S : Type 0} (next back : S → Option (Result Entry Error) → S → Type 0) where
+  -- a part of the list is counted, and the stream deals the rest
+  pub record Counts (es : List Entry) (count : ℕ) (s : S) : Type 0 where
+    pub passed : ℕ
+    pub rest : List Entry
+    pub whole : length es ≡ passed + length rest
+    pub deals : DealsList next back rest s
+    pub counted : count ≡ min passed (2 ^ 64 - 1)
+
+  pub none_counted : (es : List Entry) (s : S) → DealsList next back es s → Counts es 0 s
+  none_counted es s d = record
+      { passed = 0; rest = es; whole = omega arith; deals = d; counted = refl }
+
+  one_more : (rest : List Entry) (s t : S) (e : Entry) → DealsList next back rest s
+      → next s (Some (Ok e)) t
+      → (more : List Entry) × (length rest ≡ 1 + length more) × DealsList next back more t
+  one_more [] s t e d step =
+      let h = deals_front (answer_stops is_memory) next back s [] (Some (Ok e)) t
+      (d is_memory refl) step refl in
+      let no : Some (Ok e) ≡ None = h.0 in absurd cc
+  one_more (x ∷ rest) s t e d step = (
+    rest,
+    omega arith,
+    λ stops memory.
+        (deals_front (answer_stops stops) next back s (ok_results (x ∷ rest)) (Some (Ok e)) t
+        (d stops memory) step refl).1,
+  )
+
+  none_more : (rest : List Entry) (s t : S) → DealsList next back rest s → next s None t
+      → length rest ≡ 0
+  none_more [] s t d step = refl
+  none_more (x ∷ rest) s t d step =
+      let h = deals_front (answer_stops is_memory) next back s (ok_results (x ∷ rest)) None t
+      (d is_memory refl) step refl in
+      let no : None ≡ Some (Ok x) = h.0 in absurd cc
+
+  capped_more : (count passed after : ℕ) → count ≡ min passed (2 ^ 64 - 1)
+      → after ≡ min (count + 1) (2 ^ 64 - 1) → after ≡ min (passed + 1) (2 ^ 64 - 1)
+  capped_more count passed after is next_is = omega (arith, is, next_is)
+
+  pub one_counted : (es : List Entry) (count after : ℕ) (s t : S) (e : Entry) → Counts es count s
+      → next s (Some (Ok e)) t → after ≡ min (count + 1) (2 ^ 64 - 1) → Counts es after t
+  one_counted es count after s t e h step is =
+      let one = one_more h.rest s t e h.deals step in record {
+        passed = h.passed + 1;
+        rest = one.0;
+        whole = omega (arith, h.whole, one.1);
+        deals = one.2;
+        counted = capped_more count h.passed after h.counted is;
+      }
+
+  pub all_counted : (es : List Entry) (count : ℕ) (s t : S) → Counts es count s → next s None t
+      → count ≡ min (length es) (2 ^ 64 - 1)
+  all_counted es count s t h step =
+      let none = none_more h.rest s t h.deals step in
+      let all : length es ≡ h.passed = omega (arith, h.whole, none) in
+      h.counted ∙ ap (λ (n : ℕ). min n (2 ^ 64 - 1)) (sym all)
