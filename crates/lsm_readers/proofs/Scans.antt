@@ -1,31 +1,28 @@
 -- What is left of a scan: one step of it, and what it deals.
 use Rattle.std.proofs.Common.{◌≡◌, ℕ, zero, suc, ◌+◌, ◌-◌, ◌^◌, ◌<◌, Bool, true, false, List, []}
-use Rattle.std.proofs.Common.{◌∷◌, ◌++◌, length, drop, get_or, map, max, refl, sym, ap, subst, ◌∙◌}
+use Rattle.std.proofs.Common.{◌∷◌, ◌++◌, length, map, max, refl, sym, ap, subst, ◌∙◌}
 use Rattle.std.proofs.Common.{arith, inl, inr}
-use Rattle.std.specs.Prelude.{Option, Some, None, Result, Ok, Err, ◌⊎◌}
+use Rattle.std.specs.Prelude.{Option, Some, None, Result, Ok, Err, IfErr, IfOk, is_some, ◌⊎◌}
 use Rattle.std.specs.Iterator.{MakesProgress, at_most}
-use Rattle.std.specs.List.{flat_map, slice_get}
+use Rattle.std.specs.List.{flat_map}
 use Rattle.std.proofs.lemmas.Bool.{le-ltb}
-use Rattle.std.proofs.lemmas.List.{drop_more}
-use Rattle.std.proofs.lemmas.Option.{slice_get_within, get_or_from_slice_get}
 use Rattle.sst_blocks.specs.declared.block_type.BlockType.TheVariants.{Data}
 use Rattle.sst_entries.specs.declared.error.Error.{Error}
 use Rattle.sst_entries.specs.declared.error.Error.TheVariants.{OutOfMemory}
 use Rattle.sst_blocks.specs.Block.{Loaded, load_at_told, position_fault, entries_of}
 use Rattle.sst_entries.specs.Entry.{Entry}
-use Rattle.sst_blocks.specs.Reading.{key_and_number}
-use Rattle.std.specs.Option.{option_map}
-use Rattle.sst_entries.specs.Error.{FaultsFirst, Refuses, is_memory}
+use Rattle.sst_entries.specs.Lending.{came}
+use Rattle.sst_entries.specs.Error.{FaultsFirst, is_memory}
 use Rattle.sst_blocks.specs.declared.opened.Opened.{Opened}
 use Rattle.sst_blocks.specs.Opened.{with_load}
 use Rattle.sst_entries.specs.Stream.{Answers, Deals, first, but_first, front_of, nowhere}
-use Rattle.sst_entries.specs.Stream.{answer_stops}
+use Rattle.sst_entries.specs.Stream.{Lowers, answer_stops}
 use Rattle.sst_entries.proofs.StreamLemmas.{head_eq, deals_by}
 use Rattle.sst_entries.proofs.Refusals.{memory_is}
 use Rattle.lsm_readers.specs.Answer.{lifted}
 use Rattle.lsm_readers.specs.Scan.{FaultsAtBlock, FaultsAtEntry, IsEndedScan, Scan, ScanHas}
-use Rattle.lsm_readers.specs.Scan.{ScansNext}
-use Rattle.lsm_readers.specs.Scan.{TakesEntry, behind, block_told, blocks_told, ended, entries_from}
+use Rattle.lsm_readers.specs.Scan.{ScansLent, ScansNext, lend_first, lend_next, unlent}
+use Rattle.lsm_readers.specs.Scan.{behind, block_told, blocks_told, ended, entries_from}
 use Rattle.lsm_readers.specs.Scan.{entries_told, fault_of, lifted_told, loads, scan_loads_behind}
 use Rattle.lsm_readers.specs.Scan.{loads_from, loads_of, scan_left, scan_size, scan_told}
 use Rattle.lsm_readers.specs.Scan.{then_blocks, unless_left, up_to_error}
@@ -41,41 +38,6 @@ Answer = Answers (λ _. Unit {0}) ScanHas front_of
 
 pub lifted_ok : (g : ℕ) (e : Entry) → e.seqno + g < 2 ^ 64 → lifted_told g e ≡ Ok (lifted g e)
 lifted_ok g e fits = rw (le-ltb (2 ^ 64 - 1) (e.seqno + g) (omega (arith, fits))) refl
-
--- the entry of a place is the first of those from there on
-pub entry_is : (xs : List Entry) (i : ℕ) (x e : Entry) (es : List Entry) → slice_get xs i ≡ Some x
-    → drop i xs ≡ e ∷ es → x ≡ e
-entry_is xs i x e es here some =
-    let within : i < length xs = slice_get_within xs i x here in
-    sym (get_or_from_slice_get xs i x x here) ∙ head_eq (sym (drop_more xs i x within) ∙ some)
-
--- and so its number, which is looked at before the entry is shared
-pub number_is : (xs : List Entry) (i : ℕ) (o : Option Entry) (k : List ℕ) (n : ℕ) (e : Entry)
-    (es : List Entry) → slice_get xs i ≡ o → option_map key_and_number o ≡ Some (k, n)
-    → drop i xs ≡ e ∷ es → n ≡ e.seqno
-number_is xs i None k n e es here told some = let wrong : None ≡ Some (k, n) = told in absurd cc
-number_is xs i (Some x) k n e es here told some =
-    let same : ◌≡◌ {A = List ℕ × ℕ} (x.user_key, x.seqno) (k, n) =
-    some_same (x.user_key, x.seqno) (k, n) told in
-    sym (ap (λ (p : List ℕ × ℕ). p.1) same) ∙ ap (λ (y : Entry). y.seqno)
-    (entry_is xs i x e es here some)
-  where
-    some_same : {X : Type 0} (p q : X) → Some p ≡ Some q → p ≡ q
-    some_same p q h = cc
-
--- a sum that fits has no fault
-pub fits : (told : R) {x : Entry} → told ≡ Ok x → (f : Error) → fault_of told ≡ Some f → ⊥
-fits (Ok y) h f is = let wrong : None ≡ Some f = is in absurd cc
-fits (Err e) h f is = absurd cc
-
--- where there is one
-pub record Cut (xs : List Entry) (i : ℕ) : Type 0 where
-  pub entry : Entry
-  pub whole : drop i xs ≡ entry ∷ drop (i + 1) xs
-
-pub cut_at : (xs : List Entry) (i : ℕ) → i < length xs → Cut xs i
-cut_at [] i lt = absurd (omega (arith, lt))
-cut_at (x ∷ xs) i lt = record { entry = get_or (x ∷ xs) i x; whole = drop_more (x ∷ xs) i x lt }
 
 -- ---- what is left
 
@@ -180,8 +142,8 @@ HasNoFault s = (e : Error) → position_fault s.body s.position Data ≡ Some e 
 -- first had no fault
 pub record Reached (s u : Scan) : Type 0 where
   pub left : scan_left u ≡ scan_left s
-  pub start : (s ≡ u) ⊎ HasNoFault s
-  pub stands : (s ≡ u) ⊎ (s.entries ≡ [])
+  pub start : (unlent s ≡ unlent u) ⊎ HasNoFault s
+  pub stands : (unlent s ≡ unlent u) ⊎ (s.entries ≡ [])
   pub ended : IsEndedScan s → IsEndedScan u
   pub count : ℕ
   pub counts : u.opened ≡ loads count s.opened
@@ -203,6 +165,7 @@ answers_from s u t r reached answer = record {
 -- the next block was loaded
 abbrev pub moved : Scan → List Entry → ℕ → Scan
 moved u es next = record u {
+  lent = None;
   entries = es;
   position = next;
   blocks = u.blocks - 1;
@@ -237,14 +200,14 @@ needs_next u n es next none some told =
 abbrev loaded : Result (Unit {0}) Error
 loaded = Ok tt
 
-no_fault : (s u : Scan) → (s ≡ u) ⊎ HasNoFault s
+no_fault : (s u : Scan) → (unlent s ≡ unlent u) ⊎ HasNoFault s
     → FaultsFirst loaded (position_fault u.body u.position Data) → HasNoFault s
 no_fault s u (inl same) ahead = subst HasNoFault (sym same)
     (λ e h. let wrong : Some e ≡ None = ahead e h in cc)
 no_fault s u (inr none) ahead = none
 
 -- a block is read only where no entry is left
-none_stood : (s u : Scan) → (s ≡ u) ⊎ (s.entries ≡ []) → u.entries ≡ [] → s.entries ≡ []
+none_stood : (s u : Scan) → (unlent s ≡ unlent u) ⊎ (s.entries ≡ []) → u.entries ≡ [] → s.entries ≡ []
 none_stood s u (inl same) none = ap (λ (v : Scan). v.entries) same ∙ none
 none_stood s u (inr none) _ = none
 
@@ -286,19 +249,19 @@ refused e = Err e
 
 -- where an entry is left, and where nothing is left to read, no block was asked for or the first
 -- had no fault
-early_entry : (s u : Scan) (e : Entry) (es : List Entry) (r : Option R) → (s ≡ u) ⊎ HasNoFault s
+early_entry : (s u : Scan) (e : Entry) (es : List Entry) (r : Option R) → (unlent s ≡ unlent u) ⊎ HasNoFault s
     → u.entries ≡ e ∷ es → FaultsAtBlock s r
 early_entry s u e es r (inl same) some none more fault h =
     absurd (let wrong : [] ≡ e ∷ es = sym none ∙ ap (λ (v : Scan). v.entries) same ∙ some in cc)
 early_entry s u e es r (inr calm) some none more fault h = absurd (calm fault h)
 
-early_none : (s u : Scan) (r : Option R) → (s ≡ u) ⊎ HasNoFault s → u.blocks ≡ 0 → FaultsAtBlock s r
+early_none : (s u : Scan) (r : Option R) → (unlent s ≡ unlent u) ⊎ HasNoFault s → u.blocks ≡ 0 → FaultsAtBlock s r
 early_none s u r (inl same) last none more fault h =
     absurd (omega (arith, more, ap (λ (v : Scan). v.blocks) same, last))
 early_none s u r (inr calm) last none more fault h = absurd (calm fault h)
 
 -- the refusal of the block that was reached
-early_block : (s u : Scan) (e : Error) → (s ≡ u) ⊎ HasNoFault s
+early_block : (s u : Scan) (e : Error) → (unlent s ≡ unlent u) ⊎ HasNoFault s
     → FaultsFirst (refused e) (position_fault u.body u.position Data)
     → FaultsAtBlock s (Some (Err e))
 early_block s u e (inl same) ahead none more fault h =
@@ -307,88 +270,105 @@ early_block s u e (inl same) ahead none more fault h =
     cc
 early_block s u e (inr calm) ahead none more fault h = absurd (calm fault h)
 
--- the number of the entry that stands there was looked at first
-own_entry : (u : Scan) (e : Entry) (es : List Entry) (r : R) → u.entries ≡ e ∷ es
-    → FaultsFirst r (fault_of (lifted_told u.global_seqno e)) → FaultsAtEntry u (Some r)
-own_entry u e es r some early x xs stands f told =
-    let same : e ≡ x = head_eq (sym some ∙ stands) in
-    ap (λ (y : R). Some y) (refused_first r f (early f
-    (ap (λ (y : Entry). fault_of (lifted_told u.global_seqno y)) same ∙ ap fault_of told)))
-  where
-    refused_first : (r : R) (f : Error) → Refuses r (Some f) → r ≡ Err f
-    refused_first (Ok x) f h = absurd cc
-    refused_first (Err g) f h = let same : f ≡ g = cc in ap (λ (x : Error). Err x) (sym same)
+-- of an entry that stands in the present block comes what its number says
+abbrev LendsThere : Scan → Option R → Type 0
+LendsThere s r = (x : Entry) (xs : List Entry) → s.entries ≡ x ∷ xs
+    → r ≡ Some (lifted_told s.global_seqno x)
 
-lifts_entry : (s u : Scan) (e : Entry) (es : List Entry) (r : R) → (s ≡ u) ⊎ (s.entries ≡ [])
-    → u.entries ≡ e ∷ es → FaultsFirst r (fault_of (lifted_told u.global_seqno e))
-    → FaultsAtEntry s (Some r)
-lifts_entry s u e es r (inl same) some early =
-    subst (λ (v : Scan). FaultsAtEntry v (Some r)) (sym same) (own_entry u e es r some early)
-lifts_entry s u e es r (inr none) some early =
-    λ x xs stands f told. absurd (let wrong : [] ≡ x ∷ xs = sym none ∙ stands in cc)
+there_entry : (s u : Scan) (e : Entry) (es : List Entry) (r : R)
+    → (unlent s ≡ unlent u) ⊎ (s.entries ≡ []) → u.entries ≡ e ∷ es
+    → lifted_told u.global_seqno e ≡ r → LendsThere s (Some r)
+there_entry s u e es r (inl same) some told x xs stands =
+    let one : e ≡ x = head_eq (sym some ∙ sym (ap (λ (v : Scan). v.entries) same) ∙ stands) in
+    ap (λ (y : R). Some y) (sym told
+    ∙ ap (λ (g : ℕ). lifted_told g e) (sym (ap (λ (v : Scan). v.global_seqno) same))
+    ∙ ap (lifted_told s.global_seqno) one)
+there_entry s u e es r (inr none) some told x xs stands =
+    absurd (let wrong : [] ≡ x ∷ xs = sym none ∙ stands in cc)
 
-lifts_none : (s u : Scan) (r : Option R) → (s ≡ u) ⊎ (s.entries ≡ []) → u.entries ≡ []
-    → FaultsAtEntry s r
-lifts_none s u r stood none x xs stands f told =
+there_none : (s u : Scan) (r : Option R) → (unlent s ≡ unlent u) ⊎ (s.entries ≡ [])
+    → u.entries ≡ [] → LendsThere s r
+there_none s u r stood none x xs stands =
     absurd (let wrong : [] ≡ x ∷ xs = sym (none_stood s u stood none) ∙ stands in cc)
 
+-- its number comes before any want of memory
+lifts_there : (s : Scan) (r : Option R) → LendsThere s r → FaultsAtEntry s r
+lifts_there s r there x xs stands f told = there x xs stands ∙ ap (λ (y : R). Some y) told
+
 entry_ok : (s u : Scan) (e : Entry) (es : List Entry) (x : Entry) → Reached s u → u.entries ≡ e ∷ es
-    → lifted_told u.global_seqno e ≡ Ok x → FaultsFirst {X = Entry} (Ok x)
-    (fault_of (lifted_told u.global_seqno e)) → ScansNext s (Some (Ok x))
-    (record u { entries = es })
-entry_ok s u e es x reached some told first =
-    let left : scan_left u ≡ Ok x ∷ scan_left (record u { entries = es }) =
+    → lifted_told u.global_seqno e ≡ Ok x
+    → ScansLent s (Some (Ok x)) (record u { lent = Some x; entries = es })
+entry_ok s u e es x reached some told =
+    let t = record u { lent = Some x; entries = es } in
+    let left : scan_left u ≡ Ok x ∷ scan_left t =
     ap (λ (ys : List Entry). entries_from u.body u.global_seqno ys u.position u.blocks) some
     ∙ entry_left u.body u.global_seqno e es u.position u.blocks
     ∙ ap (λ (r : R). first_entry r (entries_from u.body u.global_seqno es u.position u.blocks))
     told in
+    let there = there_entry s u e es (Ok x) reached.stands some told in
     record {
-      answers = answers_from s u (record u { entries = es }) (Some (Ok x)) reached
-          (gave_entry u (record u { entries = es }) x left);
-      ends = tt;
-      early = early_entry s u e es (Some (Ok x)) reached.start some;
-      lifts = lifts_entry s u e es (Ok x) reached.stands some first;
-      count = reached.count;
-      counts = reached.counts;
-      within = omega (arith, reached.falls);
-      exact = λ _. all_loaded s u e es reached some;
-      most = omega (arith, all_loaded s u e es reached some);
-      some = λ more. omega (arith, more, all_loaded s u e es reached some);
-      falls = reached.falls;
+      next = record {
+        answers = answers_from s u t (Some (Ok x)) reached (gave_entry u t x left);
+        ends = tt;
+        early = early_entry s u e es (Some (Ok x)) reached.start some;
+        lifts = lifts_there s (Some (Ok x)) there;
+        count = reached.count;
+        counts = reached.counts;
+        within = omega (arith, reached.falls);
+        exact = λ _. all_loaded s u e es reached some;
+        most = omega (arith, all_loaded s u e es reached some);
+        some = λ more. omega (arith, more, all_loaded s u e es reached some);
+        falls = reached.falls;
+      };
+      there = there;
     }
 
 entry_err : (s u : Scan) (e : Entry) (es : List Entry) (fault : Error) → Reached s u
-    → u.entries ≡ e ∷ es → (is_memory fault ≡ false → lifted_told u.global_seqno e ≡ Err fault)
-    → FaultsFirst {X = Entry} (Err fault) (fault_of (lifted_told u.global_seqno e))
-    → ScansNext s (Some (Err fault)) (ended u)
-entry_err s u e es fault reached some told first =
+    → u.entries ≡ e ∷ es → lifted_told u.global_seqno e ≡ Err fault
+    → ScansLent s (Some (Err fault)) (ended u)
+entry_err s u e es fault reached some told =
     let left = λ (m : is_memory fault ≡ false). ap
     (λ (ys : List Entry). entries_from u.body u.global_seqno ys u.position u.blocks) some
     ∙ entry_left u.body u.global_seqno e es u.position u.blocks
     ∙ ap (λ (r : R). first_entry r (entries_from u.body u.global_seqno es u.position u.blocks))
-    (told m) in
+    told in
+    let there = there_entry s u e es (Err fault) reached.stands some told in
     record {
-      answers = answers_from s u (ended u) (Some (Err fault)) reached
-          (gave_error u (ended u) fault left (has_entry u e es some) (refl, refl));
-      ends = (refl, refl);
-      early = early_entry s u e es (Some (Err fault)) reached.start some;
-      lifts = lifts_entry s u e es (Err fault) reached.stands some first;
-      count = reached.count;
-      counts = reached.counts;
-      within = omega (arith, reached.falls);
-      exact = λ _. all_loaded s u e es reached some;
-      most = omega (arith, all_loaded s u e es reached some);
-      some = λ more. omega (arith, more, all_loaded s u e es reached some);
-      falls = tt;
+      next = record {
+        answers = answers_from s u (ended u) (Some (Err fault)) reached
+            (gave_error u (ended u) fault left (has_entry u e es some) (refl, refl));
+        ends = (refl, refl);
+        early = early_entry s u e es (Some (Err fault)) reached.start some;
+        lifts = lifts_there s (Some (Err fault)) there;
+        count = reached.count;
+        counts = reached.counts;
+        within = omega (arith, reached.falls);
+        exact = λ _. all_loaded s u e es reached some;
+        most = omega (arith, all_loaded s u e es reached some);
+        some = λ more. omega (arith, more, all_loaded s u e es reached some);
+        falls = tt;
+      };
+      there = there;
     }
 
--- an entry was taken from the block that was reached
-pub scans_entry : (s u t : Scan) (r : R) → Reached s u → TakesEntry u r t → ScansNext s (Some r) t
-scans_entry s u t (Ok x) reached taken = subst (ScansNext s (Some (Ok x))) (sym taken.took)
-    (entry_ok s u taken.entry taken.others x reached taken.some taken.told taken.first)
-scans_entry s u t (Err fault) reached taken =
-    subst (ScansNext s (Some (Err fault))) (sym taken.took)
-    (entry_err s u taken.entry taken.others fault reached taken.some taken.told taken.first)
+-- what a step of the block that was reached leads to: an entry or its fault
+abbrev Lends : Scan → Result Bool Error × Scan → Type 0
+Lends s p = ScansLent s (came p.0 p.1.lent) p.1
+
+lends_told : (s u : Scan) (e : Entry) (es : List Entry) (told : R) → Reached s u
+    → u.entries ≡ e ∷ es → lifted_told u.global_seqno e ≡ told → Lends s (lend_first u es told)
+lends_told s u e es (Ok x) reached some told = entry_ok s u e es x reached some told
+lends_told s u e es (Err fault) reached some told = entry_err s u e es fault reached some told
+
+pub scans_entry : (s u t : Scan) (r : Result Bool Error) → Reached s u
+    → (r, t) ≡ lend_next u u.entries → (r ≡ Ok false → ⊥) → ScansLent s (came r t.lent) t
+scans_entry s u t r reached is some = by u.entries refl is
+  where
+    by : (es : List Entry) → u.entries ≡ es → (r, t) ≡ lend_next u es
+        → ScansLent s (came r t.lent) t
+    by [] none is = absurd (some (ap (λ (p : Result Bool Error × Scan). p.0) is))
+    by (e ∷ es) stands is = subst (Lends s) (sym is)
+        (lends_told s u e es (lifted_told u.global_seqno e) reached stands refl)
 
 -- a block could not be loaded
 abbrev pub halted : Scan → Scan
@@ -411,43 +391,73 @@ one_load u n told = ap (λ (r : Result (List Entry × ℕ) Error). scan_loads_be
 pub scans_fault : (s u t : Scan) (e : Error) → Reached s u → u.entries ≡ [] → 0 < u.blocks
     → (is_memory e ≡ false → fault_of (block_told u.body u.position) ≡ Some e)
     → FaultsFirst (refused e) (position_fault u.body u.position Data) → t ≡ halted u
-    → ScansNext s (Some (Err e)) t
+    → ScansLent s (Some (Err e)) t
 scans_fault s u t e reached none some told ahead is =
     let n = u.blocks - 1 in
     let k : u.blocks ≡ suc n = omega (arith, some) in
     let left = λ (m : is_memory e ≡ false). next_is u n none k
     ∙ ap (next_left u.body u.global_seqno n) (fault_is (block_told u.body u.position) e
     (told m)) in
-    let step : ScansNext s (Some (Err e)) (halted u) = record {
-      answers = answers_from s u (halted u) (Some (Err e)) reached
-          (gave_error u (halted u) e left (has_block u some) (refl, refl));
-      ends = (refl, refl);
-      early = early_block s u e reached.start ahead;
-      lifts = lifts_none s u (Some (Err e)) reached.stands none;
-      count = suc reached.count;
-      counts = ap (with_load Data) reached.counts;
-      within = omega (arith, reached.falls, some);
-      exact = λ m. omega (
-        arith,
-        reached.needs,
-        needs_first u n none k,
-        one_load u n
-            (fault_is (block_told u.body u.position) e (told m)),
-      );
-      most = omega (arith, reached.needs, needs_first u n none k);
-      some = λ _. omega arith;
-      falls = tt;
+    let there = there_none s u (Some (Err e)) reached.stands none in
+    let step : ScansLent s (Some (Err e)) (halted u) = record {
+      next = record {
+        answers = answers_from s u (halted u) (Some (Err e)) reached
+            (gave_error u (halted u) e left (has_block u some) (refl, refl));
+        ends = (refl, refl);
+        early = early_block s u e reached.start ahead;
+        lifts = lifts_there s (Some (Err e)) there;
+        count = suc reached.count;
+        counts = ap (with_load Data) reached.counts;
+        within = omega (arith, reached.falls, some);
+        exact = λ m. omega (
+          arith,
+          reached.needs,
+          needs_first u n none k,
+          one_load u n
+              (fault_is (block_told u.body u.position) e (told m)),
+        );
+        most = omega (arith, reached.needs, needs_first u n none k);
+        some = λ _. omega arith;
+        falls = tt;
+      };
+      there = there;
     } in
-    subst (ScansNext s (Some (Err e))) (sym is) step
+    subst (ScansLent s (Some (Err e))) (sym is) step
 
 -- no entry is left in the block that was reached
 pub record AtEnd (s t : Scan) : Type 0 where
   pub reached : Reached s t
   pub none : t.entries ≡ []
+  pub lent : t.lent ≡ None
 
-pub at_end : (s u t : Scan) → Reached s u → (u.entries ≡ []) × (t ≡ u) → AtEnd s t
-at_end s u t reached none = subst (AtEnd s) (sym none.1)
-    (record { reached = reached; none = none.0 })
+still_reached : (s u : Scan) → Reached s u → Reached s (unlent u)
+still_reached s u reached = record {
+  left = reached.left;
+  start = reached.start;
+  stands = reached.stands;
+  ended = reached.ended;
+  count = reached.count;
+  counts = reached.counts;
+  falls = reached.falls;
+  needs = reached.needs;
+}
+
+pub at_end : (s u t : Scan) (r : Result Bool Error) → Reached s u → (r, t) ≡ lend_next u u.entries
+    → r ≡ Ok false → AtEnd s t
+at_end s u t r reached is none = by u.entries refl is
+  where
+    told : (es : List Entry) (one : R) → (r, t) ≡ lend_first u es one → AtEnd s t
+    told es (Ok x) is =
+        let wrong : Ok true ≡ Ok false = sym (ap (λ (p : Result Bool Error × Scan). p.0) is)
+        ∙ none in absurd cc
+    told es (Err f) is =
+        let wrong : Err f ≡ Ok false = sym (ap (λ (p : Result Bool Error × Scan). p.0) is)
+        ∙ none in absurd cc
+
+    by : (es : List Entry) → u.entries ≡ es → (r, t) ≡ lend_next u es → AtEnd s t
+    by [] stands is = subst (AtEnd s) (sym (ap (λ (p : Result Bool Error × Scan). p.1) is))
+        (record { reached = still_reached s u reached; none = stands; lent = refl })
+    by (e ∷ es) stands is = told es (lifted_told u.global_seqno e) is
 
 not_some : (n : ℕ) → (0 < n → ⊥) → n ≡ 0
 not_some zero h = refl
@@ -458,22 +468,78 @@ unfolding loads_from
 no_loads u done = rw (done.0, done.1) refl
 
 -- nothing is left
-pub scans_none : (s u : Scan) → AtEnd s u → (0 < u.blocks → ⊥) → ScansNext s None u
+pub scans_none : (s u : Scan) → AtEnd s u → (0 < u.blocks → ⊥) → ScansLent s None u
 scans_none s u end last =
     let done : IsEndedScan u = (end.none, not_some u.blocks last) in
+    let there = there_none s u None (end.reached).stands end.none in
     record {
-      answers = answers_from s u u None end.reached (gave_none u done);
-      ends = done;
-      early = early_none s u None (end.reached).start done.1;
-      lifts = lifts_none s u None (end.reached).stands end.none;
-      count = (end.reached).count;
-      counts = (end.reached).counts;
-      within = omega (arith, (end.reached).falls);
-      exact = λ _. omega (arith, (end.reached).needs, no_loads u done);
-      most = omega (arith, (end.reached).needs, no_loads u done);
-      some = λ more. omega (arith, more, (end.reached).needs, no_loads u done);
-      falls = tt;
+      next = record {
+        answers = answers_from s u u None end.reached (gave_none u done);
+        ends = done;
+        early = early_none s u None (end.reached).start done.1;
+        lifts = lifts_there s None there;
+        count = (end.reached).count;
+        counts = (end.reached).counts;
+        within = omega (arith, (end.reached).falls);
+        exact = λ _. omega (arith, (end.reached).needs, no_loads u done);
+        most = omega (arith, (end.reached).needs, no_loads u done);
+        some = λ more. omega (arith, more, (end.reached).needs, no_loads u done);
+        falls = tt;
+      };
+      there = there;
     }
+
+-- ---- an entry that is lent is not shared
+
+not_ended : (s u : Scan) (x : Entry) → ScansNext s (Some (Ok x)) u → IsEndedScan s → ⊥
+not_ended s u x step done =
+    let given = (step.answers).gives (λ _. false) [] (sym (ended_left s done), inl done) refl in
+    let wrong : Some (Ok x) ≡ first {A = R} [] = given.0 in absurd cc
+
+pub scans_refused : (s u t : Scan) (x : Entry) → ScansNext s (Some (Ok x)) u → t ≡ ended u
+    → ScansNext s (Some (Err OutOfMemory)) t
+scans_refused s u t x step is =
+    let refused : ScansNext s (Some (Err OutOfMemory)) (ended u) = record {
+      answers = gave_error s (ended u) OutOfMemory
+          (λ fine. let wrong : true ≡ false = fine in absurd cc)
+          (not_ended s u x step) (refl, refl);
+      ends = (refl, refl);
+      early = λ none more e fault.
+          let wrong : Some (Ok x) ≡ Some (Err e) = step.early none more e fault in absurd cc;
+      lifts = λ e es some f told.
+          let wrong : Some (Ok x) ≡ Some (Err f) = step.lifts e es some f told in absurd cc;
+      count = step.count;
+      counts = step.counts;
+      within = step.within;
+      exact = λ fine. let wrong : true ≡ false = fine in absurd cc;
+      most = step.most;
+      some = step.some;
+      falls = tt;
+    } in
+    subst (ScansNext s (Some (Err OutOfMemory))) (sym is) refused
+
+-- what was lent is shared, or memory is refused for it
+pub scans_shared : (s u t : Scan) (r : R) → ScansLent s (came (Ok true) u.lent) u
+    → is_some u.lent ≡ true → IfOk r (λ x. (u.lent ≡ Some x) × (t ≡ u))
+    → IfErr r (λ e. (e ≡ OutOfMemory) × (t ≡ ended u)) → ScansNext s (Some r) t
+scans_shared s u t (Ok x) step some ok err = subst (ScansNext s (Some (Ok x))) (sym ok.1)
+    (subst (λ (o : Option Entry). ScansNext s (came (Ok true) o) u) ok.0 step.next)
+scans_shared s u t (Err e) step some ok err = by u.lent refl some
+  where
+    by : (o : Option Entry) → u.lent ≡ o → is_some o ≡ true → ScansNext s (Some (Err e)) t
+    by None is some = absurd cc
+    by (Some x) is some = subst (λ (f : Error). ScansNext s (Some (Err f)) t) (sym err.0)
+        (scans_refused s u t x
+        (subst (λ (o : Option Entry). ScansNext s (came (Ok true) o) u) is step.next) err.1)
+
+-- nothing came
+pub scans_over : (s u : Scan) → ScansLent s (came (Ok false) u.lent) u → false ≡ is_some u.lent
+    → ScansNext s None u
+scans_over s u step none = by u.lent refl none
+  where
+    by : (o : Option Entry) → u.lent ≡ o → false ≡ is_some o → ScansNext s None u
+    by None is none = subst (λ (o : Option Entry). ScansNext s (came (Ok false) o) u) is step.next
+    by (Some x) is none = absurd cc
 
 -- ---- how many items come at most
 
@@ -543,6 +609,23 @@ scan_deals stops s xs has = deals_by (answer_stops stops) ScansNext nowhere (Sca
 pub scan_ends : (stops : Error → Bool) (s t : Scan) (e : Error) → ScansNext s (Some (Err e)) t
     → Deals (answer_stops stops) ScansNext nowhere t []
 scan_ends stops s t e step = scan_deals stops t [] (sym (ended_left t step.ends), inl step.ends)
+
+-- and what it lends
+pub scan_lends : (stops : Error → Bool) (s : Scan) (xs : List R) → ScanHas stops s xs
+    → Deals (answer_stops stops) ScansLent nowhere s xs
+scan_lends stops s xs has = deals_by (answer_stops stops) ScansLent nowhere (ScanHas stops)
+    (λ s xs r t has step fine. (step.next.answers).gives stops xs has fine)
+    (λ s xs r t has step fine. absurd step) s xs has
+
+pub lends_end : (stops : Error → Bool) (s t : Scan) (e : Error) → ScansLent s (Some (Err e)) t
+    → Deals (answer_stops stops) ScansLent nowhere t []
+lends_end stops s t e step = scan_lends stops t []
+    (sym (ended_left t step.next.ends), inl step.next.ends)
+
+pub lent_falls : (s t : Scan) (r : Option R) → ScansLent s r t → Lowers r (scan_size s) (scan_size t)
+lent_falls s t None step =
+    omega (arith, ap length (ended_left t step.next.ends), step.next.ends.1)
+lent_falls s t (Some r) step = scan_falls s t r step.next
 
 -- the first block was read
 pub first_left : (body : List ℕ) (g count : ℕ) (es : List Entry) (next : ℕ)

@@ -30,7 +30,8 @@ use Rattle.lsm_readers.specs.IndexKinds.{index_over}
 use Rattle.lsm_readers.specs.Meta.{Facts, meta_told}
 use Rattle.lsm_readers.specs.Parts.{Parts, Pinned, facts_fitting, parts_told, pinned_told}
 use Rattle.lsm_readers.specs.Parts.{places_told, recovered_told}
-use Rattle.lsm_readers.specs.Scan.{Scan, ScansList, ScansNext, fault_of, scan_told}
+use Rattle.lsm_readers.specs.Scan.{LendsList, Scan, ScansLent, ScansList, ScansNext, fault_of}
+use Rattle.lsm_readers.specs.Scan.{scan_told}
 use Rattle.lsm_readers.specs.Stored.{BearsOut, FilterHas, IndexHas, StoresList, fits_told}
 use Rattle.lsm_readers.proofs.FileFilters.{Asked}
 use Rattle.lsm_readers.proofs.Recovered.{PinnedSteps, Steps, ok_same, pinned_steps, steps}
@@ -40,7 +41,7 @@ use Rattle.lsm_readers.proofs.StoredIndex.{TellsHandles, index_opens, index_tell
 use Rattle.lsm_readers.proofs.StoredPoints.{reads_first}
 use Rattle.lsm_readers.proofs.StoredRanges.{LeavesRoom, window_rows}
 use Rattle.lsm_readers.proofs.Steps.{same_fault}
-use Rattle.lsm_readers.proofs.StoredScans.{Scans, chunks_scan, scan_opens}
+use Rattle.lsm_readers.proofs.StoredScans.{Scans, chunks_scan, lends_list, scan_opens}
 
 -- something, or the refusal of a number that is too large
 abbrev unless_large : {A : Type 0} → Bool → A → Result A Error
@@ -208,6 +209,13 @@ module _ (bytes : List ℕ) (es : List Entry) (t : StoresList bytes es) where
         → Faults r (fault_of (load_at_told body 0 Data)) → ScansList r es g
     stored_scans r deals faults = scan_opens r body parts.facts.data_block_count g es t.none scans
         deals faults
+
+    pub stored_lends : (r : Result Scan Error) → ((stops : Error → Bool)
+        → stops OutOfMemory ≡ true → IfOk r (λ s. Deals (answer_stops stops) ScansLent nowhere s
+        (scan_told body parts.facts.data_block_count g)))
+        → Faults r (fault_of (load_at_told body 0 Data)) → LendsList r es g
+    stored_lends r lends faults = lends_list r body parts.facts.data_block_count g es t.none scans
+        lends faults
 
     -- the index has the windows of the handles
     pub stored_index : (lo : Option (List ℕ × ℕ)) (hi : Option (List ℕ))

@@ -18,7 +18,7 @@ use Rattle.lsm_formats.specs.Facts.{highest_seqno}
 use Rattle.lsm_readers.specs.Answer.{lifted, lift}
 use Rattle.lsm_readers.specs.Scan.{lifted_told, behind, blocks_told, then_blocks, entries_told}
 use Rattle.lsm_readers.specs.Scan.{up_to_error, entries_from, scan_told, fault_of, Scan, ScansList}
-use Rattle.lsm_readers.specs.Scan.{ScansNext}
+use Rattle.lsm_readers.specs.Scan.{LendsList, ScansLent, ScansNext}
 use Rattle.lsm_readers.specs.Stored.{AreLaid, HasNoBlock, NamesChunk}
 use Rattle.lsm_readers.proofs.LoadSizes.{at_position, block_end}
 use Rattle.lsm_readers.proofs.Scans.{lifted_ok}
@@ -130,3 +130,18 @@ scan_opens (Ok s) body count g (x ∷ xs) none some deals faults =
     (answer_stops stops) ScansNext nowhere s ys) (some (omega arith)).all (deals stops memory)
 scan_opens (Err e) body count g (x ∷ xs) none some deals faults =
     λ more. memory_alone (load_at_told body 0 Data) (some more).first e (some more).loads faults
+
+-- and what it lends
+pub lends_list : (r : Result Scan Error) (body : List ℕ) (count g : ℕ) (es : List Entry)
+    → (length es ≡ 0 → HasNoBlock body)
+    → (0 < length es → Scans body count g (ok_results (lift es g)))
+    → ((stops : Error → Bool) → stops OutOfMemory ≡ true
+    → IfOk r (λ s. Deals (answer_stops stops) ScansLent nowhere s (scan_told body count g)))
+    → Faults r (fault_of (load_at_told body 0 Data)) → LendsList r es g
+lends_list (Err e) body count g es none some lends faults = tt
+lends_list (Ok s) body count g [] none some lends faults =
+    let no = none refl in
+    absurd (let wrong : None ≡ Some no.fault = sym faults ∙ ap fault_of no.refused in cc)
+lends_list (Ok s) body count g (x ∷ xs) none some lends faults =
+    λ stops memory. subst (λ (ys : List (Result Entry Error)). Deals
+    (answer_stops stops) ScansLent nowhere s ys) (some (omega arith)).all (lends stops memory)

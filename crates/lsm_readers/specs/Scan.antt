@@ -1,7 +1,7 @@
 -- A scan of a table: its blocks one behind another, and their entries.
 use Rattle.std.specs.Prelude.{◌≡◌, ℕ, zero, suc, ◌+◌, ◌-◌, ◌<◌, ◌≤◌, max, Bool, true, false, List}
 use Rattle.std.specs.Prelude.{[], ◌∷◌, ◌++◌, length, map, Option, Some, None, MatchOption, Result}
-use Rattle.std.specs.Prelude.{Ok, Err, IfErr, MatchResult, ◌⊎◌}
+use Rattle.std.specs.Prelude.{Ok, Err, IfErr, IfOk, MatchResult, ◌⊎◌}
 use Rattle.std.specs.List.{flat_map}
 use Rattle.sst_blocks.specs.declared.block_type.BlockType.TheVariants.{Data}
 use Rattle.sst_entries.specs.declared.error.Error.{Error}
@@ -9,7 +9,7 @@ use Rattle.sst_entries.specs.declared.error.Error.TheVariants.{OutOfMemory}
 use Rattle.sst_blocks.specs.declared.opened.Opened.{Opened}
 use Rattle.sst_blocks.specs.Block.{Loaded, load_at_told, position_fault, entries_of, header_len}
 use Rattle.sst_entries.specs.Entry.{Entry}
-use Rattle.sst_entries.specs.Error.{FaultsFirst, Gives, is_memory}
+use Rattle.sst_entries.specs.Error.{is_memory}
 use Rattle.sst_blocks.specs.Opened.{with_load}
 use Rattle.sst_entries.specs.Stream.{Answers, Deals, ok_results, front_of, nowhere, answer_stops}
 pub use Rattle.lsm_iters.specs.Lift.{lifted_told}
@@ -64,10 +64,12 @@ abbrev pub block_told : List ℕ → ℕ → Result (List Entry × ℕ) Error
 block_told body position =
     load_at_told body position Data >>= λ b. Ok (entries_of b, behind position b)
 
--- a scan: the bytes before the trailer, the entries that are left of the present block, where the
--- next block begins, how many blocks are still to be read, the global number, and what was loaded
+-- a scan: the bytes before the trailer, the entry that is lent, the entries that are left of the
+-- present block, where the next block begins, how many blocks are still to be read, the global
+-- number, and what was loaded
 pub record Scan : Type 0 where
   pub body : List ℕ
+  pub lent : Option Entry
   pub entries : List Entry
   pub position : ℕ
   pub blocks : ℕ
@@ -78,9 +80,13 @@ pub record Scan : Type 0 where
 abbrev pub scan_left : Scan → List (Result Entry Error)
 scan_left s = entries_from s.body s.global_seqno s.entries s.position s.blocks
 
--- nothing is left to read
+-- nothing is lent
+abbrev pub unlent : Scan → Scan
+unlent s = record s { lent = None }
+
+-- nothing is lent, and nothing is left to read
 abbrev pub ended : Scan → Scan
-ended s = record s { entries = []; blocks = 0 }
+ended s = record s { lent = None; entries = []; blocks = 0 }
 
 abbrev pub IsEndedScan : Scan → Type 0
 IsEndedScan s = (s.entries ≡ []) × (s.blocks ≡ 0)
@@ -89,14 +95,15 @@ IsEndedScan s = (s.entries ≡ []) × (s.blocks ≡ 0)
 abbrev pub ScanHas : (Error → Bool) → Scan → List (Result Entry Error) → Type 0
 ScanHas stops s xs = (xs ≡ scan_left s) × (IsEndedScan s ⊎ (stops OutOfMemory ≡ true))
 
--- an entry was taken from the present block, or its fault, which ends the scan
-pub record TakesEntry (s : Scan) (r : Result Entry Error) (t : Scan) : Type 0 where
-  pub entry : Entry
-  pub others : List Entry
-  pub some : s.entries ≡ entry ∷ others
-  pub told : Gives (λ (x : Entry). x) r (lifted_told s.global_seqno entry)
-  pub first : FaultsFirst r (fault_of (lifted_told s.global_seqno entry))
-  pub took : MatchResult r (λ _. t ≡ record s { entries = others }) (λ _. t ≡ ended s)
+-- the first entry of the present block, its number lifted, is lent, or its fault ends the scan
+abbrev pub lend_first : Scan → List Entry → Result Entry Error → Result Bool Error × Scan
+lend_first s others (Ok e) = (Ok true, record s { lent = Some e; entries = others })
+lend_first s others (Err e) = (Err e, ended s)
+
+-- that of the entries that are left of it, where one is left
+abbrev pub lend_next : Scan → List Entry → Result Bool Error × Scan
+lend_next s [] = (Ok false, unlent s)
+lend_next s (e ∷ es) = lend_first s es (lifted_told s.global_seqno e)
 
 -- so many loads of data blocks were counted
 abbrev pub loads : ℕ → Opened → Opened
@@ -155,9 +162,17 @@ pub record ScansNext (s : Scan) (r : Option (Result Entry Error)) (t : Scan) : T
   pub falls : MatchOption r (Unit {0})
       (λ x. MatchResult x (λ _. count + t.blocks ≡ s.blocks) (λ _. Unit {0}))
 
--- a scan of so many blocks before its first step: all that it gives is left, and all blocks but the
--- first
+-- one call that lends: it is as one that gives; and an entry that stands in the present block comes,
+-- its number lifted, or its fault does, whatever memory there is
+pub record ScansLent (s : Scan) (r : Option (Result Entry Error)) (t : Scan) : Type 0 where
+  pub next : ScansNext s r t
+  pub there : (e : Entry) (es : List Entry) → s.entries ≡ e ∷ es
+      → r ≡ Some (lifted_told s.global_seqno e)
+
+-- a scan of so many blocks before its first step: nothing is lent, and all that it gives is left, and
+-- all blocks but the first
 pub record IsNewScan (body : List ℕ) (count g : ℕ) (s : Scan) : Type 0 where
+  pub lent : s.lent ≡ None
   pub left : scan_left s ≡ scan_told body count g
   pub blocks : s.blocks ≡ count - 1
 
@@ -172,3 +187,8 @@ ScansList r es g = MatchResult r
     (λ s. (stops : Error → Bool) → stops OutOfMemory ≡ true →
     Deals (answer_stops stops) ScansNext nowhere s (ok_results (lift es g)))
     (λ e. 0 < length es → e ≡ OutOfMemory)
+
+-- and it lends the list
+abbrev pub LendsList : Result Scan Error → List Entry → ℕ → Type 0
+LendsList r es g = IfOk r (λ s. (stops : Error → Bool) → stops OutOfMemory ≡ true →
+    Deals (answer_stops stops) ScansLent nowhere s (ok_results (lift es g)))

@@ -30,8 +30,8 @@ pub use Rattle.lsm_readers.specs.Parts.{pinned_filter, pinned_told, place_size, 
 pub use Rattle.lsm_readers.specs.Parts.{recovered_told}
 pub use Rattle.lsm_readers.specs.Parts.{tops_told}
 pub use Rattle.lsm_readers.specs.Read.{DoesRead, Opens}
-pub use Rattle.lsm_readers.specs.Scan.{IsNewScan, Scan, ScansList, ScansNext, TakesEntry}
-pub use Rattle.lsm_readers.specs.Scan.{block_told, ended}
+pub use Rattle.lsm_readers.specs.Scan.{IsNewScan, LendsList, Scan, ScansLent, ScansList}
+pub use Rattle.lsm_readers.specs.Scan.{ScansNext, block_told, ended, lend_next}
 pub use Rattle.lsm_readers.specs.Scan.{fault_of, lifted_told, scan_size, scan_told}
 pub use Rattle.lsm_readers.specs.Meta.{facts_of}
 pub use Rattle.lsm_readers.specs.Stored.{BearsOut, StoresList, fits_told}

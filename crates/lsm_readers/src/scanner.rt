@@ -1,27 +1,27 @@
 //! Reading a whole table, block after block.
-ghost use Rattle.std.specs.Prelude.{◌≡◌, ◌∷◌, ◌<◌, ◌-◌, ◌↔◌, ℕ, [], Bool, List, Some, Ok, Err};
-ghost use Rattle.std.specs.Prelude.{true, length, IsTrue, IfNone, IfOk, IfErr, IfSome};
+ghost use Rattle.std.specs.Prelude.{◌≡◌, ◌<◌, ◌-◌, ◌↔◌, ℕ, [], Bool, List, None, Some, Ok};
+ghost use Rattle.std.specs.Prelude.{Err, true, is_some, IsTrue, IfOk, IfErr};
 ghost use Rattle.std.specs.Iterator.{at_most};
 ghost use Rattle.lsm_readers.specs.Words.{CanDeal, Deals, Entry, Faults, FaultsFirst, Gives};
-ghost use Rattle.lsm_readers.specs.Words.{IsNewScan, Scan, ScansNext, TakesEntry, block_told};
-ghost use Rattle.lsm_readers.specs.Words.{body_of, with_load};
-ghost use Rattle.lsm_readers.specs.Words.{ended, fault_of, lifted_told, load_at_told, none_opened};
-ghost use Rattle.lsm_readers.specs.Words.{nowhere, position_fault, scan_size, scan_told};
-ghost use Rattle.lsm_readers.specs.Words.{answer_stops};
+ghost use Rattle.lsm_readers.specs.Words.{IsNewScan, Scan, ScansLent, ScansNext, answer_stops};
+ghost use Rattle.lsm_readers.specs.Words.{block_told, body_of, ended, fault_of, lend_next};
+ghost use Rattle.lsm_readers.specs.Words.{load_at_told, none_opened, nowhere, position_fault};
+ghost use Rattle.lsm_readers.specs.Words.{scan_size, scan_told, with_load};
 ghost use Rattle.sst_blocks.specs.declared.block_type.BlockType.TheVariants.{Data};
 ghost use Rattle.sst_entries.specs.declared.error.Error.{Error};
 ghost use Rattle.sst_entries.specs.declared.error.Error.TheVariants.{OutOfMemory};
 
 use lsm_iters::{beside, lift_seqno};
 use sst_blocks::{
-    BlockSource, BlockType, CompressionType, DataBlock, Error, Header, IterItem, Opened, SeqNo,
+    BlockSource, BlockType, CompressionType, DataBlock, DataBlockCursor, EntryRef, Error, Header,
+    IterItem, Lending, Opened, SeqNo,
 };
 use std::alloc::{Allocator, Global};
 use std::marker::Model;
 use std::mem;
 
-/// Reads a table's data blocks in file order, each once, and gives their entries. A contract sees
-/// what is left to read.
+/// Reads a table's data blocks in file order, each once, and gives their entries, or lends them from
+/// the blocks where they lie. A contract sees what is lent and what is left to read.
 ///
 /// The first block is read when the scanner is made, each further one when a step first needs it.
 /// Where a block cannot be loaded its fault comes in the place of its entries, and
@@ -32,9 +32,7 @@ use std::mem;
 #[derive(Drop)]
 pub struct Scanner<A: Allocator = Global> {
     source: BlockSource<A>,
-    block: DataBlock<A>,
-    // the place of the next entry in the block
-    index: usize,
+    block: DataBlockCursor<A>,
     // where the next block begins
     position: u64,
     blocks_left: u64,
@@ -43,20 +41,27 @@ pub struct Scanner<A: Allocator = Global> {
 }
 
 impl<A: Allocator> Model for Scanner<A> {
-    ghost use Rattle.std.specs.Prelude.{drop};
+    ghost use Rattle.std.specs.Prelude.{◌+◌, ◌<◌, ◌^◌, MatchOption};
+    ghost use Rattle.std.specs.Option.{option_map};
     ghost use Rattle.sst_sections.specs.Sections.{body_of};
+    ghost use Rattle.lsm_readers.specs.Answer.{lifted};
     ghost use Rattle.lsm_readers.specs.Scan.{Scan};
 
     ghost Value = { Scan };
 
     ghost view = { λ s. record {
       body = body_of s.source;
-      entries = drop s.index s.block;
+      lent = option_map (lifted s.global_seqno) s.block.lent;
+      entries = s.block.behind;
       position = s.position;
       blocks = s.blocks_left;
       global_seqno = s.global_seqno;
       opened = s.opened;
     } };
+
+    // The number of the entry that is lent fits once it is lifted.
+    ghost invariant = { λ s. MatchOption s.block.lent (Unit {0})
+        (λ e. e.seqno + s.global_seqno < 2 ^ 64) };
 }
 
 /// The data block at a position, and where the next block begins. Refused as
@@ -105,6 +110,17 @@ impl<A: Allocator + Clone> Scanner<A> {
         ensures ends { (stops : Error → Bool) (s t : Scan) (e : Error) →
             ⟦<Scanner<A> as Iterator>⟧.next_gives s (Some (Err e)) t →
             Deals (answer_stops stops) ⟦<Scanner<A> as Iterator>⟧.next_gives nowhere t [] }
+        // It lends what it gives.
+        ensures lends { (stops : Error → Bool) → stops OutOfMemory ≡ true →
+            let advances = ⟦<Scanner<A> as Lending>⟧.advances in
+            let left = scan_told (body_of source.now) block_count global_seqno in
+            IfOk result (λ s. Deals (answer_stops stops) advances nowhere s left) }
+        ensures can_lend { let advances = ⟦<Scanner<A> as Lending>⟧.advances in
+            let may = ⟦<Scanner<A> as Lending>⟧.can_advance in
+            IfOk result (λ s. CanDeal advances nowhere may may s) }
+        ensures lends_end { (stops : Error → Bool) (s t : Scan) (e : Error) →
+            ⟦<Scanner<A> as Lending>⟧.advances s (Some (Err e)) t →
+            Deals (answer_stops stops) ⟦<Scanner<A> as Lending>⟧.advances nowhere t [] }
     {
         match compression {
             CompressionType::None => {}
@@ -114,8 +130,7 @@ impl<A: Allocator + Clone> Scanner<A> {
         let (block, source) = beside(block, source.clone())?;
         Ok(Scanner {
             source,
-            block,
-            index: 0,
+            block: block.into_cursor(),
             position,
             blocks_left: block_count.saturating_sub(1),
             global_seqno,
@@ -137,46 +152,30 @@ impl<A: Allocator + Clone> Scanner<A> {
         self.blocks_left > 0
     }
 
-    /// Lets go what is left.
+    /// Lets go what is lent and what is left.
     fn end(&mut self)
         ensures { self.new ≡ ended self.old }
     {
-        self.index = self.block.len();
+        self.block.end();
         self.blocks_left = 0;
     }
 
-    /// The next entry of the present block, its number lifted.
-    fn entry(&self) -> IterItem<A>
-        requires { 0 < length self.now.entries }
-        ensures told { (e : Entry) (es : List Entry) → self.now.entries ≡ e ∷ es →
-            Gives (λ (x : Entry). x) result (lifted_told self.now.global_seqno e) }
-        // A number that passes `u64` comes before any want of memory.
-        ensures first { (e : Entry) (es : List Entry) → self.now.entries ≡ e ∷ es →
-            FaultsFirst result (fault_of (lifted_told self.now.global_seqno e)) }
+    /// Goes on to the next entry of the present block, and answers whether one was left. Refused
+    /// where its number passes `u64`, which ends the scan.
+    #[inline]
+    fn next_entry(&mut self) -> Result<bool, Error>
+        ensures { (result, self.new) ≡ lend_next self.old self.old.entries }
     {
-        let (_, number) = self.block.key_at(self.index);
-        let seqno = lift_seqno(number, self.global_seqno)?;
-        let mut item = self.block.entry(self.index)?;
-        item.key.seqno = seqno;
-        Ok(item)
-    }
-
-    /// Takes the next entry of the present block, where one is left. An error ends the scan.
-    fn next_entry(&mut self) -> Option<IterItem<A>>
-        ensures none { IfNone result ((self.old.entries ≡ []) × (self.new ≡ self.old)) }
-        ensures takes { IfSome result (λ item. TakesEntry self.old item self.new) }
-    {
-        if self.block.len() <= self.index {
-            return None;
-        }
-        match self.entry() {
-            Ok(item) => {
-                self.index += 1;
-                Some(Ok(item))
-            }
+        self.block.advance();
+        let Some(entry) = self.block.entry() else {
+            return Ok(false);
+        };
+        match lift_seqno(entry.seqno, self.global_seqno) {
+            Ok(_) => Ok(true),
             Err(error) => {
-                self.end();
-                Some(Err(error))
+                self.block.end();
+                self.blocks_left = 0;
+                Err(error)
             }
         }
     }
@@ -187,6 +186,7 @@ impl<A: Allocator + Clone> Scanner<A> {
         ensures ok { IfOk result (λ _. (es : List Entry) × (next : ℕ) ×
             (block_told self.old.body self.old.position ≡ Ok (es, next)) ×
             (self.new ≡ record self.old {
+              lent = None;
               entries = es;
               position = next;
               blocks = self.old.blocks - 1;
@@ -199,8 +199,7 @@ impl<A: Allocator + Clone> Scanner<A> {
     {
         match block_at(&self.source, self.position, &mut self.opened) {
             Ok((block, position)) => {
-                drop(mem::replace(&mut self.block, block));
-                self.index = 0;
+                drop(mem::replace(&mut self.block, block.into_cursor()));
                 self.position = position;
                 self.blocks_left -= 1;
                 Ok(())
@@ -209,6 +208,60 @@ impl<A: Allocator + Clone> Scanner<A> {
                 self.end();
                 Err(error)
             }
+        }
+    }
+
+    /// The entry that is lent, whose key and value share the table's memory. Refused
+    /// [`Error::OutOfMemory`] alone, and nothing more comes then. Condition: an entry is lent.
+    #[inline]
+    pub fn share(&mut self) -> IterItem<A>
+        requires { is_some self.old.lent ≡ true }
+        ensures ok { IfOk result (λ e. (self.old.lent ≡ Some e) × (self.new ≡ self.old)) }
+        ensures err { IfErr result (λ e. (e ≡ OutOfMemory) × (self.new ≡ ended self.old)) }
+    {
+        match self.block.share() {
+            Ok(mut item) => {
+                item.key.seqno += self.global_seqno;
+                Ok(item)
+            }
+            Err(error) => {
+                self.end();
+                Err(error)
+            }
+        }
+    }
+}
+
+impl<A: Allocator + Clone> Lending for Scanner<A> {
+    ghost can_advance = { λ _. Unit {0} };
+
+    ghost advances = { ScansLent };
+
+    ghost lent = { λ s. s.lent };
+
+    ghost left = { scan_size };
+
+    #[inline]
+    fn advance(&mut self) -> Result<bool, Error> {
+        loop {
+            if self.next_entry()? {
+                return Ok(true);
+            }
+            if !self.has_block() {
+                return Ok(false);
+            }
+            self.next_block()?;
+        }
+    }
+
+    #[inline]
+    fn entry(&self) -> Option<EntryRef<'_>> {
+        match self.block.entry() {
+            None => None,
+            Some(entry) => Some(EntryRef {
+                seqno: entry.seqno + self.global_seqno,
+                ..entry
+            }),
         }
     }
 }
@@ -223,16 +276,10 @@ impl<A: Allocator + Clone> Iterator for Scanner<A> {
     ghost remaining = { λ s. at_most (scan_size s) };
 
     fn next(&mut self) -> Option<IterItem<A>> {
-        loop {
-            if let Some(item) = self.next_entry() {
-                return Some(item);
-            }
-            if !self.has_block() {
-                return None;
-            }
-            if let Err(error) = self.next_block() {
-                return Some(Err(error));
-            }
+        match self.advance() {
+            Ok(true) => Some(self.share()),
+            Ok(false) => None,
+            Err(error) => Some(Err(error)),
         }
     }
 }

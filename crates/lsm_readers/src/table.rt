@@ -7,7 +7,7 @@ ghost use Rattle.lsm_readers.specs.Words.{Gives, Handle, IsNewScan, IsOpen, IsRe
 ghost use Rattle.lsm_readers.specs.Words.{BearsOut, NamesBlocksOf, StoresList, fits_told};
 ghost use Rattle.lsm_readers.specs.Words.{Loaded, LoadsFew, OpenTable, Opens, SaysList, Scan};
 ghost use Rattle.lsm_readers.specs.Words.{ScansList, answer_stops, body_of, early_fault, early_in};
-ghost use Rattle.lsm_readers.specs.Words.{ends_of};
+ghost use Rattle.lsm_readers.specs.Words.{LendsList, ends_of};
 ghost use Rattle.lsm_readers.specs.Words.{facts_of, fault_of, filter_len, filter_told};
 ghost use Rattle.lsm_readers.specs.Words.{fitting_told, hash_of, index_len, key_bound, lift};
 ghost use Rattle.lsm_readers.specs.Words.{list_told, load_at_told, load_told, none_opened, nowhere};
@@ -42,7 +42,7 @@ use lsm_ranges::{KeyRange, Ranged};
 pub use queries::{Query, get_many};
 use sst_blocks::{
     BlockHandle, BlockSource, BlockType, Builder, Checksum, Counted, Error, FilterBlock,
-    IndexBlock, InternalValue, Opened, SeqNo, Slice,
+    IndexBlock, InternalValue, Lending, Opened, SeqNo, Slice,
 };
 use std::alloc::{AllocError, Allocator, Global};
 use std::fmt;
@@ -423,6 +423,18 @@ impl<A: Allocator + Clone> Table<A> {
         ensures ends { (stops : Error → Bool) (s t : Scan) (e : Error) →
             ⟦<Scanner<A> as Iterator>⟧.next_gives s (Some (Err e)) t →
             Deals (answer_stops stops) ⟦<Scanner<A> as Iterator>⟧.next_gives nowhere t [] }
+        // It lends what it gives.
+        ensures lends { (stops : Error → Bool) → stops OutOfMemory ≡ true →
+            let advances = ⟦<Scanner<A> as Lending>⟧.advances in
+            let count = self.now.parts.facts.data_block_count in
+            let left = scan_told (body_of self.now.bytes) count self.now.global_seqno in
+            IfOk result (λ s. Deals (answer_stops stops) advances nowhere s left) }
+        ensures can_lend { let advances = ⟦<Scanner<A> as Lending>⟧.advances in
+            let may = ⟦<Scanner<A> as Lending>⟧.can_advance in
+            IfOk result (λ s. CanDeal advances nowhere may may s) }
+        ensures lends_end { (stops : Error → Bool) (s t : Scan) (e : Error) →
+            ⟦<Scanner<A> as Lending>⟧.advances s (Some (Err e)) t →
+            Deals (answer_stops stops) ⟦<Scanner<A> as Lending>⟧.advances nowhere t [] }
         ensures opened { IfOk result (λ s. s.opened ≡ with_load Data none_opened) }
         ensures left { let count = self.now.parts.facts.data_block_count in
             IfOk result (IsNewScan (body_of self.now.bytes) count self.now.global_seqno) }
@@ -430,6 +442,8 @@ impl<A: Allocator + Clone> Table<A> {
         // entry, nothing but want of memory refuses it.
         ensures list { (es : List Entry) → StoresList self.now.bytes es →
             ScansList result es self.now.global_seqno }
+        ensures lends_list { (es : List Entry) → StoresList self.now.bytes es →
+            LendsList result es self.now.global_seqno }
         ensures open { IsOpen self.now }
     {
         let inner: &Inner<A> = &self.inner;

@@ -6,8 +6,8 @@ use crate::payloads::{
 };
 use sst_blocks::Direction::{Back, Front};
 use sst_blocks::{
-    DataBlock, DataBlockIter, Direction, Error, InternalValue, IterItem, SeqNo, Slice,
-    TableVersion, ValueType, answer_at, are_strict, data_block_bound,
+    DataBlock, DataBlockCursor, DataBlockIter, Direction, EntryRef, Error, InternalValue, IterItem,
+    SeqNo, Slice, TableVersion, ValueType, answer_at, are_strict, data_block_bound,
 };
 use std::alloc::{AllocError, Allocator, Global};
 use std::array::from_ref;
@@ -261,6 +261,47 @@ fn has_their_keys(block: &DataBlock) -> bool {
 #[test]
 fn the_key_of_a_place_is_that_of_its_entry(rt: HostRuntime) {
     assert!(rt; holds(asked(block_of_five(rt.alloc()), has_their_keys)));
+}
+
+// Whether a cursor goes on to an entry, lends it and shares it.
+fn lends_next(cursor: &mut DataBlockCursor, entry: EntryRef<'_>) -> Result<bool, Error> {
+    if !cursor.advance() {
+        return Ok(false);
+    }
+    match cursor.entry() {
+        Some(lent) => {
+            let shared = cursor.share()?;
+            Ok(lent == entry && shared.as_entry_ref() == entry)
+        }
+        None => Ok(false),
+    }
+}
+
+// Whether a cursor lends the entries of a block, each as its place does, and then nothing.
+fn lends_each(block: &DataBlock) -> Result<bool, Error> {
+    let mut cursor = block.clone()?.into_cursor();
+    let begins = cursor.entry().is_none();
+    for place in 0..block.len() {
+        if !lends_next(&mut cursor, block.entry_ref(place))? {
+            return Ok(false);
+        }
+    }
+    Ok(begins && !cursor.advance() && cursor.entry().is_none())
+}
+
+// Whether a cursor that is ended behind the first entry lends nothing more.
+fn lends_none_behind_its_end(block: &DataBlock) -> Result<bool, Error> {
+    let mut cursor = block.clone()?.into_cursor();
+    let begins = cursor.advance();
+    cursor.end();
+    Ok(begins && cursor.entry().is_none() && !cursor.advance())
+}
+
+#[test]
+fn a_cursor_lends_the_entries_of_a_block(rt: HostRuntime) {
+    assert!(rt; is_answer(asked(block_of_five(rt.alloc()), lends_each), Ok(true)));
+    let over = asked(block_of_five(rt.alloc()), lends_none_behind_its_end);
+    assert!(rt; is_answer(over, Ok(true)));
 }
 
 // The number of the next entry, from the front or the back, or 99 where there is none.

@@ -10,7 +10,7 @@ returns-in-Ok-clause-ok g c = (
   c.in-Ok.block,
   c.in-Ok.position,
   ap (λ (s : Scan). block_told s.body s.position) (sym c.self.view_is) ∙ c.in-Ok.ensures.told,
-  rw c.replace.ensures.after (moved_is _ c.args.self.now c.in-Ok.block c.in-Ok.position c.block_at.new.opened c.self.view_is c.in-Ok.ensures.counted),
+  rw (c.replace.ensures.after, c.into_cursor.ensures) (moved_is _ c.args.self.now c.in-Ok.block c.in-Ok.position c.block_at.new.opened c.self.view_is c.in-Ok.ensures.counted),
 )
 
 pub returns-in-Ok-clause-refused : goal.returns-in-Ok-clause-refused
