@@ -10,4 +10,6 @@ pub mod Union
 pub mod Merge
 pub mod Asks
 pub mod MergeLaws
+pub mod InPlace
+pub mod Lent
 pub mod Words
