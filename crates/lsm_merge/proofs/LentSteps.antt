@@ -629,3 +629,14 @@ pub started_on : {S A : Type 0} (stops : Error → Bool) (advances : S → Optio
     × (ys ≡ merge_of lists)) (λ e. stops e ≡ false → ys ≡ Err e ∷ [])
 started_on stops advances lent ys lists (Ok u) n is h = (lists, h, is)
 started_on stops advances lent ys lists (Err e) n is h = λ fine. is ∙ h fine
+
+-- ---- after an error
+
+pub no_error : (o : Option Entry) (e : Error) → option_map {U = R} (λ x. Ok x) o ≡ Some (Err e) → ⊥
+no_error None e is = cc
+no_error (Some x) e is = cc
+
+pub over_lends : {S A : Type 0} (lent : S → Option Entry) (n : LendingMerger S A)
+    → n.queue.items ≡ [] → option_map {U = R} (λ x. Ok x) (lent_first lent n) ≡ None
+over_lends lent n empty = ap (λ (qs : List ℕ). option_map {U = R} (λ x. Ok x)
+    (lent_by (lent_at lent n.sources.items) (slice_get qs (length qs - 1)))) empty

@@ -29,3 +29,4 @@ pub mod InPlaceLemmas
 pub mod QueueLemmas
 pub mod LentLemmas
 pub mod LentSteps
+pub mod LentDeals

@@ -143,10 +143,18 @@ module _ {S : Type 0} (stops : Error → Bool) (advances : S → Option R → S 
         × Rests (λ j. false) n.sources.items n.queue.items lists × (ys ≡ merge_of lists))
         (λ e. stops e ≡ false → ys ≡ Err e ∷ [])
 
+-- nothing is lent any more
+pub record IsOver {S A : Type 0} (m : LendingMerger S A) : Type 0 where
+  pub started : m.is_started ≡ true
+  pub empty : m.queue.items ≡ []
+
 -- one call: it may be asked again, and where m stands for a list, what came is the first of it, up
--- to an error that stops a source, and n stands for the others
+-- to an error that stops a source, and n stands for the others.
+-- An error ends it: nothing is lent from then on
 pub record AdvancesLent {S : Type 0} (advances : S → Option R → S → Type 0) (can : S → Type 0)
     (lent : S → Option Entry) {A : Type 0} (m : LendingMerger S A) (r : Option R)
     (n : LendingMerger S A) : Type 0 where
   pub may : MayLend advances can lent n
   pub gives : (stops : Error → Bool) → DealsFirst stops (LeavesLent stops advances lent) m r n
+  pub ends : (e : Error) → r ≡ Some (Err e) → IsOver n
+  pub over : IsOver m → (r ≡ None) × IsOver n

@@ -9,7 +9,7 @@ pub mod Ends
 pub mod Union
 pub mod Merge
 pub mod Asks
-pub mod MergeLaws
 pub mod InPlace
+pub mod MergeLaws
 pub mod Lent
 pub mod Words

@@ -1,16 +1,17 @@
 //! Several sorted sources that lend their entries, as one that lends.
-ghost use Rattle.std.specs.Prelude.{◌≡◌, ℕ, ◌+◌, ◌<◌, ◌≤◌, true, false, [], length, All, IfOk, IfErr, Some};
+ghost use Rattle.std.specs.Prelude.{◌≡◌, ℕ, ◌+◌, ◌<◌, ◌≤◌, true, false, [], length, All, IfOk, IfErr, IsOk, Some, None};
 ghost use Rattle.std.specs.Prelude.{List, Bool};
 ghost use Rattle.std.specs.Option.{option_map};
 ghost use Rattle.std.specs.Vec.{vec_capacity};
 ghost use Rattle.std.specs.List.{insert};
 ghost use Rattle.sst_entries.specs.Lending.{came, entry_of_ref};
-ghost use Rattle.sst_entries.specs.Stream.{DealsFirst, Lowers};
+ghost use Rattle.sst_entries.specs.Stream.{CanDeal, DealsFirst, EndsAtError, Lowers, nowhere};
 ghost use Rattle.sst_entries.specs.declared.error.Error.{Error};
 ghost use Rattle.sst_entries.specs.declared.error.Error.TheVariants.{OutOfMemory};
 ghost use Rattle.lsm_merge.specs.Lent.{GoesOn, IsReady, MayLend, StepsOn, goes_before, is_among};
 ghost use Rattle.lsm_merge.specs.Lent.{is_turn, lent_at, lent_first, lent_size, lent_total};
-ghost use Rattle.lsm_merge.specs.Lent.{AdvancesLent, Belongs, StartsLent, StepLowers};
+ghost use Rattle.lsm_merge.specs.Lent.{AdvancesLent, Belongs, IsOver, StartsLent, StepLowers};
+ghost use Rattle.lsm_merge.specs.MergeLaws.{DealsInPlace, DealsMerged};
 
 use crate::words::compare_refs;
 use sst_entries::{EntryRef, Error, Lending};
@@ -49,6 +50,24 @@ impl<L: Lending + Drop, A: Allocator> LendingMerger<L, A> {
     /// Merges sources that each lend their entries in order. Reserves a place for each source; no
     /// step takes memory. Refused [`Error::OutOfMemory`] alone.
     pub fn new(alloc: A, sources: Vec<L, A>) -> Result<Self, Error>
+        // Nothing is lent yet.
+        ensures none { IfOk result (λ m. ⟦<LendingMerger<L, A> as Lending>⟧.lent m ≡ None) }
+        // What sorted sources have together is dealt in order.
+        ensures deals { IfOk result (λ m. DealsMerged L.advances nowhere sources.items
+            ⟦<LendingMerger<L, A> as Lending>⟧.advances nowhere m) }
+        // With errors among it, up to the first, in its place.
+        ensures places { IfOk result (λ m. DealsInPlace L.advances nowhere sources.items
+            ⟦<LendingMerger<L, A> as Lending>⟧.advances nowhere m) }
+        // Nothing follows an error, whatever the sources give.
+        ensures ends { IfOk result (λ m. EndsAtError
+            ⟦<LendingMerger<L, A> as Lending>⟧.advances nowhere m) }
+        // Where the sources may be asked for as long as wanted, so may it.
+        ensures can { All (CanDeal L.advances nowhere L.can_advance L.can_advance) sources.items →
+            IfOk result (CanDeal ⟦<LendingMerger<L, A> as Lending>⟧.advances nowhere
+            ⟦<LendingMerger<L, A> as Lending>⟧.can_advance
+            ⟦<LendingMerger<L, A> as Lending>⟧.can_advance) }
+        ensures advance { All (CanDeal L.advances nowhere L.can_advance L.can_advance)
+            sources.items → IfOk result ⟦<LendingMerger<L, A> as Lending>⟧.can_advance }
         ensures err { IfErr result (λ e. e ≡ OutOfMemory) }
     {
         let queue = Vec::with_capacity(alloc, sources.len())?;
@@ -154,6 +173,7 @@ impl<L: Lending, A: Allocator> LendingMerger<L, A> {
         ensures ready { IsReady L.advances L.can_advance L.lent self.new }
         ensures started { self.new.is_started ≡ true }
         ensures lowers { IfOk result (λ _. StepLowers L.left self.old self.new) }
+        ensures over { IsOver self.old → IsOk result × IsOver self.new }
         ensures fault { IfErr result (λ _. 0 < lent_size L.left self.old) }
         ensures steps { (stops : Error → Bool) →
             StepsOn stops L.advances L.lent self.old result self.new }

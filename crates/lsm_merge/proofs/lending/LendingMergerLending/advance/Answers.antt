@@ -3,8 +3,8 @@ use Rattle.std.proofs.Common.{◌≡◌, ℕ, Bool, true, false, List, [], ◌�
 use Rattle.std.specs.Prelude.{Err, not, ◌==◌, length}
 use Rattle.sst_entries.specs.Stream.{but_first, first}
 use Rattle.lsm_merge.specs.Ends.{R}
-use Rattle.lsm_merge.specs.Lent.{LeavesLent}
-use Rattle.lsm_merge.proofs.LentSteps.{answers_lent, answers_fault, lowers_lent, queue_lends, ready_cleared}
+use Rattle.lsm_merge.specs.Lent.{LeavesLent, lent_first}
+use Rattle.lsm_merge.proofs.LentSteps.{answers_lent, answers_fault, lowers_lent, no_error, over_lends, queue_lends, ready_cleared}
 use Rattle.lsm_merge.proofs.lending.LendingMergerLending.advance.Goals as goal
 
 pub returns-in-Ok-clause-goes : goal.returns-in-Ok-clause-goes
@@ -18,6 +18,9 @@ returns-in-Ok-clause-goes g c =
       gives = λ stops ys leaves fine.
           let s = c.in-Ok.ensures.steps stops ys leaves in
           answers_lent stops g.L.Lending.advances g.L.Lending.lent n ys c.in-Ok.ensures.started c.in-Ok.ensures.ready.queue c.in-Ok.ensures.ready.known s.0 s.1 s.2;
+      ends = λ e is. absurd (no_error (lent_first g.L.Lending.lent n) e is);
+      over = λ over. let after = (c.in-Ok.ensures.over over).1 in
+          (over_lends g.L.Lending.lent n after.empty, after);
     }
 
 pub returns-in-Ok-clause-more : goal.returns-in-Ok-clause-more
@@ -42,4 +45,6 @@ returns-in-Err-clause-goes g c =
             sym (ap first e),
             subst (LeavesLent stops g.L.Lending.advances g.L.Lending.lent n) (sym (ap but_first e)) (answers_fault stops g.L.Lending.advances g.L.Lending.lent n c.in-Err.ensures.started c.clear.ensures.items),
           );
+      ends = λ e is. record { started = c.in-Err.ensures.started; empty = c.clear.ensures.items };
+      over = λ over. let no : false ≡ true = (c.in-Err.ensures.over over).0 in absurd cc;
     }
