@@ -3,14 +3,13 @@ use Rattle.std.proofs.Common.{◌≡◌, refl, sym, ◌∙◌, ap, ℕ, zero, su
 use Rattle.std.proofs.Common.{List, [], ◌∷◌, ◌++◌, length, arith, map, slice_index_or, slice_set}
 use Rattle.std.specs.Prelude.{Option, Some, None, Ok, Err}
 use Rattle.std.specs.List.{AllByRecursion}
-use Rattle.std.specs.Ordering.{is_gt}
 use Rattle.sst_entries.specs.Entry.{Entry}
 use Rattle.sst_entries.specs.declared.error.Error.{Error}
-use Rattle.sst_entries.proofs.Lists.{all_append, all_more}
+use Rattle.sst_entries.proofs.Lists.{all_append}
 use Rattle.lsm_merge.specs.Ends.{R}
 use Rattle.lsm_merge.specs.InPlace.{Placed, placed, is_after, put_in_place, sort_places, all_placed}
 use Rattle.lsm_merge.specs.InPlace.{up_to_error, merge_of}
-use Rattle.lsm_merge.specs.Union.{item_cmp, AtMost, Ascends, entries_among}
+use Rattle.lsm_merge.specs.Union.{AtMost, entries_among}
 use Rattle.lsm_merge.proofs.MergedLemmas.{Above}
 
 -- ---- sorted places

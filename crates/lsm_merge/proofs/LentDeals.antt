@@ -15,9 +15,9 @@ use Rattle.sst_entries.specs.declared.stream.Direction.TheVariants.{Front, Back}
 use Rattle.sst_entries.proofs.StreamLemmas.{can_by, deals_by}
 use Rattle.lsm_merge.specs.declared.lending.LendingMerger.{LendingMerger}
 use Rattle.lsm_merge.specs.Ends.{R}
-use Rattle.lsm_merge.specs.InPlace.{Placed, placed, is_after, put_in_place, sort_places, all_placed}
+use Rattle.lsm_merge.specs.InPlace.{Placed, placed, put_in_place, sort_places, all_placed}
 use Rattle.lsm_merge.specs.InPlace.{up_to_error, merge_of}
-use Rattle.lsm_merge.specs.Lent.{AdvancesLent, IsOver, IsReady, LeavesLent, LeavesIf, MayLend, RestIf}
+use Rattle.lsm_merge.specs.Lent.{AdvancesLent, IsOver, LeavesLent, LeavesIf, MayLend}
 use Rattle.lsm_merge.specs.Lent.{IsQueue, Rests, lent_at}
 use Rattle.lsm_merge.specs.MergeLaws.{DealSorted, DealsInPlace, DealsMerged}
 use Rattle.lsm_merge.specs.Union.{item_cmp, entries_among, errors_among, all_entries, all_errors}
@@ -126,10 +126,13 @@ module _ {S A : Type 0} (advances : S → Option R → S → Type 0) (can : S �
     starts stops lists sorted =
         let rests = zip_rests advances stops its lists sorted.deal in
         record {
-          parts = subst (λ (b : Bool). LeavesIf stops advances lent b m (merge_of lists)) (sym fresh)
-              (lists, subst (λ (ss : List S). Rests stops advances lent (λ i. true) ss [] lists)
-              (sym sources)
-              (record { count = rests.0; each = rests.1; sorted = sorted.ascend }), refl);
+          parts = subst (λ (b : Bool). LeavesIf stops advances lent b m (merge_of lists)) (sym fresh) (
+            lists,
+            subst (λ (ss : List S). Rests stops advances lent (λ i. true) ss [] lists)
+                (sym sources)
+                (record { count = rests.0; each = rests.1; sorted = sorted.ascend }),
+            refl,
+          );
         }
 
     pub lent_in_place : DealsInPlace advances nowhere its Adv nowhere m

@@ -1,21 +1,19 @@
 -- A source of a lending merger goes on.
-use Rattle.std.proofs.Common.{◌≡◌, refl, sym, ◌∙◌, ap, subst, ℕ, zero, suc, ◌+◌, ◌<◌, ◌≤◌, Bool}
-use Rattle.std.proofs.Common.{true, false, List, [], ◌∷◌, length, map, arith, get_or, slice_index_or}
+use Rattle.std.proofs.Common.{◌≡◌, refl, sym, ◌∙◌, ap, subst, ℕ, zero, suc, ◌<◌, Bool}
+use Rattle.std.proofs.Common.{true, false, List, [], ◌∷◌, length, arith, slice_index_or}
 use Rattle.std.proofs.Common.{slice_set}
-use Rattle.std.specs.Prelude.{Option, Some, None, Result, Ok, Err, is_some, ◌==◌, ◌&&◌, ◌||◌, not}
-use Rattle.std.specs.Prelude.{All, sum_by}
+use Rattle.std.specs.Prelude.{Option, Some, None, Ok, Err, is_some, ◌==◌, ◌&&◌, ◌||◌, not}
 use Rattle.std.specs.List.{AllByRecursion, insert}
 use Rattle.std.proofs.lemmas.Bool.{eqb-true, eq-eqb}
 use Rattle.std.proofs.lemmas.Bool.Decides.{nat_tests}
 use Rattle.sst_entries.specs.Entry.{Entry}
 use Rattle.sst_entries.specs.Lending.{came}
-use Rattle.sst_entries.specs.Stream.{answer_stops, but_first, first, nowhere, Lowers}
+use Rattle.sst_entries.specs.Stream.{answer_stops, but_first, first, nowhere}
 use Rattle.sst_entries.specs.declared.error.Error.{Error}
-use Rattle.sst_entries.proofs.Lists.{all_more}
 use Rattle.sst_entries.proofs.StreamLemmas.{deals_front}
 use Rattle.lsm_merge.specs.Ends.{R}
 use Rattle.lsm_merge.specs.Lent.{goes_before, lent_at, IsQueue, is_among, Has, RestIf, Rests}
-use Rattle.lsm_merge.proofs.QueueLemmas.{among_itself, among_put, not_among}
+use Rattle.lsm_merge.proofs.QueueLemmas.{among_itself, among_put}
 
 -- ---- one of several
 
@@ -196,9 +194,13 @@ module _ {S : Type 0} (stops : Error → Bool) (advances : S → Option R → S 
         rests_set waits ss qs (insert qs p i) lists i t h within
         (λ j apart. among_put j i p qs ∙ other j apart)
         (subst (λ (b : Bool). Rest b false t (slice_index_or lists i []))
-        (sym (among_put i i p qs ∙ among_itself i qs))
-        (x, but_first (slice_index_or lists i []), is,
-        headed (Ok x) (slice_index_or lists i []) one.0, one.1))
+        (sym (among_put i i p qs ∙ among_itself i qs)) (
+          x,
+          but_first (slice_index_or lists i []),
+          is,
+          headed (Ok x) (slice_index_or lists i []) one.0,
+          one.1,
+        ))
       where
         other : (j : ℕ) → (i ≡ j → ⊥) → is_among j (i ∷ qs) ≡ is_among j qs
         other j apart = ap (λ (b : Bool). b || is_among j qs) (differ j apart)

@@ -1,9 +1,9 @@
 -- What a lending merger lends, and what is left behind it.
-use Rattle.std.proofs.Common.{◌≡◌, ◌⊎◌, inl, inr, refl, sym, ◌∙◌, ap, subst, ℕ, zero, suc, ◌+◌, ◌<◌}
+use Rattle.std.proofs.Common.{◌≡◌, inl, inr, refl, sym, ◌∙◌, ap, subst, ℕ, zero, suc, ◌+◌, ◌<◌}
 use Rattle.std.proofs.Common.{◌≤◌, ◌-◌, Bool, true, false, cond, List, [], ◌∷◌, ◌++◌, length, map}
 use Rattle.std.proofs.Common.{arith, slice_index_or, slice_set}
 use Rattle.std.specs.Prelude.{Option, Some, None, Result, Ok, Err, is_some, ◌==◌, ◌&&◌, ◌||◌, not}
-use Rattle.std.specs.Prelude.{All, nat_lt, slice_get, sum_by, MatchResult}
+use Rattle.std.specs.Prelude.{All, nat_lt, slice_get, MatchResult}
 use Rattle.std.specs.List.{AllByRecursion, insert}
 use Rattle.std.specs.Option.{option_map}
 use Rattle.std.specs.Vec.{vec_capacity}
@@ -29,7 +29,7 @@ use Rattle.lsm_merge.specs.Union.{item_cmp, AtMost, Ascends, entries_among}
 use Rattle.lsm_merge.proofs.InPlaceLemmas.{HasNoFault, merge_entry, merge_fault, merge_nothing}
 use Rattle.lsm_merge.proofs.LentLemmas.{lent_is, lent_own, queue_stays, rests_same, set_length}
 use Rattle.lsm_merge.proofs.LentLemmas.{set_other, set_own}
-use Rattle.lsm_merge.proofs.MergedLemmas.{item_total, Above, above_at_most, at_most_chain}
+use Rattle.lsm_merge.proofs.MergedLemmas.{item_total, Above, at_most_chain}
 use Rattle.lsm_merge.proofs.QueueLemmas.{all_put_in, among_end, last_before, last_of_queue, queue_front}
 
 -- ---- whether it may be asked
@@ -73,8 +73,7 @@ module _ {S : Type 0} (advances : S → Option R → S → Type 0) (can : S → 
       subst (AllByRecursion (λ q. q < length m.sources.items)) items
       (recursion_from_All (λ q. q < length m.sources.items) m.queue.items ready.known) in
       let long : length n.sources.items ≡ length m.sources.items = ap length same in
-      let old : length m.sources.items ≤ vec_capacity m.queue = ready.room in
-      (
+      let old : length m.sources.items ≤ vec_capacity m.queue = ready.room in (
         record {
           sources = subst (All (CanDeal advances nowhere can can)) (sym same) ready.sources;
           known = subst (λ (b : ℕ). All (λ q. q < b) n.queue.items) (sym long)
@@ -353,16 +352,16 @@ module _ {S : Type 0} (stops : Error → Bool) (advances : S → Option R → S 
   lent_answer ss qs lists h queue known = elim (last_of_queue qs) [
     | inl e ↦
         let none : merge_of lists ≡ [] = rests_nothing ss lists
-            (subst (λ (ps : List ℕ). Have (λ j. false) ss ps lists) e h) in
+        (subst (λ (ps : List ℕ). Have (λ j. false) ss ps lists) e h) in
         ap (λ (ps : List ℕ). option_map (λ y. Ok y) (lent_by (lent_at lent ss)
-            (slice_get ps (length ps - 1)))) e ∙ sym (ap first none)
+        (slice_get ps (length ps - 1)))) e ∙ sym (ap first none)
     | inr l ↦
         let rests = subst (λ (ps : List ℕ). Have (λ j. false) ss ps lists) l.2 h in
         let order = subst (IsQueue (lent_at lent ss)) l.2 queue in
         let within = end l.0 l.1 (subst (AllByRecursion (λ q. q < length ss)) l.2 known) in
         ap (λ (o : Option ℕ). option_map (λ y. Ok y) (lent_by (lent_at lent ss) o)) l.3
-            ∙ ap (option_map (λ y. Ok y)) (lead_lent ss l.0 l.1 lists rests order within)
-            ∙ sym (ap first (lead_merges ss l.0 l.1 lists rests order within))
+        ∙ ap (option_map (λ y. Ok y)) (lead_lent ss l.0 l.1 lists rests order within)
+        ∙ sym (ap first (lead_merges ss l.0 l.1 lists rests order within))
   ]
     where
       end : (ps : List ℕ) (w : ℕ) → AllByRecursion (λ q. q < length ss) (ps ++ w ∷ [])
@@ -551,11 +550,11 @@ queue_lends lent n queue = elim (last_of_queue n.queue.items) [
       (slice_get ps (length ps - 1)))) e)
   | inr l ↦
       let some : is_some (lent_at lent n.sources.items l.1) ≡ true =
-          (queue_front (lent_at lent n.sources.items) l.0 l.1
-          (subst (IsQueue (lent_at lent n.sources.items)) l.2 queue)).2 in
+      (queue_front (lent_at lent n.sources.items) l.0 l.1
+      (subst (IsQueue (lent_at lent n.sources.items)) l.2 queue)).2 in
       ap (λ (ps : List ℕ). not (length ps == 0)) l.2 ∙ long l.0 l.1
-          ∙ sym (ap (λ (o : Option ℕ). is_some (lent_by (lent_at lent n.sources.items) o)) l.3
-          ∙ some)
+      ∙ sym (ap (λ (o : Option ℕ). is_some (lent_by (lent_at lent n.sources.items) o)) l.3
+      ∙ some)
 ]
   where
     long : (ps : List ℕ) (w : ℕ) → not (length (ps ++ w ∷ []) == 0) ≡ true

@@ -1,6 +1,6 @@
 -- The queue of sources that lend: each before those that stand before it.
 use Rattle.std.proofs.Common.{◌≡◌, ◌⊎◌, inl, inr, refl, sym, ◌∙◌, ap, subst, ℕ, zero, suc, ◌<◌, ◌≤◌, Bool, true}
-use Rattle.std.proofs.Common.{false, List, [], ◌∷◌, ◌++◌, length, take, drop, get_or, ◌-◌, arith}
+use Rattle.std.proofs.Common.{false, List, [], ◌∷◌, ◌++◌, length, get_or, ◌-◌, arith}
 use Rattle.std.specs.Prelude.{Option, Some, None, is_some, slice_get, ◌==◌, ◌||◌}
 use Rattle.std.specs.List.{AllByRecursion, insert}
 use Rattle.std.specs.List.Sorted.{IsPartitionedBy, IsPartitionPoint}
@@ -13,9 +13,9 @@ use Rattle.std.proofs.lemmas.Bool.Decides.{nat_tests}
 use Rattle.sst_entries.specs.Entry.{Entry}
 use Rattle.sst_entries.proofs.Lists.{all_more}
 use Rattle.sst_entries.proofs.OrderLemmas.{less_of}
-use Rattle.lsm_merge.specs.Union.{item_cmp, AtMost}
+use Rattle.lsm_merge.specs.Union.{item_cmp}
 use Rattle.lsm_merge.specs.Lent.{is_turn, goes_before, IsQueue, is_among}
-use Rattle.lsm_merge.proofs.MergedLemmas.{item_total, Above}
+use Rattle.lsm_merge.proofs.MergedLemmas.{item_total}
 
 -- ---- turns
 
@@ -158,9 +158,15 @@ module _ (at : ℕ → Option Entry) where
   put_queue i (suc p) [] h some apart early late = (some, tt, tt)
   put_queue i zero (q ∷ qs) h some apart early late =
       let first : Before q i = other_before (at i) (at q) i q (not_among i q qs apart).0 some h.0
-      (late zero (omega arith) (omega arith)) in
-      (some, (first, all_more (λ r. Before r q) (λ r. Before r i)
-      (λ r b. before_chain (at r) (at q) (at i) r q i b first) qs h.1), h)
+      (late zero (omega arith) (omega arith)) in (
+        some,
+        (
+          first,
+          all_more (λ r. Before r q) (λ r. Before r i)
+              (λ r b. before_chain (at r) (at q) (at i) r q i b first) qs h.1,
+        ),
+        h,
+      )
   put_queue i (suc p) (q ∷ qs) h some apart early late = (
     h.0,
     all_put_in (λ r. Before r q) i p qs (early zero (omega arith) (omega arith)) h.1,
@@ -237,11 +243,11 @@ last_of_queue (q ∷ []) = inr ([], q, refl, refl)
 last_of_queue (q ∷ r ∷ qs) = elim (last_of_queue (r ∷ qs)) [
   | inl e ↦ absurd cc
   | inr h ↦ inr (
-      q ∷ h.0,
-      h.1,
-      ap (λ (ps : List ℕ). q ∷ ps) h.2,
-      ap (slice_get (q ∷ r ∷ qs)) (further (r ∷ qs) (omega arith)) ∙ h.3,
-    )
+    q ∷ h.0,
+    h.1,
+    ap (λ (ps : List ℕ). q ∷ ps) h.2,
+    ap (slice_get (q ∷ r ∷ qs)) (further (r ∷ qs) (omega arith)) ∙ h.3,
+  )
 ]
   where
     further : (rs : List ℕ) → 0 < length rs → length (q ∷ rs) - 1 ≡ suc (length rs - 1)

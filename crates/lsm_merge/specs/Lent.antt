@@ -1,7 +1,7 @@
 -- A merger of sources that lend: what it lends, how often it may be asked, and what it still deals.
 use Rattle.std.specs.Prelude.{◌≡◌, ℕ, ◌+◌, ◌<◌, ◌≤◌, ◌==◌, ◌-◌, ◌&&◌, ◌||◌, not, Bool, true, false}
 use Rattle.std.specs.Prelude.{cond, List, [], ◌∷◌, length, map, All, Option, Some, None, Result, Ok, Err}
-use Rattle.std.specs.Prelude.{MatchResult, is_some, slice_get, slice_index_or, slice_set, sum_by}
+use Rattle.std.specs.Prelude.{MatchResult, is_some, slice_get, slice_index_or, sum_by}
 use Rattle.std.specs.List.{AllByRecursion, insert}
 use Rattle.std.specs.Ordering.{is_lt, nat_cmp, ordering_then}
 use Rattle.std.specs.Vec.{vec_capacity}
@@ -123,8 +123,8 @@ module _ {S : Type 0} (stops : Error → Bool) (advances : S → Option R → S 
   GoesOn i m r n = (waits : ℕ → Bool) (lists : List (List R))
       → Rests waits m.sources.items m.queue.items lists → waits i ≡ true
       → MatchResult r
-        (λ u. Rests (λ j. waits j && not (j == i)) n.sources.items n.queue.items lists)
-        (λ e. stops e ≡ false → (rs : List R) × (slice_index_or lists i [] ≡ Err e ∷ rs))
+      (λ u. Rests (λ j. waits j && not (j == i)) n.sources.items n.queue.items lists)
+      (λ e. stops e ≡ false → (rs : List R) × (slice_index_or lists i [] ≡ Err e ∷ rs))
 
   -- all sources were asked: what they have together is what is now lent and left, or an error
   abbrev pub StartsLent : {A : Type 0} → LendingMerger S A → Result (Unit {0}) Error
@@ -132,16 +132,16 @@ module _ {S : Type 0} (stops : Error → Bool) (advances : S → Option R → S 
   StartsLent m r n = (lists : List (List R))
       → Rests (λ i. true) m.sources.items [] lists
       → MatchResult r (λ u. Rests (λ i. false) n.sources.items n.queue.items lists)
-        (λ e. stops e ≡ false → merge_of lists ≡ Err e ∷ [])
+      (λ e. stops e ≡ false → merge_of lists ≡ Err e ∷ [])
 
   -- what was left is what is now lent and left, or an error
   abbrev pub StepsOn : {A : Type 0} → LendingMerger S A → Result (Unit {0}) Error → LendingMerger S A
       → Type 0
   StepsOn m r n = (ys : List R) → LeavesLent m ys
       → MatchResult r
-        (λ u. (lists : List (List R))
-        × Rests (λ j. false) n.sources.items n.queue.items lists × (ys ≡ merge_of lists))
-        (λ e. stops e ≡ false → ys ≡ Err e ∷ [])
+      (λ u. (lists : List (List R))
+      × Rests (λ j. false) n.sources.items n.queue.items lists × (ys ≡ merge_of lists))
+      (λ e. stops e ≡ false → ys ≡ Err e ∷ [])
 
 -- nothing is lent any more
 pub record IsOver {S A : Type 0} (m : LendingMerger S A) : Type 0 where

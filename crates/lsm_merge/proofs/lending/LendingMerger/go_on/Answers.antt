@@ -1,6 +1,6 @@
 -- A source goes on.
-use Rattle.std.proofs.Common.{◌≡◌, ◌<◌, ℕ, Bool, true, refl, sym, ◌∙◌, ap, subst, length, arith, rules, cond, List}
-use Rattle.std.specs.Prelude.{Some, None, Ok, Err, is_ok, is_some}
+use Rattle.std.proofs.Common.{◌≡◌, Bool, true, refl, sym, ◌∙◌, ap, subst, length, arith, cond, List}
+use Rattle.std.specs.Prelude.{is_ok}
 use Rattle.std.specs.List.{insert}
 use Rattle.std.proofs.lemmas.Result.{err_from_is_err_and}
 use Rattle.sst_entries.specs.Stream.{CanDeal, nowhere}
@@ -14,17 +14,17 @@ advance-requires g c =
     let can = g.L.Lending.can_advance in
     let advances = g.L.Lending.advances in
     can_now advances nowhere can can c.index_mut.result.now
-        (subst (CanDeal advances nowhere can can) (sym c.index_mut.ensures.value) (c.requires.ready.sources c.args.source c.index_mut.result.now c.requires.place))
+    (subst (CanDeal advances nowhere can can) (sym c.index_mut.ensures.value) (c.requires.ready.sources c.args.source c.index_mut.result.now c.requires.place))
 
 pub returns-in_err-advance-clause-ready : goal.returns-in_err-advance-clause-ready
 returns-in_err-advance-clause-ready g c =
     ready_on g.L.Lending.advances g.L.Lending.can_advance g.L.Lending.lent c.args.self.now _ c.args.source c.index_mut.result.now c.advance.new.self _ c.requires.ready c.requires.place c.index_mut.ensures.value c.in_err-advance.ensures.goes refl (omega arith) c.requires.ready.known
-        (queue_stays g.L.Lending.lent c.args.self.now.sources.items c.args.source c.advance.new.self c.args.self.now.queue.items c.requires.apart c.requires.ready.queue)
+    (queue_stays g.L.Lending.lent c.args.self.now.sources.items c.args.source c.advance.new.self c.args.self.now.queue.items c.requires.apart c.requires.ready.queue)
 
 pub returns-else-branch-clause-ready : goal.returns-else-branch-clause-ready
 returns-else-branch-clause-ready g c =
     ready_on g.L.Lending.advances g.L.Lending.can_advance g.L.Lending.lent c.args.self.now _ c.args.source c.index_mut.result.now c.advance.new.self _ c.requires.ready c.requires.place c.index_mut.ensures.value c.in_ok-advance.ensures.goes refl (omega arith) c.requires.ready.known
-        (queue_stays g.L.Lending.lent c.args.self.now.sources.items c.args.source c.advance.new.self c.args.self.now.queue.items c.requires.apart c.requires.ready.queue)
+    (queue_stays g.L.Lending.lent c.args.self.now.sources.items c.args.source c.advance.new.self c.args.self.now.queue.items c.requires.apart c.requires.ready.queue)
 
 -- there is room
 put_in : {X : Type 0} (b : Bool) (xs ys new : List X) → new ≡ cond b xs ys → b ≡ true → new ≡ xs
@@ -39,8 +39,8 @@ returns-then-branch-clause-ready g c =
     let put : c.insert.new.self.items ≡ insert m.queue.items c.place_of-place.result i =
     put_in (is_ok c.insert.result) _ _ _ c.insert.ensures.items (c.insert.ensures.succeeds (omega (arith, c.requires.space, m.queue.ok.0))) in
     ready_on g.L.Lending.advances g.L.Lending.can_advance lent m _ i c.index_mut.result.now t _ c.requires.ready c.requires.place c.index_mut.ensures.value c.in_ok-advance.ensures.goes refl c.insert.ensures.capacity
-        (rw put (known_put (length m.sources.items) i c.place_of-place.result m.queue.items c.requires.place c.requires.ready.known))
-        (rw put (queue_put lent m.sources.items i c.place_of-place.result t m.queue.items c.requires.place (sym c.in_ok-advance.ensures.more ∙ c.if-branch.true) c.requires.apart c.requires.ready.queue c.place_of-place.ensures.belongs))
+    (rw put (known_put (length m.sources.items) i c.place_of-place.result m.queue.items c.requires.place c.requires.ready.known))
+    (rw put (queue_put lent m.sources.items i c.place_of-place.result t m.queue.items c.requires.place (sym c.in_ok-advance.ensures.more ∙ c.if-branch.true) c.requires.apart c.requires.ready.queue c.place_of-place.ensures.belongs))
 
 pub returns-then-branch-clause-goes : goal.returns-then-branch-clause-goes
 returns-then-branch-clause-goes g c stops waits lists rests waited =

@@ -1,6 +1,5 @@
 -- A fresh merger.
-use Rattle.std.proofs.Common.{◌≤◌, length, refl, sym, ◌∙◌, ap, subst, arith, rules}
-use Rattle.std.specs.Vec.{vec_capacity}
+use Rattle.std.proofs.Common.{refl, arith}
 use Rattle.lsm_merge.proofs.LentDeals.{lent_in_place, lent_merged, lent_may, lent_can, lent_ends}
 use Rattle.lsm_merge.proofs.lending.LendingMerger.new.Goals as goal
 
@@ -19,4 +18,4 @@ returns-clause-ends g c =
 pub returns-clause-can : goal.returns-clause-can
 returns-clause-can g c all =
     lent_can g.L.Lending.advances g.L.Lending.can_advance g.L.Lending.lent _
-        (lent_may g.L.Lending.advances g.L.Lending.can_advance g.L.Lending.lent c.args.sources.items _ refl c.in_ok-queue.ensures.items refl (omega (arith, c.in_ok-queue.ensures.capacity, c.len.ensures, c.args.sources.ok.0)) all)
+    (lent_may g.L.Lending.advances g.L.Lending.can_advance g.L.Lending.lent c.args.sources.items _ refl c.in_ok-queue.ensures.items refl (omega (arith, c.in_ok-queue.ensures.capacity, c.len.ensures, c.args.sources.ok.0)) all)

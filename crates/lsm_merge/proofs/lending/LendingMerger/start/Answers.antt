@@ -1,5 +1,5 @@
 -- Each source is asked for its first entry.
-use Rattle.std.proofs.Common.{◌≡◌, ◌<◌, ◌≤◌, ◌+◌, ℕ, refl, sym, ◌∙◌, ap, subst, length, arith, rules}
+use Rattle.std.proofs.Common.{◌≡◌, ◌<◌, ◌+◌, refl, sym, ◌∙◌, ap, subst, length, arith}
 use Rattle.std.specs.Prelude.{All, nat_lt, not}
 use Rattle.std.proofs.lemmas.List.Elements.{All-nil, recursion_from_All}
 use Rattle.std.proofs.lemmas.Result.{err_from_is_err_and}
@@ -52,7 +52,7 @@ returns-clause-starts g c stops lists h =
     let before = c.loop-source.invariant in
     let n = c.loop-source.self in
     starts_all stops g.L.Lending.advances g.L.Lending.lent n.sources.items n.queue.items lists c.loop-source.source
-        (omega (arith, before.count, c.loop-source-test.false, c.len-source-end.ensures)) (before.rests stops lists h)
+    (omega (arith, before.count, c.loop-source-test.false, c.len-source-end.ensures)) (before.rests stops lists h)
 
 pub returns-in_err-go_on-clause-starts : goal.returns-in_err-go_on-clause-starts
 returns-in_err-go_on-clause-starts g c stops lists h =
@@ -61,5 +61,5 @@ returns-in_err-go_on-clause-starts g c stops lists h =
     let m = c.loop-source.self in
     let i = c.loop-source.source in
     rw (p.1, p.2) (λ fine. starts_fault stops g.L.Lending.advances g.L.Lending.lent m.sources.items m.queue.items lists i c.in_err-go_on.field-0.0 (before.rests stops lists h)
-        (omega (arith, before.count, c.loop-source-test.true, c.len-source-end.ensures))
-        (c.in_err-go_on.ensures.goes stops (λ j. not (nat_lt j i)) lists (before.rests stops lists h) (waits_itself i) fine))
+    (omega (arith, before.count, c.loop-source-test.true, c.len-source-end.ensures))
+    (c.in_err-go_on.ensures.goes stops (λ j. not (nat_lt j i)) lists (before.rests stops lists h) (waits_itself i) fine))

@@ -1,8 +1,6 @@
 -- One step: the source whose entry was lent goes on.
-use Rattle.std.proofs.Common.{◌≡◌, ℕ, List, [], refl, sym, ◌∙◌, ap, subst, length, arith, rules}
-use Rattle.std.specs.Prelude.{true, false}
-use Rattle.lsm_merge.specs.Ends.{R}
-use Rattle.lsm_merge.specs.InPlace.{merge_of}
+use Rattle.std.proofs.Common.{◌≡◌, ℕ, List, [], refl, sym, ◌∙◌, subst}
+use Rattle.std.specs.Prelude.{false}
 use Rattle.lsm_merge.specs.Lent.{Rests}
 use Rattle.lsm_merge.proofs.LentSteps.{ready_popped, fresh_leaves, empty_leaves, taken_on, no_length, started_on}
 use Rattle.lsm_merge.proofs.lending.LendingMerger.step.Goals as goal

@@ -1,8 +1,7 @@
 -- A call: what was left is what is lent and what is left.
-use Rattle.std.proofs.Common.{◌≡◌, ℕ, Bool, true, false, List, [], ◌∷◌, refl, sym, ◌∙◌, ap, subst, arith, rules}
-use Rattle.std.specs.Prelude.{Err, not, ◌==◌, length}
+use Rattle.std.proofs.Common.{◌≡◌, ℕ, true, false, [], ◌∷◌, refl, sym, ◌∙◌, ap, subst}
+use Rattle.std.specs.Prelude.{Err, not, ◌==◌}
 use Rattle.sst_entries.specs.Stream.{but_first, first}
-use Rattle.lsm_merge.specs.Ends.{R}
 use Rattle.lsm_merge.specs.Lent.{LeavesLent, lent_first}
 use Rattle.lsm_merge.proofs.LentSteps.{answers_lent, answers_fault, lowers_lent, no_error, over_lends, queue_lends, ready_cleared}
 use Rattle.lsm_merge.proofs.lending.LendingMergerLending.advance.Goals as goal
