@@ -25,3 +25,8 @@ pub mod AsksLemmas
 pub mod CallsMerged
 pub mod LateErrors
 pub mod Pairs
+pub mod InPlaceLemmas
+pub mod QueueLemmas
+pub mod LentLemmas
+pub mod LentSteps
+pub mod LentDeals

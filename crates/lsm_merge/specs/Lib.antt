@@ -9,5 +9,7 @@ pub mod Ends
 pub mod Union
 pub mod Merge
 pub mod Asks
+pub mod InPlace
 pub mod MergeLaws
+pub mod Lent
 pub mod Words

@@ -11,6 +11,7 @@ use Rattle.sst_entries.specs.declared.stream.Direction.TheVariants.{Front, Back}
 use Rattle.sst_entries.specs.declared.error.Error.{Error}
 use Rattle.lsm_merge.specs.Ends.{R}
 use Rattle.lsm_merge.specs.Union.{Ascends, entries_among, all_errors, union_of}
+use Rattle.lsm_merge.specs.InPlace.{merge_of}
 use Rattle.lsm_merge.specs.Merge.{DealsUntil}
 
 -- each entry is at most as often in xs as in ys
@@ -88,6 +89,13 @@ module _ {S : Type 0} (front back : S → Option R → S → Type 0) where
     pub meets : (stops : Error → Bool) (lists : List (List R)) → DealSorted stops its lists
         → (ends : List Direction) (rs : List (Option R)) (t : T) → RunsAt end call m ends rs t
         → NoneStops (answer_stops stops) rs → ErrorsComeLate end lists [] rs
+
+  -- what sorted sources have together is dealt in order up to the first error, which stands right
+  -- behind the entry before it in its source, and with it
+  pub record DealsInPlace {T : Type 0} (its : List S) (next next_back : T → Option R → T → Type 0)
+      (m : T) : Type 0 where
+    pub deals : (stops : Error → Bool) (lists : List (List R)) → DealSorted stops its lists
+        → Deals (answer_stops stops) next next_back m (merge_of lists)
 
   -- where the sources may be asked and end, so may the merger be asked
   pub record CanMerge {T : Type 0} (can can_back : S → Type 0) (left : S → Count) (its : List S)

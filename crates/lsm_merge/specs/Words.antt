@@ -9,5 +9,6 @@ pub use Rattle.lsm_merge.specs.Merge.{HoldsAtMost, Adds, SameRoom, HasPlaces, Ma
 pub use Rattle.lsm_merge.specs.Merge.{merge_size, entry_of, is_ready, turn_cmp, turn_total}
 pub use Rattle.lsm_merge.specs.Asks.{AsksSource, Fills, Calls, IsMergerOf, HoldsNone, Pops}
 pub use Rattle.lsm_merge.specs.Asks.{made_ready}
-pub use Rattle.lsm_merge.specs.MergeLaws.{DealsBeforeErrors, DealsMerged, DealsUntilError}
+pub use Rattle.lsm_merge.specs.MergeLaws.{DealsBeforeErrors, DealsInPlace, DealsMerged}
+pub use Rattle.lsm_merge.specs.MergeLaws.{DealsUntilError}
 pub use Rattle.lsm_merge.specs.MergeLaws.{MeetsErrorsLate, CanMerge}

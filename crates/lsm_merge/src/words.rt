@@ -3,8 +3,10 @@ ghost use Rattle.std.specs.Prelude.{◌≡◌};
 ghost use Rattle.std.specs.Ordering.{nat_cmp};
 ghost use Rattle.std.specs.Cmp.Lexicographic.{slice_cmp};
 ghost use Rattle.sst_entries.specs.Key.{key_cmp};
+ghost use Rattle.sst_entries.specs.Lending.{entry_of_ref};
+ghost use Rattle.lsm_merge.specs.Union.{item_cmp};
 
-use sst_entries::InternalKey;
+use sst_entries::{EntryRef, InternalKey};
 use std::alloc::Allocator;
 use std::cmp::Ordering;
 
@@ -38,6 +40,17 @@ pub(crate) fn compare_keys<A: Allocator>(x: &InternalKey<A>, y: &InternalKey<A>)
 {
     // The rest is looked at in a tie alone.
     match compare_bytes(x.user_key.as_slice(), y.user_key.as_slice()) {
+        Ordering::Equal => y.seqno.cmp(&x.seqno).then(x.value_type.cmp(&y.value_type)),
+        found => found,
+    }
+}
+
+// The same of entries that are lent.
+#[inline(always)]
+pub(crate) fn compare_refs(x: &EntryRef<'_>, y: &EntryRef<'_>) -> Ordering
+    ensures { result ≡ item_cmp (entry_of_ref x.now) (entry_of_ref y.now) }
+{
+    match compare_bytes(x.user_key, y.user_key) {
         Ordering::Equal => y.seqno.cmp(&x.seqno).then(x.value_type.cmp(&y.value_type)),
         found => found,
     }

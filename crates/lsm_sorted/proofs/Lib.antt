@@ -23,3 +23,4 @@ pub mod Hits
 pub mod ReadLemmas
 pub mod KeptLemmas
 pub mod PartLemmas
+pub mod LentNewestLemmas

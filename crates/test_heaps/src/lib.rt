@@ -7,4 +7,6 @@ mod comparisons;
 #[cfg(test)]
 mod heaps;
 #[cfg(test)]
+mod lending;
+#[cfg(test)]
 mod refusals;

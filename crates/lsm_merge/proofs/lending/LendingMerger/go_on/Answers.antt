@@ -1,0 +1,61 @@
+-- A source goes on.
+use Rattle.std.proofs.Common.{◌≡◌, Bool, true, refl, sym, ◌∙◌, ap, subst, length, arith, cond, List}
+use Rattle.std.specs.Prelude.{is_ok}
+use Rattle.std.specs.List.{insert}
+use Rattle.std.proofs.lemmas.Result.{err_from_is_err_and}
+use Rattle.sst_entries.specs.Stream.{CanDeal, nowhere}
+use Rattle.sst_entries.proofs.StreamLemmas.{can_now}
+use Rattle.lsm_merge.proofs.LentLemmas.{rests_more, rests_none, rests_fault, queue_stays}
+use Rattle.lsm_merge.proofs.LentSteps.{ready_on, known_put, queue_put}
+use Rattle.lsm_merge.proofs.lending.LendingMerger.go_on.Goals as goal
+
+pub advance-requires : goal.advance-requires
+advance-requires g c =
+    let can = g.L.Lending.can_advance in
+    let advances = g.L.Lending.advances in
+    can_now advances nowhere can can c.index_mut.result.now
+    (subst (CanDeal advances nowhere can can) (sym c.index_mut.ensures.value) (c.requires.ready.sources c.args.source c.index_mut.result.now c.requires.place))
+
+pub returns-in_err-advance-clause-ready : goal.returns-in_err-advance-clause-ready
+returns-in_err-advance-clause-ready g c =
+    ready_on g.L.Lending.advances g.L.Lending.can_advance g.L.Lending.lent c.args.self.now _ c.args.source c.index_mut.result.now c.advance.new.self _ c.requires.ready c.requires.place c.index_mut.ensures.value c.in_err-advance.ensures.goes refl (omega arith) c.requires.ready.known
+    (queue_stays g.L.Lending.lent c.args.self.now.sources.items c.args.source c.advance.new.self c.args.self.now.queue.items c.requires.apart c.requires.ready.queue)
+
+pub returns-else-branch-clause-ready : goal.returns-else-branch-clause-ready
+returns-else-branch-clause-ready g c =
+    ready_on g.L.Lending.advances g.L.Lending.can_advance g.L.Lending.lent c.args.self.now _ c.args.source c.index_mut.result.now c.advance.new.self _ c.requires.ready c.requires.place c.index_mut.ensures.value c.in_ok-advance.ensures.goes refl (omega arith) c.requires.ready.known
+    (queue_stays g.L.Lending.lent c.args.self.now.sources.items c.args.source c.advance.new.self c.args.self.now.queue.items c.requires.apart c.requires.ready.queue)
+
+-- there is room
+put_in : {X : Type 0} (b : Bool) (xs ys new : List X) → new ≡ cond b xs ys → b ≡ true → new ≡ xs
+put_in b xs ys new e ok = e ∙ ap (λ (b : Bool). cond b xs ys) ok
+
+pub returns-then-branch-clause-ready : goal.returns-then-branch-clause-ready
+returns-then-branch-clause-ready g c =
+    let m = c.args.self.now in
+    let lent = g.L.Lending.lent in
+    let i = c.args.source in
+    let t = c.advance.new.self in
+    let put : c.insert.new.self.items ≡ insert m.queue.items c.place_of-place.result i =
+    put_in (is_ok c.insert.result) _ _ _ c.insert.ensures.items (c.insert.ensures.succeeds (omega (arith, c.requires.space, m.queue.ok.0))) in
+    ready_on g.L.Lending.advances g.L.Lending.can_advance lent m _ i c.index_mut.result.now t _ c.requires.ready c.requires.place c.index_mut.ensures.value c.in_ok-advance.ensures.goes refl c.insert.ensures.capacity
+    (rw put (known_put (length m.sources.items) i c.place_of-place.result m.queue.items c.requires.place c.requires.ready.known))
+    (rw put (queue_put lent m.sources.items i c.place_of-place.result t m.queue.items c.requires.place (sym c.in_ok-advance.ensures.more ∙ c.if-branch.true) c.requires.apart c.requires.ready.queue c.place_of-place.ensures.belongs))
+
+pub returns-then-branch-clause-goes : goal.returns-then-branch-clause-goes
+returns-then-branch-clause-goes g c stops waits lists rests waited =
+    let m = c.args.self.now in
+    let put : c.insert.new.self.items ≡ insert m.queue.items c.place_of-place.result c.args.source =
+    put_in (is_ok c.insert.result) _ _ _ c.insert.ensures.items (c.insert.ensures.succeeds (omega (arith, c.requires.space, m.queue.ok.0))) in
+    rw put (rests_more stops g.L.Lending.advances g.L.Lending.lent waits m.sources.items m.queue.items lists c.args.source c.index_mut.result.now c.advance.new.self rests waited c.requires.place c.index_mut.ensures.value c.place_of-place.result c.in_ok-advance.field-0 c.in_ok-advance.ensures.more c.if-branch.true c.in_ok-advance.ensures.goes)
+
+pub returns-else-branch-clause-goes : goal.returns-else-branch-clause-goes
+returns-else-branch-clause-goes g c stops waits lists rests waited =
+    let m = c.args.self.now in
+    rests_none stops g.L.Lending.advances g.L.Lending.lent waits m.sources.items m.queue.items lists c.args.source c.index_mut.result.now c.advance.new.self rests waited c.requires.place c.index_mut.ensures.value c.in_ok-advance.field-0 c.in_ok-advance.ensures.more c.if-branch.false c.in_ok-advance.ensures.goes
+
+pub returns-in_err-advance-clause-goes : goal.returns-in_err-advance-clause-goes
+returns-in_err-advance-clause-goes g c stops waits lists rests waited =
+    let p = err_from_is_err_and c.from_residual.result c.from_residual.ensures.1 in
+    let m = c.args.self.now in
+    rw (p.1, p.2) (λ fine. rests_fault stops g.L.Lending.advances g.L.Lending.lent waits m.sources.items m.queue.items lists c.args.source c.index_mut.result.now c.advance.new.self rests waited c.requires.place c.index_mut.ensures.value c.in_err-advance.field-0.0 c.in_err-advance.ensures.goes fine)

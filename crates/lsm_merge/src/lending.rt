@@ -1,0 +1,218 @@
+//! Several sorted sources that lend their entries, as one that lends.
+ghost use Rattle.std.specs.Prelude.{◌≡◌, ℕ, ◌+◌, ◌<◌, ◌≤◌, true, false, [], length, All, IfOk, IfErr, IsOk, Some, None};
+ghost use Rattle.std.specs.Prelude.{List, Bool};
+ghost use Rattle.std.specs.Option.{option_map};
+ghost use Rattle.std.specs.Vec.{vec_capacity};
+ghost use Rattle.std.specs.List.{insert};
+ghost use Rattle.sst_entries.specs.Lending.{came, entry_of_ref};
+ghost use Rattle.sst_entries.specs.Stream.{CanDeal, DealsFirst, EndsAtError, Lowers, nowhere};
+ghost use Rattle.sst_entries.specs.declared.error.Error.{Error};
+ghost use Rattle.sst_entries.specs.declared.error.Error.TheVariants.{OutOfMemory};
+ghost use Rattle.lsm_merge.specs.Lent.{GoesOn, IsReady, MayLend, StepsOn, goes_before, is_among};
+ghost use Rattle.lsm_merge.specs.Lent.{is_turn, lent_at, lent_first, lent_size, lent_total};
+ghost use Rattle.lsm_merge.specs.Lent.{AdvancesLent, Belongs, IsOver, StartsLent, StepLowers};
+ghost use Rattle.lsm_merge.specs.MergeLaws.{DealsInPlace, DealsMerged};
+
+use crate::words::compare_refs;
+use sst_entries::{EntryRef, Error, Lending};
+use std::alloc::{Allocator, Global};
+use std::cmp::Ordering;
+
+/// Lends the entries of several sorted sources that lend, in order. Entries with the same key,
+/// number and kind come source by source. Nothing is moved and nothing is shared: entries are
+/// compared where they lie. The first call of [`Lending::advance`] asks each source for its first
+/// entry, and each later one asks only the source whose entry was lent.
+///
+/// An error of a source is the answer of the call that met it: it stands right behind the entry
+/// before it in its source. Nothing comes after it.
+#[derive(Drop)]
+pub struct LendingMerger<L, A: Allocator = Global> {
+    sources: Vec<L, A>,
+    // The places of the sources that lend an entry. The source of the first entry stands last, so
+    // that it is taken out and put back there without a move where it stays ahead.
+    queue: Vec<usize, A>,
+    is_started: bool,
+}
+
+// Whether an entry comes before another: by key, number and kind, and where these tie by the places
+// of their sources.
+#[inline(always)]
+fn is_before(entry: &EntryRef<'_>, place: usize, other: &EntryRef<'_>, other_place: usize) -> bool
+    ensures { result ≡ is_turn (entry_of_ref entry.now) place (entry_of_ref other.now) other_place }
+{
+    match compare_refs(entry, other) {
+        Ordering::Equal => place < other_place,
+        found => found.is_lt(),
+    }
+}
+
+impl<L: Lending + Drop, A: Allocator> LendingMerger<L, A> {
+    /// Merges sources that each lend their entries in order. Reserves a place for each source; no
+    /// step takes memory. Refused [`Error::OutOfMemory`] alone.
+    pub fn new(alloc: A, sources: Vec<L, A>) -> Result<Self, Error>
+        // Nothing is lent yet.
+        ensures none { IfOk result (λ m. ⟦<LendingMerger<L, A> as Lending>⟧.lent m ≡ None) }
+        // What sorted sources have together is dealt in order.
+        ensures deals { IfOk result (λ m. DealsMerged L.advances nowhere sources.items
+            ⟦<LendingMerger<L, A> as Lending>⟧.advances nowhere m) }
+        // With errors among it, up to the first, in its place.
+        ensures places { IfOk result (λ m. DealsInPlace L.advances nowhere sources.items
+            ⟦<LendingMerger<L, A> as Lending>⟧.advances nowhere m) }
+        // Nothing follows an error, whatever the sources give.
+        ensures ends { IfOk result (λ m. EndsAtError
+            ⟦<LendingMerger<L, A> as Lending>⟧.advances nowhere m) }
+        // Where the sources may be asked for as long as wanted, so may it.
+        ensures can { All (CanDeal L.advances nowhere L.can_advance L.can_advance) sources.items →
+            IfOk result (CanDeal ⟦<LendingMerger<L, A> as Lending>⟧.advances nowhere
+            ⟦<LendingMerger<L, A> as Lending>⟧.can_advance
+            ⟦<LendingMerger<L, A> as Lending>⟧.can_advance) }
+        ensures advance { All (CanDeal L.advances nowhere L.can_advance L.can_advance)
+            sources.items → IfOk result ⟦<LendingMerger<L, A> as Lending>⟧.can_advance }
+        ensures err { IfErr result (λ e. e ≡ OutOfMemory) }
+    {
+        let queue = Vec::with_capacity(alloc, sources.len())?;
+        Ok(LendingMerger {
+            sources,
+            queue,
+            is_started: false,
+        })
+    }
+}
+
+impl<L: Lending, A: Allocator> LendingMerger<L, A> {
+    // What a source lends.
+    #[inline(always)]
+    fn lent_by(&self, source: usize) -> Option<EntryRef<'_>>
+        ensures { option_map entry_of_ref result ≡
+            lent_at L.lent self.now.sources.items source }
+    {
+        match self.sources.get(source) {
+            Some(lender) => lender.entry(),
+            None => None,
+        }
+    }
+
+    // Whether an entry of one source comes before what another lends.
+    #[inline(always)]
+    fn comes_before(&self, entry: &EntryRef<'_>, source: usize, other: usize) -> bool
+        ensures { result ≡ goes_before (Some (entry_of_ref entry.now)) source
+            (lent_at L.lent self.now.sources.items other) other }
+    {
+        match self.lent_by(other) {
+            Some(other_entry) => is_before(entry, source, &other_entry, other),
+            None => false,
+        }
+    }
+
+    // Where a source that lends belongs in a queue in which it is not.
+    fn place_of(&self, source: usize) -> usize
+        ensures within { result ≤ length self.now.queue.items }
+        ensures belongs { Belongs (lent_at L.lent self.now.sources.items) source
+            self.now.queue.items result }
+    {
+        let Some(entry) = self.lent_by(source) else {
+            return 0;
+        };
+        match self.queue.last() {
+            // One comparison where a source stays ahead for long.
+            Some(&next) if self.comes_before(&entry, source, next) => self.queue.len(),
+            _ => self
+                .queue
+                .partition_point(|&other| self.comes_before(&entry, source, other)),
+        }
+    }
+
+    // Asks a source that is not in the queue for its next entry. Where it lends one, it goes to its
+    // place in the queue.
+    fn go_on(&mut self, source: usize) -> Result<(), Error>
+        requires place { source < length self.old.sources.items }
+        requires ready { IsReady L.advances L.can_advance L.lent self.old }
+        requires apart { is_among source self.old.queue.items ≡ false }
+        requires space { length self.old.queue.items < vec_capacity self.old.queue }
+        ensures ready { IsReady L.advances L.can_advance L.lent self.new }
+        ensures count { length self.new.sources.items ≡ length self.old.sources.items }
+        ensures same { self.new.is_started ≡ self.old.is_started }
+        ensures few { length self.new.queue.items ≤ length self.old.queue.items + 1 }
+        ensures known { (bound : ℕ) → source < bound →
+            All (λ q. q < bound) self.old.queue.items → All (λ q. q < bound) self.new.queue.items }
+        ensures lowers { IfOk result (λ _.
+            lent_total L.left self.new ≤ lent_total L.left self.old) }
+        ensures goes { (stops : Error → Bool) →
+            GoesOn stops L.advances L.lent source self.old result self.new }
+    {
+        if self.sources[source].advance()? {
+            let place = self.place_of(source);
+            // There is room for each source.
+            let _ = self.queue.insert(place, source);
+        }
+        Ok(())
+    }
+
+    // Asks each source for its first entry.
+    #[inline(never)]
+    fn start(&mut self) -> Result<(), Error>
+        requires ready { IsReady L.advances L.can_advance L.lent self.old }
+        requires fresh { self.old.queue.items ≡ [] }
+        ensures ready { IsReady L.advances L.can_advance L.lent self.new }
+        ensures same { self.new.is_started ≡ self.old.is_started }
+        ensures lowers { IfOk result (λ _.
+            lent_total L.left self.new ≤ lent_total L.left self.old) }
+        ensures starts { (stops : Error → Bool) →
+            StartsLent stops L.advances L.lent self.old result self.new }
+    {
+        for source in 0..self.sources.len() {
+            self.go_on(source)?;
+        }
+        Ok(())
+    }
+
+    // Asks the source whose entry is lent for its next, and before the first entry all sources.
+    #[inline(always)]
+    fn step(&mut self) -> Result<(), Error>
+        requires { MayLend L.advances L.can_advance L.lent self.old }
+        ensures ready { IsReady L.advances L.can_advance L.lent self.new }
+        ensures started { self.new.is_started ≡ true }
+        ensures lowers { IfOk result (λ _. StepLowers L.left self.old self.new) }
+        ensures over { IsOver self.old → IsOk result × IsOver self.new }
+        ensures fault { IfErr result (λ _. 0 < lent_size L.left self.old) }
+        ensures steps { (stops : Error → Bool) →
+            StepsOn stops L.advances L.lent self.old result self.new }
+    {
+        if !self.is_started {
+            self.is_started = true;
+            return self.start();
+        }
+        match self.queue.pop() {
+            Some(source) => self.go_on(source),
+            None => Ok(()),
+        }
+    }
+}
+
+impl<L: Lending, A: Allocator> Lending for LendingMerger<L, A> {
+    ghost can_advance = { MayLend L.advances L.can_advance L.lent };
+
+    ghost advances = { AdvancesLent L.advances L.can_advance L.lent };
+
+    ghost lent = { lent_first L.lent };
+
+    ghost left = { lent_size L.left };
+
+    fn advance(&mut self) -> Result<bool, Error> {
+        match self.step() {
+            Ok(()) => Ok(!self.queue.is_empty()),
+            Err(error) => {
+                self.queue.clear();
+                Err(error)
+            }
+        }
+    }
+
+    #[inline]
+    fn entry(&self) -> Option<EntryRef<'_>> {
+        match self.queue.last() {
+            Some(&source) => self.lent_by(source),
+            None => None,
+        }
+    }
+}
