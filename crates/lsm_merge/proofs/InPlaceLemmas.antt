@@ -161,13 +161,15 @@ merge_fault lists k e rs lt is free =
 -- ---- an entry at the head
 
 -- after x in a list that ascends
-all_not_before : (x y : Entry) (rs : List R) → AtMost x y → AllByRecursion (AtMost x) (entries_among rs)
+all_not_before : (x y : Entry) (rs : List R) → AtMost x y
+    → AllByRecursion (AtMost x) (entries_among rs)
     → AllByRecursion (NotBefore (Some x)) (placed (Some y) rs)
 all_not_before x y [] one h = tt
 all_not_before x y (Ok z ∷ rs) one h = (h.0, all_not_before x z rs h.0 h.1)
 all_not_before x y (Err e ∷ rs) one h = (one, all_not_before x y rs one h)
 
-all_after : (x y : Entry) (rs : List R) → Above y x → AllByRecursion (λ z. Above z x) (entries_among rs)
+all_after : (x y : Entry) (rs : List R) → Above y x
+    → AllByRecursion (λ z. Above z x) (entries_among rs)
     → AllByRecursion (Behind (Some x)) (placed (Some y) rs)
 all_after x y [] one h = tt
 all_after x y (Ok z ∷ rs) one h = (h.0, all_after x z rs h.0 h.1)

@@ -86,7 +86,8 @@ merge_entries lists none =
 
 -- ---- whole runs
 
-zip_rests : {S : Type 0} (advances : S → Option R → S → Type 0) (stops : Error → Bool) (ss : List S) (lists : List (List R))
+zip_rests : {S : Type 0} (advances : S → Option R → S → Type 0) (stops : Error → Bool)
+    (ss : List S) (lists : List (List R))
     → AllZip (Deals (answer_stops stops) advances nowhere) ss lists
     → (length lists ≡ length ss) × ((i : ℕ) (s : S) → i < length ss
     → Deals (answer_stops stops) advances nowhere (slice_index_or ss i s)
@@ -126,13 +127,14 @@ module _ {S A : Type 0} (advances : S → Option R → S → Type 0) (can : S �
     starts stops lists sorted =
         let rests = zip_rests advances stops its lists sorted.deal in
         record {
-          parts = subst (λ (b : Bool). LeavesIf stops advances lent b m (merge_of lists)) (sym fresh) (
-            lists,
-            subst (λ (ss : List S). Rests stops advances lent (λ i. true) ss [] lists)
-                (sym sources)
-                (record { count = rests.0; each = rests.1; sorted = sorted.ascend }),
-            refl,
-          );
+          parts = subst (λ (b : Bool). LeavesIf stops advances lent b m (merge_of lists))
+              (sym fresh) (
+                lists,
+                subst (λ (ss : List S). Rests stops advances lent (λ i. true) ss [] lists)
+                    (sym sources)
+                    (record { count = rests.0; each = rests.1; sorted = sorted.ascend }),
+                refl,
+              );
         }
 
     pub lent_in_place : DealsInPlace advances nowhere its Adv nowhere m

@@ -165,8 +165,10 @@ module _ {S : Type 0} (stops : Error → Bool) (advances : S → Option R → S 
           let idle : (waits j && not (j == i)) ≡ false =
           ap (λ (b : Bool). waits j && not b) e ∙ no_more (waits j) in
           let at : slice_index_or (slice_set ss i t) j s ≡ t =
-          ap (λ (k : ℕ). slice_index_or (slice_set ss i t) k s) (sym is) ∙ set_own ss i t s within in
-          rw (idle, at) (subst (λ (k : ℕ). Rest (is_among k qs') false t (slice_index_or lists k []))
+          ap (λ (k : ℕ). slice_index_or (slice_set ss i t) k s) (sym is)
+          ∙ set_own ss i t s within in
+          rw (idle, at) (subst
+          (λ (k : ℕ). Rest (is_among k qs') false t (slice_index_or lists k []))
           is own)
       go j s false e lt =
           let apart : i ≡ j → ⊥ = λ is. let no : true ≡ false = sym (eq-eqb j i (sym is)) ∙ e in

@@ -13,7 +13,8 @@ use Rattle.std.specs.declared.cmp.Ordering.TheVariants.{Less, Equal, Greater}
 use Rattle.std.proofs.lemmas.Bool.{eqb-true, eq-eqb}
 use Rattle.std.proofs.lemmas.Bool.Decides.{nat_tests}
 use Rattle.std.proofs.lemmas.Cmp.{tied_itself}
-use Rattle.std.proofs.lemmas.List.Elements.{All-from_recursion, All-nil, All-set, recursion_from_All}
+use Rattle.std.proofs.lemmas.List.Elements.{All-from_recursion, All-nil, All-set}
+use Rattle.std.proofs.lemmas.List.Elements.{recursion_from_All}
 use Rattle.sst_entries.specs.Entry.{Entry}
 use Rattle.sst_entries.specs.Stream.{CanDeal, Lowers, but_first, first, nowhere}
 use Rattle.sst_entries.specs.declared.error.Error.{Error}
@@ -22,7 +23,8 @@ use Rattle.sst_entries.proofs.StreamLemmas.{can_front}
 use Rattle.lsm_merge.specs.declared.lending.LendingMerger.{LendingMerger}
 use Rattle.lsm_merge.specs.Ends.{R}
 use Rattle.lsm_merge.specs.InPlace.{merge_of}
-use Rattle.lsm_merge.specs.Lent.{goes_before, is_turn, lent_at, lent_by, lent_first, IsQueue, IsReady}
+use Rattle.lsm_merge.specs.Lent.{goes_before, is_turn, lent_at, lent_by, lent_first, IsQueue}
+use Rattle.lsm_merge.specs.Lent.{IsReady}
 use Rattle.lsm_merge.specs.Lent.{is_among, RestIf, Rests, LeavesIf, LeavesLent, Belongs}
 use Rattle.lsm_merge.specs.Lent.{StepLowers, lent_size, lent_total}
 use Rattle.lsm_merge.specs.Union.{item_cmp, AtMost, Ascends, entries_among}
@@ -30,7 +32,8 @@ use Rattle.lsm_merge.proofs.InPlaceLemmas.{HasNoFault, merge_entry, merge_fault,
 use Rattle.lsm_merge.proofs.LentLemmas.{lent_is, lent_own, queue_stays, rests_same, set_length}
 use Rattle.lsm_merge.proofs.LentLemmas.{set_other, set_own}
 use Rattle.lsm_merge.proofs.MergedLemmas.{item_total, Above, at_most_chain}
-use Rattle.lsm_merge.proofs.QueueLemmas.{all_put_in, among_end, last_before, last_of_queue, queue_front}
+use Rattle.lsm_merge.proofs.QueueLemmas.{all_put_in, among_end, last_before, last_of_queue}
+use Rattle.lsm_merge.proofs.QueueLemmas.{queue_front}
 
 -- ---- whether it may be asked
 
@@ -40,7 +43,8 @@ module _ {S : Type 0} (advances : S → Option R → S → Type 0) (can : S → 
   pub ready_on : {A : Type 0} (m n : LendingMerger S A) (i : ℕ) (s t : S) (r : Option R)
       → IsReady advances can lent m → i < length m.sources.items
       → s ≡ slice_index_or m.sources.items i s → advances s r t
-      → n.sources.items ≡ slice_set m.sources.items i t → vec_capacity m.queue ≤ vec_capacity n.queue
+      → n.sources.items ≡ slice_set m.sources.items i t
+      → vec_capacity m.queue ≤ vec_capacity n.queue
       → All (λ q. q < length m.sources.items) n.queue.items
       → IsQueue (lent_at lent (slice_set m.sources.items i t)) n.queue.items
       → IsReady advances can lent n
@@ -292,7 +296,8 @@ module _ {S : Type 0} (stops : Error → Bool) (advances : S → Option R → S 
     pub lead_merges : merge_of lists ≡ Ok x ∷ merge_of (slice_set lists w lead.1)
     lead_merges = merge_entry lists w x lead.1 (omega (arith, within, h.count)) lead.3
         (ap is_gt (tied_itself item_total x))
-        (λ j lt. no_faults (λ j. false) ss (ps ++ w ∷ []) lists h j (omega (arith, lt, h.count)) refl)
+        (λ j lt. no_faults (λ j. false) ss (ps ++ w ∷ []) lists h j
+        (omega (arith, lt, h.count)) refl)
         (λ j below. rest_by (λ y. Above y x) j (omega arith)
         (λ y among is. earlier j y below
         (turn_of j y (λ e. absurd (omega (arith, e, below))) among is))
@@ -432,7 +437,8 @@ module _ {S : Type 0} (stops : Error → Bool) (advances : S → Option R → S 
     -- before the first entry
     pub fresh_leaves : m.is_started ≡ false → (lists : List (List R))
         × Have stops advances lent (λ j. true) m.sources.items [] lists × (ys ≡ merge_of lists)
-    fresh_leaves fresh = subst (λ (b : Bool). LeavesIf stops advances lent b m ys) fresh leaves.parts
+    fresh_leaves fresh = subst (λ (b : Bool). LeavesIf stops advances lent b m ys) fresh
+        leaves.parts
 
     abbrev Behind : Type 0
     Behind = (lists : List (List R))
@@ -621,7 +627,8 @@ no_length (x ∷ xs) e = absurd (omega (arith, e))
 pub started_on : {S A : Type 0} (stops : Error → Bool) (advances : S → Option R → S → Type 0)
     (lent : S → Option Entry) (ys : List R) (lists : List (List R)) (r : Result (Unit {0}) Error)
     (n : LendingMerger S A) → ys ≡ merge_of lists
-    → MatchResult r (λ u. Rests stops advances lent (λ i. false) n.sources.items n.queue.items lists)
+    → MatchResult r
+    (λ u. Rests stops advances lent (λ i. false) n.sources.items n.queue.items lists)
     (λ e. stops e ≡ false → merge_of lists ≡ Err e ∷ [])
     → MatchResult r (λ u. (lists : List (List R))
     × Rests stops advances lent (λ j. false) n.sources.items n.queue.items lists

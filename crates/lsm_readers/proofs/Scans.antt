@@ -207,7 +207,8 @@ no_fault s u (inl same) ahead = subst HasNoFault (sym same)
 no_fault s u (inr none) ahead = none
 
 -- a block is read only where no entry is left
-none_stood : (s u : Scan) → (unlent s ≡ unlent u) ⊎ (s.entries ≡ []) → u.entries ≡ [] → s.entries ≡ []
+none_stood : (s u : Scan) → (unlent s ≡ unlent u) ⊎ (s.entries ≡ []) → u.entries ≡ []
+    → s.entries ≡ []
 none_stood s u (inl same) none = ap (λ (v : Scan). v.entries) same ∙ none
 none_stood s u (inr none) _ = none
 
@@ -249,13 +250,15 @@ refused e = Err e
 
 -- where an entry is left, and where nothing is left to read, no block was asked for or the first
 -- had no fault
-early_entry : (s u : Scan) (e : Entry) (es : List Entry) (r : Option R) → (unlent s ≡ unlent u) ⊎ HasNoFault s
+early_entry : (s u : Scan) (e : Entry) (es : List Entry) (r : Option R)
+    → (unlent s ≡ unlent u) ⊎ HasNoFault s
     → u.entries ≡ e ∷ es → FaultsAtBlock s r
 early_entry s u e es r (inl same) some none more fault h =
     absurd (let wrong : [] ≡ e ∷ es = sym none ∙ ap (λ (v : Scan). v.entries) same ∙ some in cc)
 early_entry s u e es r (inr calm) some none more fault h = absurd (calm fault h)
 
-early_none : (s u : Scan) (r : Option R) → (unlent s ≡ unlent u) ⊎ HasNoFault s → u.blocks ≡ 0 → FaultsAtBlock s r
+early_none : (s u : Scan) (r : Option R) → (unlent s ≡ unlent u) ⊎ HasNoFault s → u.blocks ≡ 0
+    → FaultsAtBlock s r
 early_none s u r (inl same) last none more fault h =
     absurd (omega (arith, more, ap (λ (v : Scan). v.blocks) same, last))
 early_none s u r (inr calm) last none more fault h = absurd (calm fault h)
@@ -622,7 +625,8 @@ pub lends_end : (stops : Error → Bool) (s t : Scan) (e : Error) → ScansLent 
 lends_end stops s t e step = scan_lends stops t []
     (sym (ended_left t step.next.ends), inl step.next.ends)
 
-pub lent_falls : (s t : Scan) (r : Option R) → ScansLent s r t → Lowers r (scan_size s) (scan_size t)
+pub lent_falls : (s t : Scan) (r : Option R) → ScansLent s r t
+    → Lowers r (scan_size s) (scan_size t)
 lent_falls s t None step =
     omega (arith, ap length (ended_left t step.next.ends), step.next.ends.1)
 lent_falls s t (Some r) step = scan_falls s t r step.next

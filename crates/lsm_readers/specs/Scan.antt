@@ -162,15 +162,15 @@ pub record ScansNext (s : Scan) (r : Option (Result Entry Error)) (t : Scan) : T
   pub falls : MatchOption r (Unit {0})
       (λ x. MatchResult x (λ _. count + t.blocks ≡ s.blocks) (λ _. Unit {0}))
 
--- one call that lends: it is as one that gives; and an entry that stands in the present block comes,
--- its number lifted, or its fault does, whatever memory there is
+-- one call that lends: it is as one that gives; and an entry that stands in the present block
+-- comes, its number lifted, or its fault does, whatever memory there is
 pub record ScansLent (s : Scan) (r : Option (Result Entry Error)) (t : Scan) : Type 0 where
   pub next : ScansNext s r t
   pub there : (e : Entry) (es : List Entry) → s.entries ≡ e ∷ es
       → r ≡ Some (lifted_told s.global_seqno e)
 
--- a scan of so many blocks before its first step: nothing is lent, and all that it gives is left, and
--- all blocks but the first
+-- a scan of so many blocks before its first step: nothing is lent, and all that it gives is left,
+-- and all blocks but the first
 pub record IsNewScan (body : List ℕ) (count g : ℕ) (s : Scan) : Type 0 where
   pub lent : s.lent ≡ None
   pub left : scan_left s ≡ scan_told body count g

@@ -20,8 +20,8 @@ use std::alloc::{Allocator, Global};
 use std::marker::Model;
 use std::mem;
 
-/// Reads a table's data blocks in file order, each once, and gives their entries, or lends them from
-/// the blocks where they lie. A contract sees what is lent and what is left to read.
+/// Reads a table's data blocks in file order, each once, and gives their entries, or lends them
+/// from the blocks where they lie. A contract sees what is lent and what is left to read.
 ///
 /// The first block is read when the scanner is made, each further one when a step first needs it.
 /// Where a block cannot be loaded its fault comes in the place of its entries, and

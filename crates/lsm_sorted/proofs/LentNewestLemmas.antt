@@ -1,5 +1,6 @@
 -- The newest versions of a source that lends.
-use Rattle.std.proofs.Common.{◌≡◌, refl, sym, ◌∙◌, ap, subst, ℕ, ◌<◌, ◌≤◌, Bool, true, false, cond, List}
+use Rattle.std.proofs.Common.{◌≡◌, refl, sym, ◌∙◌, ap, subst, ℕ, ◌<◌, ◌≤◌, Bool, true, false, cond}
+use Rattle.std.proofs.Common.{List}
 use Rattle.std.proofs.Common.{[], ◌∷◌, arith}
 use Rattle.std.specs.Prelude.{Option, Some, None, Ok, Err, not, filter, is_some}
 use Rattle.std.specs.List.{AllByRecursion}
@@ -7,7 +8,8 @@ use Rattle.std.specs.Option.{option_map}
 use Rattle.sst_entries.specs.Entry.{Entry}
 use Rattle.sst_entries.specs.Key.{same_key, key_lt}
 use Rattle.sst_entries.specs.Lending.{came}
-use Rattle.sst_entries.specs.Stream.{CanDeal, Deals, DealsFirst, Lowers, answer_stops, but_first, first}
+use Rattle.sst_entries.specs.Stream.{CanDeal, Deals, DealsFirst, Lowers, answer_stops, but_first}
+use Rattle.sst_entries.specs.Stream.{first}
 use Rattle.sst_entries.specs.Stream.{nowhere, ok_results}
 use Rattle.sst_entries.specs.declared.error.Error.{Error}
 use Rattle.sst_entries.specs.declared.error.Error.TheVariants.{OutOfMemory}
@@ -17,7 +19,8 @@ use Rattle.sst_entries.proofs.StreamLemmas.{can_by, can_front, deals_by, deals_f
 use Rattle.lsm_merge.specs.Ends.{R}
 use Rattle.lsm_merge.specs.Union.{Ascends, entries_among, newest}
 use Rattle.lsm_sorted.specs.Newest.{is_of}
-use Rattle.lsm_sorted.specs.LentNewest.{newest_results, is_given, news, last_key, is_other, lent_newest}
+use Rattle.lsm_sorted.specs.LentNewest.{newest_results, is_given, news, last_key, is_other}
+use Rattle.lsm_sorted.specs.LentNewest.{lent_newest}
 use Rattle.lsm_sorted.specs.LentNewest.{newest_left, MayNewest, LeavesNewest, AdvancesNewest}
 use Rattle.lsm_sorted.specs.LentNewest.{DealsNewestResults, DealsNewestEntries}
 use Rattle.lsm_sorted.specs.declared.lending_newest.LendingNewest.{LendingNewest}

@@ -145,8 +145,8 @@ two_tests false (Some e) payload b made is h = absurd cc
 two_tests false None payload b made is h = let same : made ≡ b = cc in
     sym (ap (λ (x : Loaded). x.payload) same) ∙ is
 
-pub payload_is : (v : TableVersion) (checksum : ℕ) (kind : BlockType) (payload : List ℕ) (b : Loaded)
-    → checked_payload v checksum kind payload ≡ Ok b → b.payload ≡ payload
+pub payload_is : (v : TableVersion) (checksum : ℕ) (kind : BlockType) (payload : List ℕ)
+    (b : Loaded) → checked_payload v checksum kind payload ≡ Ok b → b.payload ≡ payload
 unfolding checked_payload
 payload_is v checksum kind payload b h = two_tests (not (fnv1a payload == checksum))
     (grammar_fault v kind payload) payload b (record

@@ -115,10 +115,7 @@ fn runs_of(
     Ok(runs)
 }
 
-fn lending_of(
-    alloc: Global,
-    runs: Vec<Vec<IterItem>>,
-) -> Result<LendingMerger<LentList>, Error>
+fn lending_of(alloc: Global, runs: Vec<Vec<IterItem>>) -> Result<LendingMerger<LentList>, Error>
     ensures can { IfOk result (CanDeal ⟦<LendingMerger<LentList> as Lending>⟧.advances nowhere
         ⟦<LendingMerger<LentList> as Lending>⟧.can_advance
         ⟦<LendingMerger<LentList> as Lending>⟧.can_advance) }
@@ -130,10 +127,7 @@ fn lending_of(
     LendingMerger::new(alloc, lists)
 }
 
-fn by_value_of(
-    alloc: Global,
-    runs: Vec<Vec<IterItem>>,
-) -> Result<Merger<IntoIter<IterItem>>, Error>
+fn by_value_of(alloc: Global, runs: Vec<Vec<IterItem>>) -> Result<Merger<IntoIter<IterItem>>, Error>
     ensures can { IfOk result (CanDeal ⟦<Merger<IntoIter<IterItem>> as Iterator>⟧.next_gives nowhere
         ⟦<Merger<IntoIter<IterItem>> as Iterator>⟧.can_next
         ⟦<Merger<IntoIter<IterItem>> as Iterator>⟧.can_next) }
@@ -213,10 +207,12 @@ fn next_letter<L: Lending>(source: &mut L) -> u8
 {
     match go_on(source) {
         Ok(true) => match source.entry() {
-            Some(EntryRef {
-                user_key: [key, ..],
-                ..
-            }) => *key,
+            Some(
+                EntryRef {
+                    user_key: [key, ..],
+                    ..
+                },
+            ) => *key,
             _ => b'?',
         },
         Ok(false) => b'-',

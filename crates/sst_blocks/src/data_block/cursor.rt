@@ -26,8 +26,8 @@ struct Place {
 }
 
 /// A data block that is read from its front. The entry that it was advanced to is lent from where
-/// it lies; its head is decoded once, when the cursor comes to it. A contract sees the entry that is
-/// lent and those behind it.
+/// it lies; its head is decoded once, when the cursor comes to it. A contract sees the entry that
+/// is lent and those behind it.
 #[derive(Drop)]
 pub struct Cursor<A: Allocator = Global> {
     version: TableVersion,
