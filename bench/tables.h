@@ -216,12 +216,14 @@ class TableBench {
     OfOneTable(", partitions", partitioned_);
     for (uint64_t passes : Passes()) {
       CheckTable("scan", tool_bench_scan, passes, whole_);
+      CheckTable("scan_lent", tool_bench_scan_lent, passes, whole_);
       CheckTable("iter", tool_bench_iter, passes, whole_);
       CheckTable("back", tool_bench_iter_back, passes, back_);
       CheckKeys("batch", table_, tool_bench_get_many, batch_, passes, batch_found_);
       CheckKeys("singly", table_, tool_bench_get, batch_, passes, batch_found_);
       CheckFiles("runs", tool_bench_range_runs, passes);
       CheckFiles("merge", tool_bench_merge, passes);
+      CheckFiles("merge_lent", tool_bench_merge_lent, passes);
       Check("range", passes, ranges_, [&](Digest* digest) {
         return tool_bench_range(Bytes(table_), table_.size(), Bytes(present_.joined),
                                present_.joined.size(), kKeyLen, kRange, passes, digest);
@@ -432,11 +434,13 @@ class TableBench {
     PassRows("the same one by one", a_key, "singly", "singly", touched * kCompared, batch, again,
              &rows);
     PassRows("scan", an_entry, "scan", "scan", data * kBeside, entries, 1, &rows);
+    PassRows("scan, lent", an_entry, "scan_lent", "scan", data * kBeside, entries, 1, &rows);
     PassRows("iterator from the front", an_entry, "iter", "scan", data * kBeside, entries, 1,
              &rows);
     PassRows("iterator from the back", an_entry, "back", "back", data * kBeside, entries, 1, &rows);
     PassRows("range of 50 entries", "", "range", "range", data * kBeside, keys, again, &rows);
     PassRows("merge of 8", an_entry, "merge", "merge", read_ * kBeside, merged, 1, &rows);
+    PassRows("merge of 8, lent", an_entry, "merge_lent", "merge", read_ * kBeside, merged, 1, &rows);
     PassRows("range of 8 runs", an_entry, "runs", "merge", read_ * kBeside, merged, 1, &rows);
     rows.push_back(RowOf("compact 8, an entry", "compact", First("compact"), written, merged, 1));
     rows.push_back(

@@ -1,10 +1,11 @@
 //! Writes a table, opens it and reads it back: the calls that a store makes first.
 #![tactic(auto)]
 
-use lsm_tables::Table;
-use lsm_writers::{FinishedTable, Timestamp, Writer};
-use sst_blocks::{Error, InternalValue, SeqNo, Slice, ValueType};
-use std::alloc::{Allocator, Global};
+use logpurple::{
+    Error, FinishedTable, InternalValue, OpenOptions, SeqNo, Slice, Table, Timestamp, ValueType,
+    Writer,
+};
+use std::alloc::Allocator;
 
 /// Keys, the numbers of their versions, and values: keys upward, and the versions of a key from the
 /// newest on.
@@ -30,21 +31,10 @@ fn write_table<A: Allocator + Copy>(alloc: A) -> Result<Option<FinishedTable<A>>
     writer.finish()
 }
 
-/// Opens the bytes of a table.
+/// Opens a table. By default nothing is added to the stored numbers, and filter and index stay
+/// loaded.
 fn open_table<A: Allocator + Copy>(alloc: A, written: FinishedTable<A>) -> Result<Table<A>, Error> {
-    let global_seqno = 0; // added to every stored number
-    let tree_id = 0;
-    let pin_filter = true; // whether the filter stays loaded
-    let pin_index = true; // whether the index does
-    Table::recover(
-        alloc,
-        written.bytes,
-        written.checksum,
-        global_seqno,
-        tree_id,
-        pin_filter,
-        pin_index,
-    )
+    OpenOptions::default().open(alloc, &written)
 }
 
 fn main(rt: HostRuntime) -> anyhow::Result<()> {
@@ -54,9 +44,7 @@ fn main(rt: HostRuntime) -> anyhow::Result<()> {
     let table = open_table(rt.alloc(), written)?;
 
     // The newest version of a key that is numbered below 5.
-    let key = b"apple";
-    let hash = Table::<Global>::key_hash(key);
-    if let Some(item) = table.get(key, 5, hash)? {
+    if let Some(item) = table.get_by_key(b"apple", 5)? {
         println!(rt; "found number {}", item.key.seqno)?;
     }
 

@@ -2,7 +2,7 @@
 ghost use Rattle.std.specs.Prelude.{◌≡◌, IfErr, OnOk};
 ghost use Rattle.sst_entries.specs.Error.{number_of};
 
-use sst_blocks::{Error, InternalValue};
+use sst_blocks::{EntryRef, Error, InternalValue};
 use std::alloc::Allocator;
 
 /// How many entries there were, how many bytes their keys and values have, and a sum over the ends
@@ -41,8 +41,16 @@ impl Digest {
 
     #[inline]
     pub(crate) fn add<A: Allocator>(&mut self, item: &InternalValue<A>) {
-        let key = item.key.user_key.as_slice();
-        let value = item.value.as_slice();
+        self.add_parts(item.key.user_key.as_slice(), item.value.as_slice());
+    }
+
+    #[inline]
+    pub(crate) fn add_lent(&mut self, entry: &EntryRef<'_>) {
+        self.add_parts(entry.user_key, entry.value);
+    }
+
+    #[inline]
+    fn add_parts(&mut self, key: &[u8], value: &[u8]) {
         let ends = tail(key).wrapping_mul(0x9e37_79b9_7f4a_7c15) ^ tail(value);
         self.entries = self.entries.wrapping_add(1);
         self.bytes = self

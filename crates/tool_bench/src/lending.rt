@@ -1,0 +1,97 @@
+//! The same of entries that are lent where they lie.
+ghost use Rattle.std.specs.Prelude.{All, IfOk};
+ghost use Rattle.sst_entries.specs.Stream.{CanDeal, nowhere};
+
+use crate::digest::{Digest, code};
+use crate::files::{open_copy, scanners_of, tables_of};
+use lsm_merge::LendingMerger;
+use lsm_sorted::LendingNewest;
+use lsm_tables::Table;
+use sst_blocks::{Error, Lending};
+use std::alloc::Global;
+
+// Goes through all that is lent.
+fn drain<L: Lending>(source: &mut L, digest: &mut Digest) -> Result<(), Error>
+    requires { CanDeal L.advances nowhere L.can_advance L.can_advance source.old }
+{
+    while source.advance()? {
+        if let Some(entry) = source.entry() {
+            digest.add_lent(&entry);
+        }
+    }
+    Ok(())
+}
+
+fn scan_passes(alloc: Global, file: &[u8], passes: u64, digest: &mut Digest) -> Result<(), Error> {
+    let table = open_copy(alloc, file)?;
+    for _ in 0..passes {
+        *digest = Digest::empty();
+        scan(&table, digest)?;
+    }
+    Ok(())
+}
+
+fn scan(table: &Table, digest: &mut Digest) -> Result<(), Error> {
+    let mut scanner = table.scan()?;
+    drain(&mut scanner, digest)
+}
+
+/// Copies and opens a table, and goes so many times over all that its scan lends. Tells what the
+/// last pass lent.
+#[unsafe(no_mangle)]
+pub extern "C" fn tool_bench_scan_lent(
+    alloc: Global,
+    file: &[u8],
+    passes: u64,
+    digest: &mut Digest,
+) -> u32 {
+    code(scan_passes(alloc, file, passes, digest))
+}
+
+// The newest version of each key of several sources. It is generic in these, so that none of their
+// parts is looked at.
+fn newest_of<L: Lending + Drop>(
+    alloc: Global,
+    sources: Vec<L>,
+) -> Result<LendingNewest<LendingMerger<L>>, Error>
+    requires { All (CanDeal L.advances nowhere L.can_advance L.can_advance) sources.items }
+    ensures { IfOk result (CanDeal ⟦<LendingNewest<LendingMerger<L>> as Lending>⟧.advances nowhere
+        ⟦<LendingNewest<LendingMerger<L>> as Lending>⟧.can_advance
+        ⟦<LendingNewest<LendingMerger<L>> as Lending>⟧.can_advance) }
+{
+    let merger = LendingMerger::new(alloc, sources)?;
+    Ok(LendingNewest::new(alloc, merger))
+}
+
+fn merge(alloc: Global, tables: &[Table], digest: &mut Digest) -> Result<(), Error> {
+    let mut newest = newest_of(alloc, scanners_of(alloc, tables)?)?;
+    drain(&mut newest, digest)
+}
+
+fn merge_passes(
+    alloc: Global,
+    files: &[u8],
+    lens: &[u64],
+    passes: u64,
+    digest: &mut Digest,
+) -> Result<(), Error> {
+    let tables = tables_of(alloc, files, lens)?;
+    for _ in 0..passes {
+        *digest = Digest::empty();
+        merge(alloc, &tables, digest)?;
+    }
+    Ok(())
+}
+
+/// Copies and opens tables, whose bytes stand behind one another, and goes so many times over the
+/// newest version of each key of all of them, lent. Tells what the last pass lent.
+#[unsafe(no_mangle)]
+pub extern "C" fn tool_bench_merge_lent(
+    alloc: Global,
+    files: &[u8],
+    lens: &[u64],
+    passes: u64,
+    digest: &mut Digest,
+) -> u32 {
+    code(merge_passes(alloc, files, lens, passes, digest))
+}
