@@ -2,12 +2,15 @@
 use Rattle.std.proofs.Common.{◌≡◌, ℕ, suc, ◌-◌, ◌<◌, ◌≤◌, false, List, [], ◌∷◌, ◌++◌, drop, length}
 use Rattle.std.proofs.Common.{take, refl, sym, ap, subst, ◌∙◌, arith, inr}
 use Rattle.std.proofs.lemmas.List.{length-append, length-map, map-append, nil_from_length}
-use Rattle.std.specs.Prelude.{Option, Some, None, Result, Ok, Err, IfErr, IfOk}
+use Rattle.std.specs.Prelude.{Bool, Option, Some, None, Result, Ok, Err, IfErr, IfOk, is_some}
+use Rattle.std.specs.Prelude.{true}
 use Rattle.std.specs.List.{AllByRecursion, flat_map, slice_get}
 use Rattle.std.specs.Result.{IsErrAnd}
 use Rattle.sst_sections.specs.Sections.{body_of}
 use Rattle.sst_entries.specs.declared.error.Error.{Error}
+use Rattle.sst_entries.specs.declared.error.Error.TheVariants.{OutOfMemory}
 use Rattle.sst_entries.specs.Entry.{Entry}
+use Rattle.sst_entries.specs.Lending.{came}
 use Rattle.sst_entries.specs.Error.{Faults, FaultsFirst, is_memory}
 use Rattle.sst_entries.specs.Stream.{but_first, first, front_of, nowhere, ok_results}
 use Rattle.sst_blocks.specs.declared.block_type.BlockType.TheVariants.{Data}
@@ -26,8 +29,9 @@ use Rattle.lsm_readers.proofs.Scans.{ended_left, fault_left, scan_falls}
 use Rattle.lsm_readers.proofs.TableRanges.{deals_values}
 use Rattle.lsm_runs.specs.RunLists.{DealsList, HoldLists, HoldsList}
 use Rattle.lsm_runs.specs.RunScan.{BeginsNext, BeginsScan, IsRunScanEnded, IsScanOf, RunScan}
-use Rattle.lsm_runs.specs.RunScan.{RunScansNext, ScansItem, left_of_scan, over_scan, run_scan_left}
-use Rattle.lsm_runs.specs.RunScan.{run_scan_size, size_of_scan, stopped_scan, table_scan}
+use Rattle.lsm_runs.specs.RunScan.{RunScansNext, ScansItem, left_of_scan, lent_of_run}
+use Rattle.lsm_runs.specs.RunScan.{lent_of_scan, over_scan, run_scan_left}
+use Rattle.lsm_runs.specs.RunScan.{run_scan_size, size_of_scan, table_scan}
 use Rattle.lsm_runs.specs.RunScan.{table_size, tables_between, tables_scan, tables_size}
 use Rattle.lsm_runs.proofs.Places.{first_between, none_between, table_at}
 use Rattle.lsm_runs.proofs.RunSteps.{R}
@@ -173,19 +177,78 @@ opened s u x w reached none begins =
 
 -- ---- the answers
 
-pub item : (s u : RunScan) (r : R) (o : Option Scan) → Reached s u → ScansItem u.scan (Some r) o
-    → RunScansNext s (Some r) (stopped_scan (Some r) (record u { scan = o }))
-item s u (Ok e) o reached gives = record {
+-- an entry, or an error, which ends the scan
+pub item : (s u : RunScan) (e : Entry) (o : Option Scan) → Reached s u
+    → ScansItem u.scan (Some (Ok e)) o → RunScansNext s (Some (Ok e)) (record u { scan = o })
+item s u e o reached gives = record {
   answer = sym reached.results ∙ ap (λ (rs : List R). up_to_error (rs ++ behind u)) gives.answer;
   ends = tt;
   lowers = omega (arith, gives.lowers, reached.smaller);
 }
-item s u (Err e) o reached gives = record {
+
+pub refusal : (s u w : RunScan) (e : Error) (o : Option Scan) → Reached s u
+    → ScansItem u.scan (Some (Err e)) o → RunScansNext s (Some (Err e)) (over_scan w)
+refusal s u w e o reached gives = record {
   answer = λ fine. ap first (sym reached.results)
       ∙ up_to_first (left_of_scan u.scan) (behind u) e (gives.answer fine);
   ends = refl;
   lowers = omega (arith, gives.lowers, reached.smaller);
 }
+
+-- what is lent came, and what is not did not
+is_none : (o : Option Entry) → false ≡ is_some o → o ≡ None
+is_none None none = refl
+is_none (Some e) none = absurd cc
+
+pub none_lent : (o : Option Scan) {more : Bool} → more ≡ false → more ≡ is_some (lent_of_scan o)
+    → lent_of_scan o ≡ None
+none_lent o none is = is_none (lent_of_scan o) (sym none ∙ is)
+
+pub none_came : (s o : Option Scan) {more : Bool} → more ≡ false
+    → more ≡ is_some (lent_of_scan o) → ScansItem s (came (Ok more) (lent_of_scan o)) o
+    → ScansItem s None o
+none_came s o {more = more} none is gives =
+    subst (λ (l : Option Entry). ScansItem s (came (Ok more) l) o) (none_lent o none is) gives
+
+pub lent_item : (s u : RunScan) (o : Option Scan) {more : Bool} → more ≡ true → Reached s u
+    → more ≡ is_some (lent_of_scan o) → ScansItem u.scan (came (Ok more) (lent_of_scan o)) o
+    → RunScansNext s (came (Ok more) (lent_of_scan o)) (record u { scan = o })
+lent_item s u o {more = more} some reached is gives =
+    by (lent_of_scan o) (sym some ∙ is) gives
+  where
+    by : (l : Option Entry) → true ≡ is_some l → ScansItem u.scan (came (Ok more) l) o
+        → RunScansNext s (came (Ok more) l) (record u { scan = o })
+    by None is gives = absurd cc
+    by (Some e) is gives = item s u e o reached gives
+
+-- what was lent is shared, or memory is refused for it
+pub shared_item : (s u t : RunScan) (r : R) → RunScansNext s (came (Ok true) (lent_of_run u)) u
+    → is_some (lent_of_run u) ≡ true → IfOk r (λ x. (lent_of_run u ≡ Some x) × (t ≡ u))
+    → IfErr r (λ e. (e ≡ OutOfMemory) × (t ≡ over_scan u)) → RunScansNext s (Some r) t
+shared_item s u t (Ok x) step some ok err = subst (RunScansNext s (Some (Ok x))) (sym ok.1)
+    (subst (λ (o : Option Entry). RunScansNext s (came (Ok true) o) u) ok.0 step)
+shared_item s u t (Err e) step some ok err = by (lent_of_run u) some step
+  where
+    refused : (x : Entry) → RunScansNext s (Some (Ok x)) u
+        → RunScansNext s (Some (Err OutOfMemory)) (over_scan u)
+    refused x step = record {
+      answer = λ fine. let wrong : true ≡ false = fine in absurd cc;
+      ends = refl;
+      lowers = omega (arith, step.lowers);
+    }
+
+    by : (o : Option Entry) → is_some o ≡ true → RunScansNext s (came (Ok true) o) u
+        → RunScansNext s (Some (Err e)) t
+    by None some step = absurd cc
+    by (Some x) some step = subst (RunScansNext s (Some (Err e))) (sym err.1)
+        (subst (λ (f : Error). RunScansNext s (Some (Err f)) (over_scan u)) (sym err.0)
+        (refused x step))
+
+-- nothing came
+pub over_item : (s u : RunScan) → RunScansNext s (came (Ok false) (lent_of_run u)) u
+    → false ≡ is_some (lent_of_run u) → RunScansNext s None u
+over_item s u step none = subst (λ (o : Option Entry). RunScansNext s (came (Ok false) o) u)
+    (is_none (lent_of_run u) none) step
 
 -- the next table could not be opened
 pub fault : (s u : RunScan) (e : Error) (w : RunScan) → Reached s u → size_of_scan u.scan ≡ 0

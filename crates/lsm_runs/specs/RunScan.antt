@@ -61,6 +61,14 @@ tables_size (t ∷ ts) = table_size t + tables_size ts
 abbrev pub run_scan_size : RunScan → ℕ
 run_scan_size s = size_of_scan s.scan + tables_size s.tables
 
+-- the entry that is lent
+abbrev pub lent_of_scan : Option Scan → Option Entry
+lent_of_scan None = None
+lent_of_scan (Some s) = s.lent
+
+abbrev pub lent_of_run : RunScan → Option Entry
+lent_of_run s = lent_of_scan s.scan
+
 -- nothing more comes, and nothing is opened
 abbrev pub IsRunScanEnded : RunScan → Type 0
 IsRunScanEnded s = run_scan_size s ≡ 0
@@ -110,9 +118,3 @@ BeginsNext s (Some r) t = (table : OpenTable) × (s.tables ≡ table ∷ t.table
 -- nothing more comes
 abbrev pub over_scan : RunScan → RunScan
 over_scan s = record { scan = None; tables = [] }
-
--- an error ends the scan
-abbrev pub stopped_scan : Option (Result Entry Error) → RunScan → RunScan
-stopped_scan None t = t
-stopped_scan (Some (Ok e)) t = t
-stopped_scan (Some (Err e)) t = over_scan t

@@ -2,6 +2,7 @@
 -- file asks for them in one place.
 pub use Rattle.sst_entries.specs.Entry.{Entry}
 pub use Rattle.sst_entries.specs.Error.{Faults, FaultsFirst, Gives, is_memory}
+pub use Rattle.sst_entries.specs.Lending.{came}
 pub use Rattle.sst_entries.specs.Point.{point, within}
 pub use Rattle.sst_entries.specs.Stream.{CanDeal, back_of, first, front_of, nowhere}
 pub use Rattle.sst_blocks.specs.Opened.{none_opened}
@@ -23,8 +24,9 @@ pub use Rattle.lsm_runs.specs.RunRange.{run_left, run_size, tables_at}
 pub use Rattle.lsm_runs.specs.RunLists.{DealTogether, DealWithin, DealsList, HoldLists}
 pub use Rattle.lsm_runs.specs.RunLists.{RunsHoldLists, single, span_list}
 pub use Rattle.lsm_runs.specs.RunScan.{BeginsNext, BeginsScan, IsScanOf, RunScansNext, ScansItem}
-pub use Rattle.lsm_runs.specs.RunScan.{early_scan_fault, over_scan, run_scan_size, scan_fault}
-pub use Rattle.lsm_runs.specs.RunScan.{stopped_scan, tables_between, tables_scan}
+pub use Rattle.lsm_runs.specs.RunScan.{early_scan_fault, lent_of_run, lent_of_scan, over_scan}
+pub use Rattle.lsm_runs.specs.RunScan.{run_scan_size, scan_fault}
+pub use Rattle.lsm_runs.specs.RunScan.{tables_between, tables_scan}
 pub use Rattle.lsm_runs.specs.SpansRead.{IsOverSourcesBelow, IsOverSpans, IsOverSpansBelow}
 pub use Rattle.lsm_runs.specs.SpansRead.{spans_within, with_readers}
 pub use Rattle.lsm_runs.specs.SeveralRuns.{LoadsEach, is_older, leading_of, loads_together}

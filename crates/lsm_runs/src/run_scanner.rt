@@ -1,25 +1,28 @@
 //! Reading the tables of a run whole, one behind another.
-ghost use Rattle.std.specs.Prelude.{◌≡◌, ◌<◌, Err, IfErr, IfOk, List, Some, false, length};
-ghost use Rattle.std.specs.Prelude.{slice_get};
+ghost use Rattle.std.specs.Prelude.{◌≡◌, ◌<◌, Err, IfErr, IfOk, List, Some, false, true, length};
+ghost use Rattle.std.specs.Prelude.{is_some, slice_get};
 ghost use Rattle.std.specs.Arc.{arc_value};
 ghost use Rattle.std.specs.Iterator.{at_most};
 ghost use Rattle.std.specs.List.{AllByRecursion};
 ghost use Rattle.lsm_runs.specs.Words.{ArePlacesOf, BeginsNext, BeginsScan, DealsEnding};
 ghost use Rattle.lsm_runs.specs.Words.{DealsList, Entry, Faults, FaultsFirst, HoldLists};
 ghost use Rattle.lsm_runs.specs.Words.{IsScanOf, OpenTable, RunScansNext, ScansItem};
-ghost use Rattle.lsm_runs.specs.Words.{early_scan_fault, ends_given, first, is_memory, joined};
-ghost use Rattle.lsm_runs.specs.Words.{nowhere, over_scan, run_scan_size, scan_fault};
-ghost use Rattle.lsm_runs.specs.Words.{stopped_scan, tables_between, tables_scan};
+ghost use Rattle.lsm_runs.specs.Words.{came, early_scan_fault, ends_given, first, is_memory};
+ghost use Rattle.lsm_runs.specs.Words.{joined, lent_of_run, lent_of_scan, nowhere, over_scan};
+ghost use Rattle.lsm_runs.specs.Words.{run_scan_size, scan_fault, tables_between};
+ghost use Rattle.lsm_runs.specs.Words.{tables_scan};
+ghost use Rattle.sst_entries.specs.declared.error.Error.TheVariants.{OutOfMemory};
 
 use crate::spans::{ends_in, place_behind};
 use lsm_ranges::Run;
 use lsm_readers::{Scanner, Table};
-use sst_blocks::{Error, IterItem};
+use sst_blocks::{EntryRef, Error, IterItem, Lending};
 use std::alloc::{Allocator, Global};
 use std::marker::Model;
 use std::sync::Arc;
 
-/// The entries of the tables of a run, one table behind another, from the front. It shares the run.
+/// The entries of the tables of a run, one table behind another, from the front, given or lent from
+/// where they lie. It shares the run.
 ///
 /// The first table is opened when the scanner is made, each further one by the first step that
 /// needs it. After an error, [`Error::OutOfMemory`] among them, nothing more comes.
@@ -60,13 +63,29 @@ fn scan_at<A: Allocator + Clone>(tables: &[Table<A>], place: usize) -> Result<Sc
     tables[place].scan()
 }
 
-// The next item of a table, where one is opened.
-fn next_item<A: Allocator + Clone>(reader: &mut Option<Scanner<A>>) -> Option<IterItem<A>>
-    ensures { ScansItem reader.old result reader.new }
+// Goes on to the next entry of a table, where one is opened, and answers whether there is one.
+#[inline]
+fn advance_in<A: Allocator + Clone>(reader: &mut Option<Scanner<A>>) -> Result<bool, Error>
+    ensures goes { ScansItem reader.old (came result (lent_of_scan reader.new)) reader.new }
+    ensures more { IfOk result (λ more. more ≡ is_some (lent_of_scan reader.new)) }
 {
     match reader {
-        Some(reader) => reader.next(),
-        None => None,
+        Some(reader) => reader.advance(),
+        None => Ok(false),
+    }
+}
+
+// Shares the entry that a table lends.
+#[inline]
+fn share_in<A: Allocator + Clone>(reader: &mut Option<Scanner<A>>) -> IterItem<A>
+    requires { is_some (lent_of_scan reader.old) ≡ true }
+    ensures ok { IfOk result (λ e.
+        (lent_of_scan reader.old ≡ Some e) × (reader.new ≡ reader.old)) }
+    ensures err { IfErr result (λ e. e ≡ OutOfMemory) }
+{
+    match reader {
+        Some(reader) => reader.share(),
+        None => unreachable!(),
     }
 }
 
@@ -92,6 +111,15 @@ impl<A: Allocator + Clone> RunScanner<A> {
             let tables = tables_between (arc_value run) (ends_given (arc_value run) span) in
             (lists : List (List Entry)) → AllByRecursion (λ es. 0 < length es) lists →
             HoldLists tables lists → IfOk result (DealsList gives nowhere (joined lists)) }
+        // It lends what it gives.
+        ensures lends { let advances = ⟦<RunScanner<A> as Lending>⟧.advances in
+            let tables = arc_value run in
+            let left = tables_scan (tables_between tables (ends_given tables span)) in IfOk result
+            (λ s. DealsEnding advances nowhere (λ _. Unit {0}) (λ _. Unit {0}) s left) }
+        ensures lends_list { let advances = ⟦<RunScanner<A> as Lending>⟧.advances in
+            let tables = tables_between (arc_value run) (ends_given (arc_value run) span) in
+            (lists : List (List Entry)) → AllByRecursion (λ es. 0 < length es) lists →
+            HoldLists tables lists → IfOk result (DealsList advances nowhere (joined lists)) }
         // The first table is opened here: what its scan refuses is refused, and it succeeds where
         // that would,
         ensures refused { let tables = arc_value run in (t : OpenTable) →
@@ -136,19 +164,70 @@ impl<A: Allocator + Clone> RunScanner<A> {
         self.lo_reader = None;
     }
 
-    /// The next answer; an error does not end the scanner yet.
-    fn step(&mut self) -> Option<IterItem<A>>
-        ensures { RunScansNext self.old result (stopped_scan result self.new) }
+    /// Goes on to the next entry, and answers whether there is one; an error does not end the scanner
+    /// yet.
+    #[inline]
+    fn step(&mut self) -> Result<bool, Error>
+        ensures ok { IfOk result (λ more. (more ≡ is_some (lent_of_run self.new)) ×
+            RunScansNext self.old (came result (lent_of_run self.new)) self.new) }
+        ensures err { IfErr result (λ e.
+            RunScansNext self.old (Some (Err e)) (over_scan self.new)) }
     {
         loop {
-            if let Some(item) = next_item(&mut self.lo_reader) {
-                return Some(item);
+            if advance_in(&mut self.lo_reader)? {
+                return Ok(true);
             }
             match self.next_table() {
                 Some(Ok(reader)) => self.lo_reader = Some(reader),
-                Some(Err(error)) => return Some(Err(error)),
-                None => return None,
+                Some(Err(error)) => return Err(error),
+                None => return Ok(false),
             }
+        }
+    }
+
+    /// The entry that is lent, whose key and value share the table's memory. Refused
+    /// [`Error::OutOfMemory`] alone, and nothing more comes then. Condition: an entry is lent.
+    #[inline]
+    pub fn share(&mut self) -> IterItem<A>
+        requires { is_some (lent_of_run self.old) ≡ true }
+        ensures ok { IfOk result (λ e. (lent_of_run self.old ≡ Some e) × (self.new ≡ self.old)) }
+        ensures err { IfErr result (λ e. (e ≡ OutOfMemory) × (self.new ≡ over_scan self.old)) }
+    {
+        match share_in(&mut self.lo_reader) {
+            Ok(item) => Ok(item),
+            Err(error) => {
+                self.end();
+                Err(error)
+            }
+        }
+    }
+}
+
+impl<A: Allocator + Clone> Lending for RunScanner<A> {
+    ghost can_advance = { λ _. Unit {0} };
+
+    ghost advances = { RunScansNext };
+
+    ghost lent = { lent_of_run };
+
+    ghost left = { run_scan_size };
+
+    #[inline]
+    fn advance(&mut self) -> Result<bool, Error> {
+        match self.step() {
+            Ok(more) => Ok(more),
+            Err(error) => {
+                self.end();
+                Err(error)
+            }
+        }
+    }
+
+    #[inline]
+    fn entry(&self) -> Option<EntryRef<'_>> {
+        match &self.lo_reader {
+            Some(reader) => reader.entry(),
+            None => None,
         }
     }
 }
@@ -163,13 +242,10 @@ impl<A: Allocator + Clone> Iterator for RunScanner<A> {
     ghost remaining = { λ s. at_most (run_scan_size s) };
 
     fn next(&mut self) -> Option<IterItem<A>> {
-        match self.step() {
-            Some(Ok(item)) => Some(Ok(item)),
-            Some(Err(error)) => {
-                self.end();
-                Some(Err(error))
-            }
-            None => None,
+        match self.advance() {
+            Ok(true) => Some(self.share()),
+            Ok(false) => None,
+            Err(error) => Some(Err(error)),
         }
     }
 }

@@ -1,8 +1,8 @@
 //! Worked examples of runs of tables: tests of what is read from one run, from both ends and by a
 //! scan, from several as one, and of lists that are written as runs; and of rows that are written
-//! and read back whole, of the memory that a read asks for, of scans that are refused memory, of
-//! long keys, of the targets at which tables are cut, and of ranges of numbers. Nothing here is for
-//! use.
+//! and read back whole, of the memory that a read asks for, of scans that are refused memory and
+//! scans that lend, of long keys, of the targets at which tables are cut, and of ranges of numbers.
+//! Nothing here is for use.
 #![tactic(auto)]
 
 #[cfg(test)]
@@ -13,6 +13,8 @@ mod counted;
 mod damaged;
 #[cfg(test)]
 mod key_ranges;
+#[cfg(test)]
+mod lends;
 #[cfg(test)]
 mod long_keys;
 #[cfg(test)]

@@ -42,6 +42,12 @@ returns-clause-deals g c = scan_deals _ _ (returns-clause-is g c).left
 pub returns-clause-list : goal.returns-clause-list
 returns-clause-list g c lists some held = lists_deal (tables_between (arc_value c.args.run) (ends_given (arc_value c.args.run) c.args.span)) lists held some _ (returns-clause-is g c).left
 
+pub returns-clause-lends : goal.returns-clause-lends
+returns-clause-lends g c = scan_deals _ _ (returns-clause-is g c).left
+
+pub returns-clause-lends_list : goal.returns-clause-lends_list
+returns-clause-lends_list g c lists some held = lists_deal (tables_between (arc_value c.args.run) (ends_given (arc_value c.args.run) c.args.span)) lists held some _ (returns-clause-is g c).left
+
 pub returns-clause-refused : goal.returns-clause-refused
 returns-clause-refused g c t at =
     let ts = arc_value c.args.run in
