@@ -3,7 +3,7 @@
 use crate::filter_full::FullFilterWriter;
 use crate::filter_partitioned::PartitionedFilterWriter;
 use crate::filter_writer::FilterWriter;
-use sst_blocks::{BloomConstructionPolicy, CompressionType, Error, SectionWriter, UserKey};
+use sst_blocks::{BloomConstructionPolicy, CompressionType, Error, SectionWriter};
 use std::alloc::{Allocator, Global};
 
 /// A writer of a filter, of a kind that is chosen while it runs.
@@ -32,10 +32,10 @@ impl<A: Allocator + Clone> FilterWriter<A> for FilterWriterImpl<A> {
 
     ghost with_partition_size = { λ w size. with_size_by w size };
 
-    fn register_key(&mut self, key: &UserKey<A>) -> Result<(), Error> {
+    fn register_key_bytes(&mut self, key: &[u8]) -> Result<(), Error> {
         match self {
-            FilterWriterImpl::Full(writer) => writer.register_key(key),
-            FilterWriterImpl::Partitioned(writer) => writer.register_key(key),
+            FilterWriterImpl::Full(writer) => writer.register_key_bytes(key),
+            FilterWriterImpl::Partitioned(writer) => writer.register_key_bytes(key),
         }
     }
 

@@ -10,7 +10,7 @@ use crate::build::build_from_buffer;
 use crate::filter_writer::FilterWriter;
 use sst_blocks::{
     Block, BlockType, BloomConstructionPolicy, Builder, CompressionType, Error, SectionName,
-    SectionWriter, UserKey,
+    SectionWriter,
 };
 use std::alloc::{Allocator, Global};
 use std::marker::Model;
@@ -66,13 +66,12 @@ impl<A: Allocator + Clone> FilterWriter<A> for FullFilterWriter<A> {
 
     ghost with_partition_size = { λ w _. w };
 
-    fn register_key(&mut self, key: &UserKey<A>) -> Result<(), Error> {
+    fn register_key_bytes(&mut self, key: &[u8]) -> Result<(), Error> {
         if self.failed {
             return Err(Error::WriterFailed); // nothing is registered
         }
         self.failed = true;
-        self.bloom_hash_buffer
-            .push(Builder::<A>::get_hash(key.as_slice()))?;
+        self.bloom_hash_buffer.push(Builder::<A>::get_hash(key))?;
         self.failed = false;
         Ok(())
     }

@@ -144,7 +144,7 @@ impl<A: Allocator + Clone> PartitionedFilterWriter<A> {
     }
 
     // Adds a key to those that are pending, and cuts them off where they are enough.
-    fn push_key(&mut self, key: &UserKey<A>) -> Result<(), Error>
+    fn push_key(&mut self, key: &[u8]) -> Result<(), Error>
         requires { AreRising (end_keys self.old.parts ++ key.now ∷ []) }
         ensures ok { OnOk result ((given : GivenKeys) → HoldsParts self.old given →
             let kind = Partitioned self.old.size in
@@ -156,9 +156,9 @@ impl<A: Allocator + Clone> PartitionedFilterWriter<A> {
             let kind = Partitioned self.old.size in
             Faults result (register_fault kind self.old.policy given.pending key.now) }
     {
-        let hash = Builder::<A>::get_hash(key.as_slice());
+        let hash = Builder::<A>::get_hash(key);
         self.bloom_hash_buffer.push(hash)?;
-        let end_key = key.clone()?;
+        let end_key = UserKey::from(self.partitions.allocator().clone()?, key)?;
         if self.is_full() {
             return self.spill_filter_partition(end_key);
         }
@@ -200,7 +200,7 @@ impl<A: Allocator + Clone> FilterWriter<A> for PartitionedFilterWriter<A> {
 
     ghost with_partition_size = { λ w size. record w { size = size } };
 
-    fn register_key(&mut self, key: &UserKey<A>) -> Result<(), Error> {
+    fn register_key_bytes(&mut self, key: &[u8]) -> Result<(), Error> {
         if self.failed {
             return Err(Error::WriterFailed); // nothing is registered
         }

@@ -70,6 +70,24 @@ pub trait FilterWriter<A: Allocator> {
             Faults result (option_or (failed_fault (has_failed self.old))
             (register_fault (kind self.old) (policy self.old) given.pending key.now)) }
         // That it has failed takes no memory to find.
+        ensures first { FaultsFirst result (failed_fault (has_failed self.old)) }
+    {
+        self.register_key_bytes(key.as_slice())
+    }
+
+    /// Registers the key of these bytes, as [`FilterWriter::register_key`] does.
+    fn register_key_bytes(&mut self, key: &[u8]) -> Result<(), Error>
+        requires { has_failed self.old ≡ false → Rises (Holds self.old) key.now }
+        ensures ok { OnOk result ((given : GivenKeys) → Holds self.old given →
+            Holds self.new (with_key (kind self.old) (policy self.old) given key.now)) }
+        ensures works { OnOk result (has_failed self.new ≡ false) }
+        ensures failed { OnErr result (has_failed self.new ≡ true) }
+        ensures kind { kind self.new ≡ kind self.old }
+        ensures policy { policy self.new ≡ policy self.old }
+        ensures refused { (given : GivenKeys) → Holds self.old given →
+            Faults result (option_or (failed_fault (has_failed self.old))
+            (register_fault (kind self.old) (policy self.old) given.pending key.now)) }
+        // That it has failed takes no memory to find.
         ensures first { FaultsFirst result (failed_fault (has_failed self.old)) };
 
     /// Writes the filter, and answers how many blocks are counted: 1 for a full filter, also

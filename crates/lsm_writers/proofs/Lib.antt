@@ -1,6 +1,7 @@
 pub mod Orders
 pub mod Refused
 pub mod Cutting
+pub mod Buffering
 pub mod DataBack
 pub mod CutTables
 pub mod OneCut

@@ -1,9 +1,8 @@
 -- Strict lists of entries and of the handles of their chunks.
-use Rattle.std.proofs.Common.{◌≡◌, refl, sym, ◌∙◌, ap, subst, ℕ, suc, ◌+◌, ◌-◌, ◌<◌, true, List, []}
-use Rattle.std.proofs.Common.{◌∷◌, ◌++◌, length, get_or, map, arith}
-use Rattle.std.specs.Prelude.{Option, Some, None, unwrap_or, slice_get, nat_lt, ◌^◌}
+use Rattle.std.proofs.Common.{◌≡◌, refl, sym, ◌∙◌, ap, subst, ℕ, ◌+◌, ◌-◌, ◌<◌, true, List, []}
+use Rattle.std.proofs.Common.{◌∷◌, ◌++◌, length, map, arith}
+use Rattle.std.specs.Prelude.{Option, Some, None, unwrap_or, nat_lt, ◌^◌}
 use Rattle.std.specs.List.{AllByRecursion}
-use Rattle.std.proofs.lemmas.Option.{get_or_from_slice_get}
 use Rattle.sst_sections.specs.declared.version.TableVersion.{TableVersion}
 use Rattle.sst_entries.specs.declared.value_type.ValueType.TheVariants.{Value}
 use Rattle.sst_entries.specs.Entry.{Entry, entry}
@@ -82,56 +81,10 @@ pub handles_strict : (v : TableVersion) (cs : List (List Entry)) → AllByRecurs
     → IsStrict (joined cs) → AreStrictHandles (handles v cs)
 handles_strict v cs some h = handles_strict_from v 0 None cs some h
 
--- the last place of a list holds its last entry
-last_at : (before : Option Entry) (es : List Entry) (x : Entry)
-    → Some x ≡ slice_get es (length es - 1) → (0 < length es) × (last_of before es ≡ Some x)
-unfolding last_of
-last_at before [] x h = absurd cc
-last_at before (e ∷ []) x h = (omega arith, sym h)
-last_at before (e ∷ f ∷ es) x h =
-    let n : length (e ∷ f ∷ es) - 1 ≡ suc (length (f ∷ es) - 1) = omega arith in
-    let r = last_at (Some e) (f ∷ es) x (h ∙ ap (slice_get (e ∷ f ∷ es)) n) in
-    (omega arith, r.1)
-
-pub last_place : (d es : List Entry) (x : Entry) → d ≡ es → Some x ≡ slice_get d (length d - 1)
-    → (0 < length es) × (last_entry es ≡ x)
-last_place d es x e h =
-    let r = last_at None es x (subst (λ (y : List Entry). Some x ≡ slice_get y (length y - 1)) e
-    h) in
-    (r.0, ap (λ (o : Option Entry). unwrap_or o (entry [] [] 0 Value)) r.1)
-
 pub some_last : (es : List Entry) (x : Entry) → last_of None es ≡ Some x → 0 < length es
 unfolding last_of
 some_last [] x h = absurd cc
 some_last (e ∷ es) x h = omega arith
-
--- without a last place there is nothing
-pub no_place : (es : List Entry) → None ≡ slice_get es (length es - 1) → es ≡ []
-no_place [] h = refl
-no_place (e ∷ []) h = absurd cc
-no_place (e ∷ f ∷ es) h =
-    let n : length (e ∷ f ∷ es) - 1 ≡ suc (length (f ∷ es) - 1) = omega arith in
-    let m = no_place (f ∷ es) (h ∙ ap (slice_get (e ∷ f ∷ es)) n) in
-    absurd cc
-
-pub last_popped : (d es : List Entry) (x : Entry) (n : ℕ) (r : Option Entry) → d ≡ es
-    → Some x ≡ slice_get d (length d - 1) → n ≡ length es → r ≡ Some (get_or es (n - 1) x)
-    → r ≡ Some (last_entry es)
-last_popped d es x n r e h k p =
-    let at : Some x ≡ slice_get es (length es - 1) =
-    subst (λ (y : List Entry). Some x ≡ slice_get y (length y - 1)) e h in
-    let here : get_or es (n - 1) x ≡ x = rw k (get_or_from_slice_get es (length es - 1) x x
-    (sym at)) in
-    p ∙ ap (λ (y : Entry). Some y) (here ∙ sym (last_place d es x e h).1)
-
-pub last_is : (before : Option Entry) (es : List Entry) (x : Entry)
-    → Some x ≡ slice_get es (length es - 1) → Some x ≡ last_of before es
-last_is before es x h = sym (last_at before es x h).1
-
-pub last_is_before : (before : Option Entry) (es : List Entry) → None ≡ slice_get es (length es - 1)
-    → before ≡ last_of before es
-unfolding last_of
-last_is_before before es h = rw (no_place es h) refl
 
 -- what may follow is told by the key and the number
 pub follows_last : (es : List Entry) (key : List ℕ) (n : ℕ) (last : Entry)
@@ -143,8 +96,27 @@ pub follows_nothing : (es : List Entry) (key : List ℕ) (n : ℕ) → last_of N
     → nat_lt n (2 ^ 64 - 1) ≡ true → true ≡ may_be_written es key n
 follows_nothing es key n h lt = rw (h, lt) refl
 
-pub last_written_is : (r o : Option Entry) (cut : List (List Entry)) (pending d : List Entry)
-    → r ≡ last_of o d → o ≡ last_of None (joined cut) → d ≡ pending
-    → last_of None (joined cut ++ pending) ≡ r
-last_written_is r o cut pending d er eo ed = last_of-append None (joined cut) pending
-    ∙ sym (rw (er, eo, ed) refl)
+-- where there is a last one, nothing before counts
+pub some_last_of : (before : Option Entry) (es : List Entry) (x : Entry)
+    → Some x ≡ last_of None es → Some x ≡ last_of before es
+unfolding last_of
+some_last_of before [] x h = absurd cc
+some_last_of before (e ∷ es) x h = h
+
+pub the_last : (es : List Entry) (x : Entry) → last_of None es ≡ Some x → x ≡ last_entry es
+the_last es x h = sym (ap (λ (o : Option Entry). unwrap_or o (entry [] [] 0 Value)) h)
+
+pub nothing_is_last : (es : List Entry) → last_of None es ≡ None → es ≡ []
+nothing_is_last [] h = refl
+nothing_is_last (e ∷ es) h = let no : Some (last_entry (e ∷ es)) ≡ None =
+    sym (last_of_cons None e es) ∙ h in absurd cc
+
+pub is_not_empty : (es : List Entry) (x : Entry) → Some x ≡ last_of None es → es ≡ [] → ⊥
+is_not_empty es x h e =
+    let no : Some x ≡ None = h ∙ ap (last_of None) e ∙ nothing_last in
+    absurd cc
+
+pub behind_nothing : (before r : Option Entry) (es : List Entry) → None ≡ last_of None es
+    → r ≡ before → r ≡ last_of before es
+unfolding last_of
+behind_nothing before r es h e = rw (nothing_is_last es (sym h)) e

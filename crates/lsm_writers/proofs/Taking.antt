@@ -12,7 +12,8 @@ use Rattle.sst_entries.specs.declared.error.Error.{Error}
 use Rattle.sst_entries.specs.declared.error.Error.TheVariants.{KeyTooLong, ValueTooLong}
 use Rattle.sst_entries.specs.declared.error.Error.TheVariants.{BlockTooLarge}
 use Rattle.sst_blocks.specs.Bounds.{data_block_bound_of, entry_bound}
-use Rattle.sst_blocks.specs.Encoding.{is_long_key, length_fault, entries_fault, large_fault}
+use Rattle.sst_blocks.specs.Encoding.{IsShortEntry, is_long_key, length_fault, entries_fault}
+use Rattle.sst_blocks.specs.Encoding.{large_fault}
 use Rattle.sst_entries.specs.Entry.{Entry, entry}
 use Rattle.lsm_formats.specs.Chunks.{joined, entry_size, entries_size, is_full}
 use Rattle.sst_entries.specs.Strict.{IsStrict, last_of}
@@ -100,7 +101,7 @@ strict_gained es e h f =
     strict_push None es e h (ends_follow (last_of None es) e
     (entry e.user_key [] e.seqno Value) refl refl p.1)
 
-fault_none : (b : Bool) (x : Error) (o : Option Error) → cond b (Some x) o ≡ None
+pub fault_none : (b : Bool) (x : Error) (o : Option Error) → cond b (Some x) o ≡ None
     → (b ≡ false) × (o ≡ None)
 fault_none true x o h = absurd cc
 fault_none false x o h = (refl, h)
@@ -120,6 +121,15 @@ short_of es e low h =
       omega
           (arith, small, bound_more es e),
     )
+
+-- no part of it is too long
+pub short_entry : (es : List Entry) (e : Entry) → item_fault es e ≡ None → IsShortEntry e
+short_entry es e h =
+    let o2 = large_fault (data_block_bound_of (es ++ e ∷ [])) in
+    let o1 = cond (nat_le (2 ^ 32) (length e.value)) (Some ValueTooLong) o2 in
+    let k = fault_none (is_long_key e.user_key) KeyTooLong o1 h in
+    let v = fault_none (nat_le (2 ^ 32) (length e.value)) ValueTooLong o2 k.1 in
+    record { key = ltb-false _ _ k.0; value = leb-false _ _ v.0 }
 
 snoc_assoc : (xs ys : List Entry) (e : Entry) → xs ++ (ys ++ e ∷ []) ≡ (xs ++ ys) ++ e ∷ []
 snoc_assoc xs ys e = sym (append_assoc xs ys (e ∷ []))

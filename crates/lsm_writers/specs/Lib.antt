@@ -1,3 +1,4 @@
+pub mod Buffered
 pub mod Counts
 pub mod Cut
 pub mod Writing

@@ -1,6 +1,7 @@
 //! Writing many tables, one after another.
 ghost use Rattle.std.specs.Prelude.{◌≡◌, ◌↔◌, ◌<◌, ◌≤◌, ◌∷◌, ◌++◌, if◌then◌else◌, [], false, true};
 ghost use Rattle.std.specs.Prelude.{IfErr, IfOk, IsTrue, OnErr, OnOk, Some, None};
+ghost use Rattle.sst_entries.specs.Lending.{entry_of_ref};
 ghost use Rattle.sst_entries.specs.declared.error.Error.TheVariants.{OutOfMemory};
 ghost use Rattle.lsm_formats.specs.declared.options.FilterKind.TheVariants.{
   Partitioned as PartitionedFilter,
@@ -25,6 +26,7 @@ ghost use Rattle.lsm_writers.specs.Tables.{took, took_fault, turn_fault, with_op
 use crate::{FinishedTable, TableIds, Timestamp, Writer};
 use lsm_formats::{FilterKind, IndexKind, Options};
 use sst_blocks::{CompressionType, Error, InternalKey, InternalValue, SeqNo};
+use sst_entries::EntryRef;
 use sst_filters::BloomConstructionPolicy;
 use std::alloc::{Allocator, Global};
 use std::marker::Model;
@@ -145,8 +147,34 @@ impl<A: Allocator + Clone> MultiWriter<A> {
         ensures ids { self.new.ids ≡ ids_after self.old item }
         ensures kept { self.old.failed ≡ true → self.new ≡ self.old }
     {
+        let outcome = self.write_ref(&item.as_entry_ref());
+        drop(item);
+        outcome
+    }
+
+    /// Writes an entry as [`MultiWriter::write`] does. Its key and its value are copied into the
+    /// memory of a block, which stays from block to block.
+    pub fn write_ref(&mut self, entry: &EntryRef<'_>) -> Result<(), Error>
+        requires { let e = entry_of_ref entry.now in
+            IsTrue (may_be_written (all_written self.old) e.user_key e.seqno) }
+        ensures ok { OnOk result (self.new ≡ took self.old (entry_of_ref entry.now)) }
+        ensures listed { OnOk result
+            (all_written self.new ≡ all_written self.old ++ entry_of_ref entry.now ∷ []) }
+        ensures refused { Faults result (took_fault self.old (entry_of_ref entry.now)) }
+        // What needs no memory to be found comes before any want of memory.
+        ensures first { FaultsFirst result (early_refusal self.old (entry_of_ref entry.now)) }
+        ensures memory { took_fault self.old (entry_of_ref entry.now) ≡ None →
+            IfErr result (λ e. e ≡ OutOfMemory) }
+        // So it is where an id is left, and the entry, its block and the sections of the present
+        // table fit.
+        ensures taken { HasRoomFor self.old (entry_of_ref entry.now) →
+            IfErr result (λ e. e ≡ OutOfMemory) }
+        ensures failed { OnErr result (self.new.failed ≡ true) }
+        // Whatever is answered, an id was drawn just where a table was due.
+        ensures ids { self.new.ids ≡ ids_after self.old (entry_of_ref entry.now) }
+        ensures kept { self.old.failed ≡ true → self.new ≡ self.old }
+    {
         if self.failed {
-            drop(item);
             return Err(Error::WriterFailed);
         }
         self.failed = true;
@@ -155,9 +183,9 @@ impl<A: Allocator + Clone> MultiWriter<A> {
             &mut self.ids,
             &mut self.finished,
             &mut self.writer,
-            &item,
+            entry,
         )?;
-        self.writer.write(item)?;
+        self.writer.write_ref(entry)?;
         self.failed = false;
         Ok(())
     }
@@ -380,11 +408,11 @@ fn add_table<A: Allocator + Clone>(
 }
 
 /// Whether the next table begins with this entry.
-fn is_due<A: Allocator + Clone>(target: u64, writer: &Writer<A>, item: &InternalValue<A>) -> bool
-    ensures { result ≡ is_due target writer.now item.now }
+fn is_due<A: Allocator + Clone>(target: u64, writer: &Writer<A>, entry: &EntryRef<'_>) -> bool
+    ensures { result ≡ is_due target writer.now (entry_of_ref entry.now) }
 {
     // The length first: it costs less than comparing keys.
-    writer.metadata().file_pos.0 >= target && writer.starts_key(item)
+    writer.metadata().file_pos.0 >= target && writer.starts_key(entry)
 }
 
 /// Draws the next id, finishes the present table, and begins the next one. Refused
@@ -413,17 +441,19 @@ fn make_ready<A: Allocator + Clone>(
     ids: &mut TableIds,
     finished: &mut Vec<FinishedTable<A>, A>,
     writer: &mut Writer<A>,
-    item: &InternalValue<A>,
+    entry: &EntryRef<'_>,
 ) -> Result<(), Error>
-    ensures ok { OnOk result (IsStanding (is_due target writer.old item.now)
+    ensures ok { OnOk result (IsStanding (is_due target writer.old (entry_of_ref entry.now))
         ids.old finished.old.items writer.old ids.new finished.new.items writer.new) }
-    ensures refused { Faults result (turn_fault target ids.old writer.old item.now) }
+    ensures refused { Faults result
+        (turn_fault target ids.old writer.old (entry_of_ref entry.now)) }
     ensures first { FaultsFirst result
-        (if is_due target writer.old item.now then ids_fault ids.old else None) }
-    ensures idle { OnErr result (is_due target writer.old item.now ≡ true) }
-    ensures ids { ids.new ≡ (if is_due target writer.old item.now then drawn ids.old else ids.old) }
+        (if is_due target writer.old (entry_of_ref entry.now) then ids_fault ids.old else None) }
+    ensures idle { OnErr result (is_due target writer.old (entry_of_ref entry.now) ≡ true) }
+    ensures ids { let due = is_due target writer.old (entry_of_ref entry.now) in
+        ids.new ≡ (if due then drawn ids.old else ids.old) }
 {
-    if is_due(target, writer, item) {
+    if is_due(target, writer, entry) {
         rotate(ids, finished, writer)?;
     }
     Ok(())

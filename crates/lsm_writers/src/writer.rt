@@ -17,7 +17,9 @@ ghost use Rattle.lsm_writers.specs.Words.{new_writing, registered_key, sections_
 ghost use Rattle.lsm_writers.specs.Words.{starts_key, tally_of, version_section, write_fault};
 ghost use Rattle.lsm_writers.specs.Words.{written};
 ghost use Rattle.std.specs.List.{AllByRecursion};
-ghost use Rattle.std.specs.Option.{option_copied};
+ghost use Rattle.std.specs.Option.{option_map};
+ghost use Rattle.sst_blocks.specs.Encoding.{IsShortEntry};
+ghost use Rattle.sst_entries.specs.Lending.{entry_of_ref};
 ghost use Rattle.sst_entries.specs.declared.error.Error.TheVariants.{OutOfMemory};
 ghost use Rattle.sst_sections.specs.declared.version.TableVersion.TheVariants.{V4};
 ghost use Rattle.lsm_formats.specs.declared.options.FilterKind.TheVariants.{
@@ -27,12 +29,14 @@ ghost use Rattle.lsm_formats.specs.declared.options.IndexKind.TheVariants.{
   Partitioned as PartitionedIndex,
 };
 
+mod block_buffer;
 mod data_blocks;
 mod filter;
 pub mod meta;
 mod meta_block;
 
 use crate::{TableId, Timestamp};
+use block_buffer::BlockBuffer;
 use data_blocks::DataBlocks;
 use filter::{finish_filter, register_key};
 use lsm_formats::{FilterKind, IndexKind, Label, Options};
@@ -43,7 +47,7 @@ use sst_blocks::{
     Checksum, CompressionType, EMPTY_LEN, ENTRY_HEAD_LEN, Error, InternalKey, InternalValue,
     SectionName, SectionWriter, SeqNo, Slice, TableVersion,
 };
-use sst_entries::compare_versions;
+use sst_entries::{EntryRef, compare_versions};
 use sst_filters::BloomConstructionPolicy;
 use std::alloc::{Allocator, Global};
 use std::fmt;
@@ -57,7 +61,7 @@ pub struct Writer<A: Allocator = Global> {
     options: Options,
     blocks: DataBlocks<A>,
     // the entries of the next block, and how many bytes their keys and values have
-    chunk: Vec<InternalValue<A>, A>,
+    chunk: BlockBuffer<A>,
     chunk_size: usize,
     meta: Metadata<A>,
     // has the first key of each run of versions, from the first one on
@@ -80,16 +84,16 @@ impl<A: Allocator> Model for Writer<A> {
       label = w.label;
       options = w.options;
       cut = w.blocks.chunks;
-      pending = w.chunk.items;
+      pending = w.chunk;
       failed = w.failed;
     } };
 
     ghost invariant = { λ w.
-        IsHeld w.options.data_block_size w.blocks.chunks w.chunk.items w.chunk_size w.meta
-        × CanGoOn w.failed w.options.data_block_size w.blocks w.chunk.items
+        IsHeld w.options.data_block_size w.blocks.chunks w.chunk w.chunk_size w.meta
+        × CanGoOn w.failed w.options.data_block_size w.blocks w.chunk
         × LabelFits w.label
         × IsFiltered w.failed w.options.filter_kind w.options.bloom_policy w.filter_writer
-        (joined w.blocks.chunks ++ w.chunk.items) };
+        (joined w.blocks.chunks ++ w.chunk) };
 }
 
 impl<A: Allocator + Clone> Writer<A> {
@@ -139,7 +143,7 @@ impl<A: Allocator + Clone> Writer<A> {
             label,
             options,
             blocks,
-            chunk: Vec::new(alloc),
+            chunk: BlockBuffer::new(alloc)?,
             chunk_size: 0,
             meta: Metadata::default(),
             filter_writer: None,
@@ -148,10 +152,11 @@ impl<A: Allocator + Clone> Writer<A> {
     }
 
     /// Whether an entry is the first of its key, if it is written next.
-    pub(crate) fn starts_key(&self, item: &InternalValue<A>) -> bool
-        ensures { result ≡ starts_key (last_of None (written self.now)) item.now }
+    pub(crate) fn starts_key(&self, entry: &EntryRef<'_>) -> bool
+        ensures { result ≡
+            starts_key (last_of None (written self.now)) (entry_of_ref entry.now) }
     {
-        starts_key(last_written(&self.chunk, self.blocks.last()), item)
+        starts_key(last_written(&self.chunk, &self.blocks), entry)
     }
 
     /// Whether no entry was given yet, also none that was refused.
@@ -167,11 +172,11 @@ impl<A: Allocator + Clone> Writer<A> {
         ensures { result ≡ may_be_written (written self.now) key.now.user_key key.now.seqno }
     {
         key.seqno < SeqNo::MAX
-            && match last_written(&self.chunk, self.blocks.last()) {
+            && match last_written(&self.chunk, &self.blocks) {
                 None => true,
                 Some(last) => compare_versions(
-                    last.key.user_key.as_slice(),
-                    last.key.seqno,
+                    last.user_key,
+                    last.seqno,
                     key.user_key.as_slice(),
                     key.seqno,
                 )
@@ -208,27 +213,43 @@ impl<A: Allocator + Clone> Writer<A> {
         // A refused entry is given up, and the list and its counts stay.
         ensures failed { OnErr result (self.new ≡ record self.old { failed = true }) }
     {
+        let outcome = self.write_ref(&item.as_entry_ref());
+        drop(item);
+        outcome
+    }
+
+    /// Writes an entry as [`Writer::write`] does. Its key and its value are copied into the block's
+    /// memory, which stays from block to block.
+    pub fn write_ref(&mut self, entry: &EntryRef<'_>) -> Result<(), Error>
+        requires { let e = entry_of_ref entry.now in
+            IsTrue (may_be_written (written self.old) e.user_key e.seqno) }
+        ensures ok { OnOk result (self.new ≡ gained self.old (entry_of_ref entry.now)) }
+        ensures refused { Faults result (write_fault self.old (entry_of_ref entry.now)) }
+        // What is wrong with the entry or the writer is found before any memory is taken.
+        ensures first { FaultsFirst result (write_fault self.old (entry_of_ref entry.now)) }
+        // A refused entry is given up, and the list and its counts stay.
+        ensures failed { OnErr result (self.new ≡ record self.old { failed = true }) }
+    {
         if self.failed {
-            drop(item);
             return Err(Error::WriterFailed);
         }
         self.failed = true;
         let tally = admit(
             &self.chunk,
             self.chunk_size,
-            last_written(&self.chunk, self.blocks.last()),
+            last_written(&self.chunk, &self.blocks),
             &self.meta,
             &mut self.filter_writer,
             &self.options,
-            &item,
+            entry,
         )?;
-        take_item(
+        take_entry(
             &mut self.chunk,
             &mut self.chunk_size,
             &mut self.blocks,
             &mut self.meta,
             &self.options,
-            item,
+            entry,
         )?;
         self.meta.count(tally);
         self.failed = false;
@@ -250,8 +271,7 @@ impl<A: Allocator + Clone> Writer<A> {
             return Err(Error::WriterFailed); // nothing is cut
         }
         self.failed = true;
-        self.blocks
-            .cut(&mut self.chunk, &mut self.meta, &self.options)?;
+        self.blocks.cut(&mut self.chunk, &mut self.meta)?;
         self.chunk_size = 0;
         self.failed = false;
         Ok(())
@@ -526,14 +546,18 @@ fn write_version<A: Allocator + Clone>(file_writer: &mut SectionWriter<A>) -> Re
 }
 
 /// The entry written last: the last pending one, or the last of the blocks that were cut.
-fn last_written<'a, A: Allocator>(
-    chunk: &'a [InternalValue<A>],
-    cut: Option<&'a InternalValue<A>>,
-) -> Option<&'a InternalValue<A>>
-    ensures { option_copied result ≡ last_of (option_copied cut.entry) chunk.now }
+fn last_written<'a, A: Allocator + Clone>(
+    chunk: &'a BlockBuffer<A>,
+    blocks: &'a DataBlocks<A>,
+) -> Option<EntryRef<'a>>
+    ensures last { option_map entry_of_ref result ≡
+        last_of (last_of None (joined blocks.now.chunks)) chunk.now }
+    // Each entry that was cut has bytes of its own, so there are fewer than can be counted.
+    ensures few { entry_head_len * length (joined blocks.now.chunks) < 2 ^ 64 }
 {
+    let cut = blocks.last();
     match chunk.last() {
-        Some(item) => Some(item),
+        Some(last) => Some(last),
         None => cut,
     }
 }
@@ -542,95 +566,81 @@ fn last_written<'a, A: Allocator>(
 /// counts. What is wrong with the entry is refused before any memory is taken; and
 /// [`Error::OutOfMemory`].
 fn admit<A: Allocator + Clone>(
-    chunk: &Vec<InternalValue<A>, A>,
+    chunk: &BlockBuffer<A>,
     chunk_size: usize,
-    before: Option<&InternalValue<A>>,
+    before: Option<EntryRef<'_>>,
     meta: &Metadata<A>,
     filter_writer: &mut Option<FilterWriterImpl<A>>,
     options: &Options,
-    item: &InternalValue<A>,
+    entry: &EntryRef<'_>,
 ) -> Result<Tally<A>, Error>
-    requires sized { chunk_size ≡ entries_size chunk.now.items }
-    requires small { empty_len + entry_head_len * length chunk.now.items + chunk_size < 2 ^ 32 }
-    requires rising { CanRegister options.now.filter_kind options.now.bloom_policy filter_writer.old
+    requires sized { chunk_size ≡ entries_size chunk.now }
+    requires small { empty_len + entry_head_len * length chunk.now + chunk_size < 2 ^ 32 }
+    requires rising { let e = entry_of_ref entry.now in
+        CanRegister options.now.filter_kind options.now.bloom_policy filter_writer.old
         (registered_key options.now.bloom_policy
-        (starts_key (option_copied before) item.now) item.now.user_key) }
-    ensures tally { IfOk result (λ t. t ≡
-        tally_of (option_copied before.entry) item.now meta.now.first_key) }
-    ensures registered { OnOk result (Registers options.now filter_writer.old filter_writer.new
+        (starts_key (option_map entry_of_ref before) e) e.user_key) }
+    ensures tally { let e = entry_of_ref entry.now in
+        IfOk result (λ t. t ≡
+        tally_of (option_map entry_of_ref before.entry) e meta.now.first_key) }
+    ensures registered { let e = entry_of_ref entry.now in
+        OnOk result (Registers options.now filter_writer.old filter_writer.new
         (registered_key options.now.bloom_policy
-        (starts_key (option_copied before.entry) item.now) item.now.user_key)) }
-    ensures refused { Faults result (item_fault chunk.now.items item.now) }
-    ensures first { FaultsFirst result (item_fault chunk.now.items item.now) }
+        (starts_key (option_map entry_of_ref before.entry) e) e.user_key)) }
+    ensures refused { Faults result (item_fault chunk.now (entry_of_ref entry.now)) }
+    ensures first { FaultsFirst result (item_fault chunk.now (entry_of_ref entry.now)) }
 {
-    check_item(chunk, chunk_size, item)?;
-    let tally = meta.tally(before, item)?;
+    check_entry(chunk, chunk_size, entry)?;
+    let tally = meta.tally(chunk.allocator(), before, entry)?;
     register_key(
         filter_writer,
         chunk.allocator(),
         options,
         tally.starts_key,
-        &item.key.user_key,
+        entry.user_key,
     )?;
     Ok(tally)
 }
 
 /// Puts an entry behind the pending ones, and cuts these off as a block once they are full. Refused
 /// [`Error::OutOfMemory`] alone; the entry is then given up, and all else stays.
-fn take_item<A: Allocator + Clone>(
-    chunk: &mut Vec<InternalValue<A>, A>,
+fn take_entry<A: Allocator + Clone>(
+    chunk: &mut BlockBuffer<A>,
     chunk_size: &mut usize,
     blocks: &mut DataBlocks<A>,
     meta: &mut Metadata<A>,
     options: &Options,
-    item: InternalValue<A>,
+    entry: &EntryRef<'_>,
 ) -> Result<(), Error>
-    requires sized { chunk_size.old ≡ entries_size chunk.old.items }
+    requires sized { chunk_size.old ≡ entries_size chunk.old }
     requires works { blocks.old.failed ≡ false }
-    requires strict { IsStrict (joined blocks.old.chunks ++ (chunk.old.items ++ item ∷ [])) }
-    requires fit { entries_fault (chunk.old.items ++ item ∷ []) ≡ None }
-    requires small { entry_size item + chunk_size.old < 2 ^ 64 }
+    requires short { IsShortEntry (entry_of_ref entry.now) }
+    requires strict { IsStrict (joined blocks.old.chunks
+        ++ (chunk.old ++ entry_of_ref entry.now ∷ [])) }
+    requires fit { entries_fault (chunk.old ++ entry_of_ref entry.now ∷ []) ≡ None }
+    requires small { entry_size (entry_of_ref entry.now) + chunk_size.old < 2 ^ 64 }
     requires counts { CountsCut blocks.old.chunks meta.old }
-    ensures taken { let more = chunk.old.items ++ item ∷ [] in
+    ensures taken { let more = chunk.old ++ entry_of_ref entry.now ∷ [] in
         OnOk result (IsTaken (is_full options.now.data_block_size more) more blocks.old meta.old
-        chunk.new.items chunk_size.new blocks.new meta.new) }
-    ensures left { OnErr result (chunk.new.items ≡ chunk.old.items) }
+        chunk.new chunk_size.new blocks.new meta.new) }
+    ensures left { OnErr result (chunk.new ≡ chunk.old) }
     ensures same_size { OnErr result (chunk_size.new ≡ chunk_size.old) }
     ensures uncut { OnErr result (blocks.new.chunks ≡ blocks.old.chunks) }
     ensures uncounted { OnErr result (meta.new ≡ meta.old) }
     ensures err { IfErr result (λ e. e ≡ OutOfMemory) }
 {
-    let (pending, size) = (chunk.len(), *chunk_size);
-    push_item(chunk, chunk_size, item)?;
-    if *chunk_size < options.data_block_size as usize {
+    let size = *chunk_size + entry.user_key.len() + entry.value.len();
+    let before = chunk.mark();
+    chunk.push(entry)?;
+    if size < options.data_block_size as usize {
+        *chunk_size = size;
         return Ok(());
     }
-    if let Err(error) = blocks.cut(chunk, meta, options) {
-        chunk.truncate(pending); // the entry is given up
-        *chunk_size = size;
+    if let Err(error) = blocks.cut(chunk, meta) {
+        chunk.rewind(before); // the entry is given up
         return Err(error);
     }
     *chunk_size = 0;
-    Ok(())
-}
-
-/// Puts an entry behind the pending ones. Refused [`Error::OutOfMemory`] alone; nothing changes
-/// then.
-fn push_item<A: Allocator>(
-    chunk: &mut Vec<InternalValue<A>, A>,
-    chunk_size: &mut usize,
-    item: InternalValue<A>,
-) -> Result<(), Error>
-    requires fits { entry_size item + chunk_size.old < 2 ^ 64 }
-    ensures pushed { OnOk result (chunk.new.items ≡ chunk.old.items ++ item ∷ []) }
-    ensures sized { OnOk result (chunk_size.new ≡ chunk_size.old + entry_size item) }
-    ensures left { OnErr result (chunk.new.items ≡ chunk.old.items) }
-    ensures same_size { OnErr result (chunk_size.new ≡ chunk_size.old) }
-    ensures err { IfErr result (λ e. e ≡ OutOfMemory) }
-{
-    let size = item.key.user_key.len() + item.value.len();
-    chunk.push(item)?;
-    *chunk_size += size;
     Ok(())
 }
 
@@ -664,25 +674,25 @@ fn write_sections<A: Allocator + Clone>(
 }
 
 /// Refused where an entry is too long, or would make the block of the pending ones too large.
-fn check_item<A: Allocator>(
-    chunk: &[InternalValue<A>],
+fn check_entry<A: Allocator>(
+    chunk: &BlockBuffer<A>,
     chunk_size: usize,
-    item: &InternalValue<A>,
+    entry: &EntryRef<'_>,
 ) -> Result<(), Error>
     requires sized { chunk_size ≡ entries_size chunk.now }
     requires small { empty_len + entry_head_len * length chunk.now + chunk_size < 2 ^ 32 }
-    ensures { MatchResult result (λ _. item_fault chunk.now item.now ≡ None)
-        (λ e. item_fault chunk.now item.now ≡ Some e) }
+    ensures { MatchResult result (λ _. item_fault chunk.now (entry_of_ref entry.now) ≡ None)
+        (λ e. item_fault chunk.now (entry_of_ref entry.now) ≡ Some e) }
 {
-    if item.key.user_key.len() > TableVersion::WRITTEN.longest_key() {
+    if entry.user_key.len() > TableVersion::WRITTEN.longest_key() {
         return Err(Error::KeyTooLong);
     }
-    let value_len = item.value.len() as u64;
+    let value_len = entry.value.len() as u64;
     if value_len >= 1 << 32 {
         return Err(Error::ValueTooLong);
     }
     let entries = chunk.len() as u64 + 1;
-    let bytes = chunk_size as u64 + item.key.user_key.len() as u64 + value_len;
+    let bytes = chunk_size as u64 + entry.user_key.len() as u64 + value_len;
     if EMPTY_LEN + ENTRY_HEAD_LEN * entries + bytes >= 1 << 32 {
         return Err(Error::BlockTooLarge);
     }

@@ -4,21 +4,23 @@ ghost use Rattle.std.specs.Prelude.{Some, false, length, IfOk, IfErr, OnOk, OnEr
 ghost use Rattle.lsm_writers.specs.Words.{AreCutBy, BlockFits, CanCut, CountsCut, Entry};
 ghost use Rattle.lsm_writers.specs.Words.{Cut, IsReadable, IsStrict, data_block, data_section};
 ghost use Rattle.lsm_writers.specs.Words.{entries_fault, entry_head_len, handle_of, handles};
-ghost use Rattle.lsm_writers.specs.Words.{joined, laid, last_of, payload};
+ghost use Rattle.lsm_writers.specs.Words.{joined, laid, last_of};
 ghost use Rattle.lsm_writers.specs.Words.{rest_chunk, with_cut};
-ghost use Rattle.std.specs.Option.{option_copied};
+ghost use Rattle.std.specs.Option.{option_map};
+ghost use Rattle.sst_entries.specs.Lending.{entry_of_ref};
+ghost use Rattle.lsm_formats.specs.Index.{last_entry};
 ghost use Rattle.sst_entries.specs.declared.error.Error.TheVariants.{OutOfMemory};
 ghost use Rattle.sst_sections.specs.declared.section.SectionName.TheVariants.{Data};
 ghost use Rattle.sst_sections.specs.declared.version.TableVersion.TheVariants.{V4};
 ghost use Rattle.std.specs.List.{AllByRecursion};
 
+use crate::writer::block_buffer::BlockBuffer;
 use crate::writer::meta::Metadata;
-use lsm_formats::Options;
 use lsm_section_writers::{BlockIndexWriter, FullIndexWriter};
 use sst_blocks::{
-    Block, BlockHandle, BlockOffset, BlockType, CompressionType, DataBlock, Error, InternalValue,
-    KeyedBlockHandle, SectionName, SectionWriter,
+    BlockOffset, Error, KeyedBlockHandle, SectionName, SectionWriter, SeqNo, UserKey,
 };
+use sst_entries::EntryRef;
 use std::alloc::{Allocator, Global};
 use std::marker::Model;
 use std::mem;
@@ -30,14 +32,13 @@ use std::mem;
 pub(crate) struct DataBlocks<A: Allocator = Global> {
     file_writer: SectionWriter<A>,
     index_writer: FullIndexWriter<A>,
-    // what a block is encoded into; it keeps its memory from block to block
-    block_buffer: Vec<u8, A>,
-    // the last entry of the last block
-    last: Option<InternalValue<A>>,
+    // the entries of the last block; the next one's come into its memory
+    last_block: BlockBuffer<A>,
 }
 
 impl<A: Allocator> Model for DataBlocks<A> {
-    ghost use Rattle.std.specs.Prelude.{◌*◌, ◌^◌, ◌<◌, length};
+    ghost use Rattle.std.specs.Prelude.{◌*◌, ◌^◌, ◌<◌, None, length};
+    ghost use Rattle.sst_entries.specs.Strict.{last_of};
     ghost use Rattle.sst_sections.specs.declared.version.TableVersion.TheVariants.{V4};
     ghost use Rattle.sst_blocks.specs.Bounds.{entry_head_len};
     ghost use Rattle.lsm_formats.specs.Chunks.{joined};
@@ -52,7 +53,7 @@ impl<A: Allocator> Model for DataBlocks<A> {
 
     ghost invariant = { λ b.
         AreCut (chunks_in V4 (length b.index_writer.handles) b.file_writer.bytes)
-        b.file_writer b.index_writer.handles b.last b.index_writer.failed
+        b.file_writer b.index_writer.handles (last_of None b.last_block) b.index_writer.failed
         × (entry_head_len * length (joined
         (chunks_in V4 (length b.index_writer.handles) b.file_writer.bytes)) < 2 ^ 64) };
 }
@@ -63,24 +64,24 @@ impl<A: Allocator + Clone> DataBlocks<A> {
         ensures ok { IfOk result (λ b. b ≡ record { chunks = []; failed = false }) }
         ensures err { IfErr result (λ e. e ≡ OutOfMemory) }
     {
-        let index_alloc = alloc.clone()?;
-        let mut file_writer = SectionWriter::new(alloc.clone()?)?;
+        let last_block = BlockBuffer::new(alloc.clone()?)?;
+        let index_writer = FullIndexWriter::new(alloc.clone()?);
+        let mut file_writer = SectionWriter::new(alloc)?;
         file_writer.start(SectionName::Data)?;
         Ok(DataBlocks {
             file_writer,
-            index_writer: FullIndexWriter::new(index_alloc),
-            block_buffer: Vec::new(alloc),
-            last: None,
+            index_writer,
+            last_block,
         })
     }
 
     /// The last entry of the blocks.
-    pub(crate) fn last(&self) -> Option<&InternalValue<A>>
-        ensures last { option_copied result ≡ last_of None (joined self.now.chunks) }
+    pub(crate) fn last(&self) -> Option<EntryRef<'_>>
+        ensures last { option_map entry_of_ref result ≡ last_of None (joined self.now.chunks) }
         // Each entry has bytes of its own, so there are fewer than can be counted.
         ensures few { entry_head_len * length (joined self.now.chunks) < 2 ^ 64 }
     {
-        self.last.as_ref()
+        self.last_block.last()
     }
 
     /// Cuts the entries of `chunk` off as a block, where there are some, and registers it with the
@@ -88,43 +89,42 @@ impl<A: Allocator + Clone> DataBlocks<A> {
     /// alone; `chunk` and `meta` stay then as they were.
     pub(crate) fn cut(
         &mut self,
-        chunk: &mut Vec<InternalValue<A>, A>,
+        chunk: &mut BlockBuffer<A>,
         meta: &mut Metadata<A>,
-        options: &Options,
     ) -> Result<(), Error>
         requires works { self.old.failed ≡ false }
-        requires strict { IsStrict (joined self.old.chunks ++ chunk.old.items) }
-        requires fit { entries_fault chunk.old.items ≡ None }
+        requires strict { IsStrict (joined self.old.chunks ++ chunk.old) }
+        requires fit { entries_fault chunk.old ≡ None }
         requires counts { CountsCut self.old.chunks meta.old }
-        ensures ok { OnOk result (self.new.chunks ≡ self.old.chunks ++ rest_chunk chunk.old.items) }
+        ensures ok { OnOk result (self.new.chunks ≡ self.old.chunks ++ rest_chunk chunk.old) }
         ensures works { OnOk result (self.new.failed ≡ false) }
-        ensures taken { OnOk result (chunk.new.items ≡ []) }
+        ensures taken { OnOk result (chunk.new ≡ []) }
         ensures counted { OnOk result (meta.new ≡ with_cut self.new.chunks meta.old) }
         ensures unchanged { OnErr result (self.new.chunks ≡ self.old.chunks) }
-        ensures left { OnErr result (chunk.new.items ≡ chunk.old.items) }
+        ensures left { OnErr result (chunk.new ≡ chunk.old) }
         ensures uncounted { OnErr result (meta.new ≡ meta.old) }
         // Nothing is refused where nothing is to be cut.
-        ensures some { OnErr result (chunk.old.items ≡ [] → ⊥) }
+        ensures some { OnErr result (chunk.old ≡ [] → ⊥) }
         ensures err { IfErr result (λ e. e ≡ OutOfMemory) }
     {
         let Some(last) = chunk.last() else {
             return Ok(());
         };
-        let last_key = last.key.user_key.clone()?;
+        let seqno = last.seqno;
+        let last_key = UserKey::from(chunk.allocator().clone()?, last.user_key)?;
         if let Err(error) = add_block(
             &mut self.file_writer,
             &mut self.index_writer,
-            &mut self.block_buffer,
             chunk,
-            last,
-            options,
+            &last_key,
+            seqno,
         ) {
             drop(last_key);
             return Err(error);
         }
         let end = BlockOffset(self.file_writer.position());
-        meta.count_block(chunk.len(), self.block_buffer.len(), end, last_key);
-        drop(mem::replace(&mut self.last, chunk.pop()));
+        meta.count_block(chunk.len(), chunk.payload_len(), end, last_key);
+        mem::swap(&mut self.last_block, chunk);
         chunk.clear();
         Ok(())
     }
@@ -141,71 +141,67 @@ impl<A: Allocator + Clone> DataBlocks<A> {
         let DataBlocks {
             file_writer,
             index_writer,
-            block_buffer,
-            last: _,
+            last_block,
         } = self;
-        (file_writer, index_writer, block_buffer)
+        (file_writer, index_writer, last_block.into_memory())
     }
 }
 
-/// Writes these entries as a block at the end, and registers it with the index. Refused
-/// [`Error::OutOfMemory`] alone; the blocks before stay.
+/// Writes these entries as a block at the end, and registers it with the index. The last one has
+/// this key and this number. Refused [`Error::OutOfMemory`] alone; the blocks before stay.
 fn add_block<A: Allocator + Clone>(
     file_writer: &mut SectionWriter<A>,
     index_writer: &mut FullIndexWriter<A>,
-    buffer: &mut Vec<u8, A>,
-    items: &[InternalValue<A>],
-    last: &InternalValue<A>,
-    options: &Options,
+    entries: &mut BlockBuffer<A>,
+    last_key: &UserKey<A>,
+    seqno: SeqNo,
 ) -> Result<(), Error>
-    requires last { last_of None items.now ≡ Some last.now }
-    requires fit { entries_fault items.now ≡ None }
+    requires some { 0 < length entries.old }
+    requires key { last_key.now ≡ (last_entry entries.old).user_key }
+    requires number { seqno ≡ (last_entry entries.old).seqno }
+    requires fit { entries_fault entries.old ≡ None }
     requires cut { CanCut file_writer.old index_writer.old.handles index_writer.old.failed
-        items.now }
+        entries.old }
     ensures added { OnOk result ((chunks : List (List Entry)) → (before : Option Entry) →
         AreCutBy chunks file_writer.old index_writer.old before →
-        IsStrict (joined chunks ++ items.now) →
-        AreCutBy (chunks ++ items.now ∷ []) file_writer.new index_writer.new (Some last.now)) }
+        IsStrict (joined chunks ++ entries.old) →
+        AreCutBy (chunks ++ entries.old ∷ []) file_writer.new index_writer.new
+        (Some (last_entry entries.old))) }
     ensures works { OnOk result (index_writer.new.failed ≡ false) }
-    ensures encoded { OnOk result (buffer.new.items ≡ payload V4 items.now) }
+    ensures same { entries.new ≡ entries.old }
     ensures left { OnErr result ((chunks : List (List Entry)) → (before : Option Entry) →
         AreCutBy chunks file_writer.old index_writer.old before →
         AreCutBy chunks file_writer.new index_writer.new before) }
     ensures err { IfErr result (λ e. e ≡ OutOfMemory) }
 {
-    let handle = write_chunk(file_writer, buffer, items, last, options)?;
+    let handle = write_chunk(file_writer, entries, last_key, seqno)?;
     index_writer.register_data_block(&handle)
 }
 
-/// Encodes these entries into the buffer and writes them as a block at the end. Answers what the
-/// index has of the block. Refused [`Error::OutOfMemory`] alone; nothing is written then.
+/// Writes these entries as a block at the end. Answers what the index has of the block. Refused
+/// [`Error::OutOfMemory`] alone; nothing is written then.
 fn write_chunk<A: Allocator + Clone>(
     file_writer: &mut SectionWriter<A>,
-    buffer: &mut Vec<u8, A>,
-    items: &[InternalValue<A>],
-    last: &InternalValue<A>,
-    options: &Options,
+    entries: &mut BlockBuffer<A>,
+    last_key: &UserKey<A>,
+    seqno: SeqNo,
 ) -> Result<KeyedBlockHandle<A>, Error>
-    requires last { last_of None items.now ≡ Some last.now }
-    requires strict { IsStrict items.now }
-    requires fit { entries_fault items.now ≡ None }
+    requires some { 0 < length entries.old }
+    requires key { last_key.now ≡ (last_entry entries.old).user_key }
+    requires number { seqno ≡ (last_entry entries.old).seqno }
+    requires strict { IsStrict entries.old }
+    requires fit { entries_fault entries.old ≡ None }
     ensures ok { OnOk result (file_writer.new ≡ record file_writer.old {
-      bytes = file_writer.old.bytes ++ data_block V4 items.now;
+      bytes = file_writer.old.bytes ++ data_block V4 entries.old;
     }) }
-    ensures encoded { OnOk result (buffer.new.items ≡ payload V4 items.now) }
-    ensures handle { IfOk result (λ h. h ≡ handle_of V4 (length file_writer.old.bytes) items.now) }
-    ensures readable { OnOk result (IsReadable V4 items.now) }
+    ensures handle { IfOk result (λ h. h ≡
+        handle_of V4 (length file_writer.old.bytes) entries.old) }
+    ensures readable { OnOk result (IsReadable V4 entries.old) }
+    ensures same { entries.new ≡ entries.old }
     ensures unchanged { OnErr result (file_writer.new ≡ file_writer.old) }
     ensures err { IfErr result (λ e. e ≡ OutOfMemory) }
 {
-    buffer.clear();
-    DataBlock::encode_into(
-        buffer,
-        items,
-        options.data_block_restart_interval,
-        options.data_block_hash_ratio,
-    )?;
-    let end_key = last.key.user_key.clone()?;
-    let place = Block::write_into(file_writer, buffer, BlockType::Data, CompressionType::None)?;
-    Ok(KeyedBlockHandle::new(end_key, last.key.seqno, place))
+    let end_key = last_key.clone()?;
+    let place = entries.write_into(file_writer)?;
+    Ok(KeyedBlockHandle::new(end_key, seqno, place))
 }

@@ -10,7 +10,7 @@ use lsm_formats::{FilterKind, Options};
 use lsm_section_writers::{
     FilterWriter, FilterWriterImpl, FullFilterWriter, PartitionedFilterWriter, small_partitions_fit,
 };
-use sst_blocks::{Error, SectionWriter, UserKey};
+use sst_blocks::{Error, SectionWriter};
 use sst_filters::BloomConstructionPolicy;
 use std::alloc::Allocator;
 
@@ -47,7 +47,7 @@ pub(crate) fn register_key<A: Allocator + Clone>(
     alloc: &A,
     options: &Options,
     starts_key: bool,
-    key: &UserKey<A>,
+    key: &[u8],
 ) -> Result<(), Error>
     requires { CanRegister options.now.filter_kind options.now.bloom_policy filter_writer.old
         (registered_key options.now.bloom_policy starts_key key.now) }
@@ -60,10 +60,10 @@ pub(crate) fn register_key<A: Allocator + Clone>(
     }
     small_partitions_fit(); // so no part is too large
     if let Some(writer) = filter_writer {
-        return writer.register_key(key);
+        return writer.register_key_bytes(key);
     }
     let mut writer = filter_writer_of(alloc.clone()?, options)?;
-    if let Err(error) = writer.register_key(key) {
+    if let Err(error) = writer.register_key_bytes(key) {
         drop(writer);
         return Err(error);
     }

@@ -1,11 +1,13 @@
 //! What a writer knows of the table so far.
 ghost use Rattle.std.specs.Prelude.{◌≡◌, ◌+◌, ◌<◌, ◌^◌, Some, IfErr};
-ghost use Rattle.std.specs.Option.{option_copied};
+ghost use Rattle.std.specs.Option.{option_map};
+ghost use Rattle.sst_entries.specs.Lending.{entry_of_ref};
 ghost use Rattle.sst_entries.specs.declared.error.Error.TheVariants.{OutOfMemory};
 ghost use Rattle.lsm_formats.specs.Facts.{is_weak, is_value_kind, starts_key, is_reclaimable};
 ghost use Rattle.sst_entries.specs.Kind.{is_weak_kind};
 
-use sst_blocks::{BlockOffset, Error, InternalValue, SeqNo, UserKey, ValueType};
+use sst_blocks::{BlockOffset, Error, SeqNo, UserKey, ValueType};
+use sst_entries::EntryRef;
 use std::alloc::{Allocator, Global};
 
 /// Counts of what was written. The fields that speak of blocks, with `item_count` and `last_key`,
@@ -65,28 +67,26 @@ impl<A: Allocator> Default for Metadata<A> {
 }
 
 /// Whether an entry is the first of its key, by the entry directly before it.
-pub(crate) fn starts_key<A: Allocator>(
-    before: Option<&InternalValue<A>>,
-    item: &InternalValue<A>,
-) -> bool
-    ensures { result ≡ starts_key (option_copied before.entry) item.now }
+pub(crate) fn starts_key(before: Option<EntryRef<'_>>, entry: &EntryRef<'_>) -> bool
+    ensures { result ≡ starts_key (option_map entry_of_ref before.entry) (entry_of_ref entry.now) }
 {
     match before {
         None => true,
-        Some(before) => before.key.user_key != item.key.user_key,
+        Some(before) => before.user_key != entry.user_key,
     }
 }
 
 /// Whether an entry is a value directly after a weak tombstone of its key.
-fn is_reclaimable<A: Allocator>(before: Option<&InternalValue<A>>, item: &InternalValue<A>) -> bool
-    ensures { result ≡ is_reclaimable (option_copied before.entry) item.now }
+fn is_reclaimable(before: Option<EntryRef<'_>>, entry: &EntryRef<'_>) -> bool
+    ensures { let e = entry_of_ref entry.now in
+        result ≡ is_reclaimable (option_map entry_of_ref before.entry) e }
 {
     match before {
         None => false,
         Some(before) => {
-            is_value(item.key.value_type)
-                && is_weak(before.key.value_type)
-                && before.key.user_key == item.key.user_key
+            is_value(entry.value_type)
+                && is_weak(before.value_type)
+                && before.user_key == entry.user_key
         }
     }
 }
@@ -116,36 +116,44 @@ pub(crate) struct Tally<A: Allocator = Global> {
     first_key: Option<UserKey<A>>,
 }
 
-impl<A: Allocator> Metadata<A> {
-    ghost use Rattle.std.specs.Prelude.{◌≡◌, ◌+◌, ◌<◌, ◌^◌, Some, IfOk, IfErr};
-    ghost use Rattle.std.specs.Option.{option_copied};
+impl<A: Allocator + Clone> Metadata<A> {
+    ghost use Rattle.std.specs.Prelude.{◌≡◌, IfOk, IfErr};
+    ghost use Rattle.std.specs.Option.{option_map};
+    ghost use Rattle.sst_entries.specs.Lending.{entry_of_ref};
     ghost use Rattle.sst_entries.specs.declared.error.Error.TheVariants.{OutOfMemory};
-    ghost use Rattle.lsm_writers.specs.Counts.{added, tally_of, HasRoom};
+    ghost use Rattle.lsm_writers.specs.Counts.{tally_of};
 
     /// What an entry adds to the counts, after the one before it. Refused [`Error::OutOfMemory`]
     /// alone.
     pub(crate) fn tally(
         &self,
-        before: Option<&InternalValue<A>>,
-        item: &InternalValue<A>,
+        alloc: &A,
+        before: Option<EntryRef<'_>>,
+        entry: &EntryRef<'_>,
     ) -> Result<Tally<A>, Error>
         ensures ok { IfOk result (λ t. t ≡
-            tally_of (option_copied before.entry) item.now self.now.first_key) }
+            tally_of (option_map entry_of_ref before.entry) (entry_of_ref entry.now)
+            self.now.first_key) }
         ensures err { IfErr result (λ e. e ≡ OutOfMemory) }
     {
         let first_key = match &self.first_key {
-            None => Some(item.key.user_key.clone()?),
+            None => Some(UserKey::from(alloc.clone()?, entry.user_key)?),
             Some(_) => None,
         };
         Ok(Tally {
-            starts_key: starts_key(before, item),
-            is_tombstone: item.is_tombstone(),
-            is_weak: is_weak(item.key.value_type),
-            is_reclaimable: is_reclaimable(before, item),
-            seqno: item.key.seqno,
+            starts_key: starts_key(before, entry),
+            is_tombstone: entry.is_tombstone(),
+            is_weak: is_weak(entry.value_type),
+            is_reclaimable: is_reclaimable(before, entry),
+            seqno: entry.seqno,
             first_key,
         })
     }
+}
+
+impl<A: Allocator> Metadata<A> {
+    ghost use Rattle.std.specs.Prelude.{◌≡◌, ◌+◌, ◌<◌, ◌^◌, Some};
+    ghost use Rattle.lsm_writers.specs.Counts.{added, HasRoom};
 
     /// Counts one more entry.
     pub(crate) fn count(&mut self, tally: Tally<A>)

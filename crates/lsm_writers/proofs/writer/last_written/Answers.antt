@@ -1,8 +1,8 @@
-use Rattle.lsm_writers.proofs.Orders.{last_is, last_is_before}
+use Rattle.lsm_writers.proofs.Orders.{behind_nothing, some_last_of}
 use Rattle.lsm_writers.proofs.writer.last_written.Goals as goal
 
-pub returns-in-Some : goal.returns-in-Some
-returns-in-Some g c = last_is _ _ _ c.in-Some.ensures.value
+pub returns-in-Some-clause-last : goal.returns-in-Some-clause-last
+returns-in-Some-clause-last g c = some_last_of _ _ _ c.in-Some.ensures
 
-pub returns-in-None : goal.returns-in-None
-returns-in-None g c = last_is_before _ _ c.in-None.ensures.value
+pub returns-in-None-clause-last : goal.returns-in-None-clause-last
+returns-in-None-clause-last g c = behind_nothing _ _ _ c.in-None.ensures c.last-cut.ensures.last

@@ -1,7 +1,6 @@
 -- The key fills a part, or waits.
 use Rattle.std.proofs.Common.{◌++◌, ◌∷◌, [], ap, refl, ◌∙◌, List, ℕ}
 use Rattle.sst_blocks.proofs.Faults.{on_ok}
-use Rattle.sst_filters.specs.KeyHash.{hash_of}
 use Rattle.lsm_section_writers.specs.Held.{CutParts}
 use Rattle.lsm_section_writers.proofs.Holding.{cuts_fault, pushed_cuts, pushed_waits, waits_fault, waits_rising}
 use Rattle.lsm_section_writers.proofs.filter_partitioned.PartitionedFilterWriter.push_key.Goals as goal
@@ -10,7 +9,7 @@ pub returns-then-is_full-clause-ok : goal.returns-then-is_full-clause-ok
 returns-then-is_full-clause-ok g c = on_ok _ _ c.spill_filter_partition.result c.spill_filter_partition.ensures.ok
     (λ cuts keys h.
     pushed_cuts c.args.self.now _ c.spill_filter_partition.new.self keys c.args.key.now c.in_ok-end_key.end_key c.get_hash-hash.result c.is_full.result cuts h
-    c.in_ok-end_key.ensures.cases (c.get_hash-hash.ensures ∙ ap hash_of c.as_slice.ensures)
+    c.in_ok-end_key.ensures.ok c.get_hash-hash.ensures
     (ap (λ (w : CutParts). w.policy) c.self.view_is) (ap (λ (w : CutParts). w.size) c.self.view_is) (ap (λ (w : CutParts). w.parts) c.self.view_is)
     (ap (λ (w : CutParts). w.bound) c.self.view_is)
     (c.in_ok-push.ensures.items ∙ ap (λ (hs : List ℕ). hs ++ c.get_hash-hash.result ∷ []) (ap (λ (w : CutParts). w.hashes) c.self.view_is))
@@ -26,7 +25,7 @@ returns-clause-ok g c = λ keys h.
       hashes = c.push.new.self.items;
     } in
     pushed_waits c.args.self.now then _ keys c.args.key.now c.in_ok-end_key.end_key c.get_hash-hash.result c.is_full.result h
-    c.in_ok-end_key.ensures.cases (c.get_hash-hash.ensures ∙ ap hash_of c.as_slice.ensures)
+    c.in_ok-end_key.ensures.ok c.get_hash-hash.ensures
     (ap (λ (w : CutParts). w.policy) c.self.view_is) (ap (λ (w : CutParts). w.size) c.self.view_is) (ap (λ (w : CutParts). w.parts) c.self.view_is)
     (ap (λ (w : CutParts). w.bound) c.self.view_is)
     (c.in_ok-push.ensures.items ∙ ap (λ (hs : List ℕ). hs ++ c.get_hash-hash.result ∷ []) (ap (λ (w : CutParts). w.hashes) c.self.view_is))
@@ -41,7 +40,7 @@ returns-then-is_full-clause-refused g c = λ keys h.
       bound = c.self.inside.relative_file_pos;
       hashes = c.push.new.self.items;
     } in
-    cuts_fault c.args.self.now u keys c.args.key.now c.get_hash-hash.result c.is_full.result h (c.get_hash-hash.ensures ∙ ap hash_of c.as_slice.ensures)
+    cuts_fault c.args.self.now u keys c.args.key.now c.get_hash-hash.result c.is_full.result h c.get_hash-hash.ensures
     (ap (λ (w : CutParts). w.policy) c.self.view_is) (ap (λ (w : CutParts). w.size) c.self.view_is) (ap (λ (w : CutParts). w.parts) c.self.view_is)
     (ap (λ (w : CutParts). w.bound) c.self.view_is)
     (c.in_ok-push.ensures.items ∙ ap (λ (hs : List ℕ). hs ++ c.get_hash-hash.result ∷ []) (ap (λ (w : CutParts). w.hashes) c.self.view_is)) c.is_full.ensures
@@ -56,7 +55,7 @@ returns-clause-refused g c = λ keys h.
       bound = c.self.inside.relative_file_pos;
       hashes = c.push.new.self.items;
     } in
-    waits_fault c.args.self.now u keys c.args.key.now c.get_hash-hash.result c.is_full.result h (c.get_hash-hash.ensures ∙ ap hash_of c.as_slice.ensures)
+    waits_fault c.args.self.now u keys c.args.key.now c.get_hash-hash.result c.is_full.result h c.get_hash-hash.ensures
     (ap (λ (w : CutParts). w.policy) c.self.view_is) (ap (λ (w : CutParts). w.size) c.self.view_is) (ap (λ (w : CutParts). w.parts) c.self.view_is)
     (ap (λ (w : CutParts). w.bound) c.self.view_is)
     (c.in_ok-push.ensures.items ∙ ap (λ (hs : List ℕ). hs ++ c.get_hash-hash.result ∷ []) (ap (λ (w : CutParts). w.hashes) c.self.view_is)) c.is_full.ensures
@@ -77,7 +76,7 @@ invariant_of-self-2 g c = c.self.invariant
 pub invariant_of-self-3 : goal.invariant_of-self-3
 invariant_of-self-3 g c =
     waits_rising c.self.inside.partitions.items c.args.self.now.parts c.args.key.now c.in_ok-end_key.end_key c.replace.new.self (ap (λ (w : CutParts). w.parts) c.self.view_is)
-    c.in_ok-end_key.ensures.cases c.replace.ensures.after c.requires
+    c.in_ok-end_key.ensures.ok c.replace.ensures.after c.requires
 
 pub returns-in_err-push-clause-policy : goal.returns-in_err-push-clause-policy
 returns-in_err-push-clause-policy g c = ap (λ (w : CutParts). w.policy) c.self.view_is

@@ -11,7 +11,7 @@ write_sections-sections-requires g c =
     let i = c.self.inside in
     let none = ap (λ (w : Writing). w.pending) c.self.view_is ∙ c.requires.cut in
     let works = ap (λ (w : Writing). w.failed) c.self.view_is ∙ c.requires.works in
-    let parts = parts_are i.failed i.options i.blocks.chunks i.chunk.items i.chunk_size i.meta i.filter_writer _ _ _ _ c.self.invariant.0 c.self.invariant.3 none works c.into_parts-file_writer.ensures.data c.into_kind-index_writer.ensures c.into_parts-file_writer.ensures.index c.into_parts-file_writer.ensures.works c.into_parts-file_writer.ensures.blocks in
+    let parts = parts_are i.failed i.options i.blocks.chunks i.chunk i.chunk_size i.meta i.filter_writer _ _ _ _ c.self.invariant.0 c.self.invariant.3 none works c.into_parts-file_writer.ensures.data c.into_kind-index_writer.ensures c.into_parts-file_writer.ensures.index c.into_parts-file_writer.ensures.works c.into_parts-file_writer.ensures.blocks in
     record { cut = i.blocks.chunks; are = parts }
 
 pub returns-clause-table : goal.returns-clause-table
@@ -19,8 +19,8 @@ returns-clause-table g c =
     let i = c.self.inside in
     let none = ap (λ (w : Writing). w.pending) c.self.view_is ∙ c.requires.cut in
     let works = ap (λ (w : Writing). w.failed) c.self.view_is ∙ c.requires.works in
-    let parts = parts_are i.failed i.options i.blocks.chunks i.chunk.items i.chunk_size i.meta i.filter_writer _ _ _ _ c.self.invariant.0 c.self.invariant.3 none works c.into_parts-file_writer.ensures.data c.into_kind-index_writer.ensures c.into_parts-file_writer.ensures.index c.into_parts-file_writer.ensures.works c.into_parts-file_writer.ensures.blocks in
-    let same = all_cut i.label i.options i.blocks.chunks i.chunk.items i.failed none works ∙ c.self.view_is in
+    let parts = parts_are i.failed i.options i.blocks.chunks i.chunk i.chunk_size i.meta i.filter_writer _ _ _ _ c.self.invariant.0 c.self.invariant.3 none works c.into_parts-file_writer.ensures.data c.into_kind-index_writer.ensures c.into_parts-file_writer.ensures.index c.into_parts-file_writer.ensures.works c.into_parts-file_writer.ensures.blocks in
+    let same = all_cut i.label i.options i.blocks.chunks i.chunk i.failed none works ∙ c.self.view_is in
     subst (λ (w : Writing). WritesTable w c.in_ok-bytes.bytes) same
     (subst (λ (bytes : List ℕ). WritesTable (cut_writing i.label i.options i.blocks.chunks) bytes) (sym c.in_ok-bytes.ensures.bytes)
     (c.in_default.ensures.table i.blocks.chunks parts))
@@ -30,8 +30,8 @@ returns-clause-refused g c =
     let i = c.self.inside in
     let none = ap (λ (w : Writing). w.pending) c.self.view_is ∙ c.requires.cut in
     let works = ap (λ (w : Writing). w.failed) c.self.view_is ∙ c.requires.works in
-    let parts = parts_are i.failed i.options i.blocks.chunks i.chunk.items i.chunk_size i.meta i.filter_writer _ _ _ _ c.self.invariant.0 c.self.invariant.3 none works c.into_parts-file_writer.ensures.data c.into_kind-index_writer.ensures c.into_parts-file_writer.ensures.index c.into_parts-file_writer.ensures.works c.into_parts-file_writer.ensures.blocks in
-    let same = all_cut i.label i.options i.blocks.chunks i.chunk.items i.failed none works ∙ c.self.view_is in
+    let parts = parts_are i.failed i.options i.blocks.chunks i.chunk i.chunk_size i.meta i.filter_writer _ _ _ _ c.self.invariant.0 c.self.invariant.3 none works c.into_parts-file_writer.ensures.data c.into_kind-index_writer.ensures c.into_parts-file_writer.ensures.index c.into_parts-file_writer.ensures.works c.into_parts-file_writer.ensures.blocks in
+    let same = all_cut i.label i.options i.blocks.chunks i.chunk i.failed none works ∙ c.self.view_is in
     subst (λ (w : Writing). sections_fault w ≡ None) same (c.in_default.ensures.refused i.blocks.chunks parts)
 
 pub returns-in-Err-clause-refused : goal.returns-in-Err-clause-refused
@@ -39,8 +39,8 @@ returns-in-Err-clause-refused g c =
     let i = c.self.inside in
     let none = ap (λ (w : Writing). w.pending) c.self.view_is ∙ c.requires.cut in
     let works = ap (λ (w : Writing). w.failed) c.self.view_is ∙ c.requires.works in
-    let parts = parts_are i.failed i.options i.blocks.chunks i.chunk.items i.chunk_size i.meta i.filter_writer _ _ _ _ c.self.invariant.0 c.self.invariant.3 none works c.into_parts-file_writer.ensures.data c.into_kind-index_writer.ensures c.into_parts-file_writer.ensures.index c.into_parts-file_writer.ensures.works c.into_parts-file_writer.ensures.blocks in
-    let same = all_cut i.label i.options i.blocks.chunks i.chunk.items i.failed none works ∙ c.self.view_is in
+    let parts = parts_are i.failed i.options i.blocks.chunks i.chunk i.chunk_size i.meta i.filter_writer _ _ _ _ c.self.invariant.0 c.self.invariant.3 none works c.into_parts-file_writer.ensures.data c.into_kind-index_writer.ensures c.into_parts-file_writer.ensures.index c.into_parts-file_writer.ensures.works c.into_parts-file_writer.ensures.blocks in
+    let same = all_cut i.label i.options i.blocks.chunks i.chunk i.failed none works ∙ c.self.view_is in
     λ memory. ap sections_fault (sym same) ∙ c.in-Err.ensures.refused i.blocks.chunks parts memory
 
 pub returns-in_err-bytes-clause-refused : goal.returns-in_err-bytes-clause-refused

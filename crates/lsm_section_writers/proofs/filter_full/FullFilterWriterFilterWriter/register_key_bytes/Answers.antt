@@ -3,7 +3,7 @@ use Rattle.std.proofs.Common.{ap}
 use Rattle.lsm_section_writers.specs.Held.{Hashes}
 use Rattle.lsm_section_writers.proofs.Sections.{spent_first, spent_told}
 use Rattle.lsm_section_writers.proofs.Finishing.{works_first}
-use Rattle.lsm_section_writers.proofs.filter_full.FullFilterWriterFilterWriter.register_key.Goals as goal
+use Rattle.lsm_section_writers.proofs.filter_full.FullFilterWriterFilterWriter.register_key_bytes.Goals as goal
 
 pub returns-then-self-clause-refused : goal.returns-then-self-clause-refused
 returns-then-self-clause-refused g c = λ keys h memory. spent_told c.self.inside.failed c.args.self.now.failed _ (ap (λ (w : Hashes). w.failed) c.self.view_is) c.if-self.true

@@ -3,7 +3,7 @@ use Rattle.std.proofs.Common.{◌++◌, ◌∷◌, [], ap, sym, subst, ◌∙◌
 use Rattle.lsm_section_writers.specs.Held.{CutParts, end_keys}
 use Rattle.lsm_section_writers.specs.Rising.{AreRising}
 use Rattle.lsm_section_writers.proofs.Holding.{ends_and_key}
-use Rattle.lsm_section_writers.proofs.filter_partitioned.PartitionedFilterWriterFilterWriter.register_key.Goals as goal
+use Rattle.lsm_section_writers.proofs.filter_partitioned.PartitionedFilterWriterFilterWriter.register_key_bytes.Goals as goal
 
 pub push_key-requires : goal.push_key-requires
 push_key-requires g c =

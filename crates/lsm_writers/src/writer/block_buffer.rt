@@ -1,0 +1,250 @@
+//! The entries of a block that is being filled.
+ghost use Rattle.std.specs.Prelude.{◌≡◌, ◌↔◌, ◌+◌, ◌++◌, ◌<◌, ◌≤◌, [], ◌∷◌, None, drop, length};
+ghost use Rattle.std.specs.Prelude.{take, vec_len};
+ghost use Rattle.std.specs.Prelude.{IfErr, IfOk, IsTrue, OnErr, OnOk};
+ghost use Rattle.std.specs.Option.{option_map};
+ghost use Rattle.sst_blocks.specs.Encoding.{IsShortEntry};
+ghost use Rattle.sst_blocks.specs.Payload.{IsSpellable, spelled};
+ghost use Rattle.sst_entries.specs.Lending.{entry_of_ref};
+ghost use Rattle.sst_entries.specs.declared.error.Error.TheVariants.{OutOfMemory};
+ghost use Rattle.sst_sections.specs.Number.{le4};
+ghost use Rattle.sst_sections.specs.declared.version.TableVersion.TheVariants.{V4};
+ghost use Rattle.lsm_formats.specs.Index.{block_size};
+ghost use Rattle.lsm_writers.specs.Buffered.{IsMark, MarksFront};
+ghost use Rattle.lsm_writers.specs.Words.{IsReadable, IsStrict, data_block, entries_fault};
+ghost use Rattle.lsm_writers.specs.Words.{last_of, payload};
+
+use sst_blocks::{
+    Block, BlockHandle, BlockType, CompressionType, ENTRY_HEAD_LEN, Error, SectionWriter, SeqNo,
+    ValueType,
+};
+use sst_entries::EntryRef;
+use sst_sections::number::{put_u32, put_u64};
+use std::alloc::{Allocator, Global};
+use std::marker::Model;
+
+/// The length of the count before the entries.
+const COUNT_LEN: usize = 4;
+
+/// Where an entry lies that is the last one: its value runs to the end of the bytes. Places are
+/// counted behind the count, so they hold wherever the bytes are moved to.
+#[derive(Clone, Copy)]
+pub(crate) struct Place {
+    key: usize,
+    value: usize,
+    seqno: SeqNo,
+    value_type: ValueType,
+}
+
+/// How far a buffer is filled.
+#[derive(Clone, Copy)]
+pub(crate) struct Mark {
+    len: usize,
+    end: usize,
+    last: Option<Place>,
+}
+
+/// The entries of a block that is being filled, one behind the other as the block has them, behind
+/// room for their count. It keeps its memory from block to block. A contract sees the entries.
+#[derive(Drop)]
+pub(crate) struct BlockBuffer<A: Allocator = Global> {
+    payload: Vec<u8, A>,
+    filled: Mark,
+}
+
+impl<A: Allocator> Model for BlockBuffer<A> {
+    ghost use Rattle.std.specs.Prelude.{List};
+    ghost use Rattle.sst_entries.specs.Entry.{Entry};
+    ghost use Rattle.lsm_writers.specs.Buffered.{AreBuffered, entries_behind};
+
+    ghost Value = { List Entry };
+
+    ghost view = { λ b. entries_behind b.filled.len b.payload.items };
+
+    ghost invariant = { λ b.
+        AreBuffered b.payload.items b.filled (entries_behind b.filled.len b.payload.items) };
+}
+
+impl<A: Allocator> BlockBuffer<A> {
+    /// No entries. Refused [`Error::OutOfMemory`] alone.
+    pub(crate) fn new(alloc: A) -> Result<BlockBuffer<A>, Error>
+        ensures ok { IfOk result (λ b. b ≡ []) }
+        ensures err { IfErr result (λ e. e ≡ OutOfMemory) }
+    {
+        let mut payload = Vec::new(alloc);
+        put_u32(&mut payload, 0)?;
+        Ok(BlockBuffer {
+            payload,
+            filled: Mark {
+                len: 0,
+                end: COUNT_LEN,
+                last: None,
+            },
+        })
+    }
+
+    pub(crate) fn allocator(&self) -> &A {
+        self.payload.allocator()
+    }
+
+    /// How many entries there are.
+    #[inline]
+    pub(crate) fn len(&self) -> usize
+        ensures { result ≡ length self.now }
+    {
+        self.filled.len
+    }
+
+    /// Whether there are no entries.
+    #[inline]
+    pub(crate) fn is_empty(&self) -> bool
+        ensures { IsTrue result ↔ (self.now ≡ []) }
+    {
+        self.len() == 0
+    }
+
+    /// The length of the payload of a block of these entries.
+    pub(crate) fn payload_len(&self) -> usize
+        ensures { result ≡ length (payload V4 self.now) }
+    {
+        self.payload.len()
+    }
+
+    /// The last entry.
+    #[inline]
+    pub(crate) fn last(&self) -> Option<EntryRef<'_>>
+        ensures { option_map entry_of_ref result ≡ last_of None self.now }
+    {
+        let place = self.filled.last?;
+        let entries = &self.payload[COUNT_LEN..];
+        Some(EntryRef {
+            user_key: &entries[place.key..place.value],
+            seqno: place.seqno,
+            value_type: place.value_type,
+            value: &entries[place.value..],
+        })
+    }
+
+    /// Puts an entry behind the others. Refused [`Error::OutOfMemory`] alone; nothing changes then.
+    pub(crate) fn push(&mut self, entry: &EntryRef<'_>) -> Result<(), Error>
+        requires { IsShortEntry (entry_of_ref entry.now) }
+        ensures pushed { OnOk result (self.new ≡ self.old ++ entry_of_ref entry.now ∷ []) }
+        ensures left { OnErr result (self.new ≡ self.old) }
+        ensures err { IfErr result (λ e. e ≡ OutOfMemory) }
+    {
+        let end = self.filled.end;
+        if let Err(error) = put_entry(&mut self.payload, entry) {
+            self.payload.truncate(end);
+            return Err(error);
+        }
+        let key = end - COUNT_LEN + ENTRY_HEAD_LEN as usize;
+        self.filled = Mark {
+            len: self.filled.len + 1,
+            end: self.payload.len(),
+            last: Some(Place {
+                key,
+                value: key + entry.user_key.len(),
+                seqno: entry.seqno,
+                value_type: entry.value_type,
+            }),
+        };
+        Ok(())
+    }
+
+    /// How far the buffer is filled.
+    #[inline]
+    pub(crate) fn mark(&self) -> Mark
+        ensures { IsMark result self.now }
+    {
+        self.filled
+    }
+
+    /// Gives up the entries behind a mark.
+    pub(crate) fn rewind(&mut self, mark: Mark)
+        requires { MarksFront mark self.old }
+        ensures { self.new ≡ take mark.len self.old }
+    {
+        self.payload.truncate(mark.end);
+        self.filled = mark;
+    }
+
+    /// Gives up all entries.
+    pub(crate) fn clear(&mut self)
+        ensures { self.new ≡ [] }
+    {
+        self.payload.truncate(COUNT_LEN);
+        self.filled = Mark {
+            len: 0,
+            end: COUNT_LEN,
+            last: None,
+        };
+    }
+
+    /// The memory, for what else is to be encoded.
+    pub(crate) fn into_memory(self) -> Vec<u8, A> {
+        self.payload
+    }
+}
+
+impl<A: Allocator + Clone> BlockBuffer<A> {
+    /// Writes the block of the entries at the end, and answers where it lies. The entries stay.
+    /// Refused [`Error::OutOfMemory`] alone; nothing is written then.
+    pub(crate) fn write_into(
+        &mut self,
+        file_writer: &mut SectionWriter<A>,
+    ) -> Result<BlockHandle, Error>
+        requires strict { IsStrict self.old }
+        requires some { 0 < length self.old }
+        requires fit { entries_fault self.old ≡ None }
+        ensures ok { OnOk result (file_writer.new ≡ record file_writer.old {
+          bytes = file_writer.old.bytes ++ data_block V4 self.old;
+        }) }
+        ensures handle { let at = length file_writer.old.bytes in
+            IfOk result (λ h. h ≡ record { offset = at; size = block_size V4 self.old }) }
+        ensures readable { IsReadable V4 self.old }
+        ensures same { self.new ≡ self.old }
+        ensures unchanged { OnErr result (file_writer.new ≡ file_writer.old) }
+        ensures err { IfErr result (λ e. e ≡ OutOfMemory) }
+    {
+        let count = self.filled.len as u32;
+        put_count(&mut self.payload, count);
+        Block::write_into(
+            file_writer,
+            &self.payload,
+            BlockType::Data,
+            CompressionType::None,
+        )
+    }
+}
+
+/// Writes a count over the room before the entries.
+fn put_count<A: Allocator>(payload: &mut Vec<u8, A>, count: u32)
+    requires { 4 ≤ length payload.old.items }
+    ensures { payload.new.items ≡ le4 count ++ drop 4 payload.old.items }
+{
+    let [first, second, third, fourth] = count.to_le_bytes();
+    payload[0] = first;
+    payload[1] = second;
+    payload[2] = third;
+    payload[3] = fourth;
+}
+
+/// Writes an entry at the end of `buf`. Refused [`Error::OutOfMemory`] alone. What `buf` held stays
+/// at its front.
+#[tactic(auto, unfolding(sst_blocks::specs::Payload::spelled))]
+fn put_entry<A: Allocator>(buf: &mut Vec<u8, A>, entry: &EntryRef<'_>) -> Result<(), Error>
+    requires { IsShortEntry (entry_of_ref entry.now) }
+    ensures ok { OnOk result (buf.new.items ≡
+        buf.old.items ++ spelled V4 (entry_of_ref entry.now)) }
+    ensures fits { OnOk result (IsSpellable V4 (entry_of_ref entry.now)) }
+    ensures front { take (vec_len buf.old) buf.new.items ≡ buf.old.items }
+    ensures err { IfErr result (λ e. e ≡ OutOfMemory) }
+{
+    buf.push(entry.value_type.tag())?;
+    put_u64(buf, entry.seqno)?;
+    put_u32(buf, entry.user_key.len() as u32)?;
+    put_u32(buf, entry.value.len() as u32)?;
+    buf.extend_from_slice(entry.user_key)?;
+    buf.extend_from_slice(entry.value)?;
+    Ok(())
+}
