@@ -164,8 +164,8 @@ impl<A: Allocator + Clone> RunScanner<A> {
         self.lo_reader = None;
     }
 
-    /// Goes on to the next entry, and answers whether there is one; an error does not end the scanner
-    /// yet.
+    /// Goes on to the next entry, and answers whether there is one; an error does not end the
+    /// scanner yet.
     #[inline]
     fn step(&mut self) -> Result<bool, Error>
         ensures ok { IfOk result (λ more. (more ≡ is_some (lent_of_run self.new)) ×
