@@ -4,7 +4,7 @@ ghost use Rattle.std.specs.Arc.{arc_value};
 ghost use Rattle.std.specs.Iterator.{IsFinite};
 ghost use Rattle.sst_entries.specs.declared.error.Error.TheVariants.{OutOfMemory};
 ghost use Rattle.lsm_compactions.specs.Words.{AreCompactable, AreTablesBy, DealsWritable, Entry};
-ghost use Rattle.lsm_compactions.specs.Words.{Faults, FitsBy, HasMade};
+ghost use Rattle.lsm_compactions.specs.Words.{Faults, FitsBy, GoesThrough, HasMade};
 ghost use Rattle.lsm_compactions.specs.Words.{IsFreshRun, RunsHoldLists, RunsOn, kept_in};
 ghost use Rattle.lsm_compactions.specs.Words.{writes_fault};
 
@@ -28,6 +28,8 @@ pub enum CompactionOutcome<A: Allocator = Global> {
     /// table does not hold what a writer makes, or a run is out of order, or a key has one number
     /// twice. No table was kept.
     OutOfOrder,
+    /// An observer stopped it between two tables. No table was kept.
+    Stopped,
 }
 
 // Writes what a stream deals, as long as each entry may follow the one before it, and finishes.
@@ -47,6 +49,7 @@ fn write_in_order<I: Iterator<Item = IterItem<A>> + Drop, A: Allocator + Clone>(
         Faults result (writes_fault writer d.list) }
     // Whatever the stream gives, tables are those of a list that can be written.
     ensures made { IfOk result (HasMade writer) }
+    ensures through { IfOk result GoesThrough }
 {
     for item in items {
         let item = item?;
@@ -93,6 +96,8 @@ pub fn compact_any_runs<A: Allocator + Clone>(
         FitsBy writer (kept_in rules lists) → IfErr result (λ e. e ≡ OutOfMemory) }
     // Whatever the tables hold, what is made are tables of a list that can be written.
     ensures made { IfOk result (HasMade writer) }
+    // No observer stops it.
+    ensures through { IfOk result GoesThrough }
 {
     // A list whose tables fit is taken whole.
     tables_law();

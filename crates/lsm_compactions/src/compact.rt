@@ -36,7 +36,7 @@ fn scanner_of<A: Allocator + Clone>(run: &Arc<Run<Table<A>, A>, A>) -> Result<Ru
 }
 
 // A scanner of each run that has a table.
-fn scanners_of<A: Allocator + Clone>(
+pub(crate) fn scanners_of<A: Allocator + Clone>(
     alloc: A,
     runs: &[Arc<Run<Table<A>, A>, A>],
 ) -> Result<Vec<RunScanner<A>, A>, Error>

@@ -4,10 +4,10 @@ ghost use Rattle.std.specs.Prelude.{MatchOption, map};
 ghost use Rattle.std.specs.Arc.{arc_value};
 ghost use Rattle.sst_entries.specs.declared.error.Error.TheVariants.{OutOfMemory};
 ghost use Rattle.lsm_compactions.specs.Words.{AreCompactable, AreTablesBy, AreWrittenBy, Entry};
-ghost use Rattle.lsm_compactions.specs.Words.{Faults, FitsBy, HasMade, HasRunBy, IsFreshRun};
-ghost use Rattle.lsm_compactions.specs.Words.{IsRunBy, IsRunOfList, IsWritable, RunsHoldLists};
-ghost use Rattle.lsm_compactions.specs.Words.{RunsOn, TablesWriting, highest_seqno, kept_in, lift};
-ghost use Rattle.lsm_compactions.specs.Words.{number_fault, run_with_fault, writes_fault};
+ghost use Rattle.lsm_compactions.specs.Words.{Faults, FitsBy, GoesThrough, HasMade, HasRunBy};
+ghost use Rattle.lsm_compactions.specs.Words.{IsFreshRun, IsRunBy, IsRunOfList, IsWritable};
+ghost use Rattle.lsm_compactions.specs.Words.{RunsHoldLists, RunsOn, TablesWriting, highest_seqno, kept_in};
+ghost use Rattle.lsm_compactions.specs.Words.{lift, number_fault, run_with_fault, writes_fault};
 
 use crate::open_options::open_all;
 use crate::{CompactionOutcome, OpenOptions, compact_any_runs};
@@ -94,7 +94,7 @@ fn open_outcome<A: Allocator + Clone>(
 {
     match outcome {
         CompactionOutcome::Tables(tables, _) => Ok(Run::new(open_all(alloc, tables, how)?)),
-        CompactionOutcome::OutOfOrder => Ok(None),
+        CompactionOutcome::OutOfOrder | CompactionOutcome::Stopped => Ok(None),
     }
 }
 
@@ -119,6 +119,8 @@ pub fn compact_to_run_with<A: Allocator + Clone>(
         (lists : List (List (List Entry))) → RunsHoldLists (map arc_value runs.now) lists →
         IfOk result (λ r. AreTablesBy writer (kept_in rules lists) r.0) }
     ensures made { IfOk result (λ r. HasMade writer r.0) }
+    // No observer stops it.
+    ensures through { IfOk result (λ r. GoesThrough r.0) }
     // The run has just these, opened as is told, in their order.
     ensures opened { IfOk result (λ r. HasRunBy how.now r.0 r.1) }
     // Together they hold what is kept, one behind another, and stand in order.
