@@ -13,7 +13,7 @@ use Rattle.lsm_sorted.specs.Compacting.{Calls}
 use Rattle.lsm_sorted.specs.CompactionState.{Compacts, CompactsNext, callback_of, filter_of}
 use Rattle.lsm_sorted.specs.CompactionState.{rules_of}
 use Rattle.lsm_compactions.specs.Filtered.{GivesEach}
-use Rattle.lsm_compactions.proofs.FilteredOrder.{Follows, Ordered, call_follows}
+use Rattle.lsm_compactions.proofs.FilteredOrder.{ComesNext, Ordered, call_follows}
 
 module _ {S F C : Type 0} (front : S → Option R → S → Type 0) (can : S → Type 0) (left : S → Count)
     (gives : F → Entry → Result Verdict Error → F → Type 0) (gets : C → Entry → C → Type 0)
@@ -47,7 +47,7 @@ module _ {S F C : Type 0} (front : S → Option R → S → Type 0) (can : S →
       let v = runs.0 in
       let one : Next s (Some (Ok x)) v = runs.1 in
       let call = one.calls stops (ok_results es) has refl in
-      let f : Follows ws x call.0 = call_follows gives gets (rules_of s) (filter_of s)
+      let f : ComesNext ws x call.0 = call_follows gives gets (rules_of s) (filter_of s)
       (filter_of v) (callback_of s) (callback_of v) (ok_results es) call.0 (Some (Ok x)) call.2
       es refl x refl ws ordered in
       let kept : Compacts stops front v (ok_results f.left) =

@@ -1,5 +1,6 @@
 -- What a compaction with a filter comes to, from what its stream gave.
-use Rattle.std.proofs.Common.{◌≡◌, refl, sym, ◌∙◌, ap, subst, Bool, false, true, List, [], ◌∷◌, ◌++◌, inl, inr}
+use Rattle.std.proofs.Common.{◌≡◌, refl, sym, ◌∙◌, ap, subst, Bool, false, true, List, []}
+use Rattle.std.proofs.Common.{◌∷◌, ◌++◌, inl, inr}
 use Rattle.std.specs.Prelude.{Option, Some, Result, Ok, Err, IfErr, IsErrAnd}
 use Rattle.std.specs.List.{AllByRecursion}
 use Rattle.std.specs.Iterator.{Count, Yields}
@@ -122,9 +123,9 @@ module _ {S F C : Type 0} (front : S → Option R → S → Type 0) (can : S →
 -- the same, where the stream is set as is told
 module _ {S F C : Type 0} (front : S → Option R → S → Type 0) (can : S → Type 0) (left : S → Count)
     (gives : F → Entry → Result Verdict Error → F → Type 0) (gets : C → Entry → C → Type 0)
-    (s u : CompactionStream S F C R) (rules : Rules) (f : F) (c : C) (rules_are : rules_of s ≡ rules)
-    (filter_is : filter_of s ≡ f) (callback_is : callback_of s ≡ c) (es : List Entry)
-    (has : Compacts is_memory front s (ok_results es)) (w : TablesWriting)
+    (s u : CompactionStream S F C R) (rules : Rules) (f : F) (c : C)
+    (rules_are : rules_of s ≡ rules) (filter_is : filter_of s ≡ f) (callback_is : callback_of s ≡ c)
+    (es : List Entry) (has : Compacts is_memory front s (ok_results es)) (w : TablesWriting)
     (writable : IsWritable es) where
   abbrev Given : CompactionStream S F C R → Option R → CompactionStream S F C R → Type 0
   Given = CompactsNext front can left gives gets

@@ -1,5 +1,5 @@
--- Where whatever may be kept fits as tables, and a filter refuses nothing but for want of memory, so
--- does a compaction.
+-- Where whatever may be kept fits as tables, and a filter refuses nothing but for want of memory,
+-- neither does a compaction.
 use Rattle.std.proofs.Common.{◌≡◌, refl, sym, ◌∙◌, ap, subst, true, false, List, [], ◌∷◌, ◌++◌}
 use Rattle.std.proofs.Common.{append_assoc, append-nil, inl, inr}
 use Rattle.std.specs.Prelude.{Option, Some, None, Result, Ok, Err}
@@ -25,7 +25,7 @@ use Rattle.lsm_writers.specs.Writing.{IsWritable}
 use Rattle.lsm_compactions.specs.Chain.{writes_fault}
 use Rattle.lsm_compactions.specs.Compacted.{RunsOn}
 use Rattle.lsm_compactions.specs.Filtered.{FitsKept, GivesEach, RefusesAmong, RefusesBehind}
-use Rattle.lsm_compactions.specs.Filtered.{RefusesWritten, WantsMemory, results_fault}
+use Rattle.lsm_compactions.specs.Filtered.{RefusesWritten, RefusesForMemory, results_fault}
 use Rattle.lsm_compactions.proofs.FilteredCalls.{gives_more, led}
 use Rattle.lsm_compactions.proofs.FilteredCame.{none_stops}
 use Rattle.lsm_compactions.proofs.FilteredOrder.{Ordered, call_follows, ordered_of, skipped}
@@ -59,7 +59,7 @@ module _ {S F C : Type 0} (front : S → Option R → S → Type 0) (can : S →
     (s : CompactionStream S F C R) (es : List Entry)
     (has : Compacts is_memory front s (ok_results es)) (w : TablesWriting)
     (writable : IsWritable es) (law : TakesLaw) (fresh : IsFreshRun w) (next : RunsOn w)
-    (calm : WantsMemory gives) (fits : FitsKept w (rules_of s) es) where
+    (calm : RefusesForMemory gives) (fits : FitsKept w (rules_of s) es) where
   abbrev Stream : Type 0
   Stream = CompactionStream S F C R
 

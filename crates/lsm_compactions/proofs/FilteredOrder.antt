@@ -1,6 +1,7 @@
 -- What a compaction gives of a list that can be written comes in order, whatever its filter says.
 use Rattle.std.proofs.Common.{◌≡◌, refl, sym, ◌∙◌, ap, subst, ℕ, ◌<◌, ◌≤◌, ◌-◌, ◌^◌, inl, inr}
-use Rattle.std.proofs.Common.{true, false, cond, not, ◌&&◌, nat_lt, List, [], ◌∷◌, ◌++◌, arith, Bool}
+use Rattle.std.proofs.Common.{true, false, cond, not, ◌&&◌, nat_lt, List, [], ◌∷◌, ◌++◌, arith}
+use Rattle.std.proofs.Common.{Bool}
 use Rattle.std.specs.Prelude.{Option, Some, None, Result, Ok, Err}
 use Rattle.std.specs.List.{AllByRecursion}
 use Rattle.sst_entries.specs.Entry.{Entry}
@@ -25,12 +26,12 @@ use Rattle.lsm_sorted.proofs.ReadLemmas.{NoneOf, rest_none}
 use Rattle.lsm_sorted.proofs.KeptLemmas.{strict_rest, strict_up, zeroed_below}
 
 -- each entry precedes those behind it, and each number is below the largest one
-abbrev pub IsLow : Entry → Type 0
-IsLow e = e.seqno < 2 ^ 64 - 1
+abbrev pub HasLowNumber : Entry → Type 0
+HasLowNumber e = e.seqno < 2 ^ 64 - 1
 
 pub record Ordered (es : List Entry) : Type 0 where
   pub pairs : Strict es
-  pub low : AllByRecursion IsLow es
+  pub low : AllByRecursion HasLowNumber es
 
 pub ordered_of : (es : List Entry) → IsWritable es → Ordered es
 ordered_of es h = record { pairs = as_pairs es h.strict; low = h.numbered }
@@ -53,15 +54,15 @@ skip_strict (w ∷ ws) own left h =
 pub skipped : (ws own left : List Entry) → Ordered (ws ++ (own ++ left)) → Ordered (ws ++ left)
 skipped ws own left h = record {
   pairs = skip_strict ws own left h.pairs;
-  low = skip_all IsLow ws own left h.low;
+  low = skip_all HasLowNumber ws own left h.low;
 }
 
 -- an entry of the same key, whose number is no greater
-pub record IsUnder (x y : Entry) : Type 0 where
+pub record IsNoNewer (x y : Entry) : Type 0 where
   pub key_is : x.user_key ≡ y.user_key
   pub number : x.seqno ≤ y.seqno
 
-pub precedes_under : (w x y : Entry) → IsUnder x y → Precedes w y → Precedes w x
+pub precedes_under : (w x y : Entry) → IsNoNewer x y → Precedes w y → Precedes w x
 precedes_under w x y u h = elim h [
   | inl lower ↦ inl (subst (λ (k : List ℕ). key_lt w.user_key k ≡ true) (sym u.key_is) lower)
   | inr newer ↦ inr
@@ -75,7 +76,7 @@ place_all P ws y x own left more h =
     all_append P ws (x ∷ left) (all_front P ws (y ∷ (own ++ left)) h)
     (more behind.0, all_behind P own left behind.1)
 
-place_strict : (ws : List Entry) (y x : Entry) (own left : List Entry) → IsUnder x y
+place_strict : (ws : List Entry) (y x : Entry) (own left : List Entry) → IsNoNewer x y
     → AllByRecursion (Precedes x) left → Strict (ws ++ y ∷ (own ++ left)) → Strict (ws ++ x ∷ left)
 place_strict [] y x own left under all h = (all, strict_rest own left h.1)
 place_strict (w ∷ ws) y x own left under all h = (
@@ -83,12 +84,12 @@ place_strict (w ∷ ws) y x own left under all h = (
   place_strict ws y x own left under all h.1,
 )
 
-placed : (ws : List Entry) (y x : Entry) (own left : List Entry) → IsUnder x y
+placed : (ws : List Entry) (y x : Entry) (own left : List Entry) → IsNoNewer x y
     → AllByRecursion (Precedes x) left → Ordered (ws ++ y ∷ (own ++ left))
     → Ordered (ws ++ x ∷ left)
 placed ws y x own left under all h = record {
   pairs = place_strict ws y x own left under all h.pairs;
-  low = place_all IsLow ws y x own left
+  low = place_all HasLowNumber ws y x own left
       (λ small. let a = under.number in omega (arith, a, small)) h.low;
 }
 
@@ -202,7 +203,7 @@ zeroed_same rules e h = elim rules.zeroing as
     [ true ↦ ap (λ (u : Bool). cond u 0 e.seqno) h | false ↦ refl ]
 
 -- what an answer leaves of a list behind others; an entry that is answered stands between them
-pub record Leaves (ws : List Entry) (answer : Option R) (rest : List R) : Type 0 where
+pub record TurnLeaves (ws : List Entry) (answer : Option R) (rest : List R) : Type 0 where
   pub left : List Entry
   pub left_is : rest ≡ ok_results left
   pub none : answer ≡ None → Ordered (ws ++ left)
@@ -210,13 +211,13 @@ pub record Leaves (ws : List Entry) (answer : Option R) (rest : List R) : Type 0
 
 module _ (rules : Rules) (ws : List Entry) (y head : Entry) (key : head.user_key ≡ y.user_key)
     (number : head.seqno ≡ y.seqno) (es : List Entry) (ordered : Ordered (ws ++ y ∷ es)) where
-  zeroed_under : IsUnder (zeroed rules head) y
+  zeroed_under : IsNoNewer (zeroed rules head) y
   zeroed_under = record {
     key_is = key;
     number = let a = zeroed_below rules head in omega (arith, a, number);
   }
 
-  closes : (drained : List Entry) → Leaves ws
+  closes : (drained : List Entry) → TurnLeaves ws
       (close rules head drained (after_key head.user_key (ok_results es))).answer
       (close rules head drained (after_key head.user_key (ok_results es))).rest
   closes drained =
@@ -231,7 +232,7 @@ module _ (rules : Rules) (ws : List Entry) (y head : Entry) (key : head.user_key
       (all_le y p.left own_behind)
       (subst (λ (k : List ℕ). follows_in k (ok_results (unfiltered p.left)) ≡ false) key p.over) in
       let z = zeroed rules head in
-      subst (λ (rs : List R). Leaves ws (close rules head drained rs).answer
+      subst (λ (rs : List R). TurnLeaves ws (close rules head drained rs).answer
       (close rules head drained rs).rest) (sym p.after) (record {
         left = p.left;
         left_is = close_leaves rules head drained p.left;
@@ -244,7 +245,7 @@ module _ (rules : Rules) (ws : List Entry) (y head : Entry) (key : head.user_key
             all);
       })
 
-  settles : Leaves ws (settled rules head (ok_results es)).answer
+  settles : TurnLeaves ws (settled rules head (ok_results es)).answer
       (settled rules head (ok_results es)).rest
   settles =
       let rs = ok_results es in
@@ -252,7 +253,7 @@ module _ (rules : Rules) (ws : List Entry) (y head : Entry) (key : head.user_key
       let high = not (nat_lt head.seqno rules.watermark) in
       let z = zeroed rules head in
       let shut = close rules head (of_key head.user_key rs) (after_key head.user_key rs) in
-      elim (follows && high) as (λ b. follows && high ≡ b → Leaves ws
+      elim (follows && high) as (λ b. follows && high ≡ b → TurnLeaves ws
       (cond b (record { answer = Some (Ok z); rest = rs; reports = [] }) shut).answer
       (cond b (record { answer = Some (Ok z); rest = rs; reports = [] }) shut).rest) [
         | true ↦ λ h. record {
@@ -275,7 +276,7 @@ module _ (rules : Rules) (ws : List Entry) (y head : Entry) (key : head.user_key
       not_true false h = refl
 
 turns : (rules : Rules) (ws : List Entry) (y : Entry) (v : Result Verdict Error) (es : List Entry)
-    → Ordered (ws ++ y ∷ es) → Leaves ws (turned rules (told_by y v) (ok_results es)).answer
+    → Ordered (ws ++ y ∷ es) → TurnLeaves ws (turned rules (told_by y v) (ok_results es)).answer
     (turned rules (told_by y v) (ok_results es)).rest
 turns rules ws y (Ok keep) es ordered = settles rules ws y y refl refl es ordered
 turns rules ws y (Ok (replace kind value)) es ordered =
@@ -298,7 +299,7 @@ turns rules ws y (Err f) es ordered = record {
 -- ---- a call
 
 -- an entry that a call answers stands between those before it and what is left
-pub record Follows (ws : List Entry) (x : Entry) (rest : List R) : Type 0 where
+pub record ComesNext (ws : List Entry) (x : Entry) (rest : List R) : Type 0 where
   pub left : List Entry
   pub left_is : rest ≡ ok_results left
   pub ordered : Ordered (ws ++ x ∷ left)
@@ -308,20 +309,20 @@ module _ {F C : Type 0} (gives : F → Entry → Result Verdict Error → F → 
   pub turn_leaves : (f g : F) (c d : C) (y : Entry) (es : List Entry) (rs ys : List R)
       (answer : Option R) (ws : List Entry) → rs ≡ ok_results es
       → Turns gives gets rules f c y rs answer g d ys → Ordered (ws ++ y ∷ es)
-      → Leaves ws answer ys
+      → TurnLeaves ws answer ys
   turn_leaves f g c d y es rs ys answer ws is t ordered =
       let made = turns rules ws y t.verdict es ordered in
-      let here : Leaves ws (turned rules (told_by y t.verdict) rs).answer
+      let here : TurnLeaves ws (turned rules (told_by y t.verdict) rs).answer
       (turned rules (told_by y t.verdict) rs).rest =
-      subst (λ (zs : List R). Leaves ws (turned rules (told_by y t.verdict) zs).answer
+      subst (λ (zs : List R). TurnLeaves ws (turned rules (told_by y t.verdict) zs).answer
       (turned rules (told_by y t.verdict) zs).rest) (sym is) made in
-      subst (λ (o : Option R). Leaves ws o ys) (sym t.answers)
-      (subst (λ (zs : List R). Leaves ws (turned rules (told_by y t.verdict) rs).answer zs)
+      subst (λ (o : Option R). TurnLeaves ws o ys) (sym t.answers)
+      (subst (λ (zs : List R). TurnLeaves ws (turned rules (told_by y t.verdict) rs).answer zs)
       (sym t.leaves) here)
 
   pub call_follows : (f g : F) (c d : C) (xs ys : List R) (r : Option R)
       → Calls gives gets rules f c xs r g d ys → (es : List Entry) → xs ≡ ok_results es
-      → (x : Entry) → r ≡ Some (Ok x) → (ws : List Entry) → Ordered (ws ++ es) → Follows ws x ys
+      → (x : Entry) → r ≡ Some (Ok x) → (ws : List Entry) → Ordered (ws ++ es) → ComesNext ws x ys
   call_follows f g c d xs ys r (ended) es is x answers ws ordered = absurd cc
   call_follows f g c d xs ys r (failed) es is x answers ws ordered = absurd cc
   call_follows f g c d xs ys r (answered t) [] is x answers ws ordered = absurd cc

@@ -20,8 +20,9 @@ use Rattle.lsm_sorted.proofs.KeptLemmas.{all_kept, pairs_stay, zeroed_below}
 use Rattle.lsm_sorted.proofs.OutsLemmas.{listed}
 use Rattle.lsm_sorted.proofs.TurnLemmas.{turn_explained}
 use Rattle.lsm_compactions.specs.Filtered.{GivesEach}
-use Rattle.lsm_compactions.proofs.FilteredOrder.{IsLow, Ordered, close_answers, past}
-use Rattle.lsm_compactions.proofs.FilteredOrder.{precedes_under, some_entry, some_error, turn_leaves}
+use Rattle.lsm_compactions.proofs.FilteredOrder.{HasLowNumber, Ordered, close_answers, past}
+use Rattle.lsm_compactions.proofs.FilteredOrder.{precedes_under, some_entry, some_error}
+use Rattle.lsm_compactions.proofs.FilteredOrder.{turn_leaves}
 
 -- ---- a compaction that begins with these calls
 
@@ -151,12 +152,13 @@ pub kept_ordered : (rules : Rules) (ws rest : List Entry) → Ordered (ws ++ res
     → Ordered (ws ++ kept rules (unfiltered rest))
 kept_ordered rules ws rest h = record {
   pairs = kept_behind rules ws rest h.pairs;
-  low = all_append IsLow ws (kept rules (unfiltered rest)) (all_front IsLow ws rest h.low)
-      (all_kept rules IsLow (λ e low. lowers (zeroed rules e) e (zeroed_below rules e) low) rest
-      (all_behind IsLow ws rest h.low));
+  low = all_append HasLowNumber ws (kept rules (unfiltered rest))
+      (all_front HasLowNumber ws rest h.low)
+      (all_kept rules HasLowNumber (λ e low. lowers (zeroed rules e) e (zeroed_below rules e) low)
+      rest (all_behind HasLowNumber ws rest h.low));
 }
   where
-    lowers : (x e : Entry) → x.seqno ≤ e.seqno → IsLow e → IsLow x
+    lowers : (x e : Entry) → x.seqno ≤ e.seqno → HasLowNumber e → HasLowNumber x
     lowers x e below low = omega (arith, below, low)
 
 -- ---- an error that is answered is the filter's

@@ -34,14 +34,15 @@ use Rattle.lsm_compactions.specs.Chain.{writes_fault}
 use Rattle.lsm_compactions.specs.Compacted.{RunsOn}
 use Rattle.lsm_compactions.specs.Filtered.{RefusesWritten}
 use Rattle.lsm_compactions.specs.Filtered.{results_fault}
-use Rattle.lsm_compactions.specs.Observed.{GoesOnAt, IsCounted, StopsAt, TellsNext, ToldOfAll}
-use Rattle.lsm_compactions.specs.Observed.{ToldOfPart, count_of, progress_at, told_behind, told_of}
+use Rattle.lsm_compactions.specs.Observed.{GoesOnAt, IsCounted, StopsAtLast, TellsNext, ToldOfAll}
+use Rattle.lsm_compactions.specs.Observed.{ToldOfPart, progress_at, told_behind, told_count}
+use Rattle.lsm_compactions.specs.Observed.{told_of}
 use Rattle.lsm_compactions.specs.declared.observer.CompactionProgress.{CompactionProgress}
 use Rattle.lsm_compactions.proofs.AnyWritten.{AreNumbered, numbered_more}
 use Rattle.lsm_compactions.proofs.Opening.{or_first}
 use Rattle.lsm_compactions.proofs.RunWriting.{first_is, left_none}
-use Rattle.lsm_compactions.proofs.WrittenBy.{Since, nothing_written, nothing_yet, numbered, present_is}
-use Rattle.lsm_compactions.proofs.WrittenBy.{since_more, since_now}
+use Rattle.lsm_compactions.proofs.WrittenBy.{Since, nothing_written, nothing_yet, numbered}
+use Rattle.lsm_compactions.proofs.WrittenBy.{present_is, since_more, since_now}
 
 -- ---- what is told, table by table
 
@@ -98,7 +99,7 @@ module _ {O : Type 0} (says : O → CompactionProgress → Bool → O → Type 0
   ]
 
   pub told_stop : (m n : TablesWriting) (o r q : O) → GoesOnAt says o (told_of m.tables) r
-      → TellsNext says m n r false q → StopsAt says o (told_of n.tables) q
+      → TellsNext says m n r false q → StopsAtLast says o (told_of n.tables) q
   told_stop m n o r q went told = elim told [
     | inl same ↦ let no : false ≡ true = same.1 in absurd cc
     | inr more ↦
@@ -118,10 +119,10 @@ module _ {O : Type 0} (says : O → CompactionProgress → Bool → O → Type 0
 -- ---- an entry that is written, and counted
 
 -- counting on from a count that stays at the largest number
-pub counts_on : (n k : ℕ) → k ≡ n + 1 → min (count_of n + 1) (2 ^ 64 - 1) ≡ count_of k
+pub counts_on : (n k : ℕ) → k ≡ n + 1 → min (told_count n + 1) (2 ^ 64 - 1) ≡ told_count k
 counts_on n k is = omega (arith, is)
 
-pub counts_none : (es : List Entry) → count_of (length es) ≡ 0 → es ≡ []
+pub counts_none : (es : List Entry) → told_count (length es) ≡ 0 → es ≡ []
 counts_none [] h = refl
 counts_none (e ∷ es) h = absurd (omega (arith, h))
 
@@ -228,21 +229,22 @@ same_counts a b c d p q = ap (λ (x : ℕ). counts x b) p ∙ ap (λ (y : ℕ). 
 
 module _ (m n : TablesWriting) (e : Entry) (progress : CompactionProgress)
     (counted : IsCounted progress m) where
-  tables_now : progress.tables ≡ count_of (length m.tables)
+  tables_now : progress.tables ≡ told_count (length m.tables)
   tables_now = ap (λ (p : CompactionProgress). p.tables) counted
 
-  entries_now : progress.entries ≡ count_of (length (all_written m))
+  entries_now : progress.entries ≡ told_count (length (all_written m))
   entries_now = ap (λ (p : CompactionProgress). p.entries) counted
 
   pub none_counted : progress.entries ≡ 0 → all_written m ≡ []
   none_counted is = counts_none (all_written m) (sym entries_now ∙ is)
 
   pub some_counted : (progress.entries ≡ 0 → ⊥) → all_written m ≡ [] → ⊥
-  some_counted some none = some (entries_now ∙ ap (λ (es : List Entry). count_of (length es)) none)
+  some_counted some none = some (entries_now
+      ∙ ap (λ (es : List Entry). told_count (length es)) none)
 
   module _ (listed : all_written n ≡ all_written m ++ e ∷ []) (k : ℕ)
       (is : k ≡ min (progress.entries + 1) (2 ^ 64 - 1)) where
-    entries_on : k ≡ count_of (length (all_written n))
+    entries_on : k ≡ told_count (length (all_written n))
     entries_on = is ∙ ap (λ (x : ℕ). min (x + 1) (2 ^ 64 - 1)) entries_now
         ∙ counts_on (length (all_written m)) (length (all_written n))
         (ap length listed ∙ length-append (all_written m) (e ∷ []))
@@ -250,16 +252,16 @@ module _ (m n : TablesWriting) (e : Entry) (progress : CompactionProgress)
     -- no table was finished
     pub counted_same : n.tables ≡ m.tables
         → IsCounted (record { tables = progress.tables; entries = k }) n
-    counted_same same = same_counts progress.tables k (count_of (length n.tables))
-        (count_of (length (all_written n)))
-        (tables_now ∙ ap (λ (ts : List (List Entry)). count_of (length ts)) (sym same)) entries_on
+    counted_same same = same_counts progress.tables k (told_count (length n.tables))
+        (told_count (length (all_written n)))
+        (tables_now ∙ ap (λ (ts : List (List Entry)). told_count (length ts)) (sym same)) entries_on
 
     -- one was
-    pub counted_more : (t : List Entry) (j : ℕ) → n.tables ≡ m.tables ++ t ∷ []
+    pub counted_one_more : (t : List Entry) (j : ℕ) → n.tables ≡ m.tables ++ t ∷ []
         → j ≡ min (progress.tables + 1) (2 ^ 64 - 1)
         → IsCounted (record { tables = j; entries = k }) n
-    counted_more t j more on = same_counts j k (count_of (length n.tables))
-        (count_of (length (all_written n)))
+    counted_one_more t j more on = same_counts j k (told_count (length n.tables))
+        (told_count (length (all_written n)))
         (on ∙ ap (λ (x : ℕ). min (x + 1) (2 ^ 64 - 1)) tables_now
         ∙ counts_on (length m.tables) (length n.tables)
         (ap length more ∙ length-append m.tables (t ∷ []))) entries_on
@@ -273,12 +275,12 @@ module _ (m n : TablesWriting) (e : Entry) (progress : CompactionProgress)
       → TellsNext says m n o goes q
   told_more_tables {O} says o q goes t j more len on told =
       let same : counts j progress.entries ≡ progress_at n.tables =
-      same_counts j progress.entries (count_of (length n.tables))
-      (count_of (length (joined n.tables)))
+      same_counts j progress.entries (told_count (length n.tables))
+      (told_count (length (joined n.tables)))
       (on ∙ ap (λ (x : ℕ). min (x + 1) (2 ^ 64 - 1)) tables_now
       ∙ counts_on (length m.tables) (length n.tables)
       (ap length more ∙ length-append m.tables (t ∷ [])))
-      (entries_now ∙ ap count_of (sym len)) in
+      (entries_now ∙ ap told_count (sym len)) in
       inr (t, more, subst (λ (p : CompactionProgress). says o p goes q) same told)
 
 -- ---- the tables, as they are cut
@@ -377,8 +379,8 @@ module _ (m : TablesWriting) (e : Entry) (h : CutSoFar m) where
       no_first : (x : Entry) (xs : List Entry) → x ∷ xs ≡ [] → ⊥
       no_first x xs is = absurd cc
 
-  pub cut_more : CutSoFar (took m e)
-  cut_more = elim (cases_Bool (is_due m.target m.present e)) [
+  pub cut_so_more : CutSoFar (took m e)
+  cut_so_more = elim (cases_Bool (is_due m.target m.present e)) [
     | inl due ↦ subst CutSoFar (sym (turned due)) (next_cuts (tables_of m) (due_cuts due))
     | inr not ↦ subst CutSoFar (sym (stays not)) (cuts_open not)
   ]
@@ -505,8 +507,8 @@ module _ {S O : Type 0} (next : S → Option R → S → Type 0)
           (tables_of n)) since.target_is (are_cut n since.works cut))
 
       -- an entry is out of order
-      pub told_part : ToldOfPart says w (GoesOnAt says) o q
-      told_part = record {
+      pub told_of_part : ToldOfPart says w (GoesOnAt says) o q
+      told_of_part = record {
         list = all_written m;
         tables = tables_of m;
         cut = cut_by m h.since h.cut;
@@ -516,12 +518,12 @@ module _ {S O : Type 0} (next : S → Option R → S → Type 0)
 
       -- the observer stops it
       pub told_stopped : (n : TablesWriting) (r : O) → Since w n → CutSoFar n
-          → TellsNext says m n q false r → ToldOfPart says w (StopsAt says) o r
+          → TellsNext says m n q false r → ToldOfPart says w (StopsAtLast says) o r
       told_stopped n r since cut told = record {
         list = all_written n;
         tables = tables_of n;
         cut = cut_by n since cut;
-        told = subst (λ (ts : List (List Entry)). StopsAt says o (told_of ts) r)
+        told = subst (λ (ts : List (List Entry)). StopsAtLast says o (told_of ts) r)
             (sym (all_but_present n cut.begun))
             (told_stop says m n o q r h.told told);
       }
@@ -549,9 +551,9 @@ observing_none next says w s o fresh =
       since = since_now w fresh;
       numbers = subst AreNumbered (sym none) tt;
       cut = cut_first w fresh;
-      counted = same_counts 0 0 (count_of (length w.tables)) (count_of (length (all_written w)))
-          (sym (ap (λ (ts : List (List Entry)). count_of (length ts)) fresh.0))
-          (sym (ap (λ (es : List Entry). count_of (length es)) none));
+      counted = same_counts 0 0 (told_count (length w.tables)) (told_count (length (all_written w)))
+          (sym (ap (λ (ts : List (List Entry)). told_count (length ts)) fresh.0))
+          (sym (ap (λ (es : List Entry). told_count (length es)) none));
       told = subst (λ (ts : List (List Entry)). GoesOnAt says o (told_of ts) o) (sym fresh.0) refl;
       gave = subst (λ (es : List Entry). Yields next s (ok_results es) s) (sym none) refl;
       among = λ rs. ap (λ (es : List Entry). results_fault w (ok_results es ++ rs)) none;
@@ -570,7 +572,7 @@ observing_more next says w s o m n t u progress more q r e fresh h step is fine 
     told = record {
       since = subst (Since w) (sym is) (since_more w m fresh e h.since fine);
       numbers = numbered_more (all_written m) (all_written n) e h.numbers may listed;
-      cut = subst CutSoFar (sym is) (cut_more m e h.cut);
+      cut = subst CutSoFar (sym is) (cut_so_more m e h.cut);
       counted = counted;
       told = told_on says m n o q r h.told told;
       gave = gave_more next says w s o m t u progress q h e n listed step;

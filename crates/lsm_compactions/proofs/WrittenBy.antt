@@ -308,8 +308,8 @@ module _ (w m : TablesWriting) (fresh : IsFreshRun w) (e : Entry) (h : Since w m
 
 module _ {A : Type 0} (w m : TablesWriting) (fresh : IsFreshRun w) (next : RunsOn w) (h : Since w m)
     (es : List Entry) (fs : List (FinishedTable A)) (left : Option ℕ) where
-  pub numbered : left ≡ m.ids → AreFinished w.present.options (first_label m) (tables_of m) fs → (m ≡ w)
-      ⊎ Going w m → AreFinished w.present.options (first_written w) (tables_of m) fs
+  pub numbered : left ≡ m.ids → AreFinished w.present.options (first_label m) (tables_of m) fs
+      → (m ≡ w) ⊎ Going w m → AreFinished w.present.options (first_written w) (tables_of m) fs
       × (left ≡ drawn_often (begun_behind w.target (length (tables_of m))) w.ids)
   numbered is finished (inl same) =
       let none : tables_of m ≡ [] = ap tables_of same ∙ no_tables w fresh in (

@@ -88,8 +88,10 @@ abbrev pub FitsKept : TablesWriting → Rules → List Entry → Type 0
 FitsKept w rules es = (js : List Judged) → entries js ≡ es → FitsBy w (kept rules js)
 
 -- a filter refuses nothing but for want of memory
-abbrev pub WantsMemory : {F : Type 0} → (F → Entry → Result Verdict Error → F → Type 0) → Type 0
-WantsMemory {F} gives = (f g : F) (x : Entry) (e : Error) → gives f x (Err e) g → e ≡ OutOfMemory
+abbrev pub RefusesForMemory : {F : Type 0} → (F → Entry → Result Verdict Error → F → Type 0)
+    → Type 0
+RefusesForMemory {F} gives =
+    (f g : F) (x : Entry) (e : Error) → gives f x (Err e) g → e ≡ OutOfMemory
 
 module _ {F C : Type 0} (gives : F → Entry → Result Verdict Error → F → Type 0)
     (gets : C → Entry → C → Type 0) (rules : Rules) where

@@ -15,19 +15,19 @@ use Rattle.lsm_compactions.specs.declared.any_runs.CompactionOutcome.TheVariants
 use Rattle.lsm_compactions.specs.declared.observer.CompactionProgress.{CompactionProgress}
 
 -- a count that would pass the largest number stays there
-abbrev pub count_of : ℕ → ℕ
-count_of n = min n (2 ^ 64 - 1)
+abbrev pub told_count : ℕ → ℕ
+told_count n = min n (2 ^ 64 - 1)
 
 -- how far a compaction has come that has finished these tables
 abbrev pub progress_at : List (List Entry) → CompactionProgress
 progress_at ts =
-    record { tables = count_of (length ts); entries = count_of (length (joined ts)) }
+    record { tables = told_count (length ts); entries = told_count (length (joined ts)) }
 
 -- a compaction counts what its writer has taken
 abbrev pub IsCounted : CompactionProgress → TablesWriting → Type 0
 IsCounted progress m = progress ≡ record {
-  tables = count_of (length m.tables);
-  entries = count_of (length (all_written m));
+  tables = told_count (length m.tables);
+  entries = told_count (length (all_written m));
 }
 
 -- no table is finished before the present one has an entry
@@ -50,7 +50,7 @@ module _ {O : Type 0} (says : O → CompactionProgress → Bool → O → Type 0
   GoesOnAt o (m ∷ ms) q = (r : O) × says o m true r × GoesOnAt r ms q
 
   -- it was told these, and answered at the last one to stop
-  pub record StopsAt (o : O) (ms : List CompactionProgress) (q : O) : Type 0 where
+  pub record StopsAtLast (o : O) (ms : List CompactionProgress) (q : O) : Type 0 where
     pub before : List CompactionProgress
     pub last : CompactionProgress
     pub are : ms ≡ before ++ last ∷ []
@@ -85,4 +85,4 @@ module _ {O : Type 0} (says : O → CompactionProgress → Bool → O → Type 0
   abbrev pub IsTold : {A : Type 0} → TablesWriting → CompactionOutcome A → O → O → Type 0
   IsTold w (Tables tables left) o q = ToldOfAll w tables.items o q
   IsTold w OutOfOrder o q = ToldOfPart w GoesOnAt o q
-  IsTold w Stopped o q = ToldOfPart w StopsAt o q
+  IsTold w Stopped o q = ToldOfPart w StopsAtLast o q

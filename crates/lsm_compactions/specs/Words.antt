@@ -25,7 +25,7 @@ pub use Rattle.lsm_compactions.specs.Chain.{ids_behind, run_label, tables_fault,
 pub use Rattle.lsm_compactions.specs.Compacted.{AreCompactable, AreWrittenBy, DealsWritable, FitsBy}
 pub use Rattle.lsm_compactions.specs.Compacted.{HaveEntries, RunsOn, kept_in, rules_by}
 pub use Rattle.lsm_compactions.specs.Filtered.{CameTo, FitsKept, IsWritten, RefusesBy}
-pub use Rattle.lsm_compactions.specs.Filtered.{RefusesWritten, WantsMemory}
+pub use Rattle.lsm_compactions.specs.Filtered.{RefusesWritten, RefusesForMemory}
 pub use Rattle.lsm_compactions.specs.Observed.{HasBegun, IsCounted, IsTold, TellsNext}
 pub use Rattle.lsm_compactions.specs.OpenedBy.{AreOpenedBy, HasRunBy, IsOpenedBy, IsRunBy}
 pub use Rattle.lsm_compactions.specs.OpenedBy.{default_opening, run_with_fault}

@@ -10,10 +10,11 @@ ghost use Rattle.sst_entries.specs.Stream.{ok_results};
 ghost use Rattle.lsm_sorted.specs.CompactionState.{Compacts, callback_of, filter_of, rules_of};
 ghost use Rattle.lsm_writers.specs.Tables.{all_written, took, took_fault};
 ghost use Rattle.lsm_writers.specs.Writing.{may_be_written};
-ghost use Rattle.lsm_compactions.specs.Words.{AreCompactable, CameTo, CanDeal, DealTogether, Entry, FitsKept};
-ghost use Rattle.lsm_compactions.specs.Words.{Faults, HasBegun, HasMade, IsCounted, IsFreshRun, IsTold, IsWritten};
-ghost use Rattle.lsm_compactions.specs.Words.{RefusesBy, RefusesWritten, RunsHoldLists, RunsOn, WantsMemory};
-ghost use Rattle.lsm_compactions.specs.Words.{TellsNext, joined, nowhere, union_in};
+ghost use Rattle.lsm_compactions.specs.Words.{AreCompactable, CameTo, CanDeal, DealTogether, Entry};
+ghost use Rattle.lsm_compactions.specs.Words.{Faults, FitsKept, HasBegun, HasMade, IsCounted};
+ghost use Rattle.lsm_compactions.specs.Words.{IsFreshRun, IsTold, IsWritten, RefusesBy};
+ghost use Rattle.lsm_compactions.specs.Words.{RefusesForMemory, RefusesWritten, RunsHoldLists};
+ghost use Rattle.lsm_compactions.specs.Words.{RunsOn, TellsNext, joined, nowhere, union_in};
 
 use crate::compact::scanners_of;
 use crate::{CompactionObserver, CompactionOutcome, CompactionProgress};
@@ -183,7 +184,7 @@ pub fn compact_any_runs_with<
     // tables, with an id left for each, neither does the compaction.
     ensures taken { AreCompactable (map arc_value runs.now) →
         (lists : List (List (List Entry))) → RunsHoldLists (map arc_value runs.now) lists →
-        WantsMemory F.gives → FitsKept writer rules (union_in lists) →
+        RefusesForMemory F.gives → FitsKept writer rules (union_in lists) →
         IfErr result (λ e. e ≡ OutOfMemory) }
 {
     // A list whose tables fit is taken whole.

@@ -6,8 +6,9 @@ ghost use Rattle.sst_entries.specs.declared.error.Error.TheVariants.{OutOfMemory
 ghost use Rattle.lsm_compactions.specs.Words.{AreCompactable, AreTablesBy, AreWrittenBy, Entry};
 ghost use Rattle.lsm_compactions.specs.Words.{Faults, FitsBy, GoesThrough, HasMade, HasRunBy};
 ghost use Rattle.lsm_compactions.specs.Words.{IsFreshRun, IsRunBy, IsRunOfList, IsWritable};
-ghost use Rattle.lsm_compactions.specs.Words.{RunsHoldLists, RunsOn, TablesWriting, highest_seqno, kept_in};
-ghost use Rattle.lsm_compactions.specs.Words.{lift, number_fault, run_with_fault, writes_fault};
+ghost use Rattle.lsm_compactions.specs.Words.{RunsHoldLists, RunsOn, TablesWriting, highest_seqno};
+ghost use Rattle.lsm_compactions.specs.Words.{kept_in, lift, number_fault, run_with_fault};
+ghost use Rattle.lsm_compactions.specs.Words.{writes_fault};
 
 use crate::open_options::open_all;
 use crate::{CompactionOutcome, OpenOptions, compact_any_runs};

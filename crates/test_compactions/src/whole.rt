@@ -95,8 +95,8 @@ fn count_of(outcome: CompactionOutcome) -> Result<Option<usize>, Error> {
     }
 }
 
-// How many tables of one key each a compaction of some runs came to, and what its observer was told,
-// which stops it at one place.
+// How many tables of one key each a compaction of some runs came to, and what its observer was
+// told, which stops it at one place.
 fn told_of(
     alloc: Global,
     runs: &[Tables<Global>],

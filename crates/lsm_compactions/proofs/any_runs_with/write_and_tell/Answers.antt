@@ -3,7 +3,7 @@ use Rattle.std.specs.Prelude.{length}
 use Rattle.lsm_writers.specs.Tables.{TablesWriting, took}
 use Rattle.lsm_writers.specs.Writing.{written}
 use Rattle.lsm_formats.specs.Chunks.{joined}
-use Rattle.lsm_compactions.proofs.Observing.{counted_more, counted_same, finished_len, none_counted, none_finished, one_finished, other_ids, same_ids, some_counted, told_more_tables}
+use Rattle.lsm_compactions.proofs.Observing.{counted_one_more, counted_same, finished_len, none_counted, none_finished, one_finished, other_ids, same_ids, some_counted, told_more_tables}
 use Rattle.lsm_compactions.proofs.any_runs_with.write_and_tell.Goals as goal
 
 pub returns-then-written-eq0-clause-told : goal.returns-then-written-eq0-clause-told
@@ -42,7 +42,7 @@ returns-clause-counts g c counted begun =
     let more : n.tables ≡ m.tables ++ written m.present ∷ [] = ap (λ (x : TablesWriting). x.tables) c.in_ok-write.ensures.ok ∙
     one_finished m e fine begun (some_counted m n e c.args.progress.now counted c.if-written-eq0.false)
     (λ same. other_ids _ _ (sym c.if-eq.ensures) (c.table_ids.ensures ∙ ap (λ (x : TablesWriting). x.ids) c.in_ok-write.ensures.ok ∙ same ∙ sym c.table_ids-ids.ensures)) in
-    counted_more m n e c.args.progress.now counted c.in_ok-write.ensures.listed c.saturating_add-progress.result c.saturating_add-progress.ensures (written m.present) c.saturating_add-progress-2.result more c.saturating_add-progress-2.ensures
+    counted_one_more m n e c.args.progress.now counted c.in_ok-write.ensures.listed c.saturating_add-progress.result c.saturating_add-progress.ensures (written m.present) c.saturating_add-progress-2.result more c.saturating_add-progress-2.ensures
 
 pub returns-clause-told : goal.returns-clause-told
 returns-clause-told g c counted begun =

@@ -8,7 +8,7 @@ use Rattle.lsm_writers.specs.Writing.{may_be_written}
 use Rattle.lsm_compactions.specs.Filtered.{RefusesWritten}
 use Rattle.lsm_compactions.specs.Observed.{TellsNext}
 use Rattle.lsm_compactions.proofs.FilteredCame.{err_passed}
-use Rattle.lsm_compactions.proofs.Observing.{gave_more, observing_more, refused_end, refused_entry, refused_result, told_all, told_part, told_stopped, cut_more, CutSoFar}
+use Rattle.lsm_compactions.proofs.Observing.{gave_more, observing_more, refused_end, refused_entry, refused_result, told_all, told_of_part, told_stopped, cut_so_more, CutSoFar}
 use Rattle.lsm_compactions.proofs.WrittenBy.{Since, all_finished, since_more}
 use Rattle.lsm_compactions.proofs.any_runs_with.write_observed.Goals as goal
 
@@ -37,7 +37,7 @@ returns-then-not-can_follow-clause-written g c =
 pub returns-then-not-can_follow-clause-told : goal.returns-then-not-can_follow-clause-told
 returns-then-not-can_follow-clause-told g c =
     let l = c.loop-item in
-    told_part g.I.Iterator.next_gives g.O.CompactionObserver.says c.args.writer c.args.items.now c.args.observer.now l.writer l.items l.items l.progress l.observer l.invariant.observing c.requires.fresh
+    told_of_part g.I.Iterator.next_gives g.O.CompactionObserver.says c.args.writer c.args.items.now c.args.observer.now l.writer l.items l.items l.progress l.observer l.invariant.observing c.requires.fresh
 
 pub returns-in_err-goes_on-clause-refused : goal.returns-in_err-goes_on-clause-refused
 returns-in_err-goes_on-clause-refused g c =
@@ -67,7 +67,7 @@ returns-then-not-goes_on-clause-told g c =
     let says = g.O.CompactionObserver.says in
     told_stopped g.I.Iterator.next_gives says c.args.writer c.args.items.now c.args.observer.now l.writer l.items l.items l.progress l.observer h c.requires.fresh n c.write_and_tell.new.observer
     (subst (Since c.args.writer) (sym o.ok) (since_more c.args.writer l.writer c.requires.fresh c.in_ok-item.item h.since o.refused))
-    (subst CutSoFar (sym o.ok) (cut_more l.writer c.in_ok-item.item h.cut))
+    (subst CutSoFar (sym o.ok) (cut_so_more l.writer c.in_ok-item.item h.cut))
     (subst (λ (b : Bool). TellsNext says l.writer n l.observer b c.write_and_tell.new.observer) c.if-not-goes_on.true (o.told h.counted h.cut.begun))
 
 pub loop-item-preserved : goal.loop-item-preserved
