@@ -26,7 +26,7 @@ use Rattle.lsm_sorted.specs.Ahead.{HoldsAhead}
 use Rattle.lsm_sorted.specs.declared.compaction.Rules.{Rules}
 use Rattle.lsm_sorted.specs.Compaction.{kept, unfiltered}
 use Rattle.lsm_sorted.specs.CompactionState.{Compacts, DealsKept, MayCompact, rules_of, source_of}
-use Rattle.lsm_compactions.specs.Compacted.{AreCompactable, HaveEntries}
+use Rattle.lsm_compactions.specs.Compacted.{AreMergeable, HaveEntries}
 use Rattle.lsm_runs.specs.RunLists.{DealTogether, DealsList, HoldLists}
 use Rattle.lsm_runs.specs.RunParts.{ends_given, range_of}
 use Rattle.lsm_runs.specs.RunScan.{RunScan, RunScansNext, tables_between, tables_scan}
@@ -86,7 +86,7 @@ all_there P (y ∷ ys) (suc i) x all there = all_there P ys i x all.1 there
 abbrev Held : List OpenTable → List (List Entry) → Type 0
 Held tables ls = IsInOrder range_of tables × HoldLists tables ls
 
-module _ {X : Type 0} (f : X → List OpenTable) (xs : List X) (able : AreCompactable (map f xs))
+module _ {X : Type 0} (f : X → List OpenTable) (xs : List X) (able : AreMergeable (map f xs))
     (i : ℕ) where
   module _ (x : X) (less : i < length xs) (is : x ≡ get_or xs i x) where
     own : (ls : List (List Entry)) × (slice_get able.lists i ≡ Some ls) × Held (f x) ls

@@ -16,6 +16,12 @@ AreTablesBy w es (Tables tables left) = AreWrittenBy w es tables.items left
 AreTablesBy w es OutOfOrder = ⊥
 AreTablesBy w es Stopped = ⊥
 
+-- of this list it came to its tables, or found that the list cannot be written
+abbrev pub CameInOrder : {A : Type 0} → TablesWriting → List Entry → CompactionOutcome A → Type 0
+CameInOrder w es (Tables tables left) = AreWrittenBy w es tables.items left
+CameInOrder w es OutOfOrder = IsWritable es → ⊥
+CameInOrder w es Stopped = ⊥
+
 -- finished tables of a list that can be written, and the counter behind them
 pub record WritesSome {A : Type 0} (w : TablesWriting) (fs : List (FinishedTable A))
     (left : Option ℕ) : Type 0 where

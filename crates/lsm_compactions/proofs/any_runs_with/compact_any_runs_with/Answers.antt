@@ -11,6 +11,7 @@ use Rattle.lsm_compactions.specs.Filtered.{CameTo, FitsKept, RefusesBy}
 use Rattle.lsm_runs.specs.SeveralRuns.{union_in}
 use Rattle.lsm_runs.proofs.OneList.{one_way}
 use Rattle.lsm_runs.proofs.Together.{all_of}
+use Rattle.lsm_compactions.specs.Compacted.{merged_as}
 use Rattle.lsm_compactions.proofs.FilteredCame.{came_by, err_passed, memory_passed, memory_unless, refused_by}
 use Rattle.lsm_compactions.proofs.FilteredFits.{fits_all}
 use Rattle.lsm_compactions.proofs.RunWriting.{wants}
@@ -27,12 +28,12 @@ pub returns-in_err-scanners-clause-refused : goal.returns-in_err-scanners-clause
 returns-in_err-scanners-clause-refused g c able lists held =
     let a = c.args in
     let r = c.from_residual-in_err-scanners in
-    memory_passed (λ (e : Error). RefusesBy g.F.StreamFilter.gives g.C.DroppedKvCallback.gets a.rules a.filter a.callback (union_in lists) a.writer e) r.result c.in_err-scanners.field-0.0 r.ensures.1 (c.in_err-scanners.ensures.err able)
+    memory_passed (λ (e : Error). RefusesBy g.F.StreamFilter.gives g.C.DroppedKvCallback.gets a.rules a.filter a.callback (union_in lists) a.writer e) r.result c.in_err-scanners.field-0.0 r.ensures.1 (c.in_err-scanners.ensures.err (merged_as able))
 
 pub returns-in_err-scanners-clause-taken : goal.returns-in_err-scanners-clause-taken
 returns-in_err-scanners-clause-taken g c able lists held calm fits =
     let r = c.from_residual-in_err-scanners in
-    wants r.result c.in_err-scanners.field-0.0 r.ensures.1 (c.in_err-scanners.ensures.err able)
+    wants r.result c.in_err-scanners.field-0.0 r.ensures.1 (c.in_err-scanners.ensures.err (merged_as able))
 
 pub returns-in_err-stream-clause-refused : goal.returns-in_err-stream-clause-refused
 returns-in_err-stream-clause-refused g c able lists held =
@@ -52,7 +53,7 @@ returns-in_err-outcome-clause-refused g c able lists held =
     let f = c.in_err-outcome.field-0.0 in
     let s = c.in_ok-stream.stream in
     let o = c.in_ok-stream.ensures in
-    let has = o.list able.lists (c.in_ok-scanners.ensures.list able) is_memory refl in
+    let has = o.list able.lists (c.in_ok-scanners.ensures.list (merged_as able)) is_memory refl in
     let gives = g.F.StreamFilter.gives in
     let gets = g.C.DroppedKvCallback.gets in
     subst (λ (ls : List (List (List Entry))). IfErr r.result (λ e. is_memory e ≡ false → RefusesBy gives gets a.rules a.filter a.callback (union_in ls) a.writer e)) (one_way (map arc_value a.runs.now) able.lists lists able.hold held)
@@ -67,7 +68,7 @@ returns-in_err-outcome-clause-taken g c able lists held calm fits =
     let s = c.in_ok-stream.stream in
     let o = c.in_ok-stream.ensures in
     let next : RunsOn a.writer = subst RunsOn c.writer.view_is (c.writer.invariant (ap (λ (w : TablesWriting). w.failed) c.writer.view_is ∙ c.requires.fresh.2)).next in
-    let has = o.list able.lists (c.in_ok-scanners.ensures.list able) is_memory refl in
+    let has = o.list able.lists (c.in_ok-scanners.ensures.list (merged_as able)) is_memory refl in
     let same = one_way (map arc_value a.runs.now) able.lists lists able.hold held in
     let kept = subst (λ (x : Rules). FitsKept a.writer x (union_in able.lists)) (sym o.rules)
     (subst (λ (ls : List (List (List Entry))). FitsKept a.writer a.rules (union_in ls)) (sym same) fits) in
@@ -80,7 +81,7 @@ returns-clause-kept g c able lists held =
     let s = c.in_ok-stream.stream in
     let o = c.in_ok-stream.ensures in
     let u = c.write_observed.new.items in
-    let has = o.list able.lists (c.in_ok-scanners.ensures.list able) is_memory refl in
+    let has = o.list able.lists (c.in_ok-scanners.ensures.list (merged_as able)) is_memory refl in
     let gives = g.F.StreamFilter.gives in
     let gets = g.C.DroppedKvCallback.gets in
     subst (λ (ls : List (List (List Entry))). CameTo gives gets a.rules a.filter a.callback (union_in ls) a.writer c.in_ok-outcome.outcome c.into_callback.result) (one_way (map arc_value a.runs.now) able.lists lists able.hold held)
