@@ -13,12 +13,13 @@ pub use lsm_sorted::compaction::stream::{
 };
 pub use lsm_sorted::{Below, MvccStream, NewestOf, each_below, newest_of};
 pub use lsm_tables::{
-    CompactionOutcome, Fault, Finding, Iter, NewestOfRuns, NewestOfRunsAt, NewestOfSourcesAt,
-    OpenOptions, ParsedMeta, Query, RunReader, RunScanner, Scanner, Table, Verification, Verified,
-    VerifyError, compact_any_runs, compact_runs, compact_to_run, compact_to_run_with,
-    compaction_law, get_many, get_runs, get_runs_by_age, get_runs_by_age_counted, get_runs_counted,
-    pack_runs, packing_law, range_runs, range_runs_at, range_sources_at, read_run, write_and_open,
-    write_run, write_run_with,
+    CompactionObserver, CompactionOutcome, CompactionProgress, Fault, Finding, Iter, NewestOfRuns,
+    NewestOfRunsAt, NewestOfSourcesAt, NoObserver, OpenOptions, ParsedMeta, Query, RunReader,
+    RunScanner, Scanner, Table, Verification, Verified, VerifyError, compact_any_runs,
+    compact_any_runs_with, compact_runs, compact_to_run, compact_to_run_with, compaction_law,
+    get_many, get_runs, get_runs_by_age, get_runs_by_age_counted, get_runs_counted, pack_runs,
+    packing_law, range_runs, range_runs_at, range_sources_at, read_run, write_and_open, write_run,
+    write_run_with,
 };
 pub use lsm_writers::{
     BloomConstructionPolicy, FilterKind, FinishedTable, IndexKind, Metadata, MultiWriter, Options,

@@ -10,6 +10,12 @@ pub mod PackedAble
 pub mod WrittenBy
 pub mod WritesOn
 pub mod AnyWritten
+pub mod Observing
+pub mod FilteredOrder
+pub mod FilteredCalls
+pub mod FilteredCame
+pub mod FilteredWhole
+pub mod FilteredFits
 pub mod Scanners
 pub mod Keeping
 pub mod Versions

@@ -21,6 +21,7 @@ use Rattle.lsm_compactions.specs.OpenedBy.{AreOpenedBy, HasRunBy, IsOpenedBy, Is
 use Rattle.lsm_compactions.specs.Written.{number_fault}
 use Rattle.lsm_compactions.specs.declared.any_runs.CompactionOutcome.{CompactionOutcome}
 use Rattle.lsm_compactions.specs.declared.any_runs.CompactionOutcome.TheVariants.{OutOfOrder}
+use Rattle.lsm_compactions.specs.declared.any_runs.CompactionOutcome.TheVariants.{Stopped}
 use Rattle.lsm_compactions.specs.declared.any_runs.CompactionOutcome.TheVariants.{Tables}
 use Rattle.lsm_compactions.specs.declared.open_options.OpenOptions.{OpenOptions}
 use Rattle.lsm_compactions.proofs.Compactable.{held_compactable}
@@ -196,6 +197,7 @@ pub outcome_run : {A : Type 0} (how : OpenOptions) (w : TablesWriting) (es : Lis
     → MatchOption r (es ≡ []) (λ run. IsRunOfList es how.global_seqno run)
 outcome_run how w es (Tables tables left) r by h = run_with how w es tables.items left by r h
 outcome_run how w es OutOfOrder r by h = absurd by
+outcome_run how w es Stopped r by h = absurd by
 
 pub outcome_able : {A : Type 0} (how : OpenOptions) (w : TablesWriting) (o : CompactionOutcome A)
     (r : Option (List OpenTable)) → HasMade w o → HasRunBy how o r → how.global_seqno ≡ 0
@@ -206,4 +208,6 @@ outcome_able how w (Tables tables left) r made h none =
     (subst IsWritable (sym (lift_zero made.list)) made.writable) in
     able_with how w made.list tables.items left made.written r h writable
 outcome_able how w OutOfOrder r made h none =
+    subst (λ (x : Option (List OpenTable)). IfSome x (λ run. AreCompactable (run ∷ []))) (sym h) tt
+outcome_able how w Stopped r made h none =
     subst (λ (x : Option (List OpenTable)). IfSome x (λ run. AreCompactable (run ∷ []))) (sym h) tt

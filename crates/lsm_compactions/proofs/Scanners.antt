@@ -26,7 +26,7 @@ use Rattle.lsm_sorted.specs.Ahead.{HoldsAhead}
 use Rattle.lsm_sorted.specs.declared.compaction.Rules.{Rules}
 use Rattle.lsm_sorted.specs.Compaction.{kept, unfiltered}
 use Rattle.lsm_sorted.specs.CompactionState.{Compacts, DealsKept, MayCompact, rules_of, source_of}
-use Rattle.lsm_compactions.specs.Compacted.{AreCompactable, HaveEntries}
+use Rattle.lsm_compactions.specs.Compacted.{AreMergeable, HaveEntries}
 use Rattle.lsm_runs.specs.RunLists.{DealTogether, DealsList, HoldLists}
 use Rattle.lsm_runs.specs.RunParts.{ends_given, range_of}
 use Rattle.lsm_runs.specs.RunScan.{RunScan, RunScansNext, tables_between, tables_scan}
@@ -86,7 +86,7 @@ all_there P (y ∷ ys) (suc i) x all there = all_there P ys i x all.1 there
 abbrev Held : List OpenTable → List (List Entry) → Type 0
 Held tables ls = IsInOrder range_of tables × HoldLists tables ls
 
-module _ {X : Type 0} (f : X → List OpenTable) (xs : List X) (able : AreCompactable (map f xs))
+module _ {X : Type 0} (f : X → List OpenTable) (xs : List X) (able : AreMergeable (map f xs))
     (i : ℕ) where
   module _ (x : X) (less : i < length xs) (is : x ≡ get_or xs i x) where
     own : (ls : List (List Entry)) × (slice_get able.lists i ≡ Some ls) × Held (f x) ls
@@ -167,10 +167,18 @@ module _ {S T : Type 0} (front back : S → Option R → S → Type 0)
 
 module _ {S F C : Type 0} (front : S → Option R → S → Type 0) where
   -- a stream over the source of another may be called as that one may
-  pub may_still : (can : S → Type 0) (left : S → Count) (s u : CompactionStream S F C R)
-      → source_of s ≡ source_of u → MayCompact front can left u → MayCompact front can left s
+  pub may_still : {G D : Type 0} (can : S → Type 0) (left : S → Count)
+      (s : CompactionStream S F C R) (u : CompactionStream S G D R) → source_of s ≡ source_of u
+      → MayCompact front can left u → MayCompact front can left s
   may_still can left s u same may = subst (λ (a : Ahead S R). Goes front nowhere can can left
       a.source) (sym same) may
+
+  -- it goes through the same list
+  pub compacts_still : {G D : Type 0} (stops : Error → Bool) (xs : List R)
+      (s : CompactionStream S F C R) (u : CompactionStream S G D R) → source_of s ≡ source_of u
+      → Compacts stops front u xs → Compacts stops front s xs
+  compacts_still stops xs s u same has =
+      subst (λ (a : Ahead S R). HoldsAhead stops front a xs) (sym same) has
 
   -- and deals, by its own rules
   pub compacted_deals : (next : CompactionStream S F C R → Option R → CompactionStream S F C R

@@ -96,7 +96,7 @@ since_now w fresh = record {
 }
 
 module _ (w : TablesWriting) (fresh : IsFreshRun w) where
-  nothing_written : written w.present ≡ []
+  pub nothing_written : written w.present ≡ []
   nothing_written = ap (λ (cs : List (List Entry)). joined cs ++ w.present.pending) fresh.1.0
       ∙ fresh.1.1
 
@@ -110,7 +110,7 @@ module _ (w : TablesWriting) (fresh : IsFreshRun w) where
   no_tables = ap (λ (ts : List (List Entry)). ts ++ rest_chunk (written w.present)) fresh.0
       ∙ ap rest_chunk nothing_written
 
-  present_is : w.present ≡ fresh_writing w.present.label w.present.options
+  pub present_is : w.present ≡ fresh_writing w.present.label w.present.options
   present_is =
       let l = w.present.label in
       let o = w.present.options in
@@ -308,8 +308,8 @@ module _ (w m : TablesWriting) (fresh : IsFreshRun w) (e : Entry) (h : Since w m
 
 module _ {A : Type 0} (w m : TablesWriting) (fresh : IsFreshRun w) (next : RunsOn w) (h : Since w m)
     (es : List Entry) (fs : List (FinishedTable A)) (left : Option ℕ) where
-  numbered : left ≡ m.ids → AreFinished w.present.options (first_label m) (tables_of m) fs → (m ≡ w)
-      ⊎ Going w m → AreFinished w.present.options (first_written w) (tables_of m) fs
+  pub numbered : left ≡ m.ids → AreFinished w.present.options (first_label m) (tables_of m) fs
+      → (m ≡ w) ⊎ Going w m → AreFinished w.present.options (first_written w) (tables_of m) fs
       × (left ≡ drawn_often (begun_behind w.target (length (tables_of m))) w.ids)
   numbered is finished (inl same) =
       let none : tables_of m ≡ [] = ap tables_of same ∙ no_tables w fresh in (

@@ -23,6 +23,12 @@ use Rattle.lsm_runs.specs.SeveralRuns.{union_in}
 abbrev pub HaveEntries : List (List Entry) → Type 0
 HaveEntries ls = (0 < length ls) × AllByRecursion (λ (es : List Entry). 0 < length es) ls
 
+-- runs in order of tables of lists that have entries
+pub record AreMergeable (runs : List (List OpenTable)) : Type 0 where
+  pub lists : List (List (List Entry))
+  pub hold : RunsHoldLists runs lists
+  pub some : AllByRecursion HaveEntries lists
+
 -- runs in order of tables of lists that have entries; what they have together, lifted, can be
 -- written: no key is there twice under one number, and each number is below the largest one
 pub record AreCompactable (runs : List (List OpenTable)) : Type 0 where
@@ -30,6 +36,10 @@ pub record AreCompactable (runs : List (List OpenTable)) : Type 0 where
   pub hold : RunsHoldLists runs lists
   pub some : AllByRecursion HaveEntries lists
   pub writable : IsWritable (union_in lists)
+
+-- as runs whose entries may be merged
+abbrev pub merged_as : {runs : List (List OpenTable)} → AreCompactable runs → AreMergeable runs
+merged_as able = record { lists = able.lists; hold = able.hold; some = able.some }
 
 -- how a compaction is set
 abbrev pub rules_by : ℕ → Bool → Bool → Rules

@@ -3,6 +3,8 @@ pub mod Chain
 pub mod Packed
 pub mod Compacted
 pub mod AnyRuns
+pub mod Observed
+pub mod Filtered
 pub mod OpenedBy
 pub mod ReadsCompacted
 pub mod ListRuns

@@ -12,7 +12,7 @@ use Rattle.lsm_compactions.specs.Chain.{writes_fault}
 use Rattle.lsm_compactions.specs.Written.{number_fault}
 use Rattle.lsm_compactions.specs.declared.any_runs.CompactionOutcome.{CompactionOutcome}
 use Rattle.lsm_compactions.specs.declared.any_runs.CompactionOutcome.TheVariants.{OutOfOrder}
-use Rattle.lsm_compactions.specs.declared.any_runs.CompactionOutcome.TheVariants.{Tables}
+use Rattle.lsm_compactions.specs.declared.any_runs.CompactionOutcome.TheVariants.{Stopped, Tables}
 use Rattle.lsm_compactions.specs.declared.open_options.OpenOptions.{OpenOptions}
 
 -- no global number, tree 0, and what can stay loaded does
@@ -45,6 +45,7 @@ abbrev pub HasRunBy : {A : Type 0} → OpenOptions → CompactionOutcome A → O
     → Type 0
 HasRunBy how (Tables tables left) r = IsRunBy how tables.items r
 HasRunBy how OutOfOrder r = r ≡ None
+HasRunBy how Stopped r = r ≡ None
 
 -- what a writer refuses of a list and opening the tables then: a number that is too large once it
 -- is lifted

@@ -3,10 +3,11 @@ ghost use Rattle.std.specs.Prelude.{◌≡◌, IfErr, IfOk, List, map};
 ghost use Rattle.std.specs.Arc.{arc_value};
 ghost use Rattle.std.specs.Iterator.{IsFinite};
 ghost use Rattle.sst_entries.specs.declared.error.Error.TheVariants.{OutOfMemory};
-ghost use Rattle.lsm_compactions.specs.Words.{AreCompactable, AreTablesBy, DealsWritable, Entry};
-ghost use Rattle.lsm_compactions.specs.Words.{Faults, FitsBy, HasMade};
-ghost use Rattle.lsm_compactions.specs.Words.{IsFreshRun, RunsHoldLists, RunsOn, kept_in};
-ghost use Rattle.lsm_compactions.specs.Words.{writes_fault};
+ghost use Rattle.std.specs.List.{AllByRecursion};
+ghost use Rattle.lsm_compactions.specs.Words.{AreCompactable, AreTablesBy, CameInOrder, DealsList};
+ghost use Rattle.lsm_compactions.specs.Words.{DealsWritable, Entry, Faults, FitsBy, GoesThrough};
+ghost use Rattle.lsm_compactions.specs.Words.{HasMade, HaveEntries, IsFreshRun, RunsHoldLists};
+ghost use Rattle.lsm_compactions.specs.Words.{RunsOn, kept_in, nowhere, writes_fault};
 
 use crate::compact::kept_of;
 use lsm_ranges::Run;
@@ -28,6 +29,8 @@ pub enum CompactionOutcome<A: Allocator = Global> {
     /// table does not hold what a writer makes, or a run is out of order, or a key has one number
     /// twice. No table was kept.
     OutOfOrder,
+    /// An observer stopped it between two tables. No table was kept.
+    Stopped,
 }
 
 // Writes what a stream deals, as long as each entry may follow the one before it, and finishes.
@@ -40,13 +43,14 @@ fn write_in_order<I: Iterator<Item = IterItem<A>> + Drop, A: Allocator + Clone>(
     requires next { RunsOn writer }
     requires can { I.can_next items }
     requires finite { IsFinite (I.remaining items) }
-    // A list that can be written is written whole.
-    ensures written { (d : DealsWritable I.next_gives items) →
-        IfOk result (AreTablesBy writer d.list) }
+    // A list is written whole, or it cannot be written.
+    ensures came { (es : List Entry) → DealsList I.next_gives nowhere es items →
+        IfOk result (CameInOrder writer es) }
     ensures refused { (d : DealsWritable I.next_gives items) →
         Faults result (writes_fault writer d.list) }
     // Whatever the stream gives, tables are those of a list that can be written.
     ensures made { IfOk result (HasMade writer) }
+    ensures through { IfOk result GoesThrough }
 {
     for item in items {
         let item = item?;
@@ -91,8 +95,15 @@ pub fn compact_any_runs<A: Allocator + Clone>(
     ensures taken { AreCompactable (map arc_value runs.now) →
         (lists : List (List (List Entry))) → RunsHoldLists (map arc_value runs.now) lists →
         FitsBy writer (kept_in rules lists) → IfErr result (λ e. e ≡ OutOfMemory) }
+    // Whether or not a key has one number twice, of tables of lists that have entries the tables
+    // are those of what is kept, and it ends out of order only where that cannot be written.
+    ensures merged { (lists : List (List (List Entry))) →
+        RunsHoldLists (map arc_value runs.now) lists → AllByRecursion HaveEntries lists →
+        IfOk result (CameInOrder writer (kept_in rules lists)) }
     // Whatever the tables hold, what is made are tables of a list that can be written.
     ensures made { IfOk result (HasMade writer) }
+    // No observer stops it.
+    ensures through { IfOk result GoesThrough }
 {
     // A list whose tables fit is taken whole.
     tables_law();

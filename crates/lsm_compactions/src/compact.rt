@@ -5,7 +5,7 @@ ghost use Rattle.std.specs.Iterator.{IsFinite};
 ghost use Rattle.sst_entries.specs.declared.error.Error.TheVariants.{OutOfMemory};
 ghost use Rattle.lsm_compactions.specs.ReadsCompacted.{PointsStay, RangesStay, SideBySide};
 ghost use Rattle.lsm_compactions.specs.ReadsCompacted.{StayStrict, StayWritable};
-ghost use Rattle.lsm_compactions.specs.Words.{AreCompactable, AreWrittenBy, CanDeal, DealTogether};
+ghost use Rattle.lsm_compactions.specs.Words.{AreCompactable, AreMergeable, AreWrittenBy, CanDeal, DealTogether};
 ghost use Rattle.lsm_compactions.specs.Words.{DealsList};
 ghost use Rattle.lsm_compactions.specs.Words.{DealsWritable, Entry, Faults, FitsBy, HaveEntries};
 ghost use Rattle.lsm_compactions.specs.Words.{HoldLists, IsFreshRun, RunsHoldLists, RunsOn, joined};
@@ -36,15 +36,15 @@ fn scanner_of<A: Allocator + Clone>(run: &Arc<Run<Table<A>, A>, A>) -> Result<Ru
 }
 
 // A scanner of each run that has a table.
-fn scanners_of<A: Allocator + Clone>(
+pub(crate) fn scanners_of<A: Allocator + Clone>(
     alloc: A,
     runs: &[Arc<Run<Table<A>, A>, A>],
 ) -> Result<Vec<RunScanner<A>, A>, Error>
     // They deal together what each run has.
     ensures list { let gives = ⟦<RunScanner<A> as Iterator>⟧.next_gives in
-        (able : AreCompactable (map arc_value runs.now)) →
+        (able : AreMergeable (map arc_value runs.now)) →
         IfOk result (λ v. DealTogether gives nowhere v.items (map joined able.lists)) }
-    ensures err { AreCompactable (map arc_value runs.now) → IfErr result (λ e. e ≡ OutOfMemory) }
+    ensures err { AreMergeable (map arc_value runs.now) → IfErr result (λ e. e ≡ OutOfMemory) }
 {
     let mut scanners = Vec::new(alloc);
     for run in runs {
@@ -80,7 +80,7 @@ fn kept_from<I: Iterator<Item = IterItem<A>>, A: Allocator + Clone>(
     Ok(stream)
 }
 
-// What is kept of all entries of the runs together, in order where the runs may be compacted.
+// What is kept of all entries of the runs together, in order where the runs may be merged.
 pub(crate) fn kept_of<A: Allocator + Clone>(
     alloc: A,
     runs: &[Arc<Run<Table<A>, A>, A>],
@@ -90,9 +90,9 @@ pub(crate) fn kept_of<A: Allocator + Clone>(
         ⟦<CompactionStream<Merger<RunScanner<A>, A>> as Iterator>⟧.can_next }
     ensures list { let gives =
         ⟦<CompactionStream<Merger<RunScanner<A>, A>> as Iterator>⟧.next_gives in
-        (able : AreCompactable (map arc_value runs.now)) →
+        (able : AreMergeable (map arc_value runs.now)) →
         IfOk result (DealsList gives nowhere (kept_in rules able.lists)) }
-    ensures err { AreCompactable (map arc_value runs.now) → IfErr result (λ e. e ≡ OutOfMemory) }
+    ensures err { AreMergeable (map arc_value runs.now) → IfErr result (λ e. e ≡ OutOfMemory) }
 {
     let scanners = scanners_of(alloc.clone()?, runs)?;
     kept_from(alloc, scanners, rules)

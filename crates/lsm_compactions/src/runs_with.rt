@@ -3,10 +3,12 @@ ghost use Rattle.std.specs.Prelude.{◌≡◌, ◌∷◌, ◌+◌, ◌^◌, ◌<
 ghost use Rattle.std.specs.Prelude.{MatchOption, map};
 ghost use Rattle.std.specs.Arc.{arc_value};
 ghost use Rattle.sst_entries.specs.declared.error.Error.TheVariants.{OutOfMemory};
-ghost use Rattle.lsm_compactions.specs.Words.{AreCompactable, AreTablesBy, AreWrittenBy, Entry};
-ghost use Rattle.lsm_compactions.specs.Words.{Faults, FitsBy, HasMade, HasRunBy, IsFreshRun};
-ghost use Rattle.lsm_compactions.specs.Words.{IsRunBy, IsRunOfList, IsWritable, RunsHoldLists};
-ghost use Rattle.lsm_compactions.specs.Words.{RunsOn, TablesWriting, highest_seqno, kept_in, lift};
+ghost use Rattle.std.specs.List.{AllByRecursion};
+ghost use Rattle.lsm_compactions.specs.Words.{AreCompactable, AreTablesBy, AreWrittenBy};
+ghost use Rattle.lsm_compactions.specs.Words.{CameInOrder, Entry, Faults, FitsBy, GoesThrough};
+ghost use Rattle.lsm_compactions.specs.Words.{HasMade, HasRunBy, HaveEntries, IsFreshRun, IsRunBy};
+ghost use Rattle.lsm_compactions.specs.Words.{IsRunOfList, IsWritable, RunsHoldLists, RunsOn};
+ghost use Rattle.lsm_compactions.specs.Words.{TablesWriting, highest_seqno, kept_in, lift};
 ghost use Rattle.lsm_compactions.specs.Words.{number_fault, run_with_fault, writes_fault};
 
 use crate::open_options::open_all;
@@ -94,7 +96,7 @@ fn open_outcome<A: Allocator + Clone>(
 {
     match outcome {
         CompactionOutcome::Tables(tables, _) => Ok(Run::new(open_all(alloc, tables, how)?)),
-        CompactionOutcome::OutOfOrder => Ok(None),
+        CompactionOutcome::OutOfOrder | CompactionOutcome::Stopped => Ok(None),
     }
 }
 
@@ -119,6 +121,13 @@ pub fn compact_to_run_with<A: Allocator + Clone>(
         (lists : List (List (List Entry))) → RunsHoldLists (map arc_value runs.now) lists →
         IfOk result (λ r. AreTablesBy writer (kept_in rules lists) r.0) }
     ensures made { IfOk result (λ r. HasMade writer r.0) }
+    // Whether or not a key has one number twice, of tables of lists that have entries they are
+    // those of what is kept, and it ends out of order only where that cannot be written.
+    ensures merged { (lists : List (List (List Entry))) →
+        RunsHoldLists (map arc_value runs.now) lists → AllByRecursion HaveEntries lists →
+        IfOk result (λ r. CameInOrder writer (kept_in rules lists) r.0) }
+    // No observer stops it.
+    ensures through { IfOk result (λ r. GoesThrough r.0) }
     // The run has just these, opened as is told, in their order.
     ensures opened { IfOk result (λ r. HasRunBy how.now r.0 r.1) }
     // Together they hold what is kept, one behind another, and stand in order.

@@ -17,8 +17,9 @@ pub use lsm_block_indexes::{
     OwnedIndexBlockIter, TwoLevelBlockIndex, VolatileBlockIndex,
 };
 pub use lsm_compactions::{
-    CompactionOutcome, OpenOptions, compact_any_runs, compact_runs, compact_to_run,
-    compact_to_run_with, compaction_law, pack_runs, packing_law, write_run, write_run_with,
+    CompactionObserver, CompactionOutcome, CompactionProgress, NoObserver, OpenOptions,
+    compact_any_runs, compact_any_runs_with, compact_runs, compact_to_run, compact_to_run_with,
+    compaction_law, pack_runs, packing_law, write_run, write_run_with,
 };
 pub use lsm_formats::{GlobalTableId, TableId, Timestamp, TreeId};
 pub use lsm_iters::{Bound, Iter, OwnedDataBlockIter};

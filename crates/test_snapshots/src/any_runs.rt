@@ -21,7 +21,7 @@ fn made(alloc: Global, lists: &[Lists]) -> Result<Option<usize>, Error> {
     let writer = MultiWriter::new(alloc, TableIds::new(1), 0, 0, Timestamp::from(0))?;
     match compact_any_runs(alloc, &runs, ALL_STAY, writer)? {
         CompactionOutcome::Tables(tables, _) => Ok(Some(tables.len())),
-        CompactionOutcome::OutOfOrder => Ok(None),
+        CompactionOutcome::OutOfOrder | CompactionOutcome::Stopped => Ok(None),
     }
 }
 

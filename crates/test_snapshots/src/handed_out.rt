@@ -64,7 +64,7 @@ fn compacted(alloc: Global) -> Result<(usize, (usize, SeqNo)), Error> {
     let (outcome, run) = compact_to_run_with(alloc, &runs, ALL_STAY, writer, &how)?;
     let made = match &outcome {
         CompactionOutcome::Tables(tables, _) => tables.len(),
-        CompactionOutcome::OutOfOrder => 0,
+        CompactionOutcome::OutOfOrder | CompactionOutcome::Stopped => 0,
     };
     Ok((made, told(&run)))
 }

@@ -12,6 +12,8 @@ use Rattle.lsm_compactions.specs.Chain.{writes_fault}
 use Rattle.lsm_compactions.specs.Compacted.{RunsOn, kept_in}
 use Rattle.lsm_runs.specs.SeveralRuns.{union_in}
 use Rattle.lsm_runs.proofs.OneList.{one_way}
+use Rattle.lsm_compactions.specs.Compacted.{merged_as}
+use Rattle.lsm_compactions.proofs.AnyWritten.{in_order_whole}
 use Rattle.lsm_compactions.proofs.Keeping.{stays_writable}
 use Rattle.lsm_compactions.proofs.RunWriting.{wants}
 use Rattle.lsm_compactions.proofs.WrittenBy.{fits_none}
@@ -24,23 +26,28 @@ write_in_order-requires g c =
 
 pub returns-in_err-stream-clause-refused : goal.returns-in_err-stream-clause-refused
 returns-in_err-stream-clause-refused g c able lists held =
-    faults_memory c.from_residual.result c.in_err-stream.field-0.0 _ c.from_residual.ensures.1 (c.in_err-stream.ensures.err able)
+    faults_memory c.from_residual.result c.in_err-stream.field-0.0 _ c.from_residual.ensures.1 (c.in_err-stream.ensures.err (merged_as able))
 
 pub returns-in_err-stream-clause-taken : goal.returns-in_err-stream-clause-taken
 returns-in_err-stream-clause-taken g c able lists held fits =
-    wants c.from_residual.result c.in_err-stream.field-0.0 c.from_residual.ensures.1 (c.in_err-stream.ensures.err able)
+    wants c.from_residual.result c.in_err-stream.field-0.0 c.from_residual.ensures.1 (c.in_err-stream.ensures.err (merged_as able))
 
 pub returns-clause-tables : goal.returns-clause-tables
 returns-clause-tables g c able lists held =
     let rules = c.args.rules in
     subst (λ (ls : List (List (List Entry))). IfOk c.write_in_order.result (AreTablesBy c.args.writer (kept_in rules ls))) (one_way (map arc_value c.args.runs.now) able.lists lists able.hold held)
-    (c.write_in_order.ensures.written (record { list = kept_in rules able.lists; writable = stays_writable rules (union_in able.lists) able.writable; deals = c.in_ok-stream.ensures.list able }))
+    (in_order_whole c.write_in_order.result c.args.writer (kept_in rules able.lists) (stays_writable rules (union_in able.lists) able.writable)
+    (c.write_in_order.ensures.came (kept_in rules able.lists) (c.in_ok-stream.ensures.list (merged_as able))))
+
+pub returns-clause-merged : goal.returns-clause-merged
+returns-clause-merged g c lists held some =
+    c.write_in_order.ensures.came (kept_in c.args.rules lists) (c.in_ok-stream.ensures.list (record { lists = lists; hold = held; some = some }))
 
 pub returns-clause-refused : goal.returns-clause-refused
 returns-clause-refused g c able lists held =
     let rules = c.args.rules in
     subst (λ (ls : List (List (List Entry))). Faults c.write_in_order.result (writes_fault c.args.writer (kept_in rules ls))) (one_way (map arc_value c.args.runs.now) able.lists lists able.hold held)
-    (c.write_in_order.ensures.refused (record { list = kept_in rules able.lists; writable = stays_writable rules (union_in able.lists) able.writable; deals = c.in_ok-stream.ensures.list able }))
+    (c.write_in_order.ensures.refused (record { list = kept_in rules able.lists; writable = stays_writable rules (union_in able.lists) able.writable; deals = c.in_ok-stream.ensures.list (merged_as able) }))
 
 pub returns-clause-taken : goal.returns-clause-taken
 returns-clause-taken g c able lists held fits =

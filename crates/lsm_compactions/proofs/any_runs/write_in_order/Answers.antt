@@ -23,7 +23,7 @@ loop-item-init g c =
       finite = subst (λ s. IsFinite (g.I.Iterator.remaining s)) (sym same) c.requires.finite;
       since = since_now w c.requires.fresh;
       numbered = subst AreNumbered (sym (nothing_yet w c.requires.fresh)) tt;
-      writes = λ d. nothing_written_yet next w d.list c.into_iter-item-iterator.result (nothing_yet w c.requires.fresh) (subst (λ s. DealsList next nowhere d.list s) (sym same) d.deals);
+      writes = λ es d. nothing_written_yet next w es c.into_iter-item-iterator.result (nothing_yet w c.requires.fresh) (subst (λ s. DealsList next nowhere es s) (sym same) d);
     }
 
 pub returns-in_err-item-clause-refused : goal.returns-in_err-item-clause-refused
@@ -32,16 +32,17 @@ returns-in_err-item-clause-refused g c d =
     let f = c.in_err-item.field-0.0 in
     let step = subst (λ r. next c.loop-item.item-iterator (Some r) c.next.new.self) c.in_err-item.was c.in-Some.ensures.steps in
     faults_refusal c.from_residual.result f (writes_fault c.args.writer d.list) c.from_residual.ensures.1
-    (λ fine. absurd (deals_fine next (c.loop-item.invariant.writes d).rest c.loop-item.item-iterator c.next.new.self f (c.loop-item.invariant.writes d).deals step fine))
+    (λ fine. absurd (deals_fine next (c.loop-item.invariant.writes d.list d.deals).rest c.loop-item.item-iterator c.next.new.self f (c.loop-item.invariant.writes d.list d.deals).deals step fine))
 
-pub returns-then-not-can_follow-clause-written : goal.returns-then-not-can_follow-clause-written
-returns-then-not-can_follow-clause-written g c d =
+pub returns-then-not-can_follow-clause-came : goal.returns-then-not-can_follow-clause-came
+returns-then-not-can_follow-clause-came g c es d writable =
     let next = g.I.Iterator.next_gives in
     let step = subst (λ r. next c.loop-item.item-iterator (Some r) c.next.new.self) c.in_ok-item.was c.in-Some.ensures.steps in
-    absurd (may_not _ (sym (ap (λ (x : Entry). may_be_written (all_written c.loop-item.writer) x.user_key x.seqno) c.item.view_is) ∙ sym c.can_follow.ensures ∙ c.if-not-can_follow.true) (may_follow_on next c.args.writer d.list c.loop-item.writer c.loop-item.item-iterator c.next.new.self c.in_ok-item.item (c.loop-item.invariant.writes d) step d.writable))
+    may_not _ (sym (ap (λ (x : Entry). may_be_written (all_written c.loop-item.writer) x.user_key x.seqno) c.item.view_is) ∙ sym c.can_follow.ensures ∙ c.if-not-can_follow.true) (may_follow_on next c.args.writer es c.loop-item.writer c.loop-item.item-iterator c.next.new.self c.in_ok-item.item (c.loop-item.invariant.writes es d) step writable)
 
 pub returns-then-not-can_follow-clause-refused : goal.returns-then-not-can_follow-clause-refused
-returns-then-not-can_follow-clause-refused g c d = absurd (returns-then-not-can_follow-clause-written g c d)
+returns-then-not-can_follow-clause-refused g c d =
+    absurd (returns-then-not-can_follow-clause-came g c d.list d.deals d.writable)
 
 pub loop-item-preserved : goal.loop-item-preserved
 loop-item-preserved g c =
@@ -56,7 +57,7 @@ loop-item-preserved g c =
       finite = (c.in-Some.ensures.goes.on c.loop-item.invariant.finite).1;
       since = subst (Since w) (sym o.ok) (since_more w m c.requires.fresh e c.loop-item.invariant.since o.refused);
       numbered = numbered_more _ _ e c.loop-item.invariant.numbered (sym (ap (λ (x : Entry). may_be_written (all_written m) x.user_key x.seqno) c.item.view_is) ∙ sym c.can_follow.ensures ∙ c.if-not-can_follow.false) o.listed;
-      writes = λ d. writes_more next w d.list m c.loop-item.item-iterator c.next.new.self e (c.loop-item.invariant.writes d) step c.write.new.self o.ok o.refused o.listed;
+      writes = λ es d. writes_more next w es m c.loop-item.item-iterator c.next.new.self e (c.loop-item.invariant.writes es d) step c.write.new.self o.ok o.refused o.listed;
     }
 
 pub returns-in_err-write-clause-refused : goal.returns-in_err-write-clause-refused
@@ -66,24 +67,24 @@ returns-in_err-write-clause-refused g c d =
     let step = subst (λ r. next c.loop-item.item-iterator (Some r) c.next.new.self) c.in_ok-item.was c.in-Some.ensures.steps in
     let f = c.in_err-write.field-0.0 in
     faults_refusal c.from_residual-in_err-write.result f (writes_fault w d.list) c.from_residual-in_err-write.ensures.1
-    (λ fine. refused_one next w d.list c.loop-item.writer c.loop-item.item-iterator c.next.new.self c.in_ok-item.item (c.loop-item.invariant.writes d) step f (c.in_err-write.ensures.refused fine))
+    (λ fine. refused_one next w d.list c.loop-item.writer c.loop-item.item-iterator c.next.new.self c.in_ok-item.item (c.loop-item.invariant.writes d.list d.deals) step f (c.in_err-write.ensures.refused fine))
 
 pub returns-in_err-tables-clause-refused : goal.returns-in_err-tables-clause-refused
 returns-in_err-tables-clause-refused g c d =
     let next = g.I.Iterator.next_gives in
     let w = c.args.writer in
     let f = c.in_err-tables.field-0.0 in
-    let left = fault_left next w d.list c.loop-item.writer c.loop-item.item-iterator c.next.new.self (c.loop-item.invariant.writes d) c.in-None.ensures.steps in
+    let left = fault_left next w d.list c.loop-item.writer c.loop-item.item-iterator c.next.new.self (c.loop-item.invariant.writes d.list d.deals) c.in-None.ensures.steps in
     faults_refusal c.from_residual-in_err-tables.result f (writes_fault w d.list) c.from_residual-in_err-tables.ensures.1 (λ fine. left ∙ c.in_err-tables.ensures.refused fine)
 
-pub returns-clause-written : goal.returns-clause-written
-returns-clause-written g c d =
+pub returns-clause-came : goal.returns-clause-came
+returns-clause-came g c es d =
     let next = g.I.Iterator.next_gives in
     let w = c.args.writer in
     let m = c.loop-item.writer in
-    let all = all_taken next w d.list m c.loop-item.item-iterator c.next.new.self (c.loop-item.invariant.writes d) c.in-None.ensures.steps in
+    let all = all_taken next w es m c.loop-item.item-iterator c.next.new.self (c.loop-item.invariant.writes es d) c.in-None.ensures.steps in
     let f = c.in_ok-tables.ensures in
-    all_finished w m c.requires.fresh c.requires.next c.loop-item.invariant.since d.list c.in_ok-tables.tables.items c.table_ids-left.result all c.table_ids-left.ensures f.strict f.tables f.order f.finished
+    all_finished w m c.requires.fresh c.requires.next c.loop-item.invariant.since es c.in_ok-tables.tables.items c.table_ids-left.result all c.table_ids-left.ensures f.strict f.tables f.order f.finished
 
 pub returns-clause-made : goal.returns-clause-made
 returns-clause-made g c =
@@ -98,5 +99,5 @@ returns-clause-made g c =
 
 pub returns-clause-refused : goal.returns-clause-refused
 returns-clause-refused g c d =
-    fault_left g.I.Iterator.next_gives c.args.writer d.list c.loop-item.writer c.loop-item.item-iterator c.next.new.self (c.loop-item.invariant.writes d) c.in-None.ensures.steps
+    fault_left g.I.Iterator.next_gives c.args.writer d.list c.loop-item.writer c.loop-item.item-iterator c.next.new.self (c.loop-item.invariant.writes d.list d.deals) c.in-None.ensures.steps
     ∙ c.in_ok-tables.ensures.refused

@@ -1,5 +1,8 @@
 use Rattle.lsm_writers.specs.Tables.{all_written}
-use Rattle.lsm_compactions.specs.Compacted.{DealsWritable}
+use Rattle.std.specs.Prelude.{List}
+use Rattle.sst_entries.specs.Entry.{Entry}
+use Rattle.sst_entries.specs.Stream.{nowhere}
+use Rattle.lsm_runs.specs.RunLists.{DealsList}
 use Rattle.lsm_compactions.proofs.AnyWritten.{AreNumbered}
 use Rattle.lsm_compactions.proofs.WritesOn.{WritesOn}
 use Rattle.lsm_compactions.proofs.WrittenBy.{Since}
@@ -11,6 +14,6 @@ invariant-loop-item g l = record {
   finite : (goal.iterator-loop-item g).is_finite l.item-iterator;
   since : Since l.fn.writer l.writer;
   numbered : AreNumbered (all_written l.writer);
-  writes : (d : DealsWritable g.I.Iterator.next_gives l.fn.items)
-      → WritesOn g.I.Iterator.next_gives l.fn.writer d.list l.writer l.item-iterator;
+  writes : (es : List Entry) → DealsList g.I.Iterator.next_gives nowhere es l.fn.items
+      → WritesOn g.I.Iterator.next_gives l.fn.writer es l.writer l.item-iterator;
 }

@@ -9,6 +9,7 @@ use Rattle.lsm_writers.proofs.Refused.{memory_alone}
 use Rattle.lsm_compactions.specs.Chain.{writes_fault}
 use Rattle.lsm_compactions.specs.Compacted.{AreWrittenBy, RunsOn, kept_in, rules_by}
 use Rattle.lsm_runs.specs.SeveralRuns.{union_in}
+use Rattle.lsm_compactions.specs.Compacted.{merged_as}
 use Rattle.lsm_compactions.proofs.Keeping.{stays_writable}
 use Rattle.lsm_runs.proofs.OneList.{one_way}
 use Rattle.lsm_compactions.proofs.WrittenBy.{fits_none}
@@ -24,7 +25,7 @@ write_all-requires g c =
       next = next;
       can = c.in_ok-stream.ensures.can;
       finite = tt;
-      deals = record { list = kept_in rules able.lists; writable = stays_writable rules (union_in able.lists) able.writable; deals = c.in_ok-stream.ensures.list able };
+      deals = record { list = kept_in rules able.lists; writable = stays_writable rules (union_in able.lists) able.writable; deals = c.in_ok-stream.ensures.list (merged_as able) };
     }
 
 pub returns-clause-tables : goal.returns-clause-tables
@@ -32,14 +33,14 @@ returns-clause-tables g c lists held =
     let rules = rules_by c.args.gc_seqno_threshold c.args.evict_tombstones c.args.zero_seqnos in
     let able = c.requires.able in
     subst (λ (ls : List (List (List Entry))). IfOk c.write_all.result (λ r. AreWrittenBy c.args.writer (kept_in rules ls) r.0.items r.1)) (one_way (map arc_value c.args.runs.now) able.lists lists able.hold held)
-    (c.write_all.ensures.written (record { list = kept_in rules able.lists; writable = stays_writable rules (union_in able.lists) able.writable; deals = c.in_ok-stream.ensures.list able }))
+    (c.write_all.ensures.written (record { list = kept_in rules able.lists; writable = stays_writable rules (union_in able.lists) able.writable; deals = c.in_ok-stream.ensures.list (merged_as able) }))
 
 pub returns-clause-refused : goal.returns-clause-refused
 returns-clause-refused g c lists held =
     let rules = rules_by c.args.gc_seqno_threshold c.args.evict_tombstones c.args.zero_seqnos in
     let able = c.requires.able in
     subst (λ (ls : List (List (List Entry))). Faults c.write_all.result (writes_fault c.args.writer (kept_in rules ls))) (one_way (map arc_value c.args.runs.now) able.lists lists able.hold held)
-    (c.write_all.ensures.refused (record { list = kept_in rules able.lists; writable = stays_writable rules (union_in able.lists) able.writable; deals = c.in_ok-stream.ensures.list able }))
+    (c.write_all.ensures.refused (record { list = kept_in rules able.lists; writable = stays_writable rules (union_in able.lists) able.writable; deals = c.in_ok-stream.ensures.list (merged_as able) }))
 
 pub returns-clause-taken : goal.returns-clause-taken
 returns-clause-taken g c lists held fits =

@@ -1,13 +1,13 @@
 use Rattle.std.specs.Prelude.{map}
 use Rattle.std.specs.Arc.{arc_value}
 use Rattle.sst_entries.specs.Stream.{nowhere}
-use Rattle.lsm_compactions.specs.Compacted.{AreCompactable}
+use Rattle.lsm_compactions.specs.Compacted.{AreMergeable}
 use Rattle.lsm_runs.specs.RunScan.{RunScansNext}
 use Rattle.lsm_compactions.proofs.Scanners.{ScannedSoFar}
 use Rattle.lsm_compactions.proofs.compact.scanners_of.Given as goal
 
 abbrev pub invariant-loop-run : goal.invariant-loop-run
 invariant-loop-run g l =
-    (able : AreCompactable (map arc_value l.runs))
+    (able : AreMergeable (map arc_value l.runs))
     → ScannedSoFar arc_value l.runs able l.run-index RunScansNext nowhere l.scanners.items
     l.run-index

@@ -1,0 +1,88 @@
+use Rattle.std.proofs.Common.{◌≡◌, ◌∙◌, ap, refl, sym, subst, false, List}
+use Rattle.std.specs.Prelude.{IfErr, map}
+use Rattle.std.specs.Arc.{arc_value}
+use Rattle.sst_entries.specs.Entry.{Entry}
+use Rattle.sst_entries.specs.Error.{is_memory}
+use Rattle.sst_entries.specs.declared.error.Error.{Error}
+use Rattle.lsm_sorted.specs.declared.compaction.Rules.{Rules}
+use Rattle.lsm_writers.specs.Tables.{TablesWriting}
+use Rattle.lsm_compactions.specs.Compacted.{RunsOn}
+use Rattle.lsm_compactions.specs.Filtered.{CameTo, FitsKept, RefusesBy}
+use Rattle.lsm_runs.specs.SeveralRuns.{union_in}
+use Rattle.lsm_runs.proofs.OneList.{one_way}
+use Rattle.lsm_runs.proofs.Together.{all_of}
+use Rattle.lsm_compactions.specs.Compacted.{merged_as}
+use Rattle.lsm_compactions.proofs.FilteredCame.{came_by, err_passed, memory_passed, memory_unless, refused_by}
+use Rattle.lsm_compactions.proofs.FilteredFits.{fits_all}
+use Rattle.lsm_compactions.proofs.RunWriting.{wants}
+use Rattle.lsm_compactions.proofs.Scanners.{scan_asked}
+use Rattle.lsm_compactions.proofs.any_runs_with.compact_any_runs_with.Goals as goal
+
+pub write_observed-requires : goal.write_observed-requires
+write_observed-requires g c =
+    let next : RunsOn c.args.writer = subst RunsOn c.writer.view_is (c.writer.invariant (ap (λ (w : TablesWriting). w.failed) c.writer.view_is ∙ c.requires.fresh.2)).next in
+    let scanners = c.in_ok-scanners.scanners.items in
+    record { fresh = c.requires.fresh; next = next; can = c.in_ok-stream.ensures.can (all_of _ scan_asked scanners) (all_of _ (λ s. tt) scanners); finite = tt }
+
+pub returns-in_err-scanners-clause-refused : goal.returns-in_err-scanners-clause-refused
+returns-in_err-scanners-clause-refused g c able lists held =
+    let a = c.args in
+    let r = c.from_residual-in_err-scanners in
+    memory_passed (λ (e : Error). RefusesBy g.F.StreamFilter.gives g.C.DroppedKvCallback.gets a.rules a.filter a.callback (union_in lists) a.writer e) r.result c.in_err-scanners.field-0.0 r.ensures.1 (c.in_err-scanners.ensures.err (merged_as able))
+
+pub returns-in_err-scanners-clause-taken : goal.returns-in_err-scanners-clause-taken
+returns-in_err-scanners-clause-taken g c able lists held calm fits =
+    let r = c.from_residual-in_err-scanners in
+    wants r.result c.in_err-scanners.field-0.0 r.ensures.1 (c.in_err-scanners.ensures.err (merged_as able))
+
+pub returns-in_err-stream-clause-refused : goal.returns-in_err-stream-clause-refused
+returns-in_err-stream-clause-refused g c able lists held =
+    let a = c.args in
+    let r = c.from_residual-in_err-stream in
+    memory_passed (λ (e : Error). RefusesBy g.F.StreamFilter.gives g.C.DroppedKvCallback.gets a.rules a.filter a.callback (union_in lists) a.writer e) r.result c.in_err-stream.field-0.0 r.ensures.1 c.in_err-stream.ensures.err
+
+pub returns-in_err-stream-clause-taken : goal.returns-in_err-stream-clause-taken
+returns-in_err-stream-clause-taken g c able lists held calm fits =
+    let r = c.from_residual-in_err-stream in
+    wants r.result c.in_err-stream.field-0.0 r.ensures.1 c.in_err-stream.ensures.err
+
+pub returns-in_err-outcome-clause-refused : goal.returns-in_err-outcome-clause-refused
+returns-in_err-outcome-clause-refused g c able lists held =
+    let a = c.args in
+    let r = c.from_residual-in_err-outcome in
+    let f = c.in_err-outcome.field-0.0 in
+    let s = c.in_ok-stream.stream in
+    let o = c.in_ok-stream.ensures in
+    let has = o.list able.lists (c.in_ok-scanners.ensures.list (merged_as able)) is_memory refl in
+    let gives = g.F.StreamFilter.gives in
+    let gets = g.C.DroppedKvCallback.gets in
+    subst (λ (ls : List (List (List Entry))). IfErr r.result (λ e. is_memory e ≡ false → RefusesBy gives gets a.rules a.filter a.callback (union_in ls) a.writer e)) (one_way (map arc_value a.runs.now) able.lists lists able.hold held)
+    (err_passed (λ (e : Error). is_memory e ≡ false → RefusesBy gives gets a.rules a.filter a.callback (union_in able.lists) a.writer e) r.result f r.ensures.1
+    (λ fine. refused_by _ _ _ gives gets s s a.rules a.filter a.callback o.rules o.filter o.callback (union_in able.lists) has a.writer able.writable f (c.in_err-outcome.ensures.refused fine)))
+
+pub returns-in_err-outcome-clause-taken : goal.returns-in_err-outcome-clause-taken
+returns-in_err-outcome-clause-taken g c able lists held calm fits =
+    let a = c.args in
+    let r = c.from_residual-in_err-outcome in
+    let f = c.in_err-outcome.field-0.0 in
+    let s = c.in_ok-stream.stream in
+    let o = c.in_ok-stream.ensures in
+    let next : RunsOn a.writer = subst RunsOn c.writer.view_is (c.writer.invariant (ap (λ (w : TablesWriting). w.failed) c.writer.view_is ∙ c.requires.fresh.2)).next in
+    let has = o.list able.lists (c.in_ok-scanners.ensures.list (merged_as able)) is_memory refl in
+    let same = one_way (map arc_value a.runs.now) able.lists lists able.hold held in
+    let kept = subst (λ (x : Rules). FitsKept a.writer x (union_in able.lists)) (sym o.rules)
+    (subst (λ (ls : List (List (List Entry))). FitsKept a.writer a.rules (union_in ls)) (sym same) fits) in
+    wants r.result f r.ensures.1 (memory_unless f
+    (λ fine. fits_all _ _ _ g.F.StreamFilter.gives g.C.DroppedKvCallback.gets s (union_in able.lists) has a.writer able.writable c.tables_law.ensures.takes c.requires.fresh next calm kept f (c.in_err-outcome.ensures.refused fine)))
+
+pub returns-clause-kept : goal.returns-clause-kept
+returns-clause-kept g c able lists held =
+    let a = c.args in
+    let s = c.in_ok-stream.stream in
+    let o = c.in_ok-stream.ensures in
+    let u = c.write_observed.new.items in
+    let has = o.list able.lists (c.in_ok-scanners.ensures.list (merged_as able)) is_memory refl in
+    let gives = g.F.StreamFilter.gives in
+    let gets = g.C.DroppedKvCallback.gets in
+    subst (λ (ls : List (List (List Entry))). CameTo gives gets a.rules a.filter a.callback (union_in ls) a.writer c.in_ok-outcome.outcome c.into_callback.result) (one_way (map arc_value a.runs.now) able.lists lists able.hold held)
+    (came_by _ _ _ gives gets s u a.rules a.filter a.callback o.rules o.filter o.callback (union_in able.lists) has a.writer able.writable c.in_ok-outcome.outcome c.into_callback.result c.into_callback.ensures c.in_ok-outcome.ensures.written)

@@ -1,0 +1,14 @@
+use Rattle.std.specs.Iterator.{IsFinite, size}
+use Rattle.lsm_compactions.proofs.Observing.{Observing}
+use Rattle.lsm_compactions.proofs.any_runs_with.write_observed.Given as goal
+
+abbrev pub invariant-loop-item : goal.invariant-loop-item
+invariant-loop-item g l = record {
+  can : g.I.Iterator.can_next l.items;
+  finite : IsFinite (g.I.Iterator.remaining l.items);
+  observing : Observing g.I.Iterator.next_gives g.O.CompactionObserver.says l.fn.writer l.fn.items
+      l.fn.observer l.writer l.items l.progress l.observer;
+}
+
+abbrev pub decreases-loop-item : goal.decreases-loop-item
+decreases-loop-item g l = size (g.I.Iterator.remaining l.items)

@@ -1,0 +1,148 @@
+-- What a compaction with a filter and a callback came to.
+use Rattle.std.specs.Prelude.{◌≡◌, ◌⊎◌, false, List, [], ◌∷◌, ◌++◌, Option, Some, None}
+use Rattle.std.specs.Prelude.{Result, Ok, Err, ℕ}
+use Rattle.std.specs.Iterator.{Yields}
+use Rattle.std.specs.Option.{option_or}
+use Rattle.sst_entries.specs.Entry.{Entry}
+use Rattle.sst_entries.specs.Error.{is_memory}
+use Rattle.sst_entries.specs.Stream.{ok_results, result_stops}
+use Rattle.sst_entries.specs.declared.error.Error.{Error}
+use Rattle.sst_entries.specs.declared.error.Error.TheVariants.{OutOfMemory}
+use Rattle.lsm_merge.specs.Ends.{R}
+use Rattle.lsm_sorted.specs.declared.compaction.Rules.{Rules}
+use Rattle.lsm_sorted.specs.Compaction.{Judged, Verdict, entries, kept}
+use Rattle.lsm_sorted.specs.Compacting.{Calls, Compacted}
+use Rattle.lsm_writers.specs.declared.writer.FinishedTable.{FinishedTable}
+use Rattle.lsm_writers.specs.Tables.{TablesWriting, took, took_fault}
+use Rattle.lsm_writers.specs.Writing.{may_be_written}
+use Rattle.lsm_compactions.specs.Chain.{writes_fault}
+use Rattle.lsm_compactions.specs.Compacted.{AreWrittenBy, FitsBy}
+use Rattle.lsm_compactions.specs.declared.any_runs.CompactionOutcome.{CompactionOutcome}
+use Rattle.lsm_compactions.specs.declared.any_runs.CompactionOutcome.TheVariants.{OutOfOrder}
+use Rattle.lsm_compactions.specs.declared.any_runs.CompactionOutcome.TheVariants.{Stopped, Tables}
+
+-- the first fault of results whose entries are written one after another
+abbrev pub results_fault : TablesWriting → List R → Option Error
+results_fault m [] = None
+results_fault m (Ok e ∷ rs) = option_or (took_fault m e) (results_fault (took m e) rs)
+results_fault m (Err f ∷ rs) = Some f
+
+-- ---- a stream whose entries are written
+
+module _ {S : Type 0} (next : S → Option R → S → Type 0) (w : TablesWriting) (s : S) where
+  -- a stream gave these entries, and nothing more: finished tables are theirs
+  pub record WritesAll {A : Type 0} (fs : List (FinishedTable A)) (left : Option ℕ) (u : S)
+      : Type 0 where
+    pub list : List Entry
+    pub led : S
+    pub gave : Yields next s (ok_results list) led
+    pub ended : next led None u
+    pub written : AreWrittenBy w list fs left
+
+  -- it gave these entries, and then one that may not follow them
+  pub record WritesUpTo (u : S) : Type 0 where
+    pub list : List Entry
+    pub led : S
+    pub gave : Yields next s (ok_results list) led
+    pub entry : Entry
+    pub then : next led (Some (Ok entry)) u
+    pub may : may_be_written list entry.user_key entry.seqno ≡ false
+
+  -- it gave some entries
+  pub record WritesPart (u : S) : Type 0 where
+    pub list : List Entry
+    pub gave : Yields next s (ok_results list) u
+
+  abbrev pub IsWritten : {A : Type 0} → CompactionOutcome A → S → Type 0
+  IsWritten (Tables tables left) u = WritesAll tables.items left u
+  IsWritten OutOfOrder u = WritesUpTo u
+  IsWritten Stopped u = WritesPart u
+
+  -- it gave these entries and one result more, no want of memory, at which it or the writer refuses
+  pub record RefusesAmong (e : Error) : Type 0 where
+    pub list : List Entry
+    pub led : S
+    pub gave : Yields next s (ok_results list) led
+    pub last : R
+    pub fine : result_stops is_memory last ≡ false
+    pub then : S
+    pub one : next led (Some last) then
+    pub fault : results_fault w (ok_results list ++ last ∷ []) ≡ Some e
+
+  -- it gave these entries, and nothing more: the writer refuses to finish
+  pub record RefusesBehind (e : Error) : Type 0 where
+    pub list : List Entry
+    pub led : S
+    pub gave : Yields next s (ok_results list) led
+    pub then : S
+    pub ended : next led None then
+    pub fault : writes_fault w list ≡ Some e
+
+  abbrev pub RefusesWritten : Error → Type 0
+  RefusesWritten e = RefusesAmong e ⊎ RefusesBehind e
+
+-- ---- a list that is compacted
+
+-- whatever a filter says of the entries of a list, what is kept of them fits as tables
+abbrev pub FitsKept : TablesWriting → Rules → List Entry → Type 0
+FitsKept w rules es = (js : List Judged) → entries js ≡ es → FitsBy w (kept rules js)
+
+-- a filter refuses nothing but for want of memory
+abbrev pub RefusesForMemory : {F : Type 0} → (F → Entry → Result Verdict Error → F → Type 0)
+    → Type 0
+RefusesForMemory {F} gives =
+    (f g : F) (x : Entry) (e : Error) → gives f x (Err e) g → e ≡ OutOfMemory
+
+module _ {F C : Type 0} (gives : F → Entry → Result Verdict Error → F → Type 0)
+    (gets : C → Entry → C → Type 0) (rules : Rules) where
+  -- calls of a compaction gave these results one after another, from a filter, a callback and a
+  -- list of results to what is left of the three
+  abbrev pub GivesEach : F → C → List R → List R → F → C → List R → Type 0
+  GivesEach f c xs [] g d ys = (f ≡ g) × (c ≡ d) × (xs ≡ ys)
+  GivesEach f c xs (r ∷ rs) g d ys =
+      (h : F) × (b : C) × (zs : List R) × Calls gives gets rules f c xs (Some r) h b zs
+      × GivesEach h b zs rs g d ys
+
+  module _ (f : F) (c : C) (es : List Entry) (w : TablesWriting) where
+    -- finished tables are those of what a compaction of the list keeps
+    pub record KeepsAll {A : Type 0} (fs : List (FinishedTable A)) (left : Option ℕ) (d : C)
+        : Type 0 where
+      pub kept : List Entry
+      pub filter : F
+      pub compacted : Compacted gives gets rules f c (ok_results es) (ok_results kept) filter d
+      pub written : AreWrittenBy w kept fs left
+
+    -- a compaction of the list gave some of what it keeps
+    pub record KeepsPart (d : C) : Type 0 where
+      pub kept : List Entry
+      pub filter : F
+      pub left : List R
+      pub given : GivesEach f c (ok_results es) (ok_results kept) filter d left
+
+    -- what a compaction of the list came to, and its callback then; entries come in order
+    abbrev pub CameTo : {A : Type 0} → CompactionOutcome A → C → Type 0
+    CameTo (Tables tables left) d = KeepsAll tables.items left d
+    CameTo OutOfOrder d = ⊥
+    CameTo Stopped d = KeepsPart d
+
+    -- a compaction of the list gave these results, at the last of which it or the writer refuses
+    pub record RefusesAt (e : Error) : Type 0 where
+      pub gave : List R
+      pub filter : F
+      pub callback : C
+      pub left : List R
+      pub given : GivesEach f c (ok_results es) gave filter callback left
+      pub fault : results_fault w gave ≡ Some e
+
+    -- the writer refuses all that a compaction of the list keeps
+    pub record RefusesKept (e : Error) : Type 0 where
+      pub kept : List Entry
+      pub filter : F
+      pub callback : C
+      pub compacted :
+          Compacted gives gets rules f c (ok_results es) (ok_results kept) filter callback
+      pub fault : writes_fault w kept ≡ Some e
+
+    -- which error is met first: of the filter, or of the writer
+    abbrev pub RefusesBy : Error → Type 0
+    RefusesBy e = RefusesAt e ⊎ RefusesKept e

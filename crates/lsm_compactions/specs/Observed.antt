@@ -1,0 +1,88 @@
+-- A compaction that an observer is told of: how far it has come, at the end of each table behind
+-- which another begins.
+use Rattle.std.specs.Prelude.{◌≡◌, ◌⊎◌, ℕ, ◌-◌, ◌^◌, min, Bool, true, false, List, [], ◌∷◌}
+use Rattle.std.specs.Prelude.{◌++◌, length}
+use Rattle.sst_entries.specs.Entry.{Entry}
+use Rattle.sst_entries.specs.Stream.{but_last}
+use Rattle.lsm_formats.specs.Chunks.{joined}
+use Rattle.lsm_writers.specs.declared.writer.FinishedTable.{FinishedTable}
+use Rattle.lsm_writers.specs.Tables.{AreFinished, AreTables, TablesWriting, all_written}
+use Rattle.lsm_writers.specs.Writing.{written}
+use Rattle.lsm_compactions.specs.Compacted.{first_written}
+use Rattle.lsm_compactions.specs.declared.any_runs.CompactionOutcome.{CompactionOutcome}
+use Rattle.lsm_compactions.specs.declared.any_runs.CompactionOutcome.TheVariants.{OutOfOrder}
+use Rattle.lsm_compactions.specs.declared.any_runs.CompactionOutcome.TheVariants.{Stopped, Tables}
+use Rattle.lsm_compactions.specs.declared.observer.CompactionProgress.{CompactionProgress}
+
+-- a count that would pass the largest number stays there
+abbrev pub told_count : ℕ → ℕ
+told_count n = min n (2 ^ 64 - 1)
+
+-- how far a compaction has come that has finished these tables
+abbrev pub progress_at : List (List Entry) → CompactionProgress
+progress_at ts =
+    record { tables = told_count (length ts); entries = told_count (length (joined ts)) }
+
+-- a compaction counts what its writer has taken
+abbrev pub IsCounted : CompactionProgress → TablesWriting → Type 0
+IsCounted progress m = progress ≡ record {
+  tables = told_count (length m.tables);
+  entries = told_count (length (all_written m));
+}
+
+-- no table is finished before the present one has an entry
+abbrev pub HasBegun : TablesWriting → Type 0
+HasBegun m = written m.present ≡ [] → m.tables ≡ []
+
+-- what is told as these tables are finished one after another, behind others
+abbrev pub told_behind : List (List Entry) → List (List Entry) → List CompactionProgress
+told_behind before [] = []
+told_behind before (t ∷ ts) =
+    progress_at (before ++ t ∷ []) ∷ told_behind (before ++ t ∷ []) ts
+
+abbrev pub told_of : List (List Entry) → List CompactionProgress
+told_of ts = told_behind [] ts
+
+module _ {O : Type 0} (says : O → CompactionProgress → Bool → O → Type 0) where
+  -- an observer was told these one after another, and answered each time to go on
+  abbrev pub GoesOnAt : O → List CompactionProgress → O → Type 0
+  GoesOnAt o [] q = o ≡ q
+  GoesOnAt o (m ∷ ms) q = (r : O) × says o m true r × GoesOnAt r ms q
+
+  -- it was told these, and answered at the last one to stop
+  pub record StopsAtLast (o : O) (ms : List CompactionProgress) (q : O) : Type 0 where
+    pub before : List CompactionProgress
+    pub last : CompactionProgress
+    pub are : ms ≡ before ++ last ∷ []
+    pub then : O
+    pub went_on : GoesOnAt o before then
+    pub stopped : says then last false q
+
+  -- an entry was written: where a table was finished for it, the observer was told and answered
+  abbrev pub TellsNext : TablesWriting → TablesWriting → O → Bool → O → Type 0
+  TellsNext m n o goes q =
+      ((n.tables ≡ m.tables) × (goes ≡ true) × (o ≡ q))
+      ⊎ ((t : List Entry) × (n.tables ≡ m.tables ++ t ∷ []) × says o (progress_at n.tables) goes q)
+
+  -- a list was written in part, cut into tables as a writer cuts it: the observer was told of all
+  -- but the last, which was not finished
+  pub record ToldOfPart (w : TablesWriting) (Ends : O → List CompactionProgress → O → Type 0)
+      (o q : O) : Type 0 where
+    pub list : List Entry
+    pub tables : List (List Entry)
+    pub cut : AreTables w.present.options.data_block_size w.target list tables
+    pub told : Ends o (told_of (but_last tables)) q
+
+  -- of finished tables it was told of all but the last, and answered each time to go on
+  pub record ToldOfAll {A : Type 0} (w : TablesWriting) (fs : List (FinishedTable A)) (o q : O)
+      : Type 0 where
+    pub tables : List (List Entry)
+    pub finished : AreFinished w.present.options (first_written w) tables fs
+    pub told : GoesOnAt o (told_of (but_last tables)) q
+
+  -- what an observer was told, by what a compaction came to: it is stopped just where the observer
+  -- answered so
+  abbrev pub IsTold : {A : Type 0} → TablesWriting → CompactionOutcome A → O → O → Type 0
+  IsTold w (Tables tables left) o q = ToldOfAll w tables.items o q
+  IsTold w OutOfOrder o q = ToldOfPart w GoesOnAt o q
+  IsTold w Stopped o q = ToldOfPart w StopsAtLast o q
