@@ -9,10 +9,11 @@ use Rattle.logpurple.specs.Words.{DealWithin, DealsList, Entry, Error, IsStrict,
 use Rattle.logpurple.specs.Words.{is_from, is_hit, is_to, leading_of, newest, numbered_below}
 use Rattle.logpurple.specs.Words.{point, same_key, seen, shown, single, sort_entries, union_in}
 use Rattle.logpurple.specs.Words.{within}
-use Rattle.logpurple.proofs.Laws.{all_inserted, and_false, as_pairs, ascends_in_order}
+use Rattle.logpurple.proofs.Laws.{and_false, as_pairs, ascends_in_order}
 use Rattle.logpurple.proofs.Laws.{ascends_of, filter_ascends, hit_key, leading_sorted}
 use Rattle.logpurple.proofs.Laws.{leads_older, ranges_by_points, union_up}
 use Rattle.example_store.specs.Story.{Holding, IsStore, IsStory, IsTold}
+use Rattle.example_store.proofs.Own.{all_in_order}
 use Rattle.example_store.proofs.Places.{hit_first, hit_later}
 use Rattle.example_store.proofs.Stories.{low_lists, read_more, story_later}
 
@@ -81,11 +82,6 @@ module _ (below : ℕ) where
         ∙ sym (ap (λ (es : List Entry). all_shown (newest es)) (below_within ys))
 
 -- ---- a story, sorted
-
-all_in_order : (P : Entry → Type 0) (es : List Entry) → AllByRecursion P es
-    → AllByRecursion P (sort_entries es)
-all_in_order P [] h = tt
-all_in_order P (e ∷ es) h = all_inserted P e (sort_entries es) h.0 (all_in_order P es h.1)
 
 pub story_below : (n : ℕ) (ws : List Entry) → IsStory n ws
     → AllByRecursion (λ (e : Entry). e.seqno < n) ws

@@ -9,4 +9,4 @@ mod memtable;
 mod store;
 
 pub use memtable::Memtable;
-pub use store::{Range, Store};
+pub use store::{Closed, FileFault, OpenError, Range, Store};
