@@ -3,7 +3,7 @@ use Rattle.std.proofs.Common.{◌≡◌, refl, sym, ◌∙◌, ap, subst, ℕ, �
 use Rattle.std.proofs.Common.{true, false, List, [], ◌∷◌, ◌++◌, count_by, length, take, get_or}
 use Rattle.std.proofs.Common.{zero, suc, arith, ltb, le-ltb}
 use Rattle.std.specs.Prelude.{Ok, Err, IfOk, Result, map}
-use Rattle.std.specs.List.{AllByRecursion, AllZip}
+use Rattle.std.specs.List.{AllByRecursion}
 use Rattle.std.proofs.lemmas.Bool.{cases_Bool}
 use Rattle.std.proofs.lemmas.List.{map-append, take_more}
 use Rattle.logpurple.specs.Words.{Entry, Error, HoldLists, HoldsList, IsInOrder, OpenTable}
@@ -11,14 +11,11 @@ use Rattle.logpurple.specs.Words.{RunsHoldLists, StoresList, is_memory, lift, ra
 use Rattle.logpurple.specs.Words.{union_in}
 use Rattle.logpurple.proofs.Laws.{IsOpen, are_in_order, count_no, fits_told, highest_seqno, is_weak}
 use Rattle.logpurple.proofs.Laws.{lift_zero, none_counted, small_numbers}
-use Rattle.example_store.specs.Closed.{StoreLists, bytes_in}
+use Rattle.example_store.specs.Closed.{bytes_in}
 use Rattle.example_store.specs.Story.{Holding, IsOwn, IsOwnRun, IsOwnTable, IsStory, IsTold}
-use Rattle.example_store.proofs.Own.{own_lists, own_run_lists}
+use Rattle.example_store.proofs.Own.{bytes_of}
 
 -- ---- the same bytes hold the same lists
-
-abbrev pub bytes_of : OpenTable → List ℕ
-bytes_of t = t.bytes
 
 module _ (n m : ℕ) where
   held_one : (t u : OpenTable) (es : List Entry) → t.bytes ≡ u.bytes → IsOwnTable n t
@@ -71,24 +68,6 @@ module _ (n m : ℕ) where
         ap (λ (xs : List Entry). seen (xs ++ union_in told.lists) key bound) (sym recent)
         ∙ told.same key bound (omega (arith, oldest, reads));
   }
-
--- ---- each file stores a list
-
-module _ (n : ℕ) where
-  pub table_stored : (t : OpenTable) (own : IsOwnTable n t) → StoresList t.bytes own.list
-  table_stored t own = subst (StoresList t.bytes)
-      (sym (own.holds.lifted_is ∙ ap (lift own.holds.stored) own.unlifted
-      ∙ lift_zero own.holds.stored)) own.holds.table
-
-  run_stored : (ts : List OpenTable) (own : AllByRecursion (IsOwnTable n) ts)
-      → AllZip StoresList (map bytes_of ts) (own_lists n ts own).lists
-  run_stored [] own = tt
-  run_stored (t ∷ ts) own = (table_stored t own.0, run_stored ts own.1)
-
-  pub runs_stored : (runs : List (List OpenTable)) (own : AllByRecursion (IsOwnRun n) runs)
-      → StoreLists (bytes_in runs) (own_run_lists n runs own).lists
-  runs_stored [] own = tt
-  runs_stored (ts ∷ runs) own = (run_stored ts own.0.tables, runs_stored runs own.1)
 
 -- ---- one more of a list
 

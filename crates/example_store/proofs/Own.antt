@@ -2,14 +2,16 @@
 use Rattle.std.proofs.Common.{◌≡◌, refl, sym, ◌∙◌, ap, subst, ℕ, ◌+◌, ◌-◌, ◌^◌, ◌<◌, ◌≤◌, inr, List}
 use Rattle.std.proofs.Common.{[], ◌∷◌, ◌++◌, length, arith}
 use Rattle.std.specs.Prelude.{IfSome, MatchOption, None, Option, Some, map}
-use Rattle.std.specs.List.{AllByRecursion}
+use Rattle.std.specs.List.{AllByRecursion, AllZip}
 use Rattle.std.proofs.lemmas.Simd.{map-map}
 use Rattle.logpurple.specs.Words.{AreCompactable, AreCutOf, Entry, HasList, HoldLists, IsStrict}
-use Rattle.logpurple.specs.Words.{Label, OpenTable, Rules, RunsHoldLists, all_entries, joined}
-use Rattle.logpurple.specs.Words.{joined_in, kept_in, ok_results, sort_entries, union_in}
+use Rattle.logpurple.specs.Words.{Label, OpenTable, Rules, RunsHoldLists, StoresList}
+use Rattle.logpurple.specs.Words.{all_entries, joined, joined_in, kept_in, lift, ok_results}
+use Rattle.logpurple.specs.Words.{sort_entries, union_in}
 use Rattle.logpurple.proofs.Laws.{AreOpened, HaveEntries, all_append, all_behind, all_front}
 use Rattle.logpurple.proofs.Laws.{all_inserted, all_kept, all_more, entries_joined, one_way}
-use Rattle.logpurple.proofs.Laws.{tables_there, zeroed_below}
+use Rattle.logpurple.proofs.Laws.{lift_zero, tables_there, zeroed_below}
+use Rattle.example_store.specs.Closed.{StoreLists, bytes_in}
 use Rattle.example_store.specs.Story.{IsOwn, IsOwnRun, IsOwnTable, option_list}
 
 -- what is so of each is so of each once they are sorted
@@ -151,7 +153,8 @@ opened_unlifted : (label : Label) (lists : List (List Entry)) (run : List OpenTa
     → AllByRecursion (λ (t : OpenTable). t.global_seqno ≡ 0) run
 opened_unlifted label lists [] h = tt
 opened_unlifted label [] (t ∷ ts) h = absurd h
-opened_unlifted label (es ∷ ls) (t ∷ ts) h = (h.0.is.number_is, opened_unlifted _ ls ts h.1)
+opened_unlifted label (es ∷ ls) (t ∷ ts) h =
+    (h.0.is.number_is, opened_unlifted (record label { table_id = label.table_id + 1 }) ls ts h.1)
 
 pub cut_own : (bound : ℕ) (label : Label) (target : ℕ) (es : List Entry)
     (r : Option (List OpenTable)) → MatchOption r (es ≡ []) (λ run. HasList es run)
@@ -190,3 +193,24 @@ module _ (n m : ℕ) (le : n ≤ m) where
     order = h.order;
     tables = later_tables run h.tables;
   })
+
+-- ---- each file stores a list
+
+abbrev pub bytes_of : OpenTable → List ℕ
+bytes_of t = t.bytes
+
+module _ (n : ℕ) where
+  pub table_stored : (t : OpenTable) (own : IsOwnTable n t) → StoresList t.bytes own.list
+  table_stored t own = subst (StoresList t.bytes)
+      (sym (own.holds.lifted_is ∙ ap (lift own.holds.stored) own.unlifted
+      ∙ lift_zero own.holds.stored)) own.holds.table
+
+  run_stored : (ts : List OpenTable) (own : AllByRecursion (IsOwnTable n) ts)
+      → AllZip StoresList (map bytes_of ts) (own_lists n ts own).lists
+  run_stored [] own = tt
+  run_stored (t ∷ ts) own = (table_stored t own.0, run_stored ts own.1)
+
+  pub runs_stored : (runs : List (List OpenTable)) (own : AllByRecursion (IsOwnRun n) runs)
+      → StoreLists (bytes_in runs) (own_run_lists n runs own).lists
+  runs_stored [] own = tt
+  runs_stored (ts ∷ runs) own = (run_stored ts own.0.tables, runs_stored runs own.1)

@@ -1,7 +1,11 @@
 -- How a store goes on telling its story where a part of its runs is compacted.
-use Rattle.std.proofs.Common.{◌≡◌, refl, sym, ◌∙◌, ap, subst, ℕ, ◌+◌, ◌-◌, ◌^◌, ◌≤◌, inl, Bool}
-use Rattle.std.proofs.Common.{false, List, [], ◌∷◌, ◌++◌, append_assoc, count_by, drop, take, arith}
-use Rattle.std.specs.List.{AllByRecursion, AllZip}
+use Rattle.std.proofs.Common.{◌≡◌, refl, sym, ◌∙◌, ap, subst, ℕ, ◌+◌, ◌-◌, ◌^◌, ◌≤◌, inl, inr}
+use Rattle.std.proofs.Common.{Bool, false, List, [], ◌∷◌, ◌++◌, append_assoc, count_by, drop, take}
+use Rattle.std.proofs.Common.{length, arith}
+use Rattle.std.specs.Prelude.{map, min}
+use Rattle.std.specs.List.{AllByRecursion, AllZip, drop-map}
+use Rattle.std.proofs.lemmas.Bool.{cases_lt}
+use Rattle.std.proofs.lemmas.List.{drop_all, take-map, take_all}
 use Rattle.logpurple.specs.Words.{AreCompactable, AreReplaced, Entry, HaveAll, HoldLists}
 use Rattle.logpurple.specs.Words.{IsInOrder, IsStrict, IsWritable, OpenTable, RunsHoldLists}
 use Rattle.logpurple.specs.Words.{joined, joined_in, kept_in, range_of, rules_by, seen, union_in}
@@ -56,6 +60,51 @@ three_parts from to runs =
     take_drop to runs
     ∙ ap (λ (xs : List (List OpenTable)). xs ++ drop to runs) (take_drop from (take to runs))
     ∙ append_assoc (take from (take to runs)) (drop from (take to runs)) (drop to runs)
+
+-- ---- parts of a list whose places may lie behind its end
+
+module _ {X : Type 0} where
+  take_least : (n : ℕ) (xs : List X) → take (min n (length xs)) xs ≡ take n xs
+  take_least n xs = elim (cases_lt n (length xs)) [
+    | inl less ↦ let is : min n (length xs) ≡ n = omega (arith, less) in
+        ap (λ (k : ℕ). take k xs) is
+    | inr past ↦ let is : min n (length xs) ≡ length xs = omega (arith, past) in
+        ap (λ (k : ℕ). take k xs) is ∙ take_all (length xs) xs (omega arith)
+        ∙ sym (take_all n xs past)
+  ]
+
+  drop_least : (n : ℕ) (xs : List X) → drop (min n (length xs)) xs ≡ drop n xs
+  drop_least n xs = elim (cases_lt n (length xs)) [
+    | inl less ↦ let is : min n (length xs) ≡ n = omega (arith, less) in
+        ap (λ (k : ℕ). drop k xs) is
+    | inr past ↦ let is : min n (length xs) ≡ length xs = omega (arith, past) in
+        ap (λ (k : ℕ). drop k xs) is ∙ drop_all (length xs) xs (omega arith)
+        ∙ sym (drop_all n xs past)
+  ]
+
+module _ {X : Type 0} (f : X → List OpenTable) (xs : List X) (from to m : ℕ) (upper : List X)
+    (least : m ≡ min to (length xs)) where
+  upper_is : upper ≡ take m xs → upper ≡ take to xs
+  upper_is is = is ∙ ap (λ (k : ℕ). take k xs) least ∙ take_least to xs
+
+  pub behind_cut : (behind : List X) → behind ≡ drop m xs → map f behind ≡ drop to (map f xs)
+  behind_cut behind is =
+      ap (map f) (is ∙ ap (λ (k : ℕ). drop k xs) least ∙ drop_least to xs) ∙ sym (drop-map f to xs)
+
+  module _ (k : ℕ) (lower : k ≡ min from (length upper)) where
+    pub front_cut : (front : List X) → upper ≡ take m xs → front ≡ take k upper
+        → map f front ≡ front_of from to (map f xs)
+    front_cut front first is =
+        ap (map f) (is ∙ ap (λ (n : ℕ). take n upper) lower ∙ take_least from upper
+        ∙ ap (take from) (upper_is first))
+        ∙ sym (take-map f from (take to xs)) ∙ ap (take from) (sym (take-map f to xs))
+
+    pub part_cut : (part : List X) → upper ≡ take m xs → part ≡ drop k upper
+        → map f part ≡ part_of from to (map f xs)
+    part_cut part first is =
+        ap (map f) (is ∙ ap (λ (n : ℕ). drop n upper) lower ∙ drop_least from upper
+        ∙ ap (drop from) (upper_is first))
+        ∙ sym (drop-map f from (take to xs)) ∙ ap (drop from) (sym (take-map f to xs))
 
 -- ---- a part is compacted
 

@@ -2,7 +2,7 @@
 use Rattle.std.proofs.Common.{◌≡◌, refl, sym, ◌∙◌, ap, subst, ℕ, ◌+◌, ◌-◌, ◌^◌}
 use Rattle.std.proofs.Common.{false, List, [], arith, ltb, le-ltb}
 use Rattle.std.specs.Prelude.{Option, Some, None, Result, Ok, Err, IfErr, IfOk, IfSome}
-use Rattle.std.specs.Prelude.{IsErrAnd, MatchOption}
+use Rattle.std.specs.Prelude.{IsErrAnd, IsOk, MatchOption}
 use Rattle.std.specs.Option.{option_map, option_or}
 use Rattle.logpurple.specs.Words.{AreCutOf, Entry, Error, HasList, IsRunOfList, IsWritable}
 use Rattle.logpurple.specs.Words.{Label, OpenTable, chain_fault, highest_seqno, is_memory}
@@ -66,7 +66,7 @@ shared_own {X} f P o r same told = own o (subst (λ (p : Option (List OpenTable)
     own (Some x) h = h
 
 -- what is so of what an answer is seen as, where it is this
-pub ok_is : {S X : Type 0} (f : S → X) (P : X → Type 0) (r : Result S Error) (x : X)
+pub ok_is : {S X E : Type 0} (f : S → X) (P : X → Type 0) (r : Result S E) (x : X)
     → IfOk r (λ s. f s ≡ x) → P x → IfOk r (λ s. P (f s))
 ok_is f P (Ok s) x same holds = subst P (sym same) holds
 ok_is f P (Err e) x same holds = tt
@@ -82,3 +82,8 @@ pub wanted : {X E : Type 0} (m : E) (r : Result X E) (e : E) → IsErrAnd r (λ 
     → IfErr r (λ y. y ≡ m)
 wanted m (Ok x) e is memory = tt
 wanted m (Err y) e is memory = is ∙ memory
+
+-- an answer refuses nothing
+pub refuses_none : {X E : Type 0} (P : E → Type 0) (r : Result X E) → IsOk r → IfErr r P
+refuses_none P (Ok x) fine = tt
+refuses_none P (Err e) fine = absurd fine

@@ -158,7 +158,7 @@ pub numbered_later : (from n m : ℕ) (es : List Entry) → n ≤ m → AreNumbe
 numbered_later from n m es le h = all_more
     (λ (e : Entry). (from ≤ e.seqno) × IsOwn n e)
     (λ (e : Entry). (from ≤ e.seqno) × IsOwn m e)
-    (λ e both. let less = both.1.0 in (both.0, omega (arith, le, less), both.1.1)) es h
+    (λ e both. let less = both.1.0 in (both.0, (omega (arith, le, less), both.1.1))) es h
 
 -- entries that are a store's own, and numbered below a number
 pub all_own : (from n : ℕ) (es : List Entry) → AreNumbered from n es → AllByRecursion (IsOwn n) es
@@ -193,7 +193,7 @@ numbered_more from next later e old new put h order number kind is =
     let P = λ (x : Entry). (from ≤ x.seqno) × IsOwn later x in
     subst (AllByRecursion P) (sym put.new_is)
     (all_put e P put.front put.behind
-    (omega (arith, number, order), omega (arith, number, is), kind)
+    (omega (arith, number, order), (omega (arith, number, is), kind))
     (subst (AllByRecursion P) put.old_is
     (numbered_later from next later old (omega (arith, is)) h)))
 

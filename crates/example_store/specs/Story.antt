@@ -52,10 +52,10 @@ pub record IsOwnTable (bound : ℕ) (t : OpenTable) : Type 0 where
   pub unlifted : t.global_seqno ≡ 0
 
 -- a run in order of such tables
-pub record IsOwnRun (bound : ℕ) (tables : List OpenTable) : Type 0 where
-  pub some : 0 < length tables
-  pub order : IsInOrder range_of tables
-  pub tables : AllByRecursion (IsOwnTable bound) tables
+pub record IsOwnRun (bound : ℕ) (run : List OpenTable) : Type 0 where
+  pub some : 0 < length run
+  pub order : IsInOrder range_of run
+  pub tables : AllByRecursion (IsOwnTable bound) run
 
 -- runs of such tables, which may be compacted
 pub record HoldBelow (bound : ℕ) (runs : List (List OpenTable)) : Type 0 where

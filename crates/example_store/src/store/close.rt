@@ -1,5 +1,5 @@
 //! Closing a store: what is kept of it.
-ghost use Rattle.std.specs.Prelude.{◌≡◌, IfErr, IfOk, List, Some, false, map};
+ghost use Rattle.std.specs.Prelude.{◌≡◌, [], IfErr, IfOk, List, Some, false, map};
 ghost use Rattle.std.specs.Arc.{arc_value};
 ghost use Rattle.example_store.specs.Closed.{IsClosed, bytes_in};
 ghost use Rattle.example_store.specs.Story.{IsStore, IsTold};

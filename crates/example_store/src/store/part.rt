@@ -1,12 +1,11 @@
 //! Compacting a part of the runs of a store.
 ghost use Rattle.std.specs.Prelude.{◌≡◌, ◌++◌, IfErr, IfOk, List, OnErr, OnOk, Some, drop, false};
-ghost use Rattle.std.specs.Prelude.{map, max, ℕ};
+ghost use Rattle.std.specs.Prelude.{map, max};
 ghost use Rattle.std.specs.Arc.{arc_value};
-ghost use Rattle.std.specs.List.{AllByRecursion};
 ghost use Rattle.example_store.specs.Part.{IsPartKept, front_of, part_of};
-ghost use Rattle.example_store.specs.Story.{IsOwnRun, IsTold};
-ghost use Rattle.logpurple.specs.Words.{AreCompactable, Entry, HoldSides, OutOfMemory};
-ghost use Rattle.logpurple.specs.Words.{RunsHoldLists, is_memory, kept_in, rules_by, tables_fault};
+ghost use Rattle.example_store.specs.Story.{IsTold};
+ghost use Rattle.logpurple.specs.Words.{Entry, OutOfMemory, RunsHoldLists, is_memory, kept_in};
+ghost use Rattle.logpurple.specs.Words.{rules_by, tables_fault};
 
 use crate::Store;
 use crate::store::compact::{Runs, compacted};

@@ -1,7 +1,7 @@
 use Rattle.std.proofs.Common.{◌≡◌, take}
 use Rattle.std.specs.Prelude.{map}
 use Rattle.std.specs.Arc.{arc_value}
-use Rattle.example_store.proofs.Opening.{bytes_of}
+use Rattle.example_store.proofs.Own.{bytes_of}
 use Rattle.example_store.proofs.store.close.files_of.Given as goal
 
 abbrev pub invariant-loop-run : goal.invariant-loop-run

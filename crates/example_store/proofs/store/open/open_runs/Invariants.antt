@@ -3,7 +3,7 @@ use Rattle.std.specs.Prelude.{map}
 use Rattle.std.specs.Arc.{arc_value}
 use Rattle.std.specs.List.{AllByRecursion}
 use Rattle.example_store.specs.Story.{IsOwnRun}
-use Rattle.example_store.proofs.Opening.{bytes_of}
+use Rattle.example_store.proofs.Own.{bytes_of}
 use Rattle.example_store.proofs.store.open.open_runs.Given as goal
 
 abbrev pub invariant-loop-run : goal.invariant-loop-run

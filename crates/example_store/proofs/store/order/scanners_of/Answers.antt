@@ -13,7 +13,7 @@ pub loop-run-init : goal.loop-run-init
 loop-run-init g c = rw c.new-scanners.ensures.items tt
 
 pub scanner_of-requires : goal.scanner_of-requires
-scanner_of-requires g c = all_at arc_value (λ (run : List OpenTable). 0 < length run) c.args.runs.now c.loop-run.run-index c.run-item.result c.requires c.loop-run-test.true c.run-item.is
+scanner_of-requires g c = all_at arc_value (λ (run : List OpenTable). 0 < length run) c.args.runs.now c.loop-run.run-index c.run-item.result c.requires.some c.loop-run-test.true c.run-item.is
 
 pub loop-run-preserved : goal.loop-run-preserved
 loop-run-preserved g c =
