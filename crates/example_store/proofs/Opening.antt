@@ -6,14 +6,15 @@ use Rattle.std.specs.Prelude.{Ok, Err, IfOk, Result, map}
 use Rattle.std.specs.List.{AllByRecursion}
 use Rattle.std.proofs.lemmas.Bool.{cases_Bool}
 use Rattle.std.proofs.lemmas.List.{map-append, take_more}
-use Rattle.logpurple.specs.Words.{Entry, Error, HoldLists, HoldsList, IsInOrder, OpenTable}
+use Rattle.logpurple.specs.Words.{AreCompactable, Entry, Error, HoldLists, HoldsList, IsInOrder}
+use Rattle.logpurple.specs.Words.{IsStrict, OpenTable}
 use Rattle.logpurple.specs.Words.{RunsHoldLists, StoresList, is_memory, lift, range_of, seen}
 use Rattle.logpurple.specs.Words.{union_in}
 use Rattle.logpurple.proofs.Laws.{IsOpen, are_in_order, count_no, fits_told, highest_seqno, is_weak}
-use Rattle.logpurple.proofs.Laws.{lift_zero, none_counted, small_numbers}
+use Rattle.logpurple.proofs.Laws.{lift_zero, none_counted, one_way, small_numbers}
 use Rattle.example_store.specs.Closed.{bytes_in}
 use Rattle.example_store.specs.Story.{Holding, IsOwn, IsOwnRun, IsOwnTable, IsStory, IsTold}
-use Rattle.example_store.proofs.Own.{bytes_of}
+use Rattle.example_store.proofs.Own.{bytes_of, own_run_lists}
 
 -- ---- the same bytes hold the same lists
 
@@ -54,6 +55,17 @@ module _ (n m : ℕ) where
         (other.0.order, held_run ts us ls one own.0.tables other.0.tables h.0.1),
         held_alike runs others lists more own.1 other.1 h.1,
       )
+
+  -- in strict order, where the others' are
+  pub strict_alike : (runs others : List (List OpenTable)) → bytes_in runs ≡ bytes_in others
+      → AllByRecursion (IsOwnRun n) runs → (own : AllByRecursion (IsOwnRun m) others)
+      → AreCompactable runs → IsStrict (union_in (own_run_lists m others own).lists)
+  strict_alike runs others same was own able =
+      let all = own_run_lists m others own in
+      subst (λ (ls : List (List (List Entry))). IsStrict (union_in ls))
+      (one_way others able.lists all.lists
+      (held_alike runs others able.lists same was own able.hold) all.hold)
+      able.writable.strict
 
   -- and so a store of them tells the same
   pub tells_alike : (s t : Holding) (ws : List Entry) → IsTold s ws

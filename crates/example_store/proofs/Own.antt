@@ -207,10 +207,12 @@ module _ (n : ℕ) where
 
   run_stored : (ts : List OpenTable) (own : AllByRecursion (IsOwnTable n) ts)
       → AllZip StoresList (map bytes_of ts) (own_lists n ts own).lists
+  unfolding own_lists
   run_stored [] own = tt
   run_stored (t ∷ ts) own = (table_stored t own.0, run_stored ts own.1)
 
   pub runs_stored : (runs : List (List OpenTable)) (own : AllByRecursion (IsOwnRun n) runs)
       → StoreLists (bytes_in runs) (own_run_lists n runs own).lists
+  unfolding own_run_lists
   runs_stored [] own = tt
   runs_stored (ts ∷ runs) own = (run_stored ts own.0.tables, runs_stored runs own.1)

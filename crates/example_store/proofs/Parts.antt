@@ -175,6 +175,15 @@ module _ (flushed watermark : ℕ) (front part behind made : List (List OpenTabl
         reads_alike_of_part key bound reads
         ∙ ap (λ (ls : List (List (List Entry))). seen (union_in ls) key bound) (sym parts.whole)
 
+-- the runs as they stand then
+pub placed_part : (front made behind new others kept rest : List (List OpenTable))
+    → new ≡ front ++ (made ++ behind) → front ≡ others → made ≡ kept → behind ≡ rest
+    → new ≡ others ++ (kept ++ rest)
+placed_part front made behind new others kept rest is front_is made_is behind_is =
+    is ∙ ap (λ (xs : List (List OpenTable)). xs ++ (made ++ behind)) front_is
+    ∙ ap (λ (xs : List (List OpenTable)). others ++ (xs ++ behind)) made_is
+    ∙ ap (λ (xs : List (List OpenTable)). others ++ (kept ++ xs)) behind_is
+
 -- a store whose part was compacted tells what it told
 pub tells_part : (s t : Holding) (ws : List Entry) (from to watermark : ℕ)
     (made : List (List OpenTable)) → IsStore s → IsTold s ws

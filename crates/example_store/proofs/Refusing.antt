@@ -86,4 +86,4 @@ wanted m (Err y) e is memory = is ∙ memory
 -- an answer refuses nothing
 pub refuses_none : {X E : Type 0} (P : E → Type 0) (r : Result X E) → IsOk r → IfErr r P
 refuses_none P (Ok x) fine = tt
-refuses_none P (Err e) fine = absurd fine
+refuses_none P (Err e) fine = absurd cc

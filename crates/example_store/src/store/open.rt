@@ -1,5 +1,6 @@
 //! Opening a store from what was kept of one.
-ghost use Rattle.std.specs.Prelude.{◌≡◌, ◌<◌, IfErr, IfOk, IsOk, List, length, map, true};
+ghost use Rattle.std.specs.Prelude.{◌≡◌, ◌-◌, ◌^◌, ◌<◌, IfErr, IfOk, IsOk, List, length, map};
+ghost use Rattle.std.specs.Prelude.{nat_lt, true};
 ghost use Rattle.std.specs.List.{AllByRecursion};
 ghost use Rattle.std.specs.Arc.{arc_value};
 ghost use Rattle.example_store.specs.Closed.{IsClosed, StoreLists, bytes_in, files_in};
@@ -99,7 +100,7 @@ impl<A: Allocator + Clone> Store<A> {
         ensures taken { (s : Holding) → IsStore s → IsClosed s closed.now →
             IfErr result (λ e. e ≡ OutOfMemory) }
     {
-        if closed.next == SeqNo::MAX {
+        if !has_room(closed.next) {
             return Err(OpenError::SeqNoOverflow);
         }
         let runs = open_runs(alloc.clone()?, &closed.files, closed.next)?;
@@ -117,6 +118,13 @@ impl<A: Allocator + Clone> Store<A> {
             oldest: closed.oldest,
         })
     }
+}
+
+// Whether a number is left for a write.
+fn has_room(next: SeqNo) -> bool
+    ensures { result ≡ nat_lt next (2 ^ 64 - 1) }
+{
+    next < SeqNo::MAX
 }
 
 // The runs of some files, where each may be a store's.

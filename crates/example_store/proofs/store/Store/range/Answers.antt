@@ -7,6 +7,20 @@ use Rattle.example_store.specs.Story.{Holding, IsStore}
 use Rattle.example_store.proofs.Ranges.{dealt_told, one_source, range_told}
 use Rattle.example_store.proofs.store.Store.range.Goals as goal
 
+pub returns-clause-read : goal.returns-clause-read
+returns-clause-read g c lists held =
+    let is = c.self.view_is in
+    let s = c.args.self.now in
+    let low = c.args.bounds.0 in
+    let high = c.args.bounds.1 in
+    let es = c.self.inside.memtable in
+    let recent : es ≡ s.recent = ap (λ (h : Holding). h.recent) is in
+    let same : map arc_value c.deref.result.now ≡ s.runs = ap (map arc_value) c.deref.ensures.value ∙ ap (λ (h : Holding). h.runs) is in
+    let hold = subst (λ (rs : List (List OpenTable)). RunsHoldLists rs lists) (sym same) held in
+    let sources = c.in_ok-push.ensures.items ∙ ap (λ xs. xs ++ c.in_ok-recent.recent ∷ []) c.new-sources.ensures.items in
+    rw (sym recent)
+    (c.range_sources_at.ensures.list lists hold (es ∷ []) (one_source _ _ low high _ c.in_ok-recent.recent es sources c.within.ensures.strict c.in_ok-recent.ensures.list))
+
 pub returns-clause-told : goal.returns-clause-told
 returns-clause-told g c ws told kept =
     let is = c.self.view_is in
