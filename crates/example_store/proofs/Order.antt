@@ -1,13 +1,13 @@
 -- Whether what runs have together is in strict order, by one pass over all of it.
-use Rattle.std.proofs.Common.{◌≡◌, refl, sym, ◌∙◌, ap, subst, ℕ, zero, suc, ◌+◌, ◌<◌, inl, inr, Bool}
+use Rattle.std.proofs.Common.{◌≡◌, refl, sym, ◌∙◌, ap, subst, ℕ, zero, suc, ◌+◌, ◌<◌, inl, inr}
 use Rattle.std.proofs.Common.{true, false, List, [], ◌∷◌, ◌++◌, get_or, length, take, arith}
 use Rattle.std.specs.Prelude.{Option, Some, None, Result, Ok, Err, IfErr, IsErrAnd, map}
 use Rattle.std.specs.List.{AllByRecursion, AllZip}
 use Rattle.std.proofs.lemmas.Bool.{cases_Bool}
 use Rattle.std.proofs.lemmas.List.{map-append, take_more}
-use Rattle.logpurple.specs.Words.{DealsList, Entry, Error, HoldLists, IsInOrder, IsStrict}
+use Rattle.logpurple.specs.Words.{DealsList, Entry, Error, HoldLists, IsStrict}
 use Rattle.logpurple.specs.Words.{OpenTable, OutOfMemory, RunsHoldLists, answer_stops, is_memory}
-use Rattle.logpurple.specs.Words.{joined, ok_results, range_of}
+use Rattle.logpurple.specs.Words.{joined, ok_results}
 use Rattle.logpurple.specs.Words.{IsStrictAfter}
 use Rattle.logpurple.proofs.Laws.{Ascends, DealTogether, HaveEntries, RunScan, RunScansNext}
 use Rattle.logpurple.proofs.Laws.{apart, ascends_of, deals_front, may_follow, memory_is, nowhere}

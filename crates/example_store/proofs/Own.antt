@@ -1,6 +1,6 @@
 -- Tables and runs that have a store's own entries alone.
-use Rattle.std.proofs.Common.{◌≡◌, refl, sym, ◌∙◌, ap, subst, ℕ, ◌+◌, ◌-◌, ◌^◌, ◌<◌, ◌≤◌, inr, List}
-use Rattle.std.proofs.Common.{[], ◌∷◌, ◌++◌, length, arith}
+use Rattle.std.proofs.Common.{◌≡◌, sym, ◌∙◌, ap, subst, ℕ, ◌+◌, ◌-◌, ◌^◌, ◌<◌, ◌≤◌, List}
+use Rattle.std.proofs.Common.{[], ◌∷◌, length, arith}
 use Rattle.std.specs.Prelude.{IfSome, MatchOption, None, Option, Some, map}
 use Rattle.std.specs.List.{AllByRecursion, AllZip}
 use Rattle.std.proofs.lemmas.Simd.{map-map}

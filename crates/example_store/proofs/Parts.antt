@@ -157,8 +157,12 @@ module _ (flushed watermark : ℕ) (front part behind made : List (List OpenTabl
     part_replaced = side_by_side (rules_by watermark false false) parts.fs parts.ps has.lists
         parts.bs has.whole
         (subst (λ (ls : List (List (List Entry))). IsStrict (union_in ls)) parts.whole strict)
-        (inl (refl, refl, all_more (IsOwn flushed) (λ (e : Entry). is_weak e ≡ false)
-        (λ e h. h.1) (union_in parts.ps) (own_union flushed part own parts.ps parts.in_part)))
+        (inl (
+          refl,
+          refl,
+          all_more (IsOwn flushed) (λ (e : Entry). is_weak e ≡ false)
+              (λ e h. h.1) (union_in parts.ps) (own_union flushed part own parts.ps parts.in_part),
+        ))
 
     pub part_holds : RunsHoldLists (front ++ (made ++ behind))
         (parts.fs ++ (has.lists ++ parts.bs))

@@ -138,6 +138,13 @@ pub dealt_told : {S : Type 0} (front back : S → Option (Result Entry Error) �
 dealt_told front back Q (Ok s) es deals holds = (es, deals, holds)
 dealt_told front back Q (Err e) es deals holds = tt
 
+-- so of the same list, written otherwise
+pub dealt_as : {S : Type 0} (front back : S → Option (Result Entry Error) → S → Type 0)
+    (r : Result S Error) (f : List Entry → List Entry) (xs ys : List Entry) → xs ≡ ys
+    → IfOk r (DealsList front back (f xs)) → IfOk r (DealsList front back (f ys))
+dealt_as front back r f xs ys same = subst (λ (es : List Entry).
+    IfOk r (DealsList front back (f es))) same
+
 -- one source, of a list in order
 pub one_source : {S : Type 0} (front back : S → Option (Result Entry Error) → S → Type 0)
     (low high : Bound (List ℕ)) (sources : List S) (s : S) (es : List Entry) → sources ≡ s ∷ []

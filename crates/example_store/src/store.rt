@@ -18,11 +18,11 @@ mod part;
 mod range;
 
 use crate::Memtable;
+pub use close::Closed;
 use logpurple::{
     Error, InternalValue, Run, SeqNo, Slice, Table, TableIds, Timestamp, ValueType, get_runs,
     write_run,
 };
-pub use close::Closed;
 pub use open::{FileFault, OpenError};
 pub use range::Range;
 use std::alloc::{Allocator, Global};

@@ -150,7 +150,11 @@ fn compare_opened(
     Ok(())
 }
 
-fn compare_over(rt: &HostRuntime, store: &mut Store, all: &mut Vec<Compared>) -> anyhow::Result<()> {
+fn compare_over(
+    rt: &HostRuntime,
+    store: &mut Store,
+    all: &mut Vec<Compared>,
+) -> anyhow::Result<()> {
     let alloc = rt.alloc();
     let mut plains = Plains {
         first: BTreeMap::new(alloc),

@@ -74,10 +74,7 @@ fn files_of<A: Allocator + Clone>(
 }
 
 // The bytes of some tables, shared.
-fn bytes_of<A: Allocator + Clone>(
-    alloc: A,
-    tables: &[Table<A>],
-) -> Result<Vec<Slice<A>, A>, Error>
+fn bytes_of<A: Allocator + Clone>(alloc: A, tables: &[Table<A>]) -> Result<Vec<Slice<A>, A>, Error>
     ensures files { IfOk result (λ files.
         files.items ≡ map (λ (t : OpenTable). t.bytes) tables.now) }
     ensures memory { IfErr result (λ e. e ≡ OutOfMemory) }

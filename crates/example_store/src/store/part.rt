@@ -18,12 +18,7 @@ impl<A: Allocator + Clone> Store<A> {
     /// them, of what readers at the watermark and at later snapshots see of them; older snapshots
     /// are kept no longer. The newest run has place 0, and there are as many as there are. The
     /// other runs and the memtable stay, so tombstones do. Refused as [`Store::compact`] is.
-    pub fn compact_part(
-        &mut self,
-        from: usize,
-        to: usize,
-        watermark: SeqNo,
-    ) -> Result<(), Error>
+    pub fn compact_part(&mut self, from: usize, to: usize, watermark: SeqNo) -> Result<(), Error>
         ensures story { (ws : List Entry) → IsTold self.old ws → IsTold self.new ws }
         ensures oldest { OnOk result (self.new.oldest ≡ max self.old.oldest watermark) }
         ensures next { self.new.next ≡ self.old.next }

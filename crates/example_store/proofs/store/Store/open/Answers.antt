@@ -1,4 +1,4 @@
-use Rattle.std.proofs.Common.{◌≡◌, ◌<◌, ◌≤◌, sym, ◌∙◌, ap, subst, ◌-◌, ◌^◌, ℕ, List, length, arith}
+use Rattle.std.proofs.Common.{◌<◌, sym, ◌∙◌, ap, subst, ◌-◌, ◌^◌, ℕ, List, length, arith}
 use Rattle.std.specs.Prelude.{map, nat_lt}
 use Rattle.std.specs.Arc.{arc_value}
 use Rattle.std.specs.List.{AllByRecursion}

@@ -1,4 +1,4 @@
-use Rattle.std.proofs.Common.{◌≡◌, ◌∙◌, refl, sym, subst, false, true}
+use Rattle.std.proofs.Common.{◌≡◌, refl, sym, subst, false, true}
 use Rattle.std.specs.Prelude.{Some}
 use Rattle.std.specs.Iterator.{IsFinite}
 use Rattle.logpurple.specs.Words.{DealsList}
