@@ -13,7 +13,8 @@ use Rattle.std.specs.declared.cmp.Ordering.TheVariants.{Less, Equal, Greater}
 use Rattle.std.proofs.lemmas.Bool.{eqb-true, eq-eqb}
 use Rattle.std.proofs.lemmas.Bool.Decides.{nat_tests}
 use Rattle.std.proofs.lemmas.Cmp.{tied_itself}
-use Rattle.std.proofs.lemmas.List.Elements.{All-from_recursion, All-nil, All-set, recursion_from_All}
+use Rattle.std.proofs.lemmas.List.Elements.{All-from_recursion, All-nil, All-set}
+use Rattle.std.proofs.lemmas.List.Elements.{recursion_from_All}
 use Rattle.sst_entries.specs.Entry.{Entry}
 use Rattle.sst_entries.specs.Stream.{CanDeal, Lowers, but_first, first, nowhere}
 use Rattle.sst_entries.specs.declared.error.Error.{Error}
@@ -22,7 +23,8 @@ use Rattle.sst_entries.proofs.StreamLemmas.{can_front}
 use Rattle.lsm_merge.specs.declared.lending.LendingMerger.{LendingMerger}
 use Rattle.lsm_merge.specs.Ends.{R}
 use Rattle.lsm_merge.specs.InPlace.{merge_of}
-use Rattle.lsm_merge.specs.Lent.{goes_before, is_turn, lent_at, lent_by, lent_first, IsQueue, IsReady}
+use Rattle.lsm_merge.specs.Lent.{goes_before, is_turn, lent_at, lent_by, lent_first, IsQueue}
+use Rattle.lsm_merge.specs.Lent.{IsReady}
 use Rattle.lsm_merge.specs.Lent.{is_among, RestIf, Rests, LeavesIf, LeavesLent, Belongs}
 use Rattle.lsm_merge.specs.Lent.{StepLowers, lent_size, lent_total}
 use Rattle.lsm_merge.specs.Union.{item_cmp, AtMost, Ascends, entries_among}
@@ -30,7 +32,8 @@ use Rattle.lsm_merge.proofs.InPlaceLemmas.{HasNoFault, merge_entry, merge_fault,
 use Rattle.lsm_merge.proofs.LentLemmas.{lent_is, lent_own, queue_stays, rests_same, set_length}
 use Rattle.lsm_merge.proofs.LentLemmas.{set_other, set_own}
 use Rattle.lsm_merge.proofs.MergedLemmas.{item_total, Above, at_most_chain}
-use Rattle.lsm_merge.proofs.QueueLemmas.{all_put_in, among_end, last_before, last_of_queue, queue_front}
+use Rattle.lsm_merge.proofs.QueueLemmas.{all_put_in, among_end, last_before, last_of_queue}
+use Rattle.lsm_merge.proofs.QueueLemmas.{queue_front}
 
 -- ---- whether it may be asked
 

@@ -1,5 +1,6 @@
 -- The queue of sources that lend: each before those that stand before it.
-use Rattle.std.proofs.Common.{◌≡◌, ◌⊎◌, inl, inr, refl, sym, ◌∙◌, ap, subst, ℕ, zero, suc, ◌<◌, ◌≤◌, Bool, true}
+use Rattle.std.proofs.Common.{◌≡◌, ◌⊎◌, inl, inr, refl, sym, ◌∙◌, ap, subst, ℕ, zero, suc, ◌<◌, ◌≤◌}
+use Rattle.std.proofs.Common.{Bool, true}
 use Rattle.std.proofs.Common.{false, List, [], ◌∷◌, ◌++◌, length, get_or, ◌-◌, arith}
 use Rattle.std.specs.Prelude.{Option, Some, None, is_some, slice_get, ◌==◌, ◌||◌}
 use Rattle.std.specs.List.{AllByRecursion, insert}

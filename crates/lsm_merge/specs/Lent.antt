@@ -1,6 +1,7 @@
 -- A merger of sources that lend: what it lends, how often it may be asked, and what it still deals.
 use Rattle.std.specs.Prelude.{◌≡◌, ℕ, ◌+◌, ◌<◌, ◌≤◌, ◌==◌, ◌-◌, ◌&&◌, ◌||◌, not, Bool, true, false}
-use Rattle.std.specs.Prelude.{cond, List, [], ◌∷◌, length, map, All, Option, Some, None, Result, Ok, Err}
+use Rattle.std.specs.Prelude.{cond, List, [], ◌∷◌, length, map, All, Option, Some, None, Result, Ok}
+use Rattle.std.specs.Prelude.{Err}
 use Rattle.std.specs.Prelude.{MatchResult, is_some, slice_get, slice_index_or, sum_by}
 use Rattle.std.specs.List.{AllByRecursion, insert}
 use Rattle.std.specs.Ordering.{is_lt, nat_cmp, ordering_then}

@@ -1,5 +1,6 @@
 //! Several sorted sources that lend their entries, as one that lends.
-ghost use Rattle.std.specs.Prelude.{◌≡◌, ℕ, ◌+◌, ◌<◌, ◌≤◌, true, false, [], length, All, IfOk, IfErr, IsOk, Some, None};
+ghost use Rattle.std.specs.Prelude.{◌≡◌, ℕ, ◌+◌, ◌<◌, ◌≤◌, true, false, [], length, All, IfOk};
+ghost use Rattle.std.specs.Prelude.{IfErr, IsOk, Some, None};
 ghost use Rattle.std.specs.Prelude.{List, Bool};
 ghost use Rattle.std.specs.Option.{option_map};
 ghost use Rattle.std.specs.Vec.{vec_capacity};

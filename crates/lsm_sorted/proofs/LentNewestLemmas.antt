@@ -7,7 +7,8 @@ use Rattle.std.specs.Option.{option_map}
 use Rattle.sst_entries.specs.Entry.{Entry}
 use Rattle.sst_entries.specs.Key.{same_key, key_lt}
 use Rattle.sst_entries.specs.Lending.{came}
-use Rattle.sst_entries.specs.Stream.{CanDeal, Deals, DealsFirst, Lowers, answer_stops, but_first, first}
+use Rattle.sst_entries.specs.Stream.{CanDeal, Deals, DealsFirst, Lowers, answer_stops, but_first}
+use Rattle.sst_entries.specs.Stream.{first}
 use Rattle.sst_entries.specs.Stream.{nowhere, ok_results}
 use Rattle.sst_entries.specs.declared.error.Error.{Error}
 use Rattle.sst_entries.specs.declared.error.Error.TheVariants.{OutOfMemory}
@@ -17,7 +18,8 @@ use Rattle.sst_entries.proofs.StreamLemmas.{can_by, deals_by, deals_front}
 use Rattle.lsm_merge.specs.Ends.{R}
 use Rattle.lsm_merge.specs.Union.{Ascends, entries_among, newest}
 use Rattle.lsm_sorted.specs.Newest.{is_of}
-use Rattle.lsm_sorted.specs.LentNewest.{newest_results, is_given, news, last_key, is_other, lent_newest}
+use Rattle.lsm_sorted.specs.LentNewest.{newest_results, is_given, news, last_key, is_other}
+use Rattle.lsm_sorted.specs.LentNewest.{lent_newest}
 use Rattle.lsm_sorted.specs.LentNewest.{MayNewest, LeavesNewest, AdvancesNewest}
 use Rattle.lsm_sorted.specs.LentNewest.{DealsNewestResults, DealsNewestEntries}
 use Rattle.lsm_sorted.specs.declared.lending_newest.LendingNewest.{LendingNewest}
