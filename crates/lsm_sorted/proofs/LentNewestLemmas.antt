@@ -1,6 +1,5 @@
 -- The newest versions of a source that lends.
-use Rattle.std.proofs.Common.{◌≡◌, refl, sym, ◌∙◌, ap, subst, ℕ, ◌<◌, ◌≤◌, Bool, true, false, cond}
-use Rattle.std.proofs.Common.{List}
+use Rattle.std.proofs.Common.{◌≡◌, refl, sym, ◌∙◌, ap, subst, ℕ, ◌≤◌, Bool, true, false, cond, List}
 use Rattle.std.proofs.Common.{[], ◌∷◌, arith}
 use Rattle.std.specs.Prelude.{Option, Some, None, Ok, Err, not, filter, is_some}
 use Rattle.std.specs.List.{AllByRecursion}
@@ -15,13 +14,13 @@ use Rattle.sst_entries.specs.declared.error.Error.{Error}
 use Rattle.sst_entries.specs.declared.error.Error.TheVariants.{OutOfMemory}
 use Rattle.sst_entries.proofs.KeyLemmas.{KeyLe, same_is, lt_other, le_other, lt_le}
 use Rattle.sst_entries.proofs.Lists.{all_more}
-use Rattle.sst_entries.proofs.StreamLemmas.{can_by, can_front, deals_by, deals_front}
+use Rattle.sst_entries.proofs.StreamLemmas.{can_by, deals_by, deals_front}
 use Rattle.lsm_merge.specs.Ends.{R}
 use Rattle.lsm_merge.specs.Union.{Ascends, entries_among, newest}
 use Rattle.lsm_sorted.specs.Newest.{is_of}
 use Rattle.lsm_sorted.specs.LentNewest.{newest_results, is_given, news, last_key, is_other}
 use Rattle.lsm_sorted.specs.LentNewest.{lent_newest}
-use Rattle.lsm_sorted.specs.LentNewest.{newest_left, MayNewest, LeavesNewest, AdvancesNewest}
+use Rattle.lsm_sorted.specs.LentNewest.{MayNewest, LeavesNewest, AdvancesNewest}
 use Rattle.lsm_sorted.specs.LentNewest.{DealsNewestResults, DealsNewestEntries}
 use Rattle.lsm_sorted.specs.declared.lending_newest.LendingNewest.{LendingNewest}
 use Rattle.lsm_sorted.proofs.NewestLemmas.{keys_up}

@@ -148,22 +148,49 @@ fn is_next<L: Lending>(source: &mut L, item: &InternalValue) -> Result<bool, Err
     Ok(has_more && source.entry() == Some(item.as_entry_ref()))
 }
 
-// Whether both mergers of the same runs give the same entries in the same order.
-fn agrees(alloc: Global, seed: u64, sources: u8, count: u8) -> Result<bool, Error> {
-    let mut merger = by_value_of(alloc, runs_of(alloc, seed, sources, count)?)?;
-    let mut lending = lending_of(alloc, runs_of(alloc, seed, sources, count)?)?;
-    for _ in 0..10_000usize {
-        match merger.next() {
-            Some(Ok(item)) => {
-                if !is_next(&mut lending, &item)? {
-                    return Ok(false);
-                }
-            }
-            Some(Err(error)) => return Err(error),
-            None => return Ok(!go_on(&mut lending)?),
-        }
+// Whether the next of a source is this answer, which is an entry or the end.
+fn agrees<L: Lending>(source: &mut L, item: Option<IterItem>) -> Result<bool, Error>
+    requires { CanDeal L.advances nowhere L.can_advance L.can_advance source.old }
+    ensures can { CanDeal L.advances nowhere L.can_advance L.can_advance source.new }
+{
+    match item {
+        Some(Ok(item)) => is_next(source, &item),
+        Some(Err(error)) => Err(error),
+        None => Ok(!go_on(source)?),
     }
-    Ok(false)
+}
+
+// Takes the next, as often as wanted.
+fn next_of<I: Iterator<Item = IterItem>>(source: &mut I) -> Option<IterItem>
+    requires { CanDeal I.next_gives nowhere I.can_next I.can_next source.old }
+    ensures can { CanDeal I.next_gives nowhere I.can_next I.can_next source.new }
+{
+    source.next()
+}
+
+// Whether a source by value and one that lends give the same at so many calls.
+fn agree<I: Iterator<Item = IterItem> + Drop, L: Lending + Drop>(
+    mut by_value: I,
+    mut lending: L,
+    calls: usize,
+) -> Result<bool, Error>
+    requires by_value { CanDeal I.next_gives nowhere I.can_next I.can_next by_value }
+    requires lending { CanDeal L.advances nowhere L.can_advance L.can_advance lending }
+{
+    let mut is_same = true;
+    for _ in 0..calls {
+        let item = next_of(&mut by_value);
+        is_same &= agrees(&mut lending, item)?;
+    }
+    Ok(is_same)
+}
+
+// Whether both mergers of the same runs give the same entries in the same order.
+fn mergers_agree(alloc: Global, seed: u64, sources: u8, count: u8) -> Result<bool, Error> {
+    let by_value = by_value_of(alloc, runs_of(alloc, seed, sources, count)?)?;
+    let lending = lending_of(alloc, runs_of(alloc, seed, sources, count)?)?;
+    let entries = usize::from(sources) * usize::from(count);
+    agree(by_value, lending, entries + 2)
 }
 
 #[test]
@@ -171,7 +198,7 @@ fn a_merger_that_lends_gives_what_a_merger_by_value_gives(rt: HostRuntime) {
     for sources in [0u8, 1, 2, 3, 8, 33] {
         for seed in 1..=4u64 {
             assert!(rt;
-                matches!(agrees(rt.alloc(), seed, sources, 40), Ok(true)),
+                matches!(mergers_agree(rt.alloc(), seed, sources, 40), Ok(true)),
                 "{sources} runs by {seed}"
             );
         }

@@ -1,4 +1,4 @@
-use Rattle.std.proofs.Common.{◌≡◌, ◌≤◌, ℕ, Bool}
+use Rattle.std.proofs.Common.{◌≡◌, ◌≤◌, Bool}
 use Rattle.sst_entries.specs.Stream.{CanDeal, nowhere}
 use Rattle.sst_entries.specs.declared.error.Error.{Error}
 use Rattle.lsm_sorted.specs.LentNewest.{last_key}

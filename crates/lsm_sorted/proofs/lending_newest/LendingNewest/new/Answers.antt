@@ -1,5 +1,5 @@
 -- A fresh stream.
-use Rattle.std.proofs.Common.{refl, rules}
+use Rattle.std.proofs.Common.{refl}
 use Rattle.lsm_sorted.proofs.LentNewestLemmas.{deals_newest_results, deals_newest_entries, can_newest}
 use Rattle.lsm_sorted.proofs.lending_newest.LendingNewest.new.Goals as goal
 
