@@ -18,7 +18,8 @@ pub use Rattle.lsm_runs.specs.RunLists.{DealTogether, DealsList, HoldLists, Runs
 pub use Rattle.lsm_runs.specs.RunParts.{range_of}
 pub use Rattle.lsm_runs.specs.SeveralRuns.{runs_told, union_in}
 pub use Rattle.lsm_runs.specs.SpansRead.{IsOverSpans}
-pub use Rattle.lsm_compactions.specs.AnyRuns.{AreTablesBy, CameInOrder, GoesThrough, HasMade, WritesSome}
+pub use Rattle.lsm_compactions.specs.AnyRuns.{AreTablesBy, CameInOrder, GoesThrough, HasMade}
+pub use Rattle.lsm_compactions.specs.AnyRuns.{WritesSome}
 pub use Rattle.lsm_compactions.specs.Chain.{AreCutOf, AreOpened, AreWritten, FitsAsTables}
 pub use Rattle.lsm_compactions.specs.Chain.{IsOpenedOf, IsRunOfList, both_fault, chain_fault}
 pub use Rattle.lsm_compactions.specs.Chain.{ids_behind, run_label, tables_fault, writes_fault}

@@ -1,12 +1,11 @@
 //! Several sorted sources that lend their entries, as one that lends.
 ghost use Rattle.std.specs.Prelude.{◌≡◌, ℕ, ◌+◌, ◌<◌, ◌≤◌, true, false, [], length, All, IfOk};
-ghost use Rattle.std.specs.Prelude.{IfErr, IsOk, Some, None};
-ghost use Rattle.std.specs.Prelude.{List, Bool};
+ghost use Rattle.std.specs.Prelude.{Bool, IfErr, IsOk, Some, None};
 ghost use Rattle.std.specs.Option.{option_map};
 ghost use Rattle.std.specs.Vec.{vec_capacity};
 ghost use Rattle.std.specs.List.{insert};
-ghost use Rattle.sst_entries.specs.Lending.{came, entry_of_ref};
-ghost use Rattle.sst_entries.specs.Stream.{CanDeal, DealsFirst, EndsAtError, Lowers, nowhere};
+ghost use Rattle.sst_entries.specs.Lending.{entry_of_ref};
+ghost use Rattle.sst_entries.specs.Stream.{CanDeal, EndsAtError, nowhere};
 ghost use Rattle.sst_entries.specs.declared.error.Error.{Error};
 ghost use Rattle.sst_entries.specs.declared.error.Error.TheVariants.{OutOfMemory};
 ghost use Rattle.lsm_merge.specs.Lent.{GoesOn, IsReady, MayLend, StepsOn, goes_before, is_among};

@@ -1,5 +1,5 @@
 //! The newest version of each key of a source that lends.
-ghost use Rattle.std.specs.Prelude.{◌≡◌, ℕ, ◌<◌, ◌≤◌, true, false, List, Bool, IfOk, IfErr, Some};
+ghost use Rattle.std.specs.Prelude.{◌≡◌, ◌<◌, true, false, IfOk, IfErr, Some};
 ghost use Rattle.std.specs.Prelude.{None, OnErr, is_some};
 ghost use Rattle.sst_entries.specs.Lending.{came};
 ghost use Rattle.sst_entries.specs.Entry.{Entry};
