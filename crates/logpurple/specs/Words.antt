@@ -6,7 +6,8 @@ pub use Rattle.sst_entries.specs.Key.{same_key}
 pub use Rattle.sst_entries.specs.Point.{is_from, is_hit, is_to, read_place, within}
 unfoldable pub use Rattle.sst_entries.specs.Point.{point}
 pub use Rattle.sst_entries.specs.Span.{front_length}
-pub use Rattle.sst_entries.specs.Stream.{CanDeal, Deals, answer_stops, ok_results}
+pub use Rattle.sst_entries.specs.Lending.{came, entry_cmp, entry_of_ref}
+pub use Rattle.sst_entries.specs.Stream.{CanDeal, Deals, answer_stops, nowhere, ok_results}
 pub use Rattle.sst_entries.specs.Strict.{IsStrict, is_before, version_cmp}
 unfoldable pub use Rattle.sst_entries.specs.Strict.{IsStrictAfter}
 pub use Rattle.sst_entries.specs.declared.error.Error.{Error}
@@ -27,7 +28,7 @@ pub use Rattle.lsm_formats.specs.Facts.{highest_seqno}
 pub use Rattle.lsm_formats.specs.Options.{default_options, label_of}
 pub use Rattle.lsm_formats.specs.Table.{IsTable}
 pub use Rattle.lsm_formats.specs.declared.label.Label.{Label}
-pub use Rattle.lsm_writers.specs.Tables.{AreTables}
+pub use Rattle.lsm_writers.specs.Tables.{AreTables, IsFreshRun}
 pub use Rattle.lsm_writers.specs.Writing.{IsTableOf, IsWritable}
 pub use Rattle.lsm_readers.specs.Answer.{lift}
 pub use Rattle.lsm_readers.specs.Stored.{BearsOut, StoresList}
@@ -37,13 +38,17 @@ pub use Rattle.lsm_runs.specs.RunLists.{DealWithin, DealsList, HoldLists, HoldsL
 pub use Rattle.lsm_runs.specs.RunLists.{single}
 pub use Rattle.lsm_runs.specs.RunParts.{range_of}
 pub use Rattle.lsm_runs.specs.SeveralRuns.{leading_of, runs_told, union_in}
-pub use Rattle.lsm_compactions.specs.AnyRuns.{AreTablesBy, HasMade, WritesSome}
+pub use Rattle.lsm_compactions.specs.AnyRuns.{AreTablesBy, CameInOrder, GoesThrough, HasMade}
+pub use Rattle.lsm_compactions.specs.AnyRuns.{WritesSome}
 pub use Rattle.lsm_compactions.specs.Chain.{AreCutOf, FitsAsTables, IsRunOfList, chain_fault}
 pub use Rattle.lsm_compactions.specs.Chain.{run_label, tables_fault}
-pub use Rattle.lsm_compactions.specs.Compacted.{AreCompactable, AreWrittenBy, kept_in, rules_by}
+pub use Rattle.lsm_compactions.specs.Compacted.{AreCompactable, AreMergeable, AreWrittenBy}
+pub use Rattle.lsm_compactions.specs.Compacted.{HaveEntries, kept_in, rules_by}
+pub use Rattle.lsm_compactions.specs.Filtered.{CameTo, RefusesBy}
 pub use Rattle.lsm_compactions.specs.ListRuns.{HasList, HaveAll}
 pub use Rattle.lsm_compactions.specs.OpenedBy.{AreOpenedBy, HasRunBy, IsOpenedBy, IsRunBy}
 pub use Rattle.lsm_compactions.specs.OpenedBy.{default_opening, run_with_fault}
+pub use Rattle.lsm_compactions.specs.Observed.{WasTold}
 pub use Rattle.lsm_compactions.specs.Packed.{HoldUnion}
 pub use Rattle.lsm_compactions.specs.ReadsCompacted.{AreReplaced, all_shown, joined_in}
 pub use Rattle.lsm_compactions.specs.Written.{IsOpened, number_fault, opening_fault}

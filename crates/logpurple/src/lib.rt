@@ -4,14 +4,14 @@
 #![tactic(auto)]
 
 pub use lsm_formats::ItemName;
-pub use lsm_merge::Merger;
+pub use lsm_merge::{LendingMerger, Merger};
 pub use lsm_ranges::{KeyRange, Ranged, Run, optimize_runs, overlap_chain};
 pub use lsm_runs::share;
 pub use lsm_sorted::compaction::Rules;
 pub use lsm_sorted::compaction::stream::{
     CompactionStream, DroppedKvCallback, NoCallback, NoFilter, StreamFilter, StreamFilterVerdict,
 };
-pub use lsm_sorted::{Below, MvccStream, NewestOf, each_below, newest_of};
+pub use lsm_sorted::{Below, LendingNewest, MvccStream, NewestOf, each_below, newest_of};
 pub use lsm_tables::{
     CompactionObserver, CompactionOutcome, CompactionProgress, Fault, Finding, Iter, NewestOfRuns,
     NewestOfRunsAt, NewestOfSourcesAt, NoObserver, OpenOptions, ParsedMeta, Query, RunReader,
@@ -26,6 +26,7 @@ pub use lsm_writers::{
     TableId, TableIds, Timestamp, TreeId, Writer, is_writable, write_list,
 };
 pub use sst_blocks::{
-    Checksum, Direction, Error, InternalKey, InternalValue, IterItem, Opened, SectionName, SeqNo,
-    Slice, UserKey, UserValue, ValueType, answers_at, compare_versions, source_of,
+    Checksum, Direction, EntryRef, Error, InternalKey, InternalValue, IterItem, Lending, Opened,
+    SectionName, SeqNo, Slice, UserKey, UserValue, ValueType, answers_at, compare_versions,
+    source_of,
 };

@@ -82,7 +82,7 @@ module _ {O : Type 0} (says : O → CompactionProgress → Bool → O → Type 0
 
   -- what an observer was told, by what a compaction came to: it is stopped just where the observer
   -- answered so
-  abbrev pub IsTold : {A : Type 0} → TablesWriting → CompactionOutcome A → O → O → Type 0
-  IsTold w (Tables tables left) o q = ToldOfAll w tables.items o q
-  IsTold w OutOfOrder o q = ToldOfPart w GoesOnAt o q
-  IsTold w Stopped o q = ToldOfPart w StopsAtLast o q
+  abbrev pub WasTold : {A : Type 0} → TablesWriting → CompactionOutcome A → O → O → Type 0
+  WasTold w (Tables tables left) o q = ToldOfAll w tables.items o q
+  WasTold w OutOfOrder o q = ToldOfPart w GoesOnAt o q
+  WasTold w Stopped o q = ToldOfPart w StopsAtLast o q

@@ -28,7 +28,7 @@ pub use Rattle.lsm_compactions.specs.Compacted.{DealsWritable, FitsBy}
 pub use Rattle.lsm_compactions.specs.Compacted.{HaveEntries, RunsOn, kept_in, rules_by}
 pub use Rattle.lsm_compactions.specs.Filtered.{CameTo, FitsKept, IsWritten, RefusesBy}
 pub use Rattle.lsm_compactions.specs.Filtered.{RefusesWritten, RefusesForMemory}
-pub use Rattle.lsm_compactions.specs.Observed.{HasBegun, IsCounted, IsTold, TellsNext}
+pub use Rattle.lsm_compactions.specs.Observed.{HasBegun, IsCounted, WasTold, TellsNext}
 pub use Rattle.lsm_compactions.specs.OpenedBy.{AreOpenedBy, HasRunBy, IsOpenedBy, IsRunBy}
 pub use Rattle.lsm_compactions.specs.OpenedBy.{default_opening, run_with_fault}
 pub use Rattle.lsm_compactions.specs.PartReads.{HoldSides, ReadsKept, ReadsOf, ShowAlike}

@@ -12,7 +12,7 @@ ghost use Rattle.lsm_writers.specs.Tables.{all_written, took, took_fault};
 ghost use Rattle.lsm_writers.specs.Writing.{may_be_written};
 ghost use Rattle.lsm_compactions.specs.Words.{AreCompactable, CameTo, CanDeal, DealTogether, Entry};
 ghost use Rattle.lsm_compactions.specs.Words.{Faults, FitsKept, HasBegun, HasMade, IsCounted};
-ghost use Rattle.lsm_compactions.specs.Words.{IsFreshRun, IsTold, IsWritten, RefusesBy};
+ghost use Rattle.lsm_compactions.specs.Words.{IsFreshRun, WasTold, IsWritten, RefusesBy};
 ghost use Rattle.lsm_compactions.specs.Words.{RefusesForMemory, RefusesWritten, RunsHoldLists};
 ghost use Rattle.lsm_compactions.specs.Words.{RunsOn, TellsNext, joined, nowhere, union_in};
 
@@ -77,7 +77,7 @@ fn write_observed<I: Iterator<Item = IterItem<A>>, O: CompactionObserver, A: All
     requires finite { IsFinite (I.remaining items.old) }
     ensures written { IfOk result (λ r. IsWritten I.next_gives writer items.old r items.new) }
     ensures made { IfOk result (HasMade writer) }
-    ensures told { IfOk result (λ r. IsTold O.says writer r observer.old observer.new) }
+    ensures told { IfOk result (λ r. WasTold O.says writer r observer.old observer.new) }
     ensures refused { IfErr result (λ e. is_memory e ≡ false →
         RefusesWritten I.next_gives writer items.old e) }
 {
@@ -174,7 +174,7 @@ pub fn compact_any_runs_with<
     ensures made { IfOk result (λ r. HasMade writer r.0) }
     // The observer was told of each table but the last, in their order; it is stopped just where
     // the observer said so.
-    ensures told { IfOk result (λ r. IsTold O.says writer r.0 observer.old observer.new) }
+    ensures told { IfOk result (λ r. WasTold O.says writer r.0 observer.old observer.new) }
     // Memory aside, the refusal is the first one of the filter or of the writer.
     ensures refused { AreCompactable (map arc_value runs.now) →
         (lists : List (List (List Entry))) → RunsHoldLists (map arc_value runs.now) lists →
