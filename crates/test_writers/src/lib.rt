@@ -2,6 +2,8 @@
 #![tactic(auto)]
 
 #[cfg(test)]
+mod by_reference;
+#[cfg(test)]
 mod filter_options;
 #[cfg(test)]
 mod many_tables;
