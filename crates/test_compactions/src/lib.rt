@@ -31,5 +31,3 @@ mod stored;
 mod tables;
 #[cfg(test)]
 mod to_run;
-#[cfg(test)]
-mod whole;
