@@ -1,17 +1,17 @@
 -- How a store goes on telling its story where its runs are compacted or packed.
-use Rattle.std.proofs.Common.{◌≡◌, sym, ◌∙◌, ap, subst, ℕ, ◌<◌, ◌≤◌, inr, List, []}
-use Rattle.std.proofs.Common.{◌∷◌, ◌++◌, append-nil, count_by, arith}
-use Rattle.std.specs.Prelude.{IfSome, MatchOption, None, Option, Some, map}
-use Rattle.std.specs.List.{AllByRecursion}
-use Rattle.std.proofs.lemmas.Simd.{map-map}
+use Rattle.std.proofs.Common.{◌≡◌, ◌≢◌, refl, sym, ◌∙◌, ap, subst, ℕ, ◌<◌, ◌≤◌, inr, List, []}
+use Rattle.std.proofs.Common.{◌∷◌, ◌++◌, append-nil, count_by, length, arith}
+use Rattle.std.specs.Prelude.{All, IfSome, IsPermutation, MatchOption, None, Option, Some}
+use Rattle.std.specs.List.{AllByRecursion, flat_map}
+use Rattle.std.proofs.lemmas.List.Elements.{All-from_recursion, All-head, All-tail}
+use Rattle.std.proofs.lemmas.List.Sorted.{All-permutation}
 use Rattle.logpurple.specs.Words.{AllNewer, AreCompactable, AreReplaced, Entry, HasList}
-use Rattle.logpurple.specs.Words.{HaveAll, HoldUnion, IsStrict, OpenTable, Rules, all_entries}
-use Rattle.logpurple.specs.Words.{joined, joined_in, kept_in, ok_results, seen, sort_entries}
-use Rattle.logpurple.specs.Words.{union_in, zeroed}
-use Rattle.logpurple.proofs.Laws.{all_inserted, all_kept, entries_joined, one_way, points}
-use Rattle.logpurple.proofs.Laws.{reads_alike_of_part, zeroed_below}
-use Rattle.example_store.specs.Story.{HoldBelow, Holding, IsStore, IsStory, IsTold, holding}
-use Rattle.example_store.specs.Story.{option_list}
+use Rattle.logpurple.specs.Words.{HaveAll, HoldUnion, IsInOrder, IsStrict, OpenTable, Rules}
+use Rattle.logpurple.specs.Words.{joined, joined_in, kept_in, range_of, seen, union_in}
+use Rattle.logpurple.proofs.Laws.{all_append, all_behind, all_front, one_way, points}
+use Rattle.logpurple.proofs.Laws.{reads_alike_of_part}
+use Rattle.example_store.specs.Story.{HoldBelow, Holding, IsOwnRun, IsOwnTable, IsStore, IsStory}
+use Rattle.example_store.specs.Story.{IsTold, holding, option_list}
 use Rattle.example_store.proofs.Stories.{able_none, seen_more}
 
 -- what is read alike behind some entries
@@ -58,35 +58,6 @@ module _ (s t : Holding) (ws : List Entry) (rules : Rules) (sound : IsStore s) w
         ∙ told.same key bound (omega (arith, later, reads));
   }
 
--- what is so of each is so of each once they are sorted
-all_in_order : (P : Entry → Type 0) (es : List Entry) → AllByRecursion P es
-    → AllByRecursion P (sort_entries es)
-all_in_order P [] h = tt
-all_in_order P (e ∷ es) h = all_inserted P e (sort_entries es) h.0 (all_in_order P es h.1)
-
-union_of_joined : (lists : List (List (List Entry)))
-    → union_in lists ≡ sort_entries (joined_in lists)
-union_of_joined lists = ap sort_entries (ap all_entries (sym (map-map
-    (λ (es : List Entry). ok_results es) joined lists)) ∙ entries_joined (map joined lists))
-
--- what is kept is numbered as before
-pub low_compacted : (s : Holding) (rules : Rules) (runs : List (List OpenTable)) (sound : IsStore s)
-    → HaveAll (kept_in rules sound.runs.able.lists) runs → AreCompactable runs
-    → HoldBelow s.flushed runs
-low_compacted s rules runs sound have able =
-    let P = λ (e : Entry). e.seqno < s.flushed in
-    let lowers : (e : Entry) → e.seqno < s.flushed → (zeroed rules e).seqno < s.flushed =
-    λ e h. omega (arith, h, zeroed_below rules e) in
-    record {
-      able = able;
-      low = subst (λ (ls : List (List (List Entry))). AllByRecursion P (union_in ls))
-          (one_way runs have.lists able.lists have.hold able.hold)
-          (subst (AllByRecursion P) (sym (union_of_joined have.lists
-          ∙ ap sort_entries have.whole))
-          (all_in_order P (kept_in rules sound.runs.able.lists)
-          (all_kept rules P lowers (union_in sound.runs.able.lists) sound.runs.low)));
-    }
-
 -- ---- packing
 
 pub tells_packed : (s t : Holding) (ws : List Entry) → (told : IsTold s ws)
@@ -102,17 +73,52 @@ tells_packed s t ws told has recent next oldest = record {
       ∙ told.same key bound (omega (arith, oldest, reads));
 }
 
-pub low_packed : (s : Holding) (runs : List (List OpenTable)) (sound : IsStore s)
-    → HoldUnion runs (union_in sound.runs.able.lists) → AreCompactable runs
-    → HoldBelow s.flushed runs
-low_packed s runs sound has able =
-    let P = λ (e : Entry). e.seqno < s.flushed in
-    record {
-      able = able;
-      low = subst (λ (ls : List (List (List Entry))). AllByRecursion P (union_in ls))
-          (one_way runs has.lists able.lists has.hold able.hold)
-          (subst (AllByRecursion P) (sym has.union) sound.runs.low);
-    }
+-- packed runs have the same tables
+pub own_packed : (bound : ℕ) (runs packed : List (List OpenTable))
+    → AllByRecursion (IsOwnRun bound) runs
+    → IsPermutation (flat_map (λ (run : List OpenTable). run) runs)
+    (flat_map (λ (run : List OpenTable). run) packed)
+    → AllByRecursion (λ (run : List OpenTable). IsInOrder range_of run × (run ≢ [])) packed
+    → AllByRecursion (IsOwnRun bound) packed
+own_packed bound runs packed own same ordered =
+    apart packed ordered (one_by_one (flat_map
+    (λ (run : List OpenTable). run) packed) (All-permutation (IsOwnTable bound) (flat_map
+    (λ (run : List OpenTable). run) runs) (flat_map (λ (run : List OpenTable). run) packed) same
+    (All-from_recursion (IsOwnTable bound) (flat_map (λ (run : List OpenTable). run) runs)
+    (together runs own))))
+  where
+    together : (runs : List (List OpenTable)) → AllByRecursion (IsOwnRun bound) runs
+        → AllByRecursion (IsOwnTable bound) (flat_map (λ (run : List OpenTable). run) runs)
+    together [] h = tt
+    together (run ∷ runs) h = all_append (IsOwnTable bound) run
+        (flat_map (λ (run : List OpenTable). run) runs) h.0.tables (together runs h.1)
+
+    one_by_one : (ts : List OpenTable) → All (IsOwnTable bound) ts
+        → AllByRecursion (IsOwnTable bound) ts
+    one_by_one [] h = tt
+    one_by_one (t ∷ ts) h = (
+      All-head (IsOwnTable bound) t ts h,
+      one_by_one ts (All-tail (IsOwnTable bound) t ts h),
+    )
+
+    there : (run : List OpenTable) → run ≢ [] → 0 < length run
+    there [] other = absurd (other refl)
+    there (t ∷ ts) other = omega arith
+
+    apart : (packed : List (List OpenTable))
+        → AllByRecursion (λ (run : List OpenTable). IsInOrder range_of run × (run ≢ [])) packed
+        → AllByRecursion (IsOwnTable bound) (flat_map (λ (run : List OpenTable). run) packed)
+        → AllByRecursion (IsOwnRun bound) packed
+    apart [] ordered h = tt
+    apart (run ∷ packed) ordered h =
+        let rest = flat_map (λ (run : List OpenTable). run) packed in (
+          record {
+            some = there run ordered.0.1;
+            order = ordered.0.0;
+            tables = all_front (IsOwnTable bound) run rest h;
+          },
+          apart packed ordered.1 (all_behind (IsOwnTable bound) run rest h),
+        )
 
 -- ---- the run of what is kept
 

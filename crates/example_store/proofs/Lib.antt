@@ -1,6 +1,10 @@
 pub mod Places
+pub mod Own
 pub mod Stories
+pub mod Opening
 pub mod Compacting
+pub mod Parts
+pub mod Order
 pub mod Ranges
 pub mod Shares
 pub mod Refusing

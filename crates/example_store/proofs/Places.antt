@@ -8,13 +8,13 @@ use Rattle.std.specs.Cmp.Lexicographic.{slice_cmp}
 use Rattle.std.specs.Ordering.{is_lt, nat_cmp, ordering_reverse, ordering_then}
 use Rattle.std.specs.declared.cmp.Ordering.TheVariants.{Less, Equal, Greater}
 use Rattle.std.specs.List.Sorted.{IsPartitionedBy, IsPartitionPoint}
-use Rattle.std.proofs.lemmas.Bool.{cases_Bool, cases_lt}
+use Rattle.std.proofs.lemmas.Bool.{cases_Bool}
 use Rattle.std.proofs.lemmas.Option.{slice_get_read}
 use Rattle.logpurple.specs.Words.{Entry, IsStrict, front_length, is_before, is_hit, point}
 use Rattle.logpurple.specs.Words.{read_place, same_key, version_cmp}
 use Rattle.logpurple.proofs.Laws.{AllBefore, apart, before_trans, hit_key, is_false, lt_other}
-use Rattle.logpurple.proofs.Laws.{number_total, pairs_of, precedes_of, read_hit, read_other}
-use Rattle.logpurple.proofs.Laws.{read_past, same_itself, strict_at, strict_from}
+use Rattle.logpurple.proofs.Laws.{number_total, pairs_of, parted, precedes_of, read_hit}
+use Rattle.logpurple.proofs.Laws.{read_other, read_past, same_itself, strict_from}
 use Rattle.example_store.specs.Recent.{IsPut}
 
 -- ---- a place at which a test ends
@@ -52,20 +52,9 @@ take_drop {X} (suc n) (x ∷ xs) = ap (λ (ys : List X). x ∷ ys) (take_drop n 
 
 -- ---- what comes before an entry
 
--- a test that an entry passes where a later one does cuts a strict list in two
-pub cut_in_two : (p : Entry → Bool) (es : List Entry) → IsStrict es
-    → ((a b : Entry) → is_before a b ≡ true → p b ≡ true → p a ≡ true) → IsPartitionedBy p es
-cut_in_two p es strict down i j d le lt passed =
-    elim (cases_lt i j) [
-      | inl below ↦ down (get_or es i d) (get_or es j d)
-          (strict_at None es i j d strict below lt) passed
-      | inr above ↦ let e : j ≡ i = omega arith in
-          subst (λ (k : ℕ). p (get_or es k d) ≡ true) e passed
-    ]
-
 pub before_cuts : (es : List Entry) (e : Entry) → IsStrict es
     → IsPartitionedBy (λ x. is_before x e) es
-before_cuts es e strict = cut_in_two (λ (x : Entry). is_before x e) es strict
+before_cuts es e strict = parted (λ (x : Entry). is_before x e) es strict
     (λ a b h k. before_trans a b e h k)
 
 -- entries that tie have one number

@@ -9,10 +9,11 @@ use Rattle.logpurple.specs.Words.{DealWithin, DealsList, Entry, Error, IsStrict,
 use Rattle.logpurple.specs.Words.{is_from, is_hit, is_to, leading_of, newest, numbered_below}
 use Rattle.logpurple.specs.Words.{point, same_key, seen, shown, single, sort_entries, union_in}
 use Rattle.logpurple.specs.Words.{within}
-use Rattle.logpurple.proofs.Laws.{all_inserted, and_false, as_pairs, ascends_in_order}
+use Rattle.logpurple.proofs.Laws.{and_false, as_pairs, ascends_in_order}
 use Rattle.logpurple.proofs.Laws.{ascends_of, filter_ascends, hit_key, leading_sorted}
 use Rattle.logpurple.proofs.Laws.{leads_older, ranges_by_points, union_up}
 use Rattle.example_store.specs.Story.{Holding, IsStore, IsStory, IsTold}
+use Rattle.example_store.proofs.Own.{all_in_order}
 use Rattle.example_store.proofs.Places.{hit_first, hit_later}
 use Rattle.example_store.proofs.Stories.{low_lists, read_more, story_later}
 
@@ -82,11 +83,6 @@ module _ (below : ℕ) where
 
 -- ---- a story, sorted
 
-all_in_order : (P : Entry → Type 0) (es : List Entry) → AllByRecursion P es
-    → AllByRecursion P (sort_entries es)
-all_in_order P [] h = tt
-all_in_order P (e ∷ es) h = all_inserted P e (sort_entries es) h.0 (all_in_order P es h.1)
-
 pub story_below : (n : ℕ) (ws : List Entry) → IsStory n ws
     → AllByRecursion (λ (e : Entry). e.seqno < n) ws
 story_below n [] h = tt
@@ -141,6 +137,13 @@ pub dealt_told : {S : Type 0} (front back : S → Option (Result Entry Error) �
     → IfOk r (λ s. (xs : List Entry) × DealsList front back xs s × Q xs)
 dealt_told front back Q (Ok s) es deals holds = (es, deals, holds)
 dealt_told front back Q (Err e) es deals holds = tt
+
+-- so of the same list, written otherwise
+pub dealt_as : {S : Type 0} (front back : S → Option (Result Entry Error) → S → Type 0)
+    (r : Result S Error) (f : List Entry → List Entry) (xs ys : List Entry) → xs ≡ ys
+    → IfOk r (DealsList front back (f xs)) → IfOk r (DealsList front back (f ys))
+dealt_as front back r f xs ys same = subst (λ (es : List Entry).
+    IfOk r (DealsList front back (f es))) same
 
 -- one source, of a list in order
 pub one_source : {S : Type 0} (front back : S → Option (Result Entry Error) → S → Type 0)

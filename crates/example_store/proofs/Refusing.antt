@@ -1,8 +1,8 @@
 -- What calls refuse, told by those that pass it on.
 use Rattle.std.proofs.Common.{◌≡◌, refl, sym, ◌∙◌, ap, subst, ℕ, ◌+◌, ◌-◌, ◌^◌}
 use Rattle.std.proofs.Common.{false, List, [], arith, ltb, le-ltb}
-use Rattle.std.specs.Prelude.{Option, Some, None, Result, Ok, Err, IfErr, IfSome, IsErrAnd}
-use Rattle.std.specs.Prelude.{MatchOption}
+use Rattle.std.specs.Prelude.{Option, Some, None, Result, Ok, Err, IfErr, IfOk, IfSome}
+use Rattle.std.specs.Prelude.{IsErrAnd, IsOk, MatchOption}
 use Rattle.std.specs.Option.{option_map, option_or}
 use Rattle.logpurple.specs.Words.{AreCutOf, Entry, Error, HasList, IsRunOfList, IsWritable}
 use Rattle.logpurple.specs.Words.{Label, OpenTable, chain_fault, highest_seqno, is_memory}
@@ -55,3 +55,35 @@ shared_list {X} f es o r same told =
         → MatchOption o (es ≡ []) (λ x. HasList es (f x))
     own None h = h
     own (Some x) h = h
+
+pub shared_own : {X : Type 0} (f : X → List OpenTable) (P : List OpenTable → Type 0) (o : Option X)
+    (r : Option (List OpenTable)) → option_map f o ≡ r → IfSome r P → IfSome o (λ x. P (f x))
+shared_own {X} f P o r same told = own o (subst (λ (p : Option (List OpenTable)). IfSome p P)
+    (sym same) told)
+  where
+    own : (o : Option X) → IfSome (option_map f o) P → IfSome o (λ x. P (f x))
+    own None h = h
+    own (Some x) h = h
+
+-- what is so of what an answer is seen as, where it is this
+pub ok_is : {S X E : Type 0} (f : S → X) (P : X → Type 0) (r : Result S E) (x : X)
+    → IfOk r (λ s. f s ≡ x) → P x → IfOk r (λ s. P (f s))
+ok_is f P (Ok s) x same holds = subst P (sym same) holds
+ok_is f P (Err e) x same holds = tt
+
+-- so of what it is
+pub ok_more : {S E : Type 0} {P Q : S → Type 0} (r : Result S E) → IfOk r P
+    → ((s : S) → P s → Q s) → IfOk r Q
+ok_more (Ok s) h more = more s h
+ok_more (Err e) h more = tt
+
+-- a refusal that is passed on is want of memory where it was
+pub wanted : {X E : Type 0} (m : E) (r : Result X E) (e : E) → IsErrAnd r (λ y. y ≡ e) → e ≡ m
+    → IfErr r (λ y. y ≡ m)
+wanted m (Ok x) e is memory = tt
+wanted m (Err y) e is memory = is ∙ memory
+
+-- an answer refuses nothing
+pub refuses_none : {X E : Type 0} (P : E → Type 0) (r : Result X E) → IsOk r → IfErr r P
+refuses_none P (Ok x) fine = tt
+refuses_none P (Err e) fine = absurd cc

@@ -1,6 +1,6 @@
 -- How a store goes on telling its story.
 use Rattle.std.proofs.Common.{◌≡◌, refl, sym, ◌∙◌, ap, subst, ℕ, ◌+◌, ◌-◌, ◌^◌, ◌<◌, ◌≤◌, Bool}
-use Rattle.std.proofs.Common.{List, [], ◌∷◌, ◌++◌, count_by, inl, inr, arith}
+use Rattle.std.proofs.Common.{false, List, [], ◌∷◌, ◌++◌, count_by, inl, inr, arith}
 use Rattle.std.specs.Prelude.{Option, Some, None, map}
 use Rattle.std.specs.List.{AllByRecursion}
 use Rattle.std.specs.Option.{option_or}
@@ -10,12 +10,13 @@ use Rattle.logpurple.specs.Words.{IsStrictAfter, IsWritable, OpenTable, RunsHold
 use Rattle.logpurple.specs.Words.{all_entries, is_hit, joined, leading_of, ok_results, point}
 use Rattle.logpurple.specs.Words.{seen, shown, sort_entries, union_in}
 use Rattle.logpurple.proofs.Laws.{IsOfKey, all_inserted, all_more, as_pairs, ascends_of, at}
-use Rattle.logpurple.proofs.Laws.{count_join, distinct_once, entries_of, from_pairs}
-use Rattle.logpurple.proofs.Laws.{leading_sorted, leads_older, once_strict, one_way}
-use Rattle.logpurple.proofs.Laws.{point_of_key, union_count, union_up}
+use Rattle.logpurple.proofs.Laws.{count_join, distinct_once, entries_of, from_pairs, is_weak}
+use Rattle.logpurple.proofs.Laws.{leading_sorted, leads_older, once_strict, point_of_key}
+use Rattle.logpurple.proofs.Laws.{union_count, union_up}
 use Rattle.example_store.specs.Recent.{IsPut}
-use Rattle.example_store.specs.Story.{AreNumbered, HoldBelow, Holding, IsStore, IsStory, IsTold}
-use Rattle.example_store.specs.Story.{holding}
+use Rattle.example_store.specs.Story.{AreNumbered, HoldBelow, Holding, IsOwn, IsOwnRun, IsStore}
+use Rattle.example_store.specs.Story.{IsStory, IsTold, holding}
+use Rattle.example_store.proofs.Own.{later_runs, low_union}
 use Rattle.example_store.proofs.Places.{all_put, hit_first, hit_later}
 
 -- ---- reads of lists one behind another
@@ -155,15 +156,19 @@ story_later n m (e ∷ ws) le h = (omega (arith, le, h.0), h.1)
 pub numbered_later : (from n m : ℕ) (es : List Entry) → n ≤ m → AreNumbered from n es
     → AreNumbered from m es
 numbered_later from n m es le h = all_more
-    (λ (e : Entry). (from ≤ e.seqno) × (e.seqno < n))
-    (λ (e : Entry). (from ≤ e.seqno) × (e.seqno < m))
-    (λ e both. (both.0, omega (arith, le, both.1))) es h
+    (λ (e : Entry). (from ≤ e.seqno) × IsOwn n e)
+    (λ (e : Entry). (from ≤ e.seqno) × IsOwn m e)
+    (λ e both. let less = both.1.0 in (both.0, (omega (arith, le, less), both.1.1))) es h
 
--- entries that are numbered below a number
+-- entries that are a store's own, and numbered below a number
+pub all_own : (from n : ℕ) (es : List Entry) → AreNumbered from n es → AllByRecursion (IsOwn n) es
+all_own from n es h = all_more (λ (e : Entry). (from ≤ e.seqno) × IsOwn n e) (IsOwn n)
+    (λ e both. both.1) es h
+
 pub all_older : (from n : ℕ) (es : List Entry) → AreNumbered from n es
     → AllByRecursion (λ (e : Entry). e.seqno < n) es
-all_older from n es h = all_more (λ (e : Entry). (from ≤ e.seqno) × (e.seqno < n))
-    (λ (e : Entry). e.seqno < n) (λ e both. both.1) es h
+all_older from n es h = all_more (IsOwn n) (λ (e : Entry). e.seqno < n) (λ e own. own.0) es
+    (all_own from n es h)
 
 -- an entry with the next number
 pub tells_more : (s t : Holding) (e : Entry) (ws : List Entry) → IsTold s ws
@@ -182,12 +187,13 @@ tells_more s t e ws told put number next runs oldest = record {
 }
 
 pub numbered_more : (from next later : ℕ) (e : Entry) (old new : List Entry) → IsPut e old new
-    → AreNumbered from next old → from ≤ next → e.seqno ≡ next → later ≡ next + 1
-    → AreNumbered from later new
-numbered_more from next later e old new put h order number is =
-    let P = λ (x : Entry). (from ≤ x.seqno) × (x.seqno < later) in
+    → AreNumbered from next old → from ≤ next → e.seqno ≡ next → is_weak e ≡ false
+    → later ≡ next + 1 → AreNumbered from later new
+numbered_more from next later e old new put h order number kind is =
+    let P = λ (x : Entry). (from ≤ x.seqno) × IsOwn later x in
     subst (AllByRecursion P) (sym put.new_is)
-    (all_put e P put.front put.behind (omega (arith, number, order), omega (arith, number, is))
+    (all_put e P put.front put.behind
+    (omega (arith, number, order), (omega (arith, number, is), kind))
     (subst (AllByRecursion P) put.old_is
     (numbered_later from next later old (omega (arith, is)) h)))
 
@@ -196,44 +202,37 @@ numbered_more from next later e old new put h order number is =
 pub writable_recent : (s : Holding) → IsStore s → IsStrict s.recent → IsWritable s.recent
 writable_recent s sound strict = record {
   strict = strict;
-  numbered = all_more (λ (e : Entry). (s.flushed ≤ e.seqno) × (e.seqno < s.next))
-      (λ (e : Entry). e.seqno < 2 ^ 64 - 1)
-      (λ e both. let room = sound.room in let low = both.1 in omega (arith, room, low)) s.recent
-      sound.recent;
+  numbered = all_more (λ (e : Entry). e.seqno < s.next) (λ (e : Entry). e.seqno < 2 ^ 64 - 1)
+      (λ e low. let room = sound.room in omega (arith, room, low)) s.recent
+      (all_older s.flushed s.next s.recent sound.recent);
 }
 
 -- a run of what was in no table, in front of the others
 pub able_flushed : (s : Holding) (run : List OpenTable) → IsStore s → IsStrict s.recent
-    → HasList s.recent run → HoldBelow s.next (run ∷ s.runs)
-able_flushed s run sound strict has =
+    → HasList s.recent run → IsOwnRun s.next run → HoldBelow s.next (run ∷ s.runs)
+able_flushed s run sound strict has own =
     let able = sound.runs.able in
     let writable = writable_recent s sound strict in
     record {
+      own = (own, later_runs s.flushed s.next sound.order s.runs sound.runs.own);
       able = record {
         lists = has.lists ∷ able.lists;
         hold = ((has.order, has.hold), able.hold);
         some = (has.some, able.some);
         writable = record {
           strict = strict_more s.recent has.lists has.whole able.lists s.flushed s.next
-              sound.recent sound.runs.low strict able.writable.strict;
+              sound.recent (low_union s.flushed s.runs sound.runs.own able.lists able.hold) strict
+              able.writable.strict;
           numbered = all_union s.recent has.lists has.whole able.lists
               (λ (e : Entry). e.seqno < 2 ^ 64 - 1) writable.numbered able.writable.numbered;
         };
       };
-      low = all_union s.recent has.lists has.whole able.lists (λ (e : Entry). e.seqno < s.next)
-          (all_older s.flushed s.next s.recent sound.recent)
-          (all_more (λ (e : Entry). e.seqno < s.flushed) (λ (e : Entry). e.seqno < s.next)
-          (λ e low. let order = sound.order in omega (arith, low, order)) (union_in able.lists)
-          sound.runs.low);
     }
 
--- the lists of the runs are those of any other clause
+-- the lists of the runs are numbered below what is in no table
 pub low_lists : (s : Holding) (ws : List Entry) → IsStore s → (told : IsTold s ws)
     → AllByRecursion (λ (e : Entry). e.seqno < s.flushed) (union_in told.lists)
-low_lists s ws sound told =
-    subst (λ (ls : List (List (List Entry))). AllByRecursion (λ (e : Entry). e.seqno < s.flushed)
-    (union_in ls)) (one_way s.runs sound.runs.able.lists told.lists sound.runs.able.hold told.hold)
-    sound.runs.low
+low_lists s ws sound told = low_union s.flushed s.runs sound.runs.own told.lists told.hold
 
 pub tells_flushed : (s t : Holding) (run : List OpenTable) (ws : List Entry) → IsStore s
     → IsStrict s.recent → HasList s.recent run → IsTold s ws → t.recent ≡ []
@@ -274,16 +273,7 @@ able_none = record {
 }
 
 none_below : (bound : ℕ) → HoldBelow bound []
-unfolding IsStrictAfter
-none_below bound = record {
-  able = record {
-    lists = [];
-    hold = tt;
-    some = tt;
-    writable = record { strict = tt; numbered = tt };
-  };
-  low = tt;
-}
+none_below bound = record { own = tt; able = able_none }
 
 pub sound_new : (recent : List Entry) (runs : List (List OpenTable)) (ids : Option ℕ) (target : ℕ)
     → recent ≡ [] → runs ≡ [] → IsStore (holding recent runs ids target 0 0 0)
@@ -314,11 +304,11 @@ module _ (recent new : List Entry) (runs : List (List OpenTable)) (ids : Option 
       (sym is) (all_older flushed next recent sound.recent)
 
   pub sound_more : (e : Entry) → IsStore (holding recent runs ids target next flushed oldest)
-      → IsPut e recent new → e.seqno ≡ next → next < 2 ^ 64 - 2
+      → IsPut e recent new → e.seqno ≡ next → is_weak e ≡ false → next < 2 ^ 64 - 2
       → IsStore (holding new runs ids target (next + 1) flushed oldest)
-  sound_more e sound put number room = record {
+  sound_more e sound put number kind room = record {
     recent = numbered_more flushed next (next + 1) e recent new put sound.recent sound.order number
-        refl;
+        kind refl;
     runs = sound.runs;
     order = let order = sound.order in omega (arith, order);
     room = omega (arith, room);
@@ -326,12 +316,13 @@ module _ (recent new : List Entry) (runs : List (List OpenTable)) (ids : Option 
 
   pub sound_flushed : (run : List OpenTable) (left : Option ℕ) (all : List (List OpenTable))
       → IsStore (holding recent runs ids target next flushed oldest) → IsStrict recent
-      → HasList recent run → new ≡ [] → all ≡ run ∷ runs
+      → HasList recent run → IsOwnRun next run → new ≡ [] → all ≡ run ∷ runs
       → IsStore (holding new all left target next next oldest)
-  sound_flushed run left all sound strict has none is = record {
+  sound_flushed run left all sound strict has own none is = record {
     recent = subst (AreNumbered next next) (sym none) tt;
     runs = subst (HoldBelow next) (sym is)
-        (able_flushed (holding recent runs ids target next flushed oldest) run sound strict has);
+        (able_flushed (holding recent runs ids target next flushed oldest) run sound strict has
+        own);
     order = omega arith;
     room = sound.room;
   }

@@ -1,2 +1,4 @@
 pub mod Recent
 pub mod Story
+pub mod Closed
+pub mod Part

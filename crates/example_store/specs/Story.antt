@@ -1,10 +1,12 @@
 -- What a store has, and the story of its writes that it tells.
 use Rattle.std.specs.Prelude.{◌≡◌, ℕ, ◌-◌, ◌^◌, ◌<◌, ◌≤◌, nat_le, nat_lt, List, [], ◌∷◌, ◌++◌}
-use Rattle.std.specs.Prelude.{if◌then◌else◌, length, None, Option, Some}
+use Rattle.std.specs.Prelude.{false, if◌then◌else◌, length, None, Option, Some}
 use Rattle.std.specs.List.{AllByRecursion}
 use Rattle.std.specs.Option.{option_map}
-use Rattle.logpurple.specs.Words.{AreCompactable, Entry, Error, KeyTooLong, OpenTable}
-use Rattle.logpurple.specs.Words.{RunsHoldLists, SeqNoOverflow, ValueTooLong, seen, union_in}
+use Rattle.logpurple.specs.Words.{AreCompactable, Entry, Error, HoldsList, IsInOrder, KeyTooLong}
+use Rattle.logpurple.specs.Words.{OpenTable, RunsHoldLists, SeqNoOverflow, ValueTooLong, range_of}
+use Rattle.logpurple.specs.Words.{seen, union_in}
+use Rattle.logpurple.proofs.Laws.{is_weak}
 
 -- what a store has: the entries that are in no table yet, the tables of its runs, the counter of
 -- their ids and how large each is to be; the number of the next write, the number from which on
@@ -36,14 +38,33 @@ abbrev pub IsStory : ℕ → List Entry → Type 0
 IsStory next [] = Unit {0}
 IsStory next (e ∷ ws) = (e.seqno < next) × IsStory e.seqno ws
 
--- the runs may be compacted, and all that they have is numbered below a bound
-pub record HoldBelow (bound : ℕ) (runs : List (List OpenTable)) : Type 0 where
-  pub able : AreCompactable runs
-  pub low : AllByRecursion (λ (e : Entry). e.seqno < bound) (union_in able.lists)
+-- an entry that is numbered below a bound, and is no weak tombstone
+abbrev pub IsOwn : ℕ → Entry → Type 0
+IsOwn bound e = (e.seqno < bound) × (is_weak e ≡ false)
 
--- entries are numbered from one number on, and below another
+-- a table that was opened without a global number, of a list that has such entries alone, and one
+-- at least
+pub record IsOwnTable (bound : ℕ) (t : OpenTable) : Type 0 where
+  pub list : List Entry
+  pub holds : HoldsList t list
+  pub some : 0 < length list
+  pub own : AllByRecursion (IsOwn bound) list
+  pub unlifted : t.global_seqno ≡ 0
+
+-- a run in order of such tables
+pub record IsOwnRun (bound : ℕ) (run : List OpenTable) : Type 0 where
+  pub some : 0 < length run
+  pub order : IsInOrder range_of run
+  pub tables : AllByRecursion (IsOwnTable bound) run
+
+-- runs of such tables, which may be compacted
+pub record HoldBelow (bound : ℕ) (runs : List (List OpenTable)) : Type 0 where
+  pub own : AllByRecursion (IsOwnRun bound) runs
+  pub able : AreCompactable runs
+
+-- entries are numbered from one number on, and below another, and none is a weak tombstone
 abbrev pub AreNumbered : ℕ → ℕ → List Entry → Type 0
-AreNumbered from to es = AllByRecursion (λ (e : Entry). (from ≤ e.seqno) × (e.seqno < to)) es
+AreNumbered from to es = AllByRecursion (λ (e : Entry). (from ≤ e.seqno) × IsOwn to e) es
 
 -- what is so of every store: what is in a table is older than what is not
 pub record IsStore (s : Holding) : Type 0 where

@@ -1,22 +1,29 @@
 //! A store: writes under their numbers, and reads at snapshots.
 ghost use Rattle.std.specs.Prelude.{◌≡◌, ◌+◌, ◌-◌, ◌^◌, ◌<◌, ◌≤◌, [], ◌∷◌, ◌++◌, map, Err, IfErr};
-ghost use Rattle.std.specs.Prelude.{IfOk, List, MatchOption, None, Ok, OnErr, OnOk, Option, Some};
-ghost use Rattle.std.specs.Prelude.{false};
+ghost use Rattle.std.specs.Prelude.{IfOk, IfSome, List, MatchOption, None, Ok, OnErr, OnOk};
+ghost use Rattle.std.specs.Prelude.{Option, Some, false, ℕ};
 ghost use Rattle.std.specs.Arc.{arc_value};
 ghost use Rattle.std.specs.Option.{option_map};
-ghost use Rattle.example_store.specs.Story.{IsTold, value_in, put_fault};
+ghost use Rattle.example_store.specs.Story.{AreNumbered, IsOwnRun, IsTold, put_fault, value_in};
 ghost use Rattle.logpurple.specs.Words.{Entry, Gives, HasList, IsStrict, IsWritable};
 ghost use Rattle.logpurple.specs.Words.{OutOfMemory, Refuses, RunsHoldLists, Tombstone, Value};
 ghost use Rattle.logpurple.specs.Words.{entry, is_memory, point, shown, tables_fault, union_in};
+ghost use Rattle.logpurple.proofs.Laws.{is_weak, is_weak_kind};
 
+mod close;
 mod compact;
+mod open;
+mod order;
+mod part;
 mod range;
 
 use crate::Memtable;
+pub use close::Closed;
 use logpurple::{
     Error, InternalValue, Run, SeqNo, Slice, Table, TableIds, Timestamp, ValueType, get_runs,
     write_run,
 };
+pub use open::{FileFault, OpenError};
 pub use range::Range;
 use std::alloc::{Allocator, Global};
 use std::marker::Model;
@@ -135,6 +142,7 @@ impl<A: Allocator + Clone> Store<A> {
     }
 
     fn write(&mut self, key: &[u8], value: &[u8], kind: ValueType) -> Result<(), Error>
+        requires kind { is_weak_kind kind ≡ false }
         ensures written { (ws : List Entry) → IsTold self.old ws →
             OnOk result (IsTold self.new (entry key.now value.now self.old.next kind ∷ ws)) }
         ensures kept { (ws : List Entry) → IsTold self.old ws → OnErr result (IsTold self.new ws) }
@@ -170,6 +178,7 @@ impl<A: Allocator + Clone> Store<A> {
     // Adds an entry that has the next number.
     fn add(&mut self, item: InternalValue<A>) -> Result<(), Error>
         requires number { item.seqno ≡ self.old.next }
+        requires kind { is_weak item ≡ false }
         requires room { self.old.next < 2 ^ 64 - 2 }
         ensures written { (ws : List Entry) → IsTold self.old ws →
             OnOk result (IsTold self.new (item ∷ ws)) }
@@ -215,6 +224,7 @@ impl<A: Allocator + Clone> Store<A> {
     ) -> Result<(), Error>
         requires list { HasList self.old.recent (arc_value run) }
         requires strict { IsStrict self.old.recent }
+        requires own { IsOwnRun self.old.next (arc_value run) }
         requires empty { fresh ≡ [] }
         ensures story { (ws : List Entry) → IsTold self.old ws → IsTold self.new ws }
         ensures emptied { OnOk result (self.new.recent ≡ []) }
@@ -236,6 +246,10 @@ impl<A: Allocator + Clone> Store<A> {
         // At a snapshot that is kept it is the value that the writes say.
         ensures told { (ws : List Entry) → IsTold self.now ws → self.now.oldest ≤ snapshot →
             IfOk result (λ value. value ≡ value_in ws key.now snapshot) }
+        // At any it is the one that the entries say of the memtable and of the tables' lists.
+        ensures read { (lists : List (List (List Entry))) → RunsHoldLists self.now.runs lists →
+            IfOk result (λ value.
+            value ≡ value_in (self.now.recent ++ union_in lists) key.now snapshot) }
         ensures memory { IfErr result (λ e. e ≡ OutOfMemory) }
     {
         let found = find_in(&self.memtable, &self.runs, key, snapshot)?;
@@ -287,6 +301,9 @@ fn run_of<A: Allocator + Clone>(
     requires { IsWritable items.items }
     ensures run { IfOk result (λ r. MatchOption r.0 (items.items ≡ [])
         (λ run. HasList items.items (arc_value run))) }
+    // It has the store's own entries, where the list has.
+    ensures own { (from to : ℕ) → AreNumbered from to items.items →
+        IfOk result (λ r. IfSome r.0 (λ run. IsOwnRun to (arc_value run))) }
     ensures refused { IfErr result (λ e. is_memory e ≡ false →
         tables_fault ids target 0 items.items ≡ Some e) }
 {

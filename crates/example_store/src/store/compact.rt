@@ -1,8 +1,9 @@
 //! Compacting and packing the runs of a store.
-ghost use Rattle.std.specs.Prelude.{◌≡◌, IfErr, IfOk, List, OnErr, OnOk, Some, false};
-ghost use Rattle.std.specs.Prelude.{length, map, max, true};
+ghost use Rattle.std.specs.Prelude.{◌≡◌, ◌≤◌, IfErr, IfOk, List, OnErr, OnOk, Some, false};
+ghost use Rattle.std.specs.Prelude.{length, map, max, true, ℕ};
 ghost use Rattle.std.specs.Arc.{arc_value};
-ghost use Rattle.example_store.specs.Story.{IsTold, option_list};
+ghost use Rattle.std.specs.List.{AllByRecursion};
+ghost use Rattle.example_store.specs.Story.{IsOwnRun, IsTold, option_list};
 ghost use Rattle.logpurple.specs.Words.{AreCompactable, AreInOrder, Entry, HaveAll, HoldUnion};
 ghost use Rattle.logpurple.specs.Words.{IsLeastSize, OutOfMemory, RunsHoldLists, is_memory};
 ghost use Rattle.logpurple.specs.Words.{kept_in, range_of, rules_by, tables_fault, union_in};
@@ -13,7 +14,7 @@ use std::alloc::Allocator;
 use std::sync::Arc;
 
 /// Runs that a store shares, the newest first.
-type Runs<A> = Vec<Arc<Run<Table<A>, A>, A>, A>;
+pub(crate) type Runs<A> = Vec<Arc<Run<Table<A>, A>, A>, A>;
 
 impl<A: Allocator + Clone> Store<A> {
     /// Puts one run in the place of all, of what readers at the watermark and at later snapshots
@@ -35,7 +36,12 @@ impl<A: Allocator + Clone> Store<A> {
             (kept_in (rules_by watermark true false) lists) ≡ Some e) }
     {
         let alloc = self.alloc.clone()?;
-        let (runs, ids) = compacted(alloc, &self.runs, watermark, self.ids, self.target)?;
+        let rules = Rules {
+            watermark,
+            evict: true,
+            zeroing: false,
+        };
+        let (runs, ids) = compacted(alloc, &self.runs, rules, self.ids, self.target)?;
         self.runs = runs;
         self.ids = ids;
         self.oldest = self.oldest.max(watermark);
@@ -61,29 +67,26 @@ impl<A: Allocator + Clone> Store<A> {
 
 // What is kept of some runs, as one run, or none where nothing is kept; and the counter of ids
 // behind its tables.
-fn compacted<A: Allocator + Clone>(
+pub(crate) fn compacted<A: Allocator + Clone>(
     alloc: A,
     runs: &[Arc<Run<Table<A>, A>, A>],
-    watermark: SeqNo,
+    rules: Rules,
     ids: TableIds,
     target: u64,
 ) -> Result<(Runs<A>, TableIds), Error>
     requires { AreCompactable (map arc_value runs.now) }
     ensures kept { (lists : List (List (List Entry))) →
         RunsHoldLists (map arc_value runs.now) lists →
-        IfOk result (λ r. HaveAll (kept_in (rules_by watermark true false) lists)
-        (map arc_value r.0.items)) }
+        IfOk result (λ r. HaveAll (kept_in rules lists) (map arc_value r.0.items)) }
+    ensures few { IfOk result (λ r. length r.0.items ≤ 1) }
     ensures able { IfOk result (λ r. AreCompactable (map arc_value r.0.items)) }
+    ensures own { (bound : ℕ) → AllByRecursion (IsOwnRun bound) (map arc_value runs.now) →
+        IfOk result (λ r. AllByRecursion (IsOwnRun bound) (map arc_value r.0.items)) }
     ensures refused { (lists : List (List (List Entry))) →
         RunsHoldLists (map arc_value runs.now) lists →
         IfErr result (λ e. is_memory e ≡ false →
-        tables_fault ids target 0 (kept_in (rules_by watermark true false) lists) ≡ Some e) }
+        tables_fault ids target 0 (kept_in rules lists) ≡ Some e) }
 {
-    let rules = Rules {
-        watermark,
-        evict: true,
-        zeroing: false,
-    };
     let own = alloc.clone()?;
     let (run, left) = compact_to_run(own, runs, rules, ids, target, Timestamp::from(0))?;
     Ok((at_most_one(alloc, run)?, left))
@@ -95,6 +98,7 @@ fn at_most_one<A: Allocator + Clone>(
     run: Option<Run<Table<A>, A>>,
 ) -> Result<Runs<A>, Error>
     ensures ok { IfOk result (λ shared. map arc_value shared.items ≡ option_list run) }
+    ensures few { IfOk result (λ shared. length shared.items ≤ 1) }
     ensures memory { IfErr result (λ e. e ≡ OutOfMemory) }
 {
     let mut shared = Vec::new(alloc.clone()?);
@@ -115,6 +119,9 @@ fn packed<A: Allocator + Clone>(
         IfOk result (λ packed. HoldUnion (map arc_value packed.items) (union_in lists)) }
     ensures able { AreCompactable (map arc_value runs.now) →
         IfOk result (λ packed. AreCompactable (map arc_value packed.items)) }
+    ensures own { (bound : ℕ) → AreInOrder range_of (map arc_value runs.now) →
+        AllByRecursion (IsOwnRun bound) (map arc_value runs.now) →
+        IfOk result (λ packed. AllByRecursion (IsOwnRun bound) (map arc_value packed.items)) }
     ensures least { IfOk result (λ packed. AreInOrder range_of (map arc_value runs.now) →
         IsLeastSize range_of (map arc_value runs.now) (length (map arc_value packed.items))) }
     ensures memory { IfErr result (λ e. e ≡ OutOfMemory) }

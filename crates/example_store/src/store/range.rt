@@ -1,8 +1,9 @@
 //! Ranges of a store at a snapshot.
-ghost use Rattle.std.specs.Prelude.{◌≡◌, ◌≤◌, IfErr, IfOk, List};
+ghost use Rattle.std.specs.Prelude.{◌≡◌, ◌∷◌, ◌≤◌, IfErr, IfOk, List};
 ghost use Rattle.example_store.specs.Story.{IsTold};
-ghost use Rattle.logpurple.specs.Words.{DealsList, Entry, OutOfMemory, all_shown, newest};
-ghost use Rattle.logpurple.specs.Words.{numbered_below, sort_entries, within};
+ghost use Rattle.logpurple.specs.Words.{DealsList, Entry, OutOfMemory, RunsHoldLists, all_shown};
+ghost use Rattle.logpurple.specs.Words.{newest, numbered_below, single, sort_entries, union_in};
+ghost use Rattle.logpurple.specs.Words.{within};
 
 use crate::Store;
 use logpurple::{Error, IterItem, NewestOfSourcesAt, SeqNo, UserKey, range_sources_at};
@@ -29,6 +30,12 @@ impl<A: Allocator + Clone> Store<A> {
             IfOk result (λ s. (es : List Entry) × DealsList gives back_gives es s ×
             (all_shown es ≡ all_shown (newest (numbered_below snapshot
             (within bounds.0 bounds.1 (sort_entries ws)))))) }
+        // At any it deals what the memtable and the tables' lists have.
+        ensures read { let gives = ⟦<Range<A> as Iterator>⟧.next_gives in
+            let back_gives = ⟦<Range<A> as DoubleEndedIterator>⟧.next_back_gives in
+            (lists : List (List (List Entry))) → RunsHoldLists self.now.runs lists →
+            IfOk result (DealsList gives back_gives (newest (numbered_below snapshot
+            (within bounds.0 bounds.1 (union_in (single self.now.recent ∷ lists)))))) }
         ensures next { IfOk result (λ s. ⟦<Range<A> as Iterator>⟧.can_next s) }
         ensures next_back { IfOk result (λ s.
             ⟦<Range<A> as DoubleEndedIterator>⟧.can_next_back s) }

@@ -1,7 +1,10 @@
 use Rattle.std.proofs.Common.{◌≡◌, sym, ◌∙◌, rules}
 use Rattle.std.specs.Arc.{arc_value}
 use Rattle.logpurple.specs.Words.{run_label, tables_fault}
-use Rattle.example_store.proofs.Refusing.{passed_on, run_fault, run_list, shared_list}
+use Rattle.example_store.specs.Story.{IsOwnRun}
+use Rattle.example_store.proofs.Own.{cut_own}
+use Rattle.example_store.proofs.Refusing.{passed_on, run_fault, run_list, shared_list, shared_own}
+use Rattle.example_store.proofs.Stories.{all_own}
 use Rattle.example_store.proofs.store.run_of.Goals as goal
 
 pub returns-in_err-run-clause-refused : goal.returns-in_err-run-clause-refused
@@ -16,3 +19,12 @@ returns-clause-run g c =
     let es = c.args.items.items in
     shared_list arc_value es c.in_ok-share_run.field-0 c.in_ok-run.run' c.in_ok-share_run.ensures.ok
     (run_list (run_label c.args.ids c.args.target c.from.result) c.args.target es c.in_ok-run.run' c.in_ok-run.ensures.run c.in_ok-run.ensures.cut)
+
+pub returns-clause-own : goal.returns-clause-own
+returns-clause-own g c from to numbered =
+    let es = c.args.items.items in
+    let label = run_label c.args.ids c.args.target c.from.result in
+    shared_own arc_value (IsOwnRun to) c.in_ok-share_run.field-0 c.in_ok-run.run' c.in_ok-share_run.ensures.ok
+    (cut_own to label c.args.target es c.in_ok-run.run'
+    (run_list label c.args.target es c.in_ok-run.run' c.in_ok-run.ensures.run c.in_ok-run.ensures.cut)
+    c.in_ok-run.ensures.cut (all_own from to es numbered))

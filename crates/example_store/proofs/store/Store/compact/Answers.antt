@@ -2,19 +2,18 @@ use Rattle.std.proofs.Common.{◌≡◌, sym, ◌∙◌, ap, subst, List, true, 
 use Rattle.std.specs.Prelude.{map, max}
 use Rattle.std.specs.Arc.{arc_value}
 use Rattle.logpurple.specs.Words.{OpenTable, RunsHoldLists, rules_by}
-use Rattle.example_store.specs.Story.{Holding, IsStore, holding}
-use Rattle.example_store.proofs.Compacting.{low_compacted, sound_replaced, tells_compacted}
+use Rattle.std.specs.List.{AllByRecursion}
+use Rattle.example_store.specs.Story.{Holding, IsOwnRun, IsStore}
+use Rattle.example_store.proofs.Compacting.{sound_replaced, tells_compacted}
 use Rattle.example_store.proofs.store.Store.compact.Goals as goal
 
 pub invariant_of-self : goal.invariant_of-self
 invariant_of-self g c =
     let i = c.self.inside in
-    let own = holding i.memtable (map arc_value i.runs.items) i.ids i.target i.next i.flushed i.oldest in
-    let able = c.self.invariant.runs.able in
-    let rules_are = rules_by c.args.watermark true false in
-    let hold = subst (λ (rs : List (List OpenTable)). RunsHoldLists rs able.lists) (ap (map arc_value) (sym c.deref.ensures.value)) able.hold in
+    let given = sym (ap (map arc_value) c.deref.ensures.value) in
+    let own = subst (AllByRecursion (IsOwnRun i.flushed)) given c.self.invariant.runs.own in
     sound_replaced i.memtable (map arc_value i.runs.items) (map arc_value c.in_ok-runs.runs.items) i.ids c.in_ok-runs.ids i.target i.next i.flushed i.oldest c.max-self-inside.result c.self.invariant
-    (low_compacted own rules_are (map arc_value c.in_ok-runs.runs.items) c.self.invariant (c.in_ok-runs.ensures.kept able.lists hold) c.in_ok-runs.ensures.able)
+    (record { own = c.in_ok-runs.ensures.own i.flushed own; able = c.in_ok-runs.ensures.able })
 
 pub returns-clause-story : goal.returns-clause-story
 returns-clause-story g c ws told =

@@ -4,19 +4,23 @@ use Rattle.std.specs.Arc.{arc_value}
 use Rattle.logpurple.specs.Words.{AreCompactable, IsLeastSize, OpenTable, RunsHoldLists}
 use Rattle.logpurple.specs.Words.{range_of}
 use Rattle.logpurple.proofs.Laws.{runs_in_order}
-use Rattle.example_store.specs.Story.{Holding, holding}
-use Rattle.example_store.proofs.Compacting.{low_packed, sound_replaced, tells_packed}
+use Rattle.std.specs.List.{AllByRecursion}
+use Rattle.example_store.specs.Story.{Holding, IsOwnRun}
+use Rattle.example_store.proofs.Compacting.{sound_replaced, tells_packed}
 use Rattle.example_store.proofs.store.Store.pack.Goals as goal
 
 pub invariant_of-self : goal.invariant_of-self
 invariant_of-self g c =
     let i = c.self.inside in
-    let own = holding i.memtable (map arc_value i.runs.items) i.ids i.target i.next i.flushed i.oldest in
     let able = c.self.invariant.runs.able in
     let given = ap (map arc_value) (sym c.deref.ensures.value) in
     let hold = subst (λ (rs : List (List OpenTable)). RunsHoldLists rs able.lists) given able.hold in
+    let own = subst (AllByRecursion (IsOwnRun i.flushed)) given c.self.invariant.runs.own in
     sound_replaced i.memtable (map arc_value i.runs.items) (map arc_value c.in_ok-packed.packed.items) i.ids i.ids i.target i.next i.flushed i.oldest i.oldest c.self.invariant
-    (low_packed own (map arc_value c.in_ok-packed.packed.items) c.self.invariant (c.in_ok-packed.ensures.list able.lists hold) (c.in_ok-packed.ensures.able (subst AreCompactable given able)))
+    (record {
+      own = c.in_ok-packed.ensures.own i.flushed (runs_in_order (map arc_value c.deref.result.now) able.lists hold) own;
+      able = c.in_ok-packed.ensures.able (subst AreCompactable given able);
+    })
 
 pub returns-clause-story : goal.returns-clause-story
 returns-clause-story g c ws told =

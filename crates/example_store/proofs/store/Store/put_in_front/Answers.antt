@@ -1,18 +1,20 @@
-use Rattle.std.proofs.Common.{sym, ◌∙◌, ap, subst, List, ◌∷◌}
+use Rattle.std.proofs.Common.{sym, ◌∙◌, ap, subst, ℕ, List, ◌∷◌}
 use Rattle.std.specs.Prelude.{map}
 use Rattle.std.specs.Arc.{arc_value}
 use Rattle.logpurple.specs.Words.{Entry, HasList, IsStrict}
-use Rattle.example_store.specs.Story.{Holding, IsStore}
+use Rattle.example_store.specs.Story.{Holding, IsOwnRun, IsStore}
 use Rattle.example_store.proofs.Stories.{sound_flushed, tells_flushed}
 use Rattle.example_store.proofs.store.Store.put_in_front.Goals as goal
 
 pub invariant_of-self-2 : goal.invariant_of-self-2
 invariant_of-self-2 g c =
     let recent = sym (ap (λ (h : Holding). h.recent) c.self.view_is) in
+    let next = sym (ap (λ (h : Holding). h.next) c.self.view_is) in
     sound_flushed c.self.inside.memtable c.args.fresh (map arc_value c.self.inside.runs.items) c.self.inside.ids c.self.inside.target c.self.inside.next c.self.inside.flushed c.self.inside.oldest
     (arc_value c.args.run) c.args.ids (map arc_value c.insert.new.self.items) c.self.invariant
     (subst IsStrict recent c.requires.strict)
     (subst (λ (es : List Entry). HasList es (arc_value c.args.run)) recent c.requires.list)
+    (subst (λ (n : ℕ). IsOwnRun n (arc_value c.args.run)) next c.requires.own)
     c.requires.empty
     (ap (map arc_value) c.in_ok-insert.ensures.items)
 

@@ -1,12 +1,30 @@
-use Rattle.std.proofs.Common.{sym, subst, true, false}
-use Rattle.logpurple.specs.Words.{HaveAll, kept_in, rules_by, run_label}
+use Rattle.std.proofs.Common.{sym, subst}
+use Rattle.logpurple.specs.Words.{HaveAll, kept_in, run_label}
+use Rattle.std.specs.Prelude.{map}
+use Rattle.std.specs.Arc.{arc_value}
+use Rattle.std.specs.List.{AllByRecursion}
+use Rattle.example_store.specs.Story.{IsOwnRun}
 use Rattle.example_store.proofs.Compacting.{made_of}
+use Rattle.example_store.proofs.Own.{cut_own, listed_own, own_kept, own_run_lists, own_union}
 use Rattle.example_store.proofs.Refusing.{run_list}
 use Rattle.example_store.proofs.store.compact.compacted.Goals as goal
 
 pub returns-clause-kept : goal.returns-clause-kept
 returns-clause-kept g c lists hold =
-    let left = kept_in (rules_by c.args.watermark true false) lists in
+    let left = kept_in c.args.rules lists in
     let run = c.in_ok-run.run' in
     subst (HaveAll left) (sym c.in_ok-at_most_one.ensures.ok)
     (made_of left run (run_list (run_label c.args.ids c.args.target c.from.result) c.args.target left run (c.in_ok-run.ensures.run lists hold) (c.in_ok-run.ensures.cut lists hold)))
+
+pub returns-clause-own : goal.returns-clause-own
+returns-clause-own g c bound own =
+    let all = own_run_lists bound (map arc_value c.args.runs.now) own in
+    let left = kept_in c.args.rules all.lists in
+    let run = c.in_ok-run.run' in
+    let label = run_label c.args.ids c.args.target c.from.result in
+    let cut = c.in_ok-run.ensures.cut all.lists all.hold in
+    subst (AllByRecursion (IsOwnRun bound)) (sym c.in_ok-at_most_one.ensures.ok)
+    (listed_own bound run (cut_own bound label c.args.target left run
+    (run_list label c.args.target left run (c.in_ok-run.ensures.run all.lists all.hold) cut) cut
+    (own_kept bound c.args.rules all.lists
+    (own_union bound (map arc_value c.args.runs.now) own all.lists all.hold))))

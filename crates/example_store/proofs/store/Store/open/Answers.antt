@@ -1,0 +1,83 @@
+use Rattle.std.proofs.Common.{◌<◌, sym, ◌∙◌, ap, subst, ◌-◌, ◌^◌, ℕ, List, length, arith}
+use Rattle.std.specs.Prelude.{map, nat_lt}
+use Rattle.std.specs.Arc.{arc_value}
+use Rattle.std.specs.List.{AllByRecursion}
+use Rattle.std.proofs.lemmas.Bool.{lt-ltb, ltb-true}
+use Rattle.logpurple.specs.Words.{OpenTable, RunsHoldLists}
+use Rattle.logpurple.proofs.Laws.{all_more, apart}
+use Rattle.example_store.specs.Closed.{StoreLists}
+use Rattle.example_store.specs.Story.{AreNumbered, IsOwnRun}
+use Rattle.example_store.specs.declared.store.open.OpenError.TheVariants.{OutOfMemory}
+use Rattle.example_store.proofs.Opening.{strict_alike, tells_alike}
+use Rattle.example_store.proofs.Own.{later_runs, own_able, own_run_lists, runs_stored}
+use Rattle.example_store.proofs.Refusing.{wanted}
+use Rattle.example_store.proofs.store.Store.open.Goals as goal
+
+pub returns-then-not-has_room-clause-taken : goal.returns-then-not-has_room-clause-taken
+returns-then-not-has_room-clause-taken g c s sound closed =
+    let next = closed.next in
+    let room = sound.room in
+    absurd (apart (nat_lt c.args.closed.now.next (2 ^ 64 - 1)) (lt-ltb c.args.closed.now.next (2 ^ 64 - 1) (omega (arith, next, room))) (sym c.has_room.ensures ∙ c.if-not-has_room.true))
+
+pub returns-in_err-runs-clause-taken : goal.returns-in_err-runs-clause-taken
+returns-in_err-runs-clause-taken g c s sound closed =
+    let r = c.from_residual-in_err-runs in
+    let order = sound.order in
+    let next = closed.next in
+    wanted OutOfMemory r.result c.in_err-runs.field-0.0 r.ensures.1
+    (c.in_err-runs.ensures.taken s.runs
+    (later_runs s.flushed c.args.closed.now.next (omega (arith, order, next)) s.runs sound.runs.own)
+    (sym closed.files ∙ ap (map (λ run. run.items)) (sym c.deref.ensures.value)))
+
+pub test_order-requires : goal.test_order-requires
+test_order-requires g c = record {
+  some = subst (AllByRecursion (λ (run : List OpenTable). 0 < length run)) (ap (map arc_value) (sym c.deref-2.ensures.value))
+      (all_more (IsOwnRun c.args.closed.now.next) (λ (run : List OpenTable). 0 < length run) (λ run h. h.some) (map arc_value c.in_ok-runs.runs.items) c.in_ok-runs.ensures.own);
+}
+
+pub returns-in_err-test_order-clause-taken : goal.returns-in_err-test_order-clause-taken
+returns-in_err-test_order-clause-taken g c s sound closed =
+    let r = c.from_residual-in_err-test_order in
+    let n = c.args.closed.now.next in
+    let opened = map arc_value c.in_ok-runs.runs.items in
+    let own = c.in_ok-runs.ensures.own in
+    let all = own_run_lists n opened own in
+    let same = sym closed.files ∙ ap (map (λ run. run.items)) (sym c.deref.ensures.value) ∙ sym c.in_ok-runs.ensures.files in
+    wanted OutOfMemory r.result c.in_err-test_order.field-0.0 r.ensures.1
+    (c.in_err-test_order.ensures.taken all.lists
+    (subst (λ (rs : List (List OpenTable)). RunsHoldLists rs all.lists) (ap (map arc_value) (sym c.deref-2.ensures.value)) all.hold)
+    all.some (strict_alike s.flushed n s.runs opened same sound.runs.own own sound.runs.able))
+
+pub invariant_of-result : goal.invariant_of-result
+invariant_of-result g c =
+    let n = c.args.closed.now.next in
+    let opened = map arc_value c.in_ok-runs.runs.items in
+    let own = c.in_ok-runs.ensures.own in
+    let all = own_run_lists n opened own in
+    let room : n < 2 ^ 64 - 1 = ltb-true n (2 ^ 64 - 1) (sym c.has_room.ensures ∙ c.if-not-has_room.false) in
+    let strict = c.in_ok-test_order.ensures.strict all.lists
+    (subst (λ (rs : List (List OpenTable)). RunsHoldLists rs all.lists) (ap (map arc_value) (sym c.deref-2.ensures.value)) all.hold) all.some in
+    record {
+      recent = subst (AreNumbered n n) (sym c.new-memtable.ensures) tt;
+      runs = record { own = own; able = own_able n opened own (omega (arith, room)) strict };
+      order = omega arith;
+      room = room;
+    }
+
+pub returns-clause-lists : goal.returns-clause-lists
+returns-clause-lists g c =
+    let n = c.args.closed.now.next in
+    let opened = map arc_value c.in_ok-runs.runs.items in
+    let own = c.in_ok-runs.ensures.own in
+    let all = own_run_lists n opened own in (
+      all.lists,
+      subst (λ (fs : List (List (List ℕ))). StoreLists fs all.lists) (c.in_ok-runs.ensures.files ∙ ap (map (λ run. run.items)) c.deref.ensures.value) (runs_stored n opened own),
+      all.hold,
+    )
+
+pub returns-clause-story : goal.returns-clause-story
+returns-clause-story g c s ws sound closed told =
+    let n = c.args.closed.now.next in
+    let own = c.in_ok-runs.ensures.own in
+    let same = sym closed.files ∙ ap (map (λ run. run.items)) (sym c.deref.ensures.value) ∙ sym c.in_ok-runs.ensures.files in
+    tells_alike s.flushed n s _ ws told sound.runs.own own same (closed.none ∙ sym c.new-memtable.ensures) closed.next closed.oldest

@@ -1,0 +1,43 @@
+use Rattle.std.proofs.Common.{refl, sym, ◌∙◌, ap, subst, [], ◌∷◌}
+use Rattle.std.specs.Prelude.{map}
+use Rattle.std.specs.Arc.{arc_value}
+use Rattle.std.specs.List.{AllByRecursion}
+use Rattle.std.proofs.lemmas.List.{map-append, take_all}
+use Rattle.std.proofs.lemmas.Simd.{map-map}
+use Rattle.logpurple.proofs.Laws.{all_append}
+use Rattle.example_store.specs.Story.{IsOwnRun}
+use Rattle.example_store.specs.declared.store.open.OpenError.TheVariants.{OutOfMemory}
+use Rattle.example_store.proofs.Opening.{one_seen, seen_at}
+use Rattle.example_store.proofs.Own.{bytes_of}
+use Rattle.example_store.proofs.Refusing.{wanted}
+use Rattle.example_store.proofs.store.open.open_runs.Goals as goal
+
+pub loop-run-init : goal.loop-run-init
+loop-run-init g c = record {
+  own = rw c.new-runs.ensures.items tt;
+  made = rw c.new-runs.ensures.items refl;
+}
+
+pub loop-run-preserved : goal.loop-run-preserved
+loop-run-preserved g c =
+    let P = IsOwnRun c.args.next in
+    let made = c.loop-run.runs.items in
+    let x = c.in_ok-new.field-0 in
+    record {
+      own = rw c.in_ok-push.ensures.items (subst (AllByRecursion P) (sym (map-append arc_value made (x ∷ [])))
+          (all_append P (map arc_value made) (arc_value x ∷ []) c.loop-run.invariant.own
+          (subst P (sym c.in_ok-new.ensures.ok) c.in_ok-opened.ensures.own, tt)));
+      made = rw c.in_ok-push.ensures.items (one_seen (λ run. map bytes_of (arc_value run)) (λ run. run.items) (λ _. Unit {0}) made c.args.files.now c.loop-run.run-index x c.run-item.result c.loop-run.invariant.made c.loop-run-test.true c.run-item.is
+          (ap (map bytes_of) c.in_ok-new.ensures.ok ∙ c.in_ok-opened.ensures.files ∙ c.as_slice.ensures.value));
+    }
+
+pub returns-in_err-opened-clause-taken : goal.returns-in_err-opened-clause-taken
+returns-in_err-opened-clause-taken g c runs own same =
+    let r = c.from_residual-in_err-opened in
+    let here = seen_at (map bytes_of) (λ run. run.items) (IsOwnRun c.args.next) runs c.args.files.now c.loop-run.run-index c.run-item.result own same c.loop-run-test.true c.run-item.is in
+    wanted OutOfMemory r.result c.in_err-opened.field-0.0 r.ensures.1 (c.in_err-opened.ensures.taken here.0 here.2 (here.1 ∙ sym c.as_slice.ensures.value))
+
+pub returns-clause-files : goal.returns-clause-files
+returns-clause-files g c =
+    map-map (map bytes_of) arc_value c.loop-run.runs.items ∙ c.loop-run.invariant.made
+    ∙ ap (map (λ run. run.items)) (take_all c.loop-run.run-index c.args.files.now c.loop-run-test.false)

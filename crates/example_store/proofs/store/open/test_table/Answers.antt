@@ -1,0 +1,36 @@
+use Rattle.std.proofs.Common.{arith}
+use Rattle.example_store.proofs.Opening.{highest_own, none_weak, own_table}
+use Rattle.example_store.proofs.store.open.test_table.Goals as goal
+
+pub returns-then-get_highest_seqno-next-clause-taken :
+    goal.returns-then-get_highest_seqno-next-clause-taken
+returns-then-get_highest_seqno-next-clause-taken g c es stored some own =
+    let said = (c.tells_its_list.ensures.facts es stored).seqno_max in
+    let high = highest_own c.args.next es some own in
+    let is = c.get_highest_seqno.ensures in
+    let unlifted = c.requires in
+    let past = c.if-get_highest_seqno-next.true in
+    absurd (omega (arith, said, high, is, unlifted, past))
+
+pub returns-then-weak_tombstone_count-gt0-clause-taken :
+    goal.returns-then-weak_tombstone_count-gt0-clause-taken
+returns-then-weak_tombstone_count-gt0-clause-taken g c es stored some own =
+    let said = (c.tells_its_list.ensures.facts es stored).weak_tombstone_count in
+    let none = none_weak c.args.next es own in
+    let is = c.weak_tombstone_count.ensures in
+    let past = c.if-weak_tombstone_count-gt0.true in
+    absurd (omega (arith, said, none, is, past))
+
+pub returns-clause-own : goal.returns-clause-own
+returns-clause-own g c =
+    let found = c.in_ok-test_entries.ensures.sound in
+    let said = c.tells_its_list.ensures.facts found.0 found.1 in
+    let highest = said.seqno_max in
+    let weak = said.weak_tombstone_count in
+    let high_is = c.get_highest_seqno.ensures in
+    let weak_is = c.weak_tombstone_count.ensures in
+    let unlifted = c.requires in
+    let below = c.if-get_highest_seqno-next.false in
+    let none = c.if-weak_tombstone_count-gt0.false in
+    own_table c.args.next c.args.table.now found.0 c.tells_its_list.ensures.open unlifted found.1 found.2
+    (omega (arith, highest, high_is, unlifted, below)) (omega (arith, weak, weak_is, none))

@@ -1,0 +1,24 @@
+use Rattle.logpurple.specs.Words.{OutOfMemory, union_in}
+use Rattle.logpurple.proofs.Laws.{all_of, scan_asked}
+use Rattle.example_store.proofs.Refusing.{wanted}
+use Rattle.example_store.proofs.store.order.are_strict.Goals as goal
+
+pub comes_in_order-requires : goal.comes_in_order-requires
+comes_in_order-requires g c =
+    let scanners = c.in_ok-scanners.scanners.items in
+    record {
+      can = c.in_ok-entries.ensures.can (all_of _ scan_asked scanners) (all_of _ (λ s. tt) scanners);
+      finite = tt;
+    }
+
+pub returns-in_err-scanners-clause-memory : goal.returns-in_err-scanners-clause-memory
+returns-in_err-scanners-clause-memory g c lists held some =
+    wanted OutOfMemory c.from_residual-in_err-scanners.result c.in_err-scanners.field-0.0 c.from_residual-in_err-scanners.ensures.1 (c.in_err-scanners.ensures.memory lists held some)
+
+pub returns-clause-exact : goal.returns-clause-exact
+returns-clause-exact g c lists held some =
+    c.comes_in_order.ensures.exact (union_in lists) (c.in_ok-entries.ensures.list lists (c.in_ok-scanners.ensures.list lists held some))
+
+pub returns-clause-memory : goal.returns-clause-memory
+returns-clause-memory g c lists held some =
+    c.comes_in_order.ensures.memory (union_in lists) (c.in_ok-entries.ensures.list lists (c.in_ok-scanners.ensures.list lists held some))

@@ -1,0 +1,87 @@
+//! Closing a store: what is kept of it.
+ghost use Rattle.std.specs.Prelude.{◌≡◌, [], IfErr, IfOk, List, Some, false, map};
+ghost use Rattle.std.specs.Arc.{arc_value};
+ghost use Rattle.example_store.specs.Closed.{IsClosed, bytes_in};
+ghost use Rattle.example_store.specs.Story.{IsStore, IsTold};
+ghost use Rattle.logpurple.specs.Words.{Entry, OpenTable, OutOfMemory, is_memory, tables_fault};
+
+use crate::Store;
+use logpurple::{Error, Run, SeqNo, Slice, Table, TableIds};
+use std::alloc::{Allocator, Global};
+use std::sync::Arc;
+
+/// What is kept of a store that is closed, to be opened from by [`Store::open`].
+#[derive(Drop)]
+pub struct Closed<A: Allocator = Global> {
+    /// The bytes of the tables, run by run, the newest run first.
+    pub files: Vec<Vec<Slice<A>, A>, A>,
+    /// The counter of the tables' ids.
+    pub ids: TableIds,
+    /// The number of the next write.
+    pub next: SeqNo,
+    /// The oldest snapshot that is kept.
+    pub oldest: SeqNo,
+}
+
+impl<A: Allocator + Clone> Store<A> {
+    /// Flushes, and gives what is to be kept of the store: its tables' bytes, which are shared, and
+    /// its numbers. The store may be used on. Refused as [`Store::flush`]; nothing is lost then.
+    pub fn close(&mut self) -> Result<Closed<A>, Error>
+        // What is given is kept of the store as it is now,
+        ensures closed { IfOk result (λ closed. IsStore self.new × IsClosed self.new closed) }
+        // which tells what it told.
+        ensures story { (ws : List Entry) → IsTold self.old ws → IsTold self.new ws }
+        ensures next { self.new.next ≡ self.old.next }
+        ensures oldest { self.new.oldest ≡ self.old.oldest }
+        ensures refused { IfErr result (λ e. is_memory e ≡ false →
+            tables_fault self.old.ids self.old.target 0 self.old.recent ≡ Some e) }
+    {
+        self.flush()?;
+        self.kept()
+    }
+
+    // What is to be kept of a store whose memtable is empty.
+    fn kept(&self) -> Result<Closed<A>, Error>
+        requires { self.now.recent ≡ [] }
+        ensures sound { IsStore self.now }
+        ensures closed { IfOk result (IsClosed self.now) }
+        ensures memory { IfErr result (λ e. e ≡ OutOfMemory) }
+    {
+        let files = files_of(self.alloc.clone()?, &self.runs)?;
+        Ok(Closed {
+            files,
+            ids: self.ids,
+            next: self.next,
+            oldest: self.oldest,
+        })
+    }
+}
+
+// The bytes of the tables of some runs, shared.
+fn files_of<A: Allocator + Clone>(
+    alloc: A,
+    runs: &[Arc<Run<Table<A>, A>, A>],
+) -> Result<Vec<Vec<Slice<A>, A>, A>, Error>
+    ensures files { IfOk result (λ files.
+        map (λ run. run.items) files.items ≡ bytes_in (map arc_value runs.now)) }
+    ensures memory { IfErr result (λ e. e ≡ OutOfMemory) }
+{
+    let mut files = Vec::new(alloc.clone()?);
+    for run in runs {
+        files.push(bytes_of(alloc.clone()?, run.as_slice())?)?;
+    }
+    Ok(files)
+}
+
+// The bytes of some tables, shared.
+fn bytes_of<A: Allocator + Clone>(alloc: A, tables: &[Table<A>]) -> Result<Vec<Slice<A>, A>, Error>
+    ensures files { IfOk result (λ files.
+        files.items ≡ map (λ (t : OpenTable). t.bytes) tables.now) }
+    ensures memory { IfErr result (λ e. e ≡ OutOfMemory) }
+{
+    let mut files = Vec::new(alloc);
+    for table in tables {
+        files.push(table.bytes()?)?;
+    }
+    Ok(files)
+}

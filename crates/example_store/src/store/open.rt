@@ -1,0 +1,299 @@
+//! Opening a store from what was kept of one.
+ghost use Rattle.std.specs.Prelude.{◌≡◌, ◌-◌, ◌^◌, ◌<◌, IfErr, IfOk, IsOk, List, length, map};
+ghost use Rattle.std.specs.Prelude.{nat_lt, true};
+ghost use Rattle.std.specs.List.{AllByRecursion};
+ghost use Rattle.std.specs.Arc.{arc_value};
+ghost use Rattle.example_store.specs.Closed.{IsClosed, StoreLists, bytes_in, files_in};
+ghost use Rattle.example_store.specs.Story.{Holding, IsOwn, IsOwnRun, IsOwnTable, IsStore, IsTold};
+ghost use Rattle.example_store.specs.declared.store.open.OpenError.TheVariants.{OutOfMemory};
+ghost use Rattle.logpurple.specs.Words.{Entry, IsInOrder, IsStrict, OpenTable, RunsHoldLists};
+ghost use Rattle.logpurple.specs.Words.{StoresList, is_memory, range_of, union_in};
+ghost use Rattle.logpurple.proofs.Laws.{HaveEntries};
+
+use crate::store::compact::Runs;
+use crate::store::order::are_strict;
+use crate::{Closed, Memtable, Store};
+use logpurple::{Checksum, Error, Finding, Run, SeqNo, Slice, Table, VerifyError};
+use std::alloc::{AllocError, AllocFailed, Allocator};
+use std::sync::Arc;
+
+/// What is wrong with a file of a store.
+#[derive(Debug, Drop, PartialEq, Eq)]
+pub enum FileFault {
+    /// It does not open as a table.
+    Unopened(Error),
+    /// It opens, but does not store a list.
+    Unsound(Finding),
+    /// It has no entry.
+    Empty,
+    /// It has an entry that is numbered as the next write, or above.
+    TooHigh,
+    /// It has a weak tombstone.
+    Weak,
+}
+
+/// Why a store is not opened. A run has the place that it has among the runs, a file that in its
+/// run.
+#[derive(Debug, Drop, PartialEq, Eq)]
+pub enum OpenError {
+    /// Memory is wanted: nothing is said of the files.
+    OutOfMemory,
+    /// No number is left for a write.
+    SeqNoOverflow,
+    /// The run and the place in it of a file at fault.
+    File(usize, usize, FileFault),
+    /// A run that has no file.
+    NoFile(usize),
+    /// A run whose files do not stand in the order of their keys.
+    OutOfOrder(usize),
+    /// Two entries that have one key and one number.
+    Repeated,
+}
+
+impl From<AllocError> for OpenError {
+    ghost use Rattle.std.specs.Prelude.{◌≡◌};
+    ghost use Rattle.example_store.specs.declared.store.open.OpenError.TheVariants.{OutOfMemory};
+
+    ghost from_gives = { λ _ e. e ≡ OutOfMemory };
+
+    fn from(_: AllocError) -> OpenError {
+        OpenError::OutOfMemory
+    }
+}
+
+impl<T: Drop> From<AllocFailed<T>> for OpenError {
+    ghost use Rattle.std.specs.Prelude.{◌≡◌};
+    ghost use Rattle.example_store.specs.declared.store.open.OpenError.TheVariants.{OutOfMemory};
+
+    ghost from_gives = { λ _ e. e ≡ OutOfMemory };
+
+    fn from(_: AllocFailed<T>) -> OpenError {
+        OpenError::OutOfMemory
+    }
+}
+
+impl<A: Allocator + Clone> Store<A> {
+    /// Opens a store from what [`Store::close`] gave, or from files and numbers of any other
+    /// origin: each file is opened and verified, and all are read together. `limit` and `target`
+    /// are as [`Store::new`] takes them. The files' bytes are shared.
+    ///
+    /// Refused [`OpenError::SeqNoOverflow`] where no number is left; then with the first that is
+    /// wrong, run by run: a file that does not open, stores no list, has no entry, or one that no
+    /// write below `next` made, or a weak tombstone ([`OpenError::File`]); a run that has no file,
+    /// or whose files overlap or descend; then where two entries have one key and one number; and
+    /// [`OpenError::OutOfMemory`].
+    pub fn open(
+        alloc: A,
+        limit: usize,
+        target: u64,
+        closed: &Closed<A>,
+    ) -> Result<Store<A>, OpenError>
+        // It has what was kept, and nothing else.
+        ensures opened { IfOk result (λ store. IsClosed store closed.now) }
+        // Each file stores a list, and these lists are all that its reads rest on.
+        ensures lists { IfOk result (λ store. (lists : List (List (List Entry))) ×
+            StoreLists (files_in closed.now) lists × RunsHoldLists store.runs lists) }
+        // What a store told that was closed, it tells again,
+        ensures story { (s : Holding) (ws : List Entry) → IsStore s → IsClosed s closed.now →
+            IsTold s ws → IfOk result (λ store. IsTold store ws) }
+        // and that is refused for want of memory alone.
+        ensures taken { (s : Holding) → IsStore s → IsClosed s closed.now →
+            IfErr result (λ e. e ≡ OutOfMemory) }
+    {
+        if !has_room(closed.next) {
+            return Err(OpenError::SeqNoOverflow);
+        }
+        let runs = open_runs(alloc.clone()?, &closed.files, closed.next)?;
+        test_order(alloc.clone()?, &runs)?;
+        let memtable = Memtable::new(alloc.clone()?);
+        Ok(Store {
+            alloc,
+            limit,
+            target,
+            memtable,
+            runs,
+            ids: closed.ids,
+            next: closed.next,
+            flushed: closed.next,
+            oldest: closed.oldest,
+        })
+    }
+}
+
+// Whether a number is left for a write.
+fn has_room(next: SeqNo) -> bool
+    ensures { result ≡ nat_lt next (2 ^ 64 - 1) }
+{
+    next < SeqNo::MAX
+}
+
+// The runs of some files, where each may be a store's.
+fn open_runs<A: Allocator + Clone>(
+    alloc: A,
+    files: &[Vec<Slice<A>, A>],
+    next: SeqNo,
+) -> Result<Runs<A>, OpenError>
+    ensures own { IfOk result (λ runs.
+        AllByRecursion (IsOwnRun next) (map arc_value runs.items)) }
+    ensures files { IfOk result (λ runs.
+        bytes_in (map arc_value runs.items) ≡ map (λ run. run.items) files.now) }
+    ensures taken { (runs : List (List OpenTable)) → AllByRecursion (IsOwnRun next) runs →
+        bytes_in runs ≡ map (λ run. run.items) files.now → IfErr result (λ e. e ≡ OutOfMemory) }
+{
+    let mut runs = Vec::new(alloc.clone()?);
+    for run in files {
+        let opened = open_run(alloc.clone()?, run.as_slice(), next, runs.len())?;
+        runs.push(Arc::new(alloc.clone()?, opened)?)?;
+    }
+    Ok(runs)
+}
+
+// The run of some files, where it may be a store's.
+fn open_run<A: Allocator + Clone>(
+    alloc: A,
+    files: &[Slice<A>],
+    next: SeqNo,
+    place: usize,
+) -> Result<Run<Table<A>, A>, OpenError>
+    ensures own { IfOk result (IsOwnRun next) }
+    ensures files { IfOk result (λ run. map (λ (t : OpenTable). t.bytes) run ≡ files.now) }
+    ensures taken { (run : List OpenTable) → IsOwnRun next run →
+        map (λ (t : OpenTable). t.bytes) run ≡ files.now → IfErr result (λ e. e ≡ OutOfMemory) }
+{
+    let mut tables = Vec::new(alloc.clone()?);
+    for bytes in files {
+        let table = open_file(alloc.clone()?, bytes, next, (place, tables.len()))?;
+        tables.push(table)?;
+    }
+    run_of_tables(tables, place)
+}
+
+// The run of some tables, where there are some and they stand in order.
+fn run_of_tables<A: Allocator + Clone>(
+    tables: Vec<Table<A>, A>,
+    place: usize,
+) -> Result<Run<Table<A>, A>, OpenError>
+    ensures run { IfOk result (λ run. run ≡ tables.items) }
+    ensures some { IfOk result (λ _. 0 < length tables.items) }
+    ensures order { IfOk result (λ _. IsInOrder range_of tables.items) }
+    ensures taken { 0 < length tables.items → IsInOrder range_of tables.items → IsOk result }
+{
+    let Some(run) = Run::new(tables) else {
+        return Err(OpenError::NoFile(place));
+    };
+    if !run.is_in_order() {
+        return Err(OpenError::OutOfOrder(place));
+    }
+    Ok(run)
+}
+
+// The table of a file, where it may be a store's. Refusals name the place.
+fn open_file<A: Allocator + Clone>(
+    alloc: A,
+    bytes: &Slice<A>,
+    next: SeqNo,
+    place: (usize, usize),
+) -> Result<Table<A>, OpenError>
+    ensures own { IfOk result (IsOwnTable next) }
+    ensures file { IfOk result (λ t. t.bytes ≡ bytes.now) }
+    ensures taken { (t : OpenTable) → IsOwnTable next t → t.bytes ≡ bytes.now →
+        IfErr result (λ e. e ≡ OutOfMemory) }
+{
+    let table = open_table(alloc, bytes.clone()?, place)?;
+    test_table(&table, next, place)?;
+    Ok(table)
+}
+
+// Opens a table, whose checksum is compared by nothing.
+fn open_table<A: Allocator + Clone>(
+    alloc: A,
+    bytes: Slice<A>,
+    place: (usize, usize),
+) -> Result<Table<A>, OpenError>
+    ensures bytes { IfOk result (λ t. t.bytes ≡ bytes) }
+    ensures unlifted { IfOk result (λ t. t.global_seqno ≡ 0) }
+    ensures taken { (es : List Entry) → StoresList bytes es → IfErr result (λ e. e ≡ OutOfMemory) }
+{
+    match Table::recover(alloc, bytes, Checksum(0), 0, 0, true, true) {
+        Ok(table) => Ok(table),
+        Err(error) => Err(unopened(error, place)),
+    }
+}
+
+// Why a table is not opened that was refused.
+fn unopened(error: Error, place: (usize, usize)) -> OpenError
+    ensures memory { is_memory error ≡ true → result ≡ OutOfMemory }
+{
+    match error {
+        Error::OutOfMemory => OpenError::OutOfMemory,
+        error => OpenError::File(place.0, place.1, FileFault::Unopened(error)),
+    }
+}
+
+// Tests that a table stores a list, and that it may be a store's.
+fn test_table<A: Allocator + Clone>(
+    table: &Table<A>,
+    next: SeqNo,
+    place: (usize, usize),
+) -> Result<(), OpenError>
+    requires { table.now.global_seqno ≡ 0 }
+    ensures own { IfOk result (λ _. IsOwnTable next table.now) }
+    ensures taken { (es : List Entry) → StoresList table.now.bytes es → 0 < length es →
+        AllByRecursion (IsOwn next) es → IfErr result (λ e. e ≡ OutOfMemory) }
+{
+    // What it says of itself is so of the list that it stores.
+    table.tells_its_list();
+    test_entries(table, place)?;
+    if table.get_highest_seqno() >= next {
+        return Err(OpenError::File(place.0, place.1, FileFault::TooHigh));
+    }
+    if table.weak_tombstone_count() > 0 {
+        return Err(OpenError::File(place.0, place.1, FileFault::Weak));
+    }
+    Ok(())
+}
+
+// Tests that a table stores a list that has an entry.
+fn test_entries<A: Allocator + Clone>(
+    table: &Table<A>,
+    place: (usize, usize),
+) -> Result<(), OpenError>
+    ensures sound { IfOk result (λ _. (es : List Entry) × StoresList table.now.bytes es ×
+        (0 < length es)) }
+    ensures taken { (es : List Entry) → StoresList table.now.bytes es → 0 < length es →
+        IfErr result (λ e. e ≡ OutOfMemory) }
+{
+    table.tells_its_list();
+    match table.verify() {
+        Ok(verified) if verified.item_count == 0 => {
+            Err(OpenError::File(place.0, place.1, FileFault::Empty))
+        }
+        Ok(_) => Ok(()),
+        Err(VerifyError::OutOfMemory) => Err(OpenError::OutOfMemory),
+        Err(VerifyError::Found(finding)) => {
+            Err(OpenError::File(place.0, place.1, FileFault::Unsound(finding)))
+        }
+    }
+}
+
+// Tests that no two entries of some runs have one key and one number.
+fn test_order<A: Allocator + Clone>(
+    alloc: A,
+    runs: &[Arc<Run<Table<A>, A>, A>],
+) -> Result<(), OpenError>
+    requires some { AllByRecursion (λ (run : List OpenTable). 0 < length run)
+        (map arc_value runs.now) }
+    ensures strict { (lists : List (List (List Entry))) →
+        RunsHoldLists (map arc_value runs.now) lists → AllByRecursion HaveEntries lists →
+        IfOk result (λ _. IsStrict (union_in lists)) }
+    ensures taken { (lists : List (List (List Entry))) →
+        RunsHoldLists (map arc_value runs.now) lists → AllByRecursion HaveEntries lists →
+        IsStrict (union_in lists) → IfErr result (λ e. e ≡ OutOfMemory) }
+{
+    match are_strict(alloc, runs) {
+        Ok(true) => Ok(()),
+        Ok(false) => Err(OpenError::Repeated),
+        // Verified tables refuse to be read for nothing else.
+        Err(_) => Err(OpenError::OutOfMemory),
+    }
+}

@@ -1,0 +1,105 @@
+//! Whether the entries of runs come in strict order together.
+ghost use Rattle.std.specs.Prelude.{◌≡◌, ◌<◌, ◌↔◌, All, IfErr, IfOk, IsTrue, List, length, map};
+ghost use Rattle.std.specs.Arc.{arc_value};
+ghost use Rattle.std.specs.Iterator.{IsFinite};
+ghost use Rattle.std.specs.List.{AllByRecursion};
+ghost use Rattle.logpurple.specs.Words.{CanDeal, DealsList, Entry, HoldLists, IsStrict, OpenTable};
+ghost use Rattle.logpurple.specs.Words.{OutOfMemory, RunsHoldLists, joined, union_in};
+ghost use Rattle.logpurple.proofs.Laws.{DealTogether, HaveEntries, nowhere};
+
+use logpurple::{Error, InternalValue, IterItem, Merger, Run, RunScanner, Table};
+use std::alloc::Allocator;
+use std::sync::Arc;
+
+/// Whether the sorted entries of some runs are in strict order: no key is there twice under one
+/// number. Each table is read once. Refused as its tables' scans are, and for want of memory.
+pub fn are_strict<A: Allocator + Clone>(
+    alloc: A,
+    runs: &[Arc<Run<Table<A>, A>, A>],
+) -> Result<bool, Error>
+    requires some { AllByRecursion (λ (run : List OpenTable). 0 < length run)
+        (map arc_value runs.now) }
+    ensures exact { (lists : List (List (List Entry))) →
+        RunsHoldLists (map arc_value runs.now) lists → AllByRecursion HaveEntries lists →
+        IfOk result (λ b. IsTrue b ↔ IsStrict (union_in lists)) }
+    ensures memory { (lists : List (List (List Entry))) →
+        RunsHoldLists (map arc_value runs.now) lists → AllByRecursion HaveEntries lists →
+        IfErr result (λ e. e ≡ OutOfMemory) }
+{
+    let scanners = scanners_of(alloc.clone()?, runs)?;
+    let entries = merged(alloc, scanners)?;
+    comes_in_order(entries)
+}
+
+// A scanner of each run.
+fn scanners_of<A: Allocator + Clone>(
+    alloc: A,
+    runs: &[Arc<Run<Table<A>, A>, A>],
+) -> Result<Vec<RunScanner<A>, A>, Error>
+    requires some { AllByRecursion (λ (run : List OpenTable). 0 < length run)
+        (map arc_value runs.now) }
+    ensures list { let gives = ⟦<RunScanner<A> as Iterator>⟧.next_gives in
+        (lists : List (List (List Entry))) → RunsHoldLists (map arc_value runs.now) lists →
+        AllByRecursion HaveEntries lists →
+        IfOk result (λ v. DealTogether gives nowhere v.items (map joined lists)) }
+    ensures memory { (lists : List (List (List Entry))) →
+        RunsHoldLists (map arc_value runs.now) lists → AllByRecursion HaveEntries lists →
+        IfErr result (λ e. e ≡ OutOfMemory) }
+{
+    let mut scanners = Vec::new(alloc);
+    for run in runs {
+        scanners.push(scanner_of(run)?)?;
+    }
+    Ok(scanners)
+}
+
+// The scanner of a whole run.
+fn scanner_of<A: Allocator + Clone>(run: &Arc<Run<Table<A>, A>, A>) -> Result<RunScanner<A>, Error>
+    requires { 0 < length (arc_value run.now) }
+    ensures list { let gives = ⟦<RunScanner<A> as Iterator>⟧.next_gives in
+        (lists : List (List Entry)) → HoldLists (arc_value run.now) lists → HaveEntries lists →
+        IfOk result (DealsList gives nowhere (joined lists)) }
+    ensures memory { (lists : List (List Entry)) → HoldLists (arc_value run.now) lists →
+        HaveEntries lists → IfErr result (λ e. e ≡ OutOfMemory) }
+{
+    RunScanner::culled(run.clone()?, (None, None))
+}
+
+// Several sources as one. It is generic in these, so that none of a scanner's parts is looked at.
+fn merged<I: Iterator<Item = IterItem<A>>, A: Allocator + Clone>(
+    alloc: A,
+    sources: Vec<I, A>,
+) -> Result<Merger<I, A>, Error>
+    ensures can { All (CanDeal I.next_gives nowhere I.can_next I.can_next) sources.items →
+        All (λ s. IsFinite (I.remaining s)) sources.items →
+        IfOk result ⟦<Merger<I, A> as Iterator>⟧.can_next }
+    ensures list { let gives = ⟦<Merger<I, A> as Iterator>⟧.next_gives in
+        (lists : List (List (List Entry))) →
+        DealTogether I.next_gives nowhere sources.items (map joined lists) →
+        IfOk result (DealsList gives nowhere (union_in lists)) }
+    ensures memory { IfErr result (λ e. e ≡ OutOfMemory) }
+{
+    Merger::new(alloc, sources)
+}
+
+// Whether each entry of a stream comes strictly after the one before it. Refused as the stream is.
+fn comes_in_order<I: Iterator<Item = IterItem<A>> + Drop, A: Allocator>(
+    items: I,
+) -> Result<bool, Error>
+    requires can { I.can_next items }
+    requires finite { IsFinite (I.remaining items) }
+    ensures exact { (es : List Entry) → DealsList I.next_gives nowhere es items →
+        IfOk result (λ b. IsTrue b ↔ IsStrict es) }
+    ensures memory { (es : List Entry) → DealsList I.next_gives nowhere es items →
+        IfErr result (λ e. e ≡ OutOfMemory) }
+{
+    let mut last: Option<InternalValue<A>> = None;
+    for item in items {
+        let item = item?;
+        if !item.may_follow(last.as_ref()) {
+            return Ok(false);
+        }
+        last = Some(item);
+    }
+    Ok(true)
+}

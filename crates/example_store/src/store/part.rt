@@ -1,0 +1,105 @@
+//! Compacting a part of the runs of a store.
+ghost use Rattle.std.specs.Prelude.{◌≡◌, ◌++◌, IfErr, IfOk, List, OnErr, OnOk, Some, drop, false};
+ghost use Rattle.std.specs.Prelude.{map, max};
+ghost use Rattle.std.specs.Arc.{arc_value};
+ghost use Rattle.example_store.specs.Part.{IsPartKept, front_of, part_of};
+ghost use Rattle.example_store.specs.Story.{IsTold};
+ghost use Rattle.logpurple.specs.Words.{Entry, OutOfMemory, RunsHoldLists, is_memory, kept_in};
+ghost use Rattle.logpurple.specs.Words.{rules_by, tables_fault};
+
+use crate::Store;
+use crate::store::compact::{Runs, compacted};
+use logpurple::{Error, Rules, Run, SeqNo, Table, TableIds};
+use std::alloc::Allocator;
+use std::sync::Arc;
+
+impl<A: Allocator + Clone> Store<A> {
+    /// Puts one run in the place of those from place `from` on up to place `to`, which is not among
+    /// them, of what readers at the watermark and at later snapshots see of them; older snapshots
+    /// are kept no longer. The newest run has place 0, and there are as many as there are. The
+    /// other runs and the memtable stay, so tombstones do. Refused as [`Store::compact`] is.
+    pub fn compact_part(&mut self, from: usize, to: usize, watermark: SeqNo) -> Result<(), Error>
+        ensures story { (ws : List Entry) → IsTold self.old ws → IsTold self.new ws }
+        ensures oldest { OnOk result (self.new.oldest ≡ max self.old.oldest watermark) }
+        ensures next { self.new.next ≡ self.old.next }
+        ensures recent { self.new.recent ≡ self.old.recent }
+        // The part has what is kept of all that it had, and the other runs are as they were.
+        ensures made { (lists : List (List (List Entry))) →
+            RunsHoldLists (part_of from to self.old.runs) lists →
+            OnOk result (IsPartKept from to watermark lists self.old.runs self.new.runs) }
+        ensures err { OnErr result (self.new ≡ self.old) }
+        // Memory aside, it is refused what writing what is kept of the part as tables is.
+        ensures refused { (lists : List (List (List Entry))) →
+            RunsHoldLists (part_of from to self.old.runs) lists →
+            IfErr result (λ e. is_memory e ≡ false →
+            tables_fault self.old.ids self.old.target 0
+            (kept_in (rules_by watermark false false) lists) ≡ Some e) }
+    {
+        let alloc = self.alloc.clone()?;
+        let (front, part, behind) = cut_out(&self.runs, from, to);
+        let rules = Rules {
+            watermark,
+            evict: false,
+            zeroing: false,
+        };
+        let own = alloc.clone()?;
+        let (made, ids) = compacted(own, part, rules, self.ids, self.target)?;
+        let runs = side_by_side(alloc, front, &made, behind)?;
+        self.runs = runs;
+        self.ids = ids;
+        self.oldest = self.oldest.max(watermark);
+        Ok(())
+    }
+}
+
+// The runs in front of a part, the part and the runs behind it.
+fn cut_out<A: Allocator>(
+    runs: &[Arc<Run<Table<A>, A>, A>],
+    from: usize,
+    to: usize,
+) -> (
+    &[Arc<Run<Table<A>, A>, A>],
+    &[Arc<Run<Table<A>, A>, A>],
+    &[Arc<Run<Table<A>, A>, A>],
+)
+    ensures front { map arc_value result.0.now ≡ front_of from to (map arc_value runs.now) }
+    ensures part { map arc_value result.1.now ≡ part_of from to (map arc_value runs.now) }
+    ensures behind { map arc_value result.2.now ≡ drop to (map arc_value runs.now) }
+{
+    let (upper, behind) = runs.split_at(to.min(runs.len()));
+    let (front, part) = upper.split_at(from.min(upper.len()));
+    (front, part, behind)
+}
+
+// Shares runs behind others.
+fn share_behind<A: Allocator>(
+    shared: &mut Runs<A>,
+    runs: &[Arc<Run<Table<A>, A>, A>],
+) -> Result<(), Error>
+    ensures runs { OnOk result (map arc_value shared.new.items
+        ≡ map arc_value shared.old.items ++ map arc_value runs.now) }
+    ensures memory { IfErr result (λ e. e ≡ OutOfMemory) }
+{
+    for run in runs {
+        shared.push(run.clone()?)?;
+    }
+    Ok(())
+}
+
+// Runs side by side, shared.
+fn side_by_side<A: Allocator>(
+    alloc: A,
+    front: &[Arc<Run<Table<A>, A>, A>],
+    made: &[Arc<Run<Table<A>, A>, A>],
+    behind: &[Arc<Run<Table<A>, A>, A>],
+) -> Result<Runs<A>, Error>
+    ensures runs { IfOk result (λ runs. map arc_value runs.items
+        ≡ map arc_value front.now ++ (map arc_value made.now ++ map arc_value behind.now)) }
+    ensures memory { IfErr result (λ e. e ≡ OutOfMemory) }
+{
+    let mut runs = Vec::new(alloc);
+    share_behind(&mut runs, front)?;
+    share_behind(&mut runs, made)?;
+    share_behind(&mut runs, behind)?;
+    Ok(runs)
+}
