@@ -1,9 +1,10 @@
 //! Writes, overwrites and deletes 20,000 keys of a store, with two snapshots, packing and
-//! compaction, and compares it each time with a plain map: what each key has, and what there is
-//! from either end.
+//! compaction, closes it, opens it from its files and goes on, and compares it each time with a
+//! plain map: what each key has, and what there is from either end.
 #![tactic(auto)]
 
 mod compare;
+mod reopen;
 mod writes;
 
 use compare::Compared;
@@ -33,7 +34,7 @@ fn print_all<W: Write>(out: &mut W, all: &[Compared]) -> io::Result<()> {
 }
 
 fn main(rt: HostRuntime) -> anyhow::Result<()> {
-    let all = writes::compare_all(rt.alloc())?;
+    let all = writes::compare_all(&rt)?;
     print_all(&mut rt.stdout(), &all)?;
     Ok(())
 }

@@ -1,5 +1,6 @@
 //! What is written to a store and to plain maps beside it, and what is done between.
 use crate::compare::{Compared, KEYS, Plain, compare};
+use crate::reopen::reopen;
 use example_store::Store;
 use logpurple::{Error, SeqNo};
 use std::alloc::Global;
@@ -75,6 +76,15 @@ fn write_second(store: &mut Store, plain: &mut Plain) -> Result<SeqNo, Error> {
     Ok(store.snapshot())
 }
 
+// Writes what no snapshot that is looked at sees.
+fn write_third(store: &mut Store, plains: &Plains) -> Result<(), Error> {
+    for key in 0..KEYS / 4 {
+        let value = plains.second_at.to_be_bytes();
+        store.put(&key.to_be_bytes(), value.as_slice())?;
+    }
+    Ok(())
+}
+
 // A map for each snapshot, and the snapshots.
 #[derive(Drop)]
 struct Plains {
@@ -116,31 +126,54 @@ fn compare_steps(
     store.pack()?;
     compare_both(alloc, "packed", store, plains, all)?;
     store.compact(plains.first_at)?;
-    compare_both(alloc, "compacted", store, plains, all)?;
+    compare_both(alloc, "compacted", store, plains, all)
+}
+
+// Writes some more to a store that was opened, and compacts and packs it, and compares each time.
+fn compare_opened(
+    alloc: Global,
+    store: &mut Store,
+    plains: &mut Plains,
+    all: &mut Vec<Compared>,
+) -> Result<(), Error> {
+    compare_both(alloc, "opened", store, plains, all)?;
+    write_third(store, plains)?;
     store.flush()?;
+    compare_both(alloc, "written again", store, plains, all)?;
+    store.compact_part(0, 3, plains.first_at)?;
+    compare_both(alloc, "compacted in part", store, plains, all)?;
     store.pack()?;
-    compare_both(alloc, "flushed and packed", store, plains, all)?;
+    compare_both(alloc, "packed again", store, plains, all)?;
     store.compact(plains.second_at)?;
     let (second, at) = (&plains.second, plains.second_at);
     all.push(compare(alloc, "compacted again", store, second, at)?)?;
     Ok(())
 }
 
-fn compare_over(alloc: Global, store: &mut Store, all: &mut Vec<Compared>) -> Result<(), Error> {
+fn compare_over(
+    rt: &HostRuntime,
+    store: &mut Store,
+    all: &mut Vec<Compared>,
+) -> anyhow::Result<()> {
+    let alloc = rt.alloc();
     let mut plains = Plains {
         first: BTreeMap::new(alloc),
         first_at: 0,
         second: BTreeMap::new(alloc),
         second_at: 0,
     };
-    compare_steps(alloc, store, &mut plains, all)
+    compare_steps(alloc, store, &mut plains, all)?;
+    let mut opened = reopen(rt, store, LIMIT, TARGET)?;
+    compare_opened(alloc, &mut opened, &mut plains, all)?;
+    drop(opened);
+    Ok(())
 }
 
 /// All that is compared.
-pub fn compare_all(alloc: Global) -> Result<Vec<Compared>, Error> {
-    let mut all = Vec::new(alloc);
-    let mut store = Store::new(alloc, LIMIT, TARGET)?;
-    compare_over(alloc, &mut store, &mut all)?;
+pub fn compare_all(rt: &HostRuntime) -> anyhow::Result<Vec<Compared>> {
+    let mut all = Vec::new(rt.alloc());
+    let mut store = Store::new(rt.alloc(), LIMIT, TARGET)?;
+    compare_over(rt, &mut store, &mut all)?;
     drop(store);
     Ok(all)
 }
