@@ -11,3 +11,4 @@ pub mod RunLemmas
 pub mod ScriptLemmas
 pub mod StoreLemmas
 pub mod UnionLemmas
+pub mod LastPlace

@@ -3,7 +3,8 @@ use Rattle.std.specs.Prelude.{Some, None, nat_lt}
 use Rattle.sst_entries.specs.declared.value_type.ValueType.TheVariants.{Value}
 use Rattle.sst_entries.specs.Entry.{Entry, entry}
 use Rattle.sst_entries.specs.Strict.{is_before, last_of}
-use Rattle.lsm_writers.proofs.Orders.{follows_nothing, follows_last, last_is, last_is_before}
+use Rattle.lsm_writers.proofs.Orders.{follows_last, follows_nothing}
+use Rattle.sst_script.proofs.LastPlace.{last_is, last_is_before}
 use Rattle.sst_script.proofs.pending.Pending.can_follow.Goals as goal
 
 pub returns-in-None : goal.returns-in-None
