@@ -17,9 +17,9 @@ use test_tables::large::add;
 use test_tables::rows::{Row, written};
 use test_tables::runs::Tables;
 
-// Drops the version of one number, makes that of another a tombstone, and keeps all others.
+/// Drops the version of one number, makes that of another a tombstone, and keeps all others.
 #[derive(Clone, Copy)]
-struct DropsAndHides {
+pub(crate) struct DropsAndHides {
     dropped: SeqNo,
     hidden: SeqNo,
 }
@@ -45,10 +45,10 @@ impl<A: Allocator> StreamFilter<A> for DropsAndHides {
     }
 }
 
-// Remembers what it received.
+/// Remembers what it received.
 #[derive(Clone, Copy)]
-struct Received {
-    reports: Listed,
+pub(crate) struct Received {
+    pub(crate) reports: Listed,
 }
 
 impl<A: Allocator> DroppedKvCallback<A> for Received {
@@ -184,8 +184,8 @@ fn run_left(
     run_of_tables(alloc, opened(alloc, tables)?)
 }
 
-// What scans of a run's tables give, if there is a run, and what a read finds.
-fn listed_and_found(
+/// What scans of a run's tables give, if there is a run, and what a read finds.
+pub(crate) fn listed_and_found(
     runs: &[Tables<Global>],
     at: (&[u8], SeqNo),
 ) -> Result<(Listed, Option<Version>), Error> {
@@ -221,20 +221,20 @@ const A3: Row<'static> = (b"a", 3, V, b"x");
 
 const B9: Row<'static> = (b"b", 9, V, b"x");
 
-const DROPS_10_AND_HIDES_9: DropsAndHides = DropsAndHides {
+pub(crate) const DROPS_10_AND_HIDES_9: DropsAndHides = DropsAndHides {
     dropped: 10,
     hidden: 9,
 };
 
-// Lists of rows, what is left of them, the newest version of `a` then, and what is reported.
-type Case = (
+/// Lists of rows, what is left of them, the newest version of `a` then, and what is reported.
+pub(crate) type Case = (
     &'static [&'static [Row<'static>]],
     &'static [Version],
     Option<Version>,
     &'static [Version],
 );
 
-const CASES: &[Case] = &[
+pub(crate) const CASES: &[Case] = &[
     // What is dropped hides nothing: the version after it is kept.
     (
         &[&[A10, A3]],

@@ -31,3 +31,5 @@ mod stored;
 mod tables;
 #[cfg(test)]
 mod to_run;
+#[cfg(test)]
+mod whole;
