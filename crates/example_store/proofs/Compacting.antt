@@ -142,10 +142,11 @@ able_of (Some run) h = h
 pub sound_replaced : (recent : List Entry) (runs new : List (List OpenTable)) (ids left : Option ℕ)
     (target next flushed oldest later : ℕ)
     → IsStore (holding recent runs ids target next flushed oldest) → HoldBelow flushed new
-    → IsStore (holding recent new left target next flushed later)
-sound_replaced recent runs new ids left target next flushed oldest later sound low = record {
+    → later ≤ next → IsStore (holding recent new left target next flushed later)
+sound_replaced recent runs new ids left target next flushed oldest later sound low kept = record {
   recent = sound.recent;
   runs = low;
   order = sound.order;
   room = sound.room;
+  kept = kept;
 }

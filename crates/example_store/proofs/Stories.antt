@@ -282,6 +282,7 @@ sound_new recent runs ids target none empty = record {
   runs = subst (HoldBelow 0) (sym empty) (none_below 0);
   order = omega arith;
   room = omega arith;
+  kept = omega arith;
 }
 
 pub tells_new : (recent : List Entry) (runs : List (List OpenTable)) (ids : Option ℕ) (target : ℕ)
@@ -312,6 +313,7 @@ module _ (recent new : List Entry) (runs : List (List OpenTable)) (ids : Option 
     runs = sound.runs;
     order = let order = sound.order in omega (arith, order);
     room = omega (arith, room);
+    kept = let kept = sound.kept in omega (arith, kept);
   }
 
   pub sound_flushed : (run : List OpenTable) (left : Option ℕ) (all : List (List OpenTable))
@@ -325,4 +327,5 @@ module _ (recent new : List Entry) (runs : List (List OpenTable)) (ids : Option 
         own);
     order = omega arith;
     room = sound.room;
+    kept = sound.kept;
   }

@@ -66,12 +66,14 @@ pub record HoldBelow (bound : ℕ) (runs : List (List OpenTable)) : Type 0 where
 abbrev pub AreNumbered : ℕ → ℕ → List Entry → Type 0
 AreNumbered from to es = AllByRecursion (λ (e : Entry). (from ≤ e.seqno) × IsOwn to e) es
 
--- what is so of every store: what is in a table is older than what is not
+-- what is so of every store: what is in a table is older than what is not, and the snapshot of all
+-- writes is kept
 pub record IsStore (s : Holding) : Type 0 where
   pub recent : AreNumbered s.flushed s.next s.recent
   pub runs : HoldBelow s.flushed s.runs
   pub order : s.flushed ≤ s.next
   pub room : s.next < 2 ^ 64 - 1
+  pub kept : s.oldest ≤ s.next
 
 -- a store tells a story: of each key a reader sees in what the store has, at each snapshot that it
 -- keeps, what the story says
@@ -90,7 +92,7 @@ value_in ws key bound = option_map (λ v. v.1) (seen ws key bound)
 -- no number is left behind it
 abbrev pub put_fault : ℕ → List ℕ → List ℕ → Option Error
 put_fault next key value =
-    if nat_lt 65535 (length key) then Some KeyTooLong
+    if nat_lt 1048576 (length key) then Some KeyTooLong
     else (if nat_lt (2 ^ 32 - 1) (length value) then Some ValueTooLong
     else (if nat_le (2 ^ 64 - 2) next then Some SeqNoOverflow else None))
 

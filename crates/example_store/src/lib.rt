@@ -8,5 +8,4 @@
 mod memtable;
 mod store;
 
-pub use memtable::Memtable;
 pub use store::{Closed, FileFault, OpenError, Range, Store};

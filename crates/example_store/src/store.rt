@@ -17,7 +17,7 @@ mod order;
 mod part;
 mod range;
 
-use crate::Memtable;
+use crate::memtable::Memtable;
 pub use close::Closed;
 use logpurple::{
     Error, InternalValue, Run, SeqNo, Slice, Table, TableIds, Timestamp, ValueType, get_runs,
@@ -262,7 +262,7 @@ impl<A: Allocator + Clone> Store<A> {
 fn check_write(next: SeqNo, key: &[u8], value: &[u8]) -> Result<(), Error>
     ensures { Refuses result (put_fault next key.now value.now) }
 {
-    if key.len() > 65_535 {
+    if key.len() > 1_048_576 {
         return Err(Error::KeyTooLong);
     }
     if value.len() > 4_294_967_295 {

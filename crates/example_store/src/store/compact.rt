@@ -1,6 +1,6 @@
 //! Compacting and packing the runs of a store.
 ghost use Rattle.std.specs.Prelude.{◌≡◌, ◌≤◌, IfErr, IfOk, List, OnErr, OnOk, Some, false};
-ghost use Rattle.std.specs.Prelude.{length, map, max, true, ℕ};
+ghost use Rattle.std.specs.Prelude.{length, map, max, min, true, ℕ};
 ghost use Rattle.std.specs.Arc.{arc_value};
 ghost use Rattle.std.specs.List.{AllByRecursion};
 ghost use Rattle.example_store.specs.Story.{IsOwnRun, IsTold, option_list};
@@ -18,24 +18,28 @@ pub(crate) type Runs<A> = Vec<Arc<Run<Table<A>, A>, A>, A>;
 
 impl<A: Allocator + Clone> Store<A> {
     /// Puts one run in the place of all, of what readers at the watermark and at later snapshots
-    /// see of them; older snapshots are kept no longer. What is in the memtable stays there.
-    /// Refused as [`compact_to_run`] is; the store then has what it had.
+    /// see of them; older snapshots are kept no longer. A watermark above [`Store::snapshot`] is
+    /// taken as that, so the snapshot of all writes is kept always. What is in the memtable stays
+    /// there. Refused as [`compact_to_run`] is; the store then has what it had.
     pub fn compact(&mut self, watermark: SeqNo) -> Result<(), Error>
         ensures story { (ws : List Entry) → IsTold self.old ws → IsTold self.new ws }
-        ensures oldest { OnOk result (self.new.oldest ≡ max self.old.oldest watermark) }
+        ensures oldest { OnOk result
+            (self.new.oldest ≡ max self.old.oldest (min watermark self.old.next)) }
         ensures next { self.new.next ≡ self.old.next }
         ensures recent { self.new.recent ≡ self.old.recent }
         // The runs have what is kept of all that they had.
         ensures made { (lists : List (List (List Entry))) → RunsHoldLists self.old.runs lists →
-            OnOk result (HaveAll (kept_in (rules_by watermark true false) lists) self.new.runs) }
+            OnOk result (HaveAll (kept_in (rules_by (min watermark self.old.next) true false) lists)
+            self.new.runs) }
         ensures err { OnErr result (self.new ≡ self.old) }
         // Memory aside, it is refused what writing what is kept of the runs as tables is.
         ensures refused { (lists : List (List (List Entry))) → RunsHoldLists self.old.runs lists →
             IfErr result (λ e. is_memory e ≡ false →
             tables_fault self.old.ids self.old.target 0
-            (kept_in (rules_by watermark true false) lists) ≡ Some e) }
+            (kept_in (rules_by (min watermark self.old.next) true false) lists) ≡ Some e) }
     {
         let alloc = self.alloc.clone()?;
+        let watermark = watermark.min(self.next);
         let rules = Rules {
             watermark,
             evict: true,

@@ -1,6 +1,6 @@
 //! Opening a store from what was kept of one.
-ghost use Rattle.std.specs.Prelude.{◌≡◌, ◌-◌, ◌^◌, ◌<◌, IfErr, IfOk, IsOk, List, length, map};
-ghost use Rattle.std.specs.Prelude.{nat_lt, true};
+ghost use Rattle.std.specs.Prelude.{◌≡◌, ◌-◌, ◌^◌, ◌<◌, ◌≤◌, IfErr, IfOk, IsOk, List, length};
+ghost use Rattle.std.specs.Prelude.{map, true};
 ghost use Rattle.std.specs.List.{AllByRecursion};
 ghost use Rattle.std.specs.Arc.{arc_value};
 ghost use Rattle.example_store.specs.Closed.{IsClosed, StoreLists, bytes_in, files_in};
@@ -10,9 +10,10 @@ ghost use Rattle.logpurple.specs.Words.{Entry, IsInOrder, IsStrict, OpenTable, R
 ghost use Rattle.logpurple.specs.Words.{StoresList, is_memory, range_of, union_in};
 ghost use Rattle.logpurple.proofs.Laws.{HaveEntries};
 
+use crate::memtable::Memtable;
 use crate::store::compact::Runs;
 use crate::store::order::are_strict;
-use crate::{Closed, Memtable, Store};
+use crate::{Closed, Store};
 use logpurple::{Checksum, Error, Finding, Run, SeqNo, Slice, Table, VerifyError};
 use std::alloc::{AllocError, AllocFailed, Allocator};
 use std::sync::Arc;
@@ -40,6 +41,8 @@ pub enum OpenError {
     OutOfMemory,
     /// No number is left for a write.
     SeqNoOverflow,
+    /// The oldest snapshot is above that of all writes.
+    OldestTooHigh,
     /// The run and the place in it of a file at fault.
     File(usize, usize, FileFault),
     /// A run that has no file.
@@ -77,7 +80,8 @@ impl<A: Allocator + Clone> Store<A> {
     /// origin: each file is opened and verified, and all are read together. `limit` and `target`
     /// are as [`Store::new`] takes them. The files' bytes are shared.
     ///
-    /// Refused [`OpenError::SeqNoOverflow`] where no number is left; then with the first that is
+    /// Refused [`OpenError::SeqNoOverflow`] where no number is left, and
+    /// [`OpenError::OldestTooHigh`] where `oldest` is above `next`; then with the first that is
     /// wrong, run by run: a file that does not open, stores no list, has no entry, or one that no
     /// write below `next` made, or a weak tombstone ([`OpenError::File`]); a run that has no file,
     /// or whose files overlap or descend; then where two entries have one key and one number; and
@@ -93,6 +97,8 @@ impl<A: Allocator + Clone> Store<A> {
         // Each file stores a list, and these lists are all that its reads rest on.
         ensures lists { IfOk result (λ store. (lists : List (List (List Entry))) ×
             StoreLists (files_in closed.now) lists × RunsHoldLists store.runs lists) }
+        // The snapshot of all writes is kept.
+        ensures kept { IfOk result (λ _. closed.now.oldest ≤ closed.now.next) }
         // What a store told that was closed, it tells again,
         ensures story { (s : Holding) (ws : List Entry) → IsStore s → IsClosed s closed.now →
             IsTold s ws → IfOk result (λ store. IsTold store ws) }
@@ -100,9 +106,7 @@ impl<A: Allocator + Clone> Store<A> {
         ensures taken { (s : Holding) → IsStore s → IsClosed s closed.now →
             IfErr result (λ e. e ≡ OutOfMemory) }
     {
-        if !has_room(closed.next) {
-            return Err(OpenError::SeqNoOverflow);
-        }
+        test_numbers(closed.next, closed.oldest)?;
         let runs = open_runs(alloc.clone()?, &closed.files, closed.next)?;
         test_order(alloc.clone()?, &runs)?;
         let memtable = Memtable::new(alloc.clone()?);
@@ -120,11 +124,19 @@ impl<A: Allocator + Clone> Store<A> {
     }
 }
 
-// Whether a number is left for a write.
-fn has_room(next: SeqNo) -> bool
-    ensures { result ≡ nat_lt next (2 ^ 64 - 1) }
+// Tests that a number is left for a write, and that the snapshot of all writes is kept.
+fn test_numbers(next: SeqNo, oldest: SeqNo) -> Result<(), OpenError>
+    ensures room { IfOk result (λ _. next < 2 ^ 64 - 1) }
+    ensures kept { IfOk result (λ _. oldest ≤ next) }
+    ensures taken { next < 2 ^ 64 - 1 → oldest ≤ next → IsOk result }
 {
-    next < SeqNo::MAX
+    if next == SeqNo::MAX {
+        return Err(OpenError::SeqNoOverflow);
+    }
+    if oldest > next {
+        return Err(OpenError::OldestTooHigh);
+    }
+    Ok(())
 }
 
 // The runs of some files, where each may be a store's.

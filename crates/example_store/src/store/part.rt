@@ -1,6 +1,6 @@
 //! Compacting a part of the runs of a store.
 ghost use Rattle.std.specs.Prelude.{◌≡◌, ◌++◌, IfErr, IfOk, List, OnErr, OnOk, Some, drop, false};
-ghost use Rattle.std.specs.Prelude.{map, max};
+ghost use Rattle.std.specs.Prelude.{map, max, min};
 ghost use Rattle.std.specs.Arc.{arc_value};
 ghost use Rattle.example_store.specs.Part.{IsPartKept, front_of, part_of};
 ghost use Rattle.example_store.specs.Story.{IsTold};
@@ -16,26 +16,30 @@ use std::sync::Arc;
 impl<A: Allocator + Clone> Store<A> {
     /// Puts one run in the place of those from place `from` on up to place `to`, which is not among
     /// them, of what readers at the watermark and at later snapshots see of them; older snapshots
-    /// are kept no longer. The newest run has place 0, and there are as many as there are. The
-    /// other runs and the memtable stay, so tombstones do. Refused as [`Store::compact`] is.
+    /// are kept no longer, and a watermark above [`Store::snapshot`] is taken as that. The newest
+    /// run has place 0, and there are as many as there are. The other runs and the memtable stay,
+    /// so tombstones do. Refused as [`Store::compact`] is.
     pub fn compact_part(&mut self, from: usize, to: usize, watermark: SeqNo) -> Result<(), Error>
         ensures story { (ws : List Entry) → IsTold self.old ws → IsTold self.new ws }
-        ensures oldest { OnOk result (self.new.oldest ≡ max self.old.oldest watermark) }
+        ensures oldest { OnOk result
+            (self.new.oldest ≡ max self.old.oldest (min watermark self.old.next)) }
         ensures next { self.new.next ≡ self.old.next }
         ensures recent { self.new.recent ≡ self.old.recent }
         // The part has what is kept of all that it had, and the other runs are as they were.
         ensures made { (lists : List (List (List Entry))) →
             RunsHoldLists (part_of from to self.old.runs) lists →
-            OnOk result (IsPartKept from to watermark lists self.old.runs self.new.runs) }
+            OnOk result (IsPartKept from to (min watermark self.old.next) lists self.old.runs
+            self.new.runs) }
         ensures err { OnErr result (self.new ≡ self.old) }
         // Memory aside, it is refused what writing what is kept of the part as tables is.
         ensures refused { (lists : List (List (List Entry))) →
             RunsHoldLists (part_of from to self.old.runs) lists →
             IfErr result (λ e. is_memory e ≡ false →
             tables_fault self.old.ids self.old.target 0
-            (kept_in (rules_by watermark false false) lists) ≡ Some e) }
+            (kept_in (rules_by (min watermark self.old.next) false false) lists) ≡ Some e) }
     {
         let alloc = self.alloc.clone()?;
+        let watermark = watermark.min(self.next);
         let (front, part, behind) = cut_out(&self.runs, from, to);
         let rules = Rules {
             watermark,

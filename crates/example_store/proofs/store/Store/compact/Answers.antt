@@ -1,7 +1,7 @@
-use Rattle.std.proofs.Common.{◌≡◌, sym, ◌∙◌, ap, subst, List, true, false, arith, rules}
-use Rattle.std.specs.Prelude.{map, max}
+use Rattle.std.proofs.Common.{◌≡◌, sym, ◌∙◌, ap, subst, ℕ, List, true, false, arith, rules}
+use Rattle.std.specs.Prelude.{map, max, min}
 use Rattle.std.specs.Arc.{arc_value}
-use Rattle.logpurple.specs.Words.{OpenTable, RunsHoldLists, rules_by}
+use Rattle.logpurple.specs.Words.{HaveAll, OpenTable, RunsHoldLists, kept_in, rules_by}
 use Rattle.std.specs.List.{AllByRecursion}
 use Rattle.example_store.specs.Story.{Holding, IsOwnRun, IsStore}
 use Rattle.example_store.proofs.Compacting.{sound_replaced, tells_compacted}
@@ -12,8 +12,12 @@ invariant_of-self g c =
     let i = c.self.inside in
     let given = sym (ap (map arc_value) c.deref.ensures.value) in
     let own = subst (AllByRecursion (IsOwnRun i.flushed)) given c.self.invariant.runs.own in
+    let kept = c.self.invariant.kept in
+    let lowest : c.min-watermark.result ≡ min c.args.watermark c.self.inside.next = search rules in
+    let highest : c.max-self-inside.result ≡ max c.self.inside.oldest c.min-watermark.result = search rules in
     sound_replaced i.memtable (map arc_value i.runs.items) (map arc_value c.in_ok-runs.runs.items) i.ids c.in_ok-runs.ids i.target i.next i.flushed i.oldest c.max-self-inside.result c.self.invariant
     (record { own = c.in_ok-runs.ensures.own i.flushed own; able = c.in_ok-runs.ensures.able })
+    (omega (arith, kept, lowest, highest))
 
 pub returns-clause-story : goal.returns-clause-story
 returns-clause-story g c ws told =
@@ -21,9 +25,9 @@ returns-clause-story g c ws told =
     let s = c.args.self.now in
     let same : map arc_value c.deref.result.now ≡ s.runs = ap (map arc_value) c.deref.ensures.value ∙ ap (λ (h : Holding). h.runs) is in
     let hold = subst (λ (rs : List (List OpenTable)). RunsHoldLists rs told.lists) (sym same) told.hold in
-    let highest : c.max-self-inside.result ≡ max c.self.inside.oldest c.args.watermark = search rules in
+    let highest : c.max-self-inside.result ≡ max c.self.inside.oldest c.min-watermark.result = search rules in
     let oldest = ap (λ (h : Holding). h.oldest) is in
-    tells_compacted s _ ws (rules_by c.args.watermark true false) (subst IsStore is c.self.invariant) told
+    tells_compacted s _ ws (rules_by c.min-watermark.result true false) (subst IsStore is c.self.invariant) told
     (c.in_ok-runs.ensures.kept told.lists hold)
     (ap (λ (h : Holding). h.recent) is)
     (ap (λ (h : Holding). h.next) is)
@@ -33,4 +37,7 @@ returns-clause-story g c ws told =
 pub returns-clause-made : goal.returns-clause-made
 returns-clause-made g c lists hold =
     let same : map arc_value c.deref.result.now ≡ c.args.self.now.runs = ap (map arc_value) c.deref.ensures.value ∙ ap (λ (h : Holding). h.runs) c.self.view_is in
-    c.in_ok-runs.ensures.kept lists (subst (λ (rs : List (List OpenTable)). RunsHoldLists rs lists) (sym same) hold)
+    let lowest : c.min-watermark.result ≡ min c.args.watermark c.self.inside.next = search rules in
+    let capped = lowest ∙ ap (λ (h : Holding). min c.args.watermark h.next) c.self.view_is in
+    subst (λ (n : ℕ). HaveAll (kept_in (rules_by n true false) lists) (map arc_value c.in_ok-runs.runs.items)) capped
+    (c.in_ok-runs.ensures.kept lists (subst (λ (rs : List (List OpenTable)). RunsHoldLists rs lists) (sym same) hold))

@@ -1,10 +1,9 @@
-use Rattle.std.proofs.Common.{◌<◌, sym, ◌∙◌, ap, subst, ◌-◌, ◌^◌, ℕ, List, length, arith}
-use Rattle.std.specs.Prelude.{map, nat_lt}
+use Rattle.std.proofs.Common.{◌≡◌, ◌<◌, sym, ◌∙◌, ap, subst, ℕ, true, false, List, length, arith}
+use Rattle.std.specs.Prelude.{map}
 use Rattle.std.specs.Arc.{arc_value}
 use Rattle.std.specs.List.{AllByRecursion}
-use Rattle.std.proofs.lemmas.Bool.{lt-ltb, ltb-true}
 use Rattle.logpurple.specs.Words.{OpenTable, RunsHoldLists}
-use Rattle.logpurple.proofs.Laws.{all_more, apart}
+use Rattle.logpurple.proofs.Laws.{all_more}
 use Rattle.example_store.specs.Closed.{StoreLists}
 use Rattle.example_store.specs.Story.{AreNumbered, IsOwnRun}
 use Rattle.example_store.specs.declared.store.open.OpenError.TheVariants.{OutOfMemory}
@@ -13,11 +12,14 @@ use Rattle.example_store.proofs.Own.{later_runs, own_able, own_run_lists, runs_s
 use Rattle.example_store.proofs.Refusing.{wanted}
 use Rattle.example_store.proofs.store.Store.open.Goals as goal
 
-pub returns-then-not-has_room-clause-taken : goal.returns-then-not-has_room-clause-taken
-returns-then-not-has_room-clause-taken g c s sound closed =
-    let next = closed.next in
+pub returns-in_err-test_numbers-clause-taken : goal.returns-in_err-test_numbers-clause-taken
+returns-in_err-test_numbers-clause-taken g c s sound closed =
     let room = sound.room in
-    absurd (apart (nat_lt c.args.closed.now.next (2 ^ 64 - 1)) (lt-ltb c.args.closed.now.next (2 ^ 64 - 1) (omega (arith, next, room))) (sym c.has_room.ensures ∙ c.if-not-has_room.true))
+    let kept = sound.kept in
+    let next = closed.next in
+    let oldest = closed.oldest in
+    let no : false ≡ true = c.in_err-test_numbers.ensures.taken (omega (arith, room, next)) (omega (arith, kept, next, oldest)) in
+    absurd cc
 
 pub returns-in_err-runs-clause-taken : goal.returns-in_err-runs-clause-taken
 returns-in_err-runs-clause-taken g c s sound closed =
@@ -54,7 +56,7 @@ invariant_of-result g c =
     let opened = map arc_value c.in_ok-runs.runs.items in
     let own = c.in_ok-runs.ensures.own in
     let all = own_run_lists n opened own in
-    let room : n < 2 ^ 64 - 1 = ltb-true n (2 ^ 64 - 1) (sym c.has_room.ensures ∙ c.if-not-has_room.false) in
+    let room = c.in_ok-test_numbers.ensures.room in
     let strict = c.in_ok-test_order.ensures.strict all.lists
     (subst (λ (rs : List (List OpenTable)). RunsHoldLists rs all.lists) (ap (map arc_value) (sym c.deref-2.ensures.value)) all.hold) all.some in
     record {
@@ -62,6 +64,7 @@ invariant_of-result g c =
       runs = record { own = own; able = own_able n opened own (omega (arith, room)) strict };
       order = omega arith;
       room = room;
+      kept = c.in_ok-test_numbers.ensures.kept;
     }
 
 pub returns-clause-lists : goal.returns-clause-lists

@@ -21,6 +21,7 @@ invariant_of-self g c =
       own = c.in_ok-packed.ensures.own i.flushed (runs_in_order (map arc_value c.deref.result.now) able.lists hold) own;
       able = c.in_ok-packed.ensures.able (subst AreCompactable given able);
     })
+    c.self.invariant.kept
 
 pub returns-clause-story : goal.returns-clause-story
 returns-clause-story g c ws told =
