@@ -45,7 +45,7 @@ pub(crate) fn compare_keys<A: Allocator>(x: &InternalKey<A>, y: &InternalKey<A>)
     }
 }
 
-// The same of entries that are lent.
+// Compares the keys of borrowed entries, as `compare_keys` does.
 #[inline(always)]
 pub(crate) fn compare_refs(x: &EntryRef<'_>, y: &EntryRef<'_>) -> Ordering
     ensures { result ≡ item_cmp (entry_of_ref x.now) (entry_of_ref y.now) }
