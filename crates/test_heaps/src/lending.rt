@@ -4,85 +4,10 @@ ghost use Rattle.std.specs.Prelude.{IfOk};
 ghost use Rattle.sst_entries.specs.Stream.{CanDeal, nowhere};
 
 use lsm_merge::{LendingMerger, Merger};
-use sst_entries::{EntryRef, Error, InternalValue, IterItem, Lending, Slice, ValueType};
+use sst_entries::{EntryRef, Error, IterItem, Lending, ValueType};
 use std::alloc::Global;
 use std::vec::IntoIter;
-
-// Lends what a list holds.
-#[derive(Drop)]
-struct LentList {
-    rest: IntoIter<IterItem>,
-    lent: Option<InternalValue>,
-}
-
-impl Lending for LentList {
-    ghost use Rattle.std.specs.Vec.Iter.{into_iter_len};
-
-    ghost can_advance = { λ s. Unit {0} };
-
-    ghost advances = { λ s r t. Unit {0} };
-
-    ghost lent = { λ s. s.lent };
-
-    ghost left = { λ s. into_iter_len s.rest };
-
-    fn advance(&mut self) -> Result<bool, Error> {
-        match self.rest.next() {
-            Some(Ok(entry)) => {
-                self.lent = Some(entry);
-                Ok(true)
-            }
-            Some(Err(error)) => {
-                self.lent = None;
-                Err(error)
-            }
-            None => {
-                self.lent = None;
-                Ok(false)
-            }
-        }
-    }
-
-    fn entry(&self) -> Option<EntryRef<'_>> {
-        match &self.lent {
-            Some(entry) => Some(entry.as_entry_ref()),
-            None => None,
-        }
-    }
-}
-
-fn lent_list(results: Vec<IterItem>) -> LentList
-    ensures can { CanDeal ⟦<LentList as Lending>⟧.advances nowhere
-        ⟦<LentList as Lending>⟧.can_advance ⟦<LentList as Lending>⟧.can_advance result }
-{
-    LentList {
-        rest: results.into_iter(),
-        lent: None,
-    }
-}
-
-// Goes on, as often as wanted.
-fn go_on<L: Lending>(source: &mut L) -> Result<bool, Error>
-    requires { CanDeal L.advances nowhere L.can_advance L.can_advance source.old }
-    ensures can { CanDeal L.advances nowhere L.can_advance L.can_advance source.new }
-{
-    source.advance()
-}
-
-// An entry of a key of one byte, and a value.
-fn entry_of(alloc: Global, key: u8, seqno: u64, value: u8) -> Result<InternalValue, Error> {
-    let key = Slice::from(alloc, &[key])?;
-    let value = Slice::from(alloc, &[value])?;
-    Ok(InternalValue::from_components(key, value, seqno, ValueType::Value))
-}
-
-// The next of some numbers that look random.
-fn random(seed: &mut u64) -> u64 {
-    *seed = seed
-        .wrapping_mul(6364136223846793005)
-        .wrapping_add(1442695040888963407);
-    *seed >> 33
-}
+use test_lent::{LentList, agree, entry_of, go_on, lent_list, random};
 
 // A sorted run: keys rise by 0 to 2, and numbers fall, so that entries tie within it and with those
 // of other runs.
@@ -96,7 +21,7 @@ fn run_of(alloc: Global, seed: &mut u64, count: u8, value: u8) -> Result<Vec<Ite
             _ => 2,
         });
         let seqno = u64::from(count.wrapping_sub(place)) / 8;
-        run.push(Ok(entry_of(alloc, key, seqno, value)?))?;
+        run.push(Ok(entry_of(alloc, key, seqno, ValueType::Value, value)?))?;
     }
     Ok(run)
 }
@@ -139,52 +64,6 @@ fn by_value_of(alloc: Global, runs: Vec<Vec<IterItem>>) -> Result<Merger<IntoIte
     Merger::new(alloc, sources)
 }
 
-// Whether a source lends an entry next that is this one.
-fn is_next<L: Lending>(source: &mut L, item: &InternalValue) -> Result<bool, Error>
-    requires { CanDeal L.advances nowhere L.can_advance L.can_advance source.old }
-    ensures can { CanDeal L.advances nowhere L.can_advance L.can_advance source.new }
-{
-    let has_more = go_on(source)?;
-    Ok(has_more && source.entry() == Some(item.as_entry_ref()))
-}
-
-// Whether the next of a source is this answer, which is an entry or the end.
-fn agrees<L: Lending>(source: &mut L, item: Option<IterItem>) -> Result<bool, Error>
-    requires { CanDeal L.advances nowhere L.can_advance L.can_advance source.old }
-    ensures can { CanDeal L.advances nowhere L.can_advance L.can_advance source.new }
-{
-    match item {
-        Some(Ok(item)) => is_next(source, &item),
-        Some(Err(error)) => Err(error),
-        None => Ok(!go_on(source)?),
-    }
-}
-
-// Takes the next, as often as wanted.
-fn next_of<I: Iterator<Item = IterItem>>(source: &mut I) -> Option<IterItem>
-    requires { CanDeal I.next_gives nowhere I.can_next I.can_next source.old }
-    ensures can { CanDeal I.next_gives nowhere I.can_next I.can_next source.new }
-{
-    source.next()
-}
-
-// Whether a source by value and one that lends give the same at so many calls.
-fn agree<I: Iterator<Item = IterItem> + Drop, L: Lending + Drop>(
-    mut by_value: I,
-    mut lending: L,
-    calls: usize,
-) -> Result<bool, Error>
-    requires by_value { CanDeal I.next_gives nowhere I.can_next I.can_next by_value }
-    requires lending { CanDeal L.advances nowhere L.can_advance L.can_advance lending }
-{
-    let mut is_same = true;
-    for _ in 0..calls {
-        let item = next_of(&mut by_value);
-        is_same &= agrees(&mut lending, item)?;
-    }
-    Ok(is_same)
-}
-
 // Whether both mergers of the same runs give the same entries in the same order.
 fn mergers_agree(alloc: Global, seed: u64, sources: u8, count: u8) -> Result<bool, Error> {
     let by_value = by_value_of(alloc, runs_of(alloc, seed, sources, count)?)?;
@@ -211,7 +90,7 @@ fn spelled(alloc: Global, text: &str) -> Result<Vec<IterItem>, Error> {
     for letter in text.bytes() {
         let item = match letter {
             b'!' => Err(Error::Source(7)),
-            key => Ok(entry_of(alloc, key, 1, key)?),
+            key => Ok(entry_of(alloc, key, 1, ValueType::Value, key)?),
         };
         run.push(item)?;
     }

@@ -1,6 +1,6 @@
 use Rattle.sst_entries.specs.Stream.{nowhere}
 use Rattle.sst_entries.proofs.StreamLemmas.{can_front, can_now}
-use Rattle.test_heaps.proofs.lending.go_on.Goals as goal
+use Rattle.test_lent.proofs.agreeing.go_on.Goals as goal
 
 pub advance-requires : goal.advance-requires
 advance-requires g c =

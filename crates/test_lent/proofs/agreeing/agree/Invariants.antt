@@ -1,5 +1,5 @@
 use Rattle.sst_entries.specs.Stream.{CanDeal, nowhere}
-use Rattle.test_heaps.proofs.lending.agree.Given as goal
+use Rattle.test_lent.proofs.agreeing.agree.Given as goal
 
 abbrev pub invariant-loop : goal.invariant-loop
 invariant-loop g l = record {

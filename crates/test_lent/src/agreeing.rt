@@ -1,0 +1,59 @@
+//! What lends beside what gives by value.
+ghost use Rattle.sst_entries.specs.Stream.{CanDeal, nowhere};
+
+use sst_entries::{Error, InternalValue, IterItem, Lending};
+
+/// Goes on, as often as wanted.
+pub fn go_on<L: Lending>(source: &mut L) -> Result<bool, Error>
+    requires { CanDeal L.advances nowhere L.can_advance L.can_advance source.old }
+    ensures can { CanDeal L.advances nowhere L.can_advance L.can_advance source.new }
+{
+    source.advance()
+}
+
+// Whether a source lends an entry next that is this one.
+fn is_next<L: Lending>(source: &mut L, item: &InternalValue) -> Result<bool, Error>
+    requires { CanDeal L.advances nowhere L.can_advance L.can_advance source.old }
+    ensures can { CanDeal L.advances nowhere L.can_advance L.can_advance source.new }
+{
+    let has_more = go_on(source)?;
+    Ok(has_more && source.entry() == Some(item.as_entry_ref()))
+}
+
+// Whether the next of a source is this answer, which is an entry or the end.
+fn agrees<L: Lending>(source: &mut L, item: Option<IterItem>) -> Result<bool, Error>
+    requires { CanDeal L.advances nowhere L.can_advance L.can_advance source.old }
+    ensures can { CanDeal L.advances nowhere L.can_advance L.can_advance source.new }
+{
+    match item {
+        Some(Ok(item)) => is_next(source, &item),
+        Some(Err(error)) => Err(error),
+        None => Ok(!go_on(source)?),
+    }
+}
+
+// Takes the next, as often as wanted.
+fn next_of<I: Iterator<Item = IterItem>>(source: &mut I) -> Option<IterItem>
+    requires { CanDeal I.next_gives nowhere I.can_next I.can_next source.old }
+    ensures can { CanDeal I.next_gives nowhere I.can_next I.can_next source.new }
+{
+    source.next()
+}
+
+/// Whether a source by value and one that lends give the same entries, and the same end, at so many
+/// calls. Refused with the first error of either.
+pub fn agree<I: Iterator<Item = IterItem> + Drop, L: Lending + Drop>(
+    mut by_value: I,
+    mut lending: L,
+    calls: usize,
+) -> Result<bool, Error>
+    requires by_value { CanDeal I.next_gives nowhere I.can_next I.can_next by_value }
+    requires lending { CanDeal L.advances nowhere L.can_advance L.can_advance lending }
+{
+    let mut is_same = true;
+    for _ in 0..calls {
+        let item = next_of(&mut by_value);
+        is_same &= agrees(&mut lending, item)?;
+    }
+    Ok(is_same)
+}

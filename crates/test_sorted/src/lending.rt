@@ -1,0 +1,53 @@
+//! Newest versions and compactions that lend, beside those by value, over the same lists.
+ghost use Rattle.sst_entries.specs.Stream.{CanDeal, nowhere};
+
+use lsm_sorted::{LendingNewest, MvccStream};
+use sst_entries::{Error, IterItem, Lending, ValueType};
+use std::alloc::Global;
+use std::vec::IntoIter;
+use test_lent::{LentList, agree, entry_of, lent_list, random};
+
+fn kind_of(number: u64) -> ValueType {
+    match number % 6 {
+        0 => ValueType::Tombstone,
+        1 | 2 => ValueType::WeakTombstone,
+        3 => ValueType::Indirection,
+        _ => ValueType::Value,
+    }
+}
+
+// A sorted list: of each key some versions, the newest first.
+fn list_of(alloc: Global, mut seed: u64, count: u8) -> Result<Vec<IterItem>, Error> {
+    let mut list = Vec::new(alloc);
+    let mut key = 0u8;
+    let mut seqno = 30u64;
+    for place in 0..count {
+        seqno = seqno.saturating_sub(1 + random(&mut seed) % 4);
+        if seqno == 0 || random(&mut seed) % 3 == 0 {
+            key = key.wrapping_add(1);
+            seqno = 1 + random(&mut seed) % 30;
+        }
+        let kind = kind_of(random(&mut seed));
+        list.push(Ok(entry_of(alloc, key, seqno, kind, place)?))?;
+    }
+    Ok(list)
+}
+
+// Whether the newest versions of a list are the same.
+fn newest_agree(alloc: Global, seed: u64, count: u8) -> Result<bool, Error> {
+    let by_value = MvccStream::new(list_of(alloc, seed, count)?.into_iter());
+    let lending = LendingNewest::new(alloc, lent_list(list_of(alloc, seed, count)?));
+    agree(by_value, lending, usize::from(count) + 2)
+}
+
+#[test]
+fn newest_versions_that_lend_are_those_by_value(rt: HostRuntime) {
+    for count in [0u8, 1, 2, 7, 60] {
+        for seed in 1..=8u64 {
+            assert!(rt;
+                matches!(newest_agree(rt.alloc(), seed, count), Ok(true)),
+                "{count} entries by {seed}"
+            );
+        }
+    }
+}
