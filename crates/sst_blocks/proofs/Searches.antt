@@ -12,7 +12,7 @@ use Rattle.sst_entries.proofs.Bytes.{IsBytes}
 use Rattle.sst_sections.specs.Number.{num4}
 use Rattle.sst_blocks.specs.Format.{Advances, Format, IsFormat, items_at, items_in}
 use Rattle.sst_blocks.proofs.Items.{Walk, items_read, option_map_some, walk_all, walk_begins}
-use Rattle.sst_blocks.proofs.Items.{walk_on}
+use Rattle.sst_blocks.proofs.Items.{walk_on, walk_over}
 
 -- after n items, rest is left, and the first of them that passes the test is found
 pub record Search {X : Type 0} (f : Format X) (p : X → Bool) (bytes rest : List ℕ)
@@ -49,6 +49,10 @@ pub there : {A : Type 0} (o : Option A) (P : Type 0) → is_some o ≡ true
     → ((x : A) → o ≡ Some x → P) → P
 there None P some k = absurd cc
 there (Some x) P some k = k x refl
+
+pub is_none_and_some : {A : Type 0} (o : Option A) → o ≡ None → is_some o ≡ true → ⊥
+is_none_and_some None none some = absurd cc
+is_none_and_some (Some x) none some = absurd cc
 
 -- what is found in a front of a list is found in the list
 found_in_front : {X : Type 0} (p : X → Bool) (front more : List X) → is_some (find p front) ≡ true
@@ -125,6 +129,14 @@ module _ {X : Type 0} (f : Format X) (p : X → Bool) where
       let here : is_some (find p s.walk.items) ≡ true = ap is_some (sym s.first) ∙ some in
       s.first ∙ found_in_front p s.walk.items more here ∙ ap (find p) is
       ∙ ap (λ (o : Option (List X)). find p (unwrap_or o [])) (sym are)))
+
+  -- where the whole is known to be a list, nothing is behind its last item
+  pub search_whole : (bytes rest : List ℕ) (last : Option Entry) (n : ℕ) (found : Option X)
+      → Search f p bytes rest last n found → n ≡ num4 bytes → is_some (items_in f bytes) ≡ true
+      → found ≡ find p (unwrap_or (items_in f bytes) [])
+  search_whole bytes [] last n found s all told = (search_ends bytes [] last n found s all refl).1
+  search_whole bytes (b ∷ rest) last n found s all told = absurd (is_none_and_some _
+      (walk_over f bytes (b ∷ rest) s.starts last n s.walk all (omega arith)) told)
 
 -- ---- what a test of the next item answers
 

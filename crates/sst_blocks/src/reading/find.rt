@@ -36,6 +36,66 @@ pub(crate) fn find_item<'a, R: ItemRef<'a>>(
     ensures fault { IfErr result (λ e.
         (e ≡ InvalidBlock) × (items_in (R.format version) payload.now ≡ None)) }
 {
+    if is_tested {
+        Ok(find_tested(version, payload, key, seqno))
+    } else {
+        find_and_test(version, payload, key, seqno)
+    }
+}
+
+// The same of a payload that spells a strict list of items. Nothing is copied on the way, since an
+// item that is only looked at stays in the processor's registers.
+fn find_tested<'a, R: ItemRef<'a>>(
+    version: TableVersion,
+    payload: &'a [u8],
+    key: &[u8],
+    seqno: SeqNo,
+) -> Option<(usize, R)>
+    requires long { 4 ≤ length payload.now }
+    requires tested { is_some (items_in (R.format version) payload.now) ≡ true }
+    ensures found { let f = R.format version in
+        let items = unwrap_or (items_in f payload.now) [] in
+        option_map (λ x. R.told x.1) result ≡
+        find (λ x. is_before (read_place key.now seqno) (f.key x)) items }
+    ensures place { IfSome result (λ x.
+        option_map (λ y. y.0) ((R.format version).read (drop x.0 payload.now)) ≡
+        Some (R.told x.1)) }
+{
+    R::is_format(version);
+    let len = u32_at(payload);
+    let mut rest = &payload[4..];
+    for _ in 0..len {
+        let Some(read) = R::read(version, rest) else {
+            return None; // it is there
+        };
+        if read.0.is_past(key, seqno) {
+            let start = payload.len() - rest.len();
+            return Some((start, read.0));
+        }
+        rest = read.1;
+    }
+    None
+}
+
+// The same of any payload, whose items are all tested.
+fn find_and_test<'a, R: ItemRef<'a>>(
+    version: TableVersion,
+    payload: &'a [u8],
+    key: &[u8],
+    seqno: SeqNo,
+) -> Result<Option<(usize, R)>, Error>
+    requires long { 4 ≤ length payload.now }
+    ensures whole { OnOk result (is_some (items_in (R.format version) payload.now) ≡ true) }
+    ensures found { let f = R.format version in
+        let items = unwrap_or (items_in f payload.now) [] in
+        IfOk result (λ found. option_map (λ x. R.told x.1) found ≡
+        find (λ x. is_before (read_place key.now seqno) (f.key x)) items) }
+    ensures place { IfOk result (λ found. IfSome found (λ x.
+        option_map (λ y. y.0) ((R.format version).read (drop x.0 payload.now)) ≡
+        Some (R.told x.1))) }
+    ensures fault { IfErr result (λ e.
+        (e ≡ InvalidBlock) × (items_in (R.format version) payload.now ≡ None)) }
+{
     R::is_format(version);
     let count = u32_at(payload);
     let mut rest = &payload[4..];
@@ -46,13 +106,10 @@ pub(crate) fn find_item<'a, R: ItemRef<'a>>(
         let Some(read) = R::read(version, rest) else {
             return Err(Error::InvalidBlock);
         };
-        if !is_tested && !read.0.may_follow(&last) {
+        if !read.0.may_follow(&last) {
             return Err(Error::InvalidBlock);
         }
-        found = first_past(found, start, read.0, key, seqno);
-        if is_tested && found.is_some() {
-            return Ok(found);
-        }
+        put_first(&mut found, start, read.0, key, seqno);
         last = Some(read.0);
         rest = read.1;
     }
@@ -62,27 +119,20 @@ pub(crate) fn find_item<'a, R: ItemRef<'a>>(
     Ok(found)
 }
 
-// What was found, or else the item at a place, where a read of a key at a number comes before it.
+// Keeps the item at a place, where none was found and a read of a key at a number comes before it.
 #[inline]
-fn first_past<'a, R: ItemRef<'a>>(
-    found: Option<(usize, R)>,
+fn put_first<'a, R: ItemRef<'a>>(
+    found: &mut Option<(usize, R)>,
     start: usize,
     item: R,
     key: &[u8],
     seqno: SeqNo,
-) -> Option<(usize, R)>
+)
     ensures { (v : TableVersion) →
         let is_past = is_before (read_place key.now seqno) ((R.format v).key (R.told item)) in
-        result ≡ option_or found (if is_past then Some (start, item) else None) }
+        found.new ≡ option_or found.old (if is_past then Some (start, item) else None) }
 {
-    match found {
-        Some(found) => Some(found),
-        None => {
-            if item.is_past(key, seqno) {
-                Some((start, item))
-            } else {
-                None
-            }
-        }
+    if found.is_none() && item.is_past(key, seqno) {
+        *found = Some((start, item));
     }
 }

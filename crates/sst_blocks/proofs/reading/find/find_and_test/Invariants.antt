@@ -4,7 +4,7 @@ use Rattle.std.specs.Option.{option_map}
 use Rattle.sst_entries.specs.Point.{read_place}
 use Rattle.sst_entries.specs.Strict.{is_before}
 use Rattle.sst_blocks.proofs.Searches.{Search}
-use Rattle.sst_blocks.proofs.reading.find.find_item.Given as goal
+use Rattle.sst_blocks.proofs.reading.find.find_and_test.Given as goal
 
 -- the first item that the read comes before is found among those that were walked over, and its
 -- place

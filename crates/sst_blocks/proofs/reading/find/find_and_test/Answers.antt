@@ -5,10 +5,9 @@ use Rattle.std.proofs.lemmas.List.{take_rest}
 use Rattle.sst_entries.specs.Point.{read_place}
 use Rattle.sst_entries.specs.Strict.{is_before, may_follow}
 use Rattle.sst_entries.proofs.Bytes.{IsBytes}
-use Rattle.sst_blocks.proofs.Items.{walk_missing, walk_tested, walk_unordered, walk_over}
+use Rattle.sst_blocks.proofs.Items.{walk_missing, walk_unordered, walk_over}
 use Rattle.sst_blocks.proofs.Searches.{keeps_next, map_next, search_begins, search_ends, search_on, search_place, search_stops, some_map}
-use Rattle.sst_blocks.proofs.reading.find.find_item.Goals as goal
-use Rattle.sst_blocks.proofs.reading.find.find_item.Goals.{else-not-is_tested-via-then-not-is_tested+else-not-may_follow, else-not-is_tested-via-else-not-is_tested}
+use Rattle.sst_blocks.proofs.reading.find.find_and_test.Goals as goal
 
 pub loop-init : goal.loop-init
 loop-init g c =
@@ -36,46 +35,19 @@ returns-then-not-may_follow-clause-fault g c =
     let early : may_follow (option_map (λ x. f.key (told x)) c.loop.last) (f.key (told c.in-Some.read.0)) ≡ false = search rules in
     (refl, walk_unordered f _ _ _ _ _ _ _ c.loop.invariant.search.walk (omega arith) some early)
 
-pub returns-then-is_some-clause-found : goal.returns-then-is_some-clause-found
-returns-then-is_some-clause-found g c =
-    let f = g.R.ItemRef.format c.args.version in
-    let told = g.R.ItemRef.told in
-    let p = λ (x : g.R.ItemRef.Told). is_before (read_place c.args.key.now c.args.seqno) (f.key x) in
-    let some : f.read c.loop.rest.now ≡ Some (told c.in-Some.read.0, c.in-Some.read.1.now) = search rules in
-    let tested = c.requires.tested c.if-is_tested.true in
-    let follows = walk_tested f _ _ _ _ _ _ _ c.loop.invariant.search.walk (omega arith) some tested in
-    let start = length c.args.payload.now - length c.loop.rest.now in
-    let next = map_next (λ x. told x.1) c.loop.found c.first_past-found.result (p (told c.in-Some.read.0)) (start, c.in-Some.read.0) (c.first_past-found.ensures c.args.version) in
-    let there : is_some c.first_past-found.result ≡ true = search rules in
-    let s = search_on f p (g.R.ItemRef.Fits c.args.version) c.is_format.ensures.law c.is_format.ensures.advances _ _ _ _ _ _ _ _ c.loop.invariant.search some follows next in
-    search_stops f p c.is_format.ensures.advances _ _ _ _ _ s (omega arith) tested (some_map (λ x. told x.1) _ there)
-
-pub returns-then-is_some-clause-place : goal.returns-then-is_some-clause-place
-returns-then-is_some-clause-place g c =
-    let f = g.R.ItemRef.format c.args.version in
-    let told = g.R.ItemRef.told in
-    let p = λ (x : g.R.ItemRef.Told). is_before (read_place c.args.key.now c.args.seqno) (f.key x) in
-    let some : f.read c.loop.rest.now ≡ Some (told c.in-Some.read.0, c.in-Some.read.1.now) = search rules in
-    let start = length c.args.payload.now - length c.loop.rest.now in
-    let here = search_place f p _ _ _ _ _ _ _ c.loop.invariant.search some in
-    keeps_next (λ x. option_map (λ y. y.0) (f.read (drop x.0 c.args.payload.now)) ≡ Some (told x.1)) c.loop.found c.first_past-found.result _ (start, c.in-Some.read.0) (c.first_past-found.ensures c.args.version) c.loop.invariant.place here
-
 pub loop-preserved : goal.loop-preserved
 loop-preserved g c =
     let f = g.R.ItemRef.format c.args.version in
     let told = g.R.ItemRef.told in
     let p = λ (x : g.R.ItemRef.Told). is_before (read_place c.args.key.now c.args.seqno) (f.key x) in
     let some : f.read c.loop.rest.now ≡ Some (told c.in-Some.read.0, c.in-Some.read.1.now) = search rules in
-    let follows : may_follow (option_map (λ x. f.key (told x)) c.loop.last) (f.key (told c.in-Some.read.0)) ≡ true = elim c.else-not-is_tested.branch [
-      | else-not-is_tested-via-then-not-is_tested+else-not-may_follow w ↦ search rules
-      | else-not-is_tested-via-else-not-is_tested w ↦ walk_tested f _ _ _ _ _ _ _ c.loop.invariant.search.walk (omega arith) some (c.requires.tested (search rules))
-    ] in
+    let follows : may_follow (option_map (λ x. f.key (told x)) c.loop.last) (f.key (told c.in-Some.read.0)) ≡ true = search rules in
     let start = length c.args.payload.now - length c.loop.rest.now in
-    let next = map_next (λ x. told x.1) c.loop.found c.first_past-found.result (p (told c.in-Some.read.0)) (start, c.in-Some.read.0) (c.first_past-found.ensures c.args.version) in
+    let next = map_next (λ x. told x.1) c.loop.found c.put_first.new.found (p (told c.in-Some.read.0)) (start, c.in-Some.read.0) (c.put_first.ensures c.args.version) in
     let here = search_place f p _ _ _ _ _ _ _ c.loop.invariant.search some in
     record {
       search = search_on f p (g.R.ItemRef.Fits c.args.version) c.is_format.ensures.law c.is_format.ensures.advances _ _ _ _ _ _ _ _ c.loop.invariant.search some follows next;
-      place = keeps_next (λ x. option_map (λ y. y.0) (f.read (drop x.0 c.args.payload.now)) ≡ Some (told x.1)) c.loop.found c.first_past-found.result _ (start, c.in-Some.read.0) (c.first_past-found.ensures c.args.version) c.loop.invariant.place here;
+      place = keeps_next (λ x. option_map (λ y. y.0) (f.read (drop x.0 c.args.payload.now)) ≡ Some (told x.1)) c.loop.found c.put_first.new.found _ (start, c.in-Some.read.0) (c.put_first.ensures c.args.version) c.loop.invariant.place here;
     }
 
 pub returns-then-not-is_empty-clause-fault : goal.returns-then-not-is_empty-clause-fault
