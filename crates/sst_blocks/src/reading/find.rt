@@ -43,8 +43,8 @@ pub(crate) fn find_item<'a, R: ItemRef<'a>>(
     }
 }
 
-// The same of a payload that spells a strict list of items. Nothing is copied on the way, since an
-// item that is only looked at stays in the processor's registers.
+// The same of a payload that spells a strict list of items. No item is kept on the way: copying
+// each to where the next can be compared with it took a third of a read.
 fn find_tested<'a, R: ItemRef<'a>>(
     version: TableVersion,
     payload: &'a [u8],
@@ -66,7 +66,7 @@ fn find_tested<'a, R: ItemRef<'a>>(
     let mut rest = &payload[4..];
     for _ in 0..len {
         let Some(read) = R::read(version, rest) else {
-            return None; // it is there
+            return None; // a tested payload has it
         };
         if read.0.is_past(key, seqno) {
             let start = payload.len() - rest.len();
