@@ -115,6 +115,17 @@ impl<A: Allocator + Clone> MultiWriter<A> {
         self.writer.can_follow(key)
     }
 
+    /// Whether this entry may be written next, as [`MultiWriter::can_follow`] says.
+    pub fn can_follow_ref(&self, entry: &EntryRef<'_>) -> bool
+        ensures { let e = entry_of_ref entry.now in
+            result ≡ may_be_written (all_written self.now) e.user_key e.seqno }
+    {
+        if self.failed {
+            return entry.seqno < SeqNo::MAX;
+        }
+        self.writer.can_follow_ref(entry)
+    }
+
     /// The counter of ids as it stands: its next id is that of the table behind the present one.
     pub fn table_ids(&self) -> TableIds
         ensures { result ≡ self.now.ids }

@@ -171,16 +171,26 @@ impl<A: Allocator + Clone> Writer<A> {
     pub fn can_follow(&self, key: &InternalKey<A>) -> bool
         ensures { result ≡ may_be_written (written self.now) key.now.user_key key.now.seqno }
     {
-        key.seqno < SeqNo::MAX
+        self.follows(key.user_key.as_slice(), key.seqno)
+    }
+
+    /// Whether this entry may be written next, as [`Writer::can_follow`] says.
+    pub fn can_follow_ref(&self, entry: &EntryRef<'_>) -> bool
+        ensures { let e = entry_of_ref entry.now in
+            result ≡ may_be_written (written self.now) e.user_key e.seqno }
+    {
+        self.follows(entry.user_key, entry.seqno)
+    }
+
+    /// Whether an entry of this key and number may be written next.
+    #[inline]
+    fn follows(&self, key: &[u8], seqno: SeqNo) -> bool
+        ensures { result ≡ may_be_written (written self.now) key.now seqno }
+    {
+        seqno < SeqNo::MAX
             && match last_written(&self.chunk, &self.blocks) {
                 None => true,
-                Some(last) => compare_versions(
-                    last.user_key,
-                    last.seqno,
-                    key.user_key.as_slice(),
-                    key.seqno,
-                )
-                .is_lt(),
+                Some(last) => compare_versions(last.user_key, last.seqno, key, seqno).is_lt(),
             }
     }
 

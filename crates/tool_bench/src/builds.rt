@@ -3,7 +3,7 @@ ghost use Rattle.std.specs.Prelude.{◌≡◌};
 
 use crate::digest::code;
 use lsm_writers::{FinishedTable, Timestamp, Writer};
-use sst_blocks::{Error, InternalValue, SeqNo, Slice, ValueType};
+use sst_blocks::{EntryRef, Error, InternalValue, SeqNo, Slice, ValueType};
 use std::alloc::Global;
 
 /// What was written: how many tables, how many bytes they have, and the sum of their checksums,
@@ -49,6 +49,22 @@ pub(crate) fn write_next(writer: &mut Writer, item: InternalValue) -> Result<(),
     writer.write(item)
 }
 
+// The key and the value that stand first, and what stands behind them.
+#[inline(always)]
+fn first_parts<'a>(
+    store: &'a [u8],
+    key_len: usize,
+    value_len: usize,
+) -> Result<(&'a [u8], &'a [u8], &'a [u8]), Error> {
+    let Some((key, after)) = store.split_at_checked(key_len) else {
+        return Err(Error::Source(1));
+    };
+    let Some((value, after)) = after.split_at_checked(value_len) else {
+        return Err(Error::Source(2));
+    };
+    Ok((key, value, after))
+}
+
 // The entry whose key and value stand first, and what stands behind them.
 #[inline(always)]
 pub(crate) fn first_item<'a>(
@@ -58,12 +74,7 @@ pub(crate) fn first_item<'a>(
     value_len: usize,
     seqno: SeqNo,
 ) -> Result<(InternalValue, &'a [u8]), Error> {
-    let Some((key, after)) = store.split_at_checked(key_len) else {
-        return Err(Error::Source(1));
-    };
-    let Some((value, after)) = after.split_at_checked(value_len) else {
-        return Err(Error::Source(2));
-    };
+    let (key, value, after) = first_parts(store, key_len, value_len)?;
     let key = Slice::from(alloc, key)?;
     let value = Slice::from(alloc, value)?;
     let item = InternalValue::from_components(key, value, seqno, ValueType::Value);
@@ -87,6 +98,41 @@ fn write_each(
         let (item, after) = first_item(alloc, rest, key_len, value_len, seqno)?;
         rest = after;
         write_next(writer, item)?;
+    }
+    Ok(())
+}
+
+// Writes an entry that lies elsewhere, where it may follow those before it.
+#[inline(always)]
+fn write_next_ref(writer: &mut Writer, entry: &EntryRef<'_>) -> Result<(), Error> {
+    if !writer.can_follow_ref(entry) {
+        return Err(Error::Source(3));
+    }
+    writer.write_ref(entry)
+}
+
+// Writes entries whose keys and values stand behind one another, from where they lie.
+fn write_each_ref(
+    writer: &mut Writer,
+    store: &[u8],
+    key_len: usize,
+    value_len: usize,
+    seqno: SeqNo,
+) -> Result<(), Error> {
+    let mut rest = store;
+    for _ in 0..store.len() {
+        if rest.is_empty() {
+            break;
+        }
+        let (user_key, value, after) = first_parts(rest, key_len, value_len)?;
+        rest = after;
+        let entry = EntryRef {
+            user_key,
+            seqno,
+            value_type: ValueType::Value,
+            value,
+        };
+        write_next_ref(writer, &entry)?;
     }
     Ok(())
 }
@@ -130,6 +176,23 @@ fn build(
     Ok(())
 }
 
+fn build_ref(
+    alloc: Global,
+    store: &[u8],
+    key_len: usize,
+    value_len: usize,
+    seqno: SeqNo,
+    written: &mut Written,
+) -> Result<(), Error> {
+    let mut writer = writer_of(alloc, false)?;
+    write_each_ref(&mut writer, store, key_len, value_len, seqno)?;
+    *written = Written::none();
+    if let Some(table) = writer.finish()? {
+        written.add(&table);
+    }
+    Ok(())
+}
+
 /// Writes a table of entries, whose keys and values are of one length each and stand behind one
 /// another, all with the same number. Tells what was written, and copies it to the front of `out`
 /// where that has room for all of it.
@@ -159,4 +222,18 @@ pub extern "C" fn tool_bench_build_partitioned(
     written: &mut Written,
 ) -> u32 {
     code(build(alloc, true, store, key_len, value_len, seqno, out, written))
+}
+
+/// Writes a table as [`tool_bench_build`] does, each entry from where it lies, and copies nothing
+/// out.
+#[unsafe(no_mangle)]
+pub extern "C" fn tool_bench_build_ref(
+    alloc: Global,
+    store: &[u8],
+    key_len: usize,
+    value_len: usize,
+    seqno: u64,
+    written: &mut Written,
+) -> u32 {
+    code(build_ref(alloc, store, key_len, value_len, seqno, written))
 }

@@ -6,20 +6,20 @@ use Rattle.sst_entries.specs.Lending.{entry_of_ref}
 use Rattle.sst_entries.specs.Strict.{is_before}
 use Rattle.lsm_formats.specs.Chunks.{joined}
 use Rattle.lsm_writers.proofs.Orders.{follows_nothing, follows_last, last_of-append}
-use Rattle.lsm_writers.proofs.writer.Writer.can_follow.Goals as goal
+use Rattle.lsm_writers.proofs.writer.Writer.follows.Goals as goal
 
 pub returns-in-None : goal.returns-in-None
 returns-in-None g c =
     let i = c.self.inside in
-    let low : nat_lt c.args.key.now.seqno (2 ^ 64 - 1) ≡ true = lt-ltb _ _ c.if-key-lt18446744073709551615.true in
+    let low : nat_lt c.args.seqno (2 ^ 64 - 1) ≡ true = lt-ltb _ _ c.if-seqno-lt18446744073709551615.true in
     let none = last_of-append None (joined i.blocks.chunks) i.chunk ∙ sym c.in-None.ensures.last in
     rw (← c.self.view_is) (follows_nothing _ _ _ none low)
 
 pub returns-in-Some : goal.returns-in-Some
 returns-in-Some g c =
     let i = c.self.inside in
-    let low : nat_lt c.args.key.now.seqno (2 ^ 64 - 1) ≡ true = lt-ltb _ _ c.if-key-lt18446744073709551615.true in
+    let low : nat_lt c.args.seqno (2 ^ 64 - 1) ≡ true = lt-ltb _ _ c.if-seqno-lt18446744073709551615.true in
     let x = entry_of_ref c.in-Some.last in
     let some = last_of-append None (joined i.blocks.chunks) i.chunk ∙ sym c.in-Some.ensures.last in
-    let e : c.is_lt.result ≡ is_before x (entry c.args.key.now.user_key [] c.args.key.now.seqno Value) = search rules in
+    let e : c.is_lt.result ≡ is_before x (entry c.args.key.now [] c.args.seqno Value) = search rules in
     e ∙ rw (← c.self.view_is) (follows_last _ _ _ x some low)
