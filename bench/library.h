@@ -27,6 +27,8 @@ struct Packed {
 
 uint32_t tool_bench_build(const uint8_t* store, size_t store_len, size_t key_len, size_t value_len,
                          uint64_t seqno, uint8_t* out, size_t out_len, Written* written);
+uint32_t tool_bench_build_ref(const uint8_t* store, size_t store_len, size_t key_len,
+                              size_t value_len, uint64_t seqno, Written* written);
 uint32_t tool_bench_build_partitioned(const uint8_t* store, size_t store_len, size_t key_len,
                                      size_t value_len, uint64_t seqno, uint8_t* out, size_t out_len,
                                      Written* written);

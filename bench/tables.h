@@ -212,6 +212,12 @@ class TableBench {
                                1, nullptr, 0, &written));
     });
     Require(written.bytes == table_.size(), "another table was built");
+    Written by_reference{};
+    times_.Take("build_ref", [&] {
+      Answered(tool_bench_build_ref(Bytes(single_.bytes()), single_.bytes().size(), kKeyLen,
+                                    kValueLen, 1, &by_reference));
+    });
+    Require(by_reference.checksum == written.checksum, "by reference another table was built");
     OfOneTable("", table_);
     OfOneTable(", partitions", partitioned_);
     for (uint64_t passes : Passes()) {
@@ -428,6 +434,8 @@ class TableBench {
     double written = read_ * kBeside + compacted_.bytes * kMade;
     std::vector<Row> rows = {RowOf("build, an entry", "build", times_["build"],
                                    parts.table() * kMade, entries, 1)};
+    rows.push_back(RowOf("build by reference, an entry", "build", times_["build_ref"],
+                         parts.table() * kMade, entries, 1));
     PointRows("", parts, &rows);
     PointRows(", partitions", Parts(partitioned_), &rows);
     PassRows("1,000 keys at once", a_key, "batch", "batch", touched * kBeside, batch, again, &rows);
