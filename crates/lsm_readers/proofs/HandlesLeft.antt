@@ -29,6 +29,12 @@ none_at [] i is = drop_all i [] (omega arith)
 none_at (x ∷ xs) zero is = absurd cc
 none_at (x ∷ xs) (suc i) is = none_at xs i is
 
+-- no place is within a list of which nothing is left
+pub none_within : {X : Type 0} (xs : List X) (i : ℕ) → drop i xs ≡ [] → length xs ≤ i
+none_within [] i is = omega arith
+none_within (x ∷ xs) zero is = absurd (let no : x ∷ xs ≡ [] = is in cc)
+none_within (x ∷ xs) (suc i) is = omega (arith, none_within xs i is)
+
 drop_one : {X : Type 0} (xs : List X) (i : ℕ) → i < length xs
     → drop (i + 1) xs ≡ drop 1 (drop i xs)
 drop_one [] i within = absurd (omega (arith, within))

@@ -1,6 +1,6 @@
 -- A verification by steps: what is found first in what is left stays the same over a step that
 -- reads a block, and one step fewer is left.
-use Rattle.std.proofs.Common.{◌≡◌, ℕ, ◌+◌, List, [], ◌∷◌, length, map, refl, sym, ap}
+use Rattle.std.proofs.Common.{◌≡◌, ℕ, ◌+◌, true, false, List, [], ◌∷◌, length, map, refl, sym, ap}
 use Rattle.std.proofs.Common.{subst, ◌∙◌, arith}
 use Rattle.std.specs.Prelude.{Option, Some, None, Result, Ok, Err, IfErr, IfNone, IfSome}
 use Rattle.std.specs.Result.{IsErrAnd}
@@ -10,7 +10,6 @@ use Rattle.sst_blocks.specs.Handle.{Handle}
 use Rattle.sst_blocks.specs.Place.{Place, place_of}
 use Rattle.lsm_readers.specs.declared.verify.Finding.{Finding}
 use Rattle.lsm_readers.specs.declared.verify.VerifyError.{VerifyError}
-use Rattle.lsm_readers.specs.declared.verify.VerifyError.TheVariants.{OutOfMemory}
 use Rattle.lsm_readers.specs.Parts.{Parts}
 use Rattle.lsm_readers.specs.Verify.{◌>>=◌, Misses, Unread, all_found, block_found, blocks_found}
 use Rattle.lsm_readers.specs.Verify.{end_found, filter_found, filter_places, filters_by}
@@ -18,10 +17,10 @@ use Rattle.lsm_readers.specs.Verify.{handles_found, index_found, part_found}
 use Rattle.lsm_readers.specs.Verify.{parts_found, table_found, top_named, tops_found, unread_of}
 use Rattle.lsm_readers.specs.Verify.{named_found, verified_of}
 use Rattle.lsm_readers.specs.Verification.{GoesOne, IsThrough, before_index, count_told}
-use Rattle.lsm_readers.specs.Verification.{ended_found, in_index, named_steps, partition_found}
-use Rattle.lsm_readers.specs.Verification.{parts_steps}
+use Rattle.lsm_readers.specs.Verification.{ended_found, in_index, index_ahead, named_steps}
+use Rattle.lsm_readers.specs.Verification.{partition_found, parts_steps}
 use Rattle.lsm_readers.specs.Verification.{places_found, places_in, rest_found, steps_left}
-use Rattle.lsm_readers.proofs.VerifyLoops.{wanted}
+use Rattle.lsm_readers.proofs.VerifyBlocks.{size_less}
 use Rattle.lsm_readers.proofs.VerifySteps.{answer, then_ok, told_is}
 
 -- ---- options
@@ -45,12 +44,6 @@ pub refuses_with : {X : Type 0} (P : VerifyError → Type 0) (r : Result X Verif
     (e : VerifyError) → IsErrAnd r (λ y. y ≡ e) → P e → IfErr r P
 refuses_with P r e is holds = let p = err_from_is_err_and r is in rw (p.1, p.2) holds
 
--- a list that has a first is not empty
-pub not_none : {X Y : Type 0} (P : VerifyError → Type 0) (r : Result X VerifyError) (xs : List Y)
-    (y : Y) (ys : List Y) → xs ≡ y ∷ ys → IfErr r (λ e. xs ≡ [] → P e)
-not_none P (Ok x) xs y ys is = tt
-not_none P (Err e) xs y ys is = λ none. absurd (let no : y ∷ ys ≡ [] = sym is ∙ none in cc)
-
 -- ---- steps in a row
 
 -- a step that finds what it is given
@@ -65,7 +58,10 @@ regroup : {A B C : Type 0} (r : Result A Finding) (f : A → Result B Finding)
 regroup (Ok x) f g = refl
 regroup (Err e) f g = refl
 
--- a test that found nothing
+-- a test that found nothing says nothing else
+nothing_else : (u : Unit {0}) → u ≡ tt
+nothing_else tt = refl
+
 unit_then : (r : Result (Unit {0}) Finding) → (r >>= λ _. Ok tt) ≡ r
 unit_then (Ok tt) = refl
 unit_then (Err e) = refl
@@ -107,6 +103,8 @@ module _ (body : List ℕ) (parts : Parts) where
     rest = sym (ap (λ (r : Result (Unit {0}) Finding). (r >>= λ _. places_found body places)
         >>= λ _. ended_found body parts (index_found body parts left)) is);
     steps = omega arith;
+    reads = (is ∙ ap (λ (v : Unit {0}). answer v) (nothing_else u), refl, refl);
+    sizes = omega arith;
   }
 
   pub filter_misses : (place : Place) (places : List Place) (left : Unread) (e : VerifyError)
@@ -138,6 +136,11 @@ module _ (body : List ℕ) (parts : Parts) where
   named_count None hs = omega arith
   named_count (Some section) hs = omega arith
 
+  opened_ahead : (index : Option Place) (hs : List Handle)
+      → in_index (opened index hs).0 (opened index hs).1 ≡ index_ahead index hs
+  opened_ahead None hs = refl
+  opened_ahead (Some section) hs = refl
+
   index_goes_by : (index : Option Place) → parts.regions.index ≡ index → (hs : List Handle)
       (left : Unread) → handles_found body section.Tli parts.regions.tli ≡ Ok hs
       → GoesOne body parts (before_index []) left
@@ -153,6 +156,13 @@ module _ (body : List ℕ) (parts : Parts) where
         ∙ ap (λ (k : Option Place). named_steps body k (Ok hs)) kind
         ∙ named_count index hs in
         omega (arith, told);
+    reads = (
+      hs,
+      is,
+      opened_ahead index hs ∙ ap (λ (k : Option Place). index_ahead k hs) (sym kind),
+      refl,
+    );
+    sizes = omega arith;
   }
 
   pub full_goes : parts.regions.index ≡ None → (hs : List Handle) (left : Unread)
@@ -184,6 +194,8 @@ module _ (body : List ℕ) (parts : Parts) where
         ((r >>= λ left. blocks_found body parts left hs)
         >>= λ left. parts_found body parts left tops)) is);
     steps = omega arith;
+    reads = (is, refl);
+    sizes = size_less body parts left h next is;
   }
 
   pub block_misses : (hs tops : List Handle) (left : Unread) (e : VerifyError)
@@ -238,6 +250,8 @@ module _ (body : List ℕ) (parts : Parts) where
     steps =
         let told = ap count_told (told_handles top hs is) in
         omega (arith, told);
+    reads = (hs, is, refl, refl);
+    sizes = omega arith;
   }
 
   pub part_misses : (top : Handle) (tops : List Handle) (left : Unread) (e : VerifyError)
@@ -251,11 +265,11 @@ module _ (body : List ℕ) (parts : Parts) where
       (misses f found))
 
   pub next_misses : (tops : List Handle) (left : Unread) (e : VerifyError)
-      → (tops ≡ [] → e ≡ OutOfMemory)
+      → (tops ≡ [] → false ≡ true)
       → ((top : Handle) (rest : List Handle) → tops ≡ top ∷ rest
       → Misses e (partition_found body top))
       → Misses e (rest_found body parts (in_index [] tops) left)
-  next_misses [] left e none some = wanted e _ (none refl)
+  next_misses [] left e none some = absurd (let no : false ≡ true = none refl in cc)
   next_misses (top ∷ tops) left e none some = part_misses top tops left e (some top tops refl)
 
   -- ---- the end

@@ -1,6 +1,7 @@
 -- Data blocks that are read without a finding: what is so of them and of their handles.
 use Rattle.std.proofs.Common.{◌≡◌, ℕ, ◌+◌, ◌-◌, ◌^◌, ◌<◌, ◌≤◌, List, [], ◌∷◌, ◌++◌, length, map}
-use Rattle.std.proofs.Common.{refl, sym, ap, subst, ◌∙◌, append-nil, arith, inl, inr}
+use Rattle.std.proofs.Common.{refl, sym, ap, subst, ◌∙◌, append-nil, append_assoc, arith}
+use Rattle.std.proofs.Common.{inl, inr}
 use Rattle.std.specs.Prelude.{sum_by, Option, Some, None, Ok, Err, Result}
 use Rattle.std.specs.List.{AllZip}
 use Rattle.std.proofs.lemmas.List.Sums.{sum_by-cons}
@@ -17,8 +18,8 @@ use Rattle.lsm_formats.specs.Chunks.{joined}
 use Rattle.lsm_formats.specs.Index.{last_entry}
 use Rattle.lsm_formats.specs.Parts.{joined_parts}
 use Rattle.lsm_readers.specs.declared.verify.Counts.{Counts}
-use Rattle.lsm_readers.specs.Findings.{IsFirstFinding, Reads, ReadsBlocks, in_block, in_index}
-use Rattle.lsm_readers.specs.Findings.{in_part}
+use Rattle.lsm_readers.specs.Findings.{BlockComes, ComesBehindParts, ComesWithin, IsFirstFinding}
+use Rattle.lsm_readers.specs.Findings.{PartComes, Reads, ReadsBlocks, in_block, in_index, in_part}
 use Rattle.lsm_readers.specs.IndexKinds.{handles_told}
 use Rattle.lsm_readers.specs.Parts.{Parts}
 use Rattle.lsm_readers.specs.Stored.{AreLaid, IndexHas, NamesChunk, NamesPart}
@@ -26,12 +27,13 @@ use Rattle.lsm_readers.specs.declared.verify.Finding.{Finding}
 use Rattle.lsm_readers.specs.Verify.{◌>>=◌, Unread, block_found, block_spent, blocks_found}
 use Rattle.lsm_readers.specs.Verify.{chunk_found, entries_found, filters_found, handles_found}
 use Rattle.lsm_readers.specs.Verify.{index_found, last_named, named_found, part_found}
-use Rattle.lsm_readers.specs.Verify.{parts_found, top_named, unread_of}
+use Rattle.lsm_readers.specs.Verify.{parts_found, place_found, top_named, unread_of}
 use Rattle.lsm_readers.proofs.FileLengths.{last_some}
-use Rattle.lsm_readers.proofs.VerifyEntries.{entries_go, entries_low, entries_read, reads_none}
+use Rattle.lsm_readers.proofs.VerifyEntries.{entries_go, entries_low, entries_read, size_stays}
+use Rattle.lsm_readers.proofs.VerifyEntries.{reads_none}
 use Rattle.lsm_readers.proofs.VerifySteps.{end_goes, end_ok, located_goes, located_ok, place_goes}
 use Rattle.lsm_readers.proofs.VerifySteps.{place_ok, some_goes, some_ok, spent_goes, spent_ok}
-use Rattle.lsm_readers.proofs.VerifySteps.{then_err, then_goes, then_ok, told_is}
+use Rattle.lsm_readers.proofs.VerifySteps.{answer, then_err, then_goes, then_ok, told_is}
 
 -- ---- the end of a block
 
@@ -228,6 +230,38 @@ module _ (body : List ℕ) (parts : Parts) where
         lowest = low.0;
       })
 
+  -- what is tested of a data block behind each of its parts
+  abbrev behind_entries : Handle → Unread → Result Unread Finding
+  behind_entries h left = last_named section.Data h left.last >>= λ _. answer left
+
+  abbrev behind_chunk : Unread → Handle → Counts → List Entry → Result Unread Finding
+  behind_chunk old h counts chunk =
+      entries_found body parts h.offset (with_counts old counts) chunk >>= behind_entries h
+
+  abbrev behind_counts : Unread → Handle → Counts → Result Unread Finding
+  behind_counts old h counts = chunk_found body (place_of h) >>= behind_chunk old h counts
+
+  -- the sizes of data blocks go down by that of the block
+  pub size_less : (old : Unread) (h : Handle) (new : Unread)
+      → block_found body parts old h ≡ Ok new → old.counts.size ≡ h.size + new.counts.size
+  unfolding block_found
+  size_less old h new told =
+      let meta = parts.regions.metadata.offset in
+      let p = then_ok (place_found (position old) h.offset)
+      (λ _. block_spent meta h.size old.counts >>= behind_counts old h) new told in
+      let n = then_ok (block_spent meta h.size old.counts) (behind_counts old h) new p.2 in
+      let c = then_ok (chunk_found body (place_of h)) (behind_chunk old h n.0) new n.2 in
+      let e = then_ok (entries_found body parts h.offset (with_counts old n.0) c.0)
+      (behind_entries h) new c.2 in
+      let l = then_ok (last_named section.Data h (e.0).last) (λ _. answer e.0) new e.2 in
+      let count = count_ok meta h.size old.counts n.0 n.1 in
+      let stays : (e.0).counts.size ≡ (n.0).size =
+      size_stays body parts h.offset (with_counts old n.0) c.0 e.0 e.1 in
+      let rest : (n.0).size ≡ count.1 = ap (λ (k : Counts). k.size) count.2 in
+      let last : (e.0).counts.size ≡ new.counts.size =
+      ap (λ (l : Unread). l.counts.size) (told_is e.0 new l.2) in
+      omega (arith, count.4, stays, rest, last)
+
   left_part : (old : Unread) (h : Handle) (new : Unread) → IsPart old → ReadsBlock old h new
       → IsPart new
   left_part old h new fits r = record {
@@ -329,27 +363,30 @@ module _ (body : List ℕ) (parts : Parts) where
 
   -- ---- the index
 
+  part_named : (top : Handle) (hs : List Handle) (u : Unit {0})
+      → handles_found body section.Index (place_of top) ≡ Ok hs → top_named top hs ≡ Ok u
+      → NamesPart body top hs
+  part_named top hs u told named =
+      let some = last_none _ top (map end_of hs) u named in
+      let is = last_ok _ top None (map end_of hs) u some named in
+      record {
+        handles = located_ok _ top.offset _ hs told;
+        some = mapped hs some;
+        end_key = is.end_key;
+        seqno = is.seqno;
+      }
+    where
+      mapped : (hs : List Handle) → 0 < length (map end_of hs) → 0 < length hs
+      mapped [] some = some
+      mapped (h ∷ hs) some = omega arith
+
   part_ok : (old : Unread) (top : Handle) (mid : Unread) → part_found body parts old top ≡ Ok mid
       → (hs : List Handle) × NamesPart body top hs × (blocks_found body parts old hs ≡ Ok mid)
   unfolding part_found
   part_ok old top mid told =
       let l = then_ok _ _ mid told in
       let t = then_ok _ _ mid l.2 in
-      let some = last_none _ top (map end_of l.0) t.0 t.1 in
-      let is = last_ok _ top None (map end_of l.0) t.0 some t.1 in (
-        l.0,
-        record {
-          handles = located_ok _ top.offset _ l.0 l.1;
-          some = mapped l.0 some;
-          end_key = is.end_key;
-          seqno = is.seqno;
-        },
-        t.2,
-      )
-    where
-      mapped : (hs : List Handle) → 0 < length (map end_of hs) → 0 < length hs
-      mapped [] some = some
-      mapped (h ∷ hs) some = omega arith
+      (l.0, part_named top l.0 t.0 l.1 t.1, t.2)
 
   part_goes : (old : Unread) (top : Handle) (hs : List Handle) (mid : Unread) → NamesPart body top
       hs
@@ -479,71 +516,150 @@ module _ (body : List ℕ) (parts : Parts) where
 
   -- ---- what is found first
 
-  -- what is read further makes what was read from the start on longer
-  abbrev pub Extends : Unread → Type 0
-  Extends old = (rest : List Handle) (end : Unread) → Blocks old rest end
-      → (front : List Handle) × Blocks (unread_of parts.facts) front end
+  abbrev start : Unread
+  start = unread_of parts.facts
+
+  -- all that was read before some handles of data blocks is known, and each of them comes next in
+  -- the index once those before it are read
+  abbrev Leads : Unread → List Handle → Type 0
+  Leads old hs = (mid : List Handle) (h : Handle) (others : List Handle) (end : Unread)
+      → hs ≡ mid ++ h ∷ others → Blocks old mid end
+      → (front : List Handle) × BlockComes body parts.regions.index parts.regions.tli front h
+      × Blocks start front end
+
+  -- so it is before a partition
+  abbrev LeadsPart : Unread → Handle → Type 0
+  LeadsPart old top = (front : List Handle) × ComesBehindParts body parts.regions.tli front top
+      × ((rest : List Handle) (end : Unread) → Blocks old rest end
+      → Blocks start (front ++ rest) end)
+
+  -- and so before some partitions
+  abbrev LeadsParts : Unread → List Handle → Type 0
+  LeadsParts old tops = (mid : List Handle) (ps : List (List Handle)) (top : Handle)
+      (others : List Handle) → tops ≡ mid ++ top ∷ others → AllZip (NamesPart body) mid ps
+      → (front : List Handle) × ComesBehindParts body parts.regions.tli front top
+      × ((rest : List Handle) (end : Unread) → Blocks old (joined_parts ps ++ rest) end
+      → Blocks start (front ++ rest) end)
 
   module _ (f : Finding) (filters : filters_found body parts ≡ Ok tt) where
-    blocks_err : (old : Unread) (hs : List Handle) → IsPart old → Extends old
+    blocks_err : (old : Unread) (hs : List Handle) → IsPart old → Leads old hs
         → blocks_found body parts old hs ≡ Err f → IsFirstFinding body parts f
     unfolding blocks_found
-    blocks_err old [] fits longer told = absurd cc
-    blocks_err old (h ∷ hs) fits longer told =
+    blocks_err old [] fits leads told = absurd cc
+    blocks_err old (h ∷ hs) fits leads told =
         elim (then_err (block_found body parts old h) (λ l. blocks_found body parts l hs) f told) [
-          | inl here ↦ (let front = longer [] old (blocks_none old fits) in
-              in_block filters front.0 old h front.1 here)
+          | inl here ↦ (let front = leads [] h hs old refl (blocks_none old fits) in
+              in_block filters front.0 old h front.1 front.2 here)
           | inr more ↦ (let is = block_ok old h more.0 fits more.1 in
               blocks_err more.0 hs (left_part old h more.0 fits is)
-              (λ rest end r. longer (h ∷ rest) end (blocks_more old h rest more.0 end fits is r))
+              (λ mid x others end at r. leads (h ∷ mid) x others end
+              (ap (λ (xs : List Handle). h ∷ xs) at)
+              (blocks_more old h mid more.0 end fits is r))
               more.2)
         ]
 
-    part_err : (old : Unread) (top : Handle) → IsPart old → Extends old
-        → part_found body parts old top ≡ Err f → IsFirstFinding body parts f
-    unfolding part_found
-    part_err old top fits longer told =
-        let front = longer [] old (blocks_none old fits) in
-        elim (then_err (handles_found body section.Index (place_of top))
-        (λ hs. top_named top hs >>= λ _. blocks_found body parts old hs) f told) [
-          | inl here ↦ in_part filters front.0 old top front.1
-              (ap (λ (r : Result (List Handle) Finding). r >>= top_named top) here)
-          | inr more ↦ elim (then_err (top_named top more.0)
-              (λ _. blocks_found body parts old more.0) f more.2) [
-                | inl here ↦ in_part filters front.0 old top front.1
-                    (ap (λ (r : Result (List Handle) Finding). r >>= top_named top) more.1 ∙ here)
-                | inr behind ↦ blocks_err old more.0 fits longer behind.2
-              ]
-        ]
+    module _ (section_is : (section : Place) × (parts.regions.index ≡ Some section)) where
+      comes_part : (front : List Handle) (top : Handle)
+          → ComesBehindParts body parts.regions.tli front top
+          → PartComes body parts.regions.index parts.regions.tli front top
+      comes_part front top is =
+          subst (λ (s : Option Place). PartComes body s parts.regions.tli front top)
+          (sym section_is.1) is
 
-    parts_err : (old : Unread) (tops : List Handle) → IsPart old → Extends old
-        → parts_found body parts old tops ≡ Err f → IsFirstFinding body parts f
-    unfolding parts_found
-    parts_err old [] fits longer told = absurd cc
-    parts_err old (top ∷ tops) fits longer told =
-        let more_parts : Unread → Result Unread Finding = λ l. parts_found body parts l tops in
-        elim (then_err (part_found body parts old top) more_parts f told) [
-          | inl here ↦ part_err old top fits longer here
-          | inr more ↦ (let is = part_ok old top more.0 more.1 in
-              parts_err more.0 tops (left_fits old is.0 more.0 fits is.2)
-              (λ rest end r. longer (is.0 ++ rest) end
-              (blocks_read old is.0 rest more.0 end fits is.2 (λ fit. r))) more.2)
-        ]
+      comes_within : (front : List Handle) (h : Handle)
+          → ComesWithin body parts.regions.tli front h
+          → BlockComes body parts.regions.index parts.regions.tli front h
+      comes_within front h is =
+          subst (λ (s : Option Place). BlockComes body s parts.regions.tli front h)
+          (sym section_is.1) is
 
-    named_err : (section : Option Place) (hs : List Handle) (old : Unread) → IsPart old
-        → Extends old → named_found body parts old section hs ≡ Err f
+      part_err : (old : Unread) (top : Handle) → IsPart old → LeadsPart old top
+          → part_found body parts old top ≡ Err f → IsFirstFinding body parts f
+      unfolding part_found
+      part_err old top fits leads told =
+          let front = leads.0 in
+          let comes = comes_part front top leads.1 in
+          let read = subst (λ (xs : List Handle). Blocks start xs old) (append-nil front)
+          (leads.2 [] old (blocks_none old fits)) in
+          elim (then_err (handles_found body section.Index (place_of top))
+          (λ hs. top_named top hs >>= λ _. blocks_found body parts old hs) f told) [
+            | inl here ↦ in_part filters front old top comes read
+                (ap (λ (r : Result (List Handle) Finding). r >>= top_named top) here)
+            | inr more ↦ elim (then_err (top_named top more.0)
+                (λ _. blocks_found body parts old more.0) f more.2) [
+                  | inl here ↦ in_part filters front old top comes read
+                      (ap (λ (r : Result (List Handle) Finding). r >>= top_named top) more.1
+                      ∙ here)
+                  | inr behind ↦ (let named = part_named top more.0 behind.0 more.1 behind.1 in
+                      blocks_err old more.0 fits (λ mid h others end at r. (
+                        front ++ mid,
+                        comes_within (front ++ mid) h (record {
+                          before = front;
+                          within = mid;
+                          others = others;
+                          top = top;
+                          part = leads.1;
+                          named = subst (NamesPart body top) at named;
+                          whole = refl;
+                        }),
+                        leads.2 mid end r,
+                      )) behind.2)
+                ]
+          ]
+
+      parts_err : (old : Unread) (tops : List Handle) → IsPart old → LeadsParts old tops
+          → parts_found body parts old tops ≡ Err f → IsFirstFinding body parts f
+      unfolding parts_found
+      parts_err old [] fits leads told = absurd cc
+      parts_err old (top ∷ tops) fits leads told =
+          let more_parts : Unread → Result Unread Finding = λ l. parts_found body parts l tops in
+          elim (then_err (part_found body parts old top) more_parts f told) [
+            | inl here ↦ part_err old top fits (leads [] [] top tops refl tt) here
+            | inr more ↦ (let is = part_ok old top more.0 more.1 in
+                parts_err more.0 tops (left_fits old is.0 more.0 fits is.2)
+                (λ mid ps next others at named.
+                (let led = leads (top ∷ mid) (is.0 ∷ ps) next others
+                (ap (λ (xs : List Handle). top ∷ xs) at) (is.1, named) in (
+                  led.0,
+                  led.1,
+                  λ rest end r. led.2 rest end
+                      (subst (λ (xs : List Handle). Blocks old xs end)
+                      (sym (append_assoc is.0 (joined_parts ps) rest))
+                      (blocks_read old is.0 (joined_parts ps ++ rest) more.0 end fits is.2
+                      (λ fit. r))),
+                ))) more.2)
+          ]
+
+    named_err : (section : Option Place) (hs : List Handle) → parts.regions.index ≡ section
+        → handles_told body parts.regions.tli ≡ Ok hs → IsPart start
+        → named_found body parts start section hs ≡ Err f → IsFirstFinding body parts f
+    named_err None hs kind index fits told = blocks_err start hs fits (λ mid h others end at r. (
+      mid,
+      subst (λ (s : Option Place). BlockComes body s parts.regions.tli mid h) (sym kind)
+          (others, index ∙ ap (λ (xs : List Handle). Ok xs) at),
+      r,
+    )) told
+    named_err (Some place) hs kind index fits told =
+        parts_err (place, kind) start hs fits (λ mid ps top others at named. (
+          joined_parts ps,
+          record {
+            tops = mid;
+            others = others;
+            parts = ps;
+            told = index ∙ ap (λ (xs : List Handle). Ok xs) at;
+            named = named;
+            whole = refl;
+          },
+          λ rest end r. r,
+        )) told
+
+    pub index_err : IsPart start → index_found body parts start ≡ Err f
         → IsFirstFinding body parts f
-    named_err None hs old fits longer told = blocks_err old hs fits longer told
-    named_err (Some place) hs old fits longer told = parts_err old hs fits longer told
-
-    pub index_err : IsPart (unread_of parts.facts)
-        → index_found body parts (unread_of parts.facts) ≡ Err f → IsFirstFinding body parts f
     unfolding index_found
     index_err fits told =
-        let old = unread_of parts.facts in
         elim (then_err (handles_found body section.Tli parts.regions.tli)
-        (named_found body parts old parts.regions.index) f told) [
+        (named_found body parts start parts.regions.index) f told) [
           | inl here ↦ in_index filters here
-          | inr more ↦ named_err parts.regions.index more.0 old fits (λ rest end r. (rest, r))
-              more.2
+          | inr more ↦ named_err parts.regions.index more.0 refl
+              (located_ok _ _ (handles_told body parts.regions.tli) more.0 more.1) fits more.2
         ]

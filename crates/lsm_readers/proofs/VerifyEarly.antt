@@ -2,6 +2,7 @@
 use Rattle.std.proofs.Common.{◌≡◌, ℕ, zero, suc, ◌+◌, ◌<◌, ◌≤◌, Bool, true, false, cond, List, []}
 use Rattle.std.proofs.Common.{◌∷◌, length, map, refl, sym, ap, ◌∙◌, arith}
 use Rattle.std.specs.Prelude.{◌==◌, ◌||◌, not, nat_lt, Option, Some, None, Result, Ok, Err}
+use Rattle.std.specs.Prelude.{IfErr}
 use Rattle.std.specs.Prelude.{slice_index, slice_range}
 use Rattle.std.specs.List.{slice_get}
 use Rattle.std.specs.Option.{option_map, option_or}
@@ -27,8 +28,9 @@ use Rattle.lsm_readers.specs.declared.verify.Finding.{Finding}
 use Rattle.lsm_readers.specs.declared.verify.VerifyError.{VerifyError}
 use Rattle.lsm_readers.specs.declared.verify.VerifyError.TheVariants.{Found, OutOfMemory}
 use Rattle.lsm_readers.specs.Verify.{FindsFirst, early_at, early_filters, early_from}
-use Rattle.lsm_readers.specs.Verify.{load_refusal}
-use Rattle.lsm_readers.specs.Verify.{finding}
+use Rattle.lsm_readers.specs.Parts.{Parts}
+use Rattle.lsm_readers.specs.Verify.{Finds, Misses, Unread, finding, is_found, load_refusal}
+use Rattle.lsm_readers.specs.Verification.{found_or, in_index, step_early}
 
 -- ---- what a load finds before memory is taken is no want of memory
 
@@ -209,3 +211,49 @@ pub some_place : (tops : List Handle) (i : ℕ) (place : Place)
     → option_map place_of (slice_get tops i) ≡ Some place → map place_of tops ≡ [] → ⊥
 some_place [] i place here none = absurd cc
 some_place (top ∷ tops) i place here none = absurd cc
+
+-- ---- tests that take no memory
+
+-- a test that found something
+pub or_first : {X : Type 0} (told : Result X Finding) (behind : Option Finding) (e : VerifyError)
+    → Misses e told → is_found e ≡ true → (f : Finding) → found_or told behind ≡ Some f
+    → e ≡ Found f
+or_first told behind OutOfMemory misses calm f h = absurd cc
+or_first {X} told behind (Found g) misses calm f h =
+    let is : found_or told behind ≡ Some g =
+    ap (λ (r : Result X Finding). found_or r behind) (misses g refl) in
+    let both : Some g ≡ Some f = sym is ∙ h in
+    let same : g ≡ f = cc in
+    ap (λ (x : Finding). Found x) same
+
+-- a test that found nothing
+pub or_behind : {X : Type 0} (told : Result X Finding) (behind : Option Finding) (x : X)
+    → told ≡ Ok x → found_or told behind ≡ behind
+or_behind {X} told behind x is = ap (λ (r : Result X Finding). found_or r behind) is
+
+-- the last test of all
+pub or_last : {X Y : Type 0} (view : X → Y) (r : Result X VerifyError) (told : Result Y Finding)
+    → Finds view r told → IfErr r (λ e. is_found e ≡ true) → FindsFirst r (found_or told None)
+or_last view (Ok x) told tells calm = λ f h.
+    absurd (let no : None ≡ Some f = sym (or_behind told None (view x) tells) ∙ h in cc)
+or_last view (Err e) told tells calm = or_first told None e tells calm
+
+-- ---- a step
+
+module _ (body : List ℕ) (parts : Parts) (left : Unread) where
+  -- nothing is found so at a data block,
+  pub early_block : {X : Type 0} (hs tops : List Handle) (r : Result X VerifyError)
+      → (hs ≡ [] → false ≡ true)
+      → FindsFirst r (step_early body parts (in_index hs tops) left)
+  early_block [] tops r some = absurd (let no : false ≡ true = some refl in cc)
+  early_block (h ∷ hs) tops r some = λ f is. absurd cc
+
+  -- nor at a partition
+  pub early_part : {X : Type 0} (tops : List Handle) (r : Result X VerifyError)
+      → (tops ≡ [] → false ≡ true)
+      → FindsFirst r (step_early body parts (in_index [] tops) left)
+  early_part [] r some = absurd (let no : false ≡ true = some refl in cc)
+  early_part (top ∷ tops) r some = λ f is. absurd cc
+
+pub some_first : {X : Type 0} (xs : List X) (x : X) (ys : List X) → xs ≡ x ∷ ys → xs ≡ [] → ⊥
+some_first xs x ys is none = let no : x ∷ ys ≡ [] = sym is ∙ none in absurd cc

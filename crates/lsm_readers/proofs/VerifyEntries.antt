@@ -276,6 +276,20 @@ module _ (body : List ℕ) (parts : Parts) (at : ℕ) where
       let rest = entries_low (behind e is.0) c mid told (omega (arith, s.lowest)) in
       (rest.0, rest.1 ∙ s.blocks, rest.2 ∙ s.size, rest.3)
 
+  -- the sizes of data blocks stay
+  pub size_stays : (old : Unread) (c : List Entry) (mid : Unread)
+      → entries_found body parts at old c ≡ Ok mid → mid.counts.size ≡ old.counts.size
+  unfolding entries_found
+  size_stays old [] mid h =
+      let same : old ≡ mid = cc in
+      subst (λ (l : Unread). l.counts.size ≡ old.counts.size) same refl
+  size_stays old (e ∷ c) mid h =
+      let one = then_ok _ _ mid h in
+      let is = entry_ok old e one.0 one.1 in
+      let s = (is.2).spends in
+      let told = subst (λ (l : Unread). entries_found body parts at l c ≡ Ok mid) is.1 one.2 in
+      size_stays (behind e is.0) c mid told ∙ s.size
+
   pub entries_read : (old : Unread) (c rest : List Entry) (mid new : Unread)
       → entries_found body parts at old c ≡ Ok mid → Reads body parts mid rest new
       → Reads body parts old (c ++ rest) new

@@ -1,20 +1,22 @@
 -- What is so of a table that was read up to some place, and what is found there first.
-use Rattle.std.specs.Prelude.{◌≡◌, ℕ, ◌+◌, ◌-◌, ◌^◌, ◌<◌, List, [], ◌∷◌, length, count_by, max, min}
-use Rattle.std.specs.Prelude.{sum_by, Option, Some, None, Ok, Err}
+use Rattle.std.specs.Prelude.{◌≡◌, ℕ, ◌+◌, ◌-◌, ◌^◌, ◌<◌, List, [], ◌∷◌, ◌++◌, length, count_by}
+use Rattle.std.specs.Prelude.{max, min, sum_by, Option, Some, None, Ok, Err}
 use Rattle.std.specs.List.{AllByRecursion, AllZip}
 use Rattle.sst_sections.specs.declared.section.SectionName.TheVariants as section
 use Rattle.sst_entries.specs.Entry.{Entry}
 use Rattle.sst_entries.specs.Strict.{IsStrictAfter, last_of}
 use Rattle.sst_blocks.specs.Handle.{Handle}
-use Rattle.sst_blocks.specs.Place.{place_of}
+use Rattle.sst_blocks.specs.Place.{Place, place_of}
 use Rattle.lsm_formats.specs.Chunks.{joined}
 use Rattle.lsm_formats.specs.Facts.{count_after, highest_seqno, is_reclaimable, is_tombstone}
 use Rattle.lsm_formats.specs.Facts.{is_weak, lowest_seqno}
 use Rattle.lsm_formats.specs.Filters.{keys_after}
+use Rattle.lsm_formats.specs.Parts.{joined_parts}
 use Rattle.lsm_readers.specs.declared.verify.Counts.{Counts}
 use Rattle.lsm_readers.specs.declared.verify.Finding.{Finding}
+use Rattle.lsm_readers.specs.IndexKinds.{handles_told}
 use Rattle.lsm_readers.specs.Parts.{Parts}
-use Rattle.lsm_readers.specs.Stored.{Admits, AreLaid, IndexHas, NamesChunk}
+use Rattle.lsm_readers.specs.Stored.{Admits, AreLaid, IndexHas, NamesChunk, NamesPart}
 use Rattle.lsm_readers.specs.Verify.{◌>>=◌, Unread, block_found, end_found, filters_found}
 use Rattle.lsm_readers.specs.Verify.{handles_found, top_named, unread_of}
 
@@ -60,18 +62,59 @@ pub record ReadsBlocks (body : List ℕ) (parts : Parts) (old : Unread) (hs : Li
   pub blocks : old.counts.blocks ≡ length hs + new.counts.blocks
   pub sizes : old.counts.size ≡ sum_by (λ (h : Handle). h.size) hs + new.counts.size
 
+-- ---- the order of the index
+
+-- at a place lies a top level that tells some handles, then this one; the partitions of those
+-- before it have these handles together
+pub record ComesBehindParts (body : List ℕ) (place : Place) (front : List Handle) (top : Handle)
+    : Type 0 where
+  pub tops : List Handle
+  pub others : List Handle
+  pub parts : List (List Handle)
+  pub told : handles_told body place ≡ Ok (tops ++ top ∷ others)
+  pub named : AllZip (NamesPart body) tops parts
+  pub whole : joined_parts parts ≡ front
+
+-- behind the partitions of a top level comes one that has some handles, then this one; those before
+-- it are these
+pub record ComesWithin (body : List ℕ) (place : Place) (front : List Handle) (h : Handle)
+    : Type 0 where
+  pub before : List Handle
+  pub within : List Handle
+  pub others : List Handle
+  pub top : Handle
+  pub part : ComesBehindParts body place before top
+  pub named : NamesPart body top (within ++ h ∷ others)
+  pub whole : before ++ within ≡ front
+
+-- in the order of the index the handle of a data block comes directly behind these
+abbrev pub BlockComes : List ℕ → Option Place → Place → List Handle → Handle → Type 0
+BlockComes body None tli front h =
+    (others : List Handle) × (handles_told body tli ≡ Ok (front ++ h ∷ others))
+BlockComes body (Some section) tli front h = ComesWithin body tli front h
+
+-- in the order of the index the handle of a partition comes directly behind these of data blocks
+abbrev pub PartComes : List ℕ → Option Place → Place → List Handle → Handle → Type 0
+PartComes body None tli front top = ⊥
+PartComes body (Some section) tli front top = ComesBehindParts body tli front top
+
+-- ---- a finding
+
 -- what is found first, and that all which is read before it is sound: in a block of the filter; in
--- the block of the index, or its top level; in a partition of the index, or in a data block, behind
--- the data blocks of some handles that were read; or at the end, once those of the whole index were
+-- the block of the index, or its top level; in a partition of the index, or in a data block, where
+-- the data blocks of all handles before it in the index were read; or at the end, once those of the
+-- whole index were
 pub data IsFirstFinding (body : List ℕ) (parts : Parts) (f : Finding) : Type 0 where
   in_filter : filters_found body parts ≡ Err f → IsFirstFinding body parts f
   in_index : filters_found body parts ≡ Ok tt
       → handles_found body section.Tli parts.regions.tli ≡ Err f → IsFirstFinding body parts f
   in_part : filters_found body parts ≡ Ok tt → (front : List Handle) (left : Unread) (top : Handle)
+      → PartComes body parts.regions.index parts.regions.tli front top
       → ReadsBlocks body parts (unread_of parts.facts) front left
       → (handles_found body section.Index (place_of top) >>= top_named top) ≡ Err f
       → IsFirstFinding body parts f
   in_block : filters_found body parts ≡ Ok tt → (front : List Handle) (left : Unread) (h : Handle)
+      → BlockComes body parts.regions.index parts.regions.tli front h
       → ReadsBlocks body parts (unread_of parts.facts) front left
       → block_found body parts left h ≡ Err f → IsFirstFinding body parts f
   at_end : filters_found body parts ≡ Ok tt → (handles : List Handle) (left : Unread)

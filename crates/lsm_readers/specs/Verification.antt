@@ -2,6 +2,9 @@
 -- many steps that takes.
 use Rattle.std.specs.Prelude.{◌≡◌, ℕ, ◌+◌, ◌-◌, List, [], ◌∷◌, drop, length, Option, Some, None}
 use Rattle.std.specs.Prelude.{Result, Ok, Err}
+use Rattle.sst_blocks.specs.declared.block_type.BlockType.TheVariants.{Filter, Index}
+use Rattle.lsm_formats.specs.declared.item_name.ItemName.TheVariants as item
+use Rattle.sst_entries.specs.Entry.{Entry}
 use Rattle.sst_sections.specs.Sections.{body_of}
 use Rattle.sst_sections.specs.declared.section.SectionName.TheVariants as section
 use Rattle.sst_blocks.specs.Handle.{Handle}
@@ -12,8 +15,9 @@ use Rattle.lsm_readers.specs.declared.verify.steps.Stage.{Stage}
 use Rattle.lsm_readers.specs.declared.verify.steps.Stage.TheVariants as stage
 use Rattle.lsm_readers.specs.Parts.{Parts}
 use Rattle.lsm_readers.specs.Table.{OpenTable}
-use Rattle.lsm_readers.specs.Verify.{◌>>=◌, Unread, blocks_found, end_found, filter_found}
-use Rattle.lsm_readers.specs.Verify.{filter_places, handles_found, index_found, parts_found}
+use Rattle.lsm_readers.specs.Verify.{◌>>=◌, Unread, block_found, blocks_found, counts_found}
+use Rattle.lsm_readers.specs.Verify.{early_at, end_found, filter_found, filter_places}
+use Rattle.lsm_readers.specs.Verify.{handles_found, index_found, key_same, parts_found}
 use Rattle.lsm_readers.specs.Verify.{table_found, top_named, unread_of, verified_of}
 
 -- ---- what is left to read
@@ -87,11 +91,73 @@ steps_left body parts (in_index handles tops) = length handles + parts_steps bod
 
 -- ---- a step
 
+-- the handles of the block of the index are those of data blocks, or of a top level those of
+-- partitions
+abbrev pub index_ahead : Option Place → List Handle → Ahead
+index_ahead None handles = in_index handles []
+index_ahead (Some section) tops = in_index [] tops
+
+-- a step reads one block, the next, finds nothing wrong in it, and leaves what is behind it: the
+-- counts change by a data block alone
+abbrev pub ReadsNext : List ℕ → Parts → Ahead → Unread → Ahead → Unread → Type 0
+ReadsNext body parts (before_index (place ∷ places)) before new after =
+    (filter_found body place ≡ Ok tt) × (new ≡ before_index places) × (after ≡ before)
+ReadsNext body parts (before_index []) before new after =
+    (handles : List Handle) × (handles_found body section.Tli parts.regions.tli ≡ Ok handles)
+    × (new ≡ index_ahead parts.regions.index handles) × (after ≡ before)
+ReadsNext body parts (in_index (h ∷ handles) tops) before new after =
+    (block_found body parts before h ≡ Ok after) × (new ≡ in_index handles tops)
+ReadsNext body parts (in_index [] (top ∷ tops)) before new after =
+    (handles : List Handle) × (partition_found body top ≡ Ok handles)
+    × (new ≡ in_index handles tops) × (after ≡ before)
+ReadsNext body parts (in_index [] []) before new after = ⊥
+
+-- the size of the data block that is read next, and none where that is another block
+abbrev pub next_size : Ahead → ℕ
+next_size (before_index places) = 0
+next_size (in_index (h ∷ handles) tops) = h.size
+next_size (in_index [] tops) = 0
+
 -- a step that read a block: what is found first is found behind it, and one step fewer is left
 pub record GoesOne (body : List ℕ) (parts : Parts) (old : Ahead) (before : Unread) (new : Ahead)
     (after : Unread) : Type 0 where
   pub rest : rest_found body parts new after ≡ rest_found body parts old before
   pub steps : steps_left body parts old ≡ 1 + steps_left body parts new
+  pub reads : ReadsNext body parts old before new after
+  pub sizes : before.counts.size ≡ next_size old + after.counts.size
+
+-- ---- before memory is taken
+
+-- what a test finds, or else what is found behind it
+abbrev pub found_or : {X : Type 0} → Result X Finding → Option Finding → Option Finding
+found_or (Ok x) behind = behind
+found_or (Err f) behind = Some f
+
+-- what is found so at the end: all of it, but for a data block that no handle names
+abbrev pub last_early : Parts → Option Entry → Option Finding
+last_early parts (Some e) =
+    let meta = parts.regions.metadata.offset in
+    found_or (key_same meta item.KeyMax parts.facts.key_range.max e.user_key) None
+last_early parts None =
+    let meta = parts.regions.metadata.offset in
+    found_or (key_same meta item.KeyMin parts.facts.key_range.min [])
+    (found_or (key_same meta item.KeyMax parts.facts.key_range.max []) None)
+
+abbrev pub end_early : Parts → Unread → Option Finding
+end_early parts left = found_or (counts_found parts left.counts) (last_early parts left.last)
+
+-- what is found so at the next block of the filter or of the index, or at the end; a handle takes
+-- memory before what it names is loaded
+abbrev pub step_early : List ℕ → Parts → Ahead → Unread → Option Finding
+step_early body parts (before_index (place ∷ places)) left =
+    early_at body section.Filter place Filter
+step_early body parts (before_index []) left =
+    early_at body section.Tli parts.regions.tli Index
+step_early body parts (in_index (h ∷ handles) tops) left = None
+step_early body parts (in_index [] (top ∷ tops)) left = None
+step_early body parts (in_index [] []) left = end_early parts left
+
+-- ---- the end of the steps
 
 -- nothing was left to read, and nothing is wrong at the end
 pub record IsThrough (body : List ℕ) (parts : Parts) (old : Ahead) (before : Unread) : Type 0 where

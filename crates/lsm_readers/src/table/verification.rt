@@ -2,9 +2,10 @@
 ghost use Rattle.std.specs.Prelude.{◌≡◌, ◌+◌, IfErr, IfNone, IfOk, IfSome, List, Ok, false, length};
 ghost use Rattle.std.specs.Prelude.{true};
 ghost use Rattle.lsm_readers.specs.Findings.{IsFirstFinding};
-ghost use Rattle.lsm_readers.specs.Verify.{Misses, table_found, verified_of};
-ghost use Rattle.lsm_readers.specs.Verification.{GoesOne, IsThrough, ahead_of, bytes_read};
-ghost use Rattle.lsm_readers.specs.Verification.{rest_found, steps_of, verifying};
+ghost use Rattle.lsm_readers.specs.Verify.{FindsFirst, Misses, table_found, verified_of};
+ghost use Rattle.lsm_readers.specs.Verification.{GoesOne, IsThrough, ReadsNext, ahead_of};
+ghost use Rattle.lsm_readers.specs.Verification.{bytes_read, next_size, rest_found, step_early};
+ghost use Rattle.lsm_readers.specs.Verification.{steps_of, verifying};
 ghost use Rattle.lsm_readers.specs.Words.{Entry, IsOpen, StoresList, body_of};
 ghost use Rattle.lsm_readers.specs.declared.verify.Finding.{Finding};
 ghost use Rattle.lsm_readers.specs.declared.verify.VerifyError.TheVariants.{Found, OutOfMemory};
@@ -90,6 +91,8 @@ impl<A: Allocator + Clone> Table<A> {
             (stage.new ≡ stage.old) × (left.new ≡ left.old)) }
         ensures refused { let parts = self.now.parts in IfErr result (λ e. Misses e
             (rest_found (body_of self.now.bytes) parts (ahead_of parts stage.old) left.old)) }
+        ensures early { let parts = self.now.parts in FindsFirst result
+            (step_early (body_of self.now.bytes) parts (ahead_of parts stage.old) left.old) }
         ensures unchanged { IfErr result (λ _. (stage.new ≡ stage.old) × (left.new ≡ left.old)) }
     {
         let inner: &Inner<A> = &self.inner;
@@ -114,11 +117,23 @@ impl<A: Allocator + Clone> Verification<'_, A> {
         // It reads a further block as long as one is left,
         ensures goes { IfOk result (λ v. IfNone v (steps_of self.old ≡ 1 + steps_of self.new)) }
         ensures ends { IfOk result (λ v. IfSome v (λ _. steps_of self.old ≡ 0)) }
+        // and this one alone, which is the next in the order of `Table::verify`:
+        ensures reads { let t = self.old.table in IfOk result (λ v. IfNone v
+            (ReadsNext (body_of t.bytes) t.parts self.old.ahead self.old.left self.new.ahead
+            self.new.left)) }
+        // what is left of the data blocks' sizes goes down by that of the block, where it is one,
+        ensures sizes { IfOk result (λ v. IfNone v (self.old.left.counts.size ≡
+            next_size self.old.ahead + self.new.left.counts.size)) }
         // and the answer is that of `Table::verify`: what is wrong first is found, memory aside.
         ensures told { let t = self.old.table in IfOk result (λ v. IfSome v (λ v.
             table_found (body_of t.bytes) t.parts ≡ Ok v)) }
         ensures refused { let t = self.old.table in
             IfErr result (λ e. Misses e (table_found (body_of t.bytes) t.parts)) }
+        // A fault of a block of the filter, or of the block of the index or its top level, which
+        // takes no memory to be found is told whatever memory there is, and so is one at the end,
+        // but for a data block that no handle names.
+        ensures early { let t = self.old.table in FindsFirst result
+            (step_early (body_of t.bytes) t.parts self.old.ahead self.old.left) }
         // Where it answers or is refused nothing changes.
         ensures answered { IfOk result (λ v. IfSome v (λ _. self.new ≡ self.old)) }
         ensures unchanged { IfErr result (λ _. self.new ≡ self.old) }

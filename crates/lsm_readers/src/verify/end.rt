@@ -9,6 +9,7 @@ ghost use Rattle.lsm_readers.specs.Verify.{Finds, FindsFirst, counts_found, earl
 ghost use Rattle.lsm_readers.specs.Verify.{early_filters, end_found, filter_found, filter_places};
 ghost use Rattle.lsm_readers.specs.Verify.{filters_found, is_found, key_same, same_found};
 ghost use Rattle.lsm_readers.specs.Verify.{tops_found, unnamed_found};
+ghost use Rattle.lsm_readers.specs.Verification.{end_early};
 
 use super::{Counts, Fault, Unread, VerifyError, found, unloaded};
 use crate::Inner;
@@ -147,8 +148,10 @@ pub(super) fn test_left<A: Allocator + Clone>(
     inner: &Inner<A>,
     left: &Unread<A>,
 ) -> Result<(), VerifyError>
-    ensures { Finds (λ (_ : _). tt) result
+    ensures told { Finds (λ (_ : _). tt) result
         (end_found (body_of source.now) (parts_of inner.now) left.now) }
+    // What is found before memory is taken is the refusal, whatever memory there is.
+    ensures early { FindsFirst result (end_early (parts_of inner.now) left.now) }
 {
     let meta = inner.regions.metadata.offset().0;
     let range = &inner.metadata.key_range;

@@ -1,15 +1,18 @@
 //! Reading a whole table by steps, a block each.
-ghost use Rattle.std.specs.Prelude.{◌≡◌, ◌∷◌, ◌<◌, ◌-◌, ◌^◌, [], List, IfErr, IfOk, IfNone, IfSome};
-ghost use Rattle.std.specs.Prelude.{Ok, drop, false, length, true};
+ghost use Rattle.std.specs.Prelude.{◌≡◌, ◌∷◌, ◌<◌, ◌≤◌, ◌-◌, ◌^◌, [], List, IfErr, IfOk, IfNone};
+ghost use Rattle.std.specs.Prelude.{IfSome, IsOk, Ok, drop, false, length, true};
 ghost use Rattle.std.specs.List.{slice_get};
 ghost use Rattle.lsm_readers.specs.Words.{Handle, body_of, parts_of};
 ghost use Rattle.lsm_readers.specs.declared.verify.VerifyError.TheVariants.{OutOfMemory};
 ghost use Rattle.lsm_readers.specs.Verify.{Finds, Misses, Unread as UnreadLeft, block_found};
-ghost use Rattle.lsm_readers.specs.Verify.{blocks_found};
+ghost use Rattle.lsm_readers.specs.Verify.{FindsFirst, blocks_found, early_at};
 ghost use Rattle.lsm_readers.specs.Handles.{handles_ahead};
 ghost use Rattle.lsm_readers.specs.Parts.{Parts};
 ghost use Rattle.lsm_readers.specs.Verification.{GoesOne, IsThrough, ahead_of, before_index};
 ghost use Rattle.lsm_readers.specs.Verification.{in_index, partition_found, places_in, rest_found};
+ghost use Rattle.lsm_readers.specs.Verification.{step_early};
+ghost use Rattle.sst_blocks.specs.declared.block_type.BlockType.TheVariants as block;
+ghost use Rattle.sst_sections.specs.declared.section.SectionName.TheVariants as section;
 
 use super::blocks::{handle_at, load_part, read_block, test_top};
 use super::end::{test_filter, test_left};
@@ -84,6 +87,8 @@ fn handle_in<A: Allocator>(
 ) -> Result<Option<KeyedBlockHandle<A>>, VerifyError>
     ensures ok { IfOk result (λ h. h ≡ slice_get block.now index) }
     ensures err { IfErr result (λ e. e ≡ OutOfMemory) }
+    // Where there is none nothing is refused.
+    ensures calm { length block.now ≤ index → IsOk result }
 {
     if index < block.len() {
         Ok(Some(handle_at(block, index)?))
@@ -117,6 +122,8 @@ impl<A: Allocator> HandlesLeft<A> {
     fn next(&self) -> Result<Option<KeyedBlockHandle<A>>, VerifyError>
         ensures ok { IfOk result (λ h. h ≡ slice_get self.now 0) }
         ensures err { IfErr result (λ e. e ≡ OutOfMemory) }
+        // Where none is left nothing is refused.
+        ensures calm { self.now ≡ [] → IsOk result }
     {
         match &self.block {
             Some(block) => handle_in(block, self.index),
@@ -163,6 +170,7 @@ fn step_block<A: Allocator + Clone>(
         (handles.old ≡ []) × (handles.new ≡ []) × (left.new ≡ left.old)) }
     ensures refused { IfErr result (λ e. Misses e
         (blocks_found (body_of source.now) (parts_of inner.now) left.old handles.old)) }
+    ensures calm { handles.old ≡ [] → IsOk result }
     ensures unchanged { IfErr result (λ _.
         (handles.new ≡ handles.old) × (left.new ≡ left.old)) }
 {
@@ -204,7 +212,7 @@ fn step_part<A: Allocator + Clone>(
     ensures none { IfOk result (λ read. IfNone read ((tops.old ≡ []) × (tops.new ≡ []))) }
     ensures refused { IfErr result (λ e. (top : Handle) (rest : List Handle) →
         tops.old ≡ top ∷ rest → Misses e (partition_found (body_of source.now) top)) }
-    ensures wanted { IfErr result (λ e. tops.old ≡ [] → e ≡ OutOfMemory) }
+    ensures calm { tops.old ≡ [] → IsOk result }
     ensures unchanged { IfErr result (λ _. tops.new ≡ tops.old) }
 {
     let top = match tops.next()? {
@@ -236,6 +244,8 @@ fn step_index<A: Allocator + Clone>(
     ensures refused { let ahead = in_index handles.old tops.old in
         IfErr result (λ e. Misses e
         (rest_found (body_of source.now) (parts_of inner.now) ahead left.old)) }
+    ensures early { let ahead = in_index handles.old tops.old in
+        FindsFirst result (step_early (body_of source.now) (parts_of inner.now) ahead left.old) }
     ensures unchanged { IfErr result (λ _.
         (handles.new ≡ handles.old) × (tops.new ≡ tops.old) × (left.new ≡ left.old)) }
 {
@@ -287,6 +297,8 @@ fn open_index<A: Allocator + Clone>(
         (ahead_of parts stage) left) }
     ensures refused { (left : UnreadLeft) → IfErr result (λ e. Misses e
         (rest_found (body_of source.now) (parts_of inner.now) (before_index []) left)) }
+    ensures early { let tli = (parts_of inner.now).regions.tli in
+        FindsFirst result (early_at (body_of source.now) section.Tli tli block.Index) }
 {
     let handles = load_part(source, SectionName::Tli, &inner.regions.tli)?;
     let handles = HandlesLeft::all(handles);
@@ -315,6 +327,9 @@ fn step_filter<A: Allocator + Clone>(
     ensures refused { (left : UnreadLeft) → let parts = parts_of inner.now in
         let ahead = before_index (drop index (places_in parts)) in
         IfErr result (λ e. Misses e (rest_found (body_of source.now) parts ahead left)) }
+    ensures early { (left : UnreadLeft) → let parts = parts_of inner.now in
+        let ahead = before_index (drop index (places_in parts)) in
+        FindsFirst result (step_early (body_of source.now) parts ahead left) }
 {
     match filter_at(inner, index) {
         Some(place) => {
@@ -342,6 +357,9 @@ pub(crate) fn step_stage<A: Allocator + Clone>(
         (stage.new ≡ stage.old) × (left.new ≡ left.old)) }
     ensures refused { let parts = parts_of inner.now in let ahead = ahead_of parts stage.old in
         IfErr result (λ e. Misses e (rest_found (body_of source.now) parts ahead left.old)) }
+    // What is found before memory is taken is the refusal, whatever memory there is.
+    ensures early { let parts = parts_of inner.now in let ahead = ahead_of parts stage.old in
+        FindsFirst result (step_early (body_of source.now) parts ahead left.old) }
     ensures unchanged { IfErr result (λ _. (stage.new ≡ stage.old) × (left.new ≡ left.old)) }
 {
     match stage {

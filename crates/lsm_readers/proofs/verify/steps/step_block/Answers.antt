@@ -5,6 +5,7 @@ use Rattle.sst_blocks.specs.Handle.{Handle}
 use Rattle.lsm_readers.specs.Table.{parts_of}
 use Rattle.lsm_readers.specs.Verify.{Misses, Unread, block_found, blocks_found}
 use Rattle.lsm_readers.proofs.HandlesLeft.{first_is, none_left}
+use Rattle.lsm_readers.proofs.VerifyEarly.{some_first}
 use Rattle.lsm_readers.proofs.Verifications.{first_misses, refuses}
 use Rattle.lsm_readers.proofs.verify.steps.step_block.Goals as goal
 
@@ -41,3 +42,17 @@ returns-clause-read g c = λ yes.
       subst (λ (u : Unread). block_found body parts u h ≡ Ok c.read_block.new.left)
           c.in_ok-read.ensures.ok c.in_ok-read_block.ensures,
     )
+
+pub returns-in_err-read-clause-calm : goal.returns-in_err-read-clause-calm
+returns-in_err-read-clause-calm g c = λ none.
+    let hs = c.args.handles.now in
+    let h = c.in-Some.handle in
+    absurd (some_first hs h (drop 1 hs)
+    (first_is hs h (sym c.in_ok-handle.ensures.ok ∙ c.in-Some.is)) none)
+
+pub returns-in_err-read_block-clause-calm : goal.returns-in_err-read_block-clause-calm
+returns-in_err-read_block-clause-calm g c = λ none.
+    let hs = c.args.handles.now in
+    let h = c.in-Some.handle in
+    absurd (some_first hs h (drop 1 hs)
+    (first_is hs h (sym c.in_ok-handle.ensures.ok ∙ c.in-Some.is)) none)

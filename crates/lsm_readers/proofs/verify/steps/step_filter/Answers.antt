@@ -1,11 +1,14 @@
-use Rattle.std.specs.Prelude.{IfErr, IfOk}
-use Rattle.std.proofs.Common.{◌+◌, List, drop, ap, subst, sym, ◌∙◌}
+use Rattle.std.specs.Prelude.{IfErr, IfOk, Some}
+use Rattle.std.proofs.Common.{◌≡◌, ◌+◌, List, drop, ap, subst, sym, ◌∙◌}
 use Rattle.sst_sections.specs.Sections.{body_of}
 use Rattle.sst_blocks.specs.Place.{Place}
 use Rattle.lsm_readers.specs.Table.{parts_of}
-use Rattle.lsm_readers.specs.Verify.{Misses}
+use Rattle.lsm_readers.specs.declared.verify.Finding.{Finding}
+use Rattle.lsm_readers.specs.Verify.{FindsFirst, Misses}
 use Rattle.lsm_readers.specs.Verification.{GoesOne, ahead_of, before_index, places_in, rest_found}
+use Rattle.lsm_readers.specs.Verification.{step_early}
 use Rattle.lsm_readers.proofs.HandlesLeft.{none_at}
+use Rattle.lsm_readers.proofs.VerifyEarly.{passes_first}
 use Rattle.lsm_readers.proofs.VerifyLoops.{drop_at}
 use Rattle.lsm_readers.proofs.Verifications.{filter_goes, filter_misses, refuses}
 use Rattle.lsm_readers.proofs.verify.steps.step_filter.Goals as goal
@@ -59,3 +62,39 @@ returns-in-None-clause-refused g c = λ left.
     subst (λ (ps : List Place). IfErr c.open_index.result (λ e.
     Misses e (rest_found body parts (before_index ps) left))) (sym none)
     (c.open_index.ensures.refused left)
+
+pub returns-in_err-test_filter-in-Some-clause-early :
+    goal.returns-in_err-test_filter-in-Some-clause-early
+returns-in_err-test_filter-in-Some-clause-early g c = λ left.
+    let parts = parts_of c.args.inner.now in
+    let body = body_of c.args.source.now in
+    let places = places_in parts in
+    let i = c.args.index in
+    let place = c.in-Some.place in
+    let head = drop_at places i place (sym c.filter_at.ensures.place ∙ c.in-Some.is) in
+    subst (λ (ps : List Place). FindsFirst c.from_residual.result
+    (step_early body parts (before_index ps) left)) (sym head)
+    (passes_first c.from_residual.result c.in_err-test_filter-in-Some.field-0.0 _
+    c.from_residual.ensures.1 c.in_err-test_filter-in-Some.ensures.early)
+
+pub returns-in_ok-test_filter-in-Some-clause-early :
+    goal.returns-in_ok-test_filter-in-Some-clause-early
+returns-in_ok-test_filter-in-Some-clause-early g c = λ left.
+    let parts = parts_of c.args.inner.now in
+    let body = body_of c.args.source.now in
+    let places = places_in parts in
+    let i = c.args.index in
+    let place = c.in-Some.place in
+    let head = drop_at places i place (sym c.filter_at.ensures.place ∙ c.in-Some.is) in
+    subst (λ (ps : List Place). (f : Finding)
+    → step_early body parts (before_index ps) left ≡ Some f → ⊥) (sym head)
+    c.in_ok-test_filter-in-Some.ensures.early
+
+pub returns-in-None-clause-early : goal.returns-in-None-clause-early
+returns-in-None-clause-early g c = λ left.
+    let parts = parts_of c.args.inner.now in
+    let body = body_of c.args.source.now in
+    let none = none_at (places_in parts) c.args.index
+    (sym c.filter_at.ensures.place ∙ c.in-None.is) in
+    subst (λ (ps : List Place). FindsFirst c.open_index.result
+    (step_early body parts (before_index ps) left)) (sym none) c.open_index.ensures.early

@@ -3,6 +3,7 @@ use Rattle.sst_sections.specs.Sections.{body_of}
 use Rattle.sst_blocks.specs.Handle.{Handle}
 use Rattle.lsm_readers.specs.Table.{parts_of}
 use Rattle.lsm_readers.specs.Verification.{GoesOne, in_index, rest_found}
+use Rattle.lsm_readers.proofs.VerifyEarly.{early_block, early_part}
 use Rattle.lsm_readers.proofs.Verifications.{at_none, at_some, block_goes, block_misses}
 use Rattle.lsm_readers.proofs.Verifications.{end_misses, ends_here, next_misses, part_goes, refuses}
 use Rattle.lsm_readers.proofs.verify.steps.step_index.Goals as goal
@@ -42,7 +43,7 @@ returns-in_err-block-clause-refused g c =
     refuses passed.result e (rest_found body parts (in_index c.args.handles.now tops) left)
     passed.ensures.1
     (λ f found. ap (λ (hs : List Handle). rest_found body parts (in_index hs tops) left) none.0
-    ∙ next_misses body parts tops left e c.in_err-block.ensures.wanted
+    ∙ next_misses body parts tops left e c.in_err-block.ensures.calm
     c.in_err-block.ensures.refused f found)
 
 pub returns-in_err-test_left-in-None-clause-refused :
@@ -57,7 +58,7 @@ returns-in_err-test_left-in-None-clause-refused g c =
     let ahead = in_index c.args.handles.now c.args.tops.now in
     refuses passed.result e (rest_found body parts ahead c.args.left.now) passed.ensures.1
     (rw (none.0, last.0, sym none.2)
-    (end_misses body parts c.step_block.new.left e c.in_err-test_left-in-None.ensures))
+    (end_misses body parts c.step_block.new.left e c.in_err-test_left-in-None.ensures.told))
 
 pub returns-in-Some-clause-goes : goal.returns-in-Some-clause-goes
 returns-in-Some-clause-goes g c = λ no.
@@ -76,4 +77,16 @@ returns-in_ok-test_left-in-None-clause-ends g c = λ yes.
     let none = c.in_ok-step_block.ensures.none c.if-branch.false in
     let last = at_none _ c.in_ok-block.field-0 c.in_ok-block.ensures.none c.in-None.is in
     rw (none.0, last.0, sym none.2)
-    (ends_here body parts c.step_block.new.left tt c.in_ok-test_left-in-None.ensures)
+    (ends_here body parts c.step_block.new.left tt c.in_ok-test_left-in-None.ensures.told)
+
+pub returns-in_err-step_block-clause-early : goal.returns-in_err-step_block-clause-early
+returns-in_err-step_block-clause-early g c =
+    early_block (body_of c.args.source.now) (parts_of c.args.inner.now) c.args.left.now
+    c.args.handles.now c.args.tops.now c.from_residual.result c.in_err-step_block.ensures.calm
+
+pub returns-in_err-block-clause-early : goal.returns-in_err-block-clause-early
+returns-in_err-block-clause-early g c =
+    let none = c.in_ok-step_block.ensures.none c.if-branch.false in
+    let passed = c.from_residual-in_err-block in
+    rw none.0 (early_part (body_of c.args.source.now) (parts_of c.args.inner.now) c.args.left.now
+    c.args.tops.now passed.result c.in_err-block.ensures.calm)

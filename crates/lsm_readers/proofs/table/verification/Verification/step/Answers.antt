@@ -3,11 +3,12 @@ use Rattle.std.proofs.Common.{◌≡◌, ap, subst, sym, ◌∙◌}
 use Rattle.sst_sections.specs.Sections.{body_of}
 use Rattle.lsm_readers.specs.Findings.{IsFirstFinding}
 use Rattle.lsm_readers.specs.Table.{IsOpen, OpenTable}
-use Rattle.lsm_readers.specs.Verify.{Misses, table_found}
-use Rattle.lsm_readers.specs.Verification.{Verifying}
+use Rattle.lsm_readers.specs.Verify.{FindsFirst, Misses, table_found}
+use Rattle.lsm_readers.specs.Verification.{Verifying, step_early}
 use Rattle.lsm_readers.specs.declared.verify.Finding.{Finding}
 use Rattle.lsm_readers.specs.declared.verify.Verified.{Verified}
 use Rattle.lsm_readers.specs.declared.verify.VerifyError.TheVariants.{Found, OutOfMemory}
+use Rattle.lsm_readers.proofs.VerifyEarly.{passes_first}
 use Rattle.lsm_readers.proofs.VerifySteps.{answer}
 use Rattle.lsm_readers.proofs.VerifyTables.{all_complete, all_first, all_sound}
 use Rattle.lsm_readers.proofs.Verifications.{refuses_with}
@@ -44,3 +45,11 @@ returns-then-branch-clause-sound g c =
     all_sound c.args.self.now.table held (Ok c.says.result)
     (subst (λ (t : OpenTable). table_found (body_of t.bytes) t.parts ≡ answer c.says.result) shown
     told)
+
+pub returns-in_err-read_next-clause-early : goal.returns-in_err-read_next-clause-early
+returns-in_err-read_next-clause-early g c =
+    let passed = c.from_residual.result in
+    subst (λ (v : Verifying). FindsFirst passed
+    (step_early (body_of v.table.bytes) v.table.parts v.ahead v.left)) c.self.view_is
+    (passes_first passed c.in_err-read_next.field-0.0 _ c.from_residual.ensures.1
+    c.in_err-read_next.ensures.early)
