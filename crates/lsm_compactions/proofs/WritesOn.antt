@@ -1,12 +1,13 @@
 -- A stream whose entries are written one by one: what it still deals, and what the writer refuses
 -- then.
-use Rattle.std.proofs.Common.{◌≡◌, refl, sym, ◌∙◌, ap, subst, false, List, [], ◌∷◌, ◌++◌, IsTrue}
-use Rattle.std.proofs.Common.{append_assoc, append-nil}
-use Rattle.std.specs.Prelude.{Option, Some, None, Ok, Err}
+use Rattle.std.proofs.Common.{◌≡◌, refl, sym, ◌∙◌, ap, subst, Bool, true, false, List, [], ◌∷◌}
+use Rattle.std.proofs.Common.{◌++◌, IsTrue, append_assoc, append-nil}
+use Rattle.std.specs.Prelude.{Option, Some, None, Ok, Err, is_some}
 use Rattle.std.specs.Option.{option_or}
 use Rattle.sst_entries.specs.declared.error.Error.{Error}
 use Rattle.sst_entries.specs.Entry.{Entry}
 use Rattle.sst_entries.specs.Error.{is_memory}
+use Rattle.sst_entries.specs.Lending.{came}
 use Rattle.sst_entries.specs.Stream.{answer_stops, nowhere, ok_results}
 use Rattle.sst_entries.proofs.StreamLemmas.{deals_front}
 use Rattle.lsm_merge.specs.Ends.{R}
@@ -63,6 +64,20 @@ module _ {S : Type 0} (next : S → Option R → S → Type 0) where
       let h = deals_front (answer_stops is_memory) next nowhere s (ok_results (x ∷ rest))
       (Some (Err e)) t (d is_memory refl) step fine in
       let no : Some (Err e) ≡ Some (Ok x) = h.0 in absurd cc
+
+  -- ---- one call of a source that lends
+
+  -- where an entry is lent then, it came
+  pub lent_next : (s t : S) (lent : Option Entry) (more : Bool) (e : Entry) → Some e ≡ lent
+      → next s (came (Ok more) lent) t → next s (Some (Ok e)) t
+  lent_next s t lent more e is step =
+      subst (λ (o : Option Entry). next s (came (Ok more) o) t) (sym is) step
+
+  -- where there is none, nothing is lent
+  pub lent_over : (s t : S) (lent : Option Entry) (more : Bool) → more ≡ false
+      → more ≡ is_some lent → next s (came (Ok more) lent) t → next s None t
+  lent_over s t None more over is step = step
+  lent_over s t (Some e) more over is step = let no : true ≡ false = sym is ∙ over in cc
 
   -- ---- a list that is written, entry by entry
 

@@ -1,10 +1,10 @@
 //! Compacting several runs of tables whose bytes nobody has verified.
 ghost use Rattle.std.specs.Prelude.{◌≡◌, IfErr, IfOk, List, map};
 ghost use Rattle.std.specs.Arc.{arc_value};
-ghost use Rattle.std.specs.Iterator.{IsFinite};
 ghost use Rattle.sst_entries.specs.declared.error.Error.TheVariants.{OutOfMemory};
 ghost use Rattle.std.specs.List.{AllByRecursion};
-ghost use Rattle.lsm_compactions.specs.Words.{AreCompactable, AreTablesBy, CameInOrder, DealsList};
+ghost use Rattle.lsm_compactions.specs.Words.{AreCompactable, AreTablesBy, CameInOrder};
+ghost use Rattle.lsm_compactions.specs.Words.{CanDeal, DealsList};
 ghost use Rattle.lsm_compactions.specs.Words.{DealsWritable, Entry, Faults, FitsBy, GoesThrough};
 ghost use Rattle.lsm_compactions.specs.Words.{HasMade, HaveEntries, IsFreshRun, RunsHoldLists};
 ghost use Rattle.lsm_compactions.specs.Words.{RunsOn, kept_in, nowhere, writes_fault};
@@ -14,7 +14,7 @@ use lsm_ranges::Run;
 use lsm_readers::Table;
 use lsm_sorted::compaction::Rules;
 use lsm_writers::{FinishedTable, MultiWriter, TableIds, tables_law};
-use sst_blocks::{Error, IterItem};
+use sst_blocks::{Error, Lending};
 use std::alloc::{Allocator, Global};
 use std::sync::Arc;
 
@@ -33,31 +33,31 @@ pub enum CompactionOutcome<A: Allocator = Global> {
     Stopped,
 }
 
-// Writes what a stream deals, as long as each entry may follow the one before it, and finishes.
-// Refused as the stream and the writer are.
-fn write_in_order<I: Iterator<Item = IterItem<A>> + Drop, A: Allocator + Clone>(
-    items: I,
+// Writes what a source lends, as long as each entry may follow the one before it, and finishes.
+// Refused as the source and the writer are.
+fn write_in_order<L: Lending + Drop, A: Allocator + Clone>(
+    mut source: L,
     mut writer: MultiWriter<A>,
 ) -> Result<CompactionOutcome<A>, Error>
     requires fresh { IsFreshRun writer }
     requires next { RunsOn writer }
-    requires can { I.can_next items }
-    requires finite { IsFinite (I.remaining items) }
+    requires can { CanDeal L.advances nowhere L.can_advance L.can_advance source }
     // A list is written whole, or it cannot be written.
-    ensures came { (es : List Entry) → DealsList I.next_gives nowhere es items →
+    ensures came { (es : List Entry) → DealsList L.advances nowhere es source →
         IfOk result (CameInOrder writer es) }
-    ensures refused { (d : DealsWritable I.next_gives items) →
+    ensures refused { (d : DealsWritable L.advances source) →
         Faults result (writes_fault writer d.list) }
-    // Whatever the stream gives, tables are those of a list that can be written.
+    // Whatever the source lends, tables are those of a list that can be written.
     ensures made { IfOk result (HasMade writer) }
     ensures through { IfOk result GoesThrough }
 {
-    for item in items {
-        let item = item?;
-        if !writer.can_follow(&item.key) {
-            return Ok(CompactionOutcome::OutOfOrder);
+    while source.advance()? {
+        if let Some(entry) = source.entry() {
+            if !writer.can_follow_ref(&entry) {
+                return Ok(CompactionOutcome::OutOfOrder);
+            }
+            writer.write_ref(&entry)?;
         }
-        writer.write(item)?;
     }
     let left = writer.table_ids();
     let tables = writer.finish()?;
@@ -65,9 +65,9 @@ fn write_in_order<I: Iterator<Item = IterItem<A>> + Drop, A: Allocator + Clone>(
 }
 
 /// Compacts several runs of any tables that were opened into new tables: what a
-/// [`CompactionStream`](lsm_sorted::compaction::stream::CompactionStream) without a filter keeps of
-/// all their entries together is written by `writer`, in one pass, for as long as it comes in
-/// order. A run without a table is passed over. Nothing is asked of the runs, so that a store may
+/// [`LendingCompaction`](lsm_sorted::compaction::lending::LendingCompaction) keeps of all their
+/// entries together is written by `writer`, in one pass, each entry from where it lies, for as long
+/// as it comes in order. A run without a table is passed over. Nothing is asked of the runs, so that a store may
 /// compact tables of files that it did not verify.
 ///
 /// Where the runs may be given to [`compact_runs`](crate::compact_runs), the answer is the finished
@@ -107,6 +107,6 @@ pub fn compact_any_runs<A: Allocator + Clone>(
 {
     // A list whose tables fit is taken whole.
     tables_law();
-    let stream = kept_of(alloc, runs, rules)?;
-    write_in_order(stream, writer)
+    let kept = kept_of(alloc, runs, rules)?;
+    write_in_order(kept, writer)
 }

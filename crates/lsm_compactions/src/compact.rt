@@ -1,7 +1,6 @@
 //! Compacting several runs into new tables.
 ghost use Rattle.std.specs.Prelude.{◌≡◌, ◌<◌, All, IfErr, IfOk, List, length, map};
 ghost use Rattle.std.specs.Arc.{arc_value};
-ghost use Rattle.std.specs.Iterator.{IsFinite};
 ghost use Rattle.sst_entries.specs.declared.error.Error.TheVariants.{OutOfMemory};
 ghost use Rattle.lsm_compactions.specs.ReadsCompacted.{PointsStay, RangesStay, SideBySide};
 ghost use Rattle.lsm_compactions.specs.ReadsCompacted.{StayStrict, StayWritable};
@@ -12,14 +11,15 @@ ghost use Rattle.lsm_compactions.specs.Words.{DealsWritable, Entry, Faults, Fits
 ghost use Rattle.lsm_compactions.specs.Words.{HoldLists, IsFreshRun, RunsHoldLists, RunsOn, joined};
 ghost use Rattle.lsm_compactions.specs.Words.{kept_in, nowhere, rules_by, writes_fault};
 
-use lsm_merge::Merger;
+use lsm_merge::LendingMerger;
 use lsm_ranges::Run;
 use lsm_readers::Table;
 use lsm_runs::RunScanner;
 use lsm_sorted::compaction::Rules;
-use lsm_sorted::compaction::stream::{CompactionStream, read_law};
+use lsm_sorted::compaction::lending::LendingCompaction;
+use lsm_sorted::compaction::stream::read_law;
 use lsm_writers::{FinishedTable, MultiWriter, TableIds, tables_law};
-use sst_blocks::{Error, IterItem, SeqNo};
+use sst_blocks::{Error, Lending, SeqNo};
 use std::alloc::Allocator;
 use std::sync::Arc;
 
@@ -56,29 +56,27 @@ pub(crate) fn scanners_of<A: Allocator + Clone>(
     Ok(scanners)
 }
 
-// What is kept of all entries of some sources together, in order. It is generic in these, so that
-// none of a scanner's parts is looked at.
-fn kept_from<I: Iterator<Item = IterItem<A>>, A: Allocator + Clone>(
+// What is kept of all entries of some sources together, in order, lent from where they lie. It is
+// generic in these, so that none of a scanner's parts is looked at.
+fn kept_from<L: Lending + Drop, A: Allocator + Clone>(
     alloc: A,
-    sources: Vec<I, A>,
+    sources: Vec<L, A>,
     rules: Rules,
-) -> Result<CompactionStream<Merger<I, A>>, Error>
-    ensures can { All (CanDeal I.next_gives nowhere I.can_next I.can_next) sources.items →
-        All (λ s. IsFinite (I.remaining s)) sources.items →
-        IfOk result ⟦<CompactionStream<Merger<I, A>> as Iterator>⟧.can_next }
-    ensures list { let gives = ⟦<CompactionStream<Merger<I, A>> as Iterator>⟧.next_gives in
+) -> Result<LendingCompaction<LendingMerger<L, A>, A>, Error>
+    ensures can { All (CanDeal L.advances nowhere L.can_advance L.can_advance) sources.items →
+        IfOk result (CanDeal ⟦<LendingCompaction<LendingMerger<L, A>, A> as Lending>⟧.advances
+        nowhere ⟦<LendingCompaction<LendingMerger<L, A>, A> as Lending>⟧.can_advance
+        ⟦<LendingCompaction<LendingMerger<L, A>, A> as Lending>⟧.can_advance) }
+    ensures list { let advances =
+        ⟦<LendingCompaction<LendingMerger<L, A>, A> as Lending>⟧.advances in
         (lists : List (List (List Entry))) →
-        DealTogether I.next_gives nowhere sources.items (map joined lists) →
-        IfOk result (DealsList gives nowhere (kept_in rules lists)) }
+        DealTogether L.advances nowhere sources.items (map joined lists) →
+        IfOk result (DealsList advances nowhere (kept_in rules lists)) }
     ensures err { IfErr result (λ e. e ≡ OutOfMemory) }
 {
-    let merger = Merger::new(alloc, sources)?;
-    let stream = CompactionStream::new(merger, rules.watermark)
-        .evict_tombstones(rules.evict)
-        .zero_seqnos(rules.zeroing);
-    // What it goes through it deals compacted.
-    stream.unfiltered_run();
-    Ok(stream)
+    let own = alloc.clone()?;
+    let merger = LendingMerger::new(own, sources)?;
+    LendingCompaction::new(alloc, merger, rules)
 }
 
 // What is kept of all entries of the runs together, in order where the runs may be merged.
@@ -86,46 +84,49 @@ pub(crate) fn kept_of<A: Allocator + Clone>(
     alloc: A,
     runs: &[Arc<Run<Table<A>, A>, A>],
     rules: Rules,
-) -> Result<CompactionStream<Merger<RunScanner<A>, A>>, Error>
-    ensures can { IfOk result
-        ⟦<CompactionStream<Merger<RunScanner<A>, A>> as Iterator>⟧.can_next }
-    ensures list { let gives =
-        ⟦<CompactionStream<Merger<RunScanner<A>, A>> as Iterator>⟧.next_gives in
+) -> Result<LendingCompaction<LendingMerger<RunScanner<A>, A>, A>, Error>
+    ensures can { IfOk result (CanDeal
+        ⟦<LendingCompaction<LendingMerger<RunScanner<A>, A>, A> as Lending>⟧.advances nowhere
+        ⟦<LendingCompaction<LendingMerger<RunScanner<A>, A>, A> as Lending>⟧.can_advance
+        ⟦<LendingCompaction<LendingMerger<RunScanner<A>, A>, A> as Lending>⟧.can_advance) }
+    ensures list { let advances =
+        ⟦<LendingCompaction<LendingMerger<RunScanner<A>, A>, A> as Lending>⟧.advances in
         (able : AreMergeable (map arc_value runs.now)) →
-        IfOk result (DealsList gives nowhere (kept_in rules able.lists)) }
+        IfOk result (DealsList advances nowhere (kept_in rules able.lists)) }
     ensures err { AreMergeable (map arc_value runs.now) → IfErr result (λ e. e ≡ OutOfMemory) }
 {
     let scanners = scanners_of(alloc.clone()?, runs)?;
     kept_from(alloc, scanners, rules)
 }
 
-// Writes all that a stream deals, and finishes. Refused as the writer is.
-fn write_all<I: Iterator<Item = IterItem<A>> + Drop, A: Allocator + Clone>(
-    items: I,
+// Writes all that a source lends, and finishes. Refused as the writer is.
+fn write_all<L: Lending + Drop, A: Allocator + Clone>(
+    mut source: L,
     mut writer: MultiWriter<A>,
 ) -> Result<(Vec<FinishedTable<A>, A>, TableIds), Error>
     requires fresh { IsFreshRun writer }
     requires next { RunsOn writer }
-    requires can { I.can_next items }
-    requires finite { IsFinite (I.remaining items) }
-    requires deals { DealsWritable I.next_gives items }
-    ensures written { (d : DealsWritable I.next_gives items) →
+    requires can { CanDeal L.advances nowhere L.can_advance L.can_advance source }
+    requires deals { DealsWritable L.advances source }
+    ensures written { (d : DealsWritable L.advances source) →
         IfOk result (λ r. AreWrittenBy writer d.list r.0.items r.1) }
-    // The stream refuses nothing but for want of memory.
-    ensures refused { (d : DealsWritable I.next_gives items) →
+    // The source refuses nothing but for want of memory.
+    ensures refused { (d : DealsWritable L.advances source) →
         Faults result (writes_fault writer d.list) }
 {
-    for item in items {
-        writer.write(item?)?;
+    while source.advance()? {
+        if let Some(entry) = source.entry() {
+            writer.write_ref(&entry)?;
+        }
     }
     let left = writer.table_ids();
     let tables = writer.finish()?;
     Ok((tables, left))
 }
 
-/// Compacts several runs into new tables: what a [`CompactionStream`] without a filter keeps of all
-/// their entries together is written by `writer`, in one pass. Answers the finished tables, none
-/// where nothing is kept, and the writer's counter of ids behind them.
+/// Compacts several runs into new tables: what a [`LendingCompaction`] keeps of all their entries
+/// together is written by `writer`, in one pass, each entry from where it lies. Answers the finished
+/// tables, none where nothing is kept, and the writer's counter of ids behind them.
 ///
 /// Refused as [`MultiWriter::write`] and [`MultiWriter::finish`] are, and [`Error::OutOfMemory`].
 /// Whatever is answered, the runs are as they were. Conditions: `writer` has written nothing; the
@@ -161,8 +162,8 @@ pub fn compact_runs<A: Allocator + Clone>(
         evict: evict_tombstones,
         zeroing: zero_seqnos,
     };
-    let stream = kept_of(alloc, runs, rules)?;
-    write_all(stream, writer)
+    let kept = kept_of(alloc, runs, rules)?;
+    write_all(kept, writer)
 }
 
 /// Laws of reads of several runs where a part of them is compacted, without a filter, and the rest

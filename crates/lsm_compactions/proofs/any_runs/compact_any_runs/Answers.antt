@@ -22,32 +22,32 @@ use Rattle.lsm_compactions.proofs.any_runs.compact_any_runs.Goals as goal
 pub write_in_order-requires : goal.write_in_order-requires
 write_in_order-requires g c =
     let next : RunsOn c.args.writer = subst RunsOn c.writer.view_is (c.writer.invariant (ap (λ (w : TablesWriting). w.failed) c.writer.view_is ∙ c.requires.fresh.2)).next in
-    record { fresh = c.requires.fresh; next = next; can = c.in_ok-stream.ensures.can; finite = tt }
+    record { fresh = c.requires.fresh; next = next; can = c.in_ok-kept.ensures.can }
 
-pub returns-in_err-stream-clause-refused : goal.returns-in_err-stream-clause-refused
-returns-in_err-stream-clause-refused g c able lists held =
-    faults_memory c.from_residual.result c.in_err-stream.field-0.0 _ c.from_residual.ensures.1 (c.in_err-stream.ensures.err (merged_as able))
+pub returns-in_err-kept-clause-refused : goal.returns-in_err-kept-clause-refused
+returns-in_err-kept-clause-refused g c able lists held =
+    faults_memory c.from_residual.result c.in_err-kept.field-0.0 _ c.from_residual.ensures.1 (c.in_err-kept.ensures.err (merged_as able))
 
-pub returns-in_err-stream-clause-taken : goal.returns-in_err-stream-clause-taken
-returns-in_err-stream-clause-taken g c able lists held fits =
-    wants c.from_residual.result c.in_err-stream.field-0.0 c.from_residual.ensures.1 (c.in_err-stream.ensures.err (merged_as able))
+pub returns-in_err-kept-clause-taken : goal.returns-in_err-kept-clause-taken
+returns-in_err-kept-clause-taken g c able lists held fits =
+    wants c.from_residual.result c.in_err-kept.field-0.0 c.from_residual.ensures.1 (c.in_err-kept.ensures.err (merged_as able))
 
 pub returns-clause-tables : goal.returns-clause-tables
 returns-clause-tables g c able lists held =
     let rules = c.args.rules in
     subst (λ (ls : List (List (List Entry))). IfOk c.write_in_order.result (AreTablesBy c.args.writer (kept_in rules ls))) (one_way (map arc_value c.args.runs.now) able.lists lists able.hold held)
     (in_order_whole c.write_in_order.result c.args.writer (kept_in rules able.lists) (stays_writable rules (union_in able.lists) able.writable)
-    (c.write_in_order.ensures.came (kept_in rules able.lists) (c.in_ok-stream.ensures.list (merged_as able))))
+    (c.write_in_order.ensures.came (kept_in rules able.lists) (c.in_ok-kept.ensures.list (merged_as able))))
 
 pub returns-clause-merged : goal.returns-clause-merged
 returns-clause-merged g c lists held some =
-    c.write_in_order.ensures.came (kept_in c.args.rules lists) (c.in_ok-stream.ensures.list (record { lists = lists; hold = held; some = some }))
+    c.write_in_order.ensures.came (kept_in c.args.rules lists) (c.in_ok-kept.ensures.list (record { lists = lists; hold = held; some = some }))
 
 pub returns-clause-refused : goal.returns-clause-refused
 returns-clause-refused g c able lists held =
     let rules = c.args.rules in
     subst (λ (ls : List (List (List Entry))). Faults c.write_in_order.result (writes_fault c.args.writer (kept_in rules ls))) (one_way (map arc_value c.args.runs.now) able.lists lists able.hold held)
-    (c.write_in_order.ensures.refused (record { list = kept_in rules able.lists; writable = stays_writable rules (union_in able.lists) able.writable; deals = c.in_ok-stream.ensures.list (merged_as able) }))
+    (c.write_in_order.ensures.refused (record { list = kept_in rules able.lists; writable = stays_writable rules (union_in able.lists) able.writable; deals = c.in_ok-kept.ensures.list (merged_as able) }))
 
 pub returns-clause-taken : goal.returns-clause-taken
 returns-clause-taken g c able lists held fits =

@@ -5,7 +5,7 @@ use Rattle.lsm_compactions.proofs.compact.kept_of.Goals as goal
 pub returns-clause-can : goal.returns-clause-can
 returns-clause-can g c =
     let scanners = c.in_ok-scanners.scanners.items in
-    c.kept_from.ensures.can (all_of _ scan_asked scanners) (all_of _ (λ s. tt) scanners)
+    c.kept_from.ensures.can (all_of _ scan_asked scanners)
 
 pub returns-clause-list : goal.returns-clause-list
 returns-clause-list g c able = c.kept_from.ensures.list able.lists (c.in_ok-scanners.ensures.list able)
