@@ -135,11 +135,11 @@ entries_ok (x ∷ xs) = ap (λ (ys : List Entry). x ∷ ys) (entries_ok xs)
 
 -- ---- one call of the source
 
-begins : (r : R) (rs : List R) → Some r ≡ first rs → rs ≡ r ∷ but_first rs
+pub begins : (r : R) (rs : List R) → Some r ≡ first rs → rs ≡ r ∷ but_first rs
 begins r [] e = cc
 begins r (q ∷ rs) e = cc
 
-is_nothing : (rs : List R) → None ≡ first rs → rs ≡ []
+pub is_nothing : (rs : List R) → None ≡ first rs → rs ≡ []
 is_nothing [] e = refl
 is_nothing (r ∷ rs) e = cc
 

@@ -24,3 +24,5 @@ pub mod ReadLemmas
 pub mod KeptLemmas
 pub mod PartLemmas
 pub mod LentNewestLemmas
+pub mod LentOutsLemmas
+pub mod LentCompactionLemmas

@@ -13,6 +13,7 @@ pub mod Compacting
 pub mod Verdicts
 pub mod Ahead
 pub mod CompactionState
+pub mod LentCompaction
 pub mod ReadLaw
 pub mod Words
 pub use Rattle.lsm_ranges.specs.KeyRange

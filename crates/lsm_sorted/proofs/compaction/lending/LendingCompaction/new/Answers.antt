@@ -1,0 +1,17 @@
+-- A fresh compaction.
+use Rattle.std.proofs.Common.{refl}
+use Rattle.lsm_sorted.proofs.LentCompactionLemmas.{deals_compacted_results, deals_compacted_entries}
+use Rattle.lsm_sorted.proofs.LentCompactionLemmas.{can_compacted}
+use Rattle.lsm_sorted.proofs.compaction.lending.LendingCompaction.new.Goals as goal
+
+pub returns-clause-places : goal.returns-clause-places
+returns-clause-places g c =
+    deals_compacted_results g.L.Lending.advances g.L.Lending.lent g.L.Lending.can_advance _ c.args.rules refl refl refl refl
+
+pub returns-clause-kept : goal.returns-clause-kept
+returns-clause-kept g c =
+    deals_compacted_entries g.L.Lending.advances g.L.Lending.lent g.L.Lending.can_advance _ c.args.rules refl refl refl refl
+
+pub returns-clause-can : goal.returns-clause-can
+returns-clause-can g c may =
+    can_compacted g.L.Lending.advances g.L.Lending.lent g.L.Lending.can_advance _ c.args.rules may
