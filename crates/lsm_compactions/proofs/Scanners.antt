@@ -1,8 +1,7 @@
 -- Scanners of several runs: what they deal together, merged.
 use Rattle.std.proofs.Common.{◌≡◌, refl, sym, ◌∙◌, ap, subst, ℕ, zero, suc, ◌+◌, ◌-◌, ◌<◌, ◌≤◌}
-use Rattle.std.proofs.Common.{Bool, true, false, List, [], ◌∷◌, ◌++◌, get_or, length, take, arith}
+use Rattle.std.proofs.Common.{Bool, false, List, [], ◌∷◌, ◌++◌, get_or, length, take, arith}
 use Rattle.std.specs.Prelude.{Option, Some, None, Result, Ok, Err, IfErr, map}
-use Rattle.std.specs.Iterator.{Count}
 use Rattle.std.specs.List.{AllByRecursion, slice_get}
 use Rattle.std.proofs.lemmas.List.{take_all, length-map}
 use Rattle.std.proofs.lemmas.Simd.{map-map}
@@ -13,7 +12,7 @@ use Rattle.sst_entries.specs.Entry.{Entry}
 use Rattle.sst_entries.specs.Error.{is_memory}
 use Rattle.sst_entries.specs.Stream.{CanDeal, Deals, answer_stops, first, nowhere, ok_results}
 use Rattle.lsm_formats.specs.Chunks.{joined}
-use Rattle.lsm_merge.specs.Ends.{Goes, R}
+use Rattle.lsm_merge.specs.Ends.{R}
 use Rattle.lsm_merge.specs.MergeLaws.{DealSorted, DealsMerged}
 use Rattle.lsm_merge.specs.Union.{Ascends, all_entries, sort_entries, union_of}
 use Rattle.lsm_writers.proofs.Refused.{memory_alone}
@@ -23,9 +22,7 @@ use Rattle.lsm_readers.specs.Table.{OpenTable}
 use Rattle.lsm_sorted.specs.declared.ahead.Ahead.{Ahead}
 use Rattle.lsm_sorted.specs.declared.compaction.stream.CompactionStream.{CompactionStream}
 use Rattle.lsm_sorted.specs.Ahead.{HoldsAhead}
-use Rattle.lsm_sorted.specs.declared.compaction.Rules.{Rules}
-use Rattle.lsm_sorted.specs.Compaction.{kept, unfiltered}
-use Rattle.lsm_sorted.specs.CompactionState.{Compacts, DealsKept, MayCompact, rules_of, source_of}
+use Rattle.lsm_sorted.specs.CompactionState.{Compacts, source_of}
 use Rattle.lsm_compactions.specs.Compacted.{AreMergeable, HaveEntries}
 use Rattle.lsm_runs.specs.RunLists.{DealTogether, DealsList, HoldLists}
 use Rattle.lsm_runs.specs.RunParts.{ends_given, range_of}
@@ -166,28 +163,9 @@ module _ {S T : Type 0} (front back : S → Option R → S → Type 0)
 -- ---- and compacted
 
 module _ {S F C : Type 0} (front : S → Option R → S → Type 0) where
-  -- a stream over the source of another may be called as that one may
-  pub may_still : {G D : Type 0} (can : S → Type 0) (left : S → Count)
-      (s : CompactionStream S F C R) (u : CompactionStream S G D R) → source_of s ≡ source_of u
-      → MayCompact front can left u → MayCompact front can left s
-  may_still can left s u same may = subst (λ (a : Ahead S R). Goes front nowhere can can left
-      a.source) (sym same) may
-
-  -- it goes through the same list
+  -- a stream over the source of another goes through the same list
   pub compacts_still : {G D : Type 0} (stops : Error → Bool) (xs : List R)
       (s : CompactionStream S F C R) (u : CompactionStream S G D R) → source_of s ≡ source_of u
       → Compacts stops front u xs → Compacts stops front s xs
   compacts_still stops xs s u same has =
       subst (λ (a : Ahead S R). HoldsAhead stops front a xs) (sym same) has
-
-  -- and deals, by its own rules
-  pub compacted_deals : (next : CompactionStream S F C R → Option R → CompactionStream S F C R
-      → Type 0) (s u : CompactionStream S F C R) (rules : Rules) (xs : List Entry)
-      → source_of s ≡ source_of u → rules_of s ≡ rules
-      → ((stops : Error → Bool) → stops OutOfMemory ≡ true → Compacts stops front u (ok_results xs))
-      → DealsKept front next s → DealsList next nowhere (kept rules (unfiltered xs)) s
-  compacted_deals next s u rules xs same is holds law stops memory =
-      subst (λ (r : Rules). Deals (answer_stops stops) next nowhere s
-      (ok_results (kept r (unfiltered xs)))) is
-      (law stops xs (subst (λ (a : Ahead S R). HoldsAhead stops front a (ok_results xs)) (sym same)
-      (holds stops memory)))

@@ -1,6 +1,6 @@
 -- The newest version of each key of a source that lends.
-use Rattle.std.specs.Prelude.{◌≡◌, ℕ, Bool, true, false, cond, not, List, [], ◌∷◌, filter, Option}
-use Rattle.std.specs.Prelude.{Some, None, Ok, Err}
+use Rattle.std.specs.Prelude.{◌≡◌, ◌⊎◌, ℕ, Bool, true, false, cond, not, List, [], ◌∷◌, filter}
+use Rattle.std.specs.Prelude.{Option, Some, None, Ok, Err}
 use Rattle.sst_entries.specs.Entry.{Entry}
 use Rattle.sst_entries.specs.Key.{same_key}
 use Rattle.sst_entries.specs.Stream.{CanDeal, Deals, DealsFirst, answer_stops, nowhere, ok_results}
@@ -59,12 +59,20 @@ pub record LeavesNewest {S A : Type 0} (stops : Error → Bool) (advances : S �
   pub has : Deals (answer_stops stops) advances nowhere s.source rest
   pub is : ys ≡ news (last_key s) rest
 
+-- an error is the one that the source has just answered, or want of memory that ends it
+abbrev pub ErrsOrEnds : {S A : Type 0} → (S → Option R → S → Type 0) → Error → LendingNewest S A
+    → Type 0
+ErrsOrEnds {S} advances e t = ((before : S) × advances before (Some (Err e)) t.source)
+    ⊎ ((e ≡ OutOfMemory) × (t.is_over ≡ true))
+
 -- one call: it may be asked again, and where s stands for a list, what came is the first of it, up
--- to an error that stops the source, and t stands for the others
+-- to an error that stops the source, and t stands for the others. Once it is over, nothing comes
 pub record AdvancesNewest {S : Type 0} (advances : S → Option R → S → Type 0) (can : S → Type 0)
     {A : Type 0} (s : LendingNewest S A) (r : Option R) (t : LendingNewest S A) : Type 0 where
   pub may : MayNewest advances can t
   pub gives : (stops : Error → Bool) → DealsFirst stops (LeavesNewest stops advances) s r t
+  pub faults : (e : Error) → r ≡ Some (Err e) → ErrsOrEnds advances e t
+  pub over : s.is_over ≡ true → (r ≡ None) × (t.is_over ≡ true)
 
 module _ {S T : Type 0} (advances : S → Option R → S → Type 0) (source : S)
     (next : T → Option R → T → Type 0) (t : T) where

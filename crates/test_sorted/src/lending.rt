@@ -1,6 +1,9 @@
 //! Newest versions and compactions that lend, beside those by value, over the same lists.
 ghost use Rattle.sst_entries.specs.Stream.{CanDeal, nowhere};
 
+use lsm_sorted::compaction::Rules;
+use lsm_sorted::compaction::lending::LendingCompaction;
+use lsm_sorted::compaction::stream::CompactionStream;
 use lsm_sorted::{LendingNewest, MvccStream};
 use sst_entries::{Error, IterItem, Lending, ValueType};
 use std::alloc::Global;
@@ -48,6 +51,34 @@ fn newest_versions_that_lend_are_those_by_value(rt: HostRuntime) {
                 matches!(newest_agree(rt.alloc(), seed, count), Ok(true)),
                 "{count} entries by {seed}"
             );
+        }
+    }
+}
+
+// Whether a compaction of a list keeps the same.
+fn compactions_agree(alloc: Global, seed: u64, count: u8, rules: Rules) -> Result<bool, Error> {
+    let by_value = CompactionStream::new(list_of(alloc, seed, count)?.into_iter(), rules.watermark)
+        .evict_tombstones(rules.evict)
+        .zero_seqnos(rules.zeroing);
+    let lending = LendingCompaction::new(alloc, lent_list(list_of(alloc, seed, count)?), rules)?;
+    agree(by_value, lending, usize::from(count) + 2)
+}
+
+#[test]
+fn compactions_that_lend_keep_what_those_by_value_keep(rt: HostRuntime) {
+    for watermark in [0u64, 8, 16, 40] {
+        for flags in 0..4u8 {
+            for seed in 1..=6u64 {
+                let rules = Rules {
+                    watermark,
+                    evict: flags & 1 != 0,
+                    zeroing: flags & 2 != 0,
+                };
+                assert!(rt;
+                    matches!(compactions_agree(rt.alloc(), seed, 60, rules), Ok(true)),
+                    "{watermark} {flags} by {seed}"
+                );
+            }
         }
     }
 }

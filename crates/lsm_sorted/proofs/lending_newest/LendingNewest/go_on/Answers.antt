@@ -1,12 +1,15 @@
 -- On to the next entry of another key.
-use Rattle.std.proofs.Common.{◌≡◌, ℕ, List, true, false, sym, ◌∙◌, subst, arith}
-use Rattle.std.specs.Prelude.{Option}
+use Rattle.std.proofs.Common.{◌≡◌, ℕ, List, true, false, refl, sym, ◌∙◌, subst, arith, inl}
+use Rattle.std.proofs.Common.{inr}
+use Rattle.std.specs.Prelude.{Option, Some, Err}
+use Rattle.sst_entries.specs.declared.error.Error.{Error}
 use Rattle.std.proofs.lemmas.Result.{err_from_is_err_and}
 use Rattle.sst_entries.specs.Stream.{CanDeal, nowhere}
 use Rattle.sst_entries.proofs.StreamLemmas.{can_front, can_now}
 use Rattle.lsm_sorted.specs.LentNewest.{is_other, last_key}
 use Rattle.lsm_sorted.proofs.LentNewestLemmas.{still_skips, gives_kept, gives_end, gives_fault, gives_memory}
-use Rattle.lsm_sorted.proofs.LentNewestLemmas.{last_same, lowers_le}
+use Rattle.lsm_merge.proofs.LentSteps.{no_error}
+use Rattle.lsm_sorted.proofs.LentNewestLemmas.{last_same, lowers_le, same_fault}
 use Rattle.lsm_sorted.proofs.lending_newest.LendingNewest.go_on.Goals as goal
 
 pub advance-requires : goal.advance-requires
@@ -23,6 +26,8 @@ returns-in_err-advance-clause-goes g c =
       may = can_front g.L.Lending.advances nowhere can can m.source _ c.advance.new.self before.may c.in_err-advance.ensures.goes;
       gives = λ stops. gives_fault stops g.L.Lending.advances g.L.Lending.lent c.args.self.now _ m.source (before.still stops) (before.live ∙ c.requires.live)
           (last_same m c.args.self.now before.key before.has) c.in_err-advance.field-0.0 c.in_err-advance.ensures.goes;
+      faults = λ e is. inl (m.source, subst (λ (e : Error). g.L.Lending.advances m.source (Some (Err e)) c.advance.new.self) (same_fault c.in_err-advance.field-0.0 e _ refl is) c.in_err-advance.ensures.goes);
+      over = λ o. let no : false ≡ true = sym c.requires.live ∙ o in absurd cc;
     })
 
 pub returns-in-Err-clause-goes : goal.returns-in-Err-clause-goes
@@ -33,6 +38,8 @@ returns-in-Err-clause-goes g c =
       may = subst (CanDeal g.L.Lending.advances nowhere can can) (sym c.in-Err.ensures.source)
           (can_front g.L.Lending.advances nowhere can can c.loop-self.self.source _ c.advance.new.self before.may c.in_ok-advance.ensures.goes);
       gives = λ stops. gives_memory stops g.L.Lending.advances c.args.self.now _ c.in-Err.error c.in-Err.ensures.err;
+      faults = λ e is. inr (sym (same_fault c.in-Err.error e _ refl is) ∙ c.in-Err.ensures.err, refl);
+      over = λ o. let no : false ≡ true = sym c.requires.live ∙ o in absurd cc;
     }
 
 pub returns-then-is_other-clause-goes : goal.returns-then-is_other-clause-goes
@@ -50,6 +57,8 @@ returns-then-is_other-clause-goes g c =
           (can_front g.L.Lending.advances nowhere can can m.source _ t before.may c.in_ok-advance.ensures.goes);
       gives = λ stops. gives_kept stops g.L.Lending.advances lent c.args.self.now c.remember.new.self m.source (before.still stops) (c.in_default.ensures.over ∙ before.live ∙ c.requires.live)
           t c.in_default.ensures.source c.in_ok-advance.field-0 c.in_default.ensures.has c.in_ok-advance.ensures.more c.if-branch.true other c.in_default.ensures.key c.in_ok-advance.ensures.goes;
+      faults = λ e is. absurd (no_error _ e is);
+      over = λ o. let no : false ≡ true = sym c.requires.live ∙ o in absurd cc;
     }
 
 pub loop-self-preserved : goal.loop-self-preserved
@@ -80,4 +89,6 @@ returns-clause-goes g c =
       may = can_front g.L.Lending.advances nowhere can can m.source _ c.advance.new.self before.may c.in_ok-advance.ensures.goes;
       gives = λ stops. gives_end stops g.L.Lending.advances g.L.Lending.lent c.args.self.now _ m.source (before.still stops) (before.live ∙ c.requires.live)
           (last_same m c.args.self.now before.key before.has) c.in_ok-advance.field-0 c.in_ok-advance.ensures.more c.if-branch.false c.in_ok-advance.ensures.goes;
+      faults = λ e is. absurd (no_error _ e is);
+      over = λ o. let no : false ≡ true = sym c.requires.live ∙ o in absurd cc;
     }
