@@ -8,6 +8,7 @@ pub use lsm_merge::{LendingMerger, Merger};
 pub use lsm_ranges::{KeyRange, Ranged, Run, optimize_runs, overlap_chain};
 pub use lsm_runs::share;
 pub use lsm_sorted::compaction::Rules;
+pub use lsm_sorted::compaction::lending::LendingCompaction;
 pub use lsm_sorted::compaction::stream::{
     CompactionStream, DroppedKvCallback, NoCallback, NoFilter, StreamFilter, StreamFilterVerdict,
 };

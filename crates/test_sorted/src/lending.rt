@@ -1,6 +1,5 @@
 //! Newest versions and compactions that lend, beside those by value, over the same lists.
-ghost use Rattle.sst_entries.specs.Stream.{CanDeal, nowhere};
-
+use crate::words::{lends_so, results_of};
 use lsm_sorted::compaction::Rules;
 use lsm_sorted::compaction::lending::LendingCompaction;
 use lsm_sorted::compaction::stream::CompactionStream;
@@ -80,5 +79,53 @@ fn compactions_that_lend_keep_what_those_by_value_keep(rt: HostRuntime) {
                 );
             }
         }
+    }
+}
+
+const EVICT: u8 = 1;
+
+const ZERO: u8 = 2;
+
+// Whether a compaction for readers at 5 lends so of the results that a text spells.
+fn compacts(alloc: Global, results: &str, flags: u8, wanted: &str) -> Result<bool, Error> {
+    let rules = Rules {
+        watermark: 5,
+        evict: flags & EVICT != 0,
+        zeroing: flags & ZERO != 0,
+    };
+    let source = lent_list(results_of(alloc, results)?);
+    Ok(lends_so(LendingCompaction::new(alloc, source, rules)?, wanted))
+}
+
+// Results, how they are compacted, and what is lent of them.
+const COMPACTED: &[(&str, u8, &str)] = &[
+    ("", 0, "- -"),
+    ("aV9 aV4 aV3 bV1", 0, "aV9 aV4 bV1 - -"),
+    ("aV9 aV4 aV3 bV1", ZERO, "aV9 aV0 bV0 -"),
+    // An error stands behind the entry before it, and hides nothing.
+    ("aV9 aV4 !7 aV3 bV1", 0, "aV9 aV4 !7 aV3 bV1 -"),
+    // A weak tombstone goes where it hides a value, and stays before any other version.
+    ("aW4 aV3 aV2 bV1", 0, "bV1 -"),
+    ("aW4 aT3 aV2 bV1", 0, "aW4 bV1 -"),
+    ("aW4 bV1", 0, "aW4 bV1 -"),
+    ("aW4 bV1", EVICT, "bV1 -"),
+    ("aW4x bV1", ZERO, "aW0x bV0 -"),
+    // It waits for what follows, so an error takes its place.
+    ("aW4 !7 aV3", 0, "!7 aV3 -"),
+    // Under eviction a tombstone goes where no version follows it, or where it hides them.
+    ("aT4 aV3 bV1", EVICT, "bV1 -"),
+    ("aT9 aV4 bV1", EVICT, "aT9 aV4 bV1 -"),
+    ("aT9 bV1", EVICT, "bV1 -"),
+    ("aT9 !7 bV1", EVICT, "!7 bV1 -"),
+    ("aT9 aT8 aT7", EVICT, "aT9 aT8 -"),
+];
+
+#[test]
+fn lends_what_is_kept_and_errors_in_their_places(rt: HostRuntime) {
+    for &(results, flags, wanted) in COMPACTED {
+        assert!(rt;
+            matches!(compacts(rt.alloc(), results, flags, wanted), Ok(true)),
+            "{results} by {flags}"
+        );
     }
 }

@@ -6,8 +6,11 @@
 ghost use Rattle.std.specs.Iterator.{IsFinite};
 ghost use Rattle.sst_entries.specs.Stream.{CanDeal, nowhere};
 
-use sst_entries::{Direction, Error, InternalValue, IterItem, Slice, ValueType, answer_at};
+use sst_entries::{
+    Direction, EntryRef, Error, InternalValue, IterItem, Lending, Slice, ValueType, answer_at,
+};
 use std::alloc::Allocator;
+use test_lent::go_on;
 
 /// What a word says: a key or the sign before a number, the letter of a kind, a number, and a
 /// value. What is not there is 0.
@@ -20,8 +23,8 @@ fn slice_of<A: Allocator + Copy>(alloc: A, byte: u8) -> Result<Slice<A>, Error> 
     Slice::from(alloc, &[byte])
 }
 
-fn byte_of<A: Allocator>(bytes: &Slice<A>) -> u8 {
-    match bytes.as_slice() {
+fn byte_of(bytes: &[u8]) -> u8 {
+    match bytes {
         [byte, ..] => *byte,
         [] => 0,
     }
@@ -140,24 +143,57 @@ fn letter_of(kind: ValueType) -> u8 {
     }
 }
 
+// What is said of an entry that is lent.
+fn said_of_lent(entry: &EntryRef<'_>) -> Said {
+    (
+        byte_of(entry.user_key),
+        letter_of(entry.value_type),
+        entry.seqno,
+        byte_of(entry.value),
+    )
+}
+
 /// What is said of an entry.
 pub fn said_of_entry<A: Allocator>(entry: &InternalValue<A>) -> Said {
-    (
-        byte_of(&entry.key.user_key),
-        letter_of(entry.key.value_type),
-        entry.key.seqno,
-        byte_of(&entry.value),
-    )
+    said_of_lent(&entry.as_entry_ref())
+}
+
+// What is said of an error.
+fn said_of_error(error: &Error) -> Said {
+    match error {
+        Error::Source(code) => (b'!', 0, *code, 0),
+        error => (b'?', 0, u64::from(error.number()), 0),
+    }
 }
 
 // What is said of an answer.
 fn said_of<A: Allocator>(answer: &Option<IterItem<A>>) -> Said {
     match answer {
         Some(Ok(entry)) => said_of_entry(entry),
-        Some(Err(Error::Source(code))) => (b'!', 0, *code, 0),
-        Some(Err(error)) => (b'?', 0, u64::from(error.number()), 0),
+        Some(Err(error)) => said_of_error(error),
         None => (b'-', 0, 0, 0),
     }
+}
+
+// What is said of the answer of what lends.
+fn said_of_step(more: Result<bool, Error>, lent: Option<EntryRef<'_>>) -> Said {
+    match (more, lent) {
+        (Err(error), _) => said_of_error(&error),
+        (Ok(_), Some(entry)) => said_of_lent(&entry),
+        (Ok(_), None) => (b'-', 0, 0, 0),
+    }
+}
+
+/// Whether what lends answers so first.
+pub fn lends_so<L: Lending + Drop>(mut source: L, wanted: &str) -> bool
+    requires { CanDeal L.advances nowhere L.can_advance L.can_advance source }
+{
+    let mut is_right = true;
+    for word in wanted.split_whitespace() {
+        let more = go_on(&mut source);
+        is_right &= said_by(word) == said_of_step(more, source.entry());
+    }
+    is_right
 }
 
 // Whether there is a word, which says an answer.
