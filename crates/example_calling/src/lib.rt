@@ -1,18 +1,21 @@
 //! What a caller proves of calls of its own, where it names the one crate `logpurple`: a read of a
-//! table that stores a list, a list that is written, opened and read, and a loop over what several
-//! runs have below a number. The reads need no proof file, and the loop one invariant.
+//! table that stores a list, a list that is written, opened and read, a table of any bytes that is
+//! verified and read, runs that are compacted, and a loop over what several runs have below a
+//! number. The reads need no proof file, the compaction one law, and the loop one invariant.
 #![tactic(auto)]
 
-ghost use Rattle.std.specs.Prelude.{◌≡◌, ◌-◌, ◌^◌, [], IfOk, List, MatchOption};
+ghost use Rattle.std.specs.Prelude.{◌≡◌, ◌-◌, ◌^◌, ◌≤◌, [], IfOk, List, MatchOption, ℕ};
 ghost use Rattle.std.specs.Prelude.{length, map, min};
 ghost use Rattle.std.specs.Arc.{arc_value};
 ghost use Rattle.std.specs.Iterator.{IsFinite};
-ghost use Rattle.logpurple.specs.Words.{DealsList, Entry, IsWritable};
+ghost use Rattle.std.specs.Option.{option_map_or};
+ghost use Rattle.logpurple.specs.Words.{AreCompactable, DealsList, Entry, IsRunOfList, IsWritable};
 ghost use Rattle.logpurple.specs.Words.{RunsHoldLists, StoresList, newest, numbered_below, point};
-ghost use Rattle.logpurple.specs.Words.{union_in};
+ghost use Rattle.logpurple.specs.Words.{ids_behind, seen, union_in};
 
 use logpurple::{
-    Error, InternalValue, IterItem, Run, SeqNo, Table, Timestamp, range_runs_at, write_and_open,
+    Error, InternalValue, IterItem, Rules, Run, SeqNo, Table, TableIds, Timestamp, VerifyError,
+    compact_to_run, range_runs_at, write_and_open,
 };
 use std::alloc::Allocator;
 use std::ops::Bound;
@@ -47,6 +50,53 @@ pub fn write_and_find<A: Allocator + Clone>(
         None => Ok(None),
         Some(table) => Ok(Some(table.get_by_key(key, seqno)?)),
     }
+}
+
+/// The first entry of a key numbered below `seqno`, of a table of any bytes that was opened without
+/// a global number. All of it is verified first: where a read is answered, its bytes store a list,
+/// and the answer is that list's. Refused as [`Table::verify`] is.
+pub fn verify_and_find<A: Allocator + Clone>(
+    table: &Table<A>,
+    key: &[u8],
+    seqno: SeqNo,
+) -> Result<Option<InternalValue<A>>, VerifyError>
+    requires { table.now.global_seqno ≡ 0 }
+    ensures { IfOk result (λ found. (es : List Entry) × StoresList table.now.bytes es ×
+        (found ≡ point es key.now seqno)) }
+{
+    table.verify()?;
+    match table.get_by_key(key, seqno) {
+        Ok(found) => Ok(found),
+        // A table that stores a list refuses a read for want of memory alone.
+        Err(_) => Err(VerifyError::OutOfMemory),
+    }
+}
+
+/// Compacts runs into one, none where nothing is kept, and answers the counter of ids behind its
+/// tables. Readers at `watermark` and above see in it what they saw in the runs together.
+pub fn compact_below<A: Allocator + Clone>(
+    alloc: A,
+    runs: &[Arc<Run<Table<A>, A>, A>],
+    watermark: SeqNo,
+    ids: TableIds,
+    target: u64,
+) -> Result<(Option<Run<Table<A>, A>>, TableIds), Error>
+    requires { AreCompactable (map arc_value runs.now) }
+    ensures seen { (lists : List (List (List Entry))) →
+        RunsHoldLists (map arc_value runs.now) lists →
+        IfOk result (λ r. (es : List Entry) ×
+        MatchOption r.0 (es ≡ []) (λ run. IsRunOfList es 0 run) ×
+        ((key : List ℕ) (bound : ℕ) → watermark ≤ bound →
+        seen es key bound ≡ seen (union_in lists) key bound)) }
+    ensures ids { IfOk result (λ r. r.1 ≡ ids_behind ids target (option_map_or length r.0 0)) }
+{
+    let rules = Rules {
+        watermark,
+        evict: true,
+        zeroing: false,
+    };
+    let made = compact_to_run(alloc, runs, rules, ids, target, Timestamp::from(0))?;
+    Ok(made)
 }
 
 /// How many keys several runs have, by versions numbered below `seqno`, up to `u64::MAX`.

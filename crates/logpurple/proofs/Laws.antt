@@ -22,6 +22,7 @@ pub use Rattle.lsm_merge.proofs.Pairs.{strict_from}
 pub use Rattle.lsm_merge.proofs.UnionLemmas.{ascends_in_order}
 pub use Rattle.lsm_sorted.proofs.KeptLemmas.{all_kept, zeroed_below}
 pub use Rattle.lsm_sorted.proofs.PartLemmas.{reads_alike_of_part}
+pub use Rattle.lsm_sorted.proofs.ReadLemmas.{reads_alike}
 pub use Rattle.lsm_iters.proofs.Cuts.{all_within}
 pub use Rattle.lsm_ranges.specs.Run.{are_in_order}
 pub use Rattle.lsm_readers.specs.Stored.{fits_told}

@@ -3,6 +3,7 @@
 pub use Rattle.sst_entries.specs.Entry.{Entry, entry}
 pub use Rattle.sst_entries.specs.Error.{Faults, FaultsFirst, Gives, Refuses, is_memory, number_of}
 pub use Rattle.sst_entries.specs.Key.{same_key}
+pub use Rattle.sst_entries.specs.Kind.{is_weak_kind}
 pub use Rattle.sst_entries.specs.Point.{is_from, is_hit, is_to, read_place, within}
 unfoldable pub use Rattle.sst_entries.specs.Point.{point}
 pub use Rattle.sst_entries.specs.Span.{front_length}
@@ -24,7 +25,7 @@ pub use Rattle.lsm_sorted.specs.Point.{seen, shown}
 pub use Rattle.lsm_sorted.specs.ReadLaw.{AllNewer, Distinct}
 pub use Rattle.lsm_sorted.specs.declared.compaction.Rules.{Rules}
 pub use Rattle.lsm_formats.specs.Chunks.{joined}
-pub use Rattle.lsm_formats.specs.Facts.{highest_seqno}
+pub use Rattle.lsm_formats.specs.Facts.{highest_seqno, is_weak}
 pub use Rattle.lsm_formats.specs.Options.{default_options, label_of}
 pub use Rattle.lsm_formats.specs.Table.{IsTable}
 pub use Rattle.lsm_formats.specs.declared.label.Label.{Label}
@@ -35,13 +36,13 @@ pub use Rattle.lsm_readers.specs.Stored.{BearsOut, StoresList}
 pub use Rattle.lsm_readers.specs.Table.{OpenTable}
 pub use Rattle.lsm_readers.specs.Verification.{bytes_read, steps_of, verifying}
 pub use Rattle.lsm_runs.specs.RunLists.{DealWithin, DealsList, HoldLists, HoldsList, RunsHoldLists}
-pub use Rattle.lsm_runs.specs.RunLists.{single}
+pub use Rattle.lsm_runs.specs.RunLists.{DealTogether, single}
 pub use Rattle.lsm_runs.specs.RunParts.{range_of}
 pub use Rattle.lsm_runs.specs.SeveralRuns.{leading_of, runs_told, union_in}
 pub use Rattle.lsm_compactions.specs.AnyRuns.{AreTablesBy, CameInOrder, GoesThrough, HasMade}
 pub use Rattle.lsm_compactions.specs.AnyRuns.{WritesSome}
 pub use Rattle.lsm_compactions.specs.Chain.{AreCutOf, FitsAsTables, IsRunOfList, chain_fault}
-pub use Rattle.lsm_compactions.specs.Chain.{run_label, tables_fault}
+pub use Rattle.lsm_compactions.specs.Chain.{ids_behind, run_label, tables_fault}
 pub use Rattle.lsm_compactions.specs.Compacted.{AreCompactable, AreMergeable, AreWrittenBy}
 pub use Rattle.lsm_compactions.specs.Compacted.{HaveEntries, kept_in, rules_by}
 pub use Rattle.lsm_compactions.specs.Filtered.{CameTo, RefusesBy}
