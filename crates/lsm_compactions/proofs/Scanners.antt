@@ -1,7 +1,7 @@
 -- Scanners of several runs: what they deal together, merged.
 use Rattle.std.proofs.Common.{◌≡◌, refl, sym, ◌∙◌, ap, subst, ℕ, zero, suc, ◌+◌, ◌-◌, ◌<◌, ◌≤◌}
 use Rattle.std.proofs.Common.{Bool, false, List, [], ◌∷◌, ◌++◌, get_or, length, take, arith}
-use Rattle.std.specs.Prelude.{Option, Some, None, Result, Ok, Err, IfErr, map}
+use Rattle.std.specs.Prelude.{Option, Some, None, Result, Ok, Err, IfErr, IfOk, map}
 use Rattle.std.specs.List.{AllByRecursion, slice_get}
 use Rattle.std.proofs.lemmas.List.{take_all, length-map}
 use Rattle.std.proofs.lemmas.Simd.{map-map}
@@ -22,7 +22,10 @@ use Rattle.lsm_readers.specs.Table.{OpenTable}
 use Rattle.lsm_sorted.specs.declared.ahead.Ahead.{Ahead}
 use Rattle.lsm_sorted.specs.declared.compaction.stream.CompactionStream.{CompactionStream}
 use Rattle.lsm_sorted.specs.Ahead.{HoldsAhead}
+use Rattle.lsm_sorted.specs.declared.compaction.Rules.{Rules}
+use Rattle.lsm_sorted.specs.Compaction.{kept, unfiltered}
 use Rattle.lsm_sorted.specs.CompactionState.{Compacts, source_of}
+use Rattle.lsm_sorted.specs.LentCompaction.{DealsCompactedEntries}
 use Rattle.lsm_compactions.specs.Compacted.{AreMergeable, HaveEntries}
 use Rattle.lsm_runs.specs.RunLists.{DealTogether, DealsList, HoldLists}
 use Rattle.lsm_runs.specs.RunParts.{ends_given, range_of}
@@ -161,6 +164,15 @@ module _ {S T : Type 0} (front back : S → Option R → S → Type 0)
       (law.deals stops results sorted (no_errors_joined d.dealt))
 
 -- ---- and compacted
+
+-- what lends is made, and where its source deals a list, it deals what is kept of that
+pub kept_lent : {S T : Type 0} (front : S → Option R → S → Type 0)
+    (next : T → Option R → T → Type 0) (source : S) (rules : Rules) (es : List Entry)
+    (r : Result T Error) → IfOk r (λ t. DealsCompactedEntries front source next t rules)
+    → DealsList front nowhere es source → IfOk r (DealsList next nowhere (kept rules (unfiltered es)))
+kept_lent front next source rules es (Ok t) law deals =
+    λ stops memory. law.deals stops es memory (deals stops memory)
+kept_lent front next source rules es (Err e) law deals = tt
 
 module _ {S F C : Type 0} (front : S → Option R → S → Type 0) where
   -- a stream over the source of another goes through the same list

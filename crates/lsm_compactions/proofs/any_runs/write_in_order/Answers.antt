@@ -1,5 +1,5 @@
-use Rattle.std.proofs.Common.{◌≡◌, ◌∙◌, refl, sym, subst}
-use Rattle.sst_entries.specs.Lending.{came, entry_of_ref}
+use Rattle.std.proofs.Common.{◌∙◌, refl, sym, subst}
+use Rattle.sst_entries.specs.Lending.{entry_of_ref}
 use Rattle.sst_entries.specs.Stream.{nowhere}
 use Rattle.sst_entries.proofs.Refusals.{faults_refusal}
 use Rattle.sst_entries.proofs.StreamLemmas.{can_front, can_now}
