@@ -1,10 +1,9 @@
 -- Counters of ids behind the tables of runs.
-use Rattle.std.proofs.Common.{◌≡◌, refl, sym, ◌∙◌, ap, subst, ℕ, ◌+◌, ◌≤◌, List, [], ◌∷◌, ◌++◌, arith}
-use Rattle.std.proofs.Common.{length}
-use Rattle.std.specs.Prelude.{IfSome, None, Option, Some, map, sum_by}
+use Rattle.std.proofs.Common.{◌≡◌, refl, sym, ◌∙◌, ap, ℕ, List, [], ◌∷◌, arith, length}
+use Rattle.std.specs.Prelude.{IfSome, None, Option, Some, sum_by}
 use Rattle.std.specs.Option.{option_map, option_map_or}
 use Rattle.logpurple.specs.Words.{OpenTable, ids_behind}
-use Rattle.example_store.specs.Ids.{HasFlushed, counter_behind}
+use Rattle.example_store.specs.Ids.{HasFlushed}
 use Rattle.example_store.specs.Story.{Holding, option_list}
 
 -- nothing was flushed

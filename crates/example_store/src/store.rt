@@ -21,8 +21,8 @@ mod range;
 use crate::memtable::Memtable;
 pub use close::Closed;
 use logpurple::{
-    Error, InternalValue, Run, SeqNo, Slice, Table, TableIds, Timestamp, ValueType, get_runs_by_age,
-    write_run,
+    Error, InternalValue, Run, SeqNo, Slice, Table, TableIds, Timestamp, ValueType,
+    get_runs_by_age, write_run,
 };
 pub use open::{FileFault, OpenError};
 pub use range::Range;
