@@ -8,3 +8,4 @@ pub mod Order
 pub mod Ranges
 pub mod Shares
 pub mod Refusing
+pub mod Counters

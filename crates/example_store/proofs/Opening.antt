@@ -12,7 +12,7 @@ use Rattle.logpurple.specs.Words.{RunsHoldLists, StoresList, is_memory, lift, ra
 use Rattle.logpurple.specs.Words.{union_in}
 use Rattle.logpurple.proofs.Laws.{IsOpen, are_in_order, count_no, fits_told, highest_seqno, is_weak}
 use Rattle.logpurple.proofs.Laws.{lift_zero, none_counted, one_way, small_numbers}
-use Rattle.example_store.specs.Closed.{bytes_in}
+use Rattle.example_store.specs.Closed.{bytes_by_run}
 use Rattle.example_store.specs.Story.{Holding, IsOwn, IsOwnRun, IsOwnTable, IsStory, IsTold}
 use Rattle.example_store.proofs.Own.{bytes_of, own_run_lists}
 
@@ -43,7 +43,7 @@ module _ (n m : ℕ) where
       )
 
   pub held_alike : (runs others : List (List OpenTable)) (lists : List (List (List Entry)))
-      → bytes_in runs ≡ bytes_in others → AllByRecursion (IsOwnRun n) runs
+      → bytes_by_run runs ≡ bytes_by_run others → AllByRecursion (IsOwnRun n) runs
       → AllByRecursion (IsOwnRun m) others → RunsHoldLists runs lists → RunsHoldLists others lists
   held_alike [] [] lists same own other h = h
   held_alike [] (us ∷ others) lists same own other h = absurd cc
@@ -51,13 +51,13 @@ module _ (n m : ℕ) where
   held_alike (ts ∷ runs) (us ∷ others) [] same own other h = absurd h
   held_alike (ts ∷ runs) (us ∷ others) (ls ∷ lists) same own other h =
       let one : map bytes_of ts ≡ map bytes_of us = cc in
-      let more : bytes_in runs ≡ bytes_in others = cc in (
+      let more : bytes_by_run runs ≡ bytes_by_run others = cc in (
         (other.0.order, held_run ts us ls one own.0.tables other.0.tables h.0.1),
         held_alike runs others lists more own.1 other.1 h.1,
       )
 
   -- in strict order, where the others' are
-  pub strict_alike : (runs others : List (List OpenTable)) → bytes_in runs ≡ bytes_in others
+  pub strict_alike : (runs others : List (List OpenTable)) → bytes_by_run runs ≡ bytes_by_run others
       → AllByRecursion (IsOwnRun n) runs → (own : AllByRecursion (IsOwnRun m) others)
       → AreCompactable runs → IsStrict (union_in (own_run_lists m others own).lists)
   strict_alike runs others same was own able =
@@ -70,7 +70,7 @@ module _ (n m : ℕ) where
   -- and so a store of them tells the same
   pub tells_alike : (s t : Holding) (ws : List Entry) → IsTold s ws
       → AllByRecursion (IsOwnRun n) s.runs → AllByRecursion (IsOwnRun m) t.runs
-      → bytes_in s.runs ≡ bytes_in t.runs → s.recent ≡ t.recent → s.next ≡ t.next
+      → bytes_by_run s.runs ≡ bytes_by_run t.runs → s.recent ≡ t.recent → s.next ≡ t.next
       → s.oldest ≡ t.oldest → IsTold t ws
   tells_alike s t ws told own other same recent next oldest = record {
     story = subst (λ (k : ℕ). IsStory k ws) next told.story;

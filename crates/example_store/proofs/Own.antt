@@ -11,7 +11,7 @@ use Rattle.logpurple.specs.Words.{sort_entries, union_in}
 use Rattle.logpurple.proofs.Laws.{AreOpened, HaveEntries, all_append, all_behind, all_front}
 use Rattle.logpurple.proofs.Laws.{all_inserted, all_kept, all_more, entries_joined, one_way}
 use Rattle.logpurple.proofs.Laws.{lift_zero, tables_there, zeroed_below}
-use Rattle.example_store.specs.Closed.{StoreLists, bytes_in}
+use Rattle.example_store.specs.Closed.{StoreLists, bytes_by_run}
 use Rattle.example_store.specs.Story.{IsOwn, IsOwnRun, IsOwnTable, option_list}
 
 -- what is so of each is so of each once they are sorted
@@ -212,7 +212,7 @@ module _ (n : ℕ) where
   run_stored (t ∷ ts) own = (table_stored t own.0, run_stored ts own.1)
 
   pub runs_stored : (runs : List (List OpenTable)) (own : AllByRecursion (IsOwnRun n) runs)
-      → StoreLists (bytes_in runs) (own_run_lists n runs own).lists
+      → StoreLists (bytes_by_run runs) (own_run_lists n runs own).lists
   unfolding own_run_lists
   runs_stored [] own = tt
   runs_stored (ts ∷ runs) own = (run_stored ts own.0.tables, runs_stored runs own.1)

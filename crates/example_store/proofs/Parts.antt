@@ -13,7 +13,7 @@ use Rattle.logpurple.proofs.Laws.{HaveEntries, all_append, all_behind, all_front
 use Rattle.logpurple.proofs.Laws.{as_pairs, at, count_join, from_pairs, is_weak, once_strict}
 use Rattle.logpurple.proofs.Laws.{one_way, points, reads_alike_of_part, side_by_side}
 use Rattle.logpurple.proofs.Laws.{strict_once, union_count, union_up, writable_after}
-use Rattle.example_store.specs.Part.{front_of, part_of}
+use Rattle.example_store.specs.Part.{front_runs, part_runs}
 use Rattle.example_store.specs.Story.{HoldBelow, Holding, IsOwn, IsOwnRun, IsStore, IsStory}
 use Rattle.example_store.specs.Story.{IsTold}
 use Rattle.example_store.proofs.Compacting.{seen_behind}
@@ -55,7 +55,7 @@ module _ {A B : Type 0} (Q : A → B → Type 0) where
 
 -- a list is what stands in front of a part, the part, and what stands behind it
 pub three_parts : (from to : ℕ) (runs : List (List OpenTable))
-    → runs ≡ front_of from to runs ++ (part_of from to runs ++ drop to runs)
+    → runs ≡ front_runs from to runs ++ (part_runs from to runs ++ drop to runs)
 three_parts from to runs =
     take_drop to runs
     ∙ ap (λ (xs : List (List OpenTable)). xs ++ drop to runs) (take_drop from (take to runs))
@@ -93,14 +93,14 @@ module _ {X : Type 0} (f : X → List OpenTable) (xs : List X) (from to m : ℕ)
 
   module _ (k : ℕ) (lower : k ≡ min from (length upper)) where
     pub front_cut : (front : List X) → upper ≡ take m xs → front ≡ take k upper
-        → map f front ≡ front_of from to (map f xs)
+        → map f front ≡ front_runs from to (map f xs)
     front_cut front first is =
         ap (map f) (is ∙ ap (λ (n : ℕ). take n upper) lower ∙ take_least from upper
         ∙ ap (take from) (upper_is first))
         ∙ sym (take-map f from (take to xs)) ∙ ap (take from) (sym (take-map f to xs))
 
     pub part_cut : (part : List X) → upper ≡ take m xs → part ≡ drop k upper
-        → map f part ≡ part_of from to (map f xs)
+        → map f part ≡ part_runs from to (map f xs)
     part_cut part first is =
         ap (map f) (is ∙ ap (λ (n : ℕ). drop n upper) lower ∙ drop_least from upper
         ∙ ap (drop from) (upper_is first))
@@ -191,13 +191,13 @@ placed_part front made behind new others kept rest is front_is made_is behind_is
 -- a store whose part was compacted tells what it told
 pub tells_part : (s t : Holding) (ws : List Entry) (from to watermark : ℕ)
     (made : List (List OpenTable)) → IsStore s → IsTold s ws
-    → ((ps : List (List (List Entry))) → RunsHoldLists (part_of from to s.runs) ps
+    → ((ps : List (List (List Entry))) → RunsHoldLists (part_runs from to s.runs) ps
     → HaveAll (kept_in (rules_by watermark false false) ps) made)
-    → t.runs ≡ front_of from to s.runs ++ (made ++ drop to s.runs) → t.recent ≡ s.recent
+    → t.runs ≡ front_runs from to s.runs ++ (made ++ drop to s.runs) → t.recent ≡ s.recent
     → t.next ≡ s.next → s.oldest ≤ t.oldest → watermark ≤ t.oldest → IsTold t ws
 tells_part s t ws from to watermark made sound told kept runs recent next later above =
-    let front = front_of from to s.runs in
-    let part = part_of from to s.runs in
+    let front = front_runs from to s.runs in
+    let part = part_runs from to s.runs in
     let behind = drop to s.runs in
     let whole = three_parts from to s.runs in
     let own = (own_parts s.flushed front part behind
@@ -255,14 +255,14 @@ able_part flushed watermark front part behind made able own kept =
 
 pub below_part : (bound from to watermark : ℕ) (old new made : List (List OpenTable))
     → HoldBelow bound old
-    → ((ps : List (List (List Entry))) → RunsHoldLists (part_of from to old) ps
+    → ((ps : List (List (List Entry))) → RunsHoldLists (part_runs from to old) ps
     → HaveAll (kept_in (rules_by watermark false false) ps) made)
-    → (AllByRecursion (IsOwnRun bound) (part_of from to old)
+    → (AllByRecursion (IsOwnRun bound) (part_runs from to old)
     → AllByRecursion (IsOwnRun bound) made)
-    → new ≡ front_of from to old ++ (made ++ drop to old) → HoldBelow bound new
+    → new ≡ front_runs from to old ++ (made ++ drop to old) → HoldBelow bound new
 below_part bound from to watermark old new made sound kept made_own is =
-    let front = front_of from to old in
-    let part = part_of from to old in
+    let front = front_runs from to old in
+    let part = part_runs from to old in
     let behind = drop to old in
     let whole = three_parts from to old in
     let own = own_parts bound front part behind
@@ -301,10 +301,10 @@ strict_cut fs ps bs strict =
     )))
 
 pub able_alone : (bound from to : ℕ) (old : List (List OpenTable)) → bound ≤ 2 ^ 64 - 1
-    → HoldBelow bound old → AreCompactable (part_of from to old)
+    → HoldBelow bound old → AreCompactable (part_runs from to old)
 able_alone bound from to old room sound =
-    let front = front_of from to old in
-    let part = part_of from to old in
+    let front = front_runs from to old in
+    let part = part_runs from to old in
     let behind = drop to old in
     let whole = three_parts from to old in
     let able = subst AreCompactable whole sound.able in

@@ -275,9 +275,10 @@ able_none = record {
 none_below : (bound : ℕ) → HoldBelow bound []
 none_below bound = record { own = tt; able = able_none }
 
-pub sound_new : (recent : List Entry) (runs : List (List OpenTable)) (ids : Option ℕ) (target : ℕ)
-    → recent ≡ [] → runs ≡ [] → IsStore (holding recent runs ids target 0 0 0)
-sound_new recent runs ids target none empty = record {
+pub sound_new : (recent : List Entry) (runs : List (List OpenTable)) (ids : Option ℕ)
+    (target limit : ℕ) → recent ≡ [] → runs ≡ []
+    → IsStore (holding recent runs ids target 0 0 0 limit)
+sound_new recent runs ids target limit none empty = record {
   recent = subst (AreNumbered 0 0) (sym none) tt;
   runs = subst (HoldBelow 0) (sym empty) (none_below 0);
   order = omega arith;
@@ -285,9 +286,10 @@ sound_new recent runs ids target none empty = record {
   kept = omega arith;
 }
 
-pub tells_new : (recent : List Entry) (runs : List (List OpenTable)) (ids : Option ℕ) (target : ℕ)
-    → recent ≡ [] → runs ≡ [] → IsTold (holding recent runs ids target 0 0 0) []
-tells_new recent runs ids target none empty = record {
+pub tells_new : (recent : List Entry) (runs : List (List OpenTable)) (ids : Option ℕ)
+    (target limit : ℕ) → recent ≡ [] → runs ≡ []
+    → IsTold (holding recent runs ids target 0 0 0 limit) []
+tells_new recent runs ids target limit none empty = record {
   story = tt;
   lists = [];
   hold = subst (λ (rs : List (List OpenTable)). RunsHoldLists rs []) (sym empty) tt;
@@ -298,15 +300,15 @@ tells_new recent runs ids target none empty = record {
 -- ---- what stays sound
 
 module _ (recent new : List Entry) (runs : List (List OpenTable)) (ids : Option ℕ)
-    (target next flushed oldest : ℕ) where
-  pub older_recent : (n : ℕ) → IsStore (holding recent runs ids target next flushed oldest)
+    (target next flushed oldest limit : ℕ) where
+  pub older_recent : (n : ℕ) → IsStore (holding recent runs ids target next flushed oldest limit)
       → n ≡ next → AllByRecursion (λ (e : Entry). e.seqno < n) recent
   older_recent n sound is = subst (λ (m : ℕ). AllByRecursion (λ (e : Entry). e.seqno < m) recent)
       (sym is) (all_older flushed next recent sound.recent)
 
-  pub sound_more : (e : Entry) → IsStore (holding recent runs ids target next flushed oldest)
+  pub sound_more : (e : Entry) → IsStore (holding recent runs ids target next flushed oldest limit)
       → IsPut e recent new → e.seqno ≡ next → is_weak e ≡ false → next < 2 ^ 64 - 2
-      → IsStore (holding new runs ids target (next + 1) flushed oldest)
+      → IsStore (holding new runs ids target (next + 1) flushed oldest limit)
   sound_more e sound put number kind room = record {
     recent = numbered_more flushed next (next + 1) e recent new put sound.recent sound.order number
         kind refl;
@@ -317,14 +319,14 @@ module _ (recent new : List Entry) (runs : List (List OpenTable)) (ids : Option 
   }
 
   pub sound_flushed : (run : List OpenTable) (left : Option ℕ) (all : List (List OpenTable))
-      → IsStore (holding recent runs ids target next flushed oldest) → IsStrict recent
+      → IsStore (holding recent runs ids target next flushed oldest limit) → IsStrict recent
       → HasList recent run → IsOwnRun next run → new ≡ [] → all ≡ run ∷ runs
-      → IsStore (holding new all left target next next oldest)
+      → IsStore (holding new all left target next next oldest limit)
   sound_flushed run left all sound strict has own none is = record {
     recent = subst (AreNumbered next next) (sym none) tt;
     runs = subst (HoldBelow next) (sym is)
-        (able_flushed (holding recent runs ids target next flushed oldest) run sound strict has
-        own);
+        (able_flushed (holding recent runs ids target next flushed oldest limit) run sound strict
+        has own);
     order = omega arith;
     room = sound.room;
     kept = sound.kept;

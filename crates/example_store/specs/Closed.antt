@@ -6,8 +6,8 @@ use Rattle.example_store.specs.declared.store.close.Closed.{Closed}
 use Rattle.logpurple.specs.Words.{Entry, OpenTable, StoresList}
 
 -- the bytes of the tables of some runs, run by run
-abbrev pub bytes_in : List (List OpenTable) → List (List (List ℕ))
-bytes_in runs = map (map (λ (t : OpenTable). t.bytes)) runs
+abbrev pub bytes_by_run : List (List OpenTable) → List (List (List ℕ))
+bytes_by_run runs = map (map (λ (t : OpenTable). t.bytes)) runs
 
 -- the files that are kept, run by run
 abbrev pub files_in : {A : Type 0} → Closed A → List (List (List ℕ))
@@ -16,7 +16,7 @@ files_in c = map (λ run. run.items) c.files.items
 -- it is kept of a store that has nothing but its tables
 pub record IsClosed {A : Type 0} (s : Holding) (c : Closed A) : Type 0 where
   pub none : s.recent ≡ []
-  pub files : files_in c ≡ bytes_in s.runs
+  pub files : files_in c ≡ bytes_by_run s.runs
   pub ids : s.ids ≡ c.ids
   pub next : s.next ≡ c.next
   pub oldest : s.oldest ≡ c.oldest

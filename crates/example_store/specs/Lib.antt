@@ -1,4 +1,5 @@
 pub mod Recent
 pub mod Story
+pub mod Ids
 pub mod Closed
 pub mod Part

@@ -1,18 +1,21 @@
 -- A part of a store's runs that is compacted.
-use Rattle.std.specs.Prelude.{◌≡◌, ℕ, ◌≤◌, List, ◌++◌, drop, false, length, take}
-use Rattle.logpurple.specs.Words.{Entry, HaveAll, OpenTable, kept_in, rules_by}
+use Rattle.std.specs.Prelude.{◌≡◌, ℕ, ◌≤◌, List, ◌++◌, drop, false, length, sum_by, take}
+use Rattle.logpurple.specs.Words.{Entry, HaveAll, OpenTable, ids_behind, kept_in, rules_by}
+use Rattle.example_store.specs.Story.{Holding}
 
 -- the runs from a place on up to another, which is not among them, those in front and those behind
-abbrev pub part_of : ℕ → ℕ → List (List OpenTable) → List (List OpenTable)
-part_of from to runs = drop from (take to runs)
+abbrev pub part_runs : ℕ → ℕ → List (List OpenTable) → List (List OpenTable)
+part_runs from to runs = drop from (take to runs)
 
-abbrev pub front_of : ℕ → ℕ → List (List OpenTable) → List (List OpenTable)
-front_of from to runs = take from (take to runs)
+abbrev pub front_runs : ℕ → ℕ → List (List OpenTable) → List (List OpenTable)
+front_runs from to runs = take from (take to runs)
 
--- in the place of a part stands what is kept of its lists, in one run at most
+-- in the place of a part stands what is kept of its lists, in one run at most, and the counter of
+-- ids runs on behind that run's tables
 pub record IsPartKept (from to watermark : ℕ) (lists : List (List (List Entry)))
-    (old new : List (List OpenTable)) : Type 0 where
+    (old new : Holding) : Type 0 where
   pub made : List (List OpenTable)
   pub has : HaveAll (kept_in (rules_by watermark false false) lists) made
   pub few : length made ≤ 1
-  pub placed : new ≡ front_of from to old ++ (made ++ drop to old)
+  pub placed : new.runs ≡ front_runs from to old.runs ++ (made ++ drop to old.runs)
+  pub counter : new.ids ≡ ids_behind old.ids old.target (sum_by length made)

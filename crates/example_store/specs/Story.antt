@@ -5,12 +5,12 @@ use Rattle.std.specs.List.{AllByRecursion}
 use Rattle.std.specs.Option.{option_map}
 use Rattle.logpurple.specs.Words.{AreCompactable, Entry, Error, HoldsList, IsInOrder, KeyTooLong}
 use Rattle.logpurple.specs.Words.{OpenTable, RunsHoldLists, SeqNoOverflow, ValueTooLong, range_of}
-use Rattle.logpurple.specs.Words.{seen, union_in}
-use Rattle.logpurple.proofs.Laws.{is_weak}
+use Rattle.logpurple.specs.Words.{is_weak, seen, union_in}
 
 -- what a store has: the entries that are in no table yet, the tables of its runs, the counter of
 -- their ids and how large each is to be; the number of the next write, the number from which on
--- those entries are numbered, and the oldest snapshot that it keeps
+-- those entries are numbered, the oldest snapshot that it keeps, and how many entries it has in no
+-- table before they are flushed
 pub record Holding : Type 0 where
   pub recent : List Entry
   pub runs : List (List OpenTable)
@@ -19,10 +19,11 @@ pub record Holding : Type 0 where
   pub next : ℕ
   pub flushed : ℕ
   pub oldest : ℕ
+  pub limit : ℕ
 
 -- it of its parts
-abbrev pub holding : List Entry → List (List OpenTable) → Option ℕ → ℕ → ℕ → ℕ → ℕ → Holding
-holding recent runs ids target next flushed oldest = record {
+abbrev pub holding : List Entry → List (List OpenTable) → Option ℕ → ℕ → ℕ → ℕ → ℕ → ℕ → Holding
+holding recent runs ids target next flushed oldest limit = record {
   recent = recent;
   runs = runs;
   ids = ids;
@@ -30,6 +31,7 @@ holding recent runs ids target next flushed oldest = record {
   next = next;
   flushed = flushed;
   oldest = oldest;
+  limit = limit;
 }
 
 -- a story is the list of all writes, the newest first: each has a number below that of the one

@@ -1,14 +1,15 @@
 //! A store: writes under their numbers, and reads at snapshots.
 ghost use Rattle.std.specs.Prelude.{◌≡◌, ◌+◌, ◌-◌, ◌^◌, ◌<◌, ◌≤◌, [], ◌∷◌, ◌++◌, map, Err, IfErr};
 ghost use Rattle.std.specs.Prelude.{IfOk, IfSome, List, MatchOption, None, Ok, OnErr, OnOk};
-ghost use Rattle.std.specs.Prelude.{Option, Some, false, ℕ};
+ghost use Rattle.std.specs.Prelude.{Option, Some, false, length, ℕ};
 ghost use Rattle.std.specs.Arc.{arc_value};
 ghost use Rattle.std.specs.Option.{option_map};
+ghost use Rattle.example_store.specs.Ids.{HasFlushed};
 ghost use Rattle.example_store.specs.Story.{AreNumbered, IsOwnRun, IsTold, put_fault, value_in};
 ghost use Rattle.logpurple.specs.Words.{Entry, Gives, HasList, IsStrict, IsWritable};
 ghost use Rattle.logpurple.specs.Words.{OutOfMemory, Refuses, RunsHoldLists, Tombstone, Value};
-ghost use Rattle.logpurple.specs.Words.{entry, is_memory, point, shown, tables_fault, union_in};
-ghost use Rattle.logpurple.proofs.Laws.{is_weak, is_weak_kind};
+ghost use Rattle.logpurple.specs.Words.{entry, ids_behind, is_memory, is_weak, is_weak_kind};
+ghost use Rattle.logpurple.specs.Words.{point, shown, tables_fault, union_in};
 
 mod close;
 mod compact;
@@ -20,8 +21,8 @@ mod range;
 use crate::memtable::Memtable;
 pub use close::Closed;
 use logpurple::{
-    Error, InternalValue, Run, SeqNo, Slice, Table, TableIds, Timestamp, ValueType, get_runs,
-    write_run,
+    Error, InternalValue, Run, SeqNo, Slice, Table, TableIds, Timestamp, ValueType,
+    get_runs_by_age, write_run,
 };
 pub use open::{FileFault, OpenError};
 pub use range::Range;
@@ -58,10 +59,10 @@ impl<A: Allocator> Model for Store<A> {
     ghost Value = { Holding };
 
     ghost view = { λ s. holding s.memtable (map arc_value s.runs.items) s.ids s.target s.next
-        s.flushed s.oldest };
+        s.flushed s.oldest s.limit };
 
     ghost invariant = { λ s. IsStore (holding s.memtable (map arc_value s.runs.items) s.ids
-        s.target s.next s.flushed s.oldest) };
+        s.target s.next s.flushed s.oldest s.limit) };
 }
 
 impl<A: Allocator + Clone> Store<A> {
@@ -71,6 +72,10 @@ impl<A: Allocator + Clone> Store<A> {
         ensures story { IfOk result (λ store. IsTold store []) }
         ensures next { IfOk result (λ store. store.next ≡ 0) }
         ensures oldest { IfOk result (λ store. store.oldest ≡ 0) }
+        ensures limit { IfOk result (λ store. store.limit ≡ limit) }
+        ensures target { IfOk result (λ store. store.target ≡ target) }
+        // The first table gets the id 1.
+        ensures ids { IfOk result (λ store. store.ids ≡ Some 1) }
         ensures memory { IfErr result (λ e. e ≡ OutOfMemory) }
     {
         let memtable = Memtable::new(alloc.clone()?);
@@ -113,6 +118,10 @@ impl<A: Allocator + Clone> Store<A> {
         ensures next { OnOk result (self.new.next ≡ self.old.next + 1) }
         ensures stays { OnErr result (self.new.next ≡ self.old.next) }
         ensures oldest { self.new.oldest ≡ self.old.oldest }
+        ensures limit { self.new.limit ≡ self.old.limit }
+        ensures target { self.new.target ≡ self.old.target }
+        // The counter of ids is behind the tables that were made, if some were.
+        ensures flushed { HasFlushed self.old self.new }
         // What is wrong with the write is found before anything is done.
         ensures fault { (e : Error) → put_fault self.old.next key.now value.now ≡ Some e →
             result ≡ Err e }
@@ -132,6 +141,10 @@ impl<A: Allocator + Clone> Store<A> {
         ensures next { OnOk result (self.new.next ≡ self.old.next + 1) }
         ensures stays { OnErr result (self.new.next ≡ self.old.next) }
         ensures oldest { self.new.oldest ≡ self.old.oldest }
+        ensures limit { self.new.limit ≡ self.old.limit }
+        ensures target { self.new.target ≡ self.old.target }
+        // The counter of ids is behind the tables that were made, if some were.
+        ensures flushed { HasFlushed self.old self.new }
         ensures fault { (e : Error) → put_fault self.old.next key.now [] ≡ Some e →
             result ≡ Err e }
         ensures refused { put_fault self.old.next key.now [] ≡ None →
@@ -149,6 +162,9 @@ impl<A: Allocator + Clone> Store<A> {
         ensures next { OnOk result (self.new.next ≡ self.old.next + 1) }
         ensures stays { OnErr result (self.new.next ≡ self.old.next) }
         ensures oldest { self.new.oldest ≡ self.old.oldest }
+        ensures limit { self.new.limit ≡ self.old.limit }
+        ensures target { self.new.target ≡ self.old.target }
+        ensures flushed { HasFlushed self.old self.new }
         ensures fault { (e : Error) → put_fault self.old.next key.now value.now ≡ Some e →
             result ≡ Err e }
         ensures refused { put_fault self.old.next key.now value.now ≡ None →
@@ -166,6 +182,9 @@ impl<A: Allocator + Clone> Store<A> {
         ensures story { (ws : List Entry) → IsTold self.old ws → IsTold self.new ws }
         ensures next { self.new.next ≡ self.old.next }
         ensures oldest { self.new.oldest ≡ self.old.oldest }
+        ensures limit { self.new.limit ≡ self.old.limit }
+        ensures target { self.new.target ≡ self.old.target }
+        ensures flushed { HasFlushed self.old self.new }
         ensures refused { IfErr result (λ e. is_memory e ≡ false →
             tables_fault self.old.ids self.old.target 0 self.old.recent ≡ Some e) }
     {
@@ -184,6 +203,10 @@ impl<A: Allocator + Clone> Store<A> {
             OnOk result (IsTold self.new (item ∷ ws)) }
         ensures next { OnOk result (self.new.next ≡ self.old.next + 1) }
         ensures oldest { self.new.oldest ≡ self.old.oldest }
+        ensures limit { self.new.limit ≡ self.old.limit }
+        ensures target { self.new.target ≡ self.old.target }
+        ensures runs { self.new.runs ≡ self.old.runs }
+        ensures ids { self.new.ids ≡ self.old.ids }
         ensures err { OnErr result (self.new ≡ self.old) }
         ensures memory { IfErr result (λ e. e ≡ OutOfMemory) }
     {
@@ -200,6 +223,10 @@ impl<A: Allocator + Clone> Store<A> {
         ensures emptied { OnOk result (self.new.recent ≡ []) }
         ensures next { self.new.next ≡ self.old.next }
         ensures oldest { self.new.oldest ≡ self.old.oldest }
+        ensures limit { self.new.limit ≡ self.old.limit }
+        ensures target { self.new.target ≡ self.old.target }
+        // The counter of ids is behind the tables that were made, if some were.
+        ensures flushed { HasFlushed self.old self.new }
         ensures err { OnErr result (self.new ≡ self.old) }
         // Memory aside, it is refused what writing the entries as tables is.
         ensures refused { IfErr result (λ e. is_memory e ≡ false →
@@ -225,11 +252,15 @@ impl<A: Allocator + Clone> Store<A> {
         requires list { HasList self.old.recent (arc_value run) }
         requires strict { IsStrict self.old.recent }
         requires own { IsOwnRun self.old.next (arc_value run) }
+        requires ids { ids ≡ ids_behind self.old.ids self.old.target (length (arc_value run)) }
         requires empty { fresh ≡ [] }
         ensures story { (ws : List Entry) → IsTold self.old ws → IsTold self.new ws }
         ensures emptied { OnOk result (self.new.recent ≡ []) }
         ensures next { self.new.next ≡ self.old.next }
         ensures oldest { self.new.oldest ≡ self.old.oldest }
+        ensures limit { self.new.limit ≡ self.old.limit }
+        ensures target { self.new.target ≡ self.old.target }
+        ensures flushed { HasFlushed self.old self.new }
         ensures err { OnErr result (self.new ≡ self.old) }
         ensures memory { IfErr result (λ e. e ≡ OutOfMemory) }
     {
@@ -241,7 +272,9 @@ impl<A: Allocator + Clone> Store<A> {
     }
 
     /// The value that a key has at a snapshot, none where it was deleted last, or never written.
-    /// Refused for want of memory alone.
+    /// Below [`Store::oldest_snapshot`] it is the value of the newest entry numbered below the
+    /// snapshot that is still there, which may be none where there was one, and an older one where
+    /// a later was compacted away. Refused for want of memory alone.
     pub fn get(&self, key: &[u8], snapshot: SeqNo) -> Result<Option<Slice<A>>, Error>
         // At a snapshot that is kept it is the value that the writes say.
         ensures told { (ws : List Entry) → IsTold self.now ws → self.now.oldest ≤ snapshot →
@@ -304,6 +337,9 @@ fn run_of<A: Allocator + Clone>(
     // It has the store's own entries, where the list has.
     ensures own { (from to : ℕ) → AreNumbered from to items.items →
         IfOk result (λ r. IfSome r.0 (λ run. IsOwnRun to (arc_value run))) }
+    // The counter runs on behind its tables.
+    ensures ids { IfOk result (λ r. IfSome r.0 (λ run.
+        r.1 ≡ ids_behind ids target (length (arc_value run)))) }
     ensures refused { IfErr result (λ e. is_memory e ≡ false →
         tables_fault ids target 0 items.items ≡ Some e) }
 {
@@ -340,7 +376,7 @@ fn find_in<A: Allocator + Clone>(
     if let Some(item) = memtable.get(key, seqno)? {
         return Ok(Some(item));
     }
-    get_runs(runs, key, seqno)
+    get_runs_by_age(runs, key, seqno)
 }
 
 // The value of an entry that is no tombstone.

@@ -1,7 +1,8 @@
 //! Closing a store: what is kept of it.
 ghost use Rattle.std.specs.Prelude.{◌≡◌, [], IfErr, IfOk, List, Some, false, map};
 ghost use Rattle.std.specs.Arc.{arc_value};
-ghost use Rattle.example_store.specs.Closed.{IsClosed, bytes_in};
+ghost use Rattle.example_store.specs.Closed.{IsClosed, bytes_by_run};
+ghost use Rattle.example_store.specs.Ids.{HasFlushed};
 ghost use Rattle.example_store.specs.Story.{IsStore, IsTold};
 ghost use Rattle.logpurple.specs.Words.{Entry, OpenTable, OutOfMemory, is_memory, tables_fault};
 
@@ -33,6 +34,10 @@ impl<A: Allocator + Clone> Store<A> {
         ensures story { (ws : List Entry) → IsTold self.old ws → IsTold self.new ws }
         ensures next { self.new.next ≡ self.old.next }
         ensures oldest { self.new.oldest ≡ self.old.oldest }
+        ensures limit { self.new.limit ≡ self.old.limit }
+        ensures target { self.new.target ≡ self.old.target }
+        // The counter that is given is behind the tables that were made, if some were.
+        ensures flushed { HasFlushed self.old self.new }
         ensures refused { IfErr result (λ e. is_memory e ≡ false →
             tables_fault self.old.ids self.old.target 0 self.old.recent ≡ Some e) }
     {
@@ -63,7 +68,7 @@ fn files_of<A: Allocator + Clone>(
     runs: &[Arc<Run<Table<A>, A>, A>],
 ) -> Result<Vec<Vec<Slice<A>, A>, A>, Error>
     ensures files { IfOk result (λ files.
-        map (λ run. run.items) files.items ≡ bytes_in (map arc_value runs.now)) }
+        map (λ run. run.items) files.items ≡ bytes_by_run (map arc_value runs.now)) }
     ensures memory { IfErr result (λ e. e ≡ OutOfMemory) }
 {
     let mut files = Vec::new(alloc.clone()?);

@@ -1,12 +1,13 @@
 //! Compacting and packing the runs of a store.
 ghost use Rattle.std.specs.Prelude.{◌≡◌, ◌≤◌, IfErr, IfOk, List, OnErr, OnOk, Some, false};
-ghost use Rattle.std.specs.Prelude.{length, map, max, min, true, ℕ};
+ghost use Rattle.std.specs.Prelude.{length, map, max, min, sum_by, true, ℕ};
 ghost use Rattle.std.specs.Arc.{arc_value};
 ghost use Rattle.std.specs.List.{AllByRecursion};
 ghost use Rattle.example_store.specs.Story.{IsOwnRun, IsTold, option_list};
 ghost use Rattle.logpurple.specs.Words.{AreCompactable, AreInOrder, Entry, HaveAll, HoldUnion};
 ghost use Rattle.logpurple.specs.Words.{IsLeastSize, OutOfMemory, RunsHoldLists, is_memory};
-ghost use Rattle.logpurple.specs.Words.{kept_in, range_of, rules_by, tables_fault, union_in};
+ghost use Rattle.logpurple.specs.Words.{ids_behind, kept_in, range_of, rules_by, tables_fault};
+ghost use Rattle.logpurple.specs.Words.{union_in};
 
 use crate::Store;
 use logpurple::{Error, Rules, Run, SeqNo, Table, TableIds, Timestamp, compact_to_run, pack_runs};
@@ -26,7 +27,12 @@ impl<A: Allocator + Clone> Store<A> {
         ensures oldest { OnOk result
             (self.new.oldest ≡ max self.old.oldest (min watermark self.old.next)) }
         ensures next { self.new.next ≡ self.old.next }
+        ensures limit { self.new.limit ≡ self.old.limit }
+        ensures target { self.new.target ≡ self.old.target }
         ensures recent { self.new.recent ≡ self.old.recent }
+        // The counter of ids runs on behind the new run's tables.
+        ensures ids { OnOk result (self.new.ids
+            ≡ ids_behind self.old.ids self.old.target (sum_by length self.new.runs)) }
         // The runs have what is kept of all that they had.
         ensures made { (lists : List (List (List Entry))) → RunsHoldLists self.old.runs lists →
             OnOk result (HaveAll (kept_in (rules_by (min watermark self.old.next) true false) lists)
@@ -58,6 +64,10 @@ impl<A: Allocator + Clone> Store<A> {
         ensures story { (ws : List Entry) → IsTold self.old ws → IsTold self.new ws }
         ensures oldest { self.new.oldest ≡ self.old.oldest }
         ensures next { self.new.next ≡ self.old.next }
+        ensures limit { self.new.limit ≡ self.old.limit }
+        ensures target { self.new.target ≡ self.old.target }
+        ensures ids { self.new.ids ≡ self.old.ids }
+        ensures recent { self.new.recent ≡ self.old.recent }
         // No fewer runs can do.
         ensures least { OnOk result (IsLeastSize range_of self.old.runs (length self.new.runs)) }
         ensures err { OnErr result (self.new ≡ self.old) }
@@ -83,6 +93,8 @@ pub(crate) fn compacted<A: Allocator + Clone>(
         RunsHoldLists (map arc_value runs.now) lists →
         IfOk result (λ r. HaveAll (kept_in rules lists) (map arc_value r.0.items)) }
     ensures few { IfOk result (λ r. length r.0.items ≤ 1) }
+    ensures ids { IfOk result (λ r.
+        r.1 ≡ ids_behind ids target (sum_by length (map arc_value r.0.items))) }
     ensures able { IfOk result (λ r. AreCompactable (map arc_value r.0.items)) }
     ensures own { (bound : ℕ) → AllByRecursion (IsOwnRun bound) (map arc_value runs.now) →
         IfOk result (λ r. AllByRecursion (IsOwnRun bound) (map arc_value r.0.items)) }

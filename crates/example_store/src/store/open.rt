@@ -3,12 +3,12 @@ ghost use Rattle.std.specs.Prelude.{◌≡◌, ◌-◌, ◌^◌, ◌<◌, ◌≤
 ghost use Rattle.std.specs.Prelude.{map, true};
 ghost use Rattle.std.specs.List.{AllByRecursion};
 ghost use Rattle.std.specs.Arc.{arc_value};
-ghost use Rattle.example_store.specs.Closed.{IsClosed, StoreLists, bytes_in, files_in};
+ghost use Rattle.example_store.specs.Closed.{IsClosed, StoreLists, bytes_by_run, files_in};
 ghost use Rattle.example_store.specs.Story.{Holding, IsOwn, IsOwnRun, IsOwnTable, IsStore, IsTold};
 ghost use Rattle.example_store.specs.declared.store.open.OpenError.TheVariants.{OutOfMemory};
-ghost use Rattle.logpurple.specs.Words.{Entry, IsInOrder, IsStrict, OpenTable, RunsHoldLists};
+ghost use Rattle.logpurple.specs.Words.{Entry, HaveEntries, IsInOrder, IsStrict, OpenTable};
+ghost use Rattle.logpurple.specs.Words.{RunsHoldLists};
 ghost use Rattle.logpurple.specs.Words.{StoresList, is_memory, range_of, union_in};
-ghost use Rattle.logpurple.proofs.Laws.{HaveEntries};
 
 use crate::memtable::Memtable;
 use crate::store::compact::Runs;
@@ -94,6 +94,8 @@ impl<A: Allocator + Clone> Store<A> {
     ) -> Result<Store<A>, OpenError>
         // It has what was kept, and nothing else.
         ensures opened { IfOk result (λ store. IsClosed store closed.now) }
+        ensures limit { IfOk result (λ store. store.limit ≡ limit) }
+        ensures target { IfOk result (λ store. store.target ≡ target) }
         // Each file stores a list, and these lists are all that its reads rest on.
         ensures lists { IfOk result (λ store. (lists : List (List (List Entry))) ×
             StoreLists (files_in closed.now) lists × RunsHoldLists store.runs lists) }
@@ -148,9 +150,9 @@ fn open_runs<A: Allocator + Clone>(
     ensures own { IfOk result (λ runs.
         AllByRecursion (IsOwnRun next) (map arc_value runs.items)) }
     ensures files { IfOk result (λ runs.
-        bytes_in (map arc_value runs.items) ≡ map (λ run. run.items) files.now) }
+        bytes_by_run (map arc_value runs.items) ≡ map (λ run. run.items) files.now) }
     ensures taken { (runs : List (List OpenTable)) → AllByRecursion (IsOwnRun next) runs →
-        bytes_in runs ≡ map (λ run. run.items) files.now → IfErr result (λ e. e ≡ OutOfMemory) }
+        bytes_by_run runs ≡ map (λ run. run.items) files.now → IfErr result (λ e. e ≡ OutOfMemory) }
 {
     let mut runs = Vec::new(alloc.clone()?);
     for run in files {

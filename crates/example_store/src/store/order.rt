@@ -3,9 +3,9 @@ ghost use Rattle.std.specs.Prelude.{◌≡◌, ◌<◌, ◌↔◌, All, IfErr, I
 ghost use Rattle.std.specs.Arc.{arc_value};
 ghost use Rattle.std.specs.Iterator.{IsFinite};
 ghost use Rattle.std.specs.List.{AllByRecursion};
-ghost use Rattle.logpurple.specs.Words.{CanDeal, DealsList, Entry, HoldLists, IsStrict, OpenTable};
-ghost use Rattle.logpurple.specs.Words.{OutOfMemory, RunsHoldLists, joined, union_in};
-ghost use Rattle.logpurple.proofs.Laws.{DealTogether, HaveEntries, nowhere};
+ghost use Rattle.logpurple.specs.Words.{CanDeal, DealTogether, DealsList, Entry, HaveEntries};
+ghost use Rattle.logpurple.specs.Words.{HoldLists, IsStrict, OpenTable, OutOfMemory};
+ghost use Rattle.logpurple.specs.Words.{RunsHoldLists, joined, nowhere, union_in};
 
 use logpurple::{Error, InternalValue, IterItem, Merger, Run, RunScanner, Table};
 use std::alloc::Allocator;

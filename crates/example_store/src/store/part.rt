@@ -2,7 +2,7 @@
 ghost use Rattle.std.specs.Prelude.{◌≡◌, ◌++◌, IfErr, IfOk, List, OnErr, OnOk, Some, drop, false};
 ghost use Rattle.std.specs.Prelude.{map, max, min};
 ghost use Rattle.std.specs.Arc.{arc_value};
-ghost use Rattle.example_store.specs.Part.{IsPartKept, front_of, part_of};
+ghost use Rattle.example_store.specs.Part.{IsPartKept, front_runs, part_runs};
 ghost use Rattle.example_store.specs.Story.{IsTold};
 ghost use Rattle.logpurple.specs.Words.{Entry, OutOfMemory, RunsHoldLists, is_memory, kept_in};
 ghost use Rattle.logpurple.specs.Words.{rules_by, tables_fault};
@@ -24,16 +24,18 @@ impl<A: Allocator + Clone> Store<A> {
         ensures oldest { OnOk result
             (self.new.oldest ≡ max self.old.oldest (min watermark self.old.next)) }
         ensures next { self.new.next ≡ self.old.next }
+        ensures limit { self.new.limit ≡ self.old.limit }
+        ensures target { self.new.target ≡ self.old.target }
         ensures recent { self.new.recent ≡ self.old.recent }
-        // The part has what is kept of all that it had, and the other runs are as they were.
+        // The part has what is kept of all that it had, the other runs are as they were, and the
+        // counter of ids runs on.
         ensures made { (lists : List (List (List Entry))) →
-            RunsHoldLists (part_of from to self.old.runs) lists →
-            OnOk result (IsPartKept from to (min watermark self.old.next) lists self.old.runs
-            self.new.runs) }
+            RunsHoldLists (part_runs from to self.old.runs) lists →
+            OnOk result (IsPartKept from to (min watermark self.old.next) lists self.old self.new) }
         ensures err { OnErr result (self.new ≡ self.old) }
         // Memory aside, it is refused what writing what is kept of the part as tables is.
         ensures refused { (lists : List (List (List Entry))) →
-            RunsHoldLists (part_of from to self.old.runs) lists →
+            RunsHoldLists (part_runs from to self.old.runs) lists →
             IfErr result (λ e. is_memory e ≡ false →
             tables_fault self.old.ids self.old.target 0
             (kept_in (rules_by (min watermark self.old.next) false false) lists) ≡ Some e) }
@@ -66,8 +68,8 @@ fn cut_out<A: Allocator>(
     &[Arc<Run<Table<A>, A>, A>],
     &[Arc<Run<Table<A>, A>, A>],
 )
-    ensures front { map arc_value result.0.now ≡ front_of from to (map arc_value runs.now) }
-    ensures part { map arc_value result.1.now ≡ part_of from to (map arc_value runs.now) }
+    ensures front { map arc_value result.0.now ≡ front_runs from to (map arc_value runs.now) }
+    ensures part { map arc_value result.1.now ≡ part_runs from to (map arc_value runs.now) }
     ensures behind { map arc_value result.2.now ≡ drop to (map arc_value runs.now) }
 {
     let (upper, behind) = runs.split_at(to.min(runs.len()));

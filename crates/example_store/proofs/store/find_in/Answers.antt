@@ -16,7 +16,7 @@ pub returns : goal.returns
 returns g c lists hold =
     let key = c.args.key.now in
     let told : point c.args.memtable.now key c.args.seqno ≡ c.in_ok-item.field-0 = let given = c.in_ok-item.ensures in cc in
-    subst (λ (o : Option Entry). Gives (λ (x : Option Entry). x) c.get_runs.result (Ok o))
+    subst (λ (o : Option Entry). Gives (λ (x : Option Entry). x) c.get_runs_by_age.result (Ok o))
     (sym (point_behind key c.args.seqno c.args.memtable.now (union_in lists)
     ∙ ap (λ (o : Option Entry). option_or o (point (union_in lists) key c.args.seqno)) (told ∙ c.in_default.is)))
-    (c.get_runs.ensures.list lists hold)
+    (c.get_runs_by_age.ensures.list lists hold)

@@ -2,6 +2,7 @@ use Rattle.std.proofs.Common.{◌≡◌, sym, ◌∙◌, rules}
 use Rattle.std.specs.Arc.{arc_value}
 use Rattle.logpurple.specs.Words.{run_label, tables_fault}
 use Rattle.example_store.specs.Story.{IsOwnRun}
+use Rattle.example_store.proofs.Counters.{shared_counter}
 use Rattle.example_store.proofs.Own.{cut_own}
 use Rattle.example_store.proofs.Refusing.{passed_on, run_fault, run_list, shared_list, shared_own}
 use Rattle.example_store.proofs.Stories.{all_own}
@@ -28,3 +29,7 @@ returns-clause-own g c from to numbered =
     (cut_own to label c.args.target es c.in_ok-run.run'
     (run_list label c.args.target es c.in_ok-run.run' c.in_ok-run.ensures.run c.in_ok-run.ensures.cut)
     c.in_ok-run.ensures.cut (all_own from to es numbered))
+
+pub returns-clause-ids : goal.returns-clause-ids
+returns-clause-ids g c =
+    shared_counter arc_value c.args.ids c.args.target c.in_ok-run.left c.in_ok-share_run.field-0 c.in_ok-run.run' c.in_ok-share_run.ensures.ok c.in_ok-run.ensures.ids

@@ -8,7 +8,7 @@ use Rattle.example_store.proofs.store.Store.add.Goals as goal
 pub invariant_of-self-2 : goal.invariant_of-self-2
 invariant_of-self-2 g c =
     let next = ap (λ (h : Holding). h.next) c.self.view_is in
-    sound_more c.self.inside.memtable c.insert.new.self _ _ _ c.self.inside.next _ _ c.args.item c.self.invariant c.in_ok-insert.ensures.put (c.requires.number ∙ sym next) c.requires.kind (subst (λ (n : ℕ). n < 2 ^ 64 - 2) (sym next) c.requires.room)
+    sound_more c.self.inside.memtable c.insert.new.self _ _ _ c.self.inside.next _ _ _ c.args.item c.self.invariant c.in_ok-insert.ensures.put (c.requires.number ∙ sym next) c.requires.kind (subst (λ (n : ℕ). n < 2 ^ 64 - 2) (sym next) c.requires.room)
 
 pub returns-clause-written : goal.returns-clause-written
 returns-clause-written g c ws told =

@@ -1,7 +1,7 @@
 use Rattle.std.proofs.Common.{◌≡◌, sym, ◌∙◌, ap, subst, ℕ, List, true, false, arith, rules}
-use Rattle.std.specs.Prelude.{map, max, min}
+use Rattle.std.specs.Prelude.{length, map, max, min, sum_by}
 use Rattle.std.specs.Arc.{arc_value}
-use Rattle.logpurple.specs.Words.{HaveAll, OpenTable, RunsHoldLists, kept_in, rules_by}
+use Rattle.logpurple.specs.Words.{HaveAll, OpenTable, RunsHoldLists, ids_behind, kept_in, rules_by}
 use Rattle.std.specs.List.{AllByRecursion}
 use Rattle.example_store.specs.Story.{Holding, IsOwnRun, IsStore}
 use Rattle.example_store.proofs.Compacting.{sound_replaced, tells_compacted}
@@ -15,7 +15,7 @@ invariant_of-self g c =
     let kept = c.self.invariant.kept in
     let lowest : c.min-watermark.result ≡ min c.args.watermark c.self.inside.next = search rules in
     let highest : c.max-self-inside.result ≡ max c.self.inside.oldest c.min-watermark.result = search rules in
-    sound_replaced i.memtable (map arc_value i.runs.items) (map arc_value c.in_ok-runs.runs.items) i.ids c.in_ok-runs.ids i.target i.next i.flushed i.oldest c.max-self-inside.result c.self.invariant
+    sound_replaced i.memtable (map arc_value i.runs.items) (map arc_value c.in_ok-runs.runs.items) i.ids c.in_ok-runs.ids i.target i.next i.flushed i.oldest c.max-self-inside.result i.limit c.self.invariant
     (record { own = c.in_ok-runs.ensures.own i.flushed own; able = c.in_ok-runs.ensures.able })
     (omega (arith, kept, lowest, highest))
 
@@ -41,3 +41,7 @@ returns-clause-made g c lists hold =
     let capped = lowest ∙ ap (λ (h : Holding). min c.args.watermark h.next) c.self.view_is in
     subst (λ (n : ℕ). HaveAll (kept_in (rules_by n true false) lists) (map arc_value c.in_ok-runs.runs.items)) capped
     (c.in_ok-runs.ensures.kept lists (subst (λ (rs : List (List OpenTable)). RunsHoldLists rs lists) (sym same) hold))
+
+pub returns-clause-ids : goal.returns-clause-ids
+returns-clause-ids g c =
+    c.in_ok-runs.ensures.ids ∙ ap (λ (h : Holding). ids_behind h.ids h.target (sum_by length (map arc_value c.in_ok-runs.runs.items))) c.self.view_is

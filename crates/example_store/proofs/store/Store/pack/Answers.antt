@@ -16,7 +16,7 @@ invariant_of-self g c =
     let given = ap (map arc_value) (sym c.deref.ensures.value) in
     let hold = subst (λ (rs : List (List OpenTable)). RunsHoldLists rs able.lists) given able.hold in
     let own = subst (AllByRecursion (IsOwnRun i.flushed)) given c.self.invariant.runs.own in
-    sound_replaced i.memtable (map arc_value i.runs.items) (map arc_value c.in_ok-packed.packed.items) i.ids i.ids i.target i.next i.flushed i.oldest i.oldest c.self.invariant
+    sound_replaced i.memtable (map arc_value i.runs.items) (map arc_value c.in_ok-packed.packed.items) i.ids i.ids i.target i.next i.flushed i.oldest i.oldest i.limit c.self.invariant
     (record {
       own = c.in_ok-packed.ensures.own i.flushed (runs_in_order (map arc_value c.deref.result.now) able.lists hold) own;
       able = c.in_ok-packed.ensures.able (subst AreCompactable given able);

@@ -1,10 +1,11 @@
-use Rattle.std.proofs.Common.{sym, subst}
-use Rattle.logpurple.specs.Words.{HaveAll, kept_in, run_label}
-use Rattle.std.specs.Prelude.{map}
+use Rattle.std.proofs.Common.{sym, ◌∙◌, ap, subst, length}
+use Rattle.logpurple.specs.Words.{HaveAll, ids_behind, kept_in, run_label}
+use Rattle.std.specs.Prelude.{map, sum_by}
 use Rattle.std.specs.Arc.{arc_value}
 use Rattle.std.specs.List.{AllByRecursion}
 use Rattle.example_store.specs.Story.{IsOwnRun}
 use Rattle.example_store.proofs.Compacting.{made_of}
+use Rattle.example_store.proofs.Counters.{few_tables}
 use Rattle.example_store.proofs.Own.{cut_own, listed_own, own_kept, own_run_lists, own_union}
 use Rattle.example_store.proofs.Refusing.{run_list}
 use Rattle.example_store.proofs.store.compact.compacted.Goals as goal
@@ -28,3 +29,8 @@ returns-clause-own g c bound own =
     (run_list label c.args.target left run (c.in_ok-run.ensures.run all.lists all.hold) cut) cut
     (own_kept bound c.args.rules all.lists
     (own_union bound (map arc_value c.args.runs.now) own all.lists all.hold))))
+
+pub returns-clause-ids : goal.returns-clause-ids
+returns-clause-ids g c =
+    let made = few_tables c.in_ok-run.run' ∙ sym (ap (sum_by length) c.in_ok-at_most_one.ensures.ok) in
+    c.in_ok-run.ensures.ids ∙ ap (ids_behind c.args.ids c.args.target) made
