@@ -2,6 +2,7 @@ pub mod Places
 pub mod Own
 pub mod Stories
 pub mod Opening
+pub mod Faults
 pub mod Compacting
 pub mod Parts
 pub mod Order

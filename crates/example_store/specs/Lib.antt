@@ -2,4 +2,5 @@ pub mod Recent
 pub mod Story
 pub mod Ids
 pub mod Closed
+pub mod Faulty
 pub mod Part

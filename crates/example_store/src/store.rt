@@ -122,6 +122,8 @@ impl<A: Allocator + Clone> Store<A> {
         ensures target { self.new.target ≡ self.old.target }
         // The counter of ids is behind the tables that were made, if some were.
         ensures flushed { HasFlushed self.old self.new }
+        // None are where there is room.
+        ensures waits { length self.old.recent < self.old.limit → self.new.runs ≡ self.old.runs }
         // What is wrong with the write is found before anything is done.
         ensures fault { (e : Error) → put_fault self.old.next key.now value.now ≡ Some e →
             result ≡ Err e }
@@ -145,6 +147,7 @@ impl<A: Allocator + Clone> Store<A> {
         ensures target { self.new.target ≡ self.old.target }
         // The counter of ids is behind the tables that were made, if some were.
         ensures flushed { HasFlushed self.old self.new }
+        ensures waits { length self.old.recent < self.old.limit → self.new.runs ≡ self.old.runs }
         ensures fault { (e : Error) → put_fault self.old.next key.now [] ≡ Some e →
             result ≡ Err e }
         ensures refused { put_fault self.old.next key.now [] ≡ None →
@@ -165,6 +168,7 @@ impl<A: Allocator + Clone> Store<A> {
         ensures limit { self.new.limit ≡ self.old.limit }
         ensures target { self.new.target ≡ self.old.target }
         ensures flushed { HasFlushed self.old self.new }
+        ensures waits { length self.old.recent < self.old.limit → self.new.runs ≡ self.old.runs }
         ensures fault { (e : Error) → put_fault self.old.next key.now value.now ≡ Some e →
             result ≡ Err e }
         ensures refused { put_fault self.old.next key.now value.now ≡ None →
@@ -185,6 +189,7 @@ impl<A: Allocator + Clone> Store<A> {
         ensures limit { self.new.limit ≡ self.old.limit }
         ensures target { self.new.target ≡ self.old.target }
         ensures flushed { HasFlushed self.old self.new }
+        ensures waits { length self.old.recent < self.old.limit → self.new ≡ self.old }
         ensures refused { IfErr result (λ e. is_memory e ≡ false →
             tables_fault self.old.ids self.old.target 0 self.old.recent ≡ Some e) }
     {

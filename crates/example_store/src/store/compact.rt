@@ -33,6 +33,8 @@ impl<A: Allocator + Clone> Store<A> {
         // The counter of ids runs on behind the new run's tables.
         ensures ids { OnOk result (self.new.ids
             ≡ ids_behind self.old.ids self.old.target (sum_by length self.new.runs)) }
+        // One run is left at most.
+        ensures few { OnOk result (length self.new.runs ≤ 1) }
         // The runs have what is kept of all that they had.
         ensures made { (lists : List (List (List Entry))) → RunsHoldLists self.old.runs lists →
             OnOk result (HaveAll (kept_in (rules_by (min watermark self.old.next) true false) lists)

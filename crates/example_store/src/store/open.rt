@@ -1,11 +1,18 @@
 //! Opening a store from what was kept of one.
-ghost use Rattle.std.specs.Prelude.{◌≡◌, ◌-◌, ◌^◌, ◌<◌, ◌≤◌, IfErr, IfOk, IsOk, List, length};
-ghost use Rattle.std.specs.Prelude.{map, true};
+ghost use Rattle.std.specs.Prelude.{◌≡◌, ◌-◌, ◌^◌, ◌<◌, ◌≤◌, ◌⊎◌, [], IfErr, IfOk, IsOk, List, ℕ};
+ghost use Rattle.std.specs.Prelude.{false, length, map, true};
 ghost use Rattle.std.specs.List.{AllByRecursion};
 ghost use Rattle.std.specs.Arc.{arc_value};
 ghost use Rattle.example_store.specs.Closed.{IsClosed, StoreLists, bytes_by_run, files_in};
 ghost use Rattle.example_store.specs.Story.{Holding, IsOwn, IsOwnRun, IsOwnTable, IsStore, IsTold};
+ghost use Rattle.example_store.specs.Faulty.{IsFirstFault, IsOpenFault, NamesFile, NamesInRun};
+ghost use Rattle.example_store.specs.declared.store.open.FileFault.TheVariants.{Unopened};
+ghost use Rattle.example_store.specs.declared.store.open.OpenError.TheVariants.{File, NoFile};
+ghost use Rattle.example_store.specs.declared.store.open.OpenError.TheVariants.{OldestTooHigh};
 ghost use Rattle.example_store.specs.declared.store.open.OpenError.TheVariants.{OutOfMemory};
+ghost use Rattle.example_store.specs.declared.store.open.OpenError.TheVariants.{OutOfOrder};
+ghost use Rattle.example_store.specs.declared.store.open.OpenError.TheVariants.{Repeated};
+ghost use Rattle.example_store.specs.declared.store.open.OpenError.TheVariants.{SeqNoOverflow};
 ghost use Rattle.logpurple.specs.Words.{Entry, HaveEntries, IsInOrder, IsStrict, OpenTable};
 ghost use Rattle.logpurple.specs.Words.{RunsHoldLists};
 ghost use Rattle.logpurple.specs.Words.{StoresList, is_memory, range_of, union_in};
@@ -107,6 +114,8 @@ impl<A: Allocator + Clone> Store<A> {
         // and that is refused for want of memory alone.
         ensures taken { (s : Holding) → IsStore s → IsClosed s closed.now →
             IfErr result (λ e. e ≡ OutOfMemory) }
+        // A refusal names what is wrong first, want of memory aside.
+        ensures refused { IfErr result (IsOpenFault closed.now) }
     {
         test_numbers(closed.next, closed.oldest)?;
         let runs = open_runs(alloc.clone()?, &closed.files, closed.next)?;
@@ -131,6 +140,8 @@ fn test_numbers(next: SeqNo, oldest: SeqNo) -> Result<(), OpenError>
     ensures room { IfOk result (λ _. next < 2 ^ 64 - 1) }
     ensures kept { IfOk result (λ _. oldest ≤ next) }
     ensures taken { next < 2 ^ 64 - 1 → oldest ≤ next → IsOk result }
+    ensures named { IfErr result (λ e. (e ≡ SeqNoOverflow) × (next ≡ 2 ^ 64 - 1) ⊎
+        (e ≡ OldestTooHigh) × (next < oldest)) }
 {
     if next == SeqNo::MAX {
         return Err(OpenError::SeqNoOverflow);
@@ -153,6 +164,7 @@ fn open_runs<A: Allocator + Clone>(
         bytes_by_run (map arc_value runs.items) ≡ map (λ run. run.items) files.now) }
     ensures taken { (runs : List (List OpenTable)) → AllByRecursion (IsOwnRun next) runs →
         bytes_by_run runs ≡ map (λ run. run.items) files.now → IfErr result (λ e. e ≡ OutOfMemory) }
+    ensures named { IfErr result (IsFirstFault next (map (λ run. run.items) files.now)) }
 {
     let mut runs = Vec::new(alloc.clone()?);
     for run in files {
@@ -173,6 +185,7 @@ fn open_run<A: Allocator + Clone>(
     ensures files { IfOk result (λ run. map (λ (t : OpenTable). t.bytes) run ≡ files.now) }
     ensures taken { (run : List OpenTable) → IsOwnRun next run →
         map (λ (t : OpenTable). t.bytes) run ≡ files.now → IfErr result (λ e. e ≡ OutOfMemory) }
+    ensures named { IfErr result (NamesInRun next files.now place) }
 {
     let mut tables = Vec::new(alloc.clone()?);
     for bytes in files {
@@ -191,6 +204,8 @@ fn run_of_tables<A: Allocator + Clone>(
     ensures some { IfOk result (λ _. 0 < length tables.items) }
     ensures order { IfOk result (λ _. IsInOrder range_of tables.items) }
     ensures taken { 0 < length tables.items → IsInOrder range_of tables.items → IsOk result }
+    ensures named { IfErr result (λ e. (e ≡ NoFile place) × (tables.items ≡ []) ⊎
+        (e ≡ OutOfOrder place) × (IsInOrder range_of tables.items → ⊥)) }
 {
     let Some(run) = Run::new(tables) else {
         return Err(OpenError::NoFile(place));
@@ -212,6 +227,7 @@ fn open_file<A: Allocator + Clone>(
     ensures file { IfOk result (λ t. t.bytes ≡ bytes.now) }
     ensures taken { (t : OpenTable) → IsOwnTable next t → t.bytes ≡ bytes.now →
         IfErr result (λ e. e ≡ OutOfMemory) }
+    ensures named { IfErr result (NamesFile next bytes.now place.0 place.1) }
 {
     let table = open_table(alloc, bytes.clone()?, place)?;
     test_table(&table, next, place)?;
@@ -227,6 +243,7 @@ fn open_table<A: Allocator + Clone>(
     ensures bytes { IfOk result (λ t. t.bytes ≡ bytes) }
     ensures unlifted { IfOk result (λ t. t.global_seqno ≡ 0) }
     ensures taken { (es : List Entry) → StoresList bytes es → IfErr result (λ e. e ≡ OutOfMemory) }
+    ensures named { (next : ℕ) → IfErr result (NamesFile next bytes place.0 place.1) }
 {
     match Table::recover(alloc, bytes, Checksum(0), 0, 0, true, true) {
         Ok(table) => Ok(table),
@@ -237,6 +254,7 @@ fn open_table<A: Allocator + Clone>(
 // Why a table is not opened that was refused.
 fn unopened(error: Error, place: (usize, usize)) -> OpenError
     ensures memory { is_memory error ≡ true → result ≡ OutOfMemory }
+    ensures named { is_memory error ≡ false → result ≡ File place.0 place.1 (Unopened error) }
 {
     match error {
         Error::OutOfMemory => OpenError::OutOfMemory,
@@ -254,6 +272,7 @@ fn test_table<A: Allocator + Clone>(
     ensures own { IfOk result (λ _. IsOwnTable next table.now) }
     ensures taken { (es : List Entry) → StoresList table.now.bytes es → 0 < length es →
         AllByRecursion (IsOwn next) es → IfErr result (λ e. e ≡ OutOfMemory) }
+    ensures named { IfErr result (NamesFile next table.now.bytes place.0 place.1) }
 {
     // What it says of itself is so of the list that it stores.
     table.tells_its_list();
@@ -276,6 +295,8 @@ fn test_entries<A: Allocator + Clone>(
         (0 < length es)) }
     ensures taken { (es : List Entry) → StoresList table.now.bytes es → 0 < length es →
         IfErr result (λ e. e ≡ OutOfMemory) }
+    ensures named { (next : ℕ) →
+        IfErr result (NamesFile next table.now.bytes place.0 place.1) }
 {
     table.tells_its_list();
     match table.verify() {
@@ -303,6 +324,7 @@ fn test_order<A: Allocator + Clone>(
     ensures taken { (lists : List (List (List Entry))) →
         RunsHoldLists (map arc_value runs.now) lists → AllByRecursion HaveEntries lists →
         IsStrict (union_in lists) → IfErr result (λ e. e ≡ OutOfMemory) }
+    ensures named { IfErr result (λ e. (e ≡ OutOfMemory) ⊎ (e ≡ Repeated)) }
 {
     match are_strict(alloc, runs) {
         Ok(true) => Ok(()),

@@ -10,6 +10,8 @@ use Rattle.example_store.specs.declared.store.open.OpenError.TheVariants.{OutOfM
 use Rattle.example_store.proofs.Opening.{strict_alike, tells_alike}
 use Rattle.example_store.proofs.Own.{later_runs, own_able, own_run_lists, runs_stored}
 use Rattle.example_store.proofs.Refusing.{wanted}
+use Rattle.example_store.specs.Faulty.{IsFirstFault, IsOpenFault}
+use Rattle.example_store.proofs.Faults.{names_kept, names_numbers, names_repeated, passed}
 use Rattle.example_store.proofs.store.Store.open.Goals as goal
 
 pub returns-in_err-test_numbers-clause-taken : goal.returns-in_err-test_numbers-clause-taken
@@ -84,3 +86,33 @@ returns-clause-story g c s ws sound closed told =
     let own = c.in_ok-runs.ensures.own in
     let same = sym closed.files ∙ ap (map (λ run. run.items)) (sym c.deref.ensures.value) ∙ sym c.in_ok-runs.ensures.files in
     tells_alike s.flushed n s _ ws told sound.runs.own own same (closed.none ∙ sym c.new-memtable.ensures) closed.next closed.oldest
+
+pub returns-in_err-test_numbers-clause-refused : goal.returns-in_err-test_numbers-clause-refused
+returns-in_err-test_numbers-clause-refused g c =
+    let r = c.from_residual in
+    passed (IsOpenFault c.args.closed.now) r.result c.in_err-test_numbers.field-0.0 r.ensures.1
+    (names_numbers c.args.closed.now c.in_err-test_numbers.field-0.0 c.in_err-test_numbers.ensures.named)
+
+pub returns-in_err-runs-clause-refused : goal.returns-in_err-runs-clause-refused
+returns-in_err-runs-clause-refused g c =
+    let r = c.from_residual-in_err-runs in
+    let closed = c.args.closed.now in
+    let e = c.in_err-runs.field-0.0 in
+    passed (IsOpenFault closed) r.result e r.ensures.1
+    (names_kept closed e (subst (λ fs. IsFirstFault closed.next fs e) (ap (map (λ run. run.items)) c.deref.ensures.value) c.in_err-runs.ensures.named))
+
+pub returns-in_err-test_order-clause-refused : goal.returns-in_err-test_order-clause-refused
+returns-in_err-test_order-clause-refused g c =
+    let r = c.from_residual-in_err-test_order in
+    let closed = c.args.closed.now in
+    let e = c.in_err-test_order.field-0.0 in
+    let n = closed.next in
+    let opened = map arc_value c.in_ok-runs.runs.items in
+    let own = c.in_ok-runs.ensures.own in
+    let all = own_run_lists n opened own in
+    passed (IsOpenFault closed) r.result e r.ensures.1
+    (names_repeated closed e all.lists c.in_err-test_order.ensures.named
+    (subst (λ (fs : List (List (List ℕ))). StoreLists fs all.lists) (c.in_ok-runs.ensures.files ∙ ap (map (λ run. run.items)) c.deref.ensures.value) (runs_stored n opened own))
+    (c.in_err-test_order.ensures.taken all.lists
+    (subst (λ (rs : List (List OpenTable)). RunsHoldLists rs all.lists) (ap (map arc_value) (sym c.deref-2.ensures.value)) all.hold)
+    all.some))

@@ -1,4 +1,4 @@
-use Rattle.std.proofs.Common.{◌≡◌, refl, sym, ◌∙◌, [], ◌∷◌, List}
+use Rattle.std.proofs.Common.{◌≡◌, refl, sym, ◌∙◌, subst, ℕ, [], ◌∷◌, List}
 use Rattle.std.specs.Prelude.{map}
 use Rattle.std.proofs.lemmas.List.{take_all}
 use Rattle.logpurple.specs.Words.{OpenTable}
@@ -8,6 +8,8 @@ use Rattle.example_store.specs.declared.store.open.OpenError.TheVariants.{OutOfM
 use Rattle.example_store.proofs.Opening.{made_at, one_made, order_alike, run_owned, some_alike}
 use Rattle.example_store.proofs.Own.{bytes_of}
 use Rattle.example_store.proofs.Refusing.{ok_is, refuses_none, wanted}
+use Rattle.example_store.specs.Faulty.{NamesFile, NamesInRun}
+use Rattle.example_store.proofs.Faults.{names_in_run, names_run, passed}
 use Rattle.example_store.proofs.store.open.open_run.Goals as goal
 
 pub loop-bytes-init : goal.loop-bytes-init
@@ -50,3 +52,18 @@ returns-clause-taken g c run own same =
     let alike : map bytes_of run ≡ map bytes_of tables = same ∙ sym (c.loop-bytes.invariant.made ∙ take_all c.loop-bytes.bytes-index files c.loop-bytes-test.false) in
     refuses_none (λ e. e ≡ OutOfMemory) c.run_of_tables.result
     (c.run_of_tables.ensures.taken (some_alike run tables alike own.some) (order_alike run tables alike own.order))
+
+pub returns-in_err-table-clause-named : goal.returns-in_err-table-clause-named
+returns-in_err-table-clause-named g c =
+    let r = c.from_residual-in_err-table in
+    let files = c.args.files.now in
+    let m = c.loop-bytes.invariant in
+    passed (NamesInRun c.args.next files c.args.place) r.result c.in_err-table.field-0.0 r.ensures.1
+    (names_in_run c.args.next files c.args.place c.loop-bytes.tables.items m.own c.loop-bytes.bytes-index c.bytes-item.result c.in_err-table.field-0.0 m.made c.loop-bytes-test.true c.bytes-item.is
+    (subst (λ (k : ℕ). NamesFile c.args.next c.bytes-item.result c.args.place k c.in_err-table.field-0.0) (c.len.ensures ∙ c.loop-bytes.tables.ok.0) c.in_err-table.ensures.named))
+
+pub returns-clause-named : goal.returns-clause-named
+returns-clause-named g c =
+    let files = c.args.files.now in
+    names_run c.args.next files c.args.place c.loop-bytes.tables.items c.loop-bytes.invariant.own c.run_of_tables.result
+    (c.loop-bytes.invariant.made ∙ take_all c.loop-bytes.bytes-index files c.loop-bytes-test.false) c.run_of_tables.ensures.named

@@ -1,4 +1,4 @@
-use Rattle.std.proofs.Common.{refl, sym, ◌∙◌, ap, subst, [], ◌∷◌}
+use Rattle.std.proofs.Common.{refl, sym, ◌∙◌, ap, subst, ℕ, [], ◌∷◌}
 use Rattle.std.specs.Prelude.{map}
 use Rattle.std.specs.Arc.{arc_value}
 use Rattle.std.specs.List.{AllByRecursion}
@@ -10,6 +10,8 @@ use Rattle.example_store.specs.declared.store.open.OpenError.TheVariants.{OutOfM
 use Rattle.example_store.proofs.Opening.{one_seen, seen_at}
 use Rattle.example_store.proofs.Own.{bytes_of}
 use Rattle.example_store.proofs.Refusing.{wanted}
+use Rattle.example_store.specs.Faulty.{IsFirstFault, IsOwnFile, NamesInRun}
+use Rattle.example_store.proofs.Faults.{names_first_run, own_run_files, passed}
 use Rattle.example_store.proofs.store.open.open_runs.Goals as goal
 
 pub loop-run-init : goal.loop-run-init
@@ -41,3 +43,15 @@ pub returns-clause-files : goal.returns-clause-files
 returns-clause-files g c =
     map-map (map bytes_of) arc_value c.loop-run.runs.items ∙ c.loop-run.invariant.made
     ∙ ap (map (λ run. run.items)) (take_all c.loop-run.run-index c.args.files.now c.loop-run-test.false)
+
+pub returns-in_err-opened-clause-named : goal.returns-in_err-opened-clause-named
+returns-in_err-opened-clause-named g c =
+    let r = c.from_residual-in_err-opened in
+    let n = c.args.next in
+    let runs = c.loop-run.runs.items in
+    let m = c.loop-run.invariant in
+    let e = c.in_err-opened.field-0.0 in
+    passed (IsFirstFault n (map (λ run. run.items) c.args.files.now)) r.result e r.ensures.1
+    (names_first_run n (λ run. map bytes_of (arc_value run)) (λ run. run.items) runs c.args.files.now c.loop-run.run-index c.run-item.result e m.made c.loop-run-test.true c.run-item.is
+    (subst (AllByRecursion (AllByRecursion (IsOwnFile n))) (map-map (map bytes_of) arc_value runs) (own_run_files n (map arc_value runs) m.own))
+    (subst (λ (k : ℕ). NamesInRun n c.run-item.result.items k e) (c.len.ensures ∙ c.loop-run.runs.ok.0) (subst (λ fs. NamesInRun n fs c.len.result e) c.as_slice.ensures.value c.in_err-opened.ensures.named)))

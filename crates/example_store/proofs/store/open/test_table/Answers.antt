@@ -1,5 +1,7 @@
 use Rattle.std.proofs.Common.{arith}
 use Rattle.example_store.proofs.Opening.{highest_own, none_weak, own_table}
+use Rattle.example_store.specs.Faulty.{NamesFile}
+use Rattle.example_store.proofs.Faults.{passed}
 use Rattle.example_store.proofs.store.open.test_table.Goals as goal
 
 pub returns-then-get_highest_seqno-next-clause-taken :
@@ -34,3 +36,8 @@ returns-clause-own g c =
     let none = c.if-weak_tombstone_count-gt0.false in
     own_table c.args.next c.args.table.now found.0 c.tells_its_list.ensures.open unlifted found.1 found.2
     (omega (arith, highest, high_is, unlifted, below)) (omega (arith, weak, weak_is, none))
+
+pub returns-in_err-test_entries-clause-named : goal.returns-in_err-test_entries-clause-named
+returns-in_err-test_entries-clause-named g c =
+    passed (NamesFile c.args.next c.args.table.now.bytes c.args.place.0 c.args.place.1) c.from_residual.result c.in_err-test_entries.field-0.0 c.from_residual.ensures.1
+    (c.in_err-test_entries.ensures.named c.args.next)
