@@ -7,7 +7,7 @@ use Rattle.sst_entries.specs.Entry.{Entry}
 use Rattle.sst_entries.specs.declared.error.Error.{Error}
 use Rattle.sst_entries.proofs.Lists.{all_append}
 use Rattle.lsm_merge.specs.Ends.{R}
-use Rattle.lsm_merge.specs.InPlace.{Placed, placed, is_after, put_in_place, sort_places, all_placed}
+use Rattle.lsm_merge.specs.InPlace.{Placed, places_of, is_after, put_in_place, sort_places, all_placed}
 use Rattle.lsm_merge.specs.InPlace.{up_to_error, merge_of}
 use Rattle.lsm_merge.specs.Union.{AtMost, entries_among}
 use Rattle.lsm_merge.proofs.MergedLemmas.{Above}
@@ -59,13 +59,13 @@ first_stays p (q ∷ ps) qs h = ap (put_in_place q) (first_stays p ps qs h.1)
 abbrev others : List (List R) → ℕ → List Placed → List Placed
 others [] k ps = ps
 others (l ∷ lists) zero ps = ps ++ all_placed lists
-others (l ∷ lists) (suc k) ps = placed None l ++ others lists k ps
+others (l ∷ lists) (suc k) ps = places_of None l ++ others lists k ps
 
 all_placed_all : (P : Placed → Type 0) (lists : List (List R))
-    → ((j : ℕ) → j < length lists → AllByRecursion P (placed None (slice_index_or lists j [])))
+    → ((j : ℕ) → j < length lists → AllByRecursion P (places_of None (slice_index_or lists j [])))
     → AllByRecursion P (all_placed lists)
 all_placed_all P [] h = tt
-all_placed_all P (rs ∷ lists) h = all_append P (placed None rs) (all_placed lists)
+all_placed_all P (rs ∷ lists) h = all_append P (places_of None rs) (all_placed lists)
     (h zero (omega arith)) (all_placed_all P lists (λ j lt. h (suc j) (omega arith)))
 
 all_sorted_places : (P : Placed → Type 0) (ps : List Placed) → AllByRecursion P ps
@@ -76,9 +76,9 @@ all_sorted_places P (p ∷ ps) h = all_put P p (sort_places ps) h.0 (all_sorted_
 -- p is the first of list k, comes after no other of it and of later lists, and before each of an
 -- earlier one
 first_of_others : (lists : List (List R)) (k : ℕ) (p : Placed) (ps : List Placed) → k < length lists
-    → ((j : ℕ) → j < k → AllByRecursion (Behind p.at) (placed None (slice_index_or lists j [])))
+    → ((j : ℕ) → j < k → AllByRecursion (Behind p.at) (places_of None (slice_index_or lists j [])))
     → ((j : ℕ) → k < j → j < length lists → AllByRecursion (NotBefore p.at)
-    (placed None (slice_index_or lists j [])))
+    (places_of None (slice_index_or lists j [])))
     → AllByRecursion (NotBefore p.at) ps
     → sort_places (others lists k (p ∷ ps)) ≡ p ∷ sort_places (others lists k ps)
 first_of_others [] k p ps within before after least = absurd (omega arith)
@@ -88,26 +88,26 @@ first_of_others (l ∷ lists) zero p ps within before after least =
     (all_append (NotBefore p.at) ps (all_placed lists) least
     (all_placed_all (NotBefore p.at) lists (λ j lt. after (suc j) (omega arith) (omega arith)))))
 first_of_others (l ∷ lists) (suc k) p ps within before after least =
-    sorted_among (placed None l) (others lists k (p ∷ ps))
-    ∙ ap (among (placed None l)) (first_of_others lists k p ps (omega arith)
+    sorted_among (places_of None l) (others lists k (p ∷ ps))
+    ∙ ap (among (places_of None l)) (first_of_others lists k p ps (omega arith)
     (λ j lt. before (suc j) (omega arith)) (λ j gt lt. after (suc j) (omega arith) (omega arith))
     least)
-    ∙ first_stays p (placed None l) (sort_places (others lists k ps)) (before zero (omega arith))
-    ∙ sym (ap (λ (qs : List Placed). p ∷ qs) (sorted_among (placed None l) (others lists k ps)))
+    ∙ first_stays p (places_of None l) (sort_places (others lists k ps)) (before zero (omega arith))
+    ∙ sym (ap (λ (qs : List Placed). p ∷ qs) (sorted_among (places_of None l) (others lists k ps)))
 
 others_same : (lists : List (List R)) (k : ℕ) → k < length lists
-    → others lists k (placed None (slice_index_or lists k [])) ≡ all_placed lists
+    → others lists k (places_of None (slice_index_or lists k [])) ≡ all_placed lists
 others_same [] k lt = absurd (omega arith)
 others_same (l ∷ lists) zero lt = refl
 others_same (l ∷ lists) (suc k) lt =
-    ap (λ (qs : List Placed). placed None l ++ qs) (others_same lists k (omega arith))
+    ap (λ (qs : List Placed). places_of None l ++ qs) (others_same lists k (omega arith))
 
 others_set : (lists : List (List R)) (k : ℕ) (rs : List R) → k < length lists
-    → others lists k (placed None rs) ≡ all_placed (slice_set lists k rs)
+    → others lists k (places_of None rs) ≡ all_placed (slice_set lists k rs)
 others_set [] k rs lt = absurd (omega arith)
 others_set (l ∷ lists) zero rs lt = refl
 others_set (l ∷ lists) (suc k) rs lt =
-    ap (λ (qs : List Placed). placed None l ++ qs) (others_set lists k rs (omega arith))
+    ap (λ (qs : List Placed). places_of None l ++ qs) (others_set lists k rs (omega arith))
 
 -- up to the first error of these
 abbrev told : List Placed → List R
@@ -121,12 +121,12 @@ HasNoFault [] = Unit {0}
 HasNoFault (Ok x ∷ rs) = Unit {0}
 HasNoFault (Err e ∷ rs) = ⊥
 
-all_behind_none : (x : Entry) (rs : List R) → AllByRecursion (Behind None) (placed (Some x) rs)
+all_behind_none : (x : Entry) (rs : List R) → AllByRecursion (Behind None) (places_of (Some x) rs)
 all_behind_none x [] = tt
 all_behind_none x (Ok y ∷ rs) = (refl, all_behind_none y rs)
 all_behind_none x (Err e ∷ rs) = (refl, all_behind_none x rs)
 
-fault_free : (rs : List R) → HasNoFault rs → AllByRecursion (Behind None) (placed None rs)
+fault_free : (rs : List R) → HasNoFault rs → AllByRecursion (Behind None) (places_of None rs)
 fault_free [] h = tt
 fault_free (Ok x ∷ rs) h = (refl, all_behind_none x rs)
 fault_free (Err e ∷ rs) h = absurd h
@@ -137,9 +137,9 @@ none_before (p ∷ ps) = (refl, none_before ps)
 
 told_fault : (lists : List (List R)) (k : ℕ) (at : Option Entry) (e : Error) (ps : List Placed)
     → k < length lists
-    → ((j : ℕ) → j < k → AllByRecursion (Behind at) (placed None (slice_index_or lists j [])))
+    → ((j : ℕ) → j < k → AllByRecursion (Behind at) (places_of None (slice_index_or lists j [])))
     → ((j : ℕ) → k < j → j < length lists → AllByRecursion (NotBefore at)
-    (placed None (slice_index_or lists j [])))
+    (places_of None (slice_index_or lists j [])))
     → AllByRecursion (NotBefore at) ps
     → told (others lists k (record { at = at; is = Err e } ∷ ps)) ≡ Err e ∷ []
 told_fault lists k at e ps lt before after least =
@@ -152,60 +152,60 @@ pub merge_fault : (lists : List (List R)) (k : ℕ) (e : Error) (rs : List R) �
     → ((j : ℕ) → j < k → HasNoFault (slice_index_or lists j [])) → merge_of lists ≡ Err e ∷ []
 merge_fault lists k e rs lt is free =
     ap told (sym (others_same lists k lt)
-    ∙ ap (λ (l : List R). others lists k (placed None l)) is)
-    ∙ told_fault lists k None e (placed None rs) lt
+    ∙ ap (λ (l : List R). others lists k (places_of None l)) is)
+    ∙ told_fault lists k None e (places_of None rs) lt
     (λ j below. fault_free (slice_index_or lists j []) (free j below))
-    (λ j above within. none_before (placed None (slice_index_or lists j [])))
-    (none_before (placed None rs))
+    (λ j above within. none_before (places_of None (slice_index_or lists j [])))
+    (none_before (places_of None rs))
 
 -- ---- an entry at the head
 
 -- after x in a list that ascends
 all_not_before : (x y : Entry) (rs : List R) → AtMost x y
     → AllByRecursion (AtMost x) (entries_among rs)
-    → AllByRecursion (NotBefore (Some x)) (placed (Some y) rs)
+    → AllByRecursion (NotBefore (Some x)) (places_of (Some y) rs)
 all_not_before x y [] one h = tt
 all_not_before x y (Ok z ∷ rs) one h = (h.0, all_not_before x z rs h.0 h.1)
 all_not_before x y (Err e ∷ rs) one h = (one, all_not_before x y rs one h)
 
 all_after : (x y : Entry) (rs : List R) → Above y x
     → AllByRecursion (λ z. Above z x) (entries_among rs)
-    → AllByRecursion (Behind (Some x)) (placed (Some y) rs)
+    → AllByRecursion (Behind (Some x)) (places_of (Some y) rs)
 all_after x y [] one h = tt
 all_after x y (Ok z ∷ rs) one h = (h.0, all_after x z rs h.0 h.1)
 all_after x y (Err e ∷ rs) one h = (one, all_after x y rs one h)
 
 head_not_before : (x : Entry) (rs : List R) → HasNoFault rs
     → AllByRecursion (AtMost x) (entries_among rs)
-    → AllByRecursion (NotBefore (Some x)) (placed None rs)
+    → AllByRecursion (NotBefore (Some x)) (places_of None rs)
 head_not_before x [] free h = tt
 head_not_before x (Ok y ∷ rs) free h = (h.0, all_not_before x y rs h.0 h.1)
 head_not_before x (Err e ∷ rs) free h = absurd free
 
 head_after : (x : Entry) (rs : List R) → HasNoFault rs
     → AllByRecursion (λ z. Above z x) (entries_among rs)
-    → AllByRecursion (Behind (Some x)) (placed None rs)
+    → AllByRecursion (Behind (Some x)) (places_of None rs)
 head_after x [] free h = tt
 head_after x (Ok y ∷ rs) free h = (h.0, all_after x y rs h.0 h.1)
 head_after x (Err e ∷ rs) free h = absurd free
 
 -- what stands behind x goes on as if nothing had stood before it
 goes_on : (lists : List (List R)) (k : ℕ) (x : Entry) (rs : List R) → k < length lists → AtMost x x
-    → ((j : ℕ) → j < k → AllByRecursion (Behind (Some x)) (placed None (slice_index_or lists j [])))
+    → ((j : ℕ) → j < k → AllByRecursion (Behind (Some x)) (places_of None (slice_index_or lists j [])))
     → ((j : ℕ) → k < j → j < length lists → AllByRecursion (NotBefore (Some x))
-    (placed None (slice_index_or lists j [])))
+    (places_of None (slice_index_or lists j [])))
     → ((j : ℕ) → j < k → HasNoFault (slice_index_or lists j []))
     → AllByRecursion (AtMost x) (entries_among rs)
-    → told (others lists k (placed (Some x) rs)) ≡ told (others lists k (placed None rs))
+    → told (others lists k (places_of (Some x) rs)) ≡ told (others lists k (places_of None rs))
 goes_on lists k x [] lt own before after free least = refl
 goes_on lists k x (Ok y ∷ rs) lt own before after free least = refl
 goes_on lists k x (Err e ∷ rs) lt own before after free least =
-    told_fault lists k (Some x) e (placed (Some x) rs) lt before after
+    told_fault lists k (Some x) e (places_of (Some x) rs) lt before after
     (all_not_before x x rs own least)
-    ∙ sym (told_fault lists k None e (placed None rs) lt
+    ∙ sym (told_fault lists k None e (places_of None rs) lt
     (λ j below. fault_free (slice_index_or lists j []) (free j below))
-    (λ j above within. none_before (placed None (slice_index_or lists j [])))
-    (none_before (placed None rs)))
+    (λ j above within. none_before (places_of None (slice_index_or lists j [])))
+    (none_before (places_of None rs)))
 
 -- x is the head of list k, above no entry of a later list, and below each entry of an earlier one;
 -- no list has an error at its head
@@ -220,15 +220,15 @@ pub merge_entry : (lists : List (List R)) (k : ℕ) (x : Entry) (rs : List R) �
     → merge_of lists ≡ Ok x ∷ merge_of (slice_set lists k rs)
 merge_entry lists k x rs lt is own free before after least =
     let early : (j : ℕ) → j < k → AllByRecursion (Behind (Some x))
-    (placed None (slice_index_or lists j [])) = λ j below.
+    (places_of None (slice_index_or lists j [])) = λ j below.
     head_after x (slice_index_or lists j []) (free j (omega arith)) (before j below) in
     let late : (j : ℕ) → k < j → j < length lists → AllByRecursion (NotBefore (Some x))
-    (placed None (slice_index_or lists j [])) = λ j above within.
+    (places_of None (slice_index_or lists j [])) = λ j above within.
     head_not_before x (slice_index_or lists j []) (free j within) (after j above within) in
     ap told (sym (others_same lists k lt)
-    ∙ ap (λ (l : List R). others lists k (placed None l)) is)
+    ∙ ap (λ (l : List R). others lists k (places_of None l)) is)
     ∙ ap (λ (qs : List Placed). up_to_error (map (λ (p : Placed). p.is) qs))
-    (first_of_others lists k (record { at = Some x; is = Ok x }) (placed (Some x) rs) lt early late
+    (first_of_others lists k (record { at = Some x; is = Ok x }) (places_of (Some x) rs) lt early late
     (all_not_before x x rs own least))
     ∙ ap (λ (qs : List R). Ok x ∷ qs) (goes_on lists k x rs lt own early late
     (λ j below. free j (omega arith)) least
@@ -242,5 +242,5 @@ merge_nothing lists none = ap told (nothing lists none)
     nothing : (lists : List (List R))
         → ((j : ℕ) → j < length lists → slice_index_or lists j [] ≡ []) → all_placed lists ≡ []
     nothing [] none = refl
-    nothing (rs ∷ lists) none = ap (λ (l : List R). placed None l ++ all_placed lists)
+    nothing (rs ∷ lists) none = ap (λ (l : List R). places_of None l ++ all_placed lists)
         (none zero (omega arith)) ∙ nothing lists (λ j lt. none (suc j) (omega arith))

@@ -15,9 +15,9 @@ use Rattle.sst_entries.specs.declared.stream.Direction.TheVariants.{Front, Back}
 use Rattle.sst_entries.proofs.StreamLemmas.{can_by, deals_by}
 use Rattle.lsm_merge.specs.declared.lending.LendingMerger.{LendingMerger}
 use Rattle.lsm_merge.specs.Ends.{R}
-use Rattle.lsm_merge.specs.InPlace.{Placed, placed, put_in_place, sort_places, all_placed}
+use Rattle.lsm_merge.specs.InPlace.{Placed, places_of, put_in_place, sort_places, all_placed}
 use Rattle.lsm_merge.specs.InPlace.{up_to_error, merge_of}
-use Rattle.lsm_merge.specs.Lent.{AdvancesLent, IsOver, LeavesLent, LeavesIf, MayLend}
+use Rattle.lsm_merge.specs.Lent.{AdvancesLent, LendsNoMore, LeavesLent, LeavesIf, MayLend}
 use Rattle.lsm_merge.specs.Lent.{IsQueue, Rests, lent_at}
 use Rattle.lsm_merge.specs.MergeLaws.{DealSorted, DealsInPlace, DealsMerged}
 use Rattle.lsm_merge.specs.Union.{item_cmp, entries_among, errors_among, all_entries, all_errors}
@@ -29,7 +29,7 @@ abbrev in_place : Entry → Placed
 in_place x = record { at = Some x; is = Ok x }
 
 placed_entries : (before : Option Entry) (rs : List R) → errors_among rs ≡ []
-    → placed before rs ≡ map in_place (entries_among rs)
+    → places_of before rs ≡ map in_place (entries_among rs)
 placed_entries before [] none = refl
 placed_entries before (Ok x ∷ rs) none = ap (λ (ps : List Placed). in_place x ∷ ps)
     (placed_entries (Some x) rs none)
@@ -171,7 +171,7 @@ module _ {S A : Type 0} (advances : S → Option R → S → Type 0) (can : S �
 
   -- ---- nothing follows an error
 
-  over_more : (ends : List Direction) (rs : List (Option R)) (s t : LendingMerger S A) → IsOver s
+  over_more : (ends : List Direction) (rs : List (Option R)) (s t : LendingMerger S A) → LendsNoMore s
       → Runs Adv nowhere s ends rs t → AllByRecursion (λ r. r ≡ None) rs
   over_more [] [] s t over runs = tt
   over_more [] (r ∷ rs) s t over runs = absurd runs

@@ -12,7 +12,7 @@ use Rattle.sst_entries.specs.Stream.{answer_stops, but_first, first, nowhere}
 use Rattle.sst_entries.specs.declared.error.Error.{Error}
 use Rattle.sst_entries.proofs.StreamLemmas.{deals_front}
 use Rattle.lsm_merge.specs.Ends.{R}
-use Rattle.lsm_merge.specs.Lent.{goes_before, lent_at, IsQueue, is_among, Has, RestIf, Rests}
+use Rattle.lsm_merge.specs.Lent.{goes_before, lent_at, IsQueue, is_queued, Has, RestIf, Rests}
 use Rattle.lsm_merge.proofs.QueueLemmas.{among_itself, among_put}
 
 -- ---- one of several
@@ -63,12 +63,12 @@ module _ {S : Type 0} where
 
 module _ (at at' : ℕ → Option Entry) where
   -- the same entries stand in the same order
-  queue_same : (qs : List ℕ) → ((j : ℕ) → is_among j qs ≡ true → at' j ≡ at j) → IsQueue at qs
+  queue_same : (qs : List ℕ) → ((j : ℕ) → is_queued j qs ≡ true → at' j ≡ at j) → IsQueue at qs
       → IsQueue at' qs
   queue_same [] same h = tt
   queue_same (q ∷ qs) same h =
       let own : at' q ≡ at q = same q (among_itself q qs) in
-      let later : (j : ℕ) → is_among j qs ≡ true → at' j ≡ at j = λ j e. same j (or_more (q == j) e)
+      let later : (j : ℕ) → is_queued j qs ≡ true → at' j ≡ at j = λ j e. same j (or_more (q == j) e)
       in (
         ap is_some own ∙ h.0,
         all_same q own qs later h.1,
@@ -80,7 +80,7 @@ module _ (at at' : ℕ → Option Entry) where
       or_more false e = e
 
       all_same : (q : ℕ) → at' q ≡ at q → (qs : List ℕ)
-          → ((j : ℕ) → is_among j qs ≡ true → at' j ≡ at j)
+          → ((j : ℕ) → is_queued j qs ≡ true → at' j ≡ at j)
           → AllByRecursion (λ r. goes_before (at r) r (at q) q ≡ true) qs
           → AllByRecursion (λ r. goes_before (at' r) r (at' q) q ≡ true) qs
       all_same q own [] same h = tt
@@ -92,19 +92,19 @@ module _ (at at' : ℕ → Option Entry) where
 
 -- a source that is not in the queue goes on
 pub queue_stays : {S : Type 0} (lent : S → Option Entry) (ss : List S) (i : ℕ) (t : S)
-    (qs : List ℕ) → is_among i qs ≡ false → IsQueue (lent_at lent ss) qs
+    (qs : List ℕ) → is_queued i qs ≡ false → IsQueue (lent_at lent ss) qs
     → IsQueue (lent_at lent (slice_set ss i t)) qs
 queue_stays lent ss i t qs apart = queue_same (lent_at lent ss) (lent_at lent (slice_set ss i t)) qs
     (λ j e. lent_other lent ss i j t (λ same. let no : true ≡ false = sym e
-    ∙ ap (λ (k : ℕ). is_among k qs) (sym same) ∙ apart in absurd cc))
+    ∙ ap (λ (k : ℕ). is_queued k qs) (sym same) ∙ apart in absurd cc))
 
 -- what is below a bound is not in a queue of which all are at least it
 pub below_not_among : (i : ℕ) (qs : List ℕ) → AllByRecursion (λ q. q < i) qs
-    → is_among i qs ≡ false
+    → is_queued i qs ≡ false
 below_not_among i [] h = refl
 below_not_among i (q ∷ qs) h =
     let other : (q == i) ≡ false = grind (arith, nat_tests, h.0) in
-    ap (λ (b : Bool). b || is_among i qs) other ∙ below_not_among i qs h.1
+    ap (λ (b : Bool). b || is_queued i qs) other ∙ below_not_among i qs h.1
 
 -- ---- what is left
 
@@ -127,7 +127,7 @@ module _ {S : Type 0} (stops : Error → Bool) (advances : S → Option R → S 
       → Rests stops advances lent waits ss qs lists → Rests stops advances lent waits' ss qs lists
   rests_same waits waits' ss qs lists same h = record {
     count = h.count;
-    each = λ j s lt. subst (λ (b : Bool). Rest (is_among j qs) b (slice_index_or ss j s)
+    each = λ j s lt. subst (λ (b : Bool). Rest (is_queued j qs) b (slice_index_or ss j s)
         (slice_index_or lists j [])) (sym (same j lt)) (h.each j s lt);
     sorted = h.sorted;
   }
@@ -140,8 +140,8 @@ module _ {S : Type 0} (stops : Error → Bool) (advances : S → Option R → S 
   -- source i stands otherwise, and waits no more
   rests_set : (waits : ℕ → Bool) (ss : List S) (qs qs' : List ℕ) (lists : List (List R)) (i : ℕ)
       (t : S) → Rests stops advances lent waits ss qs lists → i < length ss
-      → ((j : ℕ) → (i ≡ j → ⊥) → is_among j qs' ≡ is_among j qs)
-      → Rest (is_among i qs') false t (slice_index_or lists i [])
+      → ((j : ℕ) → (i ≡ j → ⊥) → is_queued j qs' ≡ is_queued j qs)
+      → Rest (is_queued i qs') false t (slice_index_or lists i [])
       → Rests stops advances lent (λ j. waits j && not (j == i)) (slice_set ss i t) qs' lists
   rests_set waits ss qs qs' lists i t h within same own = record {
     count = h.count ∙ sym (set_length ss i t);
@@ -158,7 +158,7 @@ module _ {S : Type 0} (stops : Error → Bool) (advances : S → Option R → S 
       as_before false = refl
 
       go : (j : ℕ) (s : S) (b : Bool) → (j == i) ≡ b → j < length ss
-          → Rest (is_among j qs') (waits j && not (j == i)) (slice_index_or (slice_set ss i t) j s)
+          → Rest (is_queued j qs') (waits j && not (j == i)) (slice_index_or (slice_set ss i t) j s)
           (slice_index_or lists j [])
       go j s true e lt =
           let is : i ≡ j = sym (eqb-true j i e) in
@@ -168,7 +168,7 @@ module _ {S : Type 0} (stops : Error → Bool) (advances : S → Option R → S 
           ap (λ (k : ℕ). slice_index_or (slice_set ss i t) k s) (sym is)
           ∙ set_own ss i t s within in
           rw (idle, at) (subst
-          (λ (k : ℕ). Rest (is_among k qs') false t (slice_index_or lists k []))
+          (λ (k : ℕ). Rest (is_queued k qs') false t (slice_index_or lists k []))
           is own)
       go j s false e lt =
           let apart : i ≡ j → ⊥ = λ is. let no : true ≡ false = sym (eq-eqb j i (sym is)) ∙ e in
@@ -180,10 +180,10 @@ module _ {S : Type 0} (stops : Error → Bool) (advances : S → Option R → S 
   module _ (waits : ℕ → Bool) (ss : List S) (qs : List ℕ) (lists : List (List R)) (i : ℕ)
       (s t : S) (h : Rests stops advances lent waits ss qs lists) (waited : waits i ≡ true)
       (within : i < length ss) (is : s ≡ slice_index_or ss i s) where
-    had : (is_among i qs ≡ false) × Has stops advances lent s (slice_index_or lists i [])
-    had = waiting (is_among i qs) s (slice_index_or lists i [])
-        (subst (λ (b : Bool). Rest (is_among i qs) b s (slice_index_or lists i [])) waited
-        (subst (λ (u : S). Rest (is_among i qs) (waits i) u (slice_index_or lists i [])) (sym is)
+    had : (is_queued i qs ≡ false) × Has stops advances lent s (slice_index_or lists i [])
+    had = waiting (is_queued i qs) s (slice_index_or lists i [])
+        (subst (λ (b : Bool). Rest (is_queued i qs) b s (slice_index_or lists i [])) waited
+        (subst (λ (u : S). Rest (is_queued i qs) (waits i) u (slice_index_or lists i [])) (sym is)
         (h.each i s within)))
 
     -- it lends an entry
@@ -204,8 +204,8 @@ module _ {S : Type 0} (stops : Error → Bool) (advances : S → Option R → S 
           one.1,
         ))
       where
-        other : (j : ℕ) → (i ≡ j → ⊥) → is_among j (i ∷ qs) ≡ is_among j qs
-        other j apart = ap (λ (b : Bool). b || is_among j qs) (differ j apart)
+        other : (j : ℕ) → (i ≡ j → ⊥) → is_queued j (i ∷ qs) ≡ is_queued j qs
+        other j apart = ap (λ (b : Bool). b || is_queued j qs) (differ j apart)
           where
             differ : (j : ℕ) → (i ≡ j → ⊥) → (i == j) ≡ false
             differ j apart = grind (arith, nat_tests, apart)

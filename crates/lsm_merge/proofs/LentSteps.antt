@@ -25,7 +25,7 @@ use Rattle.lsm_merge.specs.Ends.{R}
 use Rattle.lsm_merge.specs.InPlace.{merge_of}
 use Rattle.lsm_merge.specs.Lent.{goes_before, is_turn, lent_at, lent_by, lent_first, IsQueue}
 use Rattle.lsm_merge.specs.Lent.{IsReady}
-use Rattle.lsm_merge.specs.Lent.{is_among, RestIf, Rests, LeavesIf, LeavesLent, Belongs}
+use Rattle.lsm_merge.specs.Lent.{is_queued, RestIf, Rests, LeavesIf, LeavesLent, Belongs}
 use Rattle.lsm_merge.specs.Lent.{StepLowers, lent_size, lent_total}
 use Rattle.lsm_merge.specs.Union.{item_cmp, AtMost, Ascends, entries_among}
 use Rattle.lsm_merge.proofs.InPlaceLemmas.{HasNoFault, merge_entry, merge_fault, merge_nothing}
@@ -68,7 +68,7 @@ module _ {S : Type 0} (advances : S → Option R → S → Type 0) (can : S → 
       → m.queue.items ≡ n.queue.items ++ w ∷ [] → n.sources.items ≡ m.sources.items
       → vec_capacity n.queue ≡ vec_capacity m.queue
       → IsReady advances can lent n × (w < length m.sources.items)
-      × (is_among w n.queue.items ≡ false)
+      × (is_queued w n.queue.items ≡ false)
   ready_popped m n w ready items same room =
       let queue : IsQueue (lent_at lent m.sources.items) (n.queue.items ++ w ∷ []) =
       subst (IsQueue (lent_at lent m.sources.items)) items ready.queue in
@@ -124,7 +124,7 @@ known_put bound i p qs one all = All-from_recursion (λ q. q < bound) (insert qs
 
 -- what was put in the queue lends
 pub queue_put : {S : Type 0} (lent : S → Option Entry) (ss : List S) (i p : ℕ) (t : S)
-    (qs : List ℕ) → i < length ss → is_some (lent t) ≡ true → is_among i qs ≡ false
+    (qs : List ℕ) → i < length ss → is_some (lent t) ≡ true → is_queued i qs ≡ false
     → IsQueue (lent_at lent ss) qs → Belongs (lent_at lent (slice_set ss i t)) i qs p
     → IsQueue (lent_at lent (slice_set ss i t)) (insert qs p i)
 queue_put lent ss i p t qs within some apart queue belongs = belongs.keeps
@@ -193,8 +193,8 @@ module _ {S : Type 0} (stops : Error → Bool) (advances : S → Option R → S 
       → HasNoFault (slice_index_or lists j [])
   no_faults waits ss qs lists h j lt idle =
       let s : S = slice_index_or ss j (some_of ss j lt) in
-      no_fault (is_among j qs) s (slice_index_or lists j [])
-      (subst (λ (b : Bool). Rest (is_among j qs) b s (slice_index_or lists j [])) idle
+      no_fault (is_queued j qs) s (slice_index_or lists j [])
+      (subst (λ (b : Bool). Rest (is_queued j qs) b s (slice_index_or lists j [])) idle
       (h.each j (some_of ss j lt) lt))
 
   -- an error of source i, where no earlier source waits
@@ -240,8 +240,8 @@ module _ {S : Type 0} (stops : Error → Bool) (advances : S → Option R → S 
     abbrev pub some : S
     some = some_of ss w within
 
-    among_last : is_among w (ps ++ w ∷ []) ≡ true
-    among_last = among_end w w ps ∙ ap (λ (b : Bool). b || is_among w ps) (eq-eqb w w refl)
+    among_last : is_queued w (ps ++ w ∷ []) ≡ true
+    among_last = among_end w w ps ∙ ap (λ (b : Bool). b || is_queued w ps) (eq-eqb w w refl)
 
     pub lead : Rest true false (slice_index_or ss w some) (slice_index_or lists w [])
     lead = subst (λ (b : Bool). Rest b false (slice_index_or ss w some) (slice_index_or lists w []))
@@ -260,30 +260,30 @@ module _ {S : Type 0} (stops : Error → Bool) (advances : S → Option R → S 
     lead_least = (subst (λ (rs : List R). Ascends (entries_among rs)) lead.3 (sorted_at w)).0
 
     -- what another source of the queue lends comes after x
-    turn_of : (j : ℕ) (y : Entry) → (w ≡ j → ⊥) → is_among j (ps ++ w ∷ []) ≡ true
+    turn_of : (j : ℕ) (y : Entry) → (w ≡ j → ⊥) → is_queued j (ps ++ w ∷ []) ≡ true
         → lent_at lent ss j ≡ Some y → is_turn x w y j ≡ true
     turn_of j y apart among is =
-        let inner : is_among j ps ≡ true = other (w == j) refl in
+        let inner : is_queued j ps ≡ true = other (w == j) refl in
         subst (λ (o : Option Entry). goes_before o w (Some y) j ≡ true) lead_lent
         (subst (λ (o : Option Entry). goes_before (lent_at lent ss w) w o j ≡ true) is
         (last_before (lent_at lent ss) ps w j queue inner))
       where
-        other : (b : Bool) → (w == j) ≡ b → is_among j ps ≡ true
+        other : (b : Bool) → (w == j) ≡ b → is_queued j ps ≡ true
         other true e = absurd (apart (eqb-true w j e))
         other false e = sym (among_end j w ps
-            ∙ ap (λ (b : Bool). b || is_among j ps) e) ∙ among
+            ∙ ap (λ (b : Bool). b || is_queued j ps) e) ∙ among
 
     -- the entries of another list, by its first
     rest_by : (P : Entry → Type 0) (j : ℕ) → j < length ss
-        → ((y : Entry) → is_among j (ps ++ w ∷ []) ≡ true → lent_at lent ss j ≡ Some y → P y)
+        → ((y : Entry) → is_queued j (ps ++ w ∷ []) ≡ true → lent_at lent ss j ≡ Some y → P y)
         → ((y z : Entry) → P y → AtMost y z → P z)
         → AllByRecursion P (entries_among (slice_index_or lists j []))
-    rest_by P j lt one more = go (is_among j (ps ++ w ∷ [])) refl (h.each j s lt)
+    rest_by P j lt one more = go (is_queued j (ps ++ w ∷ [])) refl (h.each j s lt)
       where
         s : S
         s = some_of ss j lt
 
-        go : (b : Bool) → is_among j (ps ++ w ∷ []) ≡ b
+        go : (b : Bool) → is_queued j (ps ++ w ∷ []) ≡ b
             → Rest b false (slice_index_or ss j s) (slice_index_or lists j [])
             → AllByRecursion P (entries_among (slice_index_or lists j []))
         go true e r =
@@ -313,7 +313,7 @@ module _ {S : Type 0} (stops : Error → Bool) (advances : S → Option R → S 
             ∙ less_before (item_cmp x y) (nat_cmp w j) turn (number_above w j below)
 
     -- without it its source waits
-    pub lead_taken : is_among w ps ≡ false
+    pub lead_taken : is_queued w ps ≡ false
         → Have (λ j. j == w) ss ps (slice_set lists w lead.1)
     lead_taken free = record {
       count = set_length lists w lead.1 ∙ h.count;
@@ -332,11 +332,11 @@ module _ {S : Type 0} (stops : Error → Bool) (advances : S → Option R → S 
             any (s ∷ ss) (suc k) d e lt = any ss k d e (omega arith)
 
         go : (j : ℕ) (s : S) → j < length ss → (b : Bool) → (j == w) ≡ b
-            → Rest (is_among j ps) (j == w) (slice_index_or ss j s)
+            → Rest (is_queued j ps) (j == w) (slice_index_or ss j s)
             (slice_index_or (slice_set lists w lead.1) j [])
         go j s lt true e =
             let is : w ≡ j = sym (eqb-true j w e) in
-            rw e (subst (λ (k : ℕ). Rest (is_among k ps) true (slice_index_or ss k s)
+            rw e (subst (λ (k : ℕ). Rest (is_queued k ps) true (slice_index_or ss k s)
             (slice_index_or (slice_set lists w lead.1) k [])) is
             (rw (free, same_some s, set_own lists w lead.1 [] (omega (arith, within, h.count)))
             lead.4))
@@ -345,7 +345,7 @@ module _ {S : Type 0} (stops : Error → Bool) (advances : S → Option R → S 
             absurd cc in
             rw (e, set_other lists w j lead.1 [] apart)
             (subst (λ (b : Bool). Rest b false (slice_index_or ss j s) (slice_index_or lists j []))
-            (among_end j w ps ∙ ap (λ (b : Bool). b || is_among j ps) (differs w j apart))
+            (among_end j w ps ∙ ap (λ (b : Bool). b || is_queued j ps) (differs w j apart))
             (h.each j s lt))
 
   -- what is lent is the first of what is left
@@ -463,7 +463,7 @@ module _ {S : Type 0} (stops : Error → Bool) (advances : S → Option R → S 
     module _ (started : m.is_started ≡ true) (ps : List ℕ) (w : ℕ)
         (items : m.queue.items ≡ ps ++ w ∷ [])
         (queue : IsQueue (lent_at lent m.sources.items) m.queue.items)
-        (within : w < length m.sources.items) (free : is_among w ps ≡ false) where
+        (within : w < length m.sources.items) (free : is_queued w ps ≡ false) where
       taken : (lists : List (List R))
           × Have stops advances lent (λ j. j == w) m.sources.items ps lists × (ys ≡ merge_of lists)
       taken =

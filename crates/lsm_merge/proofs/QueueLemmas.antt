@@ -15,7 +15,7 @@ use Rattle.sst_entries.specs.Entry.{Entry}
 use Rattle.sst_entries.proofs.Lists.{all_more}
 use Rattle.sst_entries.proofs.OrderLemmas.{less_of}
 use Rattle.lsm_merge.specs.Union.{item_cmp}
-use Rattle.lsm_merge.specs.Lent.{is_turn, goes_before, IsQueue, is_among}
+use Rattle.lsm_merge.specs.Lent.{is_turn, goes_before, IsQueue, is_queued}
 use Rattle.lsm_merge.proofs.MergedLemmas.{item_total}
 
 -- ---- turns
@@ -79,18 +79,18 @@ other_before (Some x) (Some y) i j apart h g e = other_turn x y i j apart e
 
 -- ---- members
 
-pub among_itself : (i : ℕ) (qs : List ℕ) → is_among i (i ∷ qs) ≡ true
-among_itself i qs = ap (λ (b : Bool). b || is_among i qs) (eq-eqb i i refl)
+pub among_itself : (i : ℕ) (qs : List ℕ) → is_queued i (i ∷ qs) ≡ true
+among_itself i qs = ap (λ (b : Bool). b || is_queued i qs) (eq-eqb i i refl)
 
-pub not_among : (i q : ℕ) (qs : List ℕ) → is_among i (q ∷ qs) ≡ false
-    → (i ≡ q → ⊥) × (is_among i qs ≡ false)
+pub not_among : (i q : ℕ) (qs : List ℕ) → is_queued i (q ∷ qs) ≡ false
+    → (i ≡ q → ⊥) × (is_queued i qs ≡ false)
 not_among i q qs h = (
   λ e. let no : true ≡ false = sym (among_itself q qs)
-      ∙ ap (λ (j : ℕ). is_among j (q ∷ qs)) (sym e) ∙ h in cc,
+      ∙ ap (λ (j : ℕ). is_queued j (q ∷ qs)) (sym e) ∙ h in cc,
   or_right (q == i) h,
 )
   where
-    or_right : (b : Bool) → (b || is_among i qs) ≡ false → is_among i qs ≡ false
+    or_right : (b : Bool) → (b || is_queued i qs) ≡ false → is_queued i qs ≡ false
     or_right true h = cc
     or_right false h = h
 
@@ -101,16 +101,16 @@ or_swap false true c = refl
 or_swap false false c = refl
 
 -- what is put in is a member, with those that were
-pub among_put : (j i p : ℕ) (qs : List ℕ) → is_among j (insert qs p i) ≡ is_among j (i ∷ qs)
+pub among_put : (j i p : ℕ) (qs : List ℕ) → is_queued j (insert qs p i) ≡ is_queued j (i ∷ qs)
 among_put j i zero qs = refl
 among_put j i (suc p) [] = refl
 among_put j i (suc p) (q ∷ qs) = ap (λ (b : Bool). (q == j) || b) (among_put j i p qs)
-    ∙ or_swap (q == j) (i == j) (is_among j qs)
+    ∙ or_swap (q == j) (i == j) (is_queued j qs)
 
-pub among_end : (j i : ℕ) (qs : List ℕ) → is_among j (qs ++ i ∷ []) ≡ is_among j (i ∷ qs)
+pub among_end : (j i : ℕ) (qs : List ℕ) → is_queued j (qs ++ i ∷ []) ≡ is_queued j (i ∷ qs)
 among_end j i [] = refl
 among_end j i (q ∷ qs) = ap (λ (b : Bool). (q == j) || b) (among_end j i qs)
-    ∙ or_swap (q == j) (i == j) (is_among j qs)
+    ∙ or_swap (q == j) (i == j) (is_queued j qs)
 
 -- ---- the queue
 
@@ -150,7 +150,7 @@ module _ (at : ℕ → Option Entry) where
 
   -- i goes between those that it goes before and the others
   put_queue : (i p : ℕ) (qs : List ℕ) → IsQueue at qs → is_some (at i) ≡ true
-      → is_among i qs ≡ false
+      → is_queued i qs ≡ false
       → ((k : ℕ) → k < p → k < length qs → Before i (get_or qs k 0))
       → ((k : ℕ) → p ≤ k → k < length qs
       → goes_before (at i) i (at (get_or qs k 0)) (get_or qs k 0) ≡ false)
@@ -177,7 +177,7 @@ module _ (at : ℕ → Option Entry) where
   )
 
   pub belongs : (i p : ℕ) (qs : List ℕ) → IsQueue at qs → is_some (at i) ≡ true
-      → is_among i qs ≡ false → IsPartitionPoint (λ j. goes_before (at i) i (at j) j ≡ true)
+      → is_queued i qs ≡ false → IsPartitionPoint (λ j. goes_before (at i) i (at j) j ≡ true)
       (λ j. goes_before (at i) i (at j) j ≡ false) qs p → IsQueue at (insert qs p i)
   belongs i p qs h some apart point = put_queue i p qs h some apart
       (λ k lt within. point.0 k 0 (omega arith) lt)
@@ -190,7 +190,7 @@ module _ (at : ℕ → Option Entry) where
       (omega arith) b
 
   pub ahead : (i p q : ℕ) (qs : List ℕ) → IsQueue at qs → is_some (at i) ≡ true
-      → is_among i qs ≡ false → p ≡ length qs → slice_get qs (length qs - 1) ≡ Some q
+      → is_queued i qs ≡ false → p ≡ length qs → slice_get qs (length qs - 1) ≡ Some q
       → Before i q → IsQueue at (insert qs p i)
   ahead i p q qs h some apart is last b =
       let found = got qs (length qs - 1) q last in
@@ -200,7 +200,7 @@ module _ (at : ℕ → Option Entry) where
       (λ k le within. absurd (omega arith))
 
   -- the last goes before the others
-  pub last_before : (ps : List ℕ) (w j : ℕ) → IsQueue at (ps ++ w ∷ []) → is_among j ps ≡ true
+  pub last_before : (ps : List ℕ) (w j : ℕ) → IsQueue at (ps ++ w ∷ []) → is_queued j ps ≡ true
       → Before w j
   last_before [] w j h e = cc
   last_before (q ∷ ps) w j h e = go (q == j) refl (λ among. last_before ps w j h.2 among)
@@ -209,15 +209,15 @@ module _ (at : ℕ → Option Entry) where
       at_end P [] all = all.0
       at_end P (r ∷ qs) all = at_end P qs all.1
 
-      go : (b : Bool) → (q == j) ≡ b → (is_among j ps ≡ true → Before w j) → Before w j
+      go : (b : Bool) → (q == j) ≡ b → (is_queued j ps ≡ true → Before w j) → Before w j
       go true same more = subst (λ (k : ℕ). Before w k) (eqb-true q j same)
           (at_end (λ r. Before r q) ps h.1)
-      go false other more = more (sym (ap (λ (b : Bool). b || is_among j ps) other) ∙ e)
+      go false other more = more (sym (ap (λ (b : Bool). b || is_queued j ps) other) ∙ e)
 
   -- without the last, which is not among the others
   pub queue_front : (ps : List ℕ) (w : ℕ) → IsQueue at (ps ++ w ∷ [])
-      → IsQueue at ps × (is_among w ps ≡ false) × (is_some (at w) ≡ true)
-  queue_front ps w h = (front ps h, apart (is_among w ps) refl, some ps h)
+      → IsQueue at ps × (is_queued w ps ≡ false) × (is_some (at w) ≡ true)
+  queue_front ps w h = (front ps h, apart (is_queued w ps) refl, some ps h)
     where
       fewer : (P : ℕ → Type 0) (qs : List ℕ) → AllByRecursion P (qs ++ w ∷ []) → AllByRecursion P qs
       fewer P [] all = tt
@@ -231,7 +231,7 @@ module _ (at : ℕ → Option Entry) where
       some [] h = h.0
       some (q ∷ ps) h = some ps h.2
 
-      apart : (b : Bool) → is_among w ps ≡ b → is_among w ps ≡ false
+      apart : (b : Bool) → is_queued w ps ≡ b → is_queued w ps ≡ false
       apart true e = absurd (not_before_itself (at w) w (last_before ps w w h e))
       apart false e = e
 

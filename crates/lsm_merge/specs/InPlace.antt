@@ -12,10 +12,10 @@ pub record Placed : Type 0 where
   pub is : R
 
 -- the results of a list, so, behind what may stand before them
-abbrev pub placed : Option Entry → List R → List Placed
-placed before [] = []
-placed before (Ok x ∷ rs) = record { at = Some x; is = Ok x } ∷ placed (Some x) rs
-placed before (Err e ∷ rs) = record { at = before; is = Err e } ∷ placed before rs
+abbrev pub places_of : Option Entry → List R → List Placed
+places_of before [] = []
+places_of before (Ok x ∷ rs) = record { at = Some x; is = Ok x } ∷ places_of (Some x) rs
+places_of before (Err e ∷ rs) = record { at = before; is = Err e } ∷ places_of before rs
 
 -- one place comes after another in the order of entries; the head of a list comes first
 abbrev pub is_after : Option Entry → Option Entry → Bool
@@ -36,7 +36,7 @@ sort_places (p ∷ ps) = put_in_place p (sort_places ps)
 -- what all lists have, list by list
 abbrev pub all_placed : List (List R) → List Placed
 all_placed [] = []
-all_placed (rs ∷ lists) = placed None rs ++ all_placed lists
+all_placed (rs ∷ lists) = places_of None rs ++ all_placed lists
 
 -- up to the first error and with it
 abbrev pub up_to_error : List R → List R

@@ -37,13 +37,13 @@ IsQueue at (q ∷ qs) = (is_some (at q) ≡ true)
     × AllByRecursion (λ r. goes_before (at r) r (at q) q ≡ true) qs × IsQueue at qs
 
 -- source i is among these
-abbrev pub is_among : ℕ → List ℕ → Bool
-is_among i [] = false
-is_among i (q ∷ qs) = (q == i) || is_among i qs
+abbrev pub is_queued : ℕ → List ℕ → Bool
+is_queued i [] = false
+is_queued i (q ∷ qs) = (q == i) || is_queued i qs
 
 -- put at this place, source i keeps a queue in order
 pub record Belongs (at : ℕ → Option Entry) (i : ℕ) (qs : List ℕ) (place : ℕ) : Type 0 where
-  pub keeps : IsQueue at qs → is_some (at i) ≡ true → is_among i qs ≡ false
+  pub keeps : IsQueue at qs → is_some (at i) ≡ true → is_queued i qs ≡ false
       → IsQueue at (insert qs place i)
 
 -- what the last of these lends, if there is one
@@ -104,7 +104,7 @@ module _ {S : Type 0} (stops : Error → Bool) (advances : S → Option R → S 
   pub record Rests (waits : ℕ → Bool) (ss : List S) (qs : List ℕ) (lists : List (List R)) : Type 0
     where
       pub count : length lists ≡ length ss
-      pub each : (i : ℕ) (s : S) → i < length ss → RestIf (is_among i qs) (waits i)
+      pub each : (i : ℕ) (s : S) → i < length ss → RestIf (is_queued i qs) (waits i)
           (slice_index_or ss i s) (slice_index_or lists i [])
       pub sorted : AllByRecursion (λ rs. Ascends (entries_among rs)) lists
 
@@ -119,9 +119,9 @@ module _ {S : Type 0} (stops : Error → Bool) (advances : S → Option R → S 
     pub parts : LeavesIf m.is_started m ys
 
   -- source i was asked: where it waited, it waits no more, and an error was the first of its list
-  abbrev pub GoesOn : {A : Type 0} → ℕ → LendingMerger S A → Result (Unit {0}) Error
+  abbrev pub AsksOne : {A : Type 0} → ℕ → LendingMerger S A → Result (Unit {0}) Error
       → LendingMerger S A → Type 0
-  GoesOn i m r n = (waits : ℕ → Bool) (lists : List (List R))
+  AsksOne i m r n = (waits : ℕ → Bool) (lists : List (List R))
       → Rests waits m.sources.items m.queue.items lists → waits i ≡ true
       → MatchResult r
       (λ u. Rests (λ j. waits j && not (j == i)) n.sources.items n.queue.items lists)
@@ -145,7 +145,7 @@ module _ {S : Type 0} (stops : Error → Bool) (advances : S → Option R → S 
       (λ e. stops e ≡ false → ys ≡ Err e ∷ [])
 
 -- nothing is lent any more
-pub record IsOver {S A : Type 0} (m : LendingMerger S A) : Type 0 where
+pub record LendsNoMore {S A : Type 0} (m : LendingMerger S A) : Type 0 where
   pub started : m.is_started ≡ true
   pub empty : m.queue.items ≡ []
 
@@ -157,5 +157,5 @@ pub record AdvancesLent {S : Type 0} (advances : S → Option R → S → Type 0
     (n : LendingMerger S A) : Type 0 where
   pub may : MayLend advances can lent n
   pub gives : (stops : Error → Bool) → DealsFirst stops (LeavesLent stops advances lent) m r n
-  pub ends : (e : Error) → r ≡ Some (Err e) → IsOver n
-  pub over : IsOver m → (r ≡ None) × IsOver n
+  pub ends : (e : Error) → r ≡ Some (Err e) → LendsNoMore n
+  pub over : LendsNoMore m → (r ≡ None) × LendsNoMore n

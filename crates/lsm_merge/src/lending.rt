@@ -8,9 +8,9 @@ ghost use Rattle.sst_entries.specs.Lending.{entry_of_ref};
 ghost use Rattle.sst_entries.specs.Stream.{CanDeal, EndsAtError, nowhere};
 ghost use Rattle.sst_entries.specs.declared.error.Error.{Error};
 ghost use Rattle.sst_entries.specs.declared.error.Error.TheVariants.{OutOfMemory};
-ghost use Rattle.lsm_merge.specs.Lent.{GoesOn, IsReady, MayLend, StepsOn, goes_before, is_among};
+ghost use Rattle.lsm_merge.specs.Lent.{AsksOne, IsReady, MayLend, StepsOn, goes_before, is_queued};
 ghost use Rattle.lsm_merge.specs.Lent.{is_turn, lent_at, lent_first, lent_size, lent_total};
-ghost use Rattle.lsm_merge.specs.Lent.{AdvancesLent, Belongs, IsOver, StartsLent, StepLowers};
+ghost use Rattle.lsm_merge.specs.Lent.{AdvancesLent, Belongs, LendsNoMore, StartsLent, StepLowers};
 ghost use Rattle.lsm_merge.specs.MergeLaws.{DealsInPlace, DealsMerged};
 
 use crate::words::compare_refs;
@@ -127,7 +127,7 @@ impl<L: Lending, A: Allocator> LendingMerger<L, A> {
     fn go_on(&mut self, source: usize) -> Result<(), Error>
         requires place { source < length self.old.sources.items }
         requires ready { IsReady L.advances L.can_advance L.lent self.old }
-        requires apart { is_among source self.old.queue.items ≡ false }
+        requires apart { is_queued source self.old.queue.items ≡ false }
         requires space { length self.old.queue.items < vec_capacity self.old.queue }
         ensures ready { IsReady L.advances L.can_advance L.lent self.new }
         ensures count { length self.new.sources.items ≡ length self.old.sources.items }
@@ -138,7 +138,7 @@ impl<L: Lending, A: Allocator> LendingMerger<L, A> {
         ensures lowers { IfOk result (λ _.
             lent_total L.left self.new ≤ lent_total L.left self.old) }
         ensures goes { (stops : Error → Bool) →
-            GoesOn stops L.advances L.lent source self.old result self.new }
+            AsksOne stops L.advances L.lent source self.old result self.new }
     {
         if self.sources[source].advance()? {
             let place = self.place_of(source);
@@ -173,7 +173,7 @@ impl<L: Lending, A: Allocator> LendingMerger<L, A> {
         ensures ready { IsReady L.advances L.can_advance L.lent self.new }
         ensures started { self.new.is_started ≡ true }
         ensures lowers { IfOk result (λ _. StepLowers L.left self.old self.new) }
-        ensures over { IsOver self.old → IsOk result × IsOver self.new }
+        ensures over { LendsNoMore self.old → IsOk result × LendsNoMore self.new }
         ensures fault { IfErr result (λ _. 0 < lent_size L.left self.old) }
         ensures steps { (stops : Error → Bool) →
             StepsOn stops L.advances L.lent self.old result self.new }

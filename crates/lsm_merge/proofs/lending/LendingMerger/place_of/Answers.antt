@@ -4,7 +4,7 @@ use Rattle.std.specs.Prelude.{Option, Some, slice_get, ◌-◌}
 use Rattle.std.specs.List.{insert}
 use Rattle.std.proofs.lemmas.List.Sorted.{IsPartitionPoint-from_clause}
 use Rattle.sst_entries.specs.Entry.{Entry}
-use Rattle.lsm_merge.specs.Lent.{IsQueue, goes_before, is_among, lent_at}
+use Rattle.lsm_merge.specs.Lent.{IsQueue, goes_before, is_queued, lent_at}
 use Rattle.lsm_merge.proofs.QueueLemmas.{belongs, queue_partitioned, ahead}
 use Rattle.lsm_merge.proofs.lending.LendingMerger.place_of.Goals as goal
 
@@ -16,12 +16,12 @@ returns-in_default-last-clause-belongs g c = record {
       let qs = c.deref-in_default-last.result.now in
       let same : qs ≡ c.args.self.now.queue.items = c.deref-in_default-last.ensures.value in
       let passes = λ (j : ℕ). goes_before (at i) i (at j) j in
-      let put : is_among i qs ≡ false → IsQueue at qs → IsQueue at (insert qs c.partition_point.result i) = λ apart queue.
+      let put : is_queued i qs ≡ false → IsQueue at qs → IsQueue at (insert qs c.partition_point.result i) = λ apart queue.
       belongs at i c.partition_point.result qs queue some apart
       (IsPartitionPoint-from_clause passes qs c.partition_point.result c.partition_point.ensures.partitioned (queue_partitioned at i qs queue)
       (λ a r q k. let own = c.in-Some.ensures in search rules)) in
       subst (λ (ps : List ℕ). IsQueue at (insert ps c.partition_point.result i)) same
-      (put (ap (is_among i) same ∙ apart) (subst (IsQueue at) (sym same) queue));
+      (put (ap (is_queued i) same ∙ apart) (subst (IsQueue at) (sym same) queue));
 }
 
 pub returns-in-Some-last-clause-belongs : goal.returns-in-Some-last-clause-belongs
