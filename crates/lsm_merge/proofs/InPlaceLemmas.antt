@@ -7,8 +7,8 @@ use Rattle.sst_entries.specs.Entry.{Entry}
 use Rattle.sst_entries.specs.declared.error.Error.{Error}
 use Rattle.sst_entries.proofs.Lists.{all_append}
 use Rattle.lsm_merge.specs.Ends.{R}
-use Rattle.lsm_merge.specs.InPlace.{Placed, places_of, is_after, put_in_place, sort_places, all_placed}
-use Rattle.lsm_merge.specs.InPlace.{up_to_error, merge_of}
+use Rattle.lsm_merge.specs.InPlace.{Placed, places_of, is_after, put_in_place, sort_places}
+use Rattle.lsm_merge.specs.InPlace.{all_placed, up_to_error, merge_of}
 use Rattle.lsm_merge.specs.Union.{AtMost, entries_among}
 use Rattle.lsm_merge.proofs.MergedLemmas.{Above}
 
@@ -191,7 +191,8 @@ head_after x (Err e ∷ rs) free h = absurd free
 
 -- what stands behind x goes on as if nothing had stood before it
 goes_on : (lists : List (List R)) (k : ℕ) (x : Entry) (rs : List R) → k < length lists → AtMost x x
-    → ((j : ℕ) → j < k → AllByRecursion (Behind (Some x)) (places_of None (slice_index_or lists j [])))
+    → ((j : ℕ) → j < k → AllByRecursion (Behind (Some x))
+    (places_of None (slice_index_or lists j [])))
     → ((j : ℕ) → k < j → j < length lists → AllByRecursion (NotBefore (Some x))
     (places_of None (slice_index_or lists j [])))
     → ((j : ℕ) → j < k → HasNoFault (slice_index_or lists j []))
@@ -228,8 +229,8 @@ merge_entry lists k x rs lt is own free before after least =
     ap told (sym (others_same lists k lt)
     ∙ ap (λ (l : List R). others lists k (places_of None l)) is)
     ∙ ap (λ (qs : List Placed). up_to_error (map (λ (p : Placed). p.is) qs))
-    (first_of_others lists k (record { at = Some x; is = Ok x }) (places_of (Some x) rs) lt early late
-    (all_not_before x x rs own least))
+    (first_of_others lists k (record { at = Some x; is = Ok x }) (places_of (Some x) rs) lt early
+    late (all_not_before x x rs own least))
     ∙ ap (λ (qs : List R). Ok x ∷ qs) (goes_on lists k x rs lt own early late
     (λ j below. free j (omega arith)) least
     ∙ ap told (others_set lists k rs lt))

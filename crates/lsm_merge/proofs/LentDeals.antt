@@ -171,8 +171,8 @@ module _ {S A : Type 0} (advances : S → Option R → S → Type 0) (can : S �
 
   -- ---- nothing follows an error
 
-  over_more : (ends : List Direction) (rs : List (Option R)) (s t : LendingMerger S A) → LendsNoMore s
-      → Runs Adv nowhere s ends rs t → AllByRecursion (λ r. r ≡ None) rs
+  over_more : (ends : List Direction) (rs : List (Option R)) (s t : LendingMerger S A)
+      → LendsNoMore s → Runs Adv nowhere s ends rs t → AllByRecursion (λ r. r ≡ None) rs
   over_more [] [] s t over runs = tt
   over_more [] (r ∷ rs) s t over runs = absurd runs
   over_more (e ∷ ends) [] s t over runs = absurd runs

@@ -68,8 +68,8 @@ module _ (at at' : ℕ → Option Entry) where
   queue_same [] same h = tt
   queue_same (q ∷ qs) same h =
       let own : at' q ≡ at q = same q (among_itself q qs) in
-      let later : (j : ℕ) → is_queued j qs ≡ true → at' j ≡ at j = λ j e. same j (or_more (q == j) e)
-      in (
+      let later : (j : ℕ) → is_queued j qs ≡ true → at' j ≡ at j =
+      λ j e. same j (or_more (q == j) e) in (
         ap is_some own ∙ h.0,
         all_same q own qs later h.1,
         queue_same qs later h.2,

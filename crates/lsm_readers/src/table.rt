@@ -257,7 +257,7 @@ fn recover_inner<A: Allocator + Clone>(
     ensures tree { IfOk result (λ inner. inner.tree_id ≡ tree_id) }
     ensures checksum { IfOk result (λ inner. inner.checksum ≡ checksum) }
 {
-    let regions = ParsedRegions::parse_from_toc(source.toc())?;
+    let regions = ParsedRegions::parse_from_toc(&source.toc())?;
     let metadata = fitting_metadata(source, &regions.metadata, global_seqno)?;
     compare_pinned(source, &regions, pin_filter, pin_index);
     let pinned = load_pinned(source, &regions, pin_filter, pin_index);

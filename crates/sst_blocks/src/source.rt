@@ -42,15 +42,14 @@ const HEADER_LEN: usize = Header::LEN as usize;
 #[derive(Drop)]
 pub struct BlockSource<A: Allocator = Global> {
     bytes: Slice<A>,
-    toc: Toc,
     alloc: A,
     // none where there was no memory for them
     marks: Option<Arc<Marks<A>, A>>,
 }
 
 impl<A: Allocator> Model for BlockSource<A> {
-    ghost use Rattle.std.specs.Prelude.{◌≡◌, List, ℕ, map, None};
-    ghost use Rattle.sst_sections.specs.Sections.{section_in, section_names, trailer_fault};
+    ghost use Rattle.std.specs.Prelude.{◌≡◌, List, ℕ, None};
+    ghost use Rattle.sst_sections.specs.Sections.{trailer_fault};
     ghost use Rattle.std.specs.Prelude.{MatchOption};
     ghost use Rattle.std.specs.Arc.{arc_value};
 
@@ -58,8 +57,7 @@ impl<A: Allocator> Model for BlockSource<A> {
 
     ghost view = { λ s. s.bytes };
 
-    ghost invariant = { λ s. (s.toc ≡ map (section_in s.bytes) section_names) ×
-        (trailer_fault s.bytes ≡ None) ×
+    ghost invariant = { λ s. (trailer_fault s.bytes ≡ None) ×
         MatchOption s.marks (Unit {0}) (λ m. arc_value m ≡ s.bytes) };
 }
 
@@ -75,7 +73,6 @@ impl<A: Allocator + Clone> Clone for BlockSource<A> {
     fn clone(&self) -> Result<BlockSource<A>, AllocError> {
         Ok(BlockSource {
             bytes: self.bytes.clone()?,
-            toc: self.toc,
             alloc: self.alloc.clone()?,
             marks: shared(&self.marks),
         })
@@ -123,22 +120,24 @@ impl<A: Allocator + Clone> BlockSource<A> {
         ensures short { length bytes < 2 ^ 63 }
         ensures refused { Refuses result (trailer_fault bytes) }
     {
-        let toc = Toc::of(bytes.as_slice())?;
+        Toc::of(bytes.as_slice())?;
         let marks = new_marks(&alloc, &bytes);
         Ok(BlockSource {
             bytes,
-            toc,
             alloc,
             marks,
         })
     }
 
-    /// Where the sections lie.
-    pub fn toc(&self) -> &Toc
-        ensures toc { result.now ≡ map (section_in self.now) section_names }
+    /// Where the sections lie, read from the trailer.
+    pub fn toc(&self) -> Toc
+        ensures toc { result ≡ map (section_in self.now) section_names }
         ensures read { trailer_fault self.now ≡ None }
     {
-        &self.toc
+        match Toc::of(self.bytes.as_slice()) {
+            Ok(toc) => toc,
+            Err(_) => unreachable!(),
+        }
     }
 
     /// The bytes that it reads, their trailer too.

@@ -2,7 +2,7 @@
 use Rattle.std.proofs.Common.{◌≡◌, refl, sym, ◌∙◌, ap, ℕ, zero, suc, ◌+◌, ◌-◌, ◌*◌, ◌/◌, ◌%◌, ◌^◌}
 use Rattle.std.proofs.Common.{◌<◌, ◌≤◌, ◌==◌, ◌||◌, ◌&&◌, Bool, true, false, List, [], ◌∷◌, ◌++◌}
 use Rattle.std.proofs.Common.{length, slice_index_or, slice_set, replicate, bit_or, mod-lt, arith}
-use Rattle.std.proofs.Common.{w8, ⊎_elim, ◌≢◌, ◌⊎◌}
+use Rattle.std.proofs.Common.{w8, ⊎_elim, ◌≢◌}
 use Rattle.std.specs.Int.{bit_at}
 use Rattle.std.specs.List.{list_any, list_all}
 use Rattle.std.proofs.lemmas.Bool.{cases_eq, cases_lt, cases_Bool}
@@ -10,6 +10,8 @@ use Rattle.std.proofs.lemmas.Bool.Decides.{eqb_tells}
 use Rattle.std.proofs.lemmas.List.{get_or-set_same, get_or-set_other, get_or-replicate, get_or_past}
 use Rattle.std.proofs.lemmas.List.{length-replicate}
 use Rattle.std.proofs.lemmas.List.Folds.{list_any-append, list_all-append}
+use Rattle.std.proofs.lemmas.Nat.{mod_below}
+use Rattle.std.proofs.Math.Nat.{add-mod, add-mod_left, mod-eq_of_lt}
 use Rattle.std.proofs.lemmas.Nat.Bits.{bit_at_set_same, bit_at_set_other, bit_at-zero}
 use Rattle.sst_entries.proofs.Booleans.{apart, or_no, or_right}
 use Rattle.std.proofs.Math.Numerals.{add-one}
@@ -90,6 +92,25 @@ pub next_probe : (h i s d n : ℕ) → s ≡ d → n ≡ (h + i * d) % 2 ^ 64
     → (n + s) % 2 ^ 64 ≡ (h + (i + 1) * d) % 2 ^ 64
 next_probe h i s d n same e = let more : (i + 1) * d ≡ i * d + d = grind arith in
     omega (arith, same, e, more)
+
+-- so its place is that many bits on, or from the front again
+module _ (a s n place step next : ℕ) (some : 0 < n) (here : place ≡ a % n) (far : step ≡ s % n)
+    (sum : next ≡ (a + s) % 2 ^ 64) (fits : a + s < 2 ^ 64) where
+  place_sum : next % n ≡ (place + step) % n
+  place_sum = ap (λ (x : ℕ). x % n) (sum ∙ mod-eq_of_lt fits) ∙ add-mod a s n
+      ∙ ap (λ (x : ℕ). (x + s % n) % n) (sym here) ∙ ap (λ (x : ℕ). (place + x) % n) (sym far)
+
+  pub place_on : place + step < n → place + step ≡ next % n
+  place_on within = sym (place_sum ∙ mod-eq_of_lt within)
+
+  pub place_round : n ≤ place + step → place + step - n ≡ next % n
+  place_round past =
+      let first : a % n < n = mod_below a n some in
+      let second : s % n < n = mod_below s n some in
+      let over : ℕ = place + step - n in
+      let whole : place + step ≡ n + over = omega (arith, past) in
+      let less : over < n = omega (arith, first, second, here, far, past) in
+      sym (place_sum ∙ ap (λ (x : ℕ). x % n) whole ∙ add-mod_left n over ∙ mod-eq_of_lt less)
 
 -- and lies at a bit of the filter
 pub probe_is : (h i n len : ℕ) → n ≡ (h + i * stride h) % 2 ^ 64

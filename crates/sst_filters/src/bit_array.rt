@@ -1,5 +1,6 @@
 //! Bits in bytes, and the probes of a hash.
-ghost use Rattle.std.specs.Prelude.{◌≡◌, ◌*◌, ◌^◌, ◌==◌, ◌||◌, ◌<◌, length, true, List, ℕ};
+ghost use Rattle.std.specs.Prelude.{◌≡◌, ◌+◌, ◌*◌, ◌%◌, ◌^◌, ◌==◌, ◌||◌, ◌<◌, length, true};
+ghost use Rattle.std.specs.Prelude.{List, ℕ};
 ghost use Rattle.std.specs.List.{list_all};
 ghost use Rattle.sst_filters.specs.Filter.{admits, filter_in, IsFilterOf, is_in, is_set, probes};
 ghost use Rattle.sst_filters.specs.Filter.{stride};
@@ -30,6 +31,29 @@ fn set_bit(bits: &mut [u8], place: u64)
     bits[(place / 8) as usize] |= 1 << (place % 8);
 }
 
+// The probe that comes after one, and its place among the bits: a step on, or from the front again.
+// A division, which costs more than all the rest, is made only where the sum passes `u64::MAX`.
+#[inline(always)]
+fn next_probe(probe: u64, place: u64, stride: u64, step: u64, len: u64) -> (u64, u64)
+    requires some { 0 < len }
+    requires short { len < 2 ^ 63 }
+    requires place { place ≡ probe % len }
+    requires step { step ≡ stride % len }
+    ensures probe { result.0 ≡ (probe + stride) % 2 ^ 64 }
+    ensures place { result.1 ≡ result.0 % len }
+{
+    let (next, wraps) = probe.overflowing_add(stride);
+    if wraps {
+        return (next, next % len);
+    }
+    let place = place + step;
+    if place < len {
+        (next, place)
+    } else {
+        (next, place - len)
+    }
+}
+
 /// Sets the bits of a hash.
 pub(crate) fn set_probes(bits: &mut [u8], count: u8, hash: u64)
     requires some { 0 < length bits.old }
@@ -41,10 +65,12 @@ pub(crate) fn set_probes(bits: &mut [u8], count: u8, hash: u64)
 {
     let len = bits.len() as u64 * 8;
     let stride = stride(hash);
+    let step = stride % len;
     let mut probe = hash;
+    let mut place = hash % len;
     for _ in 0..count {
-        set_bit(bits, probe % len);
-        probe = probe.wrapping_add(stride);
+        set_bit(bits, place);
+        (probe, place) = next_probe(probe, place, stride, step, len);
     }
 }
 
@@ -56,12 +82,14 @@ fn has_probes(bits: &[u8], count: u8, hash: u64) -> bool
 {
     let len = bits.len() as u64 * 8;
     let stride = stride(hash);
+    let step = stride % len;
     let mut probe = hash;
+    let mut place = hash % len;
     for _ in 0..count {
-        if !has_bit(bits, probe % len) {
+        if !has_bit(bits, place) {
             return false;
         }
-        probe = probe.wrapping_add(stride);
+        (probe, place) = next_probe(probe, place, stride, step, len);
     }
     true
 }

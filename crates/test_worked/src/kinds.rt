@@ -81,7 +81,7 @@ fn counted(meta: &DataBlock) -> Result<(Option<u8>, Option<u8>), Error> {
 type Laid = (Sections, Option<u8>, Option<u8>);
 
 fn laid_in(source: &BlockSource) -> Result<Laid, Error> {
-    let regions = ParsedRegions::parse_from_toc(source.toc())?;
+    let regions = ParsedRegions::parse_from_toc(&source.toc())?;
     let meta = load_entries(
         source,
         &regions.metadata,

@@ -100,7 +100,7 @@ fn facts_of(meta: &ParsedMeta) -> Result<Facts, Error> {
 }
 
 fn facts_by(source: &BlockSource) -> Result<Facts, Error> {
-    let regions = ParsedRegions::parse_from_toc(source.toc())?;
+    let regions = ParsedRegions::parse_from_toc(&source.toc())?;
     asked(
         ParsedMeta::load_with_handle(source, &regions.metadata),
         facts_of,
@@ -193,7 +193,7 @@ fn one_of(first: (usize, SeqNo)) -> Result<SeqNo, Error> {
 type Below = ([[SeqNo; 4]; 4], Opened);
 
 fn below_both_levels(source: &BlockSource) -> Result<Below, Error> {
-    let regions = ParsedRegions::parse_from_toc(source.toc())?;
+    let regions = ParsedRegions::parse_from_toc(&source.toc())?;
     let mut opened = Opened::none();
     let parts = places_below(source, &regions.tli, &mut opened)?;
     let mut numbers = [[0; 4]; 4];
@@ -229,7 +229,7 @@ fn size_of(block: &Block) -> Result<usize, Error> {
 
 // Where the parts below the top level of a filter lie, and the sizes of their payloads.
 fn filter_level(source: &BlockSource) -> Result<[Part; 4], Error> {
-    let regions = ParsedRegions::parse_from_toc(source.toc())?;
+    let regions = ParsedRegions::parse_from_toc(&source.toc())?;
     let handle = regions.filter_tli.unwrap_or_default();
     let mut opened = Opened::none();
     let places = places_below(source, &handle, &mut opened)?;

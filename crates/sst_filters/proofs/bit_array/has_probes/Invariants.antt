@@ -6,4 +6,5 @@ use Rattle.sst_filters.proofs.bit_array.has_probes.Given as goal
 abbrev pub invariant-loop : goal.invariant-loop
 invariant-loop l =
     (l.probe ≡ (l.fn.hash + l.counter * stride l.fn.hash) % 2 ^ 64)
+    × (l.place ≡ l.probe % (length l.fn.bits * 8))
     × (list_all (is_set l.fn.bits) (probes (8 * length l.fn.bits) l.fn.hash l.counter) ≡ true)
