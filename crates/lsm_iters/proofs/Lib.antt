@@ -6,3 +6,5 @@ pub mod Lifts
 pub mod Naming
 pub mod Walked
 pub mod RangeLaws
+pub mod Lent
+pub mod LentLaws

@@ -16,7 +16,7 @@ use Rattle.lsm_iters.proofs.Ends.{Shortens, if_true}
 use Rattle.lsm_iters.proofs.Ranges.{R, End}
 
 module _ {A : Type 0} where
-  nothing : (s : Range A) → IsEndedRange s → range_left s ≡ []
+  pub nothing : (s : Range A) → IsEndedRange s → range_left s ≡ []
   nothing s ended = nil_from_length (range_left s) (omega (arith, ended))
 
   ends_by : (of : End) (next : Range A → Next) (s : Range A) (r : Option R) (t : Range A)

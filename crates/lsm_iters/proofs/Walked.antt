@@ -148,7 +148,7 @@ module _ {A : Type 0} where
 
 -- ---- a walk and its range
 
-abbrev W : Type 0 → Type 0
+abbrev pub W : Type 0 → Type 0
 W A = Walk (Blocks A) (Span Entry)
 
 fine_before : (g : ℕ) (r : Option R) → answer_stops is_memory (lifted_answer g r) ≡ false

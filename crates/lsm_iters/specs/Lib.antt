@@ -4,4 +4,5 @@ pub mod Rows
 pub mod Range
 pub mod Steps
 pub mod Blocks
+pub mod Lending
 pub mod Words

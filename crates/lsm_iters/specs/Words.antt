@@ -1,7 +1,8 @@
 -- The words of the contracts of ranges, from one place.
 pub use Rattle.sst_entries.specs.Point.{lower_place, upper_place, within}
 pub use Rattle.sst_entries.specs.Span.{SpanGives, rest_in}
-pub use Rattle.sst_entries.specs.Stream.{back_of, front_of}
+pub use Rattle.sst_entries.specs.Lending.{came}
+pub use Rattle.sst_entries.specs.Stream.{back_of, front_of, nowhere}
 pub use Rattle.sst_entries.specs.Strict.{IsStrict}
 pub use Rattle.sst_entries.specs.Error.{FaultsFirst}
 pub use Rattle.sst_sections.specs.Sections.{body_of}
@@ -18,6 +19,10 @@ pub use Rattle.lsm_iters.specs.Range.{left_in, new_range, next_at}
 pub use Rattle.lsm_iters.specs.Range.{opened_in, range_left, range_remains, range_size}
 pub use Rattle.lsm_iters.specs.Rows.{Bounded, block_rows, rows}
 pub use Rattle.lsm_iters.specs.Steps.{LoadsNone, SeeksOnce, all_over, lifted_answer, over, stopped}
-pub use Rattle.lsm_walks.specs.Ends.{span_remains, taken_at}
+pub use Rattle.lsm_walks.specs.Ends.{rest_of, span_remains, taken_at}
+pub use Rattle.lsm_walks.specs.Walks.{WalkTakes}
 pub use Rattle.lsm_iters.specs.Blocks.{EndsBlocks, KeepsBlocks, coming_blocks, range_of_walk}
 pub use Rattle.lsm_iters.specs.Blocks.{stored_rows}
+pub use Rattle.lsm_iters.specs.Lending.{LendingRange, LendsFirst, LentSpan, RangeLends}
+pub use Rattle.lsm_iters.specs.Lending.{lending_range, lent_in, lent_stored, over_lending, span_in}
+pub use Rattle.lsm_iters.specs.Lending.{unlent_range, unlent_span, walk_of_lent}

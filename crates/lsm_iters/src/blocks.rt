@@ -62,6 +62,16 @@ impl<A: Allocator + Clone> Blocks<A> {
         self.index.seek(&self.range.0, &self.range.1)
     }
 
+    /// How many blocks of each kind were loaded, those of the index among them.
+    pub fn all_opened(&self) -> Opened
+        ensures { let index = (left_in self.now.handles).opened in
+            result ≡ record index { data_loads = self.now.opened.data_loads } }
+    {
+        let mut opened = self.index.opened();
+        opened.data_loads = self.opened.data_loads;
+        opened
+    }
+
     /// The entries within the bounds of the block that a handle names.
     fn read(&mut self, handle: KeyedBlockHandle<A>) -> Result<OwnedDataBlockIter<A>, Error>
         ensures ok { let of = self.old.of in

@@ -4,17 +4,19 @@ ghost use Rattle.std.specs.Iterator.{at_most};
 ghost use Rattle.sst_entries.specs.declared.error.Error.TheVariants.{OutOfMemory};
 ghost use Rattle.lsm_iters.specs.Words.{DealsEnding, IsSought, RangeGives, back_next, back_of};
 ghost use Rattle.lsm_iters.specs.Words.{body_of, edge_of, front_next, front_of, new_range, next_at};
-ghost use Rattle.lsm_iters.specs.Words.{opened_in, over, range_left, range_remains, range_size};
-ghost use Rattle.lsm_iters.specs.Words.{stopped, taken_at};
+ghost use Rattle.lsm_iters.specs.Words.{nowhere, opened_in, over, range_left, range_remains};
+ghost use Rattle.lsm_iters.specs.Words.{range_size, stopped, taken_at, unlent_range};
 
 use crate::blocks::Blocks;
 use crate::cut::lift_answer;
 use crate::handles::Handles;
 use crate::pairs::beside;
-use crate::{Bound, OwnedDataBlockIter};
+use crate::{Bound, LendingIter, OwnedDataBlockIter};
 use lsm_block_indexes::BlockIndexIterImpl;
 use lsm_walks::{Ends, Walk};
-use sst_blocks::{BlockSource, CompressionType, Error, InternalValue, IterItem, Opened, SeqNo};
+use sst_blocks::{
+    BlockSource, CompressionType, Error, InternalValue, IterItem, Lending, Opened, SeqNo,
+};
 use sst_entries::Direction;
 use std::alloc::{Allocator, Global};
 use std::marker::Model;
@@ -105,9 +107,19 @@ impl<A: Allocator + Clone> Iter<A> {
     pub fn opened(&self) -> Opened
         ensures { result ≡ opened_in self.now }
     {
-        let mut opened = self.walk.parts.index.opened();
-        opened.data_loads = self.walk.parts.opened.data_loads;
-        opened
+        self.walk.parts.all_opened()
+    }
+
+    /// What is left, lent from the blocks where it lies, front to back.
+    pub fn lend(self) -> LendingIter<A>
+        ensures is { result ≡ unlent_range self }
+        // Want of memory aside it lends what the iterator would give, up to the first error, and
+        // then nothing; it may be asked however often.
+        ensures deals { let advances = ⟦<LendingIter<A> as Lending>⟧.advances in
+            let may = ⟦<LendingIter<A> as Lending>⟧.can_advance in
+            DealsEnding advances nowhere may may result (range_left self) }
+    {
+        LendingIter::new(self.walk)
     }
 
     /// The answer at an end; an error does not end the iterator yet.

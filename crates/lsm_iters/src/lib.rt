@@ -6,12 +6,15 @@ mod bound;
 mod cut;
 mod handles;
 mod iter;
+mod lending;
 mod lift;
 mod owned;
 mod pairs;
+mod span_cursor;
 
 pub use bound::Bound;
 pub use iter::Iter;
+pub use lending::LendingIter;
 pub use lift::lift_seqno;
 pub use owned::OwnedDataBlockIter;
 pub use pairs::beside;

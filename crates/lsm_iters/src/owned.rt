@@ -5,9 +5,10 @@ ghost use Rattle.std.specs.declared.ops.Bound.TheVariants.{Unbounded};
 ghost use Rattle.lsm_iters.specs.Words.{DealsLeft, IsStrict, KeepsLower, KeepsUpper, SpanGives};
 ghost use Rattle.lsm_iters.specs.Words.{back_of, edge_of, front_of};
 ghost use Rattle.lsm_iters.specs.Words.{span_remains, lower_place, rest_in, span_from, span_to};
-ghost use Rattle.lsm_iters.specs.Words.{upper_place, whole_span, within};
+ghost use Rattle.lsm_iters.specs.Words.{unlent_span, upper_place, whole_span, within};
 
 use crate::Bound;
+use crate::span_cursor::SpanCursor;
 use lsm_walks::Ends;
 use sst_blocks::{DataBlock, InternalValue, IterItem, SeqNo};
 use sst_entries::Direction;
@@ -45,6 +46,13 @@ impl<A: Allocator> OwnedDataBlockIter<A> {
     {
         let to = block.len();
         OwnedDataBlockIter { block, from: 0, to }
+    }
+
+    /// What is left, to be lent from the block.
+    pub(crate) fn into_cursor(self) -> SpanCursor<A>
+        ensures { result ≡ unlent_span self }
+    {
+        SpanCursor::new(self.block, self.from, self.to)
     }
 
     /// Drops the entries before a bound. Answers whether an entry is left. The number is not looked
