@@ -23,6 +23,7 @@ pub mod Hits
 pub mod ReadLemmas
 pub mod KeptLemmas
 pub mod PartLemmas
+pub mod LentFaultsLemmas
 pub mod LentNewestLemmas
 pub mod LentOutsLemmas
 pub mod LentCompactionLemmas
