@@ -24,6 +24,7 @@ pub mod ReadLemmas
 pub mod KeptLemmas
 pub mod PartLemmas
 pub mod LentFaultsLemmas
+pub mod LentListens
 pub mod LentNewestLemmas
 pub mod LentOutsLemmas
 pub mod LentCompactionLemmas
