@@ -32,6 +32,9 @@ nothing_wanted answers wants = let no : None ≡ Some (Err OutOfMemory) = wants.
 same_ok : (b c : Bool) (r : Result Bool Error) → r ≡ Ok b → r ≡ Ok c → b ≡ c
 same_ok b c r of_b of_c = cc
 
+pub live_over : {b : Bool} → b ≡ false → b ≡ true → ⊥
+live_over live over = let no : false ≡ true = sym live ∙ over in absurd cc
+
 module _ {S A : Type 0} (advances : S → Option R → S → Type 0) (s t : LendingCompaction S A) where
   awake : {P : Type 0} → s.is_pending ≡ true → is_quiet s ≡ true → P
   awake pending quiet =
@@ -118,6 +121,19 @@ module _ {S A : Type 0} (advances : S → Option R → S → Type 0) (s t : Lend
       idle = λ q none. awake pending q;
     }
 
+  -- an entry is passed on as nothing yet is
+  pub listens_entry : (x : Entry) → ListensSome advances s None t
+      → ListensSome advances s (Some (Ok x)) t
+  listens_entry x h = record {
+    answers = h.answers;
+    gave = h.gave;
+    told = elim h.told [
+      | inl clean ↦ inl (clean.0, clean.1)
+      | inr wants ↦ nothing_wanted h.answers wants.0
+    ];
+    idle = h.idle;
+  }
+
 module _ {S A : Type 0} (advances : S → Option R → S → Type 0) (s m t : LendingCompaction S A) where
   -- one step after another
   pub listens_then : (r : Option R) → ListensSome advances s None m → ListensSome advances m r t
@@ -197,3 +213,12 @@ module _ {S A : Type 0} (advances : S → Option R → S → Type 0) (s m t : Le
     }
     | inr wants ↦ nothing_wanted before.answers wants.0
   ]
+
+  -- it is what is lent
+  pub listens_lent : (b : Bool) (o : Option Entry) → b ≡ is_some o → b ≡ true
+      → ListensSome advances s None m → m.is_pending ≡ true → ListensSome advances m None t
+      → Listens advances lender (λ c. c.is_over) is_quiet s (option_map (λ x. Ok x) o) t
+  listens_lent b None more lends before pending after =
+      let no : true ≡ false = sym lends ∙ more in absurd cc
+  listens_lent b (Some x) more lends before pending after =
+      listens_looked (Ok x) before pending (listens_entry advances m t x after)
