@@ -26,5 +26,6 @@ pub mod PartLemmas
 pub mod LentFaultsLemmas
 pub mod LentListens
 pub mod LentNewestLemmas
+pub mod LentNewestListens
 pub mod LentOutsLemmas
 pub mod LentCompactionLemmas
