@@ -308,11 +308,6 @@ pub lowers_le : (o : Option Entry) (a b : ℕ) → Lowers (option_map {U = R} (�
 lowers_le None a b e = omega (arith, e)
 lowers_le (Some x) a b lt = omega (arith, lt)
 
--- ---- faults
-
-pub same_fault : (f e : Error) (r : Option R) → r ≡ Some (Err f) → r ≡ Some (Err e) → f ≡ e
-same_fault f e r of_f of_e = cc
-
 -- ---- whole runs
 
 module _ {S A : Type 0} (advances : S → Option R → S → Type 0) (can : S → Type 0)

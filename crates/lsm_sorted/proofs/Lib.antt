@@ -23,7 +23,5 @@ pub mod Hits
 pub mod ReadLemmas
 pub mod KeptLemmas
 pub mod PartLemmas
-pub mod LentBelowLemmas
-pub mod LentNewestLemmas
-pub mod LentOutsLemmas
-pub mod LentCompactionLemmas
+pub mod LentFaultsLemmas
+pub mod LentListens

@@ -1,6 +1,6 @@
 -- What a compaction keeps of a source that lends.
-use Rattle.std.specs.Prelude.{◌≡◌, ℕ, ◌+◌, Bool, true, false, ◌&&◌, ◌||◌, cond, if◌then◌else◌}
-use Rattle.std.specs.Prelude.{nat_lt, List, [], ◌∷◌, ◌++◌, Option, Some, None, Result, Ok}
+use Rattle.std.specs.Prelude.{◌≡◌, ◌⊎◌, ℕ, ◌+◌, Bool, not, true, false, ◌&&◌, ◌||◌, cond}
+use Rattle.std.specs.Prelude.{if◌then◌else◌, nat_lt, List, [], ◌∷◌, ◌++◌, Option, Some, None, Result, Ok}
 use Rattle.std.specs.Option.{option_map}
 use Rattle.sst_entries.specs.Entry.{Entry, entry}
 use Rattle.sst_entries.specs.Kind.{is_tombstone_kind, is_weak_kind}
@@ -12,7 +12,10 @@ use Rattle.lsm_merge.specs.Ends.{R}
 use Rattle.lsm_sorted.specs.Newest.{after_key}
 use Rattle.lsm_sorted.specs.Compaction.{goes, zeroed, given, Versions, by_key, error_of, entries}
 use Rattle.lsm_sorted.specs.Compaction.{heads, expired, concat_by, as_they_are, kept, unfiltered}
-use Rattle.lsm_sorted.specs.CompactionState.{answer_of}
+use Rattle.lsm_sorted.specs.CompactionState.{answer_of, failure}
+use Rattle.lsm_sorted.specs.Hears.{GaveEach}
+use Rattle.lsm_sorted.specs.LentFaults.{CallTells, EndsIn, NoFaults, NothingCame, Passes}
+use Rattle.lsm_sorted.specs.LentFaults.{WantsItself}
 use Rattle.lsm_sorted.specs.declared.compaction.Rules.{Rules}
 use Rattle.lsm_sorted.specs.declared.compaction.lending.Lends.{Lends}
 use Rattle.lsm_sorted.specs.declared.compaction.lending.Lends.TheVariants.{Nothing, Source, Held}
@@ -58,6 +61,14 @@ module _ {S A : Type 0} where
   -- the key of which what comes next is hidden
   abbrev pub hidden_key : LendingCompaction S A → Option (List ℕ)
   hidden_key s = cond s.hides (Some s.key.items) None
+
+  -- what it reads from
+  abbrev pub lender : LendingCompaction S A → S
+  lender s = s.source
+
+  -- nothing waits to be looked at
+  abbrev pub is_quiet : LendingCompaction S A → Bool
+  is_quiet s = not s.is_pending
 
   -- what is lent, by where it lies
   abbrev pub lent_where : (S → Option Entry) → Lends → LendingCompaction S A → Option Entry
@@ -128,11 +139,31 @@ module _ {S : Type 0} (advances : S → Option R → S → Type 0) (lent : S →
     pub gives : (stops : Error → Bool) → DealsSome stops (LeavesCompacted stops) s r t
 
   -- one call: it may be asked again, and where s stands for a list, what came is the first of it,
-  -- up to an error that stops the source, and t stands for the others
+  -- up to an error that stops the source, and t stands for the others; it tells the source's errors
   pub record AdvancesCompacted {A : Type 0} (can : S → Type 0) (s : LendingCompaction S A)
       (r : Option R) (t : LendingCompaction S A) : Type 0 where
     pub may : MayLendCompacted advances can t
     pub gives : (stops : Error → Bool) → DealsFirst stops (LeavesCompacted stops) s r t
+    pub tells : CallTells advances lender (λ c. c.is_over) is_quiet s r t
+
+-- on the way to an answer: no error of the source so far, or it is the last of its answers
+abbrev pub Passing : Option R → List (Option R) → Type 0
+Passing None answers = NoFaults answers
+Passing (Some r) answers = Passes (Some r) answers
+
+module _ {S A : Type 0} (advances : S → Option R → S → Type 0) (s : LendingCompaction S A) where
+  -- a step: what the source answered in it, and whether an error ends the stream
+  pub record ListensSome (r : Option R) (t : LendingCompaction S A) : Type 0 where
+    pub answers : List (Option R)
+    pub gave : GaveEach advances s.source answers t.source
+    pub told : (Passing r answers × (t.is_over ≡ false))
+        ⊎ (WantsItself r answers × (t.is_over ≡ true))
+    pub idle : is_quiet s ≡ true → NothingCame answers → is_quiet t ≡ true
+
+  -- an entry to look at, where there is one: else the source has ended
+  pub record Fetches (result : Result Bool Error) (t : LendingCompaction S A) : Type 0 where
+    pub step : ListensSome (failure result) t
+    pub ended : result ≡ Ok false → EndsIn None step.answers
 
 module _ {S T : Type 0} (advances : S → Option R → S → Type 0) (source : S)
     (next : T → Option R → T → Type 0) (t : T) (rules : Rules) where

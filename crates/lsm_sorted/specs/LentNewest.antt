@@ -1,5 +1,5 @@
 -- The newest version of each key of a source that lends.
-use Rattle.std.specs.Prelude.{◌≡◌, ◌⊎◌, ℕ, Bool, true, false, cond, not, List, [], ◌∷◌, filter}
+use Rattle.std.specs.Prelude.{◌≡◌, ℕ, Bool, true, false, cond, not, List, [], ◌∷◌, filter}
 use Rattle.std.specs.Prelude.{Option, Some, None, Ok, Err}
 use Rattle.sst_entries.specs.Entry.{Entry}
 use Rattle.sst_entries.specs.Key.{same_key}
@@ -8,6 +8,7 @@ use Rattle.sst_entries.specs.declared.error.Error.{Error}
 use Rattle.sst_entries.specs.declared.error.Error.TheVariants.{OutOfMemory}
 use Rattle.lsm_merge.specs.Ends.{R}
 use Rattle.lsm_merge.specs.Union.{Ascends, entries_among, newest}
+use Rattle.lsm_sorted.specs.LentFaults.{CallTells}
 use Rattle.lsm_sorted.specs.Newest.{is_of}
 use Rattle.lsm_sorted.specs.declared.lending_newest.LendingNewest.{LendingNewest}
 
@@ -27,6 +28,10 @@ abbrev pub news : Option (List ℕ) → List R → List R
 news k [] = []
 news k (Ok x ∷ rs) = cond (is_given k x) (news k rs) (Ok x ∷ news (Some x.user_key) rs)
 news k (Err e ∷ rs) = Err e ∷ news k rs
+
+-- what it reads from
+abbrev pub newest_lender : {S A : Type 0} → LendingNewest S A → S
+newest_lender s = s.source
 
 -- the key that was given last
 abbrev pub last_key : {S A : Type 0} → LendingNewest S A → Option (List ℕ)
@@ -59,20 +64,13 @@ pub record LeavesNewest {S A : Type 0} (stops : Error → Bool) (advances : S �
   pub has : Deals (answer_stops stops) advances nowhere s.source rest
   pub is : ys ≡ news (last_key s) rest
 
--- an error is the one that the source has just answered, or want of memory that ends it
-abbrev pub ErrsOrEnds : {S A : Type 0} → (S → Option R → S → Type 0) → Error → LendingNewest S A
-    → Type 0
-ErrsOrEnds {S} advances e t = ((before : S) × advances before (Some (Err e)) t.source)
-    ⊎ ((e ≡ OutOfMemory) × (t.is_over ≡ true))
-
 -- one call: it may be asked again, and where s stands for a list, what came is the first of it, up
--- to an error that stops the source, and t stands for the others. Once it is over, nothing comes
+-- to an error that stops the source, and t stands for the others; it tells the source's errors
 pub record AdvancesNewest {S : Type 0} (advances : S → Option R → S → Type 0) (can : S → Type 0)
     {A : Type 0} (s : LendingNewest S A) (r : Option R) (t : LendingNewest S A) : Type 0 where
   pub may : MayNewest advances can t
   pub gives : (stops : Error → Bool) → DealsFirst stops (LeavesNewest stops advances) s r t
-  pub faults : (e : Error) → r ≡ Some (Err e) → ErrsOrEnds advances e t
-  pub over : s.is_over ≡ true → (r ≡ None) × (t.is_over ≡ true)
+  pub tells : CallTells advances newest_lender (λ n. n.is_over) (λ n. true) s r t
 
 module _ {S T : Type 0} (advances : S → Option R → S → Type 0) (source : S)
     (next : T → Option R → T → Type 0) (t : T) where

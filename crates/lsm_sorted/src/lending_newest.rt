@@ -6,9 +6,10 @@ ghost use Rattle.sst_entries.specs.Entry.{Entry};
 ghost use Rattle.sst_entries.specs.Stream.{CanDeal, Lowers, nowhere};
 ghost use Rattle.sst_entries.specs.declared.error.Error.{Error};
 ghost use Rattle.sst_entries.specs.declared.error.Error.TheVariants.{OutOfMemory};
+ghost use Rattle.lsm_sorted.specs.LentFaults.{AlwaysTells, PassesAll, StaysOver};
 ghost use Rattle.lsm_sorted.specs.LentNewest.{AdvancesNewest, DealsNewestEntries};
 ghost use Rattle.lsm_sorted.specs.LentNewest.{DealsNewestResults, MayNewest, is_other, last_key};
-ghost use Rattle.lsm_sorted.specs.LentNewest.{lent_newest, newest_left};
+ghost use Rattle.lsm_sorted.specs.LentNewest.{lent_newest, newest_left, newest_lender};
 
 use sst_entries::{EntryRef, Error, Lending};
 use std::alloc::{Allocator, Global};
@@ -39,6 +40,13 @@ impl<L: Lending, A: Allocator> LendingNewest<L, A> {
             ⟦<LendingNewest<L, A> as Lending>⟧.advances result }
         // With errors among it, the same, and each error in its place.
         ensures places { DealsNewestResults L.advances source
+            ⟦<LendingNewest<L, A> as Lending>⟧.advances result }
+        // Over any source, each of its errors as it is, and no other but its own want of memory.
+        ensures faults { AlwaysTells PassesAll L.advances source newest_lender
+            ⟦<LendingNewest<L, A> as Lending>⟧.advances result }
+        // Behind its own want of memory nothing comes. Where nothing came, it asks the source
+        // again, and nothing comes while that gives nothing.
+        ensures over { AlwaysTells StaysOver L.advances source newest_lender
             ⟦<LendingNewest<L, A> as Lending>⟧.advances result }
         // Where the source may be asked for as long as wanted, so may it.
         ensures can { CanDeal L.advances nowhere L.can_advance L.can_advance source →

@@ -13,8 +13,10 @@ ghost use Rattle.lsm_sorted.specs.Compaction.{is_value};
 ghost use Rattle.lsm_sorted.specs.CompactionState.{failure};
 ghost use Rattle.lsm_sorted.specs.LentCompaction.{AdvancesCompacted, AdvancesSome, HasEnded};
 ghost use Rattle.lsm_sorted.specs.LentCompaction.{DealsCompactedEntries, DealsCompactedResults};
-ghost use Rattle.lsm_sorted.specs.LentCompaction.{MayLendCompacted, SettlesLent, compacted_left};
-ghost use Rattle.lsm_sorted.specs.LentCompaction.{one_more_if, has_to_wait, lent_compacted};
+ghost use Rattle.lsm_sorted.specs.LentCompaction.{Fetches, ListensSome, MayLendCompacted};
+ghost use Rattle.lsm_sorted.specs.LentCompaction.{SettlesLent, compacted_left, has_to_wait, lender};
+ghost use Rattle.lsm_sorted.specs.LentCompaction.{lent_compacted, one_more_if};
+ghost use Rattle.lsm_sorted.specs.LentFaults.{AlwaysTells, PassesAll, StaysOver};
 ghost use Rattle.lsm_sorted.specs.LentNewest.{is_given};
 ghost use Rattle.lsm_sorted.specs.declared.compaction.lending.Lends.TheVariants.{Nothing};
 
@@ -149,6 +151,13 @@ impl<L: Lending, A: Allocator> LendingCompaction<L, A> {
         // With errors among it, what it keeps between them, and each error in its place.
         ensures places { IfOk result (λ c. DealsCompactedResults L.advances source
             ⟦<LendingCompaction<L, A> as Lending>⟧.advances c rules) }
+        // Over any source, each of its errors as it is, and no other but its own want of memory.
+        ensures faults { IfOk result (AlwaysTells PassesAll L.advances source lender
+            ⟦<LendingCompaction<L, A> as Lending>⟧.advances) }
+        // Behind its own want of memory nothing comes. Where nothing came, it asks the source
+        // again, and nothing comes while that gives nothing.
+        ensures over { IfOk result (AlwaysTells StaysOver L.advances source lender
+            ⟦<LendingCompaction<L, A> as Lending>⟧.advances) }
         // Where the source may be asked for as long as wanted, so may it.
         ensures can { CanDeal L.advances nowhere L.can_advance L.can_advance source →
             IfOk result (CanDeal ⟦<LendingCompaction<L, A> as Lending>⟧.advances nowhere
@@ -178,6 +187,7 @@ impl<L: Lending, A: Allocator> LendingCompaction<L, A> {
         requires live { self.old.is_over ≡ false }
         ensures goes { AdvancesSome L.advances L.lent L.can_advance self.old (failure result)
             self.new }
+        ensures heard { Fetches L.advances self.old result self.new }
         ensures over { self.new.is_over ≡ self.old.is_over }
         ensures lends { self.new.lends ≡ self.old.lends }
         ensures pending { IfOk result (λ more. self.new.is_pending ≡ more) }
@@ -208,7 +218,9 @@ impl<L: Lending, A: Allocator> LendingCompaction<L, A> {
         requires may { MayLendCompacted L.advances L.can_advance self.old }
         requires pending { self.old.is_pending ≡ false }
         requires hides { self.old.hides ≡ false }
+        requires live { self.old.is_over ≡ false }
         ensures may { MayLendCompacted L.advances L.can_advance self.new }
+        ensures heard { ListensSome L.advances self.old (failure result) self.new }
         ensures rules { self.new.rules ≡ self.old.rules }
         ensures over { self.new.is_over ≡ self.old.is_over }
         ensures lends { self.new.lends ≡ self.old.lends }
@@ -246,6 +258,7 @@ impl<L: Lending, A: Allocator> LendingCompaction<L, A> {
             has_to_wait self.old.rules head ≡ true }
         ensures goes { AdvancesSome L.advances L.lent L.can_advance self.old
             (came result (lent_compacted L.lent self.new)) self.new }
+        ensures heard { ListensSome L.advances self.old (failure result) self.new }
         ensures more { IfOk result (λ more. more ≡ is_some (lent_compacted L.lent self.new)) }
         ensures err { OnErr result (lent_compacted L.lent self.new ≡ None) }
         ensures live { IfOk result (λ _. self.new.is_over ≡ false) }
@@ -282,6 +295,7 @@ impl<L: Lending, A: Allocator> LendingCompaction<L, A> {
         requires empty { self.old.lends ≡ Nothing }
         ensures goes { AdvancesSome L.advances L.lent L.can_advance self.old
             (came result (lent_compacted L.lent self.new)) self.new }
+        ensures heard { ListensSome L.advances self.old (failure result) self.new }
         ensures more { IfOk result (λ more. more ≡ is_some (lent_compacted L.lent self.new)) }
         ensures err { OnErr result (lent_compacted L.lent self.new ≡ None) }
         ensures live { IfOk result (λ _. self.new.is_over ≡ false) }

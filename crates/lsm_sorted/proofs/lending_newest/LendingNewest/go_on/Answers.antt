@@ -8,8 +8,9 @@ use Rattle.sst_entries.specs.Stream.{CanDeal, nowhere}
 use Rattle.sst_entries.proofs.StreamLemmas.{can_front, can_now}
 use Rattle.lsm_sorted.specs.LentNewest.{is_other, last_key}
 use Rattle.lsm_sorted.proofs.LentNewestLemmas.{still_skips, gives_kept, gives_end, gives_fault, gives_memory}
-use Rattle.lsm_merge.proofs.LentSteps.{no_error}
-use Rattle.lsm_sorted.proofs.LentNewestLemmas.{last_same, lowers_le, same_fault}
+use Rattle.lsm_sorted.proofs.LentNewestLemmas.{last_same, lowers_le}
+use Rattle.lsm_sorted.proofs.LentNewestListens.{hears_end, hears_fault, hears_lent, hears_memory}
+use Rattle.lsm_sorted.proofs.LentNewestListens.{skips_more}
 use Rattle.lsm_sorted.proofs.lending_newest.LendingNewest.go_on.Goals as goal
 
 pub advance-requires : goal.advance-requires
@@ -26,8 +27,10 @@ returns-in_err-advance-clause-goes g c =
       may = can_front g.L.Lending.advances nowhere can can m.source _ c.advance.new.self before.may c.in_err-advance.ensures.goes;
       gives = λ stops. gives_fault stops g.L.Lending.advances g.L.Lending.lent c.args.self.now _ m.source (before.still stops) (before.live ∙ c.requires.live)
           (last_same m c.args.self.now before.key before.has) c.in_err-advance.field-0.0 c.in_err-advance.ensures.goes;
-      faults = λ e is. inl (m.source, subst (λ (e : Error). g.L.Lending.advances m.source (Some (Err e)) c.advance.new.self) (same_fault c.in_err-advance.field-0.0 e _ refl is) c.in_err-advance.ensures.goes);
-      over = λ o. let no : false ≡ true = sym c.requires.live ∙ o in absurd cc;
+      tells = record {
+        live = λ o. hears_fault g.L.Lending.advances c.args.self.now _ m.source before.skipped c.in_err-advance.field-0.0 (before.live ∙ c.requires.live) c.in_err-advance.ensures.goes;
+        ended = λ o. let no : false ≡ true = sym c.requires.live ∙ o in absurd cc;
+      };
     })
 
 pub returns-in-Err-clause-goes : goal.returns-in-Err-clause-goes
@@ -38,8 +41,10 @@ returns-in-Err-clause-goes g c =
       may = subst (CanDeal g.L.Lending.advances nowhere can can) (sym c.in-Err.ensures.source)
           (can_front g.L.Lending.advances nowhere can can c.loop-self.self.source _ c.advance.new.self before.may c.in_ok-advance.ensures.goes);
       gives = λ stops. gives_memory stops g.L.Lending.advances c.args.self.now _ c.in-Err.error c.in-Err.ensures.err;
-      faults = λ e is. inr (sym (same_fault c.in-Err.error e _ refl is) ∙ c.in-Err.ensures.err, refl);
-      over = λ o. let no : false ≡ true = sym c.requires.live ∙ o in absurd cc;
+      tells = record {
+        live = λ o. hears_memory g.L.Lending.advances c.args.self.now _ c.loop-self.self.source before.skipped c.advance.new.self c.in-Err.ensures.source c.in_ok-advance.field-0 (g.L.Lending.lent c.advance.new.self) c.in-Err.error c.in_ok-advance.ensures.more c.if-branch.true c.in-Err.ensures.err refl c.in_ok-advance.ensures.goes;
+        ended = λ o. let no : false ≡ true = sym c.requires.live ∙ o in absurd cc;
+      };
     }
 
 pub returns-then-is_other-clause-goes : goal.returns-then-is_other-clause-goes
@@ -57,8 +62,10 @@ returns-then-is_other-clause-goes g c =
           (can_front g.L.Lending.advances nowhere can can m.source _ t before.may c.in_ok-advance.ensures.goes);
       gives = λ stops. gives_kept stops g.L.Lending.advances lent c.args.self.now c.remember.new.self m.source (before.still stops) (c.in_default.ensures.over ∙ before.live ∙ c.requires.live)
           t c.in_default.ensures.source c.in_ok-advance.field-0 c.in_default.ensures.has c.in_ok-advance.ensures.more c.if-branch.true other c.in_default.ensures.key c.in_ok-advance.ensures.goes;
-      faults = λ e is. absurd (no_error _ e is);
-      over = λ o. let no : false ≡ true = sym c.requires.live ∙ o in absurd cc;
+      tells = record {
+        live = λ o. hears_lent g.L.Lending.advances c.args.self.now c.remember.new.self m.source before.skipped t c.in_default.ensures.source lent c.in_ok-advance.field-0 (lent t) refl c.in_ok-advance.ensures.more c.if-branch.true (c.in_default.ensures.over ∙ before.live ∙ c.requires.live) c.in_default.ensures.has c.in_ok-advance.ensures.goes;
+        ended = λ o. let no : false ≡ true = sym c.requires.live ∙ o in absurd cc;
+      };
     }
 
 pub loop-self-preserved : goal.loop-self-preserved
@@ -78,6 +85,7 @@ loop-self-preserved g c =
       live = before.live;
       lowers = let less = lowers_le (lent t) (g.L.Lending.left m.source) (g.L.Lending.left t) c.in_ok-advance.ensures.lowers in omega (arith, less, before.lowers);
       still = λ stops. still_skips stops g.L.Lending.advances (last_key c.args.self.now) c.args.self.now.source m.source t (lent t) (before.still stops) same c.in_ok-advance.ensures.goes;
+      skipped = skips_more g.L.Lending.advances c.args.self.now.source m.source t (lent t) before.skipped c.in_ok-advance.ensures.goes;
     }
 
 pub returns-clause-goes : goal.returns-clause-goes
@@ -89,6 +97,8 @@ returns-clause-goes g c =
       may = can_front g.L.Lending.advances nowhere can can m.source _ c.advance.new.self before.may c.in_ok-advance.ensures.goes;
       gives = λ stops. gives_end stops g.L.Lending.advances g.L.Lending.lent c.args.self.now _ m.source (before.still stops) (before.live ∙ c.requires.live)
           (last_same m c.args.self.now before.key before.has) c.in_ok-advance.field-0 c.in_ok-advance.ensures.more c.if-branch.false c.in_ok-advance.ensures.goes;
-      faults = λ e is. absurd (no_error _ e is);
-      over = λ o. let no : false ≡ true = sym c.requires.live ∙ o in absurd cc;
+      tells = record {
+        live = λ o. hears_end g.L.Lending.advances c.args.self.now _ m.source before.skipped g.L.Lending.lent c.in_ok-advance.field-0 (g.L.Lending.lent c.advance.new.self) refl c.in_ok-advance.ensures.more c.if-branch.false (before.live ∙ c.requires.live) c.in_ok-advance.ensures.goes;
+        ended = λ o. let no : false ≡ true = sym c.requires.live ∙ o in absurd cc;
+      };
     }

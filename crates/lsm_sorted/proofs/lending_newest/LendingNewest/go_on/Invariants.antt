@@ -3,6 +3,7 @@ use Rattle.sst_entries.specs.Stream.{CanDeal, nowhere}
 use Rattle.sst_entries.specs.declared.error.Error.{Error}
 use Rattle.lsm_sorted.specs.LentNewest.{last_key}
 use Rattle.lsm_sorted.proofs.LentNewestLemmas.{Still}
+use Rattle.lsm_sorted.proofs.LentNewestListens.{Skipped}
 use Rattle.lsm_sorted.proofs.lending_newest.LendingNewest.go_on.Given as goal
 
 abbrev pub invariant-loop-self : goal.invariant-loop-self
@@ -17,6 +18,7 @@ invariant-loop-self g l =
       lowers : g.L.Lending.left l.self.source ≤ g.L.Lending.left l.initial.self.source;
       still : (stops : Error → Bool) → Still stops advances (last_key l.initial.self)
           l.initial.self.source l.self.source;
+      skipped : Skipped advances l.initial.self.source l.self.source;
     }
 
 abbrev pub decreases-loop-self : goal.decreases-loop-self

@@ -3,6 +3,7 @@ use Rattle.std.proofs.Common.{refl, ap, ◌∙◌, Bool, cond}
 use Rattle.sst_entries.specs.Stream.{nowhere}
 use Rattle.sst_entries.proofs.StreamLemmas.{can_front, can_now}
 use Rattle.lsm_sorted.specs.LentCompaction.{one_more_if}
+use Rattle.lsm_sorted.proofs.LentListens.{fetches_heard, fetches_heard_fault}
 use Rattle.lsm_sorted.proofs.LentCompactionLemmas.{fetches_ok, fetches_fault, has_ended, ended_left}
 use Rattle.lsm_sorted.proofs.compaction.lending.LendingCompaction.fetch.Goals as goal
 
@@ -33,3 +34,11 @@ returns-in-Err-clause-goes g c =
       may = can_front g.L.Lending.advances nowhere can can c.args.self.now.source _ c.advance.new.self c.requires.may c.in-Err.ensures.goes;
       gives = λ stops. fetches_fault g.L.Lending.advances g.L.Lending.lent stops c.args.self.now _ refl refl c.if-self.false c.in-Err.error c.if-self.false refl c.in-Err.ensures.goes;
     }
+
+pub returns-in-Ok-clause-heard : goal.returns-in-Ok-clause-heard
+returns-in-Ok-clause-heard g c =
+    fetches_heard g.L.Lending.advances c.args.self.now _ (g.L.Lending.lent c.advance.new.self) c.in-Ok.more c.requires.live refl c.in-Ok.ensures.more c.in-Ok.ensures.goes
+
+pub returns-in-Err-clause-heard : goal.returns-in-Err-clause-heard
+returns-in-Err-clause-heard g c =
+    fetches_heard_fault g.L.Lending.advances c.args.self.now _ c.in-Err.error c.requires.live c.in-Err.ensures.goes

@@ -1,8 +1,10 @@
 -- On to the next entry that is kept.
-use Rattle.std.proofs.Common.{◌∙◌, arith}
-use Rattle.std.specs.Prelude.{Some, None, Err}
+use Rattle.std.proofs.Common.{◌∙◌, arith, subst, Bool}
+use Rattle.std.specs.Prelude.{Some, None, Ok, Err}
 use Rattle.std.proofs.lemmas.Result.{err_from_is_err_and}
-use Rattle.lsm_sorted.specs.LentCompaction.{LeavesCompacted, lent_compacted}
+use Rattle.lsm_sorted.specs.LentCompaction.{Fetches, LeavesCompacted, lent_compacted}
+use Rattle.lsm_sorted.proofs.LentListens.{listens_ended, listens_lent, listens_looked}
+use Rattle.lsm_sorted.proofs.LentListens.{listens_refused, listens_then, live_over}
 use Rattle.lsm_sorted.proofs.LentCompactionLemmas.{some_then, some_first, some_lent, none_lent}
 use Rattle.lsm_sorted.proofs.LentCompactionLemmas.{some_end, quiet_first}
 use Rattle.lsm_sorted.proofs.compaction.lending.LendingCompaction.go_on.Goals as goal
@@ -16,6 +18,10 @@ returns-in_err-fetch-clause-goes g c =
       may = goes.may;
       gives = λ stops. some_first stops (has stops) c.args.self.now c.fetch.new.self (Err c.in_err-fetch.field-0.0)
           (some_then stops (has stops) c.args.self.now c.loop-self.self c.fetch.new.self (Some (Err c.in_err-fetch.field-0.0)) (c.loop-self.invariant.some stops) (goes.gives stops));
+      tells = record {
+        live = λ o. listens_refused g.L.Lending.advances c.args.self.now c.loop-self.self c.fetch.new.self c.in_err-fetch.field-0.0 (c.in_err-fetch.ensures.over ∙ c.loop-self.invariant.live) c.loop-self.invariant.heard c.in_err-fetch.ensures.heard.step;
+        ended = λ o. absurd (live_over c.requires.live o);
+      };
     })
 
 pub returns-in_err-look-clause-goes : goal.returns-in_err-look-clause-goes
@@ -28,6 +34,12 @@ returns-in_err-look-clause-goes g c =
       gives = λ stops. some_first stops (has stops) c.args.self.now c.look.new.self (Err c.in_err-look.field-0.0)
           (some_then stops (has stops) c.args.self.now c.fetch.new.self c.look.new.self (Some (Err c.in_err-look.field-0.0))
           (some_then stops (has stops) c.args.self.now c.loop-self.self c.fetch.new.self None (c.loop-self.invariant.some stops) (c.in_ok-fetch.ensures.goes.gives stops)) (goes.gives stops));
+      tells = record {
+        live = λ o. listens_looked g.L.Lending.advances c.args.self.now c.fetch.new.self c.look.new.self (Err c.in_err-look.field-0.0)
+            (listens_then g.L.Lending.advances c.args.self.now c.loop-self.self c.fetch.new.self None c.loop-self.invariant.heard c.in_ok-fetch.ensures.heard.step)
+            (c.in_ok-fetch.ensures.pending ∙ c.if-branch.true) c.in_err-look.ensures.heard;
+        ended = λ o. absurd (live_over c.requires.live o);
+      };
     })
 
 pub returns-then-branch-2-clause-goes : goal.returns-then-branch-2-clause-goes
@@ -39,6 +51,12 @@ returns-then-branch-2-clause-goes g c =
       gives = λ stops. some_lent stops (has stops) c.args.self.now c.look.new.self c.in_ok-look.field-0 (lent_compacted g.L.Lending.lent c.look.new.self) c.in_ok-look.ensures.more c.if-branch-2.true
           (some_then stops (has stops) c.args.self.now c.fetch.new.self c.look.new.self _
           (some_then stops (has stops) c.args.self.now c.loop-self.self c.fetch.new.self None (c.loop-self.invariant.some stops) (c.in_ok-fetch.ensures.goes.gives stops)) (goes.gives stops));
+      tells = record {
+        live = λ o. listens_lent g.L.Lending.advances c.args.self.now c.fetch.new.self c.look.new.self c.in_ok-look.field-0 (lent_compacted g.L.Lending.lent c.look.new.self) c.in_ok-look.ensures.more c.if-branch-2.true
+            (listens_then g.L.Lending.advances c.args.self.now c.loop-self.self c.fetch.new.self None c.loop-self.invariant.heard c.in_ok-fetch.ensures.heard.step)
+            (c.in_ok-fetch.ensures.pending ∙ c.if-branch.true) c.in_ok-look.ensures.heard;
+        ended = λ o. absurd (live_over c.requires.live o);
+      };
     }
 
 pub loop-self-preserved : goal.loop-self-preserved
@@ -53,6 +71,8 @@ loop-self-preserved g c =
       some = λ stops. none_lent stops (has stops) c.args.self.now c.look.new.self c.in_ok-look.field-0 (lent_compacted g.L.Lending.lent c.look.new.self) c.in_ok-look.ensures.more c.if-branch-2.false
           (some_then stops (has stops) c.args.self.now c.fetch.new.self c.look.new.self _
           (some_then stops (has stops) c.args.self.now c.loop-self.self c.fetch.new.self None (c.loop-self.invariant.some stops) (c.in_ok-fetch.ensures.goes.gives stops)) (goes.gives stops));
+      heard = listens_then g.L.Lending.advances c.args.self.now c.fetch.new.self c.look.new.self None
+          (listens_then g.L.Lending.advances c.args.self.now c.loop-self.self c.fetch.new.self None c.loop-self.invariant.heard c.in_ok-fetch.ensures.heard.step) c.in_ok-look.ensures.heard;
     }
 
 pub returns-clause-goes : goal.returns-clause-goes
@@ -62,4 +82,10 @@ returns-clause-goes g c =
     quiet_first g.L.Lending.advances g.L.Lending.lent g.L.Lending.can_advance c.args.self.now c.fetch.new.self (c.in_ok-fetch.ensures.lends ∙ c.loop-self.invariant.empty) (record {
       may = goes.may;
       gives = λ stops. some_end stops (has stops) c.args.self.now c.loop-self.self c.fetch.new.self (c.loop-self.invariant.some stops) ((c.in_ok-fetch.ensures.ends c.if-branch.false).0 stops) (goes.gives stops);
+      tells = record {
+        live = λ o. listens_ended g.L.Lending.advances c.args.self.now c.loop-self.self c.fetch.new.self (c.in_ok-fetch.ensures.over ∙ c.loop-self.invariant.live)
+            (c.in_ok-fetch.ensures.pending ∙ c.if-branch.false) c.loop-self.invariant.heard
+            (subst (λ (b : Bool). Fetches g.L.Lending.advances c.loop-self.self (Ok b) c.fetch.new.self) c.if-branch.false c.in_ok-fetch.ensures.heard);
+        ended = λ o. absurd (live_over c.requires.live o);
+      };
     })

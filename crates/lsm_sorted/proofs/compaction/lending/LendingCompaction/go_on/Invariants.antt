@@ -1,7 +1,7 @@
 use Rattle.std.specs.Prelude.{None}
 use Rattle.std.proofs.Common.{◌≡◌, ◌≤◌, Bool, false}
 use Rattle.sst_entries.specs.declared.error.Error.{Error}
-use Rattle.lsm_sorted.specs.LentCompaction.{DealsSome, LeavesCompacted, MayLendCompacted}
+use Rattle.lsm_sorted.specs.LentCompaction.{DealsSome, LeavesCompacted, ListensSome, MayLendCompacted}
 use Rattle.lsm_sorted.specs.LentCompaction.{compacted_left}
 use Rattle.lsm_sorted.specs.declared.compaction.lending.Lends.TheVariants.{Nothing}
 use Rattle.lsm_sorted.proofs.compaction.lending.LendingCompaction.go_on.Given as goal
@@ -15,6 +15,7 @@ invariant-loop-self g l =
       few : compacted_left g.L.Lending.left l.self ≤ compacted_left g.L.Lending.left l.initial.self;
       some : (stops : Error → Bool) → DealsSome stops (LeavesCompacted g.L.Lending.advances
           g.L.Lending.lent stops) l.initial.self None l.self;
+      heard : ListensSome g.L.Lending.advances l.initial.self None l.self;
     }
 
 abbrev pub decreases-loop-self : goal.decreases-loop-self

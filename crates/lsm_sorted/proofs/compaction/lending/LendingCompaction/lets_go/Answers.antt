@@ -8,6 +8,7 @@ use Rattle.sst_entries.specs.Key.{same_key}
 use Rattle.sst_entries.specs.Lending.{entry_of_ref}
 use Rattle.sst_entries.specs.Stream.{nowhere}
 use Rattle.sst_entries.proofs.StreamLemmas.{can_front, can_now}
+use Rattle.lsm_sorted.proofs.LentListens.{listens_fault, listens_ok}
 use Rattle.lsm_sorted.proofs.LentCompactionLemmas.{settles_fault, settles_none, settles_other}
 use Rattle.lsm_sorted.proofs.LentCompactionLemmas.{settles_high, settles_low}
 use Rattle.lsm_sorted.proofs.compaction.lending.LendingCompaction.lets_go.Goals as goal
@@ -68,3 +69,24 @@ returns-clause-settles g c =
     λ stops head waits key number. settles_low g.L.Lending.advances g.L.Lending.lent stops c.args.self.now _ head waits (entry_of_ref c.in-Some.next) is c.in_ok-self.ensures.goes
     (subst (λ (k : List ℕ). same_key (entry_of_ref c.in-Some.next).user_key k ≡ true) (sym key) same) c.is_value.result c.is_value.ensures refl refl (sym key)
     (lt-ltb head.seqno c.args.self.now.rules.watermark (subst (λ (n : ℕ). n < c.args.self.now.rules.watermark) (sym number) c.if-seqno-self.false))
+
+pub returns-in_err-self-clause-heard : goal.returns-in_err-self-clause-heard
+returns-in_err-self-clause-heard g c =
+    let p = err_from_is_err_and c.from_residual.result c.from_residual.ensures.1 in
+    rw (p.1, p.2) (listens_fault g.L.Lending.advances c.args.self.now _ c.in_err-self.field-0.0 c.requires.live c.in_err-self.ensures.goes)
+
+pub returns-in_default-clause-heard : goal.returns-in_default-clause-heard
+returns-in_default-clause-heard g c =
+    listens_ok g.L.Lending.advances c.args.self.now _ (g.L.Lending.lent c.advance.new.self) c.requires.live (λ none. c.in_ok-self.ensures.more ∙ ap is_some none) c.in_ok-self.ensures.goes
+
+pub returns-then-not-is_version-clause-heard : goal.returns-then-not-is_version-clause-heard
+returns-then-not-is_version-clause-heard g c =
+    listens_ok g.L.Lending.advances c.args.self.now _ (g.L.Lending.lent c.advance.new.self) c.requires.live (λ none. c.in_ok-self.ensures.more ∙ ap is_some none) c.in_ok-self.ensures.goes
+
+pub returns-then-seqno-self-clause-heard : goal.returns-then-seqno-self-clause-heard
+returns-then-seqno-self-clause-heard g c =
+    listens_ok g.L.Lending.advances c.args.self.now _ (g.L.Lending.lent c.advance.new.self) c.requires.live (λ none. c.in_ok-self.ensures.more ∙ ap is_some none) c.in_ok-self.ensures.goes
+
+pub returns-clause-heard : goal.returns-clause-heard
+returns-clause-heard g c =
+    listens_ok g.L.Lending.advances c.args.self.now _ (g.L.Lending.lent c.advance.new.self) c.requires.live (λ none. refl) c.in_ok-self.ensures.goes

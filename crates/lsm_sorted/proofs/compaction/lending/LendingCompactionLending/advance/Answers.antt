@@ -13,4 +13,14 @@ returns-clause-goes g c =
         has = leaves.has;
         is = leaves.is;
       }) fine;
+      tells = record {
+        live = λ o. let call = goes.tells.live o in record {
+          answers = call.answers;
+          gave = call.gave;
+          told = call.told;
+          idle = call.idle;
+          rests = call.rests;
+        };
+        ended = goes.tells.ended;
+      };
     }
