@@ -136,7 +136,7 @@ impl<A: Allocator + Clone> Verification<'_, A> {
         // is, and so is one at the end, but for a data block that no handle names.
         ensures early { let t = self.old.table in FindsFirst result
             (step_early (body_of t.bytes) t.parts self.old.ahead self.old.left) }
-        // At the end no memory is wanted, but to see that a table without entries has no data block.
+        // At the end memory is wanted only to see that a table without entries has no data block.
         ensures calm { let t = self.old.table in
             StepsCalmly (body_of t.bytes) self.old.ahead self.old.left →
             IfErr result (λ e. is_found e ≡ true) }
