@@ -51,5 +51,6 @@ pub mod VerifyLoops
 pub mod VerifyEnd
 pub mod VerifyTables
 pub mod VerifyEarly
+pub mod VerifyReads
 pub mod Verifications
 pub mod HandlesLeft

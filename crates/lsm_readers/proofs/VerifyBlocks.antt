@@ -25,7 +25,8 @@ use Rattle.lsm_readers.specs.Parts.{Parts}
 use Rattle.lsm_readers.specs.Stored.{AreLaid, IndexHas, NamesChunk, NamesPart}
 use Rattle.lsm_readers.specs.declared.verify.Finding.{Finding}
 use Rattle.lsm_readers.specs.Verify.{◌>>=◌, Unread, block_found, block_spent, blocks_found}
-use Rattle.lsm_readers.specs.Verify.{chunk_found, entries_found, filters_found, handles_found}
+use Rattle.lsm_readers.specs.Verify.{chunk_found, contents_found, counted_found, entries_found}
+use Rattle.lsm_readers.specs.Verify.{filters_found, handles_found}
 use Rattle.lsm_readers.specs.Verify.{index_found, last_named, named_found, part_found}
 use Rattle.lsm_readers.specs.Verify.{parts_found, place_found, top_named, unread_of}
 use Rattle.lsm_readers.proofs.FileLengths.{last_some}
@@ -195,16 +196,16 @@ module _ (body : List ℕ) (parts : Parts) where
 
   block_ok : (old : Unread) (h : Handle) (new : Unread) → IsPart old
       → block_found body parts old h ≡ Ok new → ReadsBlock old h new
-  unfolding block_found
+  unfolding block_found counted_found contents_found
   block_ok old h new fits told =
       let meta = parts.regions.metadata.offset in
-      let p = then_ok _ _ new told in
-      let n = then_ok _ _ new p.2 in
+      let n = then_ok _ _ new told in
+      let p = then_ok _ _ n.0 n.1 in
       let c = then_ok _ _ new n.2 in
       let e = then_ok _ _ new c.2 in
       let l = then_ok _ _ new e.2 in
       let same : e.0 ≡ new = told_is e.0 new l.2 in
-      let count = count_ok meta h.size old.counts n.0 n.1 in
+      let count = count_ok meta h.size old.counts n.0 p.2 in
       let chunk = chunk_ok body h c.0 c.1 in
       let begun = with_counts old (less meta h.size old.counts count.0 count.1) in
       let read = subst (λ (k : Counts). entries_found body parts h.offset (with_counts old k) c.0
@@ -244,17 +245,18 @@ module _ (body : List ℕ) (parts : Parts) where
   -- the sizes of data blocks go down by that of the block
   pub size_less : (old : Unread) (h : Handle) (new : Unread)
       → block_found body parts old h ≡ Ok new → old.counts.size ≡ h.size + new.counts.size
-  unfolding block_found
+  unfolding block_found counted_found contents_found
   size_less old h new told =
       let meta = parts.regions.metadata.offset in
+      let n = then_ok (counted_found parts old.counts (place_of h)) (behind_counts old h) new told
+      in
       let p = then_ok (place_found (position old) h.offset)
-      (λ _. block_spent meta h.size old.counts >>= behind_counts old h) new told in
-      let n = then_ok (block_spent meta h.size old.counts) (behind_counts old h) new p.2 in
+      (λ _. block_spent meta h.size old.counts) n.0 n.1 in
       let c = then_ok (chunk_found body (place_of h)) (behind_chunk old h n.0) new n.2 in
       let e = then_ok (entries_found body parts h.offset (with_counts old n.0) c.0)
       (behind_entries h) new c.2 in
       let l = then_ok (last_named section.Data h (e.0).last) (λ _. answer e.0) new e.2 in
-      let count = count_ok meta h.size old.counts n.0 n.1 in
+      let count = count_ok meta h.size old.counts n.0 p.2 in
       let stays : (e.0).counts.size ≡ (n.0).size =
       size_stays body parts h.offset (with_counts old n.0) c.0 e.0 e.1 in
       let rest : (n.0).size ≡ count.1 = ap (λ (k : Counts). k.size) count.2 in
@@ -292,7 +294,7 @@ module _ (body : List ℕ) (parts : Parts) where
   blocks_first : (old : Unread) (h : Handle) (hs : List Handle) (new : Unread) → IsPart old
       → Blocks old (h ∷ hs) new → (mid : Unread) × (block_found body parts old h ≡ Ok mid)
       × Blocks mid hs new
-  unfolding block_found
+  unfolding block_found counted_found contents_found
   blocks_first old h hs new fits r = go r.chunks r.named r.reads
     where
       go : (cs : List (List Entry)) → AllZip (NamesChunk body) (h ∷ hs) cs
@@ -316,13 +318,13 @@ module _ (body : List ℕ) (parts : Parts) where
           } in
           let size_is : old.counts.size ≡ h.size + size = omega (arith, r.sizes, sum) in (
             e.0,
-            then_goes _ _ tt _ (place_goes (position old) h.offset r.laid.0)
-                (then_goes _ _ counts _
-                (count_goes meta h.size old.counts blocks size (omega (arith, r.blocks)) size_is)
+            then_goes _ _ counts _
+                (then_goes _ _ tt _ (place_goes (position old) h.offset r.laid.0)
+                (count_goes meta h.size old.counts blocks size (omega (arith, r.blocks)) size_is))
                 (then_goes _ _ c _ (chunk_goes body h c named.0)
                 (then_goes _ _ e.0 _ e.1
                 (then_goes _ _ tt _ (ap (last_named _ h) low.3 ∙ last_goes _ h old.last c names)
-                refl)))),
+                refl))),
             record {
               chunks = cs;
               named = named.1;

@@ -10,6 +10,7 @@ use Rattle.std.specs.Result.{IsErrAnd}
 use Rattle.sst_sections.specs.Fnv.{fnv1a}
 use Rattle.sst_sections.specs.declared.section.SectionName.{SectionName}
 use Rattle.sst_sections.specs.declared.section.SectionName.TheVariants.{Filter as FilterSection}
+use Rattle.sst_sections.specs.declared.section.SectionName.TheVariants.{Index as IndexSection}
 use Rattle.sst_entries.specs.declared.error.Error.{Error}
 use Rattle.sst_entries.specs.declared.error.Error.TheVariants.{ChecksumMismatch, InvalidBlock}
 use Rattle.sst_entries.specs.declared.error.Error.TheVariants.{InvalidHeader, InvalidTag}
@@ -18,7 +19,7 @@ use Rattle.sst_entries.specs.declared.error.Error.TheVariants.{Truncated, Unsupp
 use Rattle.sst_entries.specs.declared.error.TagName.TheVariants.{BlockType as BlockTypeTag}
 use Rattle.sst_entries.specs.Error.{is_memory}
 use Rattle.sst_blocks.specs.declared.block_type.BlockType.{BlockType}
-use Rattle.sst_blocks.specs.declared.block_type.BlockType.TheVariants.{Filter}
+use Rattle.sst_blocks.specs.declared.block_type.BlockType.TheVariants.{Filter, Index}
 use Rattle.sst_blocks.specs.Block.{data_len, has_room, header_fault, header_len, place_fault}
 use Rattle.sst_blocks.specs.Block.{position_fault, stored_checksum, uncompressed_len, version_in}
 use Rattle.sst_blocks.specs.Handle.{Handle}
@@ -30,7 +31,8 @@ use Rattle.lsm_readers.specs.declared.verify.VerifyError.TheVariants.{Found, Out
 use Rattle.lsm_readers.specs.Verify.{FindsFirst, early_at, early_filters, early_from}
 use Rattle.lsm_readers.specs.Parts.{Parts}
 use Rattle.lsm_readers.specs.Verify.{Finds, Misses, Unread, finding, is_found, load_refusal}
-use Rattle.lsm_readers.specs.Verification.{found_or, in_index, step_early}
+use Rattle.lsm_readers.specs.Verification.{StepsCalmly, block_early, found_or, in_index}
+use Rattle.lsm_readers.specs.Verification.{step_early}
 
 -- ---- what a load finds before memory is taken is no want of memory
 
@@ -241,19 +243,34 @@ or_last view (Err e) told tells calm = or_first told None e tells calm
 -- ---- a step
 
 module _ (body : List ℕ) (parts : Parts) (left : Unread) where
-  -- nothing is found so at a data block,
+  -- at a data block,
   pub early_block : {X : Type 0} (hs tops : List Handle) (r : Result X VerifyError)
       → (hs ≡ [] → false ≡ true)
+      → ((h : Handle) (rest : List Handle) → hs ≡ h ∷ rest
+      → FindsFirst r (block_early body parts left.counts (place_of h)))
       → FindsFirst r (step_early body parts (in_index hs tops) left)
-  early_block [] tops r some = absurd (let no : false ≡ true = some refl in cc)
-  early_block (h ∷ hs) tops r some = λ f is. absurd cc
+  early_block [] tops r some first = absurd (let no : false ≡ true = some refl in cc)
+  early_block (h ∷ hs) tops r some first = first h hs refl
 
-  -- nor at a partition
+  -- and at a partition
   pub early_part : {X : Type 0} (tops : List Handle) (r : Result X VerifyError)
       → (tops ≡ [] → false ≡ true)
+      → ((top : Handle) (rest : List Handle) → tops ≡ top ∷ rest
+      → FindsFirst r (early_at body IndexSection (place_of top) Index))
       → FindsFirst r (step_early body parts (in_index [] tops) left)
-  early_part [] r some = absurd (let no : false ≡ true = some refl in cc)
-  early_part (top ∷ tops) r some = λ f is. absurd cc
+  early_part [] r some first = absurd (let no : false ≡ true = some refl in cc)
+  early_part (top ∷ tops) r some first = first top tops refl
+
+  -- neither is an end
+  pub no_end_block : {P : Type 0} (hs tops : List Handle) → (hs ≡ [] → false ≡ true)
+      → StepsCalmly body (in_index hs tops) left → P
+  no_end_block [] tops some calm = absurd (let no : false ≡ true = some refl in cc)
+  no_end_block (h ∷ hs) tops some calm = absurd calm
+
+  pub no_end_part : {P : Type 0} (tops : List Handle) → (tops ≡ [] → false ≡ true)
+      → StepsCalmly body (in_index [] tops) left → P
+  no_end_part [] some calm = absurd (let no : false ≡ true = some refl in cc)
+  no_end_part (top ∷ tops) some calm = absurd calm
 
 pub some_first : {X : Type 0} (xs : List X) (x : X) (ys : List X) → xs ≡ x ∷ ys → xs ≡ [] → ⊥
 some_first xs x ys is none = let no : x ∷ ys ≡ [] = sym is ∙ none in absurd cc

@@ -2,20 +2,24 @@
 -- many steps that takes.
 use Rattle.std.specs.Prelude.{◌≡◌, ℕ, ◌+◌, ◌-◌, List, [], ◌∷◌, drop, length, Option, Some, None}
 use Rattle.std.specs.Prelude.{Result, Ok, Err}
-use Rattle.sst_blocks.specs.declared.block_type.BlockType.TheVariants.{Filter, Index}
+use Rattle.sst_blocks.specs.declared.block_type.BlockType.TheVariants.{Data, Filter, Index}
+use Rattle.sst_blocks.specs.Block.{position_fault}
 use Rattle.lsm_formats.specs.declared.item_name.ItemName.TheVariants as item
+use Rattle.sst_entries.specs.declared.error.Error.{Error}
 use Rattle.sst_entries.specs.Entry.{Entry}
 use Rattle.sst_sections.specs.Sections.{body_of}
 use Rattle.sst_sections.specs.declared.section.SectionName.TheVariants as section
 use Rattle.sst_blocks.specs.Handle.{Handle}
 use Rattle.sst_blocks.specs.Place.{Place, place_of}
+use Rattle.lsm_readers.specs.declared.verify.Counts.{Counts}
 use Rattle.lsm_readers.specs.declared.verify.Finding.{Finding}
 use Rattle.lsm_readers.specs.declared.verify.Verified.{Verified}
 use Rattle.lsm_readers.specs.declared.verify.steps.Stage.{Stage}
 use Rattle.lsm_readers.specs.declared.verify.steps.Stage.TheVariants as stage
 use Rattle.lsm_readers.specs.Parts.{Parts}
 use Rattle.lsm_readers.specs.Table.{OpenTable}
-use Rattle.lsm_readers.specs.Verify.{◌>>=◌, Unread, block_found, blocks_found, counts_found}
+use Rattle.lsm_readers.specs.Verify.{◌>>=◌, Unread, block_found, blocks_found, counted_found}
+use Rattle.lsm_readers.specs.Verify.{counts_found}
 use Rattle.lsm_readers.specs.Verify.{early_at, end_found, filter_found, filter_places}
 use Rattle.lsm_readers.specs.Verify.{handles_found, index_found, key_same, parts_found}
 use Rattle.lsm_readers.specs.Verify.{table_found, top_named, unread_of, verified_of}
@@ -146,16 +150,36 @@ last_early parts None =
 abbrev pub end_early : Parts → Unread → Option Finding
 end_early parts left = found_or (counts_found parts left.counts) (last_early parts left.last)
 
--- what is found so at the next block of the filter or of the index, or at the end; a handle takes
--- memory before what it names is loaded
+-- what is found so at the data block at a place: that it does not begin where the block before it
+-- ended, that the meta block says of fewer blocks or bytes, or what its load finds
+abbrev pub block_early : List ℕ → Parts → Counts → Place → Option Finding
+block_early body parts counts place =
+    found_or (counted_found parts counts place) (early_at body section.Data place Data)
+
+-- what is found so at the next block, or at the end
 abbrev pub step_early : List ℕ → Parts → Ahead → Unread → Option Finding
 step_early body parts (before_index (place ∷ places)) left =
     early_at body section.Filter place Filter
 step_early body parts (before_index []) left =
     early_at body section.Tli parts.regions.tli Index
-step_early body parts (in_index (h ∷ handles) tops) left = None
-step_early body parts (in_index [] (top ∷ tops)) left = None
+step_early body parts (in_index (h ∷ handles) tops) left =
+    block_early body parts left.counts (place_of h)
+step_early body parts (in_index [] (top ∷ tops)) left =
+    early_at body section.Index (place_of top) Index
 step_early body parts (in_index [] []) left = end_early parts left
+
+-- the end takes no memory: an entry was read, or the load of what lies at the first position is
+-- refused before any is taken
+abbrev pub EndsCalmly : List ℕ → Option Entry → Type 0
+EndsCalmly body (Some e) = Unit {0}
+EndsCalmly body None = (e : Error) × (position_fault body 0 Data ≡ Some e)
+
+-- a step takes no memory: nothing is left but such an end
+abbrev pub StepsCalmly : List ℕ → Ahead → Unread → Type 0
+StepsCalmly body (before_index places) left = ⊥
+StepsCalmly body (in_index (h ∷ handles) tops) left = ⊥
+StepsCalmly body (in_index [] (top ∷ tops)) left = ⊥
+StepsCalmly body (in_index [] []) left = EndsCalmly body left.last
 
 -- ---- the end of the steps
 

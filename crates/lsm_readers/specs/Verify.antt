@@ -198,16 +198,27 @@ abbrev pub last_named : SectionName → Handle → Option Entry → Result (Unit
 last_named section h None = Err (finding section h.offset fault.Hollow)
 last_named section h (Some e) = end_named section h e.user_key e.seqno
 
--- the data block of a handle, which begins where the block before it ended
-unfoldable pub block_found : List ℕ → Parts → Unread → Handle → Result Unread Finding
-block_found body parts left h =
-    place_found (parts.facts.file_size - left.counts.size) h.offset >>= λ _.
-    block_spent parts.regions.metadata.offset h.size left.counts >>= λ counts.
-    chunk_found body (place_of h) >>= λ chunk.
-    entries_found body parts h.offset (record { last = left.last; counts = counts }) chunk
-    >>= λ left.
+-- what is left of the counts behind the data block at a place, which begins where the block before
+-- it ended
+unfoldable pub counted_found : Parts → Counts → Place → Result Counts Finding
+counted_found parts counts place =
+    place_found (parts.facts.file_size - counts.size) place.offset >>= λ _.
+    block_spent parts.regions.metadata.offset place.size counts
+
+-- the entries of the data block of a handle, which names the last of them
+unfoldable pub contents_found : List ℕ → Parts → Unread → Handle → List Entry
+    → Result Unread Finding
+contents_found body parts left h chunk =
+    entries_found body parts h.offset left chunk >>= λ left.
     last_named section.Data h left.last >>= λ _.
     Ok left
+
+-- the data block of a handle
+unfoldable pub block_found : List ℕ → Parts → Unread → Handle → Result Unread Finding
+block_found body parts left h =
+    counted_found parts left.counts (place_of h) >>= λ counts.
+    chunk_found body (place_of h) >>= λ chunk.
+    contents_found body parts (record { last = left.last; counts = counts }) h chunk
 
 unfoldable pub blocks_found : List ℕ → Parts → Unread → List Handle → Result Unread Finding
 blocks_found body parts left [] = Ok left

@@ -2,10 +2,10 @@
 ghost use Rattle.std.specs.Prelude.{◌≡◌, ◌+◌, IfErr, IfNone, IfOk, IfSome, List, Ok, false, length};
 ghost use Rattle.std.specs.Prelude.{true};
 ghost use Rattle.lsm_readers.specs.Findings.{IsFirstFinding};
-ghost use Rattle.lsm_readers.specs.Verify.{FindsFirst, Misses, table_found, verified_of};
+ghost use Rattle.lsm_readers.specs.Verify.{FindsFirst, Misses, is_found, table_found, verified_of};
 ghost use Rattle.lsm_readers.specs.Verification.{GoesOne, IsThrough, ReadsNext, ahead_of};
 ghost use Rattle.lsm_readers.specs.Verification.{bytes_read, next_size, rest_found, step_early};
-ghost use Rattle.lsm_readers.specs.Verification.{steps_of, verifying};
+ghost use Rattle.lsm_readers.specs.Verification.{StepsCalmly, steps_of, verifying};
 ghost use Rattle.lsm_readers.specs.Words.{Entry, IsOpen, StoresList, body_of};
 ghost use Rattle.lsm_readers.specs.declared.verify.Finding.{Finding};
 ghost use Rattle.lsm_readers.specs.declared.verify.VerifyError.TheVariants.{Found, OutOfMemory};
@@ -93,6 +93,9 @@ impl<A: Allocator + Clone> Table<A> {
             (rest_found (body_of self.now.bytes) parts (ahead_of parts stage.old) left.old)) }
         ensures early { let parts = self.now.parts in FindsFirst result
             (step_early (body_of self.now.bytes) parts (ahead_of parts stage.old) left.old) }
+        ensures calm { let ahead = ahead_of self.now.parts stage.old in
+            StepsCalmly (body_of self.now.bytes) ahead left.old →
+            IfErr result (λ e. is_found e ≡ true) }
         ensures unchanged { IfErr result (λ _. (stage.new ≡ stage.old) × (left.new ≡ left.old)) }
     {
         let inner: &Inner<A> = &self.inner;
@@ -129,11 +132,14 @@ impl<A: Allocator + Clone> Verification<'_, A> {
             table_found (body_of t.bytes) t.parts ≡ Ok v)) }
         ensures refused { let t = self.old.table in
             IfErr result (λ e. Misses e (table_found (body_of t.bytes) t.parts)) }
-        // A fault of a block of the filter, or of the block of the index or its top level, which
-        // takes no memory to be found is told whatever memory there is, and so is one at the end,
-        // but for a data block that no handle names.
+        // A fault of the next block which takes no memory to be found is told whatever memory there
+        // is, and so is one at the end, but for a data block that no handle names.
         ensures early { let t = self.old.table in FindsFirst result
             (step_early (body_of t.bytes) t.parts self.old.ahead self.old.left) }
+        // At the end memory is wanted only to see that a table without entries has no data block.
+        ensures calm { let t = self.old.table in
+            StepsCalmly (body_of t.bytes) self.old.ahead self.old.left →
+            IfErr result (λ e. is_found e ≡ true) }
         // Where it answers or is refused nothing changes.
         ensures answered { IfOk result (λ v. IfSome v (λ _. self.new ≡ self.old)) }
         ensures unchanged { IfErr result (λ _. self.new ≡ self.old) }

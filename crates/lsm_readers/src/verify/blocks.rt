@@ -7,7 +7,8 @@ ghost use Rattle.sst_sections.specs.declared.section.SectionName.TheVariants as 
 ghost use Rattle.lsm_readers.specs.Words.{Entry, Handle, body_of, parts_of};
 ghost use Rattle.lsm_readers.specs.declared.verify.Counts.{Counts as CountsLeft};
 ghost use Rattle.lsm_readers.specs.Verify.{Finds, FindsFirst, block_found, block_spent};
-ghost use Rattle.lsm_readers.specs.Verify.{blocks_found, chunk_found, early_at, end_named};
+ghost use Rattle.lsm_readers.specs.Verify.{blocks_found, chunk_found, contents_found};
+ghost use Rattle.lsm_readers.specs.Verify.{counted_found, early_at, end_named};
 ghost use Rattle.lsm_readers.specs.Verify.{handles_found, index_found, is_found};
 ghost use Rattle.lsm_readers.specs.Verify.{last_named, part_found, parts_found, place_found};
 ghost use Rattle.lsm_readers.specs.Verify.{top_named};
@@ -51,7 +52,7 @@ fn count_block(meta: u64, size: u32, counts: Counts) -> Result<Counts, VerifyErr
 }
 
 /// The data block of a handle, which has an entry.
-fn load_chunk<A: Allocator + Clone>(
+pub(super) fn load_chunk<A: Allocator + Clone>(
     source: &BlockSource<A>,
     handle: &BlockHandle,
 ) -> Result<DataBlock<A>, VerifyError>
@@ -61,6 +62,8 @@ fn load_chunk<A: Allocator + Clone>(
         FindsFirst result (early_at body section.Data handle.now block.Data) }
 {
     let at = handle.offset().0;
+    // The blocks behind it will be asked next: their checksums cost little more with this one's.
+    source.compare_ahead(at, 4);
     let mut opened = Opened::none();
     let block = match source.load(handle, BlockType::Data, &mut opened) {
         Ok(block) => DataBlock::new(block),
@@ -128,9 +131,43 @@ fn test_last<A: Allocator>(
     }
 }
 
+/// Counts the data block at a place, which is to begin where the block before it ended.
+#[tactic(auto, unfolding(crate::specs::Verify::counted_found))]
+pub(super) fn count_at<A: Allocator>(
+    inner: &Inner<A>,
+    counts: Counts,
+    place: &BlockHandle,
+) -> Result<Counts, VerifyError>
+    ensures told { Finds (λ (c : CountsLeft). c) result
+        (counted_found (parts_of inner.now) counts place.now) }
+    ensures calm { IfErr result (λ e. is_found e ≡ true) }
+{
+    let begins = inner.metadata.file_size.saturating_sub(counts.size);
+    test_place(begins, place.offset().0)?;
+    let meta = inner.regions.metadata.offset().0;
+    count_block(meta, place.size(), counts)
+}
+
+/// Reads the entries of the data block of a handle, which is to name the last of them.
+#[tactic(auto, unfolding(crate::specs::Verify::contents_found))]
+pub(super) fn read_contents<A: Allocator + Clone>(
+    source: &BlockSource<A>,
+    inner: &Inner<A>,
+    left: &mut Unread<A>,
+    handle: &KeyedBlockHandle<A>,
+    block: &DataBlock<A>,
+) -> Result<(), VerifyError>
+    ensures { Finds (λ (_ : _). left.new) result
+        (contents_found (body_of source.now) (parts_of inner.now) left.old handle.now block.now) }
+{
+    read_entries(source, inner, handle.offset().0, left, block)?;
+    test_last(handle, &left.last)?;
+    Ok(())
+}
+
 /// Reads the data block of a handle, which is to begin where the block before it ended.
 #[tactic(auto, unfolding(crate::specs::Verify::block_found))]
-pub(super) fn read_block<A: Allocator + Clone>(
+fn read_block<A: Allocator + Clone>(
     source: &BlockSource<A>,
     inner: &Inner<A>,
     left: &mut Unread<A>,
@@ -139,19 +176,11 @@ pub(super) fn read_block<A: Allocator + Clone>(
     ensures { Finds (λ (_ : _). left.new) result
         (block_found (body_of source.now) (parts_of inner.now) left.old handle.now) }
 {
-    let at = handle.offset().0;
-    let begins = inner.metadata.file_size.saturating_sub(left.counts.size);
-    test_place(begins, at)?;
-    // The blocks behind it will be asked next: their checksums cost little more with this one's.
-    source.compare_ahead(at, 4);
-    let meta = inner.regions.metadata.offset().0;
-    let counts = count_block(meta, handle.size(), left.counts)?;
     let place = BlockHandle::new(handle.offset(), handle.size());
+    let counts = count_at(inner, left.counts, &place)?;
     let block = load_chunk(source, &place)?;
     left.counts = counts;
-    read_entries(source, inner, at, left, &block)?;
-    test_last(handle, &left.last)?;
-    Ok(())
+    read_contents(source, inner, left, handle, &block)
 }
 
 /// The handle at a place in a block. Refused for want of memory alone.

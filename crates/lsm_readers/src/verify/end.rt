@@ -9,7 +9,7 @@ ghost use Rattle.lsm_readers.specs.Verify.{Finds, FindsFirst, counts_found, earl
 ghost use Rattle.lsm_readers.specs.Verify.{early_filters, end_found, filter_found, filter_places};
 ghost use Rattle.lsm_readers.specs.Verify.{filters_found, is_found, key_same, same_found};
 ghost use Rattle.lsm_readers.specs.Verify.{tops_found, unnamed_found};
-ghost use Rattle.lsm_readers.specs.Verification.{end_early};
+ghost use Rattle.lsm_readers.specs.Verification.{EndsCalmly, end_early};
 
 use super::{Counts, Fault, Unread, VerifyError, found, unloaded};
 use crate::Inner;
@@ -152,6 +152,8 @@ pub(super) fn test_left<A: Allocator + Clone>(
         (end_found (body_of source.now) (parts_of inner.now) left.now) }
     // What is found before memory is taken is the refusal, whatever memory there is.
     ensures early { FindsFirst result (end_early (parts_of inner.now) left.now) }
+    ensures calm { EndsCalmly (body_of source.now) left.now.last →
+        IfErr result (λ e. is_found e ≡ true) }
 {
     let meta = inner.regions.metadata.offset().0;
     let range = &inner.metadata.key_range;

@@ -1,24 +1,24 @@
 //! Reading a whole table by steps, a block each.
-ghost use Rattle.std.specs.Prelude.{◌≡◌, ◌∷◌, ◌<◌, ◌≤◌, ◌-◌, ◌^◌, [], List, IfErr, IfOk, IfNone};
-ghost use Rattle.std.specs.Prelude.{IfSome, IsOk, Ok, drop, false, length, true};
+ghost use Rattle.std.specs.Prelude.{◌≡◌, ◌∷◌, ◌<◌, ◌-◌, ◌^◌, [], List, IfErr, IfOk, IfNone};
+ghost use Rattle.std.specs.Prelude.{IfSome, IsOk, Ok, Some, drop, false, length, true};
 ghost use Rattle.std.specs.List.{slice_get};
-ghost use Rattle.lsm_readers.specs.Words.{Handle, body_of, parts_of};
+ghost use Rattle.lsm_readers.specs.Words.{Handle, body_of, parts_of, place_of};
 ghost use Rattle.lsm_readers.specs.declared.verify.VerifyError.TheVariants.{OutOfMemory};
 ghost use Rattle.lsm_readers.specs.Verify.{Finds, Misses, Unread as UnreadLeft, block_found};
-ghost use Rattle.lsm_readers.specs.Verify.{FindsFirst, blocks_found, early_at};
+ghost use Rattle.lsm_readers.specs.Verify.{FindsFirst, blocks_found, early_at, is_found};
 ghost use Rattle.lsm_readers.specs.Handles.{handles_ahead};
 ghost use Rattle.lsm_readers.specs.Parts.{Parts};
 ghost use Rattle.lsm_readers.specs.Verification.{GoesOne, IsThrough, ahead_of, before_index};
 ghost use Rattle.lsm_readers.specs.Verification.{in_index, partition_found, places_in, rest_found};
-ghost use Rattle.lsm_readers.specs.Verification.{step_early};
+ghost use Rattle.lsm_readers.specs.Verification.{StepsCalmly, block_early, step_early};
 ghost use Rattle.sst_blocks.specs.declared.block_type.BlockType.TheVariants as block;
 ghost use Rattle.sst_sections.specs.declared.section.SectionName.TheVariants as section;
 
-use super::blocks::{handle_at, load_part, read_block, test_top};
+use super::blocks::{count_at, handle_at, load_chunk, load_part, read_contents, test_top};
 use super::end::{test_filter, test_left};
 use super::{Unread, VerifyError};
 use crate::Inner;
-use sst_blocks::{BlockHandle, BlockSource, IndexBlock, KeyedBlockHandle, SectionName};
+use sst_blocks::{BlockHandle, BlockSource, IndexBlock, SectionName};
 use std::alloc::{Allocator, Global};
 use std::marker::Model;
 
@@ -80,23 +80,6 @@ fn count_in<A: Allocator>(block: &Option<IndexBlock<A>>) -> usize
     }
 }
 
-/// The handle at a place in a block, where there is one. Refused for want of memory alone.
-fn handle_in<A: Allocator>(
-    block: &IndexBlock<A>,
-    index: usize,
-) -> Result<Option<KeyedBlockHandle<A>>, VerifyError>
-    ensures ok { IfOk result (λ h. h ≡ slice_get block.now index) }
-    ensures err { IfErr result (λ e. e ≡ OutOfMemory) }
-    // Where there is none nothing is refused.
-    ensures calm { length block.now ≤ index → IsOk result }
-{
-    if index < block.len() {
-        Ok(Some(handle_at(block, index)?))
-    } else {
-        Ok(None)
-    }
-}
-
 impl<A: Allocator> HandlesLeft<A> {
     /// No handles.
     fn none() -> HandlesLeft<A>
@@ -118,16 +101,17 @@ impl<A: Allocator> HandlesLeft<A> {
         }
     }
 
-    /// The next of them, where one is left. Refused for want of memory alone.
-    fn next(&self) -> Result<Option<KeyedBlockHandle<A>>, VerifyError>
-        ensures ok { IfOk result (λ h. h ≡ slice_get self.now 0) }
-        ensures err { IfErr result (λ e. e ≡ OutOfMemory) }
-        // Where none is left nothing is refused.
-        ensures calm { self.now ≡ [] → IsOk result }
+    /// The next of them, where one is left: their block, and its place there. It is not shared, so
+    /// no memory is taken.
+    fn next(&self) -> Option<(&IndexBlock<A>, usize)>
+        ensures some { IfSome result (λ next.
+            slice_get next.0.now next.1 ≡ slice_get self.now 0) }
+        ensures within { IfSome result (λ next. next.1 < length next.0.now) }
+        ensures none { IfNone result (self.now ≡ []) }
     {
         match &self.block {
-            Some(block) => handle_in(block, self.index),
-            None => Ok(None),
+            Some(block) if self.index < block.len() => Some((block, self.index)),
+            _ => None,
         }
     }
 
@@ -155,6 +139,36 @@ fn copy_left<A: Allocator>(left: &Unread<A>) -> Result<Unread<A>, VerifyError>
     }
 }
 
+/// Reads the data block of the handle at a place in a block of them. What is left behind it.
+///
+/// The block is loaded by its place, and then memory is taken for its handle: so what is found
+/// before memory is taken is the refusal, whatever memory there is.
+fn read_at<A: Allocator + Clone>(
+    source: &BlockSource<A>,
+    inner: &Inner<A>,
+    left: &Unread<A>,
+    handles: &IndexBlock<A>,
+    index: usize,
+) -> Result<Unread<A>, VerifyError>
+    requires { index < length handles.now }
+    ensures told { (h : Handle) → slice_get handles.now index ≡ Some h →
+        Finds (λ (read : UnreadLeft). read) result
+        (block_found (body_of source.now) (parts_of inner.now) left.now h) }
+    ensures early { (h : Handle) → slice_get handles.now index ≡ Some h →
+        let counts = left.now.counts in
+        FindsFirst result
+        (block_early (body_of source.now) (parts_of inner.now) counts (place_of h)) }
+{
+    let place = handles.place_at(index);
+    let counts = count_at(inner, left.counts, &place)?;
+    let block = load_chunk(source, &place)?;
+    let handle = handle_at(handles, index)?;
+    let mut read = copy_left(left)?;
+    read.counts = counts;
+    read_contents(source, inner, &mut read, &handle, &block)?;
+    Ok(read)
+}
+
 /// Reads the data block of the first of some handles, where one is left. Where that is refused
 /// nothing changes.
 fn step_block<A: Allocator + Clone>(
@@ -170,33 +184,42 @@ fn step_block<A: Allocator + Clone>(
         (handles.old ≡ []) × (handles.new ≡ []) × (left.new ≡ left.old)) }
     ensures refused { IfErr result (λ e. Misses e
         (blocks_found (body_of source.now) (parts_of inner.now) left.old handles.old)) }
+    ensures early { (h : Handle) (rest : List Handle) → handles.old ≡ h ∷ rest →
+        let counts = left.old.counts in
+        FindsFirst result
+        (block_early (body_of source.now) (parts_of inner.now) counts (place_of h)) }
     ensures calm { handles.old ≡ [] → IsOk result }
     ensures unchanged { IfErr result (λ _.
         (handles.new ≡ handles.old) × (left.new ≡ left.old)) }
 {
-    let handle = match handles.next()? {
-        Some(handle) => handle,
+    let (block, index) = match handles.next() {
+        Some(next) => next,
         None => return Ok(false),
     };
-    let mut read = copy_left(left)?;
-    read_block(source, inner, &mut read, &handle)?;
+    let read = read_at(source, inner, left, block, index)?;
     *left = read;
     handles.pass();
     Ok(true)
 }
 
-/// The partition of the index that a handle of its top level names.
-#[tactic(auto, unfolding(crate::specs::Verification::partition_found))]
+/// The partition of the index that the handle at a place in its top level names. It is loaded as
+/// [`read_at`] loads a data block.
 fn load_partition<A: Allocator + Clone>(
     source: &BlockSource<A>,
-    top: &KeyedBlockHandle<A>,
+    tops: &IndexBlock<A>,
+    index: usize,
 ) -> Result<IndexBlock<A>, VerifyError>
-    ensures { Finds (λ (handles : List Handle). handles) result
-        (partition_found (body_of source.now) top.now) }
+    requires { index < length tops.now }
+    ensures told { (top : Handle) → slice_get tops.now index ≡ Some top →
+        Finds (λ (handles : List Handle). handles) result
+        (partition_found (body_of source.now) top) }
+    ensures early { (top : Handle) → slice_get tops.now index ≡ Some top →
+        let body = body_of source.now in
+        FindsFirst result (early_at body section.Index (place_of top) block.Index) }
 {
-    let place = BlockHandle::new(top.offset(), top.size());
-    let handles = load_part(source, SectionName::Index, &place)?;
-    test_top(top, &handles)?;
+    let handles = load_part(source, SectionName::Index, &tops.place_at(index))?;
+    let top = handle_at(tops, index)?;
+    test_top(&top, &handles)?;
     Ok(handles)
 }
 
@@ -212,14 +235,17 @@ fn step_part<A: Allocator + Clone>(
     ensures none { IfOk result (λ read. IfNone read ((tops.old ≡ []) × (tops.new ≡ []))) }
     ensures refused { IfErr result (λ e. (top : Handle) (rest : List Handle) →
         tops.old ≡ top ∷ rest → Misses e (partition_found (body_of source.now) top)) }
+    ensures early { (top : Handle) (rest : List Handle) → tops.old ≡ top ∷ rest →
+        let body = body_of source.now in
+        FindsFirst result (early_at body section.Index (place_of top) block.Index) }
     ensures calm { tops.old ≡ [] → IsOk result }
     ensures unchanged { IfErr result (λ _. tops.new ≡ tops.old) }
 {
-    let top = match tops.next()? {
-        Some(top) => top,
+    let (block, index) = match tops.next() {
+        Some(next) => next,
         None => return Ok(None),
     };
-    let handles = load_partition(source, &top)?;
+    let handles = load_partition(source, block, index)?;
     tops.pass();
     Ok(Some(handles))
 }
@@ -246,6 +272,8 @@ fn step_index<A: Allocator + Clone>(
         (rest_found (body_of source.now) (parts_of inner.now) ahead left.old)) }
     ensures early { let ahead = in_index handles.old tops.old in
         FindsFirst result (step_early (body_of source.now) (parts_of inner.now) ahead left.old) }
+    ensures calm { StepsCalmly (body_of source.now) (in_index handles.old tops.old) left.old →
+        IfErr result (λ e. is_found e ≡ true) }
     ensures unchanged { IfErr result (λ _.
         (handles.new ≡ handles.old) × (tops.new ≡ tops.old) × (left.new ≡ left.old)) }
 {
@@ -360,6 +388,8 @@ pub(crate) fn step_stage<A: Allocator + Clone>(
     // What is found before memory is taken is the refusal, whatever memory there is.
     ensures early { let parts = parts_of inner.now in let ahead = ahead_of parts stage.old in
         FindsFirst result (step_early (body_of source.now) parts ahead left.old) }
+    ensures calm { let ahead = ahead_of (parts_of inner.now) stage.old in
+        StepsCalmly (body_of source.now) ahead left.old → IfErr result (λ e. is_found e ≡ true) }
     ensures unchanged { IfErr result (λ _. (stage.new ≡ stage.old) × (left.new ≡ left.old)) }
 {
     match stage {

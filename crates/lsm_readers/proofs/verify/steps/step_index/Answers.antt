@@ -1,9 +1,10 @@
-use Rattle.std.proofs.Common.{List, ap, subst, sym, ◌∙◌}
+use Rattle.std.proofs.Common.{List, false, ap, subst, sym, ◌∙◌}
+use Rattle.std.specs.Prelude.{Ok}
 use Rattle.sst_sections.specs.Sections.{body_of}
 use Rattle.sst_blocks.specs.Handle.{Handle}
 use Rattle.lsm_readers.specs.Table.{parts_of}
 use Rattle.lsm_readers.specs.Verification.{GoesOne, in_index, rest_found}
-use Rattle.lsm_readers.proofs.VerifyEarly.{early_block, early_part}
+use Rattle.lsm_readers.proofs.VerifyEarly.{early_block, early_part, passes_first, some_first}
 use Rattle.lsm_readers.proofs.Verifications.{at_none, at_some, block_goes, block_misses}
 use Rattle.lsm_readers.proofs.Verifications.{end_misses, ends_here, next_misses, part_goes, refuses}
 use Rattle.lsm_readers.proofs.verify.steps.step_index.Goals as goal
@@ -81,12 +82,28 @@ returns-in_ok-test_left-in-None-clause-ends g c = λ yes.
 
 pub returns-in_err-step_block-clause-early : goal.returns-in_err-step_block-clause-early
 returns-in_err-step_block-clause-early g c =
+    let passed = c.from_residual.result in
     early_block (body_of c.args.source.now) (parts_of c.args.inner.now) c.args.left.now
-    c.args.handles.now c.args.tops.now c.from_residual.result c.in_err-step_block.ensures.calm
+    c.args.handles.now c.args.tops.now passed c.in_err-step_block.ensures.calm
+    (λ h rest is. passes_first passed c.in_err-step_block.field-0.0 _ c.from_residual.ensures.1
+    (c.in_err-step_block.ensures.early h rest is))
 
 pub returns-in_err-block-clause-early : goal.returns-in_err-block-clause-early
 returns-in_err-block-clause-early g c =
     let none = c.in_ok-step_block.ensures.none c.if-branch.false in
     let passed = c.from_residual-in_err-block in
     rw none.0 (early_part (body_of c.args.source.now) (parts_of c.args.inner.now) c.args.left.now
-    c.args.tops.now passed.result c.in_err-block.ensures.calm)
+    c.args.tops.now passed.result c.in_err-block.ensures.calm
+    (λ top rest is. passes_first passed.result c.in_err-block.field-0.0 _ passed.ensures.1
+    (c.in_err-block.ensures.early top rest is)))
+
+pub returns-in-Some-clause-early : goal.returns-in-Some-clause-early
+returns-in-Some-clause-early g c =
+    let tops = c.args.tops.now in
+    let none = c.in_ok-step_block.ensures.none c.if-branch.false in
+    let part = at_some _ c.in_ok-block.field-0 c.in-Some.block c.in_ok-block.ensures.read
+    c.in-Some.is in
+    rw none.0 (early_part (body_of c.args.source.now) (parts_of c.args.inner.now)
+    c.args.left.now tops (Ok false)
+    (λ no. absurd (some_first tops part.0 c.step_part.new.tops part.1 no))
+    c.in_ok-block.ensures.early)
