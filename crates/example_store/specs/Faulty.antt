@@ -1,6 +1,5 @@
 -- What is wrong with the files of a store that is not opened.
-use Rattle.std.specs.Prelude.{◌≡◌, ℕ, ◌-◌, ◌^◌, ◌<◌, ◌≤◌, List, [], ◌∷◌, ◌++◌, count_by, length}
-use Rattle.std.specs.Prelude.{map}
+use Rattle.std.specs.Prelude.{◌≡◌, ℕ, ◌-◌, ◌^◌, ◌<◌, ◌≤◌, List, [], ◌∷◌, ◌++◌, count_by, length, map}
 use Rattle.std.specs.List.{AllByRecursion}
 use Rattle.logpurple.specs.Words.{Entry, IsInOrder, IsStrict, OpenTable, StoresList, highest_seqno}
 use Rattle.logpurple.specs.Words.{is_weak, range_of, union_in}
@@ -11,8 +10,7 @@ use Rattle.example_store.specs.declared.store.open.FileFault.{FileFault}
 use Rattle.example_store.specs.declared.store.open.FileFault.TheVariants.{Empty, TooHigh, Unopened}
 use Rattle.example_store.specs.declared.store.open.FileFault.TheVariants.{Unsound, Weak}
 use Rattle.example_store.specs.declared.store.open.OpenError.{OpenError}
-use Rattle.example_store.specs.declared.store.open.OpenError.TheVariants.{File, NoFile}
-use Rattle.example_store.specs.declared.store.open.OpenError.TheVariants.{OldestTooHigh}
+use Rattle.example_store.specs.declared.store.open.OpenError.TheVariants.{File, NoFile, OldestTooHigh}
 use Rattle.example_store.specs.declared.store.open.OpenError.TheVariants.{OutOfMemory, OutOfOrder}
 use Rattle.example_store.specs.declared.store.open.OpenError.TheVariants.{Repeated, SeqNoOverflow}
 
