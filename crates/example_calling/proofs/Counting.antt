@@ -1,9 +1,11 @@
 -- A stream whose entries are counted one by one: what it still deals.
 use Rattle.std.proofs.Common.{◌≡◌, refl, sym, ◌∙◌, ap, ℕ, ◌+◌, ◌-◌, ◌^◌, List, [], ◌∷◌, length}
-use Rattle.std.proofs.Common.{arith}
-use Rattle.std.specs.Prelude.{Option, Some, None, Result, Ok, min}
-use Rattle.logpurple.specs.Words.{DealsList, Entry, Error, answer_stops, is_memory, ok_results}
-use Rattle.logpurple.proofs.Laws.{deals_front}
+use Rattle.std.proofs.Common.{arith, false, inl, inr}
+use Rattle.std.specs.Prelude.{Option, Some, None, Result, Ok, Err, IfErr, IsErrAnd, min}
+use Rattle.std.proofs.lemmas.Bool.{cases_Bool}
+use Rattle.logpurple.specs.Words.{DealsList, Entry, Error, OutOfMemory, answer_stops, is_memory}
+use Rattle.logpurple.specs.Words.{ok_results}
+use Rattle.logpurple.proofs.Laws.{deals_front, memory_is}
 
 module _ {S : Type 0} (next back : S → Option (Result Entry Error) → S → Type 0) where
   -- a part of the list is counted, and the stream deals the rest
@@ -62,3 +64,24 @@ module _ {S : Type 0} (next back : S → Option (Result Entry Error) → S → T
       let none = none_more h.rest s t h.deals step in
       let all : length es ≡ h.passed = omega (arith, h.whole, none) in
       h.counted ∙ ap (λ (n : ℕ). min n (2 ^ 64 - 1)) (sym all)
+
+  -- a fault that it deals is want of memory
+  pub fault_counted : {X : Type 0} (r : Result X Error) (es : List Entry) (count : ℕ) (s t : S)
+      (e : Error) → Counts es count s → next s (Some (Err e)) t → IsErrAnd r (λ y. y ≡ e)
+      → IfErr r (λ y. y ≡ OutOfMemory)
+  fault_counted (Ok x) es count s t e h step is = tt
+  fault_counted (Err y) es count s t e h step is =
+      elim (cases_Bool (is_memory e)) [
+        | inl memory ↦ is ∙ memory_is e memory
+        | inr other ↦ absurd (none_other h.rest h.deals other)
+      ]
+    where
+      none_other : (rest : List Entry) → DealsList next back rest s → is_memory e ≡ false → ⊥
+      none_other [] d fine =
+          let m = deals_front (answer_stops is_memory) next back s [] (Some (Err e)) t
+          (d is_memory refl) step fine in
+          let no : Some (Err e) ≡ None = m.0 in absurd cc
+      none_other (x ∷ rest) d fine =
+          let m = deals_front (answer_stops is_memory) next back s (ok_results (x ∷ rest))
+          (Some (Err e)) t (d is_memory refl) step fine in
+          let no : Some (Err e) ≡ Some (Ok x) = m.0 in absurd cc

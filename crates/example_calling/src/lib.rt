@@ -4,14 +4,16 @@
 //! number. The reads need no proof file, the compaction one law, and the loop one invariant.
 #![tactic(auto)]
 
-ghost use Rattle.std.specs.Prelude.{◌≡◌, ◌-◌, ◌^◌, ◌≤◌, [], IfOk, List, MatchOption, ℕ};
-ghost use Rattle.std.specs.Prelude.{length, map, min};
+ghost use Rattle.std.specs.Prelude.{◌≡◌, ◌-◌, ◌^◌, ◌≤◌, [], IfErr, IfOk, List, MatchOption, Some};
+ghost use Rattle.std.specs.Prelude.{false, length, map, min, true, ℕ};
 ghost use Rattle.std.specs.Arc.{arc_value};
 ghost use Rattle.std.specs.Iterator.{IsFinite};
 ghost use Rattle.std.specs.Option.{option_map_or};
 ghost use Rattle.logpurple.specs.Words.{AreCompactable, DealsList, Entry, IsRunOfList, IsWritable};
-ghost use Rattle.logpurple.specs.Words.{RunsHoldLists, StoresList, newest, numbered_below, point};
-ghost use Rattle.logpurple.specs.Words.{ids_behind, seen, union_in};
+ghost use Rattle.logpurple.specs.Words.{OutOfMemory, RunsHoldLists, StoresList, ids_behind};
+ghost use Rattle.logpurple.specs.Words.{is_memory, kept_in, label_of, newest, numbered_below};
+ghost use Rattle.logpurple.specs.Words.{opening_fault, point, rules_by, seen, tables_fault};
+ghost use Rattle.logpurple.specs.Words.{union_in};
 
 use logpurple::{
     Error, InternalValue, IterItem, Rules, Run, SeqNo, Table, TableIds, Timestamp, VerifyError,
@@ -22,20 +24,23 @@ use std::ops::Bound;
 use std::sync::Arc;
 
 /// The first entry of a key numbered below `seqno`, of a table that was opened without a global
-/// number. Whoever wrote a list, or has verified the table, has the premise.
+/// number. Whoever wrote a list, or has verified the table, has the premise. Refused for want of
+/// memory alone then.
 pub fn find<A: Allocator + Clone>(
     table: &Table<A>,
     key: &[u8],
     seqno: SeqNo,
 ) -> Result<Option<InternalValue<A>>, Error>
-    ensures { (es : List Entry) → StoresList table.now.bytes es → table.now.global_seqno ≡ 0 →
-        IfOk result (λ found. found ≡ point es key.now seqno) }
+    ensures found { (es : List Entry) → StoresList table.now.bytes es →
+        table.now.global_seqno ≡ 0 → IfOk result (λ found. found ≡ point es key.now seqno) }
+    ensures memory { (es : List Entry) → StoresList table.now.bytes es →
+        IfErr result (λ e. e ≡ OutOfMemory) }
 {
     table.get_by_key(key, seqno)
 }
 
 /// The first entry of a key numbered below `seqno` in a list that is written as a table and opened;
-/// `None` where the list has no entry.
+/// `None` where the list has no entry. Refused as [`write_and_open`] is.
 pub fn write_and_find<A: Allocator + Clone>(
     alloc: A,
     items: Vec<InternalValue<A>, A>,
@@ -43,8 +48,10 @@ pub fn write_and_find<A: Allocator + Clone>(
     seqno: SeqNo,
 ) -> Result<Option<Option<InternalValue<A>>>, Error>
     requires { IsWritable items.items }
-    ensures { IfOk result (λ r. MatchOption r (items.items ≡ [])
+    ensures found { IfOk result (λ r. MatchOption r (items.items ≡ [])
         (λ found. found ≡ point items.items key.now seqno)) }
+    ensures refused { IfErr result (λ e. is_memory e ≡ false →
+        opening_fault (label_of 1 0 0) items.items 0 ≡ Some e) }
 {
     match write_and_open(alloc, 1, Timestamp::from(0), items, 0)? {
         None => Ok(None),
@@ -73,7 +80,8 @@ pub fn verify_and_find<A: Allocator + Clone>(
 }
 
 /// Compacts runs into one, none where nothing is kept, and answers the counter of ids behind its
-/// tables. Readers at `watermark` and above see in it what they saw in the runs together.
+/// tables. Readers at `watermark` and above see in it what they saw in the runs together. Refused
+/// as [`compact_to_run`] is.
 pub fn compact_below<A: Allocator + Clone>(
     alloc: A,
     runs: &[Arc<Run<Table<A>, A>, A>],
@@ -89,6 +97,10 @@ pub fn compact_below<A: Allocator + Clone>(
         ((key : List ℕ) (bound : ℕ) → watermark ≤ bound →
         seen es key bound ≡ seen (union_in lists) key bound)) }
     ensures ids { IfOk result (λ r. r.1 ≡ ids_behind ids target (option_map_or length r.0 0)) }
+    ensures refused { (lists : List (List (List Entry))) →
+        RunsHoldLists (map arc_value runs.now) lists →
+        IfErr result (λ e. is_memory e ≡ false →
+        tables_fault ids target 0 (kept_in (rules_by watermark true false) lists) ≡ Some e) }
 {
     let rules = Rules {
         watermark,
@@ -99,15 +111,19 @@ pub fn compact_below<A: Allocator + Clone>(
     Ok(made)
 }
 
-/// How many keys several runs have, by versions numbered below `seqno`, up to `u64::MAX`.
+/// How many keys several runs have, by versions numbered below `seqno`, up to `u64::MAX`. Refused
+/// for want of memory alone, where their tables hold lists.
 pub fn count_below<A: Allocator + Clone>(
     alloc: A,
     runs: &[Arc<Run<Table<A>, A>, A>],
     seqno: SeqNo,
 ) -> Result<u64, Error>
-    ensures { (lists : List (List (List Entry))) → RunsHoldLists (map arc_value runs.now) lists →
+    ensures exact { (lists : List (List (List Entry))) →
+        RunsHoldLists (map arc_value runs.now) lists →
         let found = newest (numbered_below seqno (union_in lists)) in
         IfOk result (λ count. count ≡ min (length found) (2 ^ 64 - 1)) }
+    ensures memory { (lists : List (List (List Entry))) →
+        RunsHoldLists (map arc_value runs.now) lists → IfErr result (λ e. e ≡ OutOfMemory) }
 {
     let all = (Bound::Unbounded, Bound::Unbounded);
     count(range_runs_at(alloc, runs, all, seqno)?)
@@ -119,8 +135,10 @@ fn count<I: DoubleEndedIterator<Item = IterItem<A>> + Drop, A: Allocator>(
 ) -> Result<u64, Error>
     requires can { I.can_next items }
     requires finite { IsFinite (I.remaining items) }
-    ensures { (es : List Entry) → DealsList I.next_gives I.next_back_gives es items →
+    ensures exact { (es : List Entry) → DealsList I.next_gives I.next_back_gives es items →
         IfOk result (λ count. count ≡ min (length es) (2 ^ 64 - 1)) }
+    ensures memory { (es : List Entry) → DealsList I.next_gives I.next_back_gives es items →
+        IfErr result (λ e. e ≡ OutOfMemory) }
 {
     let mut count = 0u64;
     for item in items {

@@ -1,21 +1,55 @@
--- Counters of ids behind the tables of runs.
-use Rattle.std.proofs.Common.{◌≡◌, refl, sym, ◌∙◌, ap, ℕ, List, [], ◌∷◌, arith, length}
-use Rattle.std.specs.Prelude.{IfSome, None, Option, Some, sum_by}
+-- What a store makes of lists, and the counters of ids behind the tables.
+use Rattle.std.proofs.Common.{◌≡◌, refl, sym, ◌∙◌, ap, subst, ℕ, ◌<◌, ◌≤◌, inl, inr, List, [], ◌∷◌}
+use Rattle.std.proofs.Common.{arith, length}
+use Rattle.std.specs.Prelude.{IfSome, MatchOption, None, Option, Some, sum_by}
+use Rattle.std.specs.List.{AllByRecursion}
 use Rattle.std.specs.Option.{option_map, option_map_or}
-use Rattle.logpurple.specs.Words.{OpenTable, ids_behind}
-use Rattle.example_store.specs.Ids.{HasFlushed}
+use Rattle.std.proofs.lemmas.Bool.{cases_lt}
+use Rattle.logpurple.specs.Words.{AreCutOf, Entry, HasList, Label, OpenTable, ids_behind, run_label}
+use Rattle.example_store.specs.Ids.{AreMadeOf, HasFlushed, HasTaken, StaysOrFlushes}
+use Rattle.example_store.specs.Recent.{IsPut}
 use Rattle.example_store.specs.Story.{Holding, option_list}
+use Rattle.example_store.proofs.Compacting.{made_of}
 
--- nothing was flushed
-pub flushed_none : (s t : Holding) → t.runs ≡ s.runs → t.ids ≡ s.ids → HasFlushed s t
-flushed_none s t runs ids = record { made = []; few = omega arith; placed = runs; counter = ids }
+-- ---- what is made of a list
 
--- nor afterwards
+pub cut_listed : (label : Label) (target : ℕ) (es : List Entry) (r : Option (List OpenTable))
+    → IfSome r (λ run. AreCutOf label target es 0 run)
+    → AllByRecursion (AreCutOf label target es 0) (option_list r)
+cut_listed label target es None cut = tt
+cut_listed label target es (Some run) cut = (cut, tt)
+
+few_listed : (r : Option (List OpenTable)) → length (option_list r) ≤ 1
+few_listed None = omega arith
+few_listed (Some run) = omega arith
+
+pub made_by : (s : Holding) (es : List Entry) (r : Option (List OpenTable))
+    → MatchOption r (es ≡ []) (λ run. HasList es run)
+    → IfSome r (λ run. AreCutOf (run_label s.ids s.target 0) s.target es 0 run)
+    → AreMadeOf s es (option_list r)
+made_by s es r has cut = record {
+  has = made_of es r has;
+  few = few_listed r;
+  cut = cut_listed (run_label s.ids s.target 0) s.target es r cut;
+}
+
+-- ---- flushing
+
+-- there is nothing to flush
+pub flushed_none : (s : Holding) → s.recent ≡ [] → HasFlushed s s
+flushed_none s none = record {
+  made = [];
+  written = made_by s s.recent None none tt;
+  placed = refl;
+  counter = refl;
+}
+
+-- runs and counter stay behind it
 pub flushed_on : (s t u : Holding) → HasFlushed s t → u.runs ≡ t.runs → u.ids ≡ t.ids
     → HasFlushed s u
 flushed_on s t u h runs ids = record {
   made = h.made;
-  few = h.few;
+  written = h.written;
   placed = runs ∙ h.placed;
   counter = ids ∙ h.counter;
 }
@@ -24,14 +58,37 @@ one_run : (run : List OpenTable) → sum_by length (run ∷ []) ≡ length run
 one_run run = search arith
 
 -- a run was put in front
-pub flushed_one : (s t : Holding) (run : List OpenTable) → t.runs ≡ run ∷ s.runs
+pub flushed_one : (s t : Holding) (run : List OpenTable) → HasList s.recent run
+    → AreCutOf (run_label s.ids s.target 0) s.target s.recent 0 run → t.runs ≡ run ∷ s.runs
     → t.ids ≡ ids_behind s.ids s.target (length run) → HasFlushed s t
-flushed_one s t run runs ids = record {
+flushed_one s t run has cut runs ids = record {
   made = run ∷ [];
-  few = omega arith;
+  written = made_by s s.recent (Some run) has cut;
   placed = runs;
   counter = ids ∙ ap (ids_behind s.ids s.target) (sym (one_run run));
 }
+
+-- ---- a write behind the room that was made for it
+
+module _ (s t : Holding) (room : length s.recent < s.limit → t ≡ s)
+    (full : s.limit ≤ length s.recent → HasFlushed s t × (t.recent ≡ [])) where
+  pub stays_or_flushes : StaysOrFlushes s t
+  stays_or_flushes = elim (cases_lt (length s.recent) s.limit) [
+    | inl less ↦ inl (room less)
+    | inr le ↦ inr (full le)
+  ]
+
+  pub taken_on : (e : Entry) (u : Holding) → IsPut e t.recent u.recent → u.runs ≡ t.runs
+      → u.ids ≡ t.ids → HasTaken e s u
+  taken_on e u put runs ids = record {
+    beside = λ less. subst (λ (h : Holding). IsPut e h.recent u.recent) (room less) put;
+    runs = λ less. runs ∙ ap (λ (h : Holding). h.runs) (room less);
+    ids = λ less. ids ∙ ap (λ (h : Holding). h.ids) (room less);
+    alone = λ le. subst (λ (es : List Entry). IsPut e es u.recent) (full le).1 put;
+    flushed = λ le. flushed_on s t u (full le).0 runs ids;
+  }
+
+-- ---- counters
 
 -- the counter behind a run that is shared
 pub shared_counter : {S : Type 0} (f : S → List OpenTable) (ids : Option ℕ) (target : ℕ)

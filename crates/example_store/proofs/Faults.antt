@@ -5,11 +5,13 @@ use Rattle.std.specs.Prelude.{Ok, Err, IfErr, IsErrAnd, Result, map}
 use Rattle.std.specs.List.{AllByRecursion}
 use Rattle.std.proofs.lemmas.Bool.{cases_Bool}
 use Rattle.std.proofs.lemmas.List.{length-map, map-append}
-use Rattle.logpurple.specs.Words.{Entry, Error, IsInOrder, IsStrict, OpenTable, StoresList}
-use Rattle.logpurple.specs.Words.{is_memory, range_of, union_in}
+use Rattle.logpurple.specs.Words.{Entry, Error, Finding, IsInOrder, IsStrict, OpenTable, StoresList}
+use Rattle.logpurple.specs.Words.{body_of, is_memory, range_of, recovered_told, table_found}
+use Rattle.logpurple.specs.Words.{union_in}
 use Rattle.example_store.specs.Closed.{StoreLists, files_in}
-use Rattle.example_store.specs.Faulty.{IsFirstFault, IsFirstRun, IsOpenFault}
-use Rattle.example_store.specs.Faulty.{IsOwnFile, NamesFile, NamesInRun}
+use Rattle.example_store.specs.Faulty.{AreOwnFiles, HasNumbers, IsFirstFault, IsFirstRun}
+use Rattle.example_store.specs.Faulty.{IsNoList, IsOpenFault, IsOwnFile, NamesFile, NamesInRun}
+use Rattle.example_store.specs.Faulty.{StoresSome}
 use Rattle.example_store.specs.Story.{IsOwnRun, IsOwnTable}
 use Rattle.example_store.specs.declared.store.close.Closed.{Closed}
 use Rattle.example_store.specs.declared.store.open.FileFault.TheVariants.{Unopened}
@@ -32,17 +34,33 @@ passed P (Err y) e is said = subst P (sym is) said
 pub names_unopened : (next : ℕ) (bytes : List ℕ) (run place : ℕ) (e : Error) (r : OpenError)
     → (is_memory e ≡ true → r ≡ OutOfMemory)
     → (is_memory e ≡ false → r ≡ File run place (Unopened e))
+    → (is_memory e ≡ false → recovered_told bytes 0 true true ≡ Err e)
     → ((es : List Entry) → StoresList bytes es → is_memory e ≡ true)
     → NamesFile next bytes run place r
-names_unopened next bytes run place e r memory other opens =
+names_unopened next bytes run place e r memory other told opens =
     elim (cases_Bool (is_memory e)) [
       | inl wants ↦ subst (NamesFile next bytes run place) (sym (memory wants)) tt
       | inr fine ↦ subst (NamesFile next bytes run place) (sym (other fine)) (
         refl,
         refl,
-        λ es stored. let wrong : true ≡ false = sym (opens es stored) ∙ fine in absurd cc,
+        record {
+          refused = told fine;
+          none = λ es stored. let wrong : true ≡ false = sym (opens es stored) ∙ fine in absurd cc;
+        },
       )
     ]
+
+-- a table in which something is found
+pub names_unsound : (t : OpenTable) (f : Finding) → recovered_told t.bytes 0 true true ≡ Ok t.parts
+    → table_found (body_of t.bytes) t.parts ≡ Err f
+    → ((es : List Entry) → StoresList t.bytes es → ⊥) → IsNoList t.bytes f
+names_unsound t f opens found none =
+    record { table = t; opens = opens; found = found; none = none }
+
+-- one that stores a list with an entry
+pub stores_some : (bytes : List ℕ)
+    → ((es : List Entry) × StoresList bytes es × (0 < length es)) → StoresSome bytes
+stores_some bytes h = record { list = h.0; stores = h.1; some = h.2 }
 
 own_file : (next : ℕ) (t : OpenTable) → IsOwnTable next t → IsOwnFile next t.bytes
 own_file next t own = record {
@@ -112,14 +130,14 @@ module _ (next : ℕ) (files : List (List ℕ)) (run : ℕ) (tables : List OpenT
 -- ---- all runs
 
 pub own_run_files : (next : ℕ) (runs : List (List OpenTable)) → AllByRecursion (IsOwnRun next) runs
-    → AllByRecursion (AllByRecursion (IsOwnFile next)) (map (map bytes_of) runs)
+    → AllByRecursion (AreOwnFiles next) (map (map bytes_of) runs)
 own_run_files next [] own = tt
 own_run_files next (run ∷ runs) own =
-    (own_files next run own.0.tables, own_run_files next runs own.1)
+    (record { run = run; own = own.0; files_are = refl }, own_run_files next runs own.1)
 
 module _ (next : ℕ) (files front : List (List (List ℕ))) (run : List (List ℕ))
     (behind : List (List (List ℕ))) (are : files ≡ front ++ run ∷ behind)
-    (fine : AllByRecursion (AllByRecursion (IsOwnFile next)) front) where
+    (fine : AllByRecursion (AreOwnFiles next) front) where
   first_run : (e : OpenError) → NamesInRun next run (length front) e → IsFirstRun next files e
   first_run e named = record {
     front = front;
@@ -144,24 +162,24 @@ module _ (next : ℕ) (files front : List (List (List ℕ))) (run : List (List �
 pub names_first_run : {X Y : Type 0} (next : ℕ) (bytes : X → List (List ℕ))
     (items : Y → List (List ℕ)) (made : List X) (ys : List Y) (i : ℕ) (y : Y) (e : OpenError)
     → map bytes made ≡ map items (take i ys) → i < length ys → y ≡ get_or ys i y
-    → AllByRecursion (AllByRecursion (IsOwnFile next)) (map bytes made)
+    → AllByRecursion (AreOwnFiles next) (map bytes made)
     → NamesInRun next (items y) (length made) e → IsFirstFault next (map items ys) e
 names_first_run next bytes items made ys i y e so_far less is fine named =
     names_first next (map items ys) (map items (take i ys)) (items y) (map items (drop (suc i) ys))
     (ap (map items) (about ys i y less is) ∙ map-append items (take i ys) (y ∷ drop (suc i) ys))
-    (subst (AllByRecursion (AllByRecursion (IsOwnFile next))) so_far fine) e
+    (subst (AllByRecursion (AreOwnFiles next)) so_far fine) e
     (subst (λ (n : ℕ). NamesInRun next (items y) n e) (sym (length-map made bytes) ∙ ap length so_far) named)
 
--- and of what was kept
-pub names_kept : {A : Type 0} (c : Closed A) (e : OpenError)
+-- and of what was kept, where its numbers are right
+pub names_kept : {A : Type 0} (c : Closed A) (e : OpenError) → HasNumbers c
     → IsFirstFault c.next (files_in c) e → IsOpenFault c e
-names_kept c OutOfMemory named = tt
-names_kept c SeqNoOverflow named = absurd named
-names_kept c OldestTooHigh named = absurd named
-names_kept c (File r p fault) named = named
-names_kept c (NoFile r) named = named
-names_kept c (OutOfOrder r) named = named
-names_kept c Repeated named = absurd named
+names_kept c OutOfMemory right named = tt
+names_kept c SeqNoOverflow right named = absurd named
+names_kept c OldestTooHigh right named = absurd named
+names_kept c (File r p fault) right named = (right, named)
+names_kept c (NoFile r) right named = (right, named)
+names_kept c (OutOfOrder r) right named = (right, named)
+names_kept c Repeated right named = absurd named
 
 -- what is wrong with its numbers
 pub names_numbers : {A : Type 0} (c : Closed A) (e : OpenError)
@@ -174,13 +192,18 @@ names_numbers c e named = elim named [
 
 -- two entries with one key and one number
 pub names_repeated : {A : Type 0} (c : Closed A) (e : OpenError) (lists : List (List (List Entry)))
+    → HasNumbers c → AllByRecursion (AreOwnFiles c.next) (files_in c)
     → (e ≡ OutOfMemory) ⊎ (e ≡ Repeated) → StoreLists (files_in c) lists
     → (IsStrict (union_in lists) → e ≡ OutOfMemory) → IsOpenFault c e
-names_repeated c e lists named store taken = elim named [
+names_repeated c e lists right fine named store taken = elim named [
   | inl memory ↦ subst (IsOpenFault c) (sym memory) tt
   | inr twice ↦ subst (IsOpenFault c) (sym twice) (
-    lists,
-    store,
-    λ strict. let no : Repeated ≡ OutOfMemory = sym twice ∙ taken strict in cc,
+    right,
+    record {
+      fine = fine;
+      lists = lists;
+      store = store;
+      wrong = λ strict. let no : Repeated ≡ OutOfMemory = sym twice ∙ taken strict in cc;
+    },
   )
 ]

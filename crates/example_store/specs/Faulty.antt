@@ -1,10 +1,12 @@
 -- What is wrong with the files of a store that is not opened.
-use Rattle.std.specs.Prelude.{◌≡◌, ℕ, ◌-◌, ◌^◌, ◌<◌, ◌≤◌, List, [], ◌∷◌, ◌++◌, count_by, length, map}
+use Rattle.std.specs.Prelude.{◌≡◌, ℕ, ◌-◌, ◌^◌, ◌<◌, ◌≤◌, true, List, [], ◌∷◌, ◌++◌, count_by}
+use Rattle.std.specs.Prelude.{length, map, Ok, Err}
 use Rattle.std.specs.List.{AllByRecursion}
-use Rattle.logpurple.specs.Words.{Entry, IsInOrder, IsStrict, OpenTable, StoresList, highest_seqno}
-use Rattle.logpurple.specs.Words.{is_weak, range_of, union_in}
+use Rattle.logpurple.specs.Words.{Entry, Error, Finding, IsInOrder, IsStrict, OpenTable, StoresList}
+use Rattle.logpurple.specs.Words.{body_of, highest_seqno, is_weak, range_of, recovered_told}
+use Rattle.logpurple.specs.Words.{table_found, union_in}
 use Rattle.example_store.specs.Closed.{StoreLists, files_in}
-use Rattle.example_store.specs.Story.{IsOwn, IsOwnTable}
+use Rattle.example_store.specs.Story.{IsOwn, IsOwnRun, IsOwnTable}
 use Rattle.example_store.specs.declared.store.close.Closed.{Closed}
 use Rattle.example_store.specs.declared.store.open.FileFault.{FileFault}
 use Rattle.example_store.specs.declared.store.open.FileFault.TheVariants.{Empty, TooHigh, Unopened}
@@ -21,15 +23,33 @@ pub record IsOwnFile (next : ℕ) (bytes : List ℕ) : Type 0 where
   pub some : 0 < length list
   pub own : AllByRecursion (IsOwn next) list
 
--- what a fault says of a file: it stores no list; it stores the empty one; it has an entry that is
--- numbered as the next write or above; it has a weak tombstone
+-- a file whose opening as a table is refused so, memory aside: it stores no list
+pub record IsNoTable (bytes : List ℕ) (e : Error) : Type 0 where
+  pub refused : recovered_told bytes 0 true true ≡ Err e
+  pub none : (es : List Entry) → StoresList bytes es → ⊥
+
+-- a file that opens as a table, in which this is found first: it stores no list
+pub record IsNoList (bytes : List ℕ) (f : Finding) : Type 0 where
+  pub table : OpenTable
+  pub opens : recovered_told bytes 0 true true ≡ Ok table.parts
+  pub found : table_found (body_of bytes) table.parts ≡ Err f
+  pub none : (es : List Entry) → StoresList bytes es → ⊥
+
+-- a file that stores a list which has an entry
+pub record StoresSome (bytes : List ℕ) : Type 0 where
+  pub list : List Entry
+  pub stores : StoresList bytes list
+  pub some : 0 < length list
+
+-- what a fault says of a file: it does not open; it stores no list; it stores the empty one; it has
+-- an entry that is numbered as the next write or above; it has none, but a weak tombstone
 abbrev pub IsFaultOf : ℕ → List ℕ → FileFault → Type 0
-IsFaultOf next bytes (Unopened e) = (es : List Entry) → StoresList bytes es → ⊥
-IsFaultOf next bytes (Unsound f) = (es : List Entry) → StoresList bytes es → ⊥
+IsFaultOf next bytes (Unopened e) = IsNoTable bytes e
+IsFaultOf next bytes (Unsound f) = IsNoList bytes f
 IsFaultOf next bytes Empty = StoresList bytes []
-IsFaultOf next bytes TooHigh =
-    (es : List Entry) × StoresList bytes es × (next ≤ highest_seqno es)
-IsFaultOf next bytes Weak = (es : List Entry) × StoresList bytes es × (0 < count_by is_weak es)
+IsFaultOf next bytes TooHigh = (file : StoresSome bytes) × (next ≤ highest_seqno file.list)
+IsFaultOf next bytes Weak = (file : StoresSome bytes) × (highest_seqno file.list < next)
+    × (0 < count_by is_weak file.list)
 
 -- a refusal names the file that stands at a place of a run, by its fault
 abbrev pub NamesFile : ℕ → List ℕ → ℕ → ℕ → OpenError → Type 0
@@ -69,13 +89,19 @@ NamesInRun next files run (NoFile r) = (r ≡ run) × (files ≡ [])
 NamesInRun next files run (OutOfOrder r) = (r ≡ run) × AreNoRun next files
 NamesInRun next files run Repeated = ⊥
 
+-- files that may be those of a run of a store
+pub record AreOwnFiles (next : ℕ) (files : List (List ℕ)) : Type 0 where
+  pub run : List OpenTable
+  pub own : IsOwnRun next run
+  pub files_are : map (λ (t : OpenTable). t.bytes) run ≡ files
+
 -- the first run with something wrong, which is this
 pub record IsFirstRun (next : ℕ) (files : List (List (List ℕ))) (e : OpenError) : Type 0 where
   pub front : List (List (List ℕ))
   pub run : List (List ℕ)
   pub behind : List (List (List ℕ))
   pub files_are : files ≡ front ++ run ∷ behind
-  pub fine : AllByRecursion (AllByRecursion (IsOwnFile next)) front
+  pub fine : AllByRecursion (AreOwnFiles next) front
   pub wrong : NamesInRun next run (length front) e
 
 -- a refusal names what is wrong first in all runs
@@ -88,14 +114,26 @@ IsFirstFault next files (NoFile run) = IsFirstRun next files (NoFile run)
 IsFirstFault next files (OutOfOrder run) = IsFirstRun next files (OutOfOrder run)
 IsFirstFault next files Repeated = ⊥
 
--- what a refusal to open a store says of what was kept of one
+-- the next write has a number, and the snapshot of all writes is kept
+pub record HasNumbers {A : Type 0} (c : Closed A) : Type 0 where
+  pub room : c.next < 2 ^ 64 - 1
+  pub kept : c.oldest ≤ c.next
+
+-- each run may be a store's, but two entries of them have one key and one number
+pub record HasTwice (next : ℕ) (files : List (List (List ℕ))) : Type 0 where
+  pub fine : AllByRecursion (AreOwnFiles next) files
+  pub lists : List (List (List Entry))
+  pub store : StoreLists files lists
+  pub wrong : IsStrict (union_in lists) → ⊥
+
+-- what a refusal to open a store says of what was kept of one: of its numbers, and where these are
+-- right, of its files
 abbrev pub IsOpenFault : {A : Type 0} → Closed A → OpenError → Type 0
 IsOpenFault c OutOfMemory = Unit {0}
 IsOpenFault c SeqNoOverflow = c.next ≡ 2 ^ 64 - 1
 IsOpenFault c OldestTooHigh = c.next < c.oldest
 IsOpenFault c (File run place fault) =
-    IsFirstRun c.next (files_in c) (File run place fault)
-IsOpenFault c (NoFile run) = IsFirstRun c.next (files_in c) (NoFile run)
-IsOpenFault c (OutOfOrder run) = IsFirstRun c.next (files_in c) (OutOfOrder run)
-IsOpenFault c Repeated = (lists : List (List (List Entry))) × StoreLists (files_in c) lists
-    × (IsStrict (union_in lists) → ⊥)
+    HasNumbers c × IsFirstRun c.next (files_in c) (File run place fault)
+IsOpenFault c (NoFile run) = HasNumbers c × IsFirstRun c.next (files_in c) (NoFile run)
+IsOpenFault c (OutOfOrder run) = HasNumbers c × IsFirstRun c.next (files_in c) (OutOfOrder run)
+IsOpenFault c Repeated = HasNumbers c × HasTwice c.next (files_in c)

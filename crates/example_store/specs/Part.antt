@@ -1,6 +1,7 @@
 -- A part of a store's runs that is compacted.
-use Rattle.std.specs.Prelude.{◌≡◌, ℕ, ◌≤◌, List, ◌++◌, drop, false, length, sum_by, take}
-use Rattle.logpurple.specs.Words.{Entry, HaveAll, OpenTable, ids_behind, kept_in, rules_by}
+use Rattle.std.specs.Prelude.{◌≡◌, ℕ, List, ◌++◌, drop, false, length, sum_by, take}
+use Rattle.logpurple.specs.Words.{Entry, OpenTable, ids_behind, kept_in, rules_by}
+use Rattle.example_store.specs.Ids.{AreMadeOf}
 use Rattle.example_store.specs.Story.{Holding}
 
 -- the runs from a place on up to another, which is not among them, those in front and those behind
@@ -15,7 +16,6 @@ front_runs from to runs = take from (take to runs)
 pub record IsPartKept (from to watermark : ℕ) (lists : List (List (List Entry)))
     (old new : Holding) : Type 0 where
   pub made : List (List OpenTable)
-  pub has : HaveAll (kept_in (rules_by watermark false false) lists) made
-  pub few : length made ≤ 1
+  pub written : AreMadeOf old (kept_in (rules_by watermark false false) lists) made
   pub placed : new.runs ≡ front_runs from to old.runs ++ (made ++ drop to old.runs)
   pub counter : new.ids ≡ ids_behind old.ids old.target (sum_by length made)

@@ -4,12 +4,13 @@ ghost use Rattle.std.specs.Prelude.{IfOk, IfSome, List, MatchOption, None, Ok, O
 ghost use Rattle.std.specs.Prelude.{Option, Some, false, length, ℕ};
 ghost use Rattle.std.specs.Arc.{arc_value};
 ghost use Rattle.std.specs.Option.{option_map};
-ghost use Rattle.example_store.specs.Ids.{HasFlushed};
+ghost use Rattle.example_store.specs.Ids.{HasFlushed, HasTaken, StaysOrFlushes};
+ghost use Rattle.example_store.specs.Recent.{IsPut};
 ghost use Rattle.example_store.specs.Story.{AreNumbered, IsOwnRun, IsTold, put_fault, value_in};
-ghost use Rattle.logpurple.specs.Words.{Entry, Gives, HasList, IsStrict, IsWritable};
+ghost use Rattle.logpurple.specs.Words.{AreCutOf, Entry, Gives, HasList, IsStrict, IsWritable};
 ghost use Rattle.logpurple.specs.Words.{OutOfMemory, Refuses, RunsHoldLists, Tombstone, Value};
 ghost use Rattle.logpurple.specs.Words.{entry, ids_behind, is_memory, is_weak, is_weak_kind};
-ghost use Rattle.logpurple.specs.Words.{point, shown, tables_fault, union_in};
+ghost use Rattle.logpurple.specs.Words.{point, run_label, shown, tables_fault, union_in};
 
 mod close;
 mod compact;
@@ -66,8 +67,9 @@ impl<A: Allocator> Model for Store<A> {
 }
 
 impl<A: Allocator + Clone> Store<A> {
-    /// A store without entries. Its memtable is flushed before it has more than `limit` entries, to
-    /// tables that each but the last have at least `target` bytes of data blocks.
+    /// A store without entries. Its memtable is flushed before it has more than `limit` entries, at
+    /// 0 before it has more than one, to tables that each but the last have at least `target` bytes
+    /// of data blocks.
     pub fn new(alloc: A, limit: usize, target: u64) -> Result<Store<A>, Error>
         ensures story { IfOk result (λ store. IsTold store []) }
         ensures next { IfOk result (λ store. store.next ≡ 0) }
@@ -120,17 +122,21 @@ impl<A: Allocator + Clone> Store<A> {
         ensures oldest { self.new.oldest ≡ self.old.oldest }
         ensures limit { self.new.limit ≡ self.old.limit }
         ensures target { self.new.target ≡ self.old.target }
-        // The counter of ids is behind the tables that were made, if some were.
-        ensures flushed { HasFlushed self.old self.new }
-        // None are where there is room.
+        // The entry is put to those of the memtable. One that is full is flushed before.
+        ensures taken { OnOk result
+            (HasTaken (entry key.now value.now self.old.next Value) self.old self.new) }
+        ensures err { OnErr result (StaysOrFlushes self.old self.new) }
+        // No table is made where there is room.
         ensures waits { length self.old.recent < self.old.limit → self.new.runs ≡ self.old.runs }
+        ensures room { length self.old.recent < self.old.limit →
+            OnErr result (self.new ≡ self.old) }
         // What is wrong with the write is found before anything is done.
         ensures fault { (e : Error) → put_fault self.old.next key.now value.now ≡ Some e →
-            result ≡ Err e }
-        // Otherwise, memory aside, it is refused what flushing is.
+            (result ≡ Err e) × (self.new ≡ self.old) }
+        // Otherwise, memory aside, it is refused what flushing is, where the memtable is full.
         ensures refused { put_fault self.old.next key.now value.now ≡ None →
-            IfErr result (λ e. is_memory e ≡ false →
-            tables_fault self.old.ids self.old.target 0 self.old.recent ≡ Some e) }
+            IfErr result (λ e. is_memory e ≡ false → (self.old.limit ≤ length self.old.recent) ×
+            (tables_fault self.old.ids self.old.target 0 self.old.recent ≡ Some e)) }
     {
         self.write(key, value, ValueType::Value)
     }
@@ -145,14 +151,17 @@ impl<A: Allocator + Clone> Store<A> {
         ensures oldest { self.new.oldest ≡ self.old.oldest }
         ensures limit { self.new.limit ≡ self.old.limit }
         ensures target { self.new.target ≡ self.old.target }
-        // The counter of ids is behind the tables that were made, if some were.
-        ensures flushed { HasFlushed self.old self.new }
+        ensures taken { OnOk result
+            (HasTaken (entry key.now [] self.old.next Tombstone) self.old self.new) }
+        ensures err { OnErr result (StaysOrFlushes self.old self.new) }
         ensures waits { length self.old.recent < self.old.limit → self.new.runs ≡ self.old.runs }
+        ensures room { length self.old.recent < self.old.limit →
+            OnErr result (self.new ≡ self.old) }
         ensures fault { (e : Error) → put_fault self.old.next key.now [] ≡ Some e →
-            result ≡ Err e }
+            (result ≡ Err e) × (self.new ≡ self.old) }
         ensures refused { put_fault self.old.next key.now [] ≡ None →
-            IfErr result (λ e. is_memory e ≡ false →
-            tables_fault self.old.ids self.old.target 0 self.old.recent ≡ Some e) }
+            IfErr result (λ e. is_memory e ≡ false → (self.old.limit ≤ length self.old.recent) ×
+            (tables_fault self.old.ids self.old.target 0 self.old.recent ≡ Some e)) }
     {
         self.write(key, b"", ValueType::Tombstone)
     }
@@ -167,13 +176,17 @@ impl<A: Allocator + Clone> Store<A> {
         ensures oldest { self.new.oldest ≡ self.old.oldest }
         ensures limit { self.new.limit ≡ self.old.limit }
         ensures target { self.new.target ≡ self.old.target }
-        ensures flushed { HasFlushed self.old self.new }
+        ensures taken { OnOk result
+            (HasTaken (entry key.now value.now self.old.next kind) self.old self.new) }
+        ensures err { OnErr result (StaysOrFlushes self.old self.new) }
         ensures waits { length self.old.recent < self.old.limit → self.new.runs ≡ self.old.runs }
+        ensures room { length self.old.recent < self.old.limit →
+            OnErr result (self.new ≡ self.old) }
         ensures fault { (e : Error) → put_fault self.old.next key.now value.now ≡ Some e →
-            result ≡ Err e }
+            (result ≡ Err e) × (self.new ≡ self.old) }
         ensures refused { put_fault self.old.next key.now value.now ≡ None →
-            IfErr result (λ e. is_memory e ≡ false →
-            tables_fault self.old.ids self.old.target 0 self.old.recent ≡ Some e) }
+            IfErr result (λ e. is_memory e ≡ false → (self.old.limit ≤ length self.old.recent) ×
+            (tables_fault self.old.ids self.old.target 0 self.old.recent ≡ Some e)) }
     {
         check_write(self.next, key, value)?;
         self.make_room()?;
@@ -188,10 +201,13 @@ impl<A: Allocator + Clone> Store<A> {
         ensures oldest { self.new.oldest ≡ self.old.oldest }
         ensures limit { self.new.limit ≡ self.old.limit }
         ensures target { self.new.target ≡ self.old.target }
-        ensures flushed { HasFlushed self.old self.new }
         ensures waits { length self.old.recent < self.old.limit → self.new ≡ self.old }
+        ensures flushed { self.old.limit ≤ length self.old.recent →
+            OnOk result (HasFlushed self.old self.new × (self.new.recent ≡ [])) }
+        ensures err { OnErr result (self.new ≡ self.old) }
         ensures refused { IfErr result (λ e. is_memory e ≡ false →
-            tables_fault self.old.ids self.old.target 0 self.old.recent ≡ Some e) }
+            (self.old.limit ≤ length self.old.recent) ×
+            (tables_fault self.old.ids self.old.target 0 self.old.recent ≡ Some e)) }
     {
         if self.memtable.len() < self.limit {
             return Ok(());
@@ -206,6 +222,7 @@ impl<A: Allocator + Clone> Store<A> {
         requires room { self.old.next < 2 ^ 64 - 2 }
         ensures written { (ws : List Entry) → IsTold self.old ws →
             OnOk result (IsTold self.new (item ∷ ws)) }
+        ensures put { OnOk result (IsPut item self.old.recent self.new.recent) }
         ensures next { OnOk result (self.new.next ≡ self.old.next + 1) }
         ensures oldest { self.new.oldest ≡ self.old.oldest }
         ensures limit { self.new.limit ≡ self.old.limit }
@@ -230,8 +247,8 @@ impl<A: Allocator + Clone> Store<A> {
         ensures oldest { self.new.oldest ≡ self.old.oldest }
         ensures limit { self.new.limit ≡ self.old.limit }
         ensures target { self.new.target ≡ self.old.target }
-        // The counter of ids is behind the tables that were made, if some were.
-        ensures flushed { HasFlushed self.old self.new }
+        // They are cut by the target, and the counter of ids is behind them, if some were made.
+        ensures flushed { OnOk result (HasFlushed self.old self.new) }
         ensures err { OnErr result (self.new ≡ self.old) }
         // Memory aside, it is refused what writing the entries as tables is.
         ensures refused { IfErr result (λ e. is_memory e ≡ false →
@@ -257,6 +274,8 @@ impl<A: Allocator + Clone> Store<A> {
         requires list { HasList self.old.recent (arc_value run) }
         requires strict { IsStrict self.old.recent }
         requires own { IsOwnRun self.old.next (arc_value run) }
+        requires cut { AreCutOf (run_label self.old.ids self.old.target 0) self.old.target
+            self.old.recent 0 (arc_value run) }
         requires ids { ids ≡ ids_behind self.old.ids self.old.target (length (arc_value run)) }
         requires empty { fresh ≡ [] }
         ensures story { (ws : List Entry) → IsTold self.old ws → IsTold self.new ws }
@@ -265,7 +284,7 @@ impl<A: Allocator + Clone> Store<A> {
         ensures oldest { self.new.oldest ≡ self.old.oldest }
         ensures limit { self.new.limit ≡ self.old.limit }
         ensures target { self.new.target ≡ self.old.target }
-        ensures flushed { HasFlushed self.old self.new }
+        ensures flushed { OnOk result (HasFlushed self.old self.new) }
         ensures err { OnErr result (self.new ≡ self.old) }
         ensures memory { IfErr result (λ e. e ≡ OutOfMemory) }
     {
@@ -342,7 +361,10 @@ fn run_of<A: Allocator + Clone>(
     // It has the store's own entries, where the list has.
     ensures own { (from to : ℕ) → AreNumbered from to items.items →
         IfOk result (λ r. IfSome r.0 (λ run. IsOwnRun to (arc_value run))) }
-    // The counter runs on behind its tables.
+    // It is cut by the target,
+    ensures cut { IfOk result (λ r. IfSome r.0 (λ run.
+        AreCutOf (run_label ids target 0) target items.items 0 (arc_value run))) }
+    // and the counter runs on behind its tables.
     ensures ids { IfOk result (λ r. IfSome r.0 (λ run.
         r.1 ≡ ids_behind ids target (length (arc_value run)))) }
     ensures refused { IfErr result (λ e. is_memory e ≡ false →

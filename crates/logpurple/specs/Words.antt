@@ -16,7 +16,7 @@ pub use Rattle.sst_entries.specs.declared.error.Error.TheVariants.{KeyTooLong, O
 pub use Rattle.sst_entries.specs.declared.error.Error.TheVariants.{SeqNoOverflow, ValueTooLong}
 pub use Rattle.sst_entries.specs.declared.value_type.ValueType.{ValueType}
 pub use Rattle.sst_entries.specs.declared.value_type.ValueType.TheVariants.{Tombstone, Value}
-pub use Rattle.lsm_ranges.specs.Packing.{AreInOrder, IsLeastSize}
+pub use Rattle.lsm_ranges.specs.Packing.{AreInOrder, IsLeastSize, SameTables}
 pub use Rattle.lsm_ranges.specs.Run.{IsInOrder}
 pub use Rattle.lsm_merge.specs.Union.{all_entries, newest, sort_entries}
 pub use Rattle.lsm_sorted.specs.Below.{numbered_below}
@@ -34,6 +34,9 @@ pub use Rattle.lsm_writers.specs.Writing.{IsTableOf, IsWritable}
 pub use Rattle.lsm_readers.specs.Answer.{lift}
 pub use Rattle.lsm_readers.specs.Stored.{BearsOut, StoresList}
 pub use Rattle.lsm_readers.specs.Table.{OpenTable}
+unfoldable pub use Rattle.lsm_readers.specs.Verify.{table_found}
+pub use Rattle.lsm_readers.specs.Words.{body_of, recovered_told}
+pub use Rattle.lsm_readers.specs.declared.verify.Finding.{Finding}
 pub use Rattle.lsm_readers.specs.Verification.{bytes_read, steps_of, verifying}
 pub use Rattle.lsm_runs.specs.RunLists.{DealWithin, DealsList, HoldLists, HoldsList, RunsHoldLists}
 pub use Rattle.lsm_runs.specs.RunLists.{DealTogether, single}

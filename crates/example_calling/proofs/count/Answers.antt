@@ -2,7 +2,7 @@ use Rattle.std.proofs.Common.{sym, subst}
 use Rattle.std.specs.Prelude.{Some}
 use Rattle.std.specs.Iterator.{IsFinite}
 use Rattle.logpurple.specs.Words.{DealsList}
-use Rattle.example_calling.proofs.Counting.{all_counted, none_counted, one_counted}
+use Rattle.example_calling.proofs.Counting.{all_counted, fault_counted, none_counted, one_counted}
 use Rattle.example_calling.proofs.count.Goals as goal
 
 pub loop-item-init : goal.loop-item-init
@@ -31,7 +31,17 @@ loop-item-preserved g c =
           (c.loop-item.invariant.counts es d) step c.saturating_add-count.ensures;
     }
 
-pub returns : goal.returns
-returns g c es d = all_counted g.I.Iterator.next_gives g.I.DoubleEndedIterator.next_back_gives es
+pub returns-in_err-item-clause-memory : goal.returns-in_err-item-clause-memory
+returns-in_err-item-clause-memory g c es d =
+    let next = g.I.Iterator.next_gives in
+    let f = c.in_err-item.field-0.0 in
+    let step = subst (λ r. next c.loop-item.item-iterator (Some r) c.next.new.self) c.in_err-item.was
+    c.in-Some.ensures.steps in
+    fault_counted next g.I.DoubleEndedIterator.next_back_gives c.from_residual.result es
+    c.loop-item.count c.loop-item.item-iterator c.next.new.self f (c.loop-item.invariant.counts es d)
+    step c.from_residual.ensures.1
+
+pub returns-clause-exact : goal.returns-clause-exact
+returns-clause-exact g c es d = all_counted g.I.Iterator.next_gives g.I.DoubleEndedIterator.next_back_gives es
     c.loop-item.count c.loop-item.item-iterator c.next.new.self (c.loop-item.invariant.counts es d)
     c.in-None.ensures.steps

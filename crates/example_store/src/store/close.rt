@@ -1,8 +1,8 @@
 //! Closing a store: what is kept of it.
-ghost use Rattle.std.specs.Prelude.{◌≡◌, [], IfErr, IfOk, List, Some, false, map};
+ghost use Rattle.std.specs.Prelude.{◌≡◌, [], IfErr, IfOk, List, OnErr, OnOk, Some, false, map};
 ghost use Rattle.std.specs.Arc.{arc_value};
 ghost use Rattle.example_store.specs.Closed.{IsClosed, bytes_by_run};
-ghost use Rattle.example_store.specs.Ids.{HasFlushed};
+ghost use Rattle.example_store.specs.Ids.{HasFlushed, StaysOrFlushes};
 ghost use Rattle.example_store.specs.Story.{IsStore, IsTold};
 ghost use Rattle.logpurple.specs.Words.{Entry, OpenTable, OutOfMemory, is_memory, tables_fault};
 
@@ -37,7 +37,8 @@ impl<A: Allocator + Clone> Store<A> {
         ensures limit { self.new.limit ≡ self.old.limit }
         ensures target { self.new.target ≡ self.old.target }
         // The counter that is given is behind the tables that were made, if some were.
-        ensures flushed { HasFlushed self.old self.new }
+        ensures flushed { OnOk result (HasFlushed self.old self.new) }
+        ensures err { OnErr result (StaysOrFlushes self.old self.new) }
         ensures refused { IfErr result (λ e. is_memory e ≡ false →
             tables_fault self.old.ids self.old.target 0 self.old.recent ≡ Some e) }
     {

@@ -3,11 +3,12 @@ ghost use Rattle.std.specs.Prelude.{◌≡◌, ◌≤◌, IfErr, IfOk, List, OnE
 ghost use Rattle.std.specs.Prelude.{length, map, max, min, sum_by, true, ℕ};
 ghost use Rattle.std.specs.Arc.{arc_value};
 ghost use Rattle.std.specs.List.{AllByRecursion};
+ghost use Rattle.example_store.specs.Ids.{AreMadeOf};
 ghost use Rattle.example_store.specs.Story.{IsOwnRun, IsTold, option_list};
-ghost use Rattle.logpurple.specs.Words.{AreCompactable, AreInOrder, Entry, HaveAll, HoldUnion};
-ghost use Rattle.logpurple.specs.Words.{IsLeastSize, OutOfMemory, RunsHoldLists, is_memory};
-ghost use Rattle.logpurple.specs.Words.{ids_behind, kept_in, range_of, rules_by, tables_fault};
-ghost use Rattle.logpurple.specs.Words.{union_in};
+ghost use Rattle.logpurple.specs.Words.{AreCompactable, AreCutOf, AreInOrder, Entry, HaveAll};
+ghost use Rattle.logpurple.specs.Words.{HoldUnion, IsLeastSize, OutOfMemory, RunsHoldLists};
+ghost use Rattle.logpurple.specs.Words.{SameTables, ids_behind, is_memory, kept_in, range_of};
+ghost use Rattle.logpurple.specs.Words.{rules_by, run_label, tables_fault, union_in};
 
 use crate::Store;
 use logpurple::{Error, Rules, Run, SeqNo, Table, TableIds, Timestamp, compact_to_run, pack_runs};
@@ -35,10 +36,10 @@ impl<A: Allocator + Clone> Store<A> {
             ≡ ids_behind self.old.ids self.old.target (sum_by length self.new.runs)) }
         // One run is left at most.
         ensures few { OnOk result (length self.new.runs ≤ 1) }
-        // The runs have what is kept of all that they had.
+        // The runs have what is kept of all that they had, cut by the target.
         ensures made { (lists : List (List (List Entry))) → RunsHoldLists self.old.runs lists →
-            OnOk result (HaveAll (kept_in (rules_by (min watermark self.old.next) true false) lists)
-            self.new.runs) }
+            OnOk result (AreMadeOf self.old
+            (kept_in (rules_by (min watermark self.old.next) true false) lists) self.new.runs) }
         ensures err { OnErr result (self.new ≡ self.old) }
         // Memory aside, it is refused what writing what is kept of the runs as tables is.
         ensures refused { (lists : List (List (List Entry))) → RunsHoldLists self.old.runs lists →
@@ -70,6 +71,10 @@ impl<A: Allocator + Clone> Store<A> {
         ensures target { self.new.target ≡ self.old.target }
         ensures ids { self.new.ids ≡ self.old.ids }
         ensures recent { self.new.recent ≡ self.old.recent }
+        // They have the same tables, and hold the same entries.
+        ensures tables { OnOk result (SameTables self.old.runs self.new.runs) }
+        ensures list { (lists : List (List (List Entry))) → RunsHoldLists self.old.runs lists →
+            OnOk result (HoldUnion self.new.runs (union_in lists)) }
         // No fewer runs can do.
         ensures least { OnOk result (IsLeastSize range_of self.old.runs (length self.new.runs)) }
         ensures err { OnErr result (self.new ≡ self.old) }
@@ -95,6 +100,10 @@ pub(crate) fn compacted<A: Allocator + Clone>(
         RunsHoldLists (map arc_value runs.now) lists →
         IfOk result (λ r. HaveAll (kept_in rules lists) (map arc_value r.0.items)) }
     ensures few { IfOk result (λ r. length r.0.items ≤ 1) }
+    ensures cut { (lists : List (List (List Entry))) →
+        RunsHoldLists (map arc_value runs.now) lists →
+        IfOk result (λ r. AllByRecursion (AreCutOf (run_label ids target 0) target
+        (kept_in rules lists) 0) (map arc_value r.0.items)) }
     ensures ids { IfOk result (λ r.
         r.1 ≡ ids_behind ids target (sum_by length (map arc_value r.0.items))) }
     ensures able { IfOk result (λ r. AreCompactable (map arc_value r.0.items)) }
@@ -132,6 +141,8 @@ fn packed<A: Allocator + Clone>(
     alloc: A,
     runs: &[Arc<Run<Table<A>, A>, A>],
 ) -> Result<Runs<A>, Error>
+    ensures tables { IfOk result (λ packed.
+        SameTables (map arc_value runs.now) (map arc_value packed.items)) }
     ensures list { (lists : List (List (List Entry))) →
         RunsHoldLists (map arc_value runs.now) lists →
         IfOk result (λ packed. HoldUnion (map arc_value packed.items) (union_in lists)) }

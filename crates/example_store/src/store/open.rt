@@ -1,6 +1,6 @@
 //! Opening a store from what was kept of one.
-ghost use Rattle.std.specs.Prelude.{◌≡◌, ◌-◌, ◌^◌, ◌<◌, ◌≤◌, ◌⊎◌, [], IfErr, IfOk, IsOk, List, ℕ};
-ghost use Rattle.std.specs.Prelude.{false, length, map, true};
+ghost use Rattle.std.specs.Prelude.{◌≡◌, ◌-◌, ◌^◌, ◌<◌, ◌≤◌, ◌⊎◌, [], IfErr, IfOk, IsOk, List, Ok};
+ghost use Rattle.std.specs.Prelude.{false, length, map, true, ℕ};
 ghost use Rattle.std.specs.List.{AllByRecursion};
 ghost use Rattle.std.specs.Arc.{arc_value};
 ghost use Rattle.example_store.specs.Closed.{IsClosed, StoreLists, bytes_by_run, files_in};
@@ -14,8 +14,8 @@ ghost use Rattle.example_store.specs.declared.store.open.OpenError.TheVariants.{
 ghost use Rattle.example_store.specs.declared.store.open.OpenError.TheVariants.{Repeated};
 ghost use Rattle.example_store.specs.declared.store.open.OpenError.TheVariants.{SeqNoOverflow};
 ghost use Rattle.logpurple.specs.Words.{Entry, HaveEntries, IsInOrder, IsStrict, OpenTable};
-ghost use Rattle.logpurple.specs.Words.{RunsHoldLists};
-ghost use Rattle.logpurple.specs.Words.{StoresList, is_memory, range_of, union_in};
+ghost use Rattle.logpurple.specs.Words.{RunsHoldLists, StoresList, is_memory, range_of};
+ghost use Rattle.logpurple.specs.Words.{recovered_told, union_in};
 
 use crate::memtable::Memtable;
 use crate::store::compact::Runs;
@@ -46,7 +46,7 @@ pub enum FileFault {
 pub enum OpenError {
     /// Memory is wanted: nothing is said of the files.
     OutOfMemory,
-    /// No number is left for a write.
+    /// The next write would have the number `u64::MAX`, to which no store comes.
     SeqNoOverflow,
     /// The oldest snapshot is above that of all writes.
     OldestTooHigh,
@@ -87,12 +87,13 @@ impl<A: Allocator + Clone> Store<A> {
     /// origin: each file is opened and verified, and all are read together. `limit` and `target`
     /// are as [`Store::new`] takes them. The files' bytes are shared.
     ///
-    /// Refused [`OpenError::SeqNoOverflow`] where no number is left, and
-    /// [`OpenError::OldestTooHigh`] where `oldest` is above `next`; then with the first that is
-    /// wrong, run by run: a file that does not open, stores no list, has no entry, or one that no
-    /// write below `next` made, or a weak tombstone ([`OpenError::File`]); a run that has no file,
-    /// or whose files overlap or descend; then where two entries have one key and one number; and
-    /// [`OpenError::OutOfMemory`].
+    /// Refused with what is wrong first, in this order: [`OpenError::SeqNoOverflow`] where `next`
+    /// is `u64::MAX`, [`OpenError::OldestTooHigh`] where `oldest` is above `next`; run by run, and
+    /// in a run file by file, a file that does not open, stores no list, has no entry, has one that
+    /// no write below `next` made, or a weak tombstone ([`OpenError::File`]), then a run that has
+    /// no file ([`OpenError::NoFile`]), or whose files overlap or descend
+    /// ([`OpenError::OutOfOrder`]); at last [`OpenError::Repeated`] where two entries of all have
+    /// one key and one number. And [`OpenError::OutOfMemory`].
     pub fn open(
         alloc: A,
         limit: usize,
@@ -135,7 +136,7 @@ impl<A: Allocator + Clone> Store<A> {
     }
 }
 
-// Tests that a number is left for a write, and that the snapshot of all writes is kept.
+// Tests that the next write has a number, and that the snapshot of all writes is kept.
 fn test_numbers(next: SeqNo, oldest: SeqNo) -> Result<(), OpenError>
     ensures room { IfOk result (λ _. next < 2 ^ 64 - 1) }
     ensures kept { IfOk result (λ _. oldest ≤ next) }
@@ -242,6 +243,7 @@ fn open_table<A: Allocator + Clone>(
 ) -> Result<Table<A>, OpenError>
     ensures bytes { IfOk result (λ t. t.bytes ≡ bytes) }
     ensures unlifted { IfOk result (λ t. t.global_seqno ≡ 0) }
+    ensures opens { IfOk result (λ t. recovered_told bytes 0 true true ≡ Ok t.parts) }
     ensures taken { (es : List Entry) → StoresList bytes es → IfErr result (λ e. e ≡ OutOfMemory) }
     ensures named { (next : ℕ) → IfErr result (NamesFile next bytes place.0 place.1) }
 {
@@ -268,7 +270,8 @@ fn test_table<A: Allocator + Clone>(
     next: SeqNo,
     place: (usize, usize),
 ) -> Result<(), OpenError>
-    requires { table.now.global_seqno ≡ 0 }
+    requires unlifted { table.now.global_seqno ≡ 0 }
+    requires opens { recovered_told table.now.bytes 0 true true ≡ Ok table.now.parts }
     ensures own { IfOk result (λ _. IsOwnTable next table.now) }
     ensures taken { (es : List Entry) → StoresList table.now.bytes es → 0 < length es →
         AllByRecursion (IsOwn next) es → IfErr result (λ e. e ≡ OutOfMemory) }
@@ -291,6 +294,7 @@ fn test_entries<A: Allocator + Clone>(
     table: &Table<A>,
     place: (usize, usize),
 ) -> Result<(), OpenError>
+    requires opens { recovered_told table.now.bytes 0 true true ≡ Ok table.now.parts }
     ensures sound { IfOk result (λ _. (es : List Entry) × StoresList table.now.bytes es ×
         (0 < length es)) }
     ensures taken { (es : List Entry) → StoresList table.now.bytes es → 0 < length es →

@@ -17,8 +17,9 @@ impl<A: Allocator + Clone> Store<A> {
     /// Puts one run in the place of those from place `from` on up to place `to`, which is not among
     /// them, of what readers at the watermark and at later snapshots see of them; older snapshots
     /// are kept no longer, and a watermark above [`Store::snapshot`] is taken as that. The newest
-    /// run has place 0, and there are as many as there are. The other runs and the memtable stay,
-    /// so tombstones do. Refused as [`Store::compact`] is.
+    /// run has place 0; a place behind the last run is taken as the end, and where `from` is not
+    /// below `to`, no run is compacted. The other runs and the memtable stay, so tombstones do.
+    /// Refused as [`Store::compact`] is.
     pub fn compact_part(&mut self, from: usize, to: usize, watermark: SeqNo) -> Result<(), Error>
         ensures story { (ws : List Entry) → IsTold self.old ws → IsTold self.new ws }
         ensures oldest { OnOk result

@@ -1,6 +1,7 @@
-use Rattle.std.proofs.Common.{◌≡◌, sym, ◌∙◌, rules}
+use Rattle.std.proofs.Common.{◌≡◌, sym, ◌∙◌, rules, subst, ℕ}
+use Rattle.std.specs.Prelude.{IfSome}
 use Rattle.std.specs.Arc.{arc_value}
-use Rattle.logpurple.specs.Words.{run_label, tables_fault}
+use Rattle.logpurple.specs.Words.{AreCutOf, run_label, tables_fault}
 use Rattle.example_store.specs.Story.{IsOwnRun}
 use Rattle.example_store.proofs.Counters.{shared_counter}
 use Rattle.example_store.proofs.Own.{cut_own}
@@ -33,3 +34,11 @@ returns-clause-own g c from to numbered =
 pub returns-clause-ids : goal.returns-clause-ids
 returns-clause-ids g c =
     shared_counter arc_value c.args.ids c.args.target c.in_ok-run.left c.in_ok-share_run.field-0 c.in_ok-run.run' c.in_ok-share_run.ensures.ok c.in_ok-run.ensures.ids
+
+pub returns-clause-cut : goal.returns-clause-cut
+returns-clause-cut g c =
+    let moment : c.from.result ≡ 0 = search rules in
+    let es = c.args.items.items in
+    let target = c.args.target in
+    shared_own arc_value (AreCutOf (run_label c.args.ids target 0) target es 0) c.in_ok-share_run.field-0 c.in_ok-run.run' c.in_ok-share_run.ensures.ok
+    (subst (λ (n : ℕ). IfSome c.in_ok-run.run' (λ run. AreCutOf (run_label c.args.ids target n) target es 0 run)) moment c.in_ok-run.ensures.cut)

@@ -1,8 +1,11 @@
-use Rattle.std.proofs.Common.{◌≡◌, sym, ◌∙◌, ap, subst, ℕ, List, true, false, arith, rules}
+use Rattle.std.proofs.Common.{◌≡◌, ◌≤◌, sym, ◌∙◌, ap, subst, ℕ, List, true, false, arith, rules}
 use Rattle.std.specs.Prelude.{length, map, max, min, sum_by}
 use Rattle.std.specs.Arc.{arc_value}
-use Rattle.logpurple.specs.Words.{HaveAll, OpenTable, RunsHoldLists, ids_behind, kept_in, rules_by}
 use Rattle.std.specs.List.{AllByRecursion}
+use Rattle.std.proofs.lemmas.List.{length-map}
+use Rattle.logpurple.specs.Words.{AreCutOf, OpenTable, RunsHoldLists, ids_behind, kept_in, rules_by}
+use Rattle.logpurple.specs.Words.{run_label}
+use Rattle.example_store.specs.Ids.{AreMadeOf}
 use Rattle.example_store.specs.Story.{Holding, IsOwnRun, IsStore}
 use Rattle.example_store.proofs.Compacting.{sound_replaced, tells_compacted}
 use Rattle.example_store.proofs.store.Store.compact.Goals as goal
@@ -36,11 +39,20 @@ returns-clause-story g c ws told =
 
 pub returns-clause-made : goal.returns-clause-made
 returns-clause-made g c lists hold =
-    let same : map arc_value c.deref.result.now ≡ c.args.self.now.runs = ap (map arc_value) c.deref.ensures.value ∙ ap (λ (h : Holding). h.runs) c.self.view_is in
+    let s = c.args.self.now in
+    let is = c.self.view_is in
+    let same : map arc_value c.deref.result.now ≡ s.runs = ap (map arc_value) c.deref.ensures.value ∙ ap (λ (h : Holding). h.runs) is in
+    let held = subst (λ (rs : List (List OpenTable)). RunsHoldLists rs lists) (sym same) hold in
+    let new = c.in_ok-runs.runs.items in
+    let made = map arc_value new in
     let lowest : c.min-watermark.result ≡ min c.args.watermark c.self.inside.next = search rules in
-    let capped = lowest ∙ ap (λ (h : Holding). min c.args.watermark h.next) c.self.view_is in
-    subst (λ (n : ℕ). HaveAll (kept_in (rules_by n true false) lists) (map arc_value c.in_ok-runs.runs.items)) capped
-    (c.in_ok-runs.ensures.kept lists (subst (λ (rs : List (List OpenTable)). RunsHoldLists rs lists) (sym same) hold))
+    let capped = lowest ∙ ap (λ (h : Holding). min c.args.watermark h.next) is in
+    subst (λ (n : ℕ). AreMadeOf s (kept_in (rules_by n true false) lists) made) capped (record {
+      has = c.in_ok-runs.ensures.kept lists held;
+      few = subst (λ (n : ℕ). n ≤ 1) (sym (length-map new arc_value)) c.in_ok-runs.ensures.few;
+      cut = subst (λ (h : Holding). AllByRecursion (AreCutOf (run_label h.ids h.target 0) h.target (kept_in (rules_by c.min-watermark.result true false) lists) 0) made) is
+          (c.in_ok-runs.ensures.cut lists held);
+    })
 
 pub returns-clause-ids : goal.returns-clause-ids
 returns-clause-ids g c =

@@ -3,7 +3,9 @@ use Rattle.std.specs.Prelude.{length, map, max, min, sum_by}
 use Rattle.std.specs.Arc.{arc_value}
 use Rattle.std.specs.List.{AllByRecursion}
 use Rattle.std.proofs.lemmas.List.{length-map}
-use Rattle.logpurple.specs.Words.{AreCompactable, HaveAll, OpenTable, RunsHoldLists, ids_behind, kept_in, rules_by}
+use Rattle.logpurple.specs.Words.{AreCompactable, AreCutOf, OpenTable, RunsHoldLists, ids_behind, kept_in, rules_by}
+use Rattle.logpurple.specs.Words.{run_label}
+use Rattle.example_store.specs.Ids.{AreMadeOf}
 use Rattle.example_store.specs.Part.{front_runs, part_runs}
 use Rattle.example_store.specs.Story.{Holding, IsOwnRun, IsStore}
 use Rattle.example_store.proofs.Compacting.{sound_replaced}
@@ -74,11 +76,15 @@ returns-clause-made g c lists hold =
     let part = sym (c.cut_out.ensures.part ∙ ap (part_runs from to) given) in
     let lowest : c.min-watermark.result ≡ min c.args.watermark c.self.inside.next = search rules in
     let capped = lowest ∙ ap (λ (h : Holding). min c.args.watermark h.next) c.self.view_is in
+    let held = subst (λ (rs : List (List OpenTable)). RunsHoldLists rs lists) part hold in
     record {
       made = made;
-      has = subst (λ (n : ℕ). HaveAll (kept_in (rules_by n false false) lists) made) capped
-          (c.in_ok-made.ensures.kept lists (subst (λ (rs : List (List OpenTable)). RunsHoldLists rs lists) part hold));
-      few = subst (λ (n : ℕ). n ≤ 1) (sym (length-map c.in_ok-made.made.items arc_value)) c.in_ok-made.ensures.few;
+      written = subst (λ (n : ℕ). AreMadeOf s (kept_in (rules_by n false false) lists) made) capped (record {
+        has = c.in_ok-made.ensures.kept lists held;
+        few = subst (λ (n : ℕ). n ≤ 1) (sym (length-map c.in_ok-made.made.items arc_value)) c.in_ok-made.ensures.few;
+        cut = subst (λ (h : Holding). AllByRecursion (AreCutOf (run_label h.ids h.target 0) h.target (kept_in (rules_by c.min-watermark.result false false) lists) 0) made) c.self.view_is
+            (c.in_ok-made.ensures.cut lists held);
+      });
       placed = placed_part _ _ _ new (front_runs from to s.runs) made (drop to s.runs) c.in_ok-runs.ensures.runs
           (c.cut_out.ensures.front ∙ ap (front_runs from to) given) (ap (map arc_value) c.deref-2.ensures.value) (c.cut_out.ensures.behind ∙ ap (drop to) given);
       counter = c.in_ok-made.ensures.ids ∙ ap (λ (h : Holding). ids_behind h.ids h.target (sum_by length made)) c.self.view_is;

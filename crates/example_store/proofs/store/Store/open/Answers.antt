@@ -10,8 +10,9 @@ use Rattle.example_store.specs.declared.store.open.OpenError.TheVariants.{OutOfM
 use Rattle.example_store.proofs.Opening.{strict_alike, tells_alike}
 use Rattle.example_store.proofs.Own.{later_runs, own_able, own_run_lists, runs_stored}
 use Rattle.example_store.proofs.Refusing.{wanted}
-use Rattle.example_store.specs.Faulty.{IsFirstFault, IsOpenFault}
-use Rattle.example_store.proofs.Faults.{names_kept, names_numbers, names_repeated, passed}
+use Rattle.example_store.specs.Faulty.{AreOwnFiles, IsFirstFault, IsOpenFault}
+use Rattle.example_store.proofs.Faults.{names_kept, names_numbers, names_repeated, own_run_files}
+use Rattle.example_store.proofs.Faults.{passed}
 use Rattle.example_store.proofs.store.Store.open.Goals as goal
 
 pub returns-in_err-test_numbers-clause-taken : goal.returns-in_err-test_numbers-clause-taken
@@ -99,7 +100,7 @@ returns-in_err-runs-clause-refused g c =
     let closed = c.args.closed.now in
     let e = c.in_err-runs.field-0.0 in
     passed (IsOpenFault closed) r.result e r.ensures.1
-    (names_kept closed e (subst (λ fs. IsFirstFault closed.next fs e) (ap (map (λ run. run.items)) c.deref.ensures.value) c.in_err-runs.ensures.named))
+    (names_kept closed e (record { room = c.in_ok-test_numbers.ensures.room; kept = c.in_ok-test_numbers.ensures.kept }) (subst (λ fs. IsFirstFault closed.next fs e) (ap (map (λ run. run.items)) c.deref.ensures.value) c.in_err-runs.ensures.named))
 
 pub returns-in_err-test_order-clause-refused : goal.returns-in_err-test_order-clause-refused
 returns-in_err-test_order-clause-refused g c =
@@ -111,7 +112,10 @@ returns-in_err-test_order-clause-refused g c =
     let own = c.in_ok-runs.ensures.own in
     let all = own_run_lists n opened own in
     passed (IsOpenFault closed) r.result e r.ensures.1
-    (names_repeated closed e all.lists c.in_err-test_order.ensures.named
+    (names_repeated closed e all.lists
+    (record { room = c.in_ok-test_numbers.ensures.room; kept = c.in_ok-test_numbers.ensures.kept })
+    (subst (AllByRecursion (AreOwnFiles n)) (c.in_ok-runs.ensures.files ∙ ap (map (λ run. run.items)) c.deref.ensures.value) (own_run_files n opened own))
+    c.in_err-test_order.ensures.named
     (subst (λ (fs : List (List (List ℕ))). StoreLists fs all.lists) (c.in_ok-runs.ensures.files ∙ ap (map (λ run. run.items)) c.deref.ensures.value) (runs_stored n opened own))
     (c.in_err-test_order.ensures.taken all.lists
     (subst (λ (rs : List (List OpenTable)). RunsHoldLists rs all.lists) (ap (map arc_value) (sym c.deref-2.ensures.value)) all.hold)

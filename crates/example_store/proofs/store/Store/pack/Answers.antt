@@ -2,7 +2,7 @@ use Rattle.std.proofs.Common.{length, ◌≡◌, sym, ◌∙◌, ap, subst, List
 use Rattle.std.specs.Prelude.{map}
 use Rattle.std.specs.Arc.{arc_value}
 use Rattle.logpurple.specs.Words.{AreCompactable, IsLeastSize, OpenTable, RunsHoldLists}
-use Rattle.logpurple.specs.Words.{range_of}
+use Rattle.logpurple.specs.Words.{SameTables, range_of}
 use Rattle.logpurple.proofs.Laws.{runs_in_order}
 use Rattle.std.specs.List.{AllByRecursion}
 use Rattle.example_store.specs.Story.{Holding, IsOwnRun}
@@ -42,3 +42,13 @@ returns-clause-least g c =
     let packed = c.in_ok-packed.packed.items in
     subst (λ (rs : List (List OpenTable)). IsLeastSize range_of rs (length (map arc_value packed))) same
     (c.in_ok-packed.ensures.least (runs_in_order (map arc_value c.deref.result.now) able.lists hold))
+
+pub returns-clause-list : goal.returns-clause-list
+returns-clause-list g c lists hold =
+    let same : map arc_value c.deref.result.now ≡ c.args.self.now.runs = ap (map arc_value) c.deref.ensures.value ∙ ap (λ (h : Holding). h.runs) c.self.view_is in
+    c.in_ok-packed.ensures.list lists (subst (λ (rs : List (List OpenTable)). RunsHoldLists rs lists) (sym same) hold)
+
+pub returns-clause-tables : goal.returns-clause-tables
+returns-clause-tables g c =
+    let same : map arc_value c.deref.result.now ≡ c.args.self.now.runs = ap (map arc_value) c.deref.ensures.value ∙ ap (λ (h : Holding). h.runs) c.self.view_is in
+    subst (λ (rs : List (List OpenTable)). SameTables rs (map arc_value c.in_ok-packed.packed.items)) same c.in_ok-packed.ensures.tables

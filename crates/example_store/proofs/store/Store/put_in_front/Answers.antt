@@ -31,6 +31,6 @@ returns-clause-story g c ws told =
 pub returns-clause-flushed : goal.returns-clause-flushed
 returns-clause-flushed g c =
     let is = c.self.view_is in
-    flushed_one c.args.self.now _ (arc_value c.args.run)
+    flushed_one c.args.self.now _ (arc_value c.args.run) c.requires.list c.requires.cut
     (ap (map arc_value) c.in_ok-insert.ensures.items ∙ ap (λ (h : Holding). arc_value c.args.run ∷ h.runs) is)
     c.requires.ids

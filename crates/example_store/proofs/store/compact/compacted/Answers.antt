@@ -1,11 +1,11 @@
-use Rattle.std.proofs.Common.{sym, ◌∙◌, ap, subst, length}
-use Rattle.logpurple.specs.Words.{HaveAll, ids_behind, kept_in, run_label}
-use Rattle.std.specs.Prelude.{map, sum_by}
+use Rattle.std.proofs.Common.{◌≡◌, sym, ◌∙◌, ap, subst, length, rules, ℕ}
+use Rattle.logpurple.specs.Words.{AreCutOf, HaveAll, ids_behind, kept_in, run_label}
+use Rattle.std.specs.Prelude.{IfSome, map, sum_by}
 use Rattle.std.specs.Arc.{arc_value}
 use Rattle.std.specs.List.{AllByRecursion}
 use Rattle.example_store.specs.Story.{IsOwnRun}
 use Rattle.example_store.proofs.Compacting.{made_of}
-use Rattle.example_store.proofs.Counters.{few_tables}
+use Rattle.example_store.proofs.Counters.{cut_listed, few_tables}
 use Rattle.example_store.proofs.Own.{cut_own, listed_own, own_kept, own_run_lists, own_union}
 use Rattle.example_store.proofs.Refusing.{run_list}
 use Rattle.example_store.proofs.store.compact.compacted.Goals as goal
@@ -34,3 +34,14 @@ pub returns-clause-ids : goal.returns-clause-ids
 returns-clause-ids g c =
     let made = few_tables c.in_ok-run.run' ∙ sym (ap (sum_by length) c.in_ok-at_most_one.ensures.ok) in
     c.in_ok-run.ensures.ids ∙ ap (ids_behind c.args.ids c.args.target) made
+
+pub returns-clause-cut : goal.returns-clause-cut
+returns-clause-cut g c lists hold =
+    let moment : c.from.result ≡ 0 = search rules in
+    let left = kept_in c.args.rules lists in
+    let ids = c.args.ids in
+    let target = c.args.target in
+    let run = c.in_ok-run.run' in
+    subst (AllByRecursion (AreCutOf (run_label ids target 0) target left 0)) (sym c.in_ok-at_most_one.ensures.ok)
+    (cut_listed (run_label ids target 0) target left run
+    (subst (λ (n : ℕ). IfSome run (λ r. AreCutOf (run_label ids target n) target left 0 r)) moment (c.in_ok-run.ensures.cut lists hold)))

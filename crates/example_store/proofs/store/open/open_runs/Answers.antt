@@ -10,7 +10,7 @@ use Rattle.example_store.specs.declared.store.open.OpenError.TheVariants.{OutOfM
 use Rattle.example_store.proofs.Opening.{one_seen, seen_at}
 use Rattle.example_store.proofs.Own.{bytes_of}
 use Rattle.example_store.proofs.Refusing.{wanted}
-use Rattle.example_store.specs.Faulty.{IsFirstFault, IsOwnFile, NamesInRun}
+use Rattle.example_store.specs.Faulty.{AreOwnFiles, IsFirstFault, NamesInRun}
 use Rattle.example_store.proofs.Faults.{names_first_run, own_run_files, passed}
 use Rattle.example_store.proofs.store.open.open_runs.Goals as goal
 
@@ -53,5 +53,5 @@ returns-in_err-opened-clause-named g c =
     let e = c.in_err-opened.field-0.0 in
     passed (IsFirstFault n (map (λ run. run.items) c.args.files.now)) r.result e r.ensures.1
     (names_first_run n (λ run. map bytes_of (arc_value run)) (λ run. run.items) runs c.args.files.now c.loop-run.run-index c.run-item.result e m.made c.loop-run-test.true c.run-item.is
-    (subst (AllByRecursion (AllByRecursion (IsOwnFile n))) (map-map (map bytes_of) arc_value runs) (own_run_files n (map arc_value runs) m.own))
+    (subst (AllByRecursion (AreOwnFiles n)) (map-map (map bytes_of) arc_value runs) (own_run_files n (map arc_value runs) m.own))
     (subst (λ (k : ℕ). NamesInRun n c.run-item.result.items k e) (c.len.ensures ∙ c.loop-run.runs.ok.0) (subst (λ fs. NamesInRun n fs c.len.result e) c.as_slice.ensures.value c.in_err-opened.ensures.named)))
