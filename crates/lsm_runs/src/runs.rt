@@ -78,7 +78,7 @@ fn readers_of<A: Allocator + Clone>(
         (spans_within range.now.0 range.now.1 (map arc_value runs.now))) }
     ensures err { IfErr result (λ e. e ≡ OutOfMemory) }
 {
-    let mut readers = Vec::new(alloc);
+    let mut readers = Vec::with_capacity(alloc, runs.len())?;
     for run in runs {
         if let Some(reader) = reader_of(run, range)? {
             readers.push(reader)?;

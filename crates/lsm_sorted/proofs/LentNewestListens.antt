@@ -85,8 +85,13 @@ module _ {S : Type 0} (advances : S → Option R → S → Type 0) where
     memory_for x e is over step = record {
       answers = skipped.0 ++ Some (Ok x) ∷ [];
       gave = gave (Some (Ok x)) step;
-      told = inr ((ap (λ (f : Error). Some (Err f)) is,
-          no_faults_append skipped.0 (Some (Ok x) ∷ []) skipped.1 (refl, tt)), over);
+      told = inr (
+        (
+          ap (λ (f : Error). Some (Err f)) is,
+          no_faults_append skipped.0 (Some (Ok x) ∷ []) skipped.1 (refl, tt),
+        ),
+        over,
+      );
       idle = λ q none. let no : Some (Ok x) ≡ None = last_came (Some (Ok x)) skipped.0 none in
           absurd cc;
       rests = λ none. refl;

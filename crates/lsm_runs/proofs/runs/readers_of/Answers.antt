@@ -7,7 +7,7 @@ use Rattle.lsm_runs.proofs.runs.readers_of.Goals as goal
 use Rattle.lsm_runs.proofs.runs.readers_of.Goals.{in-Some+in_ok-push, in_default}
 
 pub loop-run-init : goal.loop-run-init
-loop-run-init g c = rw c.new-readers.ensures.items (record {
+loop-run-init g c = rw c.in_ok-readers.ensures.items (record {
   list = λ lists held. none_together (RunGives front_of front_tables) (RunGives back_of back_tables);
   spans = λ order. tt;
 })
