@@ -9,3 +9,6 @@ returns-clause-can g c =
 
 pub returns-clause-list : goal.returns-clause-list
 returns-clause-list g c able = c.kept_from.ensures.list able.lists (c.in_ok-scanners.ensures.list able)
+
+pub returns-clause-any : goal.returns-clause-any
+returns-clause-any g c ascend = c.kept_from.ensures.any _ c.in_ok-scanners.ensures.any ascend
