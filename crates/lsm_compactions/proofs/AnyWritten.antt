@@ -126,7 +126,7 @@ faults_of (Ok (Tables tables left)) w es writable h =
     ap (writes_fault w) (ok_same es h.list h.whole) ∙ h.none
 faults_of (Ok OutOfOrder) w es writable h = absurd (keeps_order w es writable h)
 faults_of (Ok Stopped) w es writable h = absurd h
-faults_of (Err e) w es writable h = λ fine. elim h fine [
+faults_of (Err e) w es writable h = λ fine. elim (h fine) [
   | inl met ↦ met_fault w es met.front met.last met.behind e met.whole met.fault
   | inr late ↦ ap (writes_fault w) (ok_same es late.list late.whole) ∙ late.fault
 ]

@@ -79,9 +79,9 @@ returns-then-not-goes_on-clause-told g c =
     let says = g.O.CompactionObserver.says in (
       all_written n,
       told_stopped g.I.Iterator.next_gives says c.args.writer c.args.items.now c.args.observer.now l.writer l.items l.items l.progress l.observer h c.requires.fresh c.in_ok-item.item n c.write_and_tell.new.observer o.ok
-      (subst (Since c.args.writer) (sym o.ok) (since_more c.args.writer l.writer c.requires.fresh c.in_ok-item.item h.since o.refused))
-      (subst CutSoFar (sym o.ok) (cut_so_more l.writer c.in_ok-item.item h.cut))
-      (subst (λ (b : Bool). TellsNext says l.writer n l.observer b c.write_and_tell.new.observer) c.if-not-goes_on.true (o.told h.counted h.cut.begun)),
+          (subst (Since c.args.writer) (sym o.ok) (since_more c.args.writer l.writer c.requires.fresh c.in_ok-item.item h.since o.refused))
+          (subst CutSoFar (sym o.ok) (cut_so_more l.writer c.in_ok-item.item h.cut))
+          (subst (λ (b : Bool). TellsNext says l.writer n l.observer b c.write_and_tell.new.observer) c.if-not-goes_on.true (o.told h.counted h.cut.begun)),
     )
 
 pub returns-then-not-goes_on-clause-written : goal.returns-then-not-goes_on-clause-written
