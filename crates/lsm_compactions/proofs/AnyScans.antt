@@ -34,7 +34,8 @@ use Rattle.lsm_compactions.specs.Packed.{has_table}
 -- ---- a source that ends at an error deals results up to that
 
 module _ {S : Type 0} (next : S → Option R → S → Type 0) where
-  none_left : (ends : List Direction) → map (λ (r : Option R). None) (deal [] ends) ≡ deal [] ends
+  none_left : (ends : List Direction)
+      → map {B = Option R} (λ (r : Option R). None) (deal [] ends) ≡ deal [] ends
   none_left [] = refl
   none_left (Front ∷ ends) = ap (λ (rs : List (Option R)). None ∷ rs) (none_left ends)
   none_left (Back ∷ ends) = ap (λ (rs : List (Option R)). None ∷ rs) (none_left ends)
@@ -167,7 +168,7 @@ module _ {X S : Type 0} (f : X → List OpenTable) (next : S → Option R → S 
       → AllZip (λ s rs. DealsResults next rs s) sources (scans_of (map f xs))
   scan_all sources i all past =
       subst (λ (runs : List (List OpenTable)). AllZip (λ s rs. DealsResults next rs s) sources
-      (scans_of runs)) (take_all i (map f xs) (omega (arith, length-map f xs, past))) all
+      (scans_of runs)) (take_all i (map f xs) (omega (arith, length-map xs f, past))) all
 
 -- a run has a table
 pub some_table : (ts : List OpenTable) → 0 < length ts → has_table ts ≡ true

@@ -82,8 +82,8 @@ pub begun_or_came : {A : Type 0} (w : TablesWriting) (rs : List R) (scans : List
     (r : Result (CompactionOutcome A) Error) (f : Error) → IsErrAnd r (λ y. y ≡ f)
     → (is_memory f ≡ false → BeginsWith scans f) → CameOf w rs r ⊎ IsErrAnd r (BeginsWith scans)
 begun_or_came w rs scans (Ok x) f is h = absurd is
-begun_or_came w rs scans (Err y) f is h = elim (cases_Bool (is_memory f)) [
-  | inl lacks ↦ inl (came_refused w rs (Err y) f is (λ fine.
+begun_or_came {A = A} w rs scans (Err y) f is h = elim (cases_Bool (is_memory f)) [
+  | inl lacks ↦ inl (came_refused {A = A} w rs (Err y) f is (λ fine.
       let both : true ≡ false = sym lacks ∙ fine in absurd cc))
   | inr fine ↦ inr (subst (BeginsWith scans) (sym is) (h fine))
 ]

@@ -1,5 +1,5 @@
 -- A stream that is written for as long as its entries come in order.
-use Rattle.std.proofs.Common.{◌≡◌, sym, ◌∙◌, subst, false, true, List, [], ◌∷◌, ◌++◌, ◌<◌}
+use Rattle.std.proofs.Common.{◌≡◌, refl, sym, ◌∙◌, subst, false, true, List, [], ◌∷◌, ◌++◌, ◌<◌}
 use Rattle.std.proofs.Common.{◌-◌, ◌^◌, Bool, ap, inl, inr, ltb-true}
 use Rattle.std.specs.Prelude.{IfOk, None, Option, Result, Some, Ok, Err, nat_lt}
 use Rattle.std.specs.Option.{option_or}

@@ -276,3 +276,10 @@ came_none gives gets rules f c es w says o = record {
   given = record { filter = f; left = ok_results es; given = (refl, refl, refl) };
   told = told_nothing says w o;
 }
+
+-- a refusal for want of memory is no fault
+pub memory_tells : {X : Type 0} (P : Error → Type 0) (r : Result X Error)
+    → IfErr r (λ e. e ≡ OutOfMemory) → IfErr r (λ e. is_memory e ≡ false → P e)
+memory_tells P (Ok x) memory = tt
+memory_tells P (Err e) memory = λ fine.
+    let both : true ≡ false = sym (ap is_memory memory) ∙ fine in absurd cc

@@ -40,8 +40,8 @@ loop-run-preserved g c =
       }
       | else-not-is_empty w ↦ record {
         held = λ able. absurd (grind (arith, own_tables arc_value runs able i run less is, c.is_empty.ensures, w.if-not-is_empty.false));
-        any = scan_passed arc_value RunScansNext runs i run less is c.loop-run.scanners.items c.loop-run.invariant.any
-            (no_table (arc_value run) (grind (arith, c.is_empty.ensures, w.if-not-is_empty.false)));
+        any = rw w.scanners-is (scan_passed arc_value RunScansNext runs i run less is c.loop-run.scanners.items c.loop-run.invariant.any
+            (no_table (arc_value run) (grind (arith, c.is_empty.ensures, w.if-not-is_empty.false))));
       }
     ]
 
