@@ -28,13 +28,6 @@ returns-in_err-item-clause-until g c =
     err_any c.from_residual.result
     (written_until g.I.Iterator.next_gives g.O.CompactionObserver.says c.args.writer c.args.items.now c.args.observer.now l.writer l.items l.items l.progress l.observer l.invariant.observing c.requires.fresh)
 
-pub returns-then-not-can_follow-clause-told : goal.returns-then-not-can_follow-clause-told
-returns-then-not-can_follow-clause-told g c =
-    let l = c.loop-item in (
-      all_written l.writer,
-      told_of_part g.I.Iterator.next_gives g.O.CompactionObserver.says c.args.writer c.args.items.now c.args.observer.now l.writer l.items l.items l.progress l.observer l.invariant.observing c.requires.fresh,
-    )
-
 pub returns-then-not-can_follow-clause-written : goal.returns-then-not-can_follow-clause-written
 returns-then-not-can_follow-clause-written g c =
     let next = g.I.Iterator.next_gives in
@@ -49,8 +42,13 @@ returns-then-not-can_follow-clause-written g c =
         subst (λ r. next l.items (Some r) c.next.new.self) c.in_ok-item.was c.in-Some.ensures.steps,
         sym (ap (λ (x : Entry). may_be_written (all_written l.writer) x.user_key x.seqno) c.item.view_is) ∙ sym c.can_follow.ensures ∙ c.if-not-can_follow.true,
       );
-      told = (returns-then-not-can_follow-clause-told g c).1;
+      told = told_of_part g.I.Iterator.next_gives g.O.CompactionObserver.says c.args.writer c.args.items.now c.args.observer.now l.writer l.items l.items l.progress l.observer l.invariant.observing c.requires.fresh;
     }
+
+pub returns-then-not-can_follow-clause-told : goal.returns-then-not-can_follow-clause-told
+returns-then-not-can_follow-clause-told g c =
+    let w = returns-then-not-can_follow-clause-written g c in
+    (w.list, w.told)
 
 pub returns-in_err-goes_on-clause-refused : goal.returns-in_err-goes_on-clause-refused
 returns-in_err-goes_on-clause-refused g c =
@@ -70,20 +68,6 @@ returns-in_err-goes_on-clause-until g c =
     (subst (λ q. WritesUntil next c.args.writer c.args.items.now says c.args.observer.now q) (sym c.in_err-goes_on.ensures.still)
     (written_until next says c.args.writer c.args.items.now c.args.observer.now l.writer l.items l.items l.progress l.observer l.invariant.observing c.requires.fresh))
 
-pub returns-then-not-goes_on-clause-told : goal.returns-then-not-goes_on-clause-told
-returns-then-not-goes_on-clause-told g c =
-    let l = c.loop-item in
-    let o = c.in_ok-goes_on.ensures in
-    let h = l.invariant.observing in
-    let n = c.write_and_tell.new.writer in
-    let says = g.O.CompactionObserver.says in (
-      all_written n,
-      told_stopped g.I.Iterator.next_gives says c.args.writer c.args.items.now c.args.observer.now l.writer l.items l.items l.progress l.observer h c.requires.fresh c.in_ok-item.item n c.write_and_tell.new.observer o.ok
-          (subst (Since c.args.writer) (sym o.ok) (since_more c.args.writer l.writer c.requires.fresh c.in_ok-item.item h.since o.refused))
-          (subst CutSoFar (sym o.ok) (cut_so_more l.writer c.in_ok-item.item h.cut))
-          (subst (λ (b : Bool). TellsNext says l.writer n l.observer b c.write_and_tell.new.observer) c.if-not-goes_on.true (o.told h.counted h.cut.begun)),
-    )
-
 pub returns-then-not-goes_on-clause-written : goal.returns-then-not-goes_on-clause-written
 returns-then-not-goes_on-clause-written g c =
     let next = g.I.Iterator.next_gives in
@@ -91,6 +75,7 @@ returns-then-not-goes_on-clause-written g c =
     let l = c.loop-item in
     let n = c.write_and_tell.new.writer in
     let o = c.in_ok-goes_on.ensures in
+    let h = l.invariant.observing in
     let may = sym (ap (λ (x : Entry). may_be_written (all_written l.writer) x.user_key x.seqno) c.item.view_is) ∙ sym c.can_follow.ensures ∙ c.if-not-can_follow.false in
     let step = subst (λ r. next l.items (Some r) c.next.new.self) c.in_ok-item.was c.in-Some.ensures.steps in
     record {
@@ -99,8 +84,16 @@ returns-then-not-goes_on-clause-written g c =
       led = c.next.new.self;
       gave = gave_more next says c.args.writer c.args.items.now c.args.observer.now l.writer l.items c.next.new.self l.progress l.observer l.invariant.observing c.in_ok-item.item n o.listed step;
       ends = refl;
-      told = (returns-then-not-goes_on-clause-told g c).1;
+      told = told_stopped g.I.Iterator.next_gives says c.args.writer c.args.items.now c.args.observer.now l.writer l.items l.items l.progress l.observer h c.requires.fresh c.in_ok-item.item n c.write_and_tell.new.observer o.ok
+          (subst (Since c.args.writer) (sym o.ok) (since_more c.args.writer l.writer c.requires.fresh c.in_ok-item.item h.since o.refused))
+          (subst CutSoFar (sym o.ok) (cut_so_more l.writer c.in_ok-item.item h.cut))
+          (subst (λ (b : Bool). TellsNext says l.writer n l.observer b c.write_and_tell.new.observer) c.if-not-goes_on.true (o.told h.counted h.cut.begun));
     }
+
+pub returns-then-not-goes_on-clause-told : goal.returns-then-not-goes_on-clause-told
+returns-then-not-goes_on-clause-told g c =
+    let w = returns-then-not-goes_on-clause-written g c in
+    (w.list, w.told)
 
 pub loop-item-preserved : goal.loop-item-preserved
 loop-item-preserved g c =
