@@ -3,7 +3,7 @@
 use Rattle.std.proofs.Common.{◌≡◌, refl, sym, ◌∙◌, ap, subst, ℕ, zero, suc, ◌+◌, ◌<◌, Bool, true}
 use Rattle.std.proofs.Common.{false, cond, List, [], ◌∷◌, ◌++◌, inl, inr, get_or, length, take}
 use Rattle.std.proofs.Common.{append-nil, arith, ◌≤◌}
-use Rattle.std.specs.Prelude.{Option, Some, None, Result, Ok, Err, IfErr, IfOk, IsErrAnd, filter}
+use Rattle.std.specs.Prelude.{Option, Some, None, Result, Ok, Err, IfOk, filter}
 use Rattle.std.specs.Prelude.{map}
 use Rattle.std.specs.List.{AllByRecursion, AllZip, Any, flat_map, slice_get}
 use Rattle.std.proofs.lemmas.Bool.{cases_Bool}
@@ -19,7 +19,7 @@ use Rattle.sst_entries.proofs.Refusals.{memory_is}
 use Rattle.lsm_block_indexes.specs.Dealt.{DealsEnding, ended_at_error}
 use Rattle.lsm_merge.specs.Ends.{R}
 use Rattle.lsm_merge.specs.InPlace.{merge_of}
-use Rattle.lsm_merge.specs.MergeLaws.{DealSorted, DealsInPlace}
+use Rattle.lsm_merge.specs.MergeLaws.{DealsInPlace}
 use Rattle.lsm_merge.specs.Union.{Ascends, entries_among}
 use Rattle.lsm_readers.specs.Scan.{up_to_error}
 use Rattle.lsm_readers.specs.Table.{OpenTable}

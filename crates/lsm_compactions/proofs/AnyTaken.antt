@@ -1,6 +1,6 @@
 -- Entries that are written one by one, for as long as each may follow: what was taken of any
 -- results that a source deals.
-use Rattle.std.proofs.Common.{◌≡◌, refl, sym, ◌∙◌, ap, subst, Bool, true, false, List, [], ◌∷◌}
+use Rattle.std.proofs.Common.{◌≡◌, refl, sym, ◌∙◌, ap, subst, true, false, List, [], ◌∷◌}
 use Rattle.std.proofs.Common.{◌++◌, ◌⊎◌, inl, inr, append_assoc, append-nil}
 use Rattle.std.specs.Prelude.{ℕ, Option, Some, None, Result, Ok, Err, IsErrAnd}
 use Rattle.std.specs.Option.{option_or}

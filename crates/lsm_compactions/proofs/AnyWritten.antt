@@ -3,7 +3,6 @@ use Rattle.std.proofs.Common.{◌≡◌, refl, sym, ◌∙◌, subst, false, tru
 use Rattle.std.proofs.Common.{◌-◌, ◌^◌, Bool, ap, inl, inr, ltb-true}
 use Rattle.std.specs.Prelude.{IfOk, None, Option, Result, Some, Ok, Err, nat_lt}
 use Rattle.std.specs.Option.{option_or}
-use Rattle.std.specs.List.{AllByRecursion}
 use Rattle.sst_entries.specs.Entry.{Entry}
 use Rattle.sst_entries.specs.Error.{Faults}
 use Rattle.sst_entries.specs.Stream.{ok_results}
