@@ -18,9 +18,11 @@ pub use Rattle.sst_entries.specs.declared.value_type.ValueType.{ValueType}
 pub use Rattle.sst_entries.specs.declared.value_type.ValueType.TheVariants.{Tombstone, Value}
 pub use Rattle.lsm_ranges.specs.Packing.{AreInOrder, IsLeastSize, SameTables}
 pub use Rattle.lsm_ranges.specs.Run.{IsInOrder}
-pub use Rattle.lsm_merge.specs.Union.{all_entries, newest, sort_entries}
+pub use Rattle.lsm_merge.specs.InPlace.{merge_of}
+pub use Rattle.lsm_merge.specs.Union.{Ascends, all_entries, entries_among, newest, sort_entries}
 pub use Rattle.lsm_sorted.specs.Below.{numbered_below}
 pub use Rattle.lsm_sorted.specs.Compaction.{kept, unfiltered, zeroed}
+pub use Rattle.lsm_sorted.specs.LentCompaction.{lent_outs}
 pub use Rattle.lsm_sorted.specs.Point.{seen, shown}
 pub use Rattle.lsm_sorted.specs.ReadLaw.{AllNewer, Distinct}
 pub use Rattle.lsm_sorted.specs.declared.compaction.Rules.{Rules}
@@ -42,17 +44,18 @@ pub use Rattle.lsm_runs.specs.RunLists.{DealWithin, DealsList, HoldLists, HoldsL
 pub use Rattle.lsm_runs.specs.RunLists.{DealTogether, single}
 pub use Rattle.lsm_runs.specs.RunParts.{range_of}
 pub use Rattle.lsm_runs.specs.SeveralRuns.{leading_of, runs_told, union_in}
-pub use Rattle.lsm_compactions.specs.AnyRuns.{AreTablesBy, CameInOrder, GoesThrough, HasMade}
-pub use Rattle.lsm_compactions.specs.AnyRuns.{WritesSome}
+pub use Rattle.lsm_compactions.specs.AnyRuns.{AreTablesBy, BeginsWith, CameInOrder, CameOf}
+pub use Rattle.lsm_compactions.specs.AnyRuns.{GoesThrough, HasMade, LeavesOrder, WritesSome}
+pub use Rattle.lsm_compactions.specs.AnyRuns.{scans_of}
 pub use Rattle.lsm_compactions.specs.Chain.{AreCutOf, FitsAsTables, IsRunOfList, chain_fault}
 pub use Rattle.lsm_compactions.specs.Chain.{ids_behind, run_label, tables_fault}
 pub use Rattle.lsm_compactions.specs.Compacted.{AreCompactable, AreMergeable, AreWrittenBy}
 pub use Rattle.lsm_compactions.specs.Compacted.{HaveEntries, kept_in, rules_by}
-pub use Rattle.lsm_compactions.specs.Filtered.{CameTo, RefusesBy}
+pub use Rattle.lsm_compactions.specs.Filtered.{CameTo, CameUntil, CameUpTo, RefusesBy}
 pub use Rattle.lsm_compactions.specs.ListRuns.{HasList, HaveAll}
 pub use Rattle.lsm_compactions.specs.OpenedBy.{AreOpenedBy, HasRunBy, IsOpenedBy, IsRunBy}
 pub use Rattle.lsm_compactions.specs.OpenedBy.{default_opening, run_with_fault}
-pub use Rattle.lsm_compactions.specs.Observed.{WasTold}
+pub use Rattle.lsm_compactions.specs.Observed.{WasTold, WasToldUntil}
 pub use Rattle.lsm_compactions.specs.Packed.{HoldUnion}
 pub use Rattle.lsm_compactions.specs.ReadsCompacted.{AreReplaced, all_shown, joined_in}
 pub use Rattle.lsm_compactions.specs.Written.{IsOpened, number_fault, opening_fault}

@@ -1,9 +1,11 @@
 -- What calls of a compaction stream gave of a list that can be written.
 use Rattle.std.proofs.Common.{◌≡◌, refl, sym, ◌∙◌, subst, List, [], ◌∷◌, ◌++◌, append_assoc, Bool}
+use Rattle.std.proofs.Common.{false}
 use Rattle.std.specs.Prelude.{Option, Some, Result, Ok}
 use Rattle.std.specs.Iterator.{Count, Yields}
+use Rattle.std.specs.List.{AllByRecursion}
 use Rattle.sst_entries.specs.Entry.{Entry}
-use Rattle.sst_entries.specs.Stream.{ok_results}
+use Rattle.sst_entries.specs.Stream.{ok_results, result_stops}
 use Rattle.sst_entries.specs.declared.error.Error.{Error}
 use Rattle.lsm_merge.specs.Ends.{R}
 use Rattle.lsm_sorted.specs.declared.compaction.Rules.{Rules}
@@ -23,6 +25,38 @@ module _ {S F C : Type 0} (front : S → Option R → S → Type 0) (can : S →
 
   abbrev Next : Stream → Option R → Stream → Type 0
   Next s r t = CompactsNext front can left gives gets s r t
+
+  -- of any list some results were given, and this is left
+  pub record Given (s t : Stream) (xs gave : List R) : Type 0 where
+    pub rest : List R
+    pub has : Compacts stops front t rest
+    pub rules : rules_of t ≡ rules_of s
+    pub calls : GivesEach gives gets (rules_of s) (filter_of s) (callback_of s) xs gave
+        (filter_of t) (callback_of t) rest
+
+  pub given : (gave : List R) (s t : Stream) (xs : List R) → Compacts stops front s xs
+      → AllByRecursion (λ (r : R). result_stops stops r ≡ false) gave → Yields Next s gave t
+      → Given s t xs gave
+  given [] s t xs has fine runs = subst (λ (v : Stream). Given s v xs []) runs
+      (record { rest = xs; has = has; rules = refl; calls = (refl, refl, refl) })
+  given (r ∷ gave) s t xs has fine runs =
+      let v = runs.0 in
+      let one : Next s (Some r) v = runs.1 in
+      let call = one.calls stops xs has fine.0 in
+      let more = given gave v t call.0 call.1 fine.1 runs.2 in
+      record {
+        rest = more.rest;
+        has = more.has;
+        rules = more.rules ∙ one.rules;
+        calls = (
+          filter_of v,
+          callback_of v,
+          call.0,
+          call.2,
+          subst (λ (o : Rules). GivesEach gives gets o (filter_of v) (callback_of v) call.0 gave
+              (filter_of t) (callback_of t) more.rest) one.rules more.calls,
+        );
+      }
 
   -- some were given, and this is left
   pub record Led (ws : List Entry) (s t : Stream) (es gave : List Entry) : Type 0 where

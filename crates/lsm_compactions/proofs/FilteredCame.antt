@@ -11,6 +11,7 @@ use Rattle.sst_entries.specs.Stream.{ok_results, result_stops}
 use Rattle.sst_entries.specs.declared.error.Error.{Error}
 use Rattle.sst_entries.specs.declared.error.Error.TheVariants.{OutOfMemory}
 use Rattle.sst_entries.proofs.Refusals.{memory_is}
+use Rattle.sst_entries.proofs.StreamLemmas.{map_append}
 use Rattle.lsm_merge.specs.Ends.{R}
 use Rattle.lsm_sorted.specs.declared.compaction.Rules.{Rules}
 use Rattle.lsm_sorted.specs.declared.compaction.stream.CompactionStream.{CompactionStream}
@@ -22,15 +23,18 @@ use Rattle.lsm_sorted.proofs.WholeLemmas.{whole}
 use Rattle.lsm_writers.specs.Tables.{TablesWriting}
 use Rattle.lsm_writers.specs.Writing.{IsWritable, may_be_written}
 use Rattle.lsm_writers.proofs.ListWriting.{listed_follows}
-use Rattle.lsm_compactions.specs.Filtered.{CameTo, IsWritten}
+use Rattle.lsm_compactions.specs.Filtered.{CameTo, CameUntil, CameUpTo, GivesEach, IsWritten}
+use Rattle.lsm_compactions.specs.Filtered.{KeepsSome, WritesUntil}
 use Rattle.lsm_compactions.specs.Filtered.{RefusesAmong, RefusesAt, RefusesBehind, RefusesBy}
 use Rattle.lsm_compactions.specs.Filtered.{RefusesKept, RefusesWritten}
 use Rattle.lsm_compactions.specs.declared.any_runs.CompactionOutcome.{CompactionOutcome}
 use Rattle.lsm_compactions.specs.declared.any_runs.CompactionOutcome.TheVariants.{OutOfOrder}
 use Rattle.lsm_compactions.specs.declared.any_runs.CompactionOutcome.TheVariants.{Stopped, Tables}
-use Rattle.lsm_compactions.proofs.AnyWritten.{may_not}
-use Rattle.lsm_compactions.proofs.FilteredCalls.{gives_more, led}
+use Rattle.lsm_compactions.proofs.AnyWritten.{may_not, none_writable}
+use Rattle.lsm_compactions.specs.declared.observer.CompactionProgress.{CompactionProgress}
+use Rattle.lsm_compactions.proofs.FilteredCalls.{Given, given, gives_more, led}
 use Rattle.lsm_compactions.proofs.FilteredOrder.{call_follows, ordered_of, writable_of}
+use Rattle.lsm_compactions.proofs.Observing.{told_nothing}
 
 pub none_stops : (stops : Error → Bool) (es : List Entry)
     → AllByRecursion (λ (r : R). result_stops stops r ≡ false) (ok_results es)
@@ -47,6 +51,45 @@ module _ {S F C : Type 0} (front : S → Option R → S → Type 0) (can : S →
   abbrev Next : Stream → Option R → Stream → Type 0
   Next = CompactsNext front can left gives gets
 
+  -- what it gave of the list
+  given_by : (gave : List Entry) (t : Stream) → Yields Next s (ok_results gave) t
+      → KeepsSome gives gets (rules_of s) (filter_of s) (callback_of s) es w (ok_results gave)
+      (callback_of t)
+  given_by gave t runs =
+      let l = given front can left gives gets is_memory (ok_results gave) s t (ok_results es) has
+      (none_stops is_memory gave) runs in
+      record { filter = filter_of t; left = l.rest; given = l.calls }
+
+  -- and a result more
+  one_more : (gave : List Entry) (t u : Stream) (r : R)
+      (l : Given front can left gives gets is_memory s t (ok_results es) (ok_results gave))
+      (ys : List R) → Calls gives gets (rules_of t) (filter_of t) (callback_of t) l.rest (Some r)
+      (filter_of u) (callback_of u) ys
+      → GivesEach gives gets (rules_of s) (filter_of s) (callback_of s) (ok_results es)
+      (ok_results gave ++ r ∷ []) (filter_of u) (callback_of u) ys
+  one_more gave t u r l ys call =
+      gives_more gives gets (rules_of s) (ok_results gave) (filter_of s) (filter_of t)
+      (filter_of u) (callback_of s) (callback_of t) (callback_of u) (ok_results es) l.rest ys r
+      l.calls
+      (subst (λ (o : Rules). Calls gives gets o (filter_of t) (callback_of t) l.rest (Some r)
+      (filter_of u) (callback_of u) ys) l.rules call)
+
+  given_next : (gave : List Entry) (t u : Stream) (x : Entry) → Yields Next s (ok_results gave) t
+      → Next t (Some (Ok x)) u
+      → KeepsSome gives gets (rules_of s) (filter_of s) (callback_of s) es w
+      (ok_results (gave ++ x ∷ [])) (callback_of u)
+  given_next gave t u x runs step =
+      let l = given front can left gives gets is_memory (ok_results gave) s t (ok_results es) has
+      (none_stops is_memory gave) runs in
+      let call = step.calls is_memory l.rest l.has refl in
+      record {
+        filter = filter_of u;
+        left = call.0;
+        given = subst (λ (rs : List R). GivesEach gives gets (rules_of s) (filter_of s)
+            (callback_of s) (ok_results es) rs (filter_of u) (callback_of u) call.0)
+            (sym (map_append gave (x ∷ []))) (one_more gave t u (Ok x) l call.0 call.2);
+      }
+
   -- an entry that it gives may follow those that it gave
   gives_on : IsWritable es → (gave : List Entry) (t u : Stream) (x : Entry)
       → Yields Next s (ok_results gave) t → Next t (Some (Ok x)) u
@@ -60,45 +103,76 @@ module _ {S F C : Type 0} (front : S → Option R → S → Type 0) (can : S →
       l.ordered in
       listed_follows gave x f.left (writable_of (gave ++ x ∷ f.left) f.ordered)
 
-  pub came_to : {A : Type 0} → IsWritable es → (outcome : CompactionOutcome A) (u : Stream)
-      → IsWritten Next w s outcome u
-      → CameTo gives gets (rules_of s) (filter_of s) (callback_of s) es w outcome (callback_of u)
-  came_to writable (Tables tables behind) u h = record {
-    kept = h.list;
-    filter = filter_of u;
-    compacted = whole front can left gives gets is_memory (ok_results h.list) s h.led u
-        (ok_results es) has (none_stops is_memory h.list) h.gave h.ended;
-    written = h.written;
-  }
-  came_to writable OutOfOrder u h =
-      may_not _ h.may (gives_on writable h.list h.led u h.entry h.gave h.then)
-  came_to writable Stopped u h =
-      let l = led front can left gives gets is_memory h.list [] s u es has
-      (ordered_of es writable) h.gave in
-      record {
-        kept = h.list;
-        filter = filter_of u;
-        left = ok_results l.rest;
-        given = l.calls;
-      }
+  module _ {O : Type 0} (says : O → CompactionProgress → Bool → O → Type 0) (o : O) where
+    pub came_to : {A : Type 0} → IsWritable es → (outcome : CompactionOutcome A) (u : Stream)
+        (q : O) → IsWritten Next w s says o outcome u q
+        → CameTo gives gets (rules_of s) (filter_of s) (callback_of s) es w outcome (callback_of u)
+    came_to writable (Tables tables behind) u q h = record {
+      kept = h.list;
+      filter = filter_of u;
+      compacted = whole front can left gives gets is_memory (ok_results h.list) s h.led u
+          (ok_results es) has (none_stops is_memory h.list) h.gave h.ends.0;
+      written = h.ends.1;
+    }
+    came_to writable OutOfOrder u q h =
+        may_not _ h.ends.2 (gives_on writable h.list h.led u h.ends.0 h.gave h.ends.1)
+    came_to writable Stopped u q h =
+        let l = given_by h.list u (subst (λ (v : Stream). Yields Next s (ok_results h.list) v)
+        h.ends h.gave) in
+        record { kept = h.list; filter = l.filter; left = l.left; given = l.given }
 
-  refuses_among : IsWritable es → (e : Error) → RefusesAmong Next w s e
+    -- whatever the list is
+    pub came_up : {A : Type 0} (outcome : CompactionOutcome A) (u : Stream) (q : O)
+        → IsWritten Next w s says o outcome u q
+        → CameUpTo gives gets (rules_of s) (filter_of s) (callback_of s) es w says o outcome
+        (callback_of u) q
+    came_up (Tables tables behind) u q h = record {
+      kept = h.list;
+      taken = h.taken;
+      came = (
+        filter_of u,
+        whole front can left gives gets is_memory (ok_results h.list) s h.led u (ok_results es)
+            has (none_stops is_memory h.list) h.gave h.ends.0,
+        h.ends.1,
+      );
+      told = h.told;
+    }
+    came_up OutOfOrder u q h = record {
+      kept = h.list;
+      taken = h.taken;
+      came = (h.ends.0, given_next h.list h.led u h.ends.0 h.gave h.ends.1, h.ends.2);
+      told = h.told;
+    }
+    came_up Stopped u q h = record {
+      kept = h.list;
+      taken = h.taken;
+      came = given_by h.list u (subst (λ (v : Stream). Yields Next s (ok_results h.list) v) h.ends
+          h.gave);
+      told = h.told;
+    }
+
+    pub came_until : (q : O) → WritesUntil Next w s says o q
+        → CameUntil gives gets (rules_of s) (filter_of s) (callback_of s) es w says o q
+    came_until q h = record {
+      kept = h.list;
+      taken = h.taken;
+      callback = callback_of h.led;
+      given = given_by h.list h.led h.gave;
+      told = h.told;
+    }
+
+  refuses_among : (e : Error) → RefusesAmong Next w s e
       → RefusesAt gives gets (rules_of s) (filter_of s) (callback_of s) es w e
-  refuses_among writable e h =
-      let l = led front can left gives gets is_memory h.list [] s h.led es has
-      (ordered_of es writable) h.gave in
-      let call = h.one.calls is_memory (ok_results l.rest) l.has h.fine in
+  refuses_among e h =
+      let l = given front can left gives gets is_memory (ok_results h.list) s h.led
+      (ok_results es) has (none_stops is_memory h.list) h.gave in
+      let call = h.one.calls is_memory l.rest l.has h.fine in
       record {
         gave = ok_results h.list ++ h.last ∷ [];
         filter = filter_of h.then;
         callback = callback_of h.then;
         left = call.0;
-        given = gives_more gives gets (rules_of s) (ok_results h.list) (filter_of s)
-            (filter_of h.led) (filter_of h.then) (callback_of s) (callback_of h.led)
-            (callback_of h.then) (ok_results es) (ok_results l.rest) call.0 h.last l.calls
-            (subst (λ (o : Rules). Calls gives gets o (filter_of h.led) (callback_of h.led)
-            (ok_results l.rest) (Some h.last) (filter_of h.then) (callback_of h.then) call.0)
-            l.rules call.2);
+        given = one_more h.list h.led h.then h.last l call.0 call.2;
         fault = h.fault;
       }
 
@@ -113,10 +187,10 @@ module _ {S F C : Type 0} (front : S → Option R → S → Type 0) (can : S →
     fault = h.fault;
   }
 
-  pub refuses_by : IsWritable es → (e : Error) → RefusesWritten Next w s e
+  pub refuses_by : (e : Error) → RefusesWritten Next w s e
       → RefusesBy gives gets (rules_of s) (filter_of s) (callback_of s) es w e
-  refuses_by writable e h = elim h [
-    | inl among ↦ inl (refuses_among writable e among)
+  refuses_by e h = elim h [
+    | inl among ↦ inl (refuses_among e among)
     | inr behind ↦ inr (refuses_behind e behind)
   ]
 
@@ -125,28 +199,45 @@ module _ {S F C : Type 0} (front : S → Option R → S → Type 0) (can : S →
     (gives : F → Entry → Result Verdict Error → F → Type 0) (gets : C → Entry → C → Type 0)
     (s u : CompactionStream S F C R) (rules : Rules) (f : F) (c : C)
     (rules_are : rules_of s ≡ rules) (filter_is : filter_of s ≡ f) (callback_is : callback_of s ≡ c)
-    (es : List Entry) (has : Compacts is_memory front s (ok_results es)) (w : TablesWriting)
-    (writable : IsWritable es) where
-  abbrev Given : CompactionStream S F C R → Option R → CompactionStream S F C R → Type 0
-  Given = CompactsNext front can left gives gets
+    (es : List Entry) (has : Compacts is_memory front s (ok_results es)) (w : TablesWriting) where
+  abbrev Goes : CompactionStream S F C R → Option R → CompactionStream S F C R → Type 0
+  Goes = CompactsNext front can left gives gets
 
-  pub came_by : {A : Type 0} (outcome : CompactionOutcome A) (d : C) → d ≡ callback_of u
-      → IsWritten Given w s outcome u → CameTo gives gets rules f c es w outcome d
-  came_by outcome d is h =
-      subst (λ (x : C). CameTo gives gets rules f c es w outcome x) (sym is)
-      (subst (λ (x : Rules). CameTo gives gets x f c es w outcome (callback_of u)) rules_are
-      (subst (λ (x : F). CameTo gives gets (rules_of s) x c es w outcome (callback_of u)) filter_is
-      (subst (λ (x : C). CameTo gives gets (rules_of s) (filter_of s) x es w outcome
-      (callback_of u)) callback_is
-      (came_to front can left gives gets s es has w writable outcome u h))))
+  -- so it is as is told
+  as_set : (P : Rules → F → C → Type 0) → P (rules_of s) (filter_of s) (callback_of s)
+      → P rules f c
+  as_set P h = subst (λ (x : Rules). P x f c) rules_are
+      (subst (λ (x : F). P (rules_of s) x c) filter_is
+      (subst (λ (x : C). P (rules_of s) (filter_of s) x) callback_is h))
 
-  pub refused_by : (e : Error) → RefusesWritten Given w s e
+  module _ {O : Type 0} (says : O → CompactionProgress → Bool → O → Type 0) (o q : O) where
+    pub came_by : IsWritable es → {A : Type 0} (outcome : CompactionOutcome A) (d : C)
+        → d ≡ callback_of u → IsWritten Goes w s says o outcome u q
+        → CameTo gives gets rules f c es w outcome d
+    came_by writable outcome d is h =
+        subst (λ (x : C). CameTo gives gets rules f c es w outcome x) (sym is)
+        (as_set (λ rs g b. CameTo gives gets rs g b es w outcome (callback_of u))
+        (came_to front can left gives gets s es has w says o writable outcome u q h))
+
+    pub came_up_by : {A : Type 0} (outcome : CompactionOutcome A) (d : C) → d ≡ callback_of u
+        → IsWritten Goes w s says o outcome u q
+        → CameUpTo gives gets rules f c es w says o outcome d q
+    came_up_by outcome d is h =
+        subst (λ (x : C). CameUpTo gives gets rules f c es w says o outcome x q) (sym is)
+        (as_set (λ rs g b. CameUpTo gives gets rs g b es w says o outcome (callback_of u) q)
+        (came_up front can left gives gets s es has w says o outcome u q h))
+
+    pub came_until_by : WritesUntil Goes w s says o q
+        → CameUntil gives gets rules f c es w says o q
+    came_until_by h =
+        as_set (λ rs g b. CameUntil gives gets rs g b es w says o q)
+        (came_until front can left gives gets s es has w says o q h)
+
+  pub refused_by : (e : Error) → RefusesWritten Goes w s e
       → RefusesBy gives gets rules f c es w e
   refused_by e h =
-      subst (λ (x : Rules). RefusesBy gives gets x f c es w e) rules_are
-      (subst (λ (x : F). RefusesBy gives gets (rules_of s) x c es w e) filter_is
-      (subst (λ (x : C). RefusesBy gives gets (rules_of s) (filter_of s) x es w e) callback_is
-      (refuses_by front can left gives gets s es has w writable e h)))
+      as_set (λ rs g b. RefusesBy gives gets rs g b es w e)
+      (refuses_by front can left gives gets s es has w e h)
 
 -- ---- refusals that are passed on
 
@@ -167,3 +258,28 @@ memory_unless e not = elim (cases_Bool (is_memory e)) [
   | inl memory ↦ memory_is e memory
   | inr fine ↦ absurd (not fine)
 ]
+
+-- whatever the refusal is
+pub err_any : {X P : Type 0} (r : Result X Error) → P → IfErr r (λ _. P)
+err_any (Ok x) h = tt
+err_any (Err e) h = h
+
+-- a compaction that was refused before anything was kept
+pub came_none : {F C O : Type 0} (gives : F → Entry → Result Verdict Error → F → Type 0)
+    (gets : C → Entry → C → Type 0) (rules : Rules) (f : F) (c : C) (es : List Entry)
+    (w : TablesWriting) (says : O → CompactionProgress → Bool → O → Type 0) (o : O)
+    → CameUntil gives gets rules f c es w says o o
+came_none gives gets rules f c es w says o = record {
+  kept = [];
+  taken = record { writable = none_writable; none = refl };
+  callback = c;
+  given = record { filter = f; left = ok_results es; given = (refl, refl, refl) };
+  told = told_nothing says w o;
+}
+
+-- a refusal for want of memory is no fault
+pub memory_tells : {X : Type 0} (P : Error → Type 0) (r : Result X Error)
+    → IfErr r (λ e. e ≡ OutOfMemory) → IfErr r (λ e. is_memory e ≡ false → P e)
+memory_tells P (Ok x) memory = tt
+memory_tells P (Err e) memory = λ fine.
+    let both : true ≡ false = sym (ap is_memory memory) ∙ fine in absurd cc

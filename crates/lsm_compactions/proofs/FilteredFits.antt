@@ -22,10 +22,11 @@ use Rattle.lsm_sorted.specs.CompactionState.{rules_of}
 use Rattle.lsm_sorted.proofs.WholeLemmas.{whole}
 use Rattle.lsm_writers.specs.Tables.{IsFreshRun, TakesLaw, TablesWriting, took, took_fault}
 use Rattle.lsm_writers.specs.Writing.{IsWritable}
+use Rattle.lsm_compactions.specs.AnyRuns.{results_fault}
 use Rattle.lsm_compactions.specs.Chain.{writes_fault}
 use Rattle.lsm_compactions.specs.Compacted.{RunsOn}
 use Rattle.lsm_compactions.specs.Filtered.{FitsKept, GivesEach, RefusesAmong, RefusesBehind}
-use Rattle.lsm_compactions.specs.Filtered.{RefusesWritten, RefusesForMemory, results_fault}
+use Rattle.lsm_compactions.specs.Filtered.{RefusesWritten, RefusesForMemory}
 use Rattle.lsm_compactions.proofs.FilteredCalls.{gives_more, led}
 use Rattle.lsm_compactions.proofs.FilteredCame.{none_stops}
 use Rattle.lsm_compactions.proofs.FilteredOrder.{Ordered, call_follows, ordered_of, skipped}

@@ -10,6 +10,8 @@ pub mod PackedAble
 pub mod WrittenBy
 pub mod WritesOn
 pub mod AnyWritten
+pub mod AnyTaken
+pub mod AnyScans
 pub mod Observing
 pub mod FilteredOrder
 pub mod FilteredCalls

@@ -23,22 +23,21 @@ use Rattle.lsm_writers.specs.Tables.{AreCuts, AreFinished, AreTables, IsFreshRun
 use Rattle.lsm_writers.specs.Tables.{all_written, gained_all, next_writing}
 use Rattle.lsm_writers.specs.Tables.{drawn, first_label, is_due, rotation_fault, run_fault}
 use Rattle.lsm_writers.specs.Tables.{standing, tables_of, took, took_fault, turn_fault}
-use Rattle.lsm_writers.specs.Writing.{Writing, fresh_writing, gained, may_be_written, write_fault}
-use Rattle.lsm_writers.specs.Writing.{written}
+use Rattle.lsm_writers.specs.Writing.{Writing, fresh_writing, gained, may_be_written}
+use Rattle.lsm_writers.specs.Writing.{write_fault, written}
 use Rattle.lsm_writers.proofs.Cutting.{joined_more, rest_is}
 use Rattle.lsm_writers.proofs.AllTables.{joined_all}
 use Rattle.lsm_writers.proofs.CutTables.{cuts_first, cuts_longer, cuts_next, gained_snoc}
 use Rattle.lsm_writers.proofs.CutTables.{long_enough, no_end, some_length, still_short}
 use Rattle.lsm_writers.proofs.ListWriting.{same_label, written_gained}
-use Rattle.lsm_compactions.specs.Chain.{writes_fault}
+use Rattle.lsm_compactions.specs.AnyRuns.{results_fault}
 use Rattle.lsm_compactions.specs.Compacted.{RunsOn}
-use Rattle.lsm_compactions.specs.Filtered.{RefusesWritten}
-use Rattle.lsm_compactions.specs.Filtered.{results_fault}
-use Rattle.lsm_compactions.specs.Observed.{GoesOnAt, IsCounted, StopsAtLast, TellsNext, ToldOfAll}
-use Rattle.lsm_compactions.specs.Observed.{ToldOfPart, progress_at, told_behind, told_count}
-use Rattle.lsm_compactions.specs.Observed.{told_of}
+use Rattle.lsm_compactions.specs.Filtered.{RefusesWritten, WritesUntil}
+use Rattle.lsm_compactions.specs.Observed.{GoesOnAt, IsCounted, StoppedAt, StopsAtLast, TellsNext}
+use Rattle.lsm_compactions.specs.Observed.{ToldOfAll, ToldOfPart, progress_at, told_behind}
+use Rattle.lsm_compactions.specs.Observed.{told_count, told_of}
 use Rattle.lsm_compactions.specs.declared.observer.CompactionProgress.{CompactionProgress}
-use Rattle.lsm_compactions.proofs.AnyWritten.{AreNumbered, numbered_more}
+use Rattle.lsm_compactions.proofs.AnyTaken.{Taking, are_taken, ends_with, taking_more, taking_none}
 use Rattle.lsm_compactions.proofs.Opening.{or_first}
 use Rattle.lsm_compactions.proofs.RunWriting.{first_is, left_none}
 use Rattle.lsm_compactions.proofs.WrittenBy.{Since, nothing_written, nothing_yet, numbered}
@@ -393,6 +392,30 @@ module _ (m : TablesWriting) (e : Entry) (h : CutSoFar m) where
           ≡ record m { present = gained m.present e }
       stays due = rw due refl
 
+-- where a table was finished for an entry, this begins the next one
+module _ (m : TablesWriting) (e : Entry) where
+  begins_next : (t : List Entry) → (took m e).tables ≡ m.tables ++ t ∷ []
+      → written (took m e).present ≡ e ∷ []
+  begins_next t more = elim (cases_Bool (is_due m.target m.present e)) [
+    | inl due ↦ rw due (written_gained (next_writing m.ids m.present) e)
+    | inr not ↦ absurd (no_longer t (sym (stays not) ∙ more))
+  ]
+    where
+      stays : is_due m.target m.present e ≡ false → (took m e).tables ≡ m.tables
+      stays due = rw due refl
+
+      no_longer : (x : List Entry) → m.tables ≡ m.tables ++ x ∷ [] → ⊥
+      no_longer x same = omega (
+        arith,
+        ap (λ (ts : List (List Entry)). length ts) same,
+        length-append m.tables (x ∷ []),
+      )
+
+  pub begins_alone : (t : List Entry) → (took m e).tables ≡ m.tables ++ t ∷ []
+      → tables_of (took m e) ≡ (took m e).tables ++ (e ∷ []) ∷ []
+  begins_alone t more =
+      ap (λ (es : List Entry). (took m e).tables ++ rest_chunk es) (begins_next t more)
+
 -- so what was written is cut into tables
 pub are_cut : (m : TablesWriting) → m.failed ≡ false → CutSoFar m
     → AreTables m.present.options.data_block_size m.target (all_written m) (tables_of m)
@@ -410,14 +433,11 @@ module _ {S O : Type 0} (next : S → Option R → S → Type 0)
   pub record Observing (m : TablesWriting) (t : S) (progress : CompactionProgress) (q : O)
       : Type 0 where
     pub since : Since w m
-    pub numbers : AreNumbered (all_written m)
+    pub taking : Taking w m
     pub cut : CutSoFar m
     pub counted : IsCounted progress m
     pub told : GoesOnAt says o (told_of m.tables) q
     pub gave : Yields next s (ok_results (all_written m)) t
-    pub among : (rs : List R) → results_fault w (ok_results (all_written m) ++ rs)
-        ≡ results_fault m rs
-    pub behind : (es : List Entry) → writes_fault w (all_written m ++ es) ≡ writes_fault m es
 
   yields_more : (xs : List R) (a b c : S) (x : R) → Yields next a xs b → next b (Some x) c
       → Yields next a (xs ++ x ∷ []) c
@@ -434,27 +454,6 @@ module _ {S O : Type 0} (next : S → Option R → S → Type 0)
         ∙ map_append (all_written m) (e ∷ [])))
         (yields_more (ok_results (all_written m)) s t u (Ok e) h.gave step)
 
-    pub among_more : (n : TablesWriting) → n ≡ took m e → took_fault m e ≡ None
-        → all_written n ≡ all_written m ++ e ∷ [] → (rs : List R)
-        → results_fault w (ok_results (all_written n) ++ rs) ≡ results_fault n rs
-    among_more n is fine listed rs =
-        ap (λ (xs : List R). results_fault w (xs ++ rs)) (ap ok_results listed
-        ∙ map_append (all_written m) (e ∷ []))
-        ∙ ap (results_fault w) (append_assoc (ok_results (all_written m)) (Ok e ∷ []) rs)
-        ∙ h.among (Ok e ∷ rs)
-        ∙ ap (λ (x : Option Error). option_or x (results_fault (took m e) rs)) fine
-        ∙ ap (λ (x : TablesWriting). results_fault x rs) (sym is)
-
-    pub behind_more : (n : TablesWriting) → n ≡ took m e → took_fault m e ≡ None
-        → all_written n ≡ all_written m ++ e ∷ [] → (es : List Entry)
-        → writes_fault w (all_written n ++ es) ≡ writes_fault n es
-    behind_more n is fine listed es =
-        ap (λ (xs : List Entry). writes_fault w (xs ++ es)) listed
-        ∙ ap (writes_fault w) (append_assoc (all_written m) (e ∷ []) es)
-        ∙ h.behind (e ∷ es)
-        ∙ ap (λ (x : Option Error). option_or x (writes_fault (took m e) es)) fine
-        ∙ ap (λ (x : TablesWriting). writes_fault x es) (sym is)
-
     -- the writer refuses it
     pub refused_entry : next t (Some (Ok e)) u → (f : Error) → took_fault m e ≡ Some f
         → RefusesWritten next w s f
@@ -466,7 +465,8 @@ module _ {S O : Type 0} (next : S → Option R → S → Type 0)
       fine = refl;
       then = u;
       one = step;
-      fault = h.among (Ok e ∷ []) ∙ or_first (took_fault m e) (results_fault (took m e) []) f is;
+      fault = h.taking.among (Ok e ∷ [])
+          ∙ or_first (took_fault m e) (results_fault (took m e) []) f is;
     })
 
   module _ (m : TablesWriting) (t u : S) (progress : CompactionProgress) (q : O)
@@ -482,7 +482,7 @@ module _ {S O : Type 0} (next : S → Option R → S → Type 0)
       fine = fine;
       then = u;
       one = step;
-      fault = h.among (Err f ∷ []);
+      fault = h.taking.among (Err f ∷ []);
     })
 
     -- the writer refuses to finish
@@ -494,7 +494,7 @@ module _ {S O : Type 0} (next : S → Option R → S → Type 0)
       gave = h.gave;
       then = u;
       ended = step;
-      fault = ap (writes_fault w) (sym (append-nil (all_written m))) ∙ h.behind [] ∙ is;
+      fault = ends_with w m h.taking ∙ is;
     })
 
     module _ (fresh : IsFreshRun w) where
@@ -506,10 +506,9 @@ module _ {S O : Type 0} (next : S → Option R → S → Type 0)
           (subst (λ (k : ℕ). AreTables n.present.options.data_block_size k (all_written n)
           (tables_of n)) since.target_is (are_cut n since.works cut))
 
-      -- an entry is out of order
-      pub told_of_part : ToldOfPart says w (GoesOnAt says) o q
+      -- the observer was told of all tables but the last
+      pub told_of_part : ToldOfPart says w (all_written m) o q
       told_of_part = record {
-        list = all_written m;
         tables = tables_of m;
         cut = cut_by m h.since h.cut;
         told = subst (λ (ts : List (List Entry)). GoesOnAt says o (told_of ts) q)
@@ -517,15 +516,32 @@ module _ {S O : Type 0} (next : S → Option R → S → Type 0)
       }
 
       -- the observer stops it
-      pub told_stopped : (n : TablesWriting) (r : O) → Since w n → CutSoFar n
-          → TellsNext says m n q false r → ToldOfPart says w (StopsAtLast says) o r
-      told_stopped n r since cut told = record {
-        list = all_written n;
-        tables = tables_of n;
-        cut = cut_by n since cut;
-        told = subst (λ (ts : List (List Entry)). StopsAtLast says o (told_of ts) r)
-            (sym (all_but_present n cut.begun))
-            (told_stop says m n o q r h.told told);
+      pub told_stopped : (e : Entry) (n : TablesWriting) (r : O) → n ≡ took m e → Since w n
+          → CutSoFar n → TellsNext says m n q false r → StoppedAt says w (all_written n) o r
+      told_stopped e n r is since cut told = record {
+        tables = n.tables;
+        next = e;
+        cut = subst (λ (ts : List (List Entry)). AreTables w.present.options.data_block_size
+            w.target (all_written n) ts) (stopped_alone e n r is told) (cut_by n since cut);
+        told = told_stop says m n o q r h.told told;
+      }
+        where
+          stopped_alone : (x : Entry) (k : TablesWriting) (p : O) → k ≡ took m x
+              → TellsNext says m k q false p → tables_of k ≡ k.tables ++ (x ∷ []) ∷ []
+          stopped_alone x k p same (inl none) = let no : false ≡ true = none.1 in absurd cc
+          stopped_alone x k p same (inr more) =
+              subst (λ (v : TablesWriting). tables_of v ≡ v.tables ++ (x ∷ []) ∷ []) (sym same)
+              (begins_alone m x more.0
+              (sym (ap (λ (v : TablesWriting). v.tables) same) ∙ more.1))
+
+      -- it was refused
+      pub written_until : WritesUntil next w s says o q
+      written_until = record {
+        list = all_written m;
+        taken = are_taken w m h.taking;
+        led = t;
+        gave = h.gave;
+        told = told_of_part;
       }
 
       -- the tables are finished
@@ -549,15 +565,13 @@ observing_none next says w s o fresh =
     let none = nothing_yet w fresh in
     record {
       since = since_now w fresh;
-      numbers = subst AreNumbered (sym none) tt;
+      taking = taking_none w none;
       cut = cut_first w fresh;
       counted = same_counts 0 0 (told_count (length w.tables)) (told_count (length (all_written w)))
           (sym (ap (λ (ts : List (List Entry)). told_count (length ts)) fresh.0))
           (sym (ap (λ (es : List Entry). told_count (length es)) none));
       told = subst (λ (ts : List (List Entry)). GoesOnAt says o (told_of ts) o) (sym fresh.0) refl;
       gave = subst (λ (es : List Entry). Yields next s (ok_results es) s) (sym none) refl;
-      among = λ rs. ap (λ (es : List Entry). results_fault w (ok_results es ++ rs)) none;
-      behind = λ es. ap (λ (xs : List Entry). writes_fault w (xs ++ es)) none;
     }
 
 -- an entry more, and the observer goes on
@@ -571,11 +585,18 @@ pub observing_more : {S O : Type 0} (next : S → Option R → S → Type 0)
 observing_more next says w s o m n t u progress more q r e fresh h step is fine listed may counted
     told = record {
       since = subst (Since w) (sym is) (since_more w m fresh e h.since fine);
-      numbers = numbered_more (all_written m) (all_written n) e h.numbers may listed;
+      taking = taking_more w m n e h.taking is fine listed may;
       cut = subst CutSoFar (sym is) (cut_so_more m e h.cut);
       counted = counted;
       told = told_on says m n o q r h.told told;
       gave = gave_more next says w s o m t u progress q h e n listed step;
-      among = among_more next says w s o m t u progress q h e n is fine listed;
-      behind = behind_more next says w s o m t u progress q h e n is fine listed;
     }
+
+-- before anything is written an observer is told nothing
+pub told_nothing : {O : Type 0} (says : O → CompactionProgress → Bool → O → Type 0)
+    (w : TablesWriting) (o : O) → ToldOfPart says w [] o o
+told_nothing says w o = record {
+  tables = [];
+  cut = record { whole = refl; each = tt };
+  told = refl;
+}

@@ -169,7 +169,8 @@ module _ {S T : Type 0} (front back : S → Option R → S → Type 0)
 pub kept_lent : {S T : Type 0} (front : S → Option R → S → Type 0)
     (next : T → Option R → T → Type 0) (source : S) (rules : Rules) (es : List Entry)
     (r : Result T Error) → IfOk r (λ t. DealsCompactedEntries front source next t rules)
-    → DealsList front nowhere es source → IfOk r (DealsList next nowhere (kept rules (unfiltered es)))
+    → DealsList front nowhere es source
+    → IfOk r (DealsList next nowhere (kept rules (unfiltered es)))
 kept_lent front next source rules es (Ok t) law deals =
     λ stops memory. law.deals stops es memory (deals stops memory)
 kept_lent front next source rules es (Err e) law deals = tt

@@ -1,14 +1,46 @@
 -- What a compaction of any tables came to.
-use Rattle.std.specs.Prelude.{ℕ, List, Option}
+use Rattle.std.specs.Prelude.{◌≡◌, ◌⊎◌, ℕ, Bool, true, false, List, [], ◌∷◌, ◌++◌, filter, map}
+use Rattle.std.specs.Prelude.{Option, None, Some, Result, Ok, Err}
+use Rattle.std.specs.List.{Any}
+use Rattle.std.specs.Option.{option_or}
 use Rattle.sst_entries.specs.Entry.{Entry}
+use Rattle.sst_entries.specs.Error.{is_memory}
+use Rattle.sst_entries.specs.Stream.{Deals, answer_stops, first, nowhere, ok_results}
+use Rattle.sst_entries.specs.declared.error.Error.{Error}
+use Rattle.sst_entries.specs.declared.error.Error.TheVariants.{OutOfMemory}
+use Rattle.lsm_merge.specs.Ends.{R}
 use Rattle.lsm_writers.specs.declared.writer.FinishedTable.{FinishedTable}
-use Rattle.lsm_writers.specs.Tables.{TablesWriting}
-use Rattle.lsm_writers.specs.Writing.{IsWritable}
+use Rattle.lsm_writers.specs.Tables.{TablesWriting, took, took_fault}
+use Rattle.lsm_writers.specs.Writing.{IsWritable, may_be_written}
+use Rattle.lsm_readers.specs.Table.{OpenTable}
+use Rattle.lsm_runs.specs.RunScan.{tables_scan}
+use Rattle.lsm_compactions.specs.Chain.{writes_fault}
 use Rattle.lsm_compactions.specs.Compacted.{AreWrittenBy}
+use Rattle.lsm_compactions.specs.Packed.{has_table}
 use Rattle.lsm_compactions.specs.declared.any_runs.CompactionOutcome.{CompactionOutcome}
 use Rattle.lsm_compactions.specs.declared.any_runs.CompactionOutcome.TheVariants.{OutOfOrder}
 use Rattle.lsm_compactions.specs.declared.any_runs.CompactionOutcome.TheVariants.{Stopped}
 use Rattle.lsm_compactions.specs.declared.any_runs.CompactionOutcome.TheVariants.{Tables}
+
+-- the first fault of results whose entries are written one after another
+abbrev pub results_fault : TablesWriting → List R → Option Error
+results_fault m [] = None
+results_fault m (Ok e ∷ rs) = option_or (took_fault m e) (results_fault (took m e) rs)
+results_fault m (Err f ∷ rs) = Some f
+
+-- entries that a writer takes one after another: each may follow, and none is refused
+pub record AreTaken (w : TablesWriting) (es : List Entry) : Type 0 where
+  pub writable : IsWritable es
+  pub none : results_fault w (ok_results es) ≡ None
+
+-- of some results, behind entries that a writer takes stands one that may not follow them
+pub record LeavesOrder (w : TablesWriting) (rs : List R) : Type 0 where
+  pub front : List Entry
+  pub entry : Entry
+  pub behind : List R
+  pub whole : rs ≡ ok_results front ++ Ok entry ∷ behind
+  pub taken : AreTaken w front
+  pub follows : may_be_written front entry.user_key entry.seqno ≡ false
 
 -- it came to the tables of this list, as a writer makes them that had written nothing
 abbrev pub AreTablesBy : {A : Type 0} → TablesWriting → List Entry → CompactionOutcome A → Type 0
@@ -16,10 +48,10 @@ AreTablesBy w es (Tables tables left) = AreWrittenBy w es tables.items left
 AreTablesBy w es OutOfOrder = ⊥
 AreTablesBy w es Stopped = ⊥
 
--- of this list it came to its tables, or found that the list cannot be written
+-- of this list it came to its tables, or as far as the first entry that may not follow
 abbrev pub CameInOrder : {A : Type 0} → TablesWriting → List Entry → CompactionOutcome A → Type 0
 CameInOrder w es (Tables tables left) = AreWrittenBy w es tables.items left
-CameInOrder w es OutOfOrder = IsWritable es → ⊥
+CameInOrder w es OutOfOrder = LeavesOrder w (ok_results es)
 CameInOrder w es Stopped = ⊥
 
 -- finished tables of a list that can be written, and the counter behind them
@@ -40,3 +72,59 @@ abbrev pub GoesThrough : {A : Type 0} → CompactionOutcome A → Type 0
 GoesThrough (Tables tables left) = Unit {0}
 GoesThrough OutOfOrder = Unit {0}
 GoesThrough Stopped = ⊥
+
+-- ---- results that are written one by one, for as long as each may follow those before it
+
+-- an error, or an entry that may follow these
+abbrev pub MayCome : List Entry → R → Type 0
+MayCome es (Ok x) = may_be_written es x.user_key x.seqno ≡ true
+MayCome es (Err e) = Unit {0}
+
+-- behind entries that a writer takes stands this error, or an entry that it refuses so
+pub record MeetsFault (w : TablesWriting) (rs : List R) (e : Error) : Type 0 where
+  pub front : List Entry
+  pub last : R
+  pub behind : List R
+  pub whole : rs ≡ ok_results front ++ last ∷ behind
+  pub taken : AreTaken w front
+  pub comes : MayCome front last
+  pub fault : results_fault w (ok_results front ++ last ∷ []) ≡ Some e
+
+-- all are entries, which a writer takes, and refuses so to finish
+pub record FailsBehind (w : TablesWriting) (rs : List R) (e : Error) : Type 0 where
+  pub list : List Entry
+  pub whole : rs ≡ ok_results list
+  pub taken : AreTaken w list
+  pub fault : writes_fault w list ≡ Some e
+
+-- all are entries, and finished tables are theirs
+pub record TakesWhole {A : Type 0} (w : TablesWriting) (rs : List R) (fs : List (FinishedTable A))
+    (left : Option ℕ) : Type 0 where
+  pub list : List Entry
+  pub whole : rs ≡ ok_results list
+  pub none : writes_fault w list ≡ None
+  pub written : AreWrittenBy w list fs left
+
+-- what comes of it, memory aside: the tables of all, the first entry that may not follow, or the
+-- first fault
+abbrev pub CameOf : {A : Type 0} → TablesWriting → List R → Result (CompactionOutcome A) Error
+    → Type 0
+CameOf w rs (Ok (Tables tables left)) = TakesWhole w rs tables.items left
+CameOf w rs (Ok OutOfOrder) = LeavesOrder w rs
+CameOf w rs (Ok Stopped) = ⊥
+CameOf w rs (Err e) = is_memory e ≡ false → MeetsFault w rs e ⊎ FailsBehind w rs e
+
+-- where want of memory stops its reader, a source deals just these results
+abbrev pub DealsResults : {S : Type 0} → (S → Option R → S → Type 0) → List R → S → Type 0
+DealsResults next rs s = (stops : Error → Bool) → stops OutOfMemory ≡ true →
+    Deals (answer_stops stops) next nowhere s rs
+
+-- ---- tables of any bytes
+
+-- what scans of the runs give that have a table, each up to its first error
+abbrev pub scans_of : List (List OpenTable) → List (List R)
+scans_of runs = map tables_scan (filter has_table runs)
+
+-- one of them begins with this error
+abbrev pub BeginsWith : List (List R) → Error → Type 0
+BeginsWith scans e = Any (λ (rs : List R). first rs ≡ Some (Err e)) scans

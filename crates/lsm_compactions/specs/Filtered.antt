@@ -1,8 +1,7 @@
 -- What a compaction with a filter and a callback came to.
-use Rattle.std.specs.Prelude.{◌≡◌, ◌⊎◌, false, List, [], ◌∷◌, ◌++◌, Option, Some, None}
+use Rattle.std.specs.Prelude.{◌≡◌, ◌⊎◌, Bool, false, List, [], ◌∷◌, ◌++◌, Option, Some, None}
 use Rattle.std.specs.Prelude.{Result, Ok, Err, ℕ}
 use Rattle.std.specs.Iterator.{Yields}
-use Rattle.std.specs.Option.{option_or}
 use Rattle.sst_entries.specs.Entry.{Entry}
 use Rattle.sst_entries.specs.Error.{is_memory}
 use Rattle.sst_entries.specs.Stream.{ok_results, result_stops}
@@ -13,50 +12,45 @@ use Rattle.lsm_sorted.specs.declared.compaction.Rules.{Rules}
 use Rattle.lsm_sorted.specs.Compaction.{Judged, Verdict, entries, kept}
 use Rattle.lsm_sorted.specs.Compacting.{Calls, Compacted}
 use Rattle.lsm_writers.specs.declared.writer.FinishedTable.{FinishedTable}
-use Rattle.lsm_writers.specs.Tables.{TablesWriting, took, took_fault}
+use Rattle.lsm_writers.specs.Tables.{TablesWriting}
 use Rattle.lsm_writers.specs.Writing.{may_be_written}
+use Rattle.lsm_compactions.specs.AnyRuns.{AreTaken, results_fault}
 use Rattle.lsm_compactions.specs.Chain.{writes_fault}
 use Rattle.lsm_compactions.specs.Compacted.{AreWrittenBy, FitsBy}
+use Rattle.lsm_compactions.specs.Observed.{ToldOfPart, WasToldOf}
 use Rattle.lsm_compactions.specs.declared.any_runs.CompactionOutcome.{CompactionOutcome}
 use Rattle.lsm_compactions.specs.declared.any_runs.CompactionOutcome.TheVariants.{OutOfOrder}
 use Rattle.lsm_compactions.specs.declared.any_runs.CompactionOutcome.TheVariants.{Stopped, Tables}
-
--- the first fault of results whose entries are written one after another
-abbrev pub results_fault : TablesWriting → List R → Option Error
-results_fault m [] = None
-results_fault m (Ok e ∷ rs) = option_or (took_fault m e) (results_fault (took m e) rs)
-results_fault m (Err f ∷ rs) = Some f
+use Rattle.lsm_compactions.specs.declared.observer.CompactionProgress.{CompactionProgress}
 
 -- ---- a stream whose entries are written
 
 module _ {S : Type 0} (next : S → Option R → S → Type 0) (w : TablesWriting) (s : S) where
-  -- a stream gave these entries, and nothing more: finished tables are theirs
-  pub record WritesAll {A : Type 0} (fs : List (FinishedTable A)) (left : Option ℕ) (u : S)
-      : Type 0 where
-    pub list : List Entry
-    pub led : S
-    pub gave : Yields next s (ok_results list) led
-    pub ended : next led None u
-    pub written : AreWrittenBy w list fs left
+  -- what a stream gave behind these entries: nothing more, where finished tables are theirs; an
+  -- entry that may not follow them; or nothing was asked of it
+  abbrev pub EndsAs : {A : Type 0} → List Entry → S → CompactionOutcome A → S → Type 0
+  EndsAs list led (Tables tables left) u = next led None u × AreWrittenBy w list tables.items left
+  EndsAs list led OutOfOrder u =
+      (e : Entry) × next led (Some (Ok e)) u × (may_be_written list e.user_key e.seqno ≡ false)
+  EndsAs list led Stopped u = led ≡ u
 
-  -- it gave these entries, and then one that may not follow them
-  pub record WritesUpTo (u : S) : Type 0 where
-    pub list : List Entry
-    pub led : S
-    pub gave : Yields next s (ok_results list) led
-    pub entry : Entry
-    pub then : next led (Some (Ok entry)) u
-    pub may : may_be_written list entry.user_key entry.seqno ≡ false
+  module _ {O : Type 0} (says : O → CompactionProgress → Bool → O → Type 0) (o : O) where
+    -- a stream gave these entries, which were written, and ended so; the observer was told of them
+    pub record IsWritten {A : Type 0} (outcome : CompactionOutcome A) (u : S) (q : O) : Type 0 where
+      pub list : List Entry
+      pub taken : AreTaken w list
+      pub led : S
+      pub gave : Yields next s (ok_results list) led
+      pub ends : EndsAs list led outcome u
+      pub told : WasToldOf says w list outcome o q
 
-  -- it gave some entries
-  pub record WritesPart (u : S) : Type 0 where
-    pub list : List Entry
-    pub gave : Yields next s (ok_results list) u
-
-  abbrev pub IsWritten : {A : Type 0} → CompactionOutcome A → S → Type 0
-  IsWritten (Tables tables left) u = WritesAll tables.items left u
-  IsWritten OutOfOrder u = WritesUpTo u
-  IsWritten Stopped u = WritesPart u
+    -- until it was refused, it gave these entries, which were written, and the observer was told
+    pub record WritesUntil (q : O) : Type 0 where
+      pub list : List Entry
+      pub taken : AreTaken w list
+      pub led : S
+      pub gave : Yields next s (ok_results list) led
+      pub told : ToldOfPart says w list o q
 
   -- it gave these entries and one result more, no want of memory, at which it or the writer refuses
   pub record RefusesAmong (e : Error) : Type 0 where
@@ -146,3 +140,38 @@ module _ {F C : Type 0} (gives : F → Entry → Result Verdict Error → F → 
     -- which error is met first: of the filter, or of the writer
     abbrev pub RefusesBy : Error → Type 0
     RefusesBy e = RefusesAt e ⊎ RefusesKept e
+
+    -- calls of a compaction of the list gave these results, and its callback is then as said
+    pub record KeepsSome (gave : List R) (d : C) : Type 0 where
+      pub filter : F
+      pub left : List R
+      pub given : GivesEach f c (ok_results es) gave filter d left
+
+    -- what such a compaction gives behind these entries: nothing more, where finished tables are
+    -- theirs; an entry that may not follow them; or nothing was asked of it
+    abbrev pub KeepsThen : {A : Type 0} → List Entry → CompactionOutcome A → C → Type 0
+    KeepsThen kept (Tables tables left) d =
+        (g : F) × Compacted gives gets rules f c (ok_results es) (ok_results kept) g d
+        × AreWrittenBy w kept tables.items left
+    KeepsThen kept OutOfOrder d =
+        (e : Entry) × KeepsSome (ok_results (kept ++ e ∷ [])) d
+        × (may_be_written kept e.user_key e.seqno ≡ false)
+    KeepsThen kept Stopped d = KeepsSome (ok_results kept) d
+
+    module _ {O : Type 0} (says : O → CompactionProgress → Bool → O → Type 0) (o : O) where
+      -- what a compaction of any list came to, and its callback and an observer then: these entries
+      -- of it were kept and written, and it ended so
+      pub record CameUpTo {A : Type 0} (outcome : CompactionOutcome A) (d : C) (q : O)
+          : Type 0 where
+        pub kept : List Entry
+        pub taken : AreTaken w kept
+        pub came : KeepsThen kept outcome d
+        pub told : WasToldOf says w kept outcome o q
+
+      -- these were kept and written until it was refused
+      pub record CameUntil (q : O) : Type 0 where
+        pub kept : List Entry
+        pub taken : AreTaken w kept
+        pub callback : C
+        pub given : KeepsSome (ok_results kept) callback
+        pub told : ToldOfPart says w kept o q

@@ -64,14 +64,21 @@ module _ {O : Type 0} (says : O → CompactionProgress → Bool → O → Type 0
       ((n.tables ≡ m.tables) × (goes ≡ true) × (o ≡ q))
       ⊎ ((t : List Entry) × (n.tables ≡ m.tables ++ t ∷ []) × says o (progress_at n.tables) goes q)
 
-  -- a list was written in part, cut into tables as a writer cuts it: the observer was told of all
-  -- but the last, which was not finished
-  pub record ToldOfPart (w : TablesWriting) (Ends : O → List CompactionProgress → O → Type 0)
-      (o q : O) : Type 0 where
-    pub list : List Entry
+  -- a list was written, cut into tables as a writer cuts it: the observer was told of all but the
+  -- last, and answered each time to go on
+  pub record ToldOfPart (w : TablesWriting) (list : List Entry) (o q : O) : Type 0 where
     pub tables : List (List Entry)
     pub cut : AreTables w.present.options.data_block_size w.target list tables
-    pub told : Ends o (told_of (but_last tables)) q
+    pub told : GoesOnAt o (told_of (but_last tables)) q
+
+  -- it was told of all but the last, and answered at the last of these to stop: nothing was written
+  -- behind the entry that began the next table
+  pub record StoppedAt (w : TablesWriting) (list : List Entry) (o q : O) : Type 0 where
+    pub tables : List (List Entry)
+    pub next : Entry
+    pub cut : AreTables w.present.options.data_block_size w.target list
+        (tables ++ (next ∷ []) ∷ [])
+    pub told : StopsAtLast o (told_of tables) q
 
   -- of finished tables it was told of all but the last, and answered each time to go on
   pub record ToldOfAll {A : Type 0} (w : TablesWriting) (fs : List (FinishedTable A)) (o q : O)
@@ -80,9 +87,20 @@ module _ {O : Type 0} (says : O → CompactionProgress → Bool → O → Type 0
     pub finished : AreFinished w.present.options (first_written w) tables fs
     pub told : GoesOnAt o (told_of (but_last tables)) q
 
-  -- what an observer was told, by what a compaction came to: it is stopped just where the observer
-  -- answered so
+  -- what an observer was told of a list that was written, by what a compaction came to then: it is
+  -- stopped just where the observer answered so, and at once
+  abbrev pub WasToldOf : {A : Type 0} → TablesWriting → List Entry → CompactionOutcome A → O → O
+      → Type 0
+  WasToldOf w list (Tables tables left) o q = ToldOfPart w list o q
+  WasToldOf w list OutOfOrder o q = ToldOfPart w list o q
+  WasToldOf w list Stopped o q = StoppedAt w list o q
+
+  -- the same, whatever was written
   abbrev pub WasTold : {A : Type 0} → TablesWriting → CompactionOutcome A → O → O → Type 0
   WasTold w (Tables tables left) o q = ToldOfAll w tables.items o q
-  WasTold w OutOfOrder o q = ToldOfPart w GoesOnAt o q
-  WasTold w Stopped o q = ToldOfPart w StopsAtLast o q
+  WasTold w OutOfOrder o q = (list : List Entry) × ToldOfPart w list o q
+  WasTold w Stopped o q = (list : List Entry) × StoppedAt w list o q
+
+  -- what it was told until a compaction was refused, whatever was written
+  abbrev pub WasToldUntil : TablesWriting → O → O → Type 0
+  WasToldUntil w o q = (list : List Entry) × ToldOfPart w list o q

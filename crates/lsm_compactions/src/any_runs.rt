@@ -1,13 +1,18 @@
 //! Compacting several runs of tables whose bytes nobody has verified.
-ghost use Rattle.std.specs.Prelude.{◌≡◌, IfErr, IfOk, List, map};
+ghost use Rattle.std.specs.Prelude.{◌≡◌, ◌⊎◌, IfErr, IfOk, IsErrAnd, List, map};
 ghost use Rattle.std.specs.Arc.{arc_value};
 ghost use Rattle.sst_entries.specs.declared.error.Error.TheVariants.{OutOfMemory};
 ghost use Rattle.std.specs.List.{AllByRecursion};
-ghost use Rattle.lsm_compactions.specs.Words.{AreCompactable, AreTablesBy, CameInOrder};
-ghost use Rattle.lsm_compactions.specs.Words.{CanDeal, DealsList};
-ghost use Rattle.lsm_compactions.specs.Words.{DealsWritable, Entry, Faults, FitsBy, GoesThrough};
-ghost use Rattle.lsm_compactions.specs.Words.{HasMade, HaveEntries, IsFreshRun, RunsHoldLists};
-ghost use Rattle.lsm_compactions.specs.Words.{RunsOn, kept_in, nowhere, writes_fault};
+ghost use Rattle.lsm_merge.specs.Ends.{R};
+ghost use Rattle.lsm_merge.specs.InPlace.{merge_of};
+ghost use Rattle.lsm_merge.specs.Union.{Ascends, entries_among};
+ghost use Rattle.lsm_sorted.specs.LentCompaction.{lent_outs};
+ghost use Rattle.lsm_compactions.specs.Words.{AreCompactable, AreTablesBy, BeginsWith};
+ghost use Rattle.lsm_compactions.specs.Words.{CameInOrder, CameOf, CanDeal, DealsResults, Entry};
+ghost use Rattle.lsm_compactions.specs.Words.{Faults, FitsBy, GoesThrough, HasMade, HaveEntries};
+ghost use Rattle.lsm_compactions.specs.Words.{IsFreshRun};
+ghost use Rattle.lsm_compactions.specs.Words.{RunsHoldLists, RunsOn, kept_in, nowhere, scans_of};
+ghost use Rattle.lsm_compactions.specs.Words.{writes_fault};
 
 use crate::compact::kept_of;
 use lsm_ranges::Run;
@@ -42,11 +47,8 @@ fn write_in_order<L: Lending + Drop, A: Allocator + Clone>(
     requires fresh { IsFreshRun writer }
     requires next { RunsOn writer }
     requires can { CanDeal L.advances nowhere L.can_advance L.can_advance source }
-    // A list is written whole, or it cannot be written.
-    ensures came { (es : List Entry) → DealsList L.advances nowhere es source →
-        IfOk result (CameInOrder writer es) }
-    ensures refused { (d : DealsWritable L.advances source) →
-        Faults result (writes_fault writer d.list) }
+    ensures came { (rs : List R) → DealsResults L.advances rs source →
+        CameOf writer rs result }
     // Whatever the source lends, tables are those of a list that can be written.
     ensures made { IfOk result (HasMade writer) }
     ensures through { IfOk result GoesThrough }
@@ -67,8 +69,8 @@ fn write_in_order<L: Lending + Drop, A: Allocator + Clone>(
 /// Compacts several runs of any tables that were opened into new tables: what a
 /// [`LendingCompaction`](lsm_sorted::compaction::lending::LendingCompaction) keeps of all their
 /// entries together is written by `writer`, in one pass, each entry from where it lies, for as long
-/// as it comes in order. A run without a table is passed over. Nothing is asked of the runs, so that a store may
-/// compact tables of files that it did not verify.
+/// as it comes in order. A run without a table is passed over. Nothing is asked of the runs, so that
+/// a store may compact tables of files that it did not verify.
 ///
 /// Where the runs may be given to [`compact_runs`](crate::compact_runs), the answer is the finished
 /// tables and the counter that it answers, and the refusal its refusal. Of any tables it is refused
@@ -96,10 +98,16 @@ pub fn compact_any_runs<A: Allocator + Clone>(
         (lists : List (List (List Entry))) → RunsHoldLists (map arc_value runs.now) lists →
         FitsBy writer (kept_in rules lists) → IfErr result (λ e. e ≡ OutOfMemory) }
     // Whether or not a key has one number twice, of tables of lists that have entries the tables
-    // are those of what is kept, and it ends out of order only where that cannot be written.
+    // are those of what is kept, and it ends out of order at the first of it that may not follow.
     ensures merged { (lists : List (List (List Entry))) →
         RunsHoldLists (map arc_value runs.now) lists → AllByRecursion HaveEntries lists →
         IfOk result (CameInOrder writer (kept_in rules lists)) }
+    // Of any tables whose scans come in order in each run, it is what comes of writing what is kept
+    // of the scans together, the first fault in its place; or a scan begins with the fault.
+    ensures any { let scans = scans_of (map arc_value runs.now) in
+        AllByRecursion (λ rs. Ascends (entries_among rs)) scans →
+        CameOf writer (lent_outs rules (merge_of scans)) result
+        ⊎ IsErrAnd result (BeginsWith scans) }
     // Whatever the tables hold, what is made are tables of a list that can be written.
     ensures made { IfOk result (HasMade writer) }
     // No observer stops it.

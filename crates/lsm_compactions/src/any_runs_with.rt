@@ -1,8 +1,9 @@
 //! Compacting several runs of any tables, with a filter, a callback and an observer.
 ghost use Rattle.std.specs.Prelude.{◌≡◌, ◌++◌, ◌∷◌, [], All, Bool, false, true, IfErr, IfOk};
-ghost use Rattle.std.specs.Prelude.{IsTrue, List, OnOk, map};
+ghost use Rattle.std.specs.Prelude.{IsTrue, List, OnErr, OnOk, map};
 ghost use Rattle.std.specs.Arc.{arc_value};
 ghost use Rattle.std.specs.Iterator.{IsFinite};
+ghost use Rattle.std.specs.List.{AllByRecursion};
 ghost use Rattle.sst_entries.specs.declared.error.Error.{Error};
 ghost use Rattle.sst_entries.specs.declared.error.Error.TheVariants.{OutOfMemory};
 ghost use Rattle.sst_entries.specs.Error.{is_memory};
@@ -10,11 +11,13 @@ ghost use Rattle.sst_entries.specs.Stream.{ok_results};
 ghost use Rattle.lsm_sorted.specs.CompactionState.{Compacts, callback_of, filter_of, rules_of};
 ghost use Rattle.lsm_writers.specs.Tables.{all_written, took, took_fault};
 ghost use Rattle.lsm_writers.specs.Writing.{may_be_written};
-ghost use Rattle.lsm_compactions.specs.Words.{AreCompactable, CameTo, CanDeal, DealTogether, Entry};
-ghost use Rattle.lsm_compactions.specs.Words.{Faults, FitsKept, HasBegun, HasMade, IsCounted};
-ghost use Rattle.lsm_compactions.specs.Words.{IsFreshRun, WasTold, IsWritten, RefusesBy};
-ghost use Rattle.lsm_compactions.specs.Words.{RefusesForMemory, RefusesWritten, RunsHoldLists};
-ghost use Rattle.lsm_compactions.specs.Words.{RunsOn, TellsNext, joined, nowhere, union_in};
+ghost use Rattle.lsm_compactions.specs.Words.{AreCompactable, CameTo, CameUntil, CameUpTo};
+ghost use Rattle.lsm_compactions.specs.Words.{CanDeal, DealTogether, Entry, Faults, FitsKept};
+ghost use Rattle.lsm_compactions.specs.Words.{HasBegun, HasMade, HaveEntries, IsCounted};
+ghost use Rattle.lsm_compactions.specs.Words.{IsFreshRun, IsWritten, RefusesBy, RefusesForMemory};
+ghost use Rattle.lsm_compactions.specs.Words.{RefusesWritten, RunsHoldLists, RunsOn, TellsNext};
+ghost use Rattle.lsm_compactions.specs.Words.{WasTold, WasToldUntil, WritesUntil, joined, nowhere};
+ghost use Rattle.lsm_compactions.specs.Words.{union_in};
 
 use crate::compact::scanners_of;
 use crate::{CompactionObserver, CompactionOutcome, CompactionProgress};
@@ -38,6 +41,8 @@ fn write_and_tell<O: CompactionObserver, A: Allocator + Clone>(
 ) -> Result<bool, Error>
     requires { IsTrue (may_be_written (all_written writer.old) item.user_key item.seqno) }
     ensures ok { OnOk result (writer.new ≡ took writer.old item) }
+    // On a refusal the observer was told nothing.
+    ensures still { OnErr result (observer.new ≡ observer.old) }
     ensures listed { OnOk result (all_written writer.new ≡ all_written writer.old ++ item ∷ []) }
     ensures refused { Faults result (took_fault writer.old item) }
     ensures counts { IsCounted progress.old writer.old → HasBegun writer.old →
@@ -75,9 +80,12 @@ fn write_observed<I: Iterator<Item = IterItem<A>>, O: CompactionObserver, A: All
     requires next { RunsOn writer }
     requires can { I.can_next items.old }
     requires finite { IsFinite (I.remaining items.old) }
-    ensures written { IfOk result (λ r. IsWritten I.next_gives writer items.old r items.new) }
+    ensures written { IfOk result (λ r. IsWritten I.next_gives writer items.old O.says observer.old
+        r items.new observer.new) }
     ensures made { IfOk result (HasMade writer) }
     ensures told { IfOk result (λ r. WasTold O.says writer r observer.old observer.new) }
+    ensures until { IfErr result (λ _. WritesUntil I.next_gives writer items.old O.says
+        observer.old observer.new) }
     ensures refused { IfErr result (λ e. is_memory e ≡ false →
         RefusesWritten I.next_gives writer items.old e) }
 {
@@ -170,14 +178,29 @@ pub fn compact_any_runs_with<
         (lists : List (List (List Entry))) → RunsHoldLists (map arc_value runs.now) lists →
         IfOk result (λ r.
         CameTo F.gives C.gets rules filter callback (union_in lists) writer r.0 r.1) }
+    // Whether or not a key has one number twice, of tables of lists that have entries it is what
+    // comes of them: tables of all that is kept, or it ends at the first kept entry that may not
+    // follow, or as soon as the observer says so. The callback heard what is reported until then,
+    // and the observer was told of what was written.
+    ensures merged { (lists : List (List (List Entry))) →
+        RunsHoldLists (map arc_value runs.now) lists → AllByRecursion HaveEntries lists →
+        IfOk result (λ r. CameUpTo F.gives C.gets rules filter callback (union_in lists) writer
+        O.says observer.old r.0 r.1 observer.new) }
     // Whatever the tables hold, what is made are tables of a list that can be written.
     ensures made { IfOk result (λ r. HasMade writer r.0) }
     // The observer was told of each table but the last, in their order; it is stopped just where
-    // the observer said so.
+    // the observer said so, at once.
     ensures told { IfOk result (λ r. WasTold O.says writer r.0 observer.old observer.new) }
+    // On a refusal it was told so of the tables that were finished until then,
+    ensures heard { IfErr result (λ _. WasToldUntil O.says writer observer.old observer.new) }
+    // which are those of what was kept until then.
+    ensures until { (lists : List (List (List Entry))) →
+        RunsHoldLists (map arc_value runs.now) lists → AllByRecursion HaveEntries lists →
+        IfErr result (λ _. CameUntil F.gives C.gets rules filter callback (union_in lists) writer
+        O.says observer.old observer.new) }
     // Memory aside, the refusal is the first one of the filter or of the writer.
-    ensures refused { AreCompactable (map arc_value runs.now) →
-        (lists : List (List (List Entry))) → RunsHoldLists (map arc_value runs.now) lists →
+    ensures refused { (lists : List (List (List Entry))) →
+        RunsHoldLists (map arc_value runs.now) lists → AllByRecursion HaveEntries lists →
         IfErr result (λ e. is_memory e ≡ false →
         RefusesBy F.gives C.gets rules filter callback (union_in lists) writer e) }
     // Where the filter refuses nothing but for want of memory, and whatever may be kept fits as

@@ -1,12 +1,21 @@
 //! Compacting several runs into new tables.
-ghost use Rattle.std.specs.Prelude.{◌≡◌, ◌<◌, All, IfErr, IfOk, List, length, map};
+ghost use Rattle.std.specs.Prelude.{◌≡◌, ◌<◌, All, Err, IfErr, IfOk, List, Some, false, length};
+ghost use Rattle.std.specs.Prelude.{map};
 ghost use Rattle.std.specs.Arc.{arc_value};
+ghost use Rattle.std.specs.List.{AllByRecursion, AllZip};
+ghost use Rattle.sst_entries.specs.Error.{is_memory};
+ghost use Rattle.sst_entries.specs.Stream.{first};
 ghost use Rattle.sst_entries.specs.declared.error.Error.TheVariants.{OutOfMemory};
+ghost use Rattle.lsm_merge.specs.Ends.{R};
+ghost use Rattle.lsm_merge.specs.InPlace.{merge_of};
+ghost use Rattle.lsm_merge.specs.Union.{Ascends, entries_among};
+ghost use Rattle.lsm_runs.specs.RunScan.{tables_scan};
+ghost use Rattle.lsm_sorted.specs.LentCompaction.{lent_outs};
 ghost use Rattle.lsm_compactions.specs.ReadsCompacted.{PointsStay, RangesStay, SideBySide};
 ghost use Rattle.lsm_compactions.specs.ReadsCompacted.{StayStrict, StayWritable};
 ghost use Rattle.lsm_compactions.specs.Words.{AreCompactable, AreMergeable, AreWrittenBy};
-ghost use Rattle.lsm_compactions.specs.Words.{CanDeal, DealTogether};
-ghost use Rattle.lsm_compactions.specs.Words.{DealsList};
+ghost use Rattle.lsm_compactions.specs.Words.{BeginsWith, CanDeal, DealTogether};
+ghost use Rattle.lsm_compactions.specs.Words.{DealsList, DealsResults, scans_of};
 ghost use Rattle.lsm_compactions.specs.Words.{DealsWritable, Entry, Faults, FitsBy, HaveEntries};
 ghost use Rattle.lsm_compactions.specs.Words.{HoldLists, IsFreshRun, RunsHoldLists, RunsOn, joined};
 ghost use Rattle.lsm_compactions.specs.Words.{kept_in, nowhere, rules_by, writes_fault};
@@ -32,6 +41,11 @@ fn scanner_of<A: Allocator + Clone>(run: &Arc<Run<Table<A>, A>, A>) -> Result<Ru
         IfOk result (DealsList gives nowhere (joined lists)) }
     ensures refused { (lists : List (List Entry)) → HoldLists (arc_value run.now) lists →
         HaveEntries lists → IfErr result (λ e. e ≡ OutOfMemory) }
+    // Of any tables it deals what their scans give, up to the first error, or it begins with that.
+    ensures any { IfOk result (DealsResults ⟦<RunScanner<A> as Iterator>⟧.next_gives
+        (tables_scan (arc_value run.now))) }
+    ensures told { IfErr result (λ e. is_memory e ≡ false →
+        first (tables_scan (arc_value run.now)) ≡ Some (Err e)) }
 {
     RunScanner::culled(run.clone()?, (None, None))
 }
@@ -46,6 +60,12 @@ pub(crate) fn scanners_of<A: Allocator + Clone>(
         (able : AreMergeable (map arc_value runs.now)) →
         IfOk result (λ v. DealTogether gives nowhere v.items (map joined able.lists)) }
     ensures err { AreMergeable (map arc_value runs.now) → IfErr result (λ e. e ≡ OutOfMemory) }
+    // Of any tables each deals what its scan gives, or one begins with an error.
+    ensures any { let gives = ⟦<RunScanner<A> as Iterator>⟧.next_gives in
+        IfOk result (λ v. AllZip (λ s rs. DealsResults gives rs s) v.items
+        (scans_of (map arc_value runs.now))) }
+    ensures told { IfErr result (λ e. is_memory e ≡ false →
+        BeginsWith (scans_of (map arc_value runs.now)) e) }
 {
     let mut scanners = Vec::new(alloc);
     for run in runs {
@@ -72,6 +92,13 @@ fn kept_from<L: Lending + Drop, A: Allocator + Clone>(
         (lists : List (List (List Entry))) →
         DealTogether L.advances nowhere sources.items (map joined lists) →
         IfOk result (DealsList advances nowhere (kept_in rules lists)) }
+    // Of any results that come in order from each source, what is kept of them together.
+    ensures any { let advances =
+        ⟦<LendingCompaction<LendingMerger<L, A>, A> as Lending>⟧.advances in
+        (lists : List (List R)) →
+        AllZip (λ s rs. DealsResults L.advances rs s) sources.items lists →
+        AllByRecursion (λ rs. Ascends (entries_among rs)) lists →
+        IfOk result (DealsResults advances (lent_outs rules (merge_of lists))) }
     ensures err { IfErr result (λ e. e ≡ OutOfMemory) }
 {
     let own = alloc.clone()?;
@@ -94,6 +121,14 @@ pub(crate) fn kept_of<A: Allocator + Clone>(
         (able : AreMergeable (map arc_value runs.now)) →
         IfOk result (DealsList advances nowhere (kept_in rules able.lists)) }
     ensures err { AreMergeable (map arc_value runs.now) → IfErr result (λ e. e ≡ OutOfMemory) }
+    // So of any tables whose scans come in order in each run.
+    ensures any { let advances =
+        ⟦<LendingCompaction<LendingMerger<RunScanner<A>, A>, A> as Lending>⟧.advances in
+        let scans = scans_of (map arc_value runs.now) in
+        AllByRecursion (λ rs. Ascends (entries_among rs)) scans →
+        IfOk result (DealsResults advances (lent_outs rules (merge_of scans))) }
+    ensures told { IfErr result (λ e. is_memory e ≡ false →
+        BeginsWith (scans_of (map arc_value runs.now)) e) }
 {
     let scanners = scanners_of(alloc.clone()?, runs)?;
     kept_from(alloc, scanners, rules)
@@ -125,8 +160,8 @@ fn write_all<L: Lending + Drop, A: Allocator + Clone>(
 }
 
 /// Compacts several runs into new tables: what a [`LendingCompaction`] keeps of all their entries
-/// together is written by `writer`, in one pass, each entry from where it lies. Answers the finished
-/// tables, none where nothing is kept, and the writer's counter of ids behind them.
+/// together is written by `writer`, in one pass, each entry from where it lies. Answers the
+/// finished tables, none where nothing is kept, and the writer's counter of ids behind them.
 ///
 /// Refused as [`MultiWriter::write`] and [`MultiWriter::finish`] are, and [`Error::OutOfMemory`].
 /// Whatever is answered, the runs are as they were. Conditions: `writer` has written nothing; the

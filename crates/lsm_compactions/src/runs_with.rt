@@ -122,7 +122,7 @@ pub fn compact_to_run_with<A: Allocator + Clone>(
         IfOk result (λ r. AreTablesBy writer (kept_in rules lists) r.0) }
     ensures made { IfOk result (λ r. HasMade writer r.0) }
     // Whether or not a key has one number twice, of tables of lists that have entries they are
-    // those of what is kept, and it ends out of order only where that cannot be written.
+    // those of what is kept, and it ends out of order at the first of it that may not follow.
     ensures merged { (lists : List (List (List Entry))) →
         RunsHoldLists (map arc_value runs.now) lists → AllByRecursion HaveEntries lists →
         IfOk result (λ r. CameInOrder writer (kept_in rules lists) r.0) }

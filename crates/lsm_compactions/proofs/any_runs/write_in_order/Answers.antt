@@ -1,11 +1,9 @@
-use Rattle.std.proofs.Common.{◌∙◌, refl, sym, subst}
+use Rattle.std.proofs.Common.{◌∙◌, inl, inr, refl, sym, subst}
 use Rattle.sst_entries.specs.Lending.{entry_of_ref}
 use Rattle.sst_entries.specs.Stream.{nowhere}
-use Rattle.sst_entries.proofs.Refusals.{faults_refusal}
 use Rattle.sst_entries.proofs.StreamLemmas.{can_front, can_now}
-use Rattle.lsm_compactions.specs.Chain.{writes_fault}
-use Rattle.lsm_compactions.proofs.AnyWritten.{AreNumbered, may_not, numbered_more}
-use Rattle.lsm_compactions.proofs.WritesOn.{all_taken, deals_fine, fault_left, lent_next, lent_over, may_follow_on, nothing_written_yet, refused_one, writes_more}
+use Rattle.lsm_compactions.proofs.AnyTaken.{came_refused, failed_behind, left_order, met_error, met_refusal, rests_all, rests_more, taken_whole, taking_more, taking_none}
+use Rattle.lsm_compactions.proofs.WritesOn.{lent_next, lent_over}
 use Rattle.lsm_compactions.proofs.WrittenBy.{Since, all_finished, nothing_yet, since_more, since_now}
 use Rattle.lsm_compactions.proofs.any_runs.write_in_order.Goals as goal
 
@@ -15,73 +13,72 @@ loop-writer-init g c =
     record {
       can = c.requires.can;
       since = since_now w c.requires.fresh;
-      numbered = subst AreNumbered (sym (nothing_yet w c.requires.fresh)) tt;
-      writes = λ es d. nothing_written_yet g.L.Lending.advances w es c.args.source (nothing_yet w c.requires.fresh) d;
+      taking = taking_none w (nothing_yet w c.requires.fresh);
+      rests = λ rs d. rests_all g.L.Lending.advances w rs c.args.source (nothing_yet w c.requires.fresh) d;
     }
 
 pub advance-requires : goal.advance-requires
 advance-requires g c = can_now g.L.Lending.advances nowhere g.L.Lending.can_advance g.L.Lending.can_advance c.loop-writer.source c.loop-writer.invariant.can
 
-pub returns-in_err-advance-clause-refused : goal.returns-in_err-advance-clause-refused
-returns-in_err-advance-clause-refused g c d =
-    let next = g.L.Lending.advances in
+pub returns-in_err-advance-clause-came : goal.returns-in_err-advance-clause-came
+returns-in_err-advance-clause-came g c rs d =
+    let l = c.loop-writer in
     let f = c.in_err-advance.field-0.0 in
-    let on = c.loop-writer.invariant.writes d.list d.deals in
-    faults_refusal c.from_residual.result f (writes_fault c.args.writer d.list) c.from_residual.ensures.1
-    (λ fine. absurd (deals_fine next on.rest c.loop-writer.source c.advance.new.self f on.deals c.in_err-advance.ensures.goes fine))
+    came_refused c.args.writer rs c.from_residual.result f c.from_residual.ensures.1
+    (λ fine. inl (met_error g.L.Lending.advances c.args.writer l.writer l.source c.advance.new.self rs (l.invariant.rests rs d) l.invariant.taking f fine c.in_err-advance.ensures.goes))
 
 pub returns-then-not-can_follow_ref-clause-came : goal.returns-then-not-can_follow_ref-clause-came
-returns-then-not-can_follow_ref-clause-came g c es d writable =
+returns-then-not-can_follow_ref-clause-came g c rs d =
     let next = g.L.Lending.advances in
+    let l = c.loop-writer in
     let step = lent_next next _ _ _ c.in_ok-advance.field-0 _ c.in-Some.ensures c.in_ok-advance.ensures.goes in
-    may_not _ (sym c.can_follow_ref.ensures ∙ c.if-not-can_follow_ref.true) (may_follow_on next c.args.writer es c.loop-writer.writer c.loop-writer.source c.advance.new.self (entry_of_ref c.in-Some.entry) (c.loop-writer.invariant.writes es d) step writable)
-
-pub returns-then-not-can_follow_ref-clause-refused : goal.returns-then-not-can_follow_ref-clause-refused
-returns-then-not-can_follow_ref-clause-refused g c d =
-    absurd (returns-then-not-can_follow_ref-clause-came g c d.list d.deals d.writable)
+    left_order next c.args.writer l.writer l.source c.advance.new.self rs (l.invariant.rests rs d) l.invariant.taking (entry_of_ref c.in-Some.entry) (sym c.can_follow_ref.ensures ∙ c.if-not-can_follow_ref.true) step
 
 pub loop-writer-preserved-in-Continue-branch-2 : goal.loop-writer-preserved-in-Continue-branch-2
 loop-writer-preserved-in-Continue-branch-2 g c =
     let next = g.L.Lending.advances in
     let w = c.args.writer in
-    let m = c.loop-writer.writer in
+    let l = c.loop-writer in
+    let m = l.writer in
     let e = entry_of_ref c.in-Some.entry in
     let step = lent_next next _ _ _ c.in_ok-advance.field-0 _ c.in-Some.ensures c.in_ok-advance.ensures.goes in
     let o = c.in_ok-write_ref.ensures in
+    let n = c.write_ref.new.self in
     record {
-      can = can_front next nowhere g.L.Lending.can_advance g.L.Lending.can_advance c.loop-writer.source _ c.advance.new.self c.loop-writer.invariant.can c.in_ok-advance.ensures.goes;
-      since = subst (Since w) (sym o.ok) (since_more w m c.requires.fresh e c.loop-writer.invariant.since o.refused);
-      numbered = numbered_more _ _ e c.loop-writer.invariant.numbered (sym c.can_follow_ref.ensures ∙ c.if-not-can_follow_ref.false) o.listed;
-      writes = λ es d. writes_more next w es m c.loop-writer.source c.advance.new.self e (c.loop-writer.invariant.writes es d) step c.write_ref.new.self o.ok o.refused o.listed;
+      can = can_front next nowhere g.L.Lending.can_advance g.L.Lending.can_advance l.source _ c.advance.new.self l.invariant.can c.in_ok-advance.ensures.goes;
+      since = subst (Since w) (sym o.ok) (since_more w m c.requires.fresh e l.invariant.since o.refused);
+      taking = taking_more w m n e l.invariant.taking o.ok o.refused o.listed (sym c.can_follow_ref.ensures ∙ c.if-not-can_follow_ref.false);
+      rests = λ rs d. rests_more next w m l.source c.advance.new.self rs (l.invariant.rests rs d) n e o.listed step;
     }
 
-pub returns-in_err-write_ref-clause-refused : goal.returns-in_err-write_ref-clause-refused
-returns-in_err-write_ref-clause-refused g c d =
+pub returns-in_err-write_ref-clause-came : goal.returns-in_err-write_ref-clause-came
+returns-in_err-write_ref-clause-came g c rs d =
     let next = g.L.Lending.advances in
-    let w = c.args.writer in
+    let l = c.loop-writer in
     let step = lent_next next _ _ _ c.in_ok-advance.field-0 _ c.in-Some.ensures c.in_ok-advance.ensures.goes in
     let f = c.in_err-write_ref.field-0.0 in
-    faults_refusal c.from_residual-in_err-write_ref.result f (writes_fault w d.list) c.from_residual-in_err-write_ref.ensures.1
-    (λ fine. refused_one next w d.list c.loop-writer.writer c.loop-writer.source c.advance.new.self (entry_of_ref c.in-Some.entry) (c.loop-writer.invariant.writes d.list d.deals) step f (c.in_err-write_ref.ensures.refused fine))
+    came_refused c.args.writer rs c.from_residual-in_err-write_ref.result f c.from_residual-in_err-write_ref.ensures.1
+    (λ fine. inl (met_refusal next c.args.writer l.writer l.source c.advance.new.self rs (l.invariant.rests rs d) l.invariant.taking (entry_of_ref c.in-Some.entry) f (sym c.can_follow_ref.ensures ∙ c.if-not-can_follow_ref.false) step (c.in_err-write_ref.ensures.refused fine)))
 
-pub returns-in_err-tables-clause-refused : goal.returns-in_err-tables-clause-refused
-returns-in_err-tables-clause-refused g c d =
+pub returns-in_err-tables-clause-came : goal.returns-in_err-tables-clause-came
+returns-in_err-tables-clause-came g c rs d =
     let next = g.L.Lending.advances in
-    let w = c.args.writer in
+    let l = c.loop-writer in
     let f = c.in_err-tables.field-0.0 in
     let step = lent_over next _ _ _ _ c.if-branch.false c.in_ok-advance.ensures.more c.in_ok-advance.ensures.goes in
-    let left = fault_left next w d.list c.loop-writer.writer c.loop-writer.source c.advance.new.self (c.loop-writer.invariant.writes d.list d.deals) step in
-    faults_refusal c.from_residual-in_err-tables.result f (writes_fault w d.list) c.from_residual-in_err-tables.ensures.1 (λ fine. left ∙ c.in_err-tables.ensures.refused fine)
+    came_refused c.args.writer rs c.from_residual-in_err-tables.result f c.from_residual-in_err-tables.ensures.1
+    (λ fine. inr (failed_behind next c.args.writer l.writer l.source c.advance.new.self rs (l.invariant.rests rs d) l.invariant.taking f step (c.in_err-tables.ensures.refused fine)))
 
 pub returns-clause-came : goal.returns-clause-came
-returns-clause-came g c es d =
+returns-clause-came g c rs d =
     let next = g.L.Lending.advances in
     let w = c.args.writer in
-    let m = c.loop-writer.writer in
+    let l = c.loop-writer in
+    let m = l.writer in
     let step = lent_over next _ _ _ _ c.if-branch.false c.in_ok-advance.ensures.more c.in_ok-advance.ensures.goes in
-    let all = all_taken next w es m c.loop-writer.source c.advance.new.self (c.loop-writer.invariant.writes es d) step in
     let f = c.in_ok-tables.ensures in
-    all_finished w m c.requires.fresh c.requires.next c.loop-writer.invariant.since es c.in_ok-tables.tables.items c.table_ids-left.result all c.table_ids-left.ensures f.strict f.tables f.order f.finished
+    taken_whole next w m l.source c.advance.new.self rs (l.invariant.rests rs d) l.invariant.taking c.in_ok-tables.tables.items c.table_ids-left.result step f.refused
+    (all_finished w m c.requires.fresh c.requires.next l.invariant.since _ c.in_ok-tables.tables.items c.table_ids-left.result refl c.table_ids-left.ensures f.strict f.tables f.order f.finished)
 
 pub returns-clause-made : goal.returns-clause-made
 returns-clause-made g c =
@@ -90,13 +87,6 @@ returns-clause-made g c =
     let f = c.in_ok-tables.ensures in
     record {
       list = _;
-      writable = record { strict = f.strict; numbered = c.loop-writer.invariant.numbered };
+      writable = c.loop-writer.invariant.taking.writable;
       written = all_finished w m c.requires.fresh c.requires.next c.loop-writer.invariant.since _ c.in_ok-tables.tables.items c.table_ids-left.result refl c.table_ids-left.ensures f.strict f.tables f.order f.finished;
     }
-
-pub returns-clause-refused : goal.returns-clause-refused
-returns-clause-refused g c d =
-    let next = g.L.Lending.advances in
-    let step = lent_over next _ _ _ _ c.if-branch.false c.in_ok-advance.ensures.more c.in_ok-advance.ensures.goes in
-    fault_left next c.args.writer d.list c.loop-writer.writer c.loop-writer.source c.advance.new.self (c.loop-writer.invariant.writes d.list d.deals) step
-    ∙ c.in_ok-tables.ensures.refused

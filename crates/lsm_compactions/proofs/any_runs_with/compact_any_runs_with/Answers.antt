@@ -1,5 +1,5 @@
-use Rattle.std.proofs.Common.{◌≡◌, ◌∙◌, ap, refl, sym, subst, false, List}
-use Rattle.std.specs.Prelude.{IfErr, map}
+use Rattle.std.proofs.Common.{◌≡◌, ◌∙◌, ap, refl, sym, subst, false, List, []}
+use Rattle.std.specs.Prelude.{map}
 use Rattle.std.specs.Arc.{arc_value}
 use Rattle.sst_entries.specs.Entry.{Entry}
 use Rattle.sst_entries.specs.Error.{is_memory}
@@ -12,8 +12,9 @@ use Rattle.lsm_runs.specs.SeveralRuns.{union_in}
 use Rattle.lsm_runs.proofs.OneList.{one_way}
 use Rattle.lsm_runs.proofs.Together.{all_of}
 use Rattle.lsm_compactions.specs.Compacted.{merged_as}
-use Rattle.lsm_compactions.proofs.FilteredCame.{came_by, err_passed, memory_passed, memory_unless, refused_by}
+use Rattle.lsm_compactions.proofs.FilteredCame.{came_by, came_none, came_until_by, came_up_by, err_any, err_passed, memory_passed, memory_unless, refused_by}
 use Rattle.lsm_compactions.proofs.FilteredFits.{fits_all}
+use Rattle.lsm_compactions.proofs.Observing.{told_nothing}
 use Rattle.lsm_compactions.proofs.RunWriting.{wants}
 use Rattle.lsm_compactions.proofs.Scanners.{scan_asked}
 use Rattle.lsm_compactions.proofs.any_runs_with.compact_any_runs_with.Goals as goal
@@ -24,19 +25,46 @@ write_observed-requires g c =
     let scanners = c.in_ok-scanners.scanners.items in
     record { fresh = c.requires.fresh; next = next; can = c.in_ok-stream.ensures.can (all_of _ scan_asked scanners) (all_of _ (λ s. tt) scanners); finite = tt }
 
+pub returns-in_err-own-clause-heard : goal.returns-in_err-own-clause-heard
+returns-in_err-own-clause-heard g c =
+    err_any c.from_residual.result ([], told_nothing g.O.CompactionObserver.says c.args.writer c.args.observer.now)
+
+pub returns-in_err-own-clause-until : goal.returns-in_err-own-clause-until
+returns-in_err-own-clause-until g c lists held some =
+    let a = c.args in
+    err_any c.from_residual.result (came_none g.F.StreamFilter.gives g.C.DroppedKvCallback.gets a.rules a.filter a.callback (union_in lists) a.writer g.O.CompactionObserver.says a.observer.now)
+
+pub returns-in_err-scanners-clause-heard : goal.returns-in_err-scanners-clause-heard
+returns-in_err-scanners-clause-heard g c =
+    err_any c.from_residual-in_err-scanners.result ([], told_nothing g.O.CompactionObserver.says c.args.writer c.args.observer.now)
+
+pub returns-in_err-scanners-clause-until : goal.returns-in_err-scanners-clause-until
+returns-in_err-scanners-clause-until g c lists held some =
+    let a = c.args in
+    err_any c.from_residual-in_err-scanners.result (came_none g.F.StreamFilter.gives g.C.DroppedKvCallback.gets a.rules a.filter a.callback (union_in lists) a.writer g.O.CompactionObserver.says a.observer.now)
+
 pub returns-in_err-scanners-clause-refused : goal.returns-in_err-scanners-clause-refused
-returns-in_err-scanners-clause-refused g c able lists held =
+returns-in_err-scanners-clause-refused g c lists held some =
     let a = c.args in
     let r = c.from_residual-in_err-scanners in
-    memory_passed (λ (e : Error). RefusesBy g.F.StreamFilter.gives g.C.DroppedKvCallback.gets a.rules a.filter a.callback (union_in lists) a.writer e) r.result c.in_err-scanners.field-0.0 r.ensures.1 (c.in_err-scanners.ensures.err (merged_as able))
+    memory_passed (λ (e : Error). RefusesBy g.F.StreamFilter.gives g.C.DroppedKvCallback.gets a.rules a.filter a.callback (union_in lists) a.writer e) r.result c.in_err-scanners.field-0.0 r.ensures.1 (c.in_err-scanners.ensures.err (record { lists = lists; hold = held; some = some }))
 
 pub returns-in_err-scanners-clause-taken : goal.returns-in_err-scanners-clause-taken
 returns-in_err-scanners-clause-taken g c able lists held calm fits =
     let r = c.from_residual-in_err-scanners in
     wants r.result c.in_err-scanners.field-0.0 r.ensures.1 (c.in_err-scanners.ensures.err (merged_as able))
 
+pub returns-in_err-stream-clause-heard : goal.returns-in_err-stream-clause-heard
+returns-in_err-stream-clause-heard g c =
+    err_any c.from_residual-in_err-stream.result ([], told_nothing g.O.CompactionObserver.says c.args.writer c.args.observer.now)
+
+pub returns-in_err-stream-clause-until : goal.returns-in_err-stream-clause-until
+returns-in_err-stream-clause-until g c lists held some =
+    let a = c.args in
+    err_any c.from_residual-in_err-stream.result (came_none g.F.StreamFilter.gives g.C.DroppedKvCallback.gets a.rules a.filter a.callback (union_in lists) a.writer g.O.CompactionObserver.says a.observer.now)
+
 pub returns-in_err-stream-clause-refused : goal.returns-in_err-stream-clause-refused
-returns-in_err-stream-clause-refused g c able lists held =
+returns-in_err-stream-clause-refused g c lists held some =
     let a = c.args in
     let r = c.from_residual-in_err-stream in
     memory_passed (λ (e : Error). RefusesBy g.F.StreamFilter.gives g.C.DroppedKvCallback.gets a.rules a.filter a.callback (union_in lists) a.writer e) r.result c.in_err-stream.field-0.0 r.ensures.1 c.in_err-stream.ensures.err
@@ -46,19 +74,32 @@ returns-in_err-stream-clause-taken g c able lists held calm fits =
     let r = c.from_residual-in_err-stream in
     wants r.result c.in_err-stream.field-0.0 r.ensures.1 c.in_err-stream.ensures.err
 
+pub returns-in_err-outcome-clause-heard : goal.returns-in_err-outcome-clause-heard
+returns-in_err-outcome-clause-heard g c =
+    let u = c.in_err-outcome.ensures.until in
+    err_any c.from_residual-in_err-outcome.result (u.list, u.told)
+
+pub returns-in_err-outcome-clause-until : goal.returns-in_err-outcome-clause-until
+returns-in_err-outcome-clause-until g c lists held some =
+    let a = c.args in
+    let s = c.in_ok-stream.stream in
+    let o = c.in_ok-stream.ensures in
+    let has = o.list lists (c.in_ok-scanners.ensures.list (record { lists = lists; hold = held; some = some })) is_memory refl in
+    err_any c.from_residual-in_err-outcome.result
+    (came_until_by _ _ _ g.F.StreamFilter.gives g.C.DroppedKvCallback.gets s s a.rules a.filter a.callback o.rules o.filter o.callback (union_in lists) has a.writer g.O.CompactionObserver.says a.observer.now c.write_observed.new.observer c.in_err-outcome.ensures.until)
+
 pub returns-in_err-outcome-clause-refused : goal.returns-in_err-outcome-clause-refused
-returns-in_err-outcome-clause-refused g c able lists held =
+returns-in_err-outcome-clause-refused g c lists held some =
     let a = c.args in
     let r = c.from_residual-in_err-outcome in
     let f = c.in_err-outcome.field-0.0 in
     let s = c.in_ok-stream.stream in
     let o = c.in_ok-stream.ensures in
-    let has = o.list able.lists (c.in_ok-scanners.ensures.list (merged_as able)) is_memory refl in
+    let has = o.list lists (c.in_ok-scanners.ensures.list (record { lists = lists; hold = held; some = some })) is_memory refl in
     let gives = g.F.StreamFilter.gives in
     let gets = g.C.DroppedKvCallback.gets in
-    subst (λ (ls : List (List (List Entry))). IfErr r.result (λ e. is_memory e ≡ false → RefusesBy gives gets a.rules a.filter a.callback (union_in ls) a.writer e)) (one_way (map arc_value a.runs.now) able.lists lists able.hold held)
-    (err_passed (λ (e : Error). is_memory e ≡ false → RefusesBy gives gets a.rules a.filter a.callback (union_in able.lists) a.writer e) r.result f r.ensures.1
-    (λ fine. refused_by _ _ _ gives gets s s a.rules a.filter a.callback o.rules o.filter o.callback (union_in able.lists) has a.writer able.writable f (c.in_err-outcome.ensures.refused fine)))
+    err_passed (λ (e : Error). is_memory e ≡ false → RefusesBy gives gets a.rules a.filter a.callback (union_in lists) a.writer e) r.result f r.ensures.1
+    (λ fine. refused_by _ _ _ gives gets s s a.rules a.filter a.callback o.rules o.filter o.callback (union_in lists) has a.writer f (c.in_err-outcome.ensures.refused fine))
 
 pub returns-in_err-outcome-clause-taken : goal.returns-in_err-outcome-clause-taken
 returns-in_err-outcome-clause-taken g c able lists held calm fits =
@@ -85,4 +126,13 @@ returns-clause-kept g c able lists held =
     let gives = g.F.StreamFilter.gives in
     let gets = g.C.DroppedKvCallback.gets in
     subst (λ (ls : List (List (List Entry))). CameTo gives gets a.rules a.filter a.callback (union_in ls) a.writer c.in_ok-outcome.outcome c.into_callback.result) (one_way (map arc_value a.runs.now) able.lists lists able.hold held)
-    (came_by _ _ _ gives gets s u a.rules a.filter a.callback o.rules o.filter o.callback (union_in able.lists) has a.writer able.writable c.in_ok-outcome.outcome c.into_callback.result c.into_callback.ensures c.in_ok-outcome.ensures.written)
+    (came_by _ _ _ gives gets s u a.rules a.filter a.callback o.rules o.filter o.callback (union_in able.lists) has a.writer g.O.CompactionObserver.says a.observer.now c.write_observed.new.observer able.writable c.in_ok-outcome.outcome c.into_callback.result c.into_callback.ensures c.in_ok-outcome.ensures.written)
+
+pub returns-clause-merged : goal.returns-clause-merged
+returns-clause-merged g c lists held some =
+    let a = c.args in
+    let s = c.in_ok-stream.stream in
+    let o = c.in_ok-stream.ensures in
+    let u = c.write_observed.new.items in
+    let has = o.list lists (c.in_ok-scanners.ensures.list (record { lists = lists; hold = held; some = some })) is_memory refl in
+    came_up_by _ _ _ g.F.StreamFilter.gives g.C.DroppedKvCallback.gets s u a.rules a.filter a.callback o.rules o.filter o.callback (union_in lists) has a.writer g.O.CompactionObserver.says a.observer.now c.write_observed.new.observer c.in_ok-outcome.outcome c.into_callback.result c.into_callback.ensures c.in_ok-outcome.ensures.written

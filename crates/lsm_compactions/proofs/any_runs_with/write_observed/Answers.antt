@@ -5,10 +5,11 @@ use Rattle.sst_entries.specs.Error.{is_memory}
 use Rattle.sst_entries.specs.declared.error.Error.{Error}
 use Rattle.lsm_writers.specs.Tables.{all_written}
 use Rattle.lsm_writers.specs.Writing.{may_be_written}
-use Rattle.lsm_compactions.specs.Filtered.{RefusesWritten}
+use Rattle.lsm_compactions.specs.Filtered.{RefusesWritten, WritesUntil}
 use Rattle.lsm_compactions.specs.Observed.{TellsNext}
-use Rattle.lsm_compactions.proofs.FilteredCame.{err_passed}
-use Rattle.lsm_compactions.proofs.Observing.{gave_more, observing_more, refused_end, refused_entry, refused_result, told_all, told_of_part, told_stopped, cut_so_more, CutSoFar}
+use Rattle.lsm_compactions.proofs.AnyTaken.{are_taken, taking_more}
+use Rattle.lsm_compactions.proofs.FilteredCame.{err_any, err_passed}
+use Rattle.lsm_compactions.proofs.Observing.{gave_more, written_until, observing_more, refused_end, refused_entry, refused_result, told_all, told_of_part, told_stopped, cut_so_more, CutSoFar}
 use Rattle.lsm_compactions.proofs.WrittenBy.{Since, all_finished, since_more}
 use Rattle.lsm_compactions.proofs.any_runs_with.write_observed.Goals as goal
 
@@ -21,23 +22,33 @@ returns-in_err-item-clause-refused g c =
     err_passed (λ (e : Error). is_memory e ≡ false → RefusesWritten next c.args.writer c.args.items.now e) c.from_residual.result f c.from_residual.ensures.1
     (λ fine. refused_result next g.O.CompactionObserver.says c.args.writer c.args.items.now c.args.observer.now l.writer l.items c.next.new.self l.progress l.observer l.invariant.observing f fine step)
 
+pub returns-in_err-item-clause-until : goal.returns-in_err-item-clause-until
+returns-in_err-item-clause-until g c =
+    let l = c.loop-item in
+    err_any c.from_residual.result
+    (written_until g.I.Iterator.next_gives g.O.CompactionObserver.says c.args.writer c.args.items.now c.args.observer.now l.writer l.items l.items l.progress l.observer l.invariant.observing c.requires.fresh)
+
 pub returns-then-not-can_follow-clause-written : goal.returns-then-not-can_follow-clause-written
 returns-then-not-can_follow-clause-written g c =
     let next = g.I.Iterator.next_gives in
     let l = c.loop-item in
     record {
       list = all_written l.writer;
+      taken = are_taken c.args.writer l.writer l.invariant.observing.taking;
       led = l.items;
       gave = l.invariant.observing.gave;
-      entry = c.in_ok-item.item;
-      then = subst (λ r. next l.items (Some r) c.next.new.self) c.in_ok-item.was c.in-Some.ensures.steps;
-      may = sym (ap (λ (x : Entry). may_be_written (all_written l.writer) x.user_key x.seqno) c.item.view_is) ∙ sym c.can_follow.ensures ∙ c.if-not-can_follow.true;
+      ends = (
+        c.in_ok-item.item,
+        subst (λ r. next l.items (Some r) c.next.new.self) c.in_ok-item.was c.in-Some.ensures.steps,
+        sym (ap (λ (x : Entry). may_be_written (all_written l.writer) x.user_key x.seqno) c.item.view_is) ∙ sym c.can_follow.ensures ∙ c.if-not-can_follow.true,
+      );
+      told = told_of_part g.I.Iterator.next_gives g.O.CompactionObserver.says c.args.writer c.args.items.now c.args.observer.now l.writer l.items l.items l.progress l.observer l.invariant.observing c.requires.fresh;
     }
 
 pub returns-then-not-can_follow-clause-told : goal.returns-then-not-can_follow-clause-told
 returns-then-not-can_follow-clause-told g c =
-    let l = c.loop-item in
-    told_of_part g.I.Iterator.next_gives g.O.CompactionObserver.says c.args.writer c.args.items.now c.args.observer.now l.writer l.items l.items l.progress l.observer l.invariant.observing c.requires.fresh
+    let w = returns-then-not-can_follow-clause-written g c in
+    (w.list, w.told)
 
 pub returns-in_err-goes_on-clause-refused : goal.returns-in_err-goes_on-clause-refused
 returns-in_err-goes_on-clause-refused g c =
@@ -48,27 +59,41 @@ returns-in_err-goes_on-clause-refused g c =
     err_passed (λ (e : Error). is_memory e ≡ false → RefusesWritten next c.args.writer c.args.items.now e) c.from_residual-in_err-goes_on.result f c.from_residual-in_err-goes_on.ensures.1
     (λ fine. refused_entry next g.O.CompactionObserver.says c.args.writer c.args.items.now c.args.observer.now l.writer l.items c.next.new.self l.progress l.observer l.invariant.observing c.in_ok-item.item step f (c.in_err-goes_on.ensures.refused fine))
 
+pub returns-in_err-goes_on-clause-until : goal.returns-in_err-goes_on-clause-until
+returns-in_err-goes_on-clause-until g c =
+    let next = g.I.Iterator.next_gives in
+    let says = g.O.CompactionObserver.says in
+    let l = c.loop-item in
+    err_any c.from_residual-in_err-goes_on.result
+    (subst (λ q. WritesUntil next c.args.writer c.args.items.now says c.args.observer.now q) (sym c.in_err-goes_on.ensures.still)
+    (written_until next says c.args.writer c.args.items.now c.args.observer.now l.writer l.items l.items l.progress l.observer l.invariant.observing c.requires.fresh))
+
 pub returns-then-not-goes_on-clause-written : goal.returns-then-not-goes_on-clause-written
 returns-then-not-goes_on-clause-written g c =
     let next = g.I.Iterator.next_gives in
+    let says = g.O.CompactionObserver.says in
     let l = c.loop-item in
+    let n = c.write_and_tell.new.writer in
+    let o = c.in_ok-goes_on.ensures in
+    let h = l.invariant.observing in
+    let may = sym (ap (λ (x : Entry). may_be_written (all_written l.writer) x.user_key x.seqno) c.item.view_is) ∙ sym c.can_follow.ensures ∙ c.if-not-can_follow.false in
     let step = subst (λ r. next l.items (Some r) c.next.new.self) c.in_ok-item.was c.in-Some.ensures.steps in
     record {
-      list = all_written c.write_and_tell.new.writer;
-      gave = gave_more next g.O.CompactionObserver.says c.args.writer c.args.items.now c.args.observer.now l.writer l.items c.next.new.self l.progress l.observer l.invariant.observing c.in_ok-item.item c.write_and_tell.new.writer c.in_ok-goes_on.ensures.listed step;
+      list = all_written n;
+      taken = are_taken c.args.writer n (taking_more c.args.writer l.writer n c.in_ok-item.item l.invariant.observing.taking o.ok o.refused o.listed may);
+      led = c.next.new.self;
+      gave = gave_more next says c.args.writer c.args.items.now c.args.observer.now l.writer l.items c.next.new.self l.progress l.observer l.invariant.observing c.in_ok-item.item n o.listed step;
+      ends = refl;
+      told = told_stopped g.I.Iterator.next_gives says c.args.writer c.args.items.now c.args.observer.now l.writer l.items l.items l.progress l.observer h c.requires.fresh c.in_ok-item.item n c.write_and_tell.new.observer o.ok
+          (subst (Since c.args.writer) (sym o.ok) (since_more c.args.writer l.writer c.requires.fresh c.in_ok-item.item h.since o.refused))
+          (subst CutSoFar (sym o.ok) (cut_so_more l.writer c.in_ok-item.item h.cut))
+          (subst (λ (b : Bool). TellsNext says l.writer n l.observer b c.write_and_tell.new.observer) c.if-not-goes_on.true (o.told h.counted h.cut.begun));
     }
 
 pub returns-then-not-goes_on-clause-told : goal.returns-then-not-goes_on-clause-told
 returns-then-not-goes_on-clause-told g c =
-    let l = c.loop-item in
-    let o = c.in_ok-goes_on.ensures in
-    let h = l.invariant.observing in
-    let n = c.write_and_tell.new.writer in
-    let says = g.O.CompactionObserver.says in
-    told_stopped g.I.Iterator.next_gives says c.args.writer c.args.items.now c.args.observer.now l.writer l.items l.items l.progress l.observer h c.requires.fresh n c.write_and_tell.new.observer
-    (subst (Since c.args.writer) (sym o.ok) (since_more c.args.writer l.writer c.requires.fresh c.in_ok-item.item h.since o.refused))
-    (subst CutSoFar (sym o.ok) (cut_so_more l.writer c.in_ok-item.item h.cut))
-    (subst (λ (b : Bool). TellsNext says l.writer n l.observer b c.write_and_tell.new.observer) c.if-not-goes_on.true (o.told h.counted h.cut.begun))
+    let w = returns-then-not-goes_on-clause-written g c in
+    (w.list, w.told)
 
 pub loop-item-preserved : goal.loop-item-preserved
 loop-item-preserved g c =
@@ -96,16 +121,28 @@ returns-in_err-tables-clause-refused g c =
     err_passed (λ (e : Error). is_memory e ≡ false → RefusesWritten next c.args.writer c.args.items.now e) c.from_residual-in_err-tables.result f c.from_residual-in_err-tables.ensures.1
     (λ fine. refused_end next g.O.CompactionObserver.says c.args.writer c.args.items.now c.args.observer.now l.writer l.items c.next.new.self l.progress l.observer l.invariant.observing f c.in_default.ensures.steps (c.in_err-tables.ensures.refused fine))
 
+pub returns-in_err-tables-clause-until : goal.returns-in_err-tables-clause-until
+returns-in_err-tables-clause-until g c =
+    let l = c.loop-item in
+    err_any c.from_residual-in_err-tables.result
+    (written_until g.I.Iterator.next_gives g.O.CompactionObserver.says c.args.writer c.args.items.now c.args.observer.now l.writer l.items l.items l.progress l.observer l.invariant.observing c.requires.fresh)
+
 pub returns-clause-written : goal.returns-clause-written
 returns-clause-written g c =
     let l = c.loop-item in
     let f = c.in_ok-tables.ensures in
+    let next = g.I.Iterator.next_gives in
+    let says = g.O.CompactionObserver.says in
     record {
       list = all_written l.writer;
+      taken = are_taken c.args.writer l.writer l.invariant.observing.taking;
       led = l.items;
       gave = l.invariant.observing.gave;
-      ended = c.in_default.ensures.steps;
-      written = all_finished c.args.writer l.writer c.requires.fresh c.requires.next l.invariant.observing.since _ c.in_ok-tables.tables.items c.table_ids-left.result refl c.table_ids-left.ensures f.strict f.tables f.order f.finished;
+      ends = (
+        c.in_default.ensures.steps,
+        all_finished c.args.writer l.writer c.requires.fresh c.requires.next l.invariant.observing.since _ c.in_ok-tables.tables.items c.table_ids-left.result refl c.table_ids-left.ensures f.strict f.tables f.order f.finished,
+      );
+      told = told_of_part next says c.args.writer c.args.items.now c.args.observer.now l.writer l.items l.items l.progress l.observer l.invariant.observing c.requires.fresh;
     }
 
 pub returns-clause-made : goal.returns-clause-made
@@ -114,7 +151,7 @@ returns-clause-made g c =
     let f = c.in_ok-tables.ensures in
     record {
       list = _;
-      writable = record { strict = f.strict; numbered = l.invariant.observing.numbers };
+      writable = l.invariant.observing.taking.writable;
       written = all_finished c.args.writer l.writer c.requires.fresh c.requires.next l.invariant.observing.since _ c.in_ok-tables.tables.items c.table_ids-left.result refl c.table_ids-left.ensures f.strict f.tables f.order f.finished;
     }
 

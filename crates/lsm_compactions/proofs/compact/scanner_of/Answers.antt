@@ -1,12 +1,14 @@
 use Rattle.std.proofs.Common.{◌≡◌, ◌∙◌, ◌<◌, false, length, subst, sym, List}
-use Rattle.std.specs.Prelude.{IfErr, Some, Err}
+use Rattle.std.specs.Prelude.{IfErr, IfOk, Some, Err}
 use Rattle.std.specs.Arc.{arc_value}
 use Rattle.sst_entries.specs.declared.error.Error.{Error}
 use Rattle.sst_entries.specs.Error.{is_memory}
-use Rattle.sst_entries.specs.Stream.{first}
+use Rattle.sst_entries.specs.Stream.{first, nowhere}
+use Rattle.lsm_block_indexes.specs.Dealt.{DealsEnding}
 use Rattle.lsm_readers.specs.Table.{OpenTable}
 use Rattle.lsm_runs.specs.RunLists.{HoldLists}
-use Rattle.lsm_runs.specs.RunScan.{tables_scan}
+use Rattle.lsm_runs.specs.RunScan.{RunScansNext, tables_scan}
+use Rattle.lsm_compactions.proofs.AnyScans.{scanned_any}
 use Rattle.lsm_compactions.proofs.Scanners.{scan_wants, whole_places, whole_run}
 use Rattle.lsm_compactions.proofs.compact.scanner_of.Goals as goal
 
@@ -27,3 +29,18 @@ returns-clause-refused g c lists held some =
     let is = whole_run ts (subst (λ (us : List OpenTable). 0 < length us) (sym same) c.requires) ∙ same in
     scan_wants (arc_value c.args.run.now) lists held some c.culled.result
     (subst (λ (us : List OpenTable). IfErr c.culled.result (λ (e : Error). is_memory e ≡ false → first (tables_scan us) ≡ Some (Err e))) is c.culled.ensures.told)
+
+pub returns-clause-any : goal.returns-clause-any
+returns-clause-any g c =
+    let ts = arc_value c.in_ok-clone.field-0 in
+    let same : ts ≡ arc_value c.args.run.now = c.in_ok-clone.ensures.cases in
+    let is = whole_run ts (subst (λ (us : List OpenTable). 0 < length us) (sym same) c.requires) ∙ same in
+    scanned_any RunScansNext (arc_value c.args.run.now) c.culled.result
+    (subst (λ (us : List OpenTable). IfOk c.culled.result (λ s. DealsEnding RunScansNext nowhere (λ _. Unit {0}) (λ _. Unit {0}) s (tables_scan us))) is c.culled.ensures.deals)
+
+pub returns-clause-told : goal.returns-clause-told
+returns-clause-told g c =
+    let ts = arc_value c.in_ok-clone.field-0 in
+    let same : ts ≡ arc_value c.args.run.now = c.in_ok-clone.ensures.cases in
+    let is = whole_run ts (subst (λ (us : List OpenTable). 0 < length us) (sym same) c.requires) ∙ same in
+    subst (λ (us : List OpenTable). IfErr c.culled.result (λ (e : Error). is_memory e ≡ false → first (tables_scan us) ≡ Some (Err e))) is c.culled.ensures.told

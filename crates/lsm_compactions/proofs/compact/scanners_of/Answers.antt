@@ -1,7 +1,13 @@
-use Rattle.std.proofs.Common.{arith}
+use Rattle.std.proofs.Common.{◌≡◌, arith, false}
+use Rattle.std.specs.Prelude.{map}
 use Rattle.std.specs.Arc.{arc_value}
+use Rattle.sst_entries.specs.Error.{is_memory}
+use Rattle.sst_entries.specs.declared.error.Error.{Error}
 use Rattle.sst_entries.specs.Stream.{nowhere}
 use Rattle.lsm_runs.specs.RunScan.{RunScansNext}
+use Rattle.lsm_compactions.specs.AnyRuns.{BeginsWith, scans_of}
+use Rattle.lsm_compactions.proofs.AnyScans.{no_table, scan_all, scan_begins, scan_more, scan_passed, some_table}
+use Rattle.lsm_compactions.proofs.FilteredCame.{err_passed}
 use Rattle.lsm_compactions.proofs.RunWriting.{wants}
 use Rattle.lsm_compactions.proofs.Scanners.{own_fact, own_tables, scanned_all, scanned_more}
 use Rattle.lsm_runs.proofs.Together.{none_together}
@@ -9,17 +15,34 @@ use Rattle.lsm_compactions.proofs.compact.scanners_of.Goals as goal
 use Rattle.lsm_compactions.proofs.compact.scanners_of.Goals.{then-not-is_empty+in_ok-scanner_of+in_ok-push, else-not-is_empty}
 
 pub loop-run-init : goal.loop-run-init
-loop-run-init g c able = rw c.new-scanners.ensures.items (none_together RunScansNext nowhere)
+loop-run-init g c = record {
+  held = λ able. rw c.new-scanners.ensures.items (none_together RunScansNext nowhere);
+  any = rw c.new-scanners.ensures.items tt;
+}
 
 pub loop-run-preserved : goal.loop-run-preserved
-loop-run-preserved g c able =
+loop-run-preserved g c =
+    let runs = c.args.runs.now in
+    let i = c.loop-run.run-index in
+    let run = c.run-item.result in
+    let less = c.loop-run-test.true in
+    let is = c.run-item.is in
     elim c.if-not-is_empty.branch [
-      | then-not-is_empty+in_ok-scanner_of+in_ok-push w ↦
-          rw (w.scanners-is, w.in_ok-push.ensures.items)
-          (scanned_more arc_value c.args.runs.now able c.loop-run.run-index RunScansNext nowhere c.run-item.result c.loop-run-test.true c.run-item.is c.loop-run.scanners.items (c.loop-run.invariant able) w.in_ok-scanner_of.field-0
-          (λ ls held some. w.in_ok-scanner_of.ensures.list ls held some))
-      | else-not-is_empty w ↦
-          absurd (grind (arith, own_tables arc_value c.args.runs.now able c.loop-run.run-index c.run-item.result c.loop-run-test.true c.run-item.is, c.is_empty.ensures, w.if-not-is_empty.false))
+      | then-not-is_empty+in_ok-scanner_of+in_ok-push w ↦ record {
+        held = λ able.
+            rw (w.scanners-is, w.in_ok-push.ensures.items)
+            (scanned_more arc_value runs able i RunScansNext nowhere run less is c.loop-run.scanners.items (c.loop-run.invariant.held able) w.in_ok-scanner_of.field-0
+            (λ ls held some. w.in_ok-scanner_of.ensures.list ls held some));
+        any = rw (w.scanners-is, w.in_ok-push.ensures.items)
+            (scan_more arc_value RunScansNext runs i run less is c.loop-run.scanners.items w.in_ok-scanner_of.field-0 c.loop-run.invariant.any
+            (some_table (arc_value run) (grind (arith, c.is_empty.ensures, w.if-not-is_empty.true)))
+            w.in_ok-scanner_of.ensures.any);
+      }
+      | else-not-is_empty w ↦ record {
+        held = λ able. absurd (grind (arith, own_tables arc_value runs able i run less is, c.is_empty.ensures, w.if-not-is_empty.false));
+        any = rw w.scanners-is (scan_passed arc_value RunScansNext runs i run less is c.loop-run.scanners.items c.loop-run.invariant.any
+            (no_table (arc_value run) (grind (arith, c.is_empty.ensures, w.if-not-is_empty.false))));
+      }
     ]
 
 pub returns-in_err-scanner_of-clause-err : goal.returns-in_err-scanner_of-clause-err
@@ -28,4 +51,14 @@ returns-in_err-scanner_of-clause-err g c able =
     (own_fact arc_value c.args.runs.now able c.loop-run.run-index c.run-item.result c.loop-run-test.true c.run-item.is c.in_err-scanner_of.ensures.refused)
 
 pub returns-clause-list : goal.returns-clause-list
-returns-clause-list g c able = scanned_all arc_value c.args.runs.now able c.loop-run.run-index RunScansNext nowhere c.loop-run.scanners.items (c.loop-run.invariant able) c.loop-run-test.false
+returns-clause-list g c able = scanned_all arc_value c.args.runs.now able c.loop-run.run-index RunScansNext nowhere c.loop-run.scanners.items (c.loop-run.invariant.held able) c.loop-run-test.false
+
+pub returns-in_err-scanner_of-clause-told : goal.returns-in_err-scanner_of-clause-told
+returns-in_err-scanner_of-clause-told g c =
+    err_passed (λ (e : Error). is_memory e ≡ false → BeginsWith (scans_of (map arc_value c.args.runs.now)) e) c.from_residual.result c.in_err-scanner_of.field-0.0 c.from_residual.ensures.1
+    (λ fine. scan_begins arc_value RunScansNext c.args.runs.now c.loop-run.run-index c.run-item.result c.loop-run-test.true c.run-item.is c.in_err-scanner_of.field-0.0
+    (some_table (arc_value c.run-item.result) (grind (arith, c.is_empty.ensures, c.if-not-is_empty.true)))
+    (c.in_err-scanner_of.ensures.told fine))
+
+pub returns-clause-any : goal.returns-clause-any
+returns-clause-any g c = scan_all arc_value RunScansNext c.args.runs.now c.loop-run.scanners.items c.loop-run.run-index c.loop-run.invariant.any c.loop-run-test.false

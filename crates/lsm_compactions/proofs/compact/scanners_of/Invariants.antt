@@ -3,11 +3,14 @@ use Rattle.std.specs.Arc.{arc_value}
 use Rattle.sst_entries.specs.Stream.{nowhere}
 use Rattle.lsm_compactions.specs.Compacted.{AreMergeable}
 use Rattle.lsm_runs.specs.RunScan.{RunScansNext}
+use Rattle.lsm_compactions.proofs.AnyScans.{ScanSoFar}
 use Rattle.lsm_compactions.proofs.Scanners.{ScannedSoFar}
 use Rattle.lsm_compactions.proofs.compact.scanners_of.Given as goal
 
 abbrev pub invariant-loop-run : goal.invariant-loop-run
-invariant-loop-run g l =
-    (able : AreMergeable (map arc_value l.runs))
-    → ScannedSoFar arc_value l.runs able l.run-index RunScansNext nowhere l.scanners.items
-    l.run-index
+invariant-loop-run g l = record {
+  held : (able : AreMergeable (map arc_value l.runs))
+      → ScannedSoFar arc_value l.runs able l.run-index RunScansNext nowhere l.scanners.items
+      l.run-index;
+  any : ScanSoFar arc_value RunScansNext l.runs l.scanners.items l.run-index;
+}
