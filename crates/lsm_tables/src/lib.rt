@@ -22,7 +22,7 @@ pub use lsm_compactions::{
     compaction_law, pack_runs, packing_law, write_run, write_run_with,
 };
 pub use lsm_formats::{GlobalTableId, TableId, Timestamp, TreeId};
-pub use lsm_iters::{Bound, Iter, OwnedDataBlockIter};
+pub use lsm_iters::{Bound, Iter, LendingIter, OwnedDataBlockIter};
 pub use lsm_readers::{
     Fault, Finding, Inner, ParsedMeta, ParsedRegions, PinnedBlockIndex, Query, Scanner, Table,
     TableInner, Verification, Verified, VerifyError, get_many, point_in,

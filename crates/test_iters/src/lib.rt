@@ -7,6 +7,8 @@ mod index_seeks;
 #[cfg(test)]
 mod kinds;
 #[cfg(test)]
+mod lending;
+#[cfg(test)]
 mod one_answer;
 #[cfg(test)]
 mod ranges;

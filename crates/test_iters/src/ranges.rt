@@ -29,7 +29,7 @@ fn range_of<A: Allocator + Copy>(
 }
 
 // A range of a table that is gone before the first step.
-fn range_in<A: Allocator + Copy>(
+pub(crate) fn range_in<A: Allocator + Copy>(
     alloc: A,
     bytes: Result<Slice<A>, Error>,
     pin_index: bool,
