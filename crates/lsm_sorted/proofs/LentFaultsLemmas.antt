@@ -40,7 +40,8 @@ pub came_after : (ps qs : List (Option R)) → NothingCame (ps ++ qs) → Nothin
 came_after [] qs h = h
 came_after (p ∷ ps) qs h = came_after ps qs h.1
 
-pub last_came : (r : Option R) (before : List (Option R)) → NothingCame (before ++ r ∷ []) → r ≡ None
+pub last_came : (r : Option R) (before : List (Option R)) → NothingCame (before ++ r ∷ [])
+    → r ≡ None
 last_came r [] h = h.0
 last_came r (b ∷ before) h = last_came r before h.1
 

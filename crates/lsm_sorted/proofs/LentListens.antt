@@ -144,8 +144,10 @@ module _ {S A : Type 0} (advances : S → Option R → S → Type 0) (s m t : Le
       gave = each_append advances before.answers after.answers s.source m.source t.source
           before.gave after.gave;
       told = elim after.told [
-        | inl passing ↦ inl (passing_after r before.answers after.answers clean.0 passing.0,
-            passing.1)
+        | inl passing ↦ inl (
+          passing_after r before.answers after.answers clean.0 passing.0,
+          passing.1,
+        )
         | inr wants ↦ inr (wants_after r before.answers after.answers clean.0 wants.0, wants.1)
       ];
       idle = λ q none. after.idle
@@ -165,10 +167,14 @@ module _ {S A : Type 0} (advances : S → Option R → S → Type 0) (s m t : Le
       gave = each_append advances before.answers after.answers s.source m.source t.source
           before.gave after.gave;
       told = elim after.told [
-        | inl passing ↦ inl (passing_after (Some r) before.answers after.answers clean.0 passing.0,
-            passing.1)
-        | inr wants ↦ inr (wants_after (Some r) before.answers after.answers clean.0 wants.0,
-            wants.1)
+        | inl passing ↦ inl (
+          passing_after (Some r) before.answers after.answers clean.0 passing.0,
+          passing.1,
+        )
+        | inr wants ↦ inr (
+          wants_after (Some r) before.answers after.answers clean.0 wants.0,
+          wants.1,
+        )
       ];
       idle = λ q none. awake advances m t pending
           (before.idle q (came_before before.answers after.answers none));
@@ -187,7 +193,10 @@ module _ {S A : Type 0} (advances : S → Option R → S → Type 0) (s m t : Le
         answers = before.answers ++ after.answers;
         gave = each_append advances before.answers after.answers s.source m.source t.source
             before.gave after.gave;
-        told = inl (ends_append (Some (Err e)) before.answers after.answers clean.0 passing.0, live);
+        told = inl (
+          ends_append (Some (Err e)) before.answers after.answers clean.0 passing.0,
+          live,
+        );
         idle = λ q none. absurd (fault_comes e after.answers passing.0
             (came_after before.answers after.answers none));
         rests = λ none. let no : Some (Err e) ≡ None = none in absurd cc;
@@ -206,8 +215,10 @@ module _ {S A : Type 0} (advances : S → Option R → S → Type 0) (s m t : Le
       answers = before.answers ++ after.step.answers;
       gave = each_append advances before.answers after.step.answers s.source m.source t.source
           before.gave after.step.gave;
-      told = inl (ends_append None before.answers after.step.answers clean.0 (after.ended refl),
-          live);
+      told = inl (
+        ends_append None before.answers after.step.answers clean.0 (after.ended refl),
+        live,
+      );
       idle = λ q none. refl;
       rests = λ none. ap not next;
     }

@@ -16,7 +16,8 @@ use Rattle.lsm_sorted.proofs.LentFaultsLemmas.{fault_comes, last_came, no_faults
 
 -- the source was asked for entries that are skipped
 abbrev pub Skipped : {S : Type 0} → (S → Option R → S → Type 0) → S → S → Type 0
-Skipped advances s t = (answers : List (Option R)) × NoFaults answers × GaveEach advances s answers t
+Skipped advances s t =
+    (answers : List (Option R)) × NoFaults answers × GaveEach advances s answers t
 
 either_none : (b : Bool) → cond {A = Option Entry} b None None ≡ None
 either_none true = refl
@@ -85,8 +86,13 @@ module _ {S : Type 0} (advances : S → Option R → S → Type 0) where
     memory_for x e is over step = record {
       answers = skipped.0 ++ Some (Ok x) ∷ [];
       gave = gave (Some (Ok x)) step;
-      told = inr ((ap (λ (f : Error). Some (Err f)) is,
-          no_faults_append skipped.0 (Some (Ok x) ∷ []) skipped.1 (refl, tt)), over);
+      told = inr (
+        (
+          ap (λ (f : Error). Some (Err f)) is,
+          no_faults_append skipped.0 (Some (Ok x) ∷ []) skipped.1 (refl, tt),
+        ),
+        over,
+      );
       idle = λ q none. let no : Some (Ok x) ≡ None = last_came (Some (Ok x)) skipped.0 none in
           absurd cc;
       rests = λ none. refl;
