@@ -1,5 +1,5 @@
 -- A compaction that lends: what its source answers in a step.
-use Rattle.std.proofs.Common.{◌≡◌, ◌⊎◌, inl, inr, refl, sym, ◌∙◌, ap, subst, Bool, true, false}
+use Rattle.std.proofs.Common.{◌≡◌, inl, inr, refl, sym, ◌∙◌, ap, subst, Bool, true, false}
 use Rattle.std.proofs.Common.{List, [], ◌∷◌, ◌++◌}
 use Rattle.std.specs.Prelude.{Option, Some, None, Result, Ok, Err, is_some, not}
 use Rattle.std.specs.Option.{option_map}
@@ -8,7 +8,7 @@ use Rattle.sst_entries.specs.declared.error.Error.{Error}
 use Rattle.sst_entries.specs.declared.error.Error.TheVariants.{OutOfMemory}
 use Rattle.lsm_merge.specs.Ends.{R}
 use Rattle.lsm_sorted.specs.Hears.{GaveEach}
-use Rattle.lsm_sorted.specs.LentFaults.{EndsIn, Listens, NoFaults, NothingCame, WantsItself}
+use Rattle.lsm_sorted.specs.LentFaults.{Listens, NoFaults, WantsItself}
 use Rattle.lsm_sorted.specs.LentCompaction.{Fetches, ListensSome, Passing, is_quiet, lender}
 use Rattle.lsm_sorted.specs.declared.compaction.lending.LendingCompaction.{LendingCompaction}
 use Rattle.lsm_sorted.proofs.HearsLemmas.{each_append}
