@@ -1,10 +1,7 @@
 -- A stream that lends: the errors of its source, and its end.
-use Rattle.std.proofs.Common.{◌≡◌, ◌⊎◌, inl, inr, refl, sym, ◌∙◌, ap, subst, Bool, true, false}
+use Rattle.std.proofs.Common.{◌≡◌, inl, inr, refl, sym, ◌∙◌, ap, subst, Bool, true, false}
 use Rattle.std.proofs.Common.{List, [], ◌∷◌, ◌++◌, append_assoc}
-use Rattle.std.specs.Prelude.{Option, Some, None, Result, Ok, Err, is_some}
-use Rattle.std.specs.Option.{option_map}
-use Rattle.std.specs.List.{AllByRecursion}
-use Rattle.sst_entries.specs.Entry.{Entry}
+use Rattle.std.specs.Prelude.{Option, Some, None, Ok, Err}
 use Rattle.sst_entries.specs.Stream.{answer_stops}
 use Rattle.sst_entries.specs.declared.error.Error.{Error}
 use Rattle.sst_entries.specs.declared.error.Error.TheVariants.{OutOfMemory}
@@ -12,7 +9,7 @@ use Rattle.lsm_merge.specs.Ends.{R}
 use Rattle.lsm_merge.specs.MergeLaws.{every_error}
 use Rattle.lsm_sorted.specs.Hears.{GaveEach}
 use Rattle.lsm_sorted.specs.LentFaults.{AllOver, AlwaysTells, CallTells, EndsIn, GaveInCalls}
-use Rattle.lsm_sorted.specs.LentFaults.{Listens, NextIdles, NoFaults, NothingCame, Passes}
+use Rattle.lsm_sorted.specs.LentFaults.{NextIdles, NoFaults, NothingCame, Passes}
 use Rattle.lsm_sorted.specs.LentFaults.{PassesAll, StaysOver, WantsItself}
 use Rattle.lsm_sorted.proofs.HearsLemmas.{none_stop_append}
 
@@ -40,7 +37,8 @@ pub came_after : (ps qs : List (Option R)) → NothingCame (ps ++ qs) → Nothin
 came_after [] qs h = h
 came_after (p ∷ ps) qs h = came_after ps qs h.1
 
-pub last_came : (r : Option R) (before : List (Option R)) → NothingCame (before ++ r ∷ []) → r ≡ None
+pub last_came : (r : Option R) (before : List (Option R)) → NothingCame (before ++ r ∷ [])
+    → r ≡ None
 last_came r [] h = h.0
 last_came r (b ∷ before) h = last_came r before h.1
 

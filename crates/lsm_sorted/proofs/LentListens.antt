@@ -1,5 +1,5 @@
 -- A compaction that lends: what its source answers in a step.
-use Rattle.std.proofs.Common.{◌≡◌, ◌⊎◌, inl, inr, refl, sym, ◌∙◌, ap, subst, Bool, true, false}
+use Rattle.std.proofs.Common.{◌≡◌, inl, inr, refl, sym, ◌∙◌, ap, subst, Bool, true, false}
 use Rattle.std.proofs.Common.{List, [], ◌∷◌, ◌++◌}
 use Rattle.std.specs.Prelude.{Option, Some, None, Result, Ok, Err, is_some, not}
 use Rattle.std.specs.Option.{option_map}
@@ -8,7 +8,7 @@ use Rattle.sst_entries.specs.declared.error.Error.{Error}
 use Rattle.sst_entries.specs.declared.error.Error.TheVariants.{OutOfMemory}
 use Rattle.lsm_merge.specs.Ends.{R}
 use Rattle.lsm_sorted.specs.Hears.{GaveEach}
-use Rattle.lsm_sorted.specs.LentFaults.{EndsIn, Listens, NoFaults, NothingCame, WantsItself}
+use Rattle.lsm_sorted.specs.LentFaults.{Listens, NoFaults, WantsItself}
 use Rattle.lsm_sorted.specs.LentCompaction.{Fetches, ListensSome, Passing, is_quiet, lender}
 use Rattle.lsm_sorted.specs.declared.compaction.lending.LendingCompaction.{LendingCompaction}
 use Rattle.lsm_sorted.proofs.HearsLemmas.{each_append}
@@ -193,7 +193,10 @@ module _ {S A : Type 0} (advances : S → Option R → S → Type 0) (s m t : Le
         answers = before.answers ++ after.answers;
         gave = each_append advances before.answers after.answers s.source m.source t.source
             before.gave after.gave;
-        told = inl (ends_append (Some (Err e)) before.answers after.answers clean.0 passing.0, live);
+        told = inl (
+          ends_append (Some (Err e)) before.answers after.answers clean.0 passing.0,
+          live,
+        );
         idle = λ q none. absurd (fault_comes e after.answers passing.0
             (came_after before.answers after.answers none));
         rests = λ none. let no : Some (Err e) ≡ None = none in absurd cc;

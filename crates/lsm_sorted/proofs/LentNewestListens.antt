@@ -16,7 +16,8 @@ use Rattle.lsm_sorted.proofs.LentFaultsLemmas.{fault_comes, last_came, no_faults
 
 -- the source was asked for entries that are skipped
 abbrev pub Skipped : {S : Type 0} → (S → Option R → S → Type 0) → S → S → Type 0
-Skipped advances s t = (answers : List (Option R)) × NoFaults answers × GaveEach advances s answers t
+Skipped advances s t =
+    (answers : List (Option R)) × NoFaults answers × GaveEach advances s answers t
 
 either_none : (b : Bool) → cond {A = Option Entry} b None None ≡ None
 either_none true = refl

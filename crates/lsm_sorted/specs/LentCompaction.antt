@@ -1,6 +1,7 @@
 -- What a compaction keeps of a source that lends.
 use Rattle.std.specs.Prelude.{◌≡◌, ◌⊎◌, ℕ, ◌+◌, Bool, not, true, false, ◌&&◌, ◌||◌, cond}
-use Rattle.std.specs.Prelude.{if◌then◌else◌, nat_lt, List, [], ◌∷◌, ◌++◌, Option, Some, None, Result, Ok}
+use Rattle.std.specs.Prelude.{if◌then◌else◌, nat_lt, List, [], ◌∷◌, ◌++◌, Option, Some, None}
+use Rattle.std.specs.Prelude.{Result, Ok}
 use Rattle.std.specs.Option.{option_map}
 use Rattle.sst_entries.specs.Entry.{Entry, entry}
 use Rattle.sst_entries.specs.Kind.{is_tombstone_kind, is_weak_kind}

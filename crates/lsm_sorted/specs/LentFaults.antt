@@ -20,8 +20,8 @@ NothingCame answers = AllByRecursion (λ a. a ≡ None) answers
 abbrev pub EndsIn : Option R → List (Option R) → Type 0
 EndsIn r answers = (before : List (Option R)) × NoFaults before × (answers ≡ before ++ r ∷ [])
 
--- a call passes on what its source answered in it: an error, or nothing, as the last of its answers,
--- and an entry where none of them is an error
+-- a call passes on what its source answered in it: an error, or nothing, as the last of its
+-- answers, and an entry where none of them is an error
 abbrev pub Passes : Option R → List (Option R) → Type 0
 Passes None answers = EndsIn None answers
 Passes (Some (Ok x)) answers = NoFaults answers
@@ -35,8 +35,8 @@ WantsItself r answers = (r ≡ Some (Err OutOfMemory)) × NoFaults answers
 abbrev pub AllOver : List (Option R) → List (List (Option R)) → Type 0
 AllOver rs calls = NothingCame rs × AllByRecursion (λ answers. answers ≡ []) calls
 
--- answers to calls, with what the source answered in each: passed on, until memory is refused to the
--- stream itself
+-- answers to calls, with what the source answered in each: passed on, until memory is refused to
+-- the stream itself
 abbrev pub PassesAll : List (Option R) → List (List (Option R)) → Type 0
 PassesAll [] [] = Unit {0}
 PassesAll (r ∷ rs) (answers ∷ calls) = (Passes r answers × PassesAll rs calls)

@@ -1,8 +1,6 @@
 -- On to the next entry of another key.
-use Rattle.std.proofs.Common.{◌≡◌, ℕ, List, true, false, refl, sym, ◌∙◌, subst, arith, inl}
-use Rattle.std.proofs.Common.{inr}
-use Rattle.std.specs.Prelude.{Option, Some, Err}
-use Rattle.sst_entries.specs.declared.error.Error.{Error}
+use Rattle.std.proofs.Common.{◌≡◌, ℕ, List, true, false, refl, sym, ◌∙◌, subst, arith}
+use Rattle.std.specs.Prelude.{Option}
 use Rattle.std.proofs.lemmas.Result.{err_from_is_err_and}
 use Rattle.sst_entries.specs.Stream.{CanDeal, nowhere}
 use Rattle.sst_entries.proofs.StreamLemmas.{can_front, can_now}
