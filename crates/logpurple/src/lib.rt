@@ -12,7 +12,7 @@ pub use lsm_sorted::compaction::lending::LendingCompaction;
 pub use lsm_sorted::compaction::stream::{
     CompactionStream, DroppedKvCallback, NoCallback, NoFilter, StreamFilter, StreamFilterVerdict,
 };
-pub use lsm_sorted::{Below, LendingBelow, LendingNewest, MvccStream, NewestOf, each_below, newest_of};
+pub use lsm_sorted::{Below, LendingNewest, MvccStream, NewestOf, each_below, newest_of};
 pub use lsm_tables::{
     CompactionObserver, CompactionOutcome, CompactionProgress, Fault, Finding, Iter, NewestOfRuns,
     NewestOfRunsAt, NewestOfSourcesAt, NoObserver, OpenOptions, ParsedMeta, Query, RunReader,

@@ -25,7 +25,6 @@ pub mod KeptLemmas
 pub mod PartLemmas
 pub mod LentFaultsLemmas
 pub mod LentListens
-pub mod LentBelowLemmas
 pub mod LentNewestLemmas
 pub mod LentNewestListens
 pub mod LentOutsLemmas

@@ -4,7 +4,6 @@ pub mod Hears
 pub mod Peeked
 pub mod Newest
 pub mod LentFaults
-pub mod LentBelow
 pub mod LentNewest
 pub mod Mvcc
 pub mod Gap

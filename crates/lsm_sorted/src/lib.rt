@@ -8,7 +8,6 @@ mod below;
 pub mod compaction;
 mod gap;
 mod give_up;
-mod lending_below;
 mod lending_newest;
 mod mvcc_stream;
 mod newest;
@@ -16,7 +15,6 @@ mod peeked;
 
 pub use below::{Below, each_below};
 pub use gap::up_to_gap;
-pub use lending_below::LendingBelow;
 pub use lending_newest::LendingNewest;
 pub use lsm_merge::{IntervalHeap, Merger, Tournament, from_both_ends};
 pub use lsm_ranges::{Indexed, KeyRange, Ranged, Run, optimize_runs, overlap_chain};

@@ -1,10 +1,9 @@
-//! Newest versions and compactions that lend, beside those by value, over the same lists, and what
-//! lends below a bound.
+//! Newest versions and compactions that lend, beside those by value, over the same lists.
 use crate::words::{lends_so, results_of};
 use lsm_sorted::compaction::Rules;
 use lsm_sorted::compaction::lending::LendingCompaction;
 use lsm_sorted::compaction::stream::CompactionStream;
-use lsm_sorted::{LendingBelow, LendingNewest, MvccStream};
+use lsm_sorted::{LendingNewest, MvccStream};
 use sst_entries::{Error, IterItem, Lending, ValueType};
 use std::alloc::Global;
 use std::vec::IntoIter;
@@ -127,30 +126,6 @@ fn lends_what_is_kept_and_errors_in_their_places(rt: HostRuntime) {
         assert!(rt;
             matches!(compacts(rt.alloc(), results, flags, wanted), Ok(true)),
             "{results} by {flags}"
-        );
-    }
-}
-
-// Whether these results are lent so below 5.
-fn lends_below(alloc: Global, results: &str, wanted: &str) -> Result<bool, Error> {
-    let source = lent_list(results_of(alloc, results)?);
-    Ok(lends_so(LendingBelow::new(source, 5), wanted))
-}
-
-// Results, and what is lent of them.
-const BELOW: &[(&str, &str)] = &[
-    ("", "- -"),
-    ("aV9 aV5 bV7", "- -"),
-    ("aV9 aV4 bV5 cV1", "aV4 cV1 - -"),
-    ("aV9 !7 aV6 bT0 !9 cV4", "!7 bT0 !9 cV4 -"),
-];
-
-#[test]
-fn lends_what_is_numbered_below_a_bound(rt: HostRuntime) {
-    for &(results, wanted) in BELOW {
-        assert!(rt;
-            matches!(lends_below(rt.alloc(), results, wanted), Ok(true)),
-            "{results}"
         );
     }
 }
