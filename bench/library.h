@@ -47,8 +47,13 @@ uint32_t tool_bench_merge_lent(const uint8_t* files, size_t files_len, const uin
                          size_t lens_len, uint64_t passes, Digest* digest);
 uint32_t tool_bench_range(const uint8_t* file, size_t file_len, const uint8_t* keys, size_t keys_len,
                          size_t key_len, size_t count, uint64_t passes, Digest* digest);
+uint32_t tool_bench_range_lent(const uint8_t* file, size_t file_len, const uint8_t* keys,
+                               size_t keys_len, size_t key_len, size_t count, uint64_t passes,
+                               Digest* digest);
 uint32_t tool_bench_range_runs(const uint8_t* files, size_t files_len, const uint64_t* lens,
                               size_t lens_len, uint64_t passes, Digest* digest);
+uint32_t tool_bench_range_runs_lent(const uint8_t* files, size_t files_len, const uint64_t* lens,
+                                    size_t lens_len, uint64_t passes, Digest* digest);
 uint32_t tool_bench_compact(const uint8_t* files, size_t files_len, const uint64_t* lens,
                            size_t lens_len, uint64_t target, uint64_t passes, Written* written);
 uint32_t tool_bench_compact_and_scan(const uint8_t* files, size_t files_len, const uint64_t* lens,

@@ -228,11 +228,16 @@ class TableBench {
       CheckKeys("batch", table_, tool_bench_get_many, batch_, passes, batch_found_);
       CheckKeys("singly", table_, tool_bench_get, batch_, passes, batch_found_);
       CheckFiles("runs", tool_bench_range_runs, passes);
+      CheckFiles("runs_lent", tool_bench_range_runs_lent, passes);
       CheckFiles("merge", tool_bench_merge, passes);
       CheckFiles("merge_lent", tool_bench_merge_lent, passes);
       Check("range", passes, ranges_, [&](Digest* digest) {
         return tool_bench_range(Bytes(table_), table_.size(), Bytes(present_.joined),
                                present_.joined.size(), kKeyLen, kRange, passes, digest);
+      });
+      Check("range_lent", passes, ranges_, [&](Digest* digest) {
+        return tool_bench_range_lent(Bytes(table_), table_.size(), Bytes(present_.joined),
+                                    present_.joined.size(), kKeyLen, kRange, passes, digest);
       });
     }
     for (uint64_t passes : {uint64_t{0}, uint64_t{0}, uint64_t{1}}) {
@@ -447,9 +452,13 @@ class TableBench {
              &rows);
     PassRows("iterator from the back", an_entry, "back", "back", data * kBeside, entries, 1, &rows);
     PassRows("range of 50 entries", "", "range", "range", data * kBeside, keys, again, &rows);
+    PassRows("range of 50 entries, lent", "", "range_lent", "range", data * kBeside, keys, again,
+             &rows);
     PassRows("merge of 8", an_entry, "merge", "merge", read_ * kBeside, merged, 1, &rows);
     PassRows("merge of 8, lent", an_entry, "merge_lent", "merge", read_ * kBeside, merged, 1, &rows);
     PassRows("range of 8 runs", an_entry, "runs", "merge", read_ * kBeside, merged, 1, &rows);
+    PassRows("range of 8 runs, lent", an_entry, "runs_lent", "merge", read_ * kBeside, merged, 1,
+             &rows);
     rows.push_back(RowOf("compact 8, an entry", "compact", First("compact"), written, merged, 1));
     rows.push_back(
         RowOf("compact_runs of 8, an entry", "compact", First("compact_runs"), written, merged, 1));

@@ -4,11 +4,15 @@ ghost use Rattle.sst_entries.specs.Stream.{CanDeal, nowhere};
 
 use crate::digest::{Digest, code};
 use crate::files::{open_copy, scanners_of, tables_of};
+use crate::ranges::runs_of;
 use lsm_merge::LendingMerger;
+use lsm_ranges::Run;
 use lsm_sorted::LendingNewest;
-use lsm_tables::Table;
-use sst_blocks::{Error, Lending};
+use lsm_tables::{Table, lend_runs_at};
+use sst_blocks::{Error, Lending, Slice};
 use std::alloc::Global;
+use std::ops::Bound;
+use std::sync::Arc;
 
 // Goes through all that is lent.
 fn drain<L: Lending>(source: &mut L, digest: &mut Digest) -> Result<(), Error>
@@ -94,4 +98,112 @@ pub extern "C" fn tool_bench_merge_lent(
     digest: &mut Digest,
 ) -> u32 {
     code(merge_passes(alloc, files, lens, passes, digest))
+}
+
+// Goes through the first so many that are lent, or all where there are fewer.
+fn drain_front<L: Lending + Drop>(
+    mut source: L,
+    count: usize,
+    digest: &mut Digest,
+) -> Result<(), Error>
+    requires { CanDeal L.advances nowhere L.can_advance L.can_advance source }
+{
+    for _ in 0..count {
+        if !source.advance()? {
+            break;
+        }
+        if let Some(entry) = source.entry() {
+            digest.add_lent(&entry);
+        }
+    }
+    Ok(())
+}
+
+// Goes through some entries from each of these keys on, which stand behind one another.
+fn range_each(
+    alloc: Global,
+    table: &Table,
+    keys: &[u8],
+    key_len: usize,
+    count: usize,
+    digest: &mut Digest,
+) -> Result<(), Error> {
+    let mut rest = keys;
+    for _ in 0..keys.len() {
+        let Some((key, after)) = rest.split_at_checked(key_len) else {
+            break;
+        };
+        rest = after;
+        let from = Bound::Included(Slice::from(alloc, key)?);
+        drain_front(table.range(from, Bound::Unbounded)?.lend(), count, digest)?;
+    }
+    Ok(())
+}
+
+fn range_passes(
+    alloc: Global,
+    file: &[u8],
+    keys: &[u8],
+    key_len: usize,
+    count: usize,
+    passes: u64,
+    digest: &mut Digest,
+) -> Result<(), Error> {
+    let table = open_copy(alloc, file)?;
+    for _ in 0..passes {
+        *digest = Digest::empty();
+        range_each(alloc, &table, keys, key_len, count, digest)?;
+    }
+    Ok(())
+}
+
+/// Copies and opens a table, and goes so many times over the first `count` entries from each of
+/// some keys on, lent. The keys are of one length and stand behind one another; an incomplete last
+/// one is left out. Tells what the last pass lent.
+#[unsafe(no_mangle)]
+pub extern "C" fn tool_bench_range_lent(
+    alloc: Global,
+    file: &[u8],
+    keys: &[u8],
+    key_len: usize,
+    count: usize,
+    passes: u64,
+    digest: &mut Digest,
+) -> u32 {
+    code(range_passes(alloc, file, keys, key_len, count, passes, digest))
+}
+
+fn read_runs(alloc: Global, runs: &[Arc<Run<Table>>], digest: &mut Digest) -> Result<(), Error> {
+    let whole = (Bound::Unbounded, Bound::Unbounded);
+    let mut newest = lend_runs_at(alloc, runs, whole, u64::MAX)?;
+    drain(&mut newest, digest)
+}
+
+fn runs_passes(
+    alloc: Global,
+    files: &[u8],
+    lens: &[u64],
+    passes: u64,
+    digest: &mut Digest,
+) -> Result<(), Error> {
+    let runs = runs_of(alloc, tables_of(alloc, files, lens)?)?;
+    for _ in 0..passes {
+        *digest = Digest::empty();
+        read_runs(alloc, &runs, digest)?;
+    }
+    Ok(())
+}
+
+/// Copies and opens tables, whose bytes stand behind one another, each as a run of its own, and
+/// goes so many times over the newest version of each key of all runs, lent. Tells what the last
+/// pass lent.
+#[unsafe(no_mangle)]
+pub extern "C" fn tool_bench_range_runs_lent(
+    alloc: Global,
+    files: &[u8],
+    lens: &[u64],
+    passes: u64,
+    digest: &mut Digest,
+) -> u32 {
+    code(runs_passes(alloc, files, lens, passes, digest))
 }

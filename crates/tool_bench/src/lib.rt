@@ -31,7 +31,9 @@ pub use compactions::{tool_bench_compact, tool_bench_compact_and_scan};
 pub use digest::Digest;
 pub use files::tool_bench_open;
 pub use gets::tool_bench_get;
-pub use lending::{tool_bench_merge_lent, tool_bench_scan_lent};
+pub use lending::{
+    tool_bench_merge_lent, tool_bench_range_lent, tool_bench_range_runs_lent, tool_bench_scan_lent,
+};
 pub use merges::tool_bench_merge;
 pub use packings::{Packed, tool_bench_optimize_runs};
 pub use ranges::{tool_bench_range, tool_bench_range_runs};

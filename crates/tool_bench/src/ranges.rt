@@ -100,7 +100,7 @@ pub extern "C" fn tool_bench_range(
 }
 
 // A run for each table.
-fn runs_of(alloc: Global, tables: Vec<Table>) -> Result<Vec<Arc<Run<Table>>>, Error> {
+pub(crate) fn runs_of(alloc: Global, tables: Vec<Table>) -> Result<Vec<Arc<Run<Table>>>, Error> {
     let mut runs = Vec::new(alloc);
     for table in tables {
         let mut of_one = Vec::new(alloc);
