@@ -1,5 +1,4 @@
-use Rattle.std.proofs.Common.{drop, ap, sym, ◌∙◌, List, ◌∷◌}
-use Rattle.sst_blocks.specs.Handle.{Handle}
+use Rattle.std.proofs.Common.{drop}
 use Rattle.lsm_readers.proofs.Verifications.{at_none}
 use Rattle.lsm_readers.proofs.VerifyEarly.{some_first}
 use Rattle.lsm_readers.proofs.VerifyReads.{next_is}
