@@ -1,13 +1,11 @@
 -- What a store makes of lists, and the counters of ids behind the tables.
-use Rattle.std.proofs.Common.{◌≡◌, refl, sym, ◌∙◌, ap, subst, ℕ, ◌<◌, ◌≤◌, inl, inr, List, [], ◌∷◌}
+use Rattle.std.proofs.Common.{◌≡◌, refl, sym, ◌∙◌, ap, ℕ, ◌≤◌, List, [], ◌∷◌}
 use Rattle.std.proofs.Common.{arith, length}
 use Rattle.std.specs.Prelude.{IfSome, MatchOption, None, Option, Some, sum_by}
 use Rattle.std.specs.List.{AllByRecursion}
 use Rattle.std.specs.Option.{option_map, option_map_or}
-use Rattle.std.proofs.lemmas.Bool.{cases_lt}
 use Rattle.logpurple.specs.Words.{AreCutOf, Entry, HasList, Label, OpenTable, ids_behind, run_label}
-use Rattle.example_store.specs.Ids.{AreMadeOf, HasFlushed, HasTaken, StaysOrFlushes}
-use Rattle.example_store.specs.Recent.{IsPut}
+use Rattle.example_store.specs.Ids.{AreMadeOf, HasFlushed}
 use Rattle.example_store.specs.Story.{Holding, option_list}
 use Rattle.example_store.proofs.Compacting.{made_of}
 
@@ -67,26 +65,6 @@ flushed_one s t run has cut runs ids = record {
   placed = runs;
   counter = ids ∙ ap (ids_behind s.ids s.target) (sym (one_run run));
 }
-
--- ---- a write behind the room that was made for it
-
-module _ (s t : Holding) (room : length s.recent < s.limit → t ≡ s)
-    (full : s.limit ≤ length s.recent → HasFlushed s t × (t.recent ≡ [])) where
-  pub stays_or_flushes : StaysOrFlushes s t
-  stays_or_flushes = elim (cases_lt (length s.recent) s.limit) [
-    | inl less ↦ inl (room less)
-    | inr le ↦ inr (full le)
-  ]
-
-  pub taken_on : (e : Entry) (u : Holding) → IsPut e t.recent u.recent → u.runs ≡ t.runs
-      → u.ids ≡ t.ids → HasTaken e s u
-  taken_on e u put runs ids = record {
-    beside = λ less. subst (λ (h : Holding). IsPut e h.recent u.recent) (room less) put;
-    runs = λ less. runs ∙ ap (λ (h : Holding). h.runs) (room less);
-    ids = λ less. ids ∙ ap (λ (h : Holding). h.ids) (room less);
-    alone = λ le. subst (λ (es : List Entry). IsPut e es u.recent) (full le).1 put;
-    flushed = λ le. flushed_on s t u (full le).0 runs ids;
-  }
 
 -- ---- counters
 

@@ -5,13 +5,11 @@ use Rattle.std.specs.Prelude.{Ok, Err, IfErr, IsErrAnd, Result, map}
 use Rattle.std.specs.List.{AllByRecursion}
 use Rattle.std.proofs.lemmas.Bool.{cases_Bool}
 use Rattle.std.proofs.lemmas.List.{length-map, map-append}
-use Rattle.logpurple.specs.Words.{Entry, Error, Finding, IsInOrder, IsStrict, OpenTable, StoresList}
-use Rattle.logpurple.specs.Words.{body_of, is_memory, range_of, recovered_told, table_found}
-use Rattle.logpurple.specs.Words.{union_in}
+use Rattle.logpurple.specs.Words.{Entry, Error, IsInOrder, IsStrict, OpenTable, StoresList}
+use Rattle.logpurple.specs.Words.{is_memory, range_of, recovered_told, union_in}
 use Rattle.example_store.specs.Closed.{StoreLists, files_in}
 use Rattle.example_store.specs.Faulty.{AreOwnFiles, HasNumbers, IsFirstFault, IsFirstRun}
-use Rattle.example_store.specs.Faulty.{IsNoList, IsOpenFault, IsOwnFile, NamesFile, NamesInRun}
-use Rattle.example_store.specs.Faulty.{StoresSome}
+use Rattle.example_store.specs.Faulty.{IsOpenFault, IsOwnFile, NamesFile, NamesInRun}
 use Rattle.example_store.specs.Story.{IsOwnRun, IsOwnTable}
 use Rattle.example_store.specs.declared.store.close.Closed.{Closed}
 use Rattle.example_store.specs.declared.store.open.FileFault.TheVariants.{Unopened}
@@ -49,18 +47,6 @@ names_unopened next bytes run place e r memory other told opens =
         },
       )
     ]
-
--- a table in which something is found
-pub names_unsound : (t : OpenTable) (f : Finding) → recovered_told t.bytes 0 true true ≡ Ok t.parts
-    → table_found (body_of t.bytes) t.parts ≡ Err f
-    → ((es : List Entry) → StoresList t.bytes es → ⊥) → IsNoList t.bytes f
-names_unsound t f opens found none =
-    record { table = t; opens = opens; found = found; none = none }
-
--- one that stores a list with an entry
-pub stores_some : (bytes : List ℕ)
-    → ((es : List Entry) × StoresList bytes es × (0 < length es)) → StoresSome bytes
-stores_some bytes h = record { list = h.0; stores = h.1; some = h.2 }
 
 own_file : (next : ℕ) (t : OpenTable) → IsOwnTable next t → IsOwnFile next t.bytes
 own_file next t own = record {

@@ -1,7 +1,7 @@
 use Rattle.std.proofs.Common.{arith, refl}
 use Rattle.example_store.proofs.Opening.{highest_own, none_weak, own_table}
 use Rattle.example_store.specs.Faulty.{NamesFile}
-use Rattle.example_store.proofs.Faults.{passed, stores_some}
+use Rattle.example_store.proofs.Faults.{passed}
 use Rattle.example_store.proofs.store.open.test_table.Goals as goal
 
 pub returns-then-get_highest_seqno-next-clause-taken :
@@ -52,8 +52,10 @@ returns-then-get_highest_seqno-next-clause-named g c =
     let past = c.if-get_highest_seqno-next.true in (
       refl,
       refl,
-      stores_some c.args.table.now.bytes found,
-      omega (arith, said, is, unlifted, past),
+      (
+        record { list = found.0; stores = found.1; some = found.2 },
+        omega (arith, said, is, unlifted, past),
+      ),
     )
 
 pub returns-then-weak_tombstone_count-gt0-clause-named :
@@ -70,7 +72,9 @@ returns-then-weak_tombstone_count-gt0-clause-named g c =
     let past = c.if-weak_tombstone_count-gt0.true in (
       refl,
       refl,
-      stores_some c.args.table.now.bytes found,
-      omega (arith, highest, high_is, unlifted, below),
-      omega (arith, weak, weak_is, past),
+      (
+        record { list = found.0; stores = found.1; some = found.2 },
+        omega (arith, highest, high_is, unlifted, below),
+        omega (arith, weak, weak_is, past),
+      ),
     )
