@@ -45,8 +45,8 @@ pub use Rattle.lsm_runs.specs.RunLists.{DealTogether, single}
 pub use Rattle.lsm_runs.specs.RunParts.{range_of}
 pub use Rattle.lsm_runs.specs.SeveralRuns.{leading_of, runs_told, union_in}
 pub use Rattle.lsm_compactions.specs.AnyRuns.{AreTablesBy, BeginsWith, CameInOrder, CameOf}
-pub use Rattle.lsm_compactions.specs.AnyRuns.{GoesThrough, HasMade, LeavesOrder, WritesSome}
-pub use Rattle.lsm_compactions.specs.AnyRuns.{scans_of}
+pub use Rattle.lsm_compactions.specs.AnyRuns.{GoesThrough, HasMade, LeavesOrder, RefusesOf}
+pub use Rattle.lsm_compactions.specs.AnyRuns.{WritesSome, scans_of}
 pub use Rattle.lsm_compactions.specs.Chain.{AreCutOf, FitsAsTables, IsRunOfList, chain_fault}
 pub use Rattle.lsm_compactions.specs.Chain.{ids_behind, run_label, tables_fault}
 pub use Rattle.lsm_compactions.specs.Compacted.{AreCompactable, AreMergeable, AreWrittenBy}

@@ -2,7 +2,7 @@
 -- results that a source deals.
 use Rattle.std.proofs.Common.{◌≡◌, refl, sym, ◌∙◌, ap, subst, true, false, List, [], ◌∷◌}
 use Rattle.std.proofs.Common.{◌++◌, ◌⊎◌, inl, inr, append_assoc, append-nil}
-use Rattle.std.specs.Prelude.{ℕ, Option, Some, None, Result, Ok, Err, IsErrAnd}
+use Rattle.std.specs.Prelude.{ℕ, Option, Some, None, Result, Ok, Err, IfErr, IsErrAnd}
 use Rattle.std.specs.Option.{option_or}
 use Rattle.std.proofs.lemmas.Bool.{cases_Bool}
 use Rattle.sst_entries.specs.declared.error.Error.{Error}
@@ -15,7 +15,7 @@ use Rattle.lsm_writers.specs.declared.writer.FinishedTable.{FinishedTable}
 use Rattle.lsm_writers.specs.Tables.{TablesWriting, all_written, run_fault, took, took_fault}
 use Rattle.lsm_writers.specs.Writing.{IsWritable, may_be_written}
 use Rattle.lsm_compactions.specs.AnyRuns.{AreTaken, BeginsWith, CameOf, DealsResults, FailsBehind}
-use Rattle.lsm_compactions.specs.AnyRuns.{LeavesOrder, MeetsFault, TakesWhole, results_fault}
+use Rattle.lsm_compactions.specs.AnyRuns.{LeavesOrder, MeetsFault, RefusesOf, TakesWhole, results_fault}
 use Rattle.lsm_compactions.specs.Chain.{writes_fault}
 use Rattle.lsm_compactions.specs.Compacted.{AreWrittenBy}
 use Rattle.lsm_compactions.specs.declared.any_runs.CompactionOutcome.{CompactionOutcome}
@@ -72,10 +72,16 @@ ends_with w m h = ap (writes_fault w) (sym (append-nil (all_written m))) ∙ h.b
 
 pub came_refused : {A : Type 0} (w : TablesWriting) (rs : List R)
     (r : Result (CompactionOutcome A) Error) (f : Error) → IsErrAnd r (λ y. y ≡ f)
-    → (is_memory f ≡ false → MeetsFault w rs f ⊎ FailsBehind w rs f) → CameOf w rs r
+    → (is_memory f ≡ false → RefusesOf w rs f) → CameOf w rs r
 came_refused w rs (Ok x) f is h = absurd is
 came_refused w rs (Err y) f is h =
-    subst (λ (e : Error). is_memory e ≡ false → MeetsFault w rs e ⊎ FailsBehind w rs e) (sym is) h
+    subst (λ (e : Error). is_memory e ≡ false → RefusesOf w rs e) (sym is) h
+
+pub refused_of : {A : Type 0} (w : TablesWriting) (rs : List R)
+    (r : Result (CompactionOutcome A) Error) → CameOf w rs r
+    → IfErr r (λ e. is_memory e ≡ false → RefusesOf w rs e)
+refused_of w rs (Ok x) h = tt
+refused_of w rs (Err e) h = h
 
 -- a scan begins with it, or it is want of memory
 pub begun_or_came : {A : Type 0} (w : TablesWriting) (rs : List R) (scans : List (List R))

@@ -16,17 +16,16 @@ use Rattle.lsm_merge.specs.Ends.{R}
 use Rattle.lsm_sorted.specs.declared.compaction.Rules.{Rules}
 use Rattle.lsm_sorted.specs.declared.compaction.stream.CompactionStream.{CompactionStream}
 use Rattle.lsm_sorted.specs.Compaction.{Verdict}
-use Rattle.lsm_sorted.specs.Compacting.{Calls}
+use Rattle.lsm_sorted.specs.Compacting.{Calls, Compacted}
 use Rattle.lsm_sorted.specs.CompactionState.{Compacts, CompactsNext, callback_of, filter_of}
 use Rattle.lsm_sorted.specs.CompactionState.{rules_of}
 use Rattle.lsm_sorted.proofs.WholeLemmas.{whole}
 use Rattle.lsm_writers.specs.Tables.{TablesWriting}
 use Rattle.lsm_writers.specs.Writing.{IsWritable, may_be_written}
 use Rattle.lsm_writers.proofs.ListWriting.{listed_follows}
-use Rattle.lsm_compactions.specs.Filtered.{CameTo, CameUntil, CameUpTo, GivesEach, IsWritten}
-use Rattle.lsm_compactions.specs.Filtered.{KeepsSome, WritesUntil}
-use Rattle.lsm_compactions.specs.Filtered.{RefusesAmong, RefusesAt, RefusesBehind, RefusesBy}
-use Rattle.lsm_compactions.specs.Filtered.{RefusesKept, RefusesWritten}
+use Rattle.lsm_compactions.specs.Filtered.{CameTo, CameUntil, CameUpTo, FailsAt, FailsToEnd}
+use Rattle.lsm_compactions.specs.Filtered.{GivesEach, IsWritten, KeepsSome}
+use Rattle.lsm_compactions.specs.Filtered.{RefusesBy, RefusesWritten}
 use Rattle.lsm_compactions.specs.declared.any_runs.CompactionOutcome.{CompactionOutcome}
 use Rattle.lsm_compactions.specs.declared.any_runs.CompactionOutcome.TheVariants.{OutOfOrder}
 use Rattle.lsm_compactions.specs.declared.any_runs.CompactionOutcome.TheVariants.{Stopped, Tables}
@@ -151,48 +150,70 @@ module _ {S F C : Type 0} (front : S → Option R → S → Type 0) (can : S →
       told = h.told;
     }
 
-    pub came_until : (q : O) → WritesUntil Next w s says o q
-        → CameUntil gives gets (rules_of s) (filter_of s) (callback_of s) es w says o q
-    came_until q h = record {
+  -- a result more, or nothing more
+  fails_at : (list : List Entry) (led : Stream) → Yields Next s (ok_results list) led
+      → (e : Error) (h : FailsAt Next w s list led e)
+      → KeepsSome gives gets (rules_of s) (filter_of s) (callback_of s) es w
+      (ok_results list ++ h.last ∷ []) (callback_of h.then)
+  fails_at list led runs e h =
+      let l = given front can left gives gets is_memory (ok_results list) s led (ok_results es) has
+      (none_stops is_memory list) runs in
+      let call = h.one.calls is_memory l.rest l.has h.fine in
+      record {
+        filter = filter_of h.then;
+        left = call.0;
+        given = one_more list led h.then h.last l call.0 call.2;
+      }
+
+  fails_to_end : (list : List Entry) (led : Stream) → Yields Next s (ok_results list) led
+      → (e : Error) (h : FailsToEnd Next w s list led e)
+      → Compacted gives gets (rules_of s) (filter_of s) (callback_of s) (ok_results es)
+      (ok_results list) (filter_of h.then) (callback_of h.then)
+  fails_to_end list led runs e h = whole front can left gives gets is_memory (ok_results list) s
+      led h.then (ok_results es) has (none_stops is_memory list) runs h.ended
+
+  module _ {O : Type 0} (says : O → CompactionProgress → Bool → O → Type 0) (o q : O) (e : Error)
+      (h : RefusesWritten Next w s says o e q) where
+    pub came_until : CameUntil gives gets (rules_of s) (filter_of s) (callback_of s) es w says o e q
+    came_until = record {
       kept = h.list;
       taken = h.taken;
       callback = callback_of h.led;
       given = given_by h.list h.led h.gave;
+      fails = λ fine. elim (h.fails fine) [
+        | inl at ↦ inl
+            (at.last, callback_of at.then, fails_at h.list h.led h.gave e at, at.fault)
+        | inr end ↦ inr (
+          filter_of end.then,
+          callback_of end.then,
+          fails_to_end h.list h.led h.gave e end,
+          end.fault,
+        )
+      ];
       told = h.told;
     }
 
-  refuses_among : (e : Error) → RefusesAmong Next w s e
-      → RefusesAt gives gets (rules_of s) (filter_of s) (callback_of s) es w e
-  refuses_among e h =
-      let l = given front can left gives gets is_memory (ok_results h.list) s h.led
-      (ok_results es) has (none_stops is_memory h.list) h.gave in
-      let call = h.one.calls is_memory l.rest l.has h.fine in
-      record {
-        gave = ok_results h.list ++ h.last ∷ [];
-        filter = filter_of h.then;
-        callback = callback_of h.then;
-        left = call.0;
-        given = one_more h.list h.led h.then h.last l call.0 call.2;
-        fault = h.fault;
-      }
-
-  refuses_behind : (e : Error) → RefusesBehind Next w s e
-      → RefusesKept gives gets (rules_of s) (filter_of s) (callback_of s) es w e
-  refuses_behind e h = record {
-    kept = h.list;
-    filter = filter_of h.then;
-    callback = callback_of h.then;
-    compacted = whole front can left gives gets is_memory (ok_results h.list) s h.led h.then
-        (ok_results es) has (none_stops is_memory h.list) h.gave h.ended;
-    fault = h.fault;
-  }
-
-  pub refuses_by : (e : Error) → RefusesWritten Next w s e
-      → RefusesBy gives gets (rules_of s) (filter_of s) (callback_of s) es w e
-  refuses_by e h = elim h [
-    | inl among ↦ inl (refuses_among e among)
-    | inr behind ↦ inr (refuses_behind e behind)
-  ]
+    pub refuses_by : is_memory e ≡ false
+        → RefusesBy gives gets (rules_of s) (filter_of s) (callback_of s) es w e
+    refuses_by fine = elim (h.fails fine) [
+      | inl at ↦
+          let k = fails_at h.list h.led h.gave e at in
+          inl (record {
+            gave = ok_results h.list ++ at.last ∷ [];
+            filter = k.filter;
+            callback = callback_of at.then;
+            left = k.left;
+            given = k.given;
+            fault = at.fault;
+          })
+      | inr end ↦ inr (record {
+        kept = h.list;
+        filter = filter_of end.then;
+        callback = callback_of end.then;
+        compacted = fails_to_end h.list h.led h.gave e end;
+        fault = end.fault;
+      })
+    ]
 
 -- the same, where the stream is set as is told
 module _ {S F C : Type 0} (front : S → Option R → S → Type 0) (can : S → Type 0) (left : S → Count)
@@ -227,17 +248,17 @@ module _ {S F C : Type 0} (front : S → Option R → S → Type 0) (can : S →
         (as_set (λ rs g b. CameUpTo gives gets rs g b es w says o outcome (callback_of u) q)
         (came_up front can left gives gets s es has w says o outcome u q h))
 
-    pub came_until_by : WritesUntil Goes w s says o q
-        → CameUntil gives gets rules f c es w says o q
-    came_until_by h =
-        as_set (λ rs g b. CameUntil gives gets rs g b es w says o q)
-        (came_until front can left gives gets s es has w says o q h)
+    pub came_until_by : (e : Error) → RefusesWritten Goes w s says o e q
+        → CameUntil gives gets rules f c es w says o e q
+    came_until_by e h =
+        as_set (λ rs g b. CameUntil gives gets rs g b es w says o e q)
+        (came_until front can left gives gets s es has w says o q e h)
 
-  pub refused_by : (e : Error) → RefusesWritten Goes w s e
-      → RefusesBy gives gets rules f c es w e
-  refused_by e h =
-      as_set (λ rs g b. RefusesBy gives gets rs g b es w e)
-      (refuses_by front can left gives gets s es has w e h)
+    pub refused_by : (e : Error) → RefusesWritten Goes w s says o e q → is_memory e ≡ false
+        → RefusesBy gives gets rules f c es w e
+    refused_by e h fine =
+        as_set (λ rs g b. RefusesBy gives gets rs g b es w e)
+        (refuses_by front can left gives gets s es has w says o q e h fine)
 
 -- ---- refusals that are passed on
 
@@ -264,16 +285,20 @@ pub err_any : {X P : Type 0} (r : Result X Error) → P → IfErr r (λ _. P)
 err_any (Ok x) h = tt
 err_any (Err e) h = h
 
--- a compaction that was refused before anything was kept
-pub came_none : {F C O : Type 0} (gives : F → Entry → Result Verdict Error → F → Type 0)
+-- a compaction that was refused for want of memory before anything was kept
+pub came_none : {F C O X : Type 0} (gives : F → Entry → Result Verdict Error → F → Type 0)
     (gets : C → Entry → C → Type 0) (rules : Rules) (f : F) (c : C) (es : List Entry)
     (w : TablesWriting) (says : O → CompactionProgress → Bool → O → Type 0) (o : O)
-    → CameUntil gives gets rules f c es w says o o
-came_none gives gets rules f c es w says o = record {
+    (r : Result X Error) → IfErr r (λ e. e ≡ OutOfMemory)
+    → IfErr r (λ e. CameUntil gives gets rules f c es w says o e o)
+came_none gives gets rules f c es w says o (Ok x) memory = tt
+came_none gives gets rules f c es w says o (Err e) memory = record {
   kept = [];
   taken = record { writable = none_writable; none = refl };
   callback = c;
   given = record { filter = f; left = ok_results es; given = (refl, refl, refl) };
+  fails = λ fine.
+      let both : true ≡ false = sym (ap is_memory memory) ∙ fine in absurd cc;
   told = told_nothing says w o;
 }
 

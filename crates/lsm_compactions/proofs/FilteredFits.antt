@@ -1,9 +1,9 @@
 -- Where whatever may be kept fits as tables, and a filter refuses nothing but for want of memory,
 -- neither does a compaction.
 use Rattle.std.proofs.Common.{◌≡◌, refl, sym, ◌∙◌, ap, subst, true, false, List, [], ◌∷◌, ◌++◌}
-use Rattle.std.proofs.Common.{append_assoc, append-nil, inl, inr}
+use Rattle.std.proofs.Common.{append_assoc, append-nil, inl, inr, Bool}
 use Rattle.std.specs.Prelude.{Option, Some, None, Result, Ok, Err}
-use Rattle.std.specs.Iterator.{Count}
+use Rattle.std.specs.Iterator.{Count, Yields}
 use Rattle.std.specs.Option.{option_or}
 use Rattle.sst_entries.specs.Entry.{Entry}
 use Rattle.sst_entries.specs.Error.{is_memory}
@@ -25,8 +25,9 @@ use Rattle.lsm_writers.specs.Writing.{IsWritable}
 use Rattle.lsm_compactions.specs.AnyRuns.{results_fault}
 use Rattle.lsm_compactions.specs.Chain.{writes_fault}
 use Rattle.lsm_compactions.specs.Compacted.{RunsOn}
-use Rattle.lsm_compactions.specs.Filtered.{FitsKept, GivesEach, RefusesAmong, RefusesBehind}
-use Rattle.lsm_compactions.specs.Filtered.{RefusesWritten, RefusesForMemory}
+use Rattle.lsm_compactions.specs.Filtered.{FailsAt, FailsToEnd, FitsKept, GivesEach}
+use Rattle.lsm_compactions.specs.Filtered.{RefusesForMemory, RefusesWritten}
+use Rattle.lsm_compactions.specs.declared.observer.CompactionProgress.{CompactionProgress}
 use Rattle.lsm_compactions.proofs.FilteredCalls.{gives_more, led}
 use Rattle.lsm_compactions.proofs.FilteredCame.{none_stops}
 use Rattle.lsm_compactions.proofs.FilteredOrder.{Ordered, call_follows, ordered_of, skipped}
@@ -105,32 +106,38 @@ module _ {S F C : Type 0} (front : S → Option R → S → Type 0) (can : S →
       (fits k.judged k.over) in
       none_faults _ e (ap (results_fault w) (sym listed) ∙ front_none w all behind none) fault
 
-  fits_among : (e : Error) → RefusesAmong Next w s e → ⊥
-  fits_among e h =
-      let l = led front can left gives gets is_memory h.list [] s h.led es has
-      (ordered_of es writable) h.gave in
+  fits_among : (list : List Entry) (t : Stream) → Yields Next s (ok_results list) t → (e : Error)
+      → FailsAt Next w s list t e → ⊥
+  fits_among list t runs e h =
+      let l = led front can left gives gets is_memory list [] s t es has (ordered_of es writable)
+      runs in
       let call = h.one.calls is_memory (ok_results l.rest) l.has h.fine in
-      fits_last h.last h.list l.rest h.led h.then call.0 e h.fine l.ordered l.calls
-      (subst (λ (o : Rules). Calls gives gets o (filter_of h.led) (callback_of h.led)
+      fits_last h.last list l.rest t h.then call.0 e h.fine l.ordered l.calls
+      (subst (λ (o : Rules). Calls gives gets o (filter_of t) (callback_of t)
       (ok_results l.rest) (Some h.last) (filter_of h.then) (callback_of h.then) call.0)
       l.rules call.2) h.fault
 
-  fits_behind : (e : Error) → RefusesBehind Next w s e → ⊥
-  fits_behind e h =
-      let l = led front can left gives gets is_memory h.list [] s h.led es has
-      (ordered_of es writable) h.gave in
-      let c = whole front can left gives gets is_memory (ok_results h.list) s h.led h.then
-      (ok_results es) has (none_stops is_memory h.list) h.gave h.ended in
+  fits_behind : (list : List Entry) (t : Stream) → Yields Next s (ok_results list) t → (e : Error)
+      → FailsToEnd Next w s list t e → ⊥
+  fits_behind list t runs e h =
+      let l = led front can left gives gets is_memory list [] s t es has (ordered_of es writable)
+      runs in
+      let c = whole front can left gives gets is_memory (ok_results list) s t h.then
+      (ok_results es) has (none_stops is_memory list) runs h.ended in
       let j = judged_of c.judged es c.over in
-      let all : kept (rules_of s) j.js ≡ h.list =
+      let all : kept (rules_of s) j.js ≡ list =
       ap (λ (xs : List JudgedItem). entries_among (outs (rules_of s) xs)) (sym j.are)
-      ∙ ap entries_among (sym c.answers) ∙ among_all h.list in
-      let order : Ordered h.list = subst Ordered (append-nil h.list)
-      (skipped h.list l.rest [] (subst (λ (xs : List Entry). Ordered (h.list ++ xs))
+      ∙ ap entries_among (sym c.answers) ∙ among_all list in
+      let order : Ordered list = subst Ordered (append-nil list)
+      (skipped list l.rest [] (subst (λ (xs : List Entry). Ordered (list ++ xs))
       (sym (append-nil l.rest)) l.ordered)) in
       none_faults _ e (ap (writes_fault w) (sym all)
       ∙ fits_none w (kept (rules_of s) j.js) law fresh next
-      (subst IsWritable (sym all) (writable_of h.list order)) (fits j.js j.over)) h.fault
+      (subst IsWritable (sym all) (writable_of list order)) (fits j.js j.over)) h.fault
 
-  pub fits_all : (e : Error) → RefusesWritten Next w s e → ⊥
-  fits_all e h = elim h [ inl among ↦ fits_among e among | inr behind ↦ fits_behind e behind ]
+  pub fits_all : {O : Type 0} (says : O → CompactionProgress → Bool → O → Type 0) (o q : O)
+      (e : Error) → RefusesWritten Next w s says o e q → is_memory e ≡ false → ⊥
+  fits_all says o q e h fine = elim (h.fails fine) [
+    | inl at ↦ fits_among h.list h.led h.gave e at
+    | inr end ↦ fits_behind h.list h.led h.gave e end
+  ]

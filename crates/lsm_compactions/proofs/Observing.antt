@@ -32,7 +32,7 @@ use Rattle.lsm_writers.proofs.CutTables.{long_enough, no_end, some_length, still
 use Rattle.lsm_writers.proofs.ListWriting.{same_label, written_gained}
 use Rattle.lsm_compactions.specs.AnyRuns.{results_fault}
 use Rattle.lsm_compactions.specs.Compacted.{RunsOn}
-use Rattle.lsm_compactions.specs.Filtered.{RefusesWritten, WritesUntil}
+use Rattle.lsm_compactions.specs.Filtered.{FailsAt, FailsToEnd, RefusesWritten}
 use Rattle.lsm_compactions.specs.Observed.{GoesOnAt, IsCounted, StoppedAt, StopsAtLast, TellsNext}
 use Rattle.lsm_compactions.specs.Observed.{ToldOfAll, ToldOfPart, progress_at, told_behind}
 use Rattle.lsm_compactions.specs.Observed.{told_count, told_of}
@@ -455,47 +455,38 @@ module _ {S O : Type 0} (next : S → Option R → S → Type 0)
         (yields_more (ok_results (all_written m)) s t u (Ok e) h.gave step)
 
     -- the writer refuses it
-    pub refused_entry : next t (Some (Ok e)) u → (f : Error) → took_fault m e ≡ Some f
-        → RefusesWritten next w s f
-    refused_entry step f is = inl (record {
-      list = all_written m;
-      led = t;
-      gave = h.gave;
+    pub failed_entry : next t (Some (Ok e)) u → (f : Error) → took_fault m e ≡ Some f
+        → FailsAt next w s (all_written m) t f
+    failed_entry step f is = record {
       last = Ok e;
       fine = refl;
       then = u;
       one = step;
       fault = h.taking.among (Ok e ∷ [])
           ∙ or_first (took_fault m e) (results_fault (took m e) []) f is;
-    })
+    }
 
   module _ (m : TablesWriting) (t u : S) (progress : CompactionProgress) (q : O)
       (h : Observing m t progress q) where
     -- the stream refuses
-    pub refused_result : (f : Error) → is_memory f ≡ false → next t (Some (Err f)) u
-        → RefusesWritten next w s f
-    refused_result f fine step = inl (record {
-      list = all_written m;
-      led = t;
-      gave = h.gave;
+    pub failed_result : (f : Error) → is_memory f ≡ false → next t (Some (Err f)) u
+        → FailsAt next w s (all_written m) t f
+    failed_result f fine step = record {
       last = Err f;
       fine = fine;
       then = u;
       one = step;
       fault = h.taking.among (Err f ∷ []);
-    })
+    }
 
     -- the writer refuses to finish
-    pub refused_end : (f : Error) → next t None u → run_fault m ≡ Some f
-        → RefusesWritten next w s f
-    refused_end f step is = inr (record {
-      list = all_written m;
-      led = t;
-      gave = h.gave;
+    pub failed_end : (f : Error) → next t None u → run_fault m ≡ Some f
+        → FailsToEnd next w s (all_written m) t f
+    failed_end f step is = record {
       then = u;
       ended = step;
       fault = ends_with w m h.taking ∙ is;
-    })
+    }
 
     module _ (fresh : IsFreshRun w) where
       cut_by : (n : TablesWriting) → Since w n → CutSoFar n
@@ -535,12 +526,15 @@ module _ {S O : Type 0} (next : S → Option R → S → Type 0)
               (sym (ap (λ (v : TablesWriting). v.tables) same) ∙ more.1))
 
       -- it was refused
-      pub written_until : WritesUntil next w s says o q
-      written_until = record {
+      pub refused_so : (e : Error) → (is_memory e ≡ false
+          → FailsAt next w s (all_written m) t e ⊎ FailsToEnd next w s (all_written m) t e)
+          → RefusesWritten next w s says o e q
+      refused_so e fails = record {
         list = all_written m;
         taken = are_taken w m h.taking;
         led = t;
         gave = h.gave;
+        fails = fails;
         told = told_of_part;
       }
 

@@ -97,6 +97,10 @@ pub record FailsBehind (w : TablesWriting) (rs : List R) (e : Error) : Type 0 wh
   pub taken : AreTaken w list
   pub fault : writes_fault w list ≡ Some e
 
+-- it refuses so, whichever is met first
+abbrev pub RefusesOf : TablesWriting → List R → Error → Type 0
+RefusesOf w rs e = MeetsFault w rs e ⊎ FailsBehind w rs e
+
 -- all are entries, and finished tables are theirs
 pub record TakesWhole {A : Type 0} (w : TablesWriting) (rs : List R) (fs : List (FinishedTable A))
     (left : Option ℕ) : Type 0 where
@@ -112,7 +116,7 @@ abbrev pub CameOf : {A : Type 0} → TablesWriting → List R → Result (Compac
 CameOf w rs (Ok (Tables tables left)) = TakesWhole w rs tables.items left
 CameOf w rs (Ok OutOfOrder) = LeavesOrder w rs
 CameOf w rs (Ok Stopped) = ⊥
-CameOf w rs (Err e) = is_memory e ≡ false → MeetsFault w rs e ⊎ FailsBehind w rs e
+CameOf w rs (Err e) = is_memory e ≡ false → RefusesOf w rs e
 
 -- where want of memory stops its reader, a source deals just these results
 abbrev pub DealsResults : {S : Type 0} → (S → Option R → S → Type 0) → List R → S → Type 0

@@ -34,6 +34,20 @@ module _ {S : Type 0} (next : S → Option R → S → Type 0) (w : TablesWritin
       (e : Entry) × next led (Some (Ok e)) u × (may_be_written list e.user_key e.seqno ≡ false)
   EndsAs list led Stopped u = led ≡ u
 
+  -- it gave a result more, no want of memory, at which it or the writer refuses so
+  pub record FailsAt (list : List Entry) (led : S) (e : Error) : Type 0 where
+    pub last : R
+    pub fine : result_stops is_memory last ≡ false
+    pub then : S
+    pub one : next led (Some last) then
+    pub fault : results_fault w (ok_results list ++ last ∷ []) ≡ Some e
+
+  -- it gave nothing more, and the writer refuses so to finish
+  pub record FailsToEnd (list : List Entry) (led : S) (e : Error) : Type 0 where
+    pub then : S
+    pub ended : next led None then
+    pub fault : writes_fault w list ≡ Some e
+
   module _ {O : Type 0} (says : O → CompactionProgress → Bool → O → Type 0) (o : O) where
     -- a stream gave these entries, which were written, and ended so; the observer was told of them
     pub record IsWritten {A : Type 0} (outcome : CompactionOutcome A) (u : S) (q : O) : Type 0 where
@@ -44,36 +58,15 @@ module _ {S : Type 0} (next : S → Option R → S → Type 0) (w : TablesWritin
       pub ends : EndsAs list led outcome u
       pub told : WasToldOf says w list outcome o q
 
-    -- until it was refused, it gave these entries, which were written, and the observer was told
-    pub record WritesUntil (q : O) : Type 0 where
+    -- it gave these, which were written, and the observer was told of them; then, memory aside, it
+    -- or the writer refused so
+    pub record RefusesWritten (e : Error) (q : O) : Type 0 where
       pub list : List Entry
       pub taken : AreTaken w list
       pub led : S
       pub gave : Yields next s (ok_results list) led
+      pub fails : is_memory e ≡ false → FailsAt list led e ⊎ FailsToEnd list led e
       pub told : ToldOfPart says w list o q
-
-  -- it gave these entries and one result more, no want of memory, at which it or the writer refuses
-  pub record RefusesAmong (e : Error) : Type 0 where
-    pub list : List Entry
-    pub led : S
-    pub gave : Yields next s (ok_results list) led
-    pub last : R
-    pub fine : result_stops is_memory last ≡ false
-    pub then : S
-    pub one : next led (Some last) then
-    pub fault : results_fault w (ok_results list ++ last ∷ []) ≡ Some e
-
-  -- it gave these entries, and nothing more: the writer refuses to finish
-  pub record RefusesBehind (e : Error) : Type 0 where
-    pub list : List Entry
-    pub led : S
-    pub gave : Yields next s (ok_results list) led
-    pub then : S
-    pub ended : next led None then
-    pub fault : writes_fault w list ≡ Some e
-
-  abbrev pub RefusesWritten : Error → Type 0
-  RefusesWritten e = RefusesAmong e ⊎ RefusesBehind e
 
 -- ---- a list that is compacted
 
@@ -158,6 +151,15 @@ module _ {F C : Type 0} (gives : F → Entry → Result Verdict Error → F → 
         × (may_be_written kept e.user_key e.seqno ≡ false)
     KeepsThen kept Stopped d = KeepsSome (ok_results kept) d
 
+    -- it gives a result more, at which it or the writer refuses so; or nothing more, and the writer
+    -- refuses so to finish
+    abbrev pub KeepsFault : List Entry → Error → Type 0
+    KeepsFault kept e =
+        ((last : R) × (d : C) × KeepsSome (ok_results kept ++ last ∷ []) d
+        × (results_fault w (ok_results kept ++ last ∷ []) ≡ Some e))
+        ⊎ ((g : F) × (d : C) × Compacted gives gets rules f c (ok_results es) (ok_results kept) g d
+        × (writes_fault w kept ≡ Some e))
+
     module _ {O : Type 0} (says : O → CompactionProgress → Bool → O → Type 0) (o : O) where
       -- what a compaction of any list came to, and its callback and an observer then: these entries
       -- of it were kept and written, and it ended so
@@ -168,10 +170,11 @@ module _ {F C : Type 0} (gives : F → Entry → Result Verdict Error → F → 
         pub came : KeepsThen kept outcome d
         pub told : WasToldOf says w kept outcome o q
 
-      -- these were kept and written until it was refused
-      pub record CameUntil (q : O) : Type 0 where
+      -- these were kept and written; then, memory aside, it was refused so
+      pub record CameUntil (e : Error) (q : O) : Type 0 where
         pub kept : List Entry
         pub taken : AreTaken w kept
         pub callback : C
         pub given : KeepsSome (ok_results kept) callback
+        pub fails : is_memory e ≡ false → KeepsFault kept e
         pub told : ToldOfPart says w kept o q

@@ -1,8 +1,10 @@
 //! Compacting several runs of tables whose bytes nobody has verified.
-ghost use Rattle.std.specs.Prelude.{◌≡◌, ◌⊎◌, IfErr, IfOk, IsErrAnd, List, map};
+ghost use Rattle.std.specs.Prelude.{◌≡◌, ◌⊎◌, false, IfErr, IfOk, IsErrAnd, List, map};
 ghost use Rattle.std.specs.Arc.{arc_value};
 ghost use Rattle.sst_entries.specs.declared.error.Error.TheVariants.{OutOfMemory};
 ghost use Rattle.std.specs.List.{AllByRecursion};
+ghost use Rattle.sst_entries.specs.Error.{is_memory};
+ghost use Rattle.sst_entries.specs.Stream.{ok_results};
 ghost use Rattle.lsm_merge.specs.Ends.{R};
 ghost use Rattle.lsm_merge.specs.InPlace.{merge_of};
 ghost use Rattle.lsm_merge.specs.Union.{Ascends, entries_among};
@@ -10,9 +12,8 @@ ghost use Rattle.lsm_sorted.specs.LentCompaction.{lent_outs};
 ghost use Rattle.lsm_compactions.specs.Words.{AreCompactable, AreTablesBy, BeginsWith};
 ghost use Rattle.lsm_compactions.specs.Words.{CameInOrder, CameOf, CanDeal, DealsResults, Entry};
 ghost use Rattle.lsm_compactions.specs.Words.{Faults, FitsBy, GoesThrough, HasMade, HaveEntries};
-ghost use Rattle.lsm_compactions.specs.Words.{IsFreshRun};
-ghost use Rattle.lsm_compactions.specs.Words.{RunsHoldLists, RunsOn, kept_in, nowhere, scans_of};
-ghost use Rattle.lsm_compactions.specs.Words.{writes_fault};
+ghost use Rattle.lsm_compactions.specs.Words.{IsFreshRun, RefusesOf, RunsHoldLists, RunsOn};
+ghost use Rattle.lsm_compactions.specs.Words.{kept_in, nowhere, scans_of, writes_fault};
 
 use crate::compact::kept_of;
 use lsm_ranges::Run;
@@ -102,6 +103,12 @@ pub fn compact_any_runs<A: Allocator + Clone>(
     ensures merged { (lists : List (List (List Entry))) →
         RunsHoldLists (map arc_value runs.now) lists → AllByRecursion HaveEntries lists →
         IfOk result (CameInOrder writer (kept_in rules lists)) }
+    // Memory aside, it is refused then with the first fault of writing these, for as long as they
+    // come in order.
+    ensures faulted { (lists : List (List (List Entry))) →
+        RunsHoldLists (map arc_value runs.now) lists → AllByRecursion HaveEntries lists →
+        IfErr result (λ e. is_memory e ≡ false →
+        RefusesOf writer (ok_results (kept_in rules lists)) e) }
     // Of any tables whose scans come in order in each run, it is what comes of writing what is kept
     // of the scans together, the first fault in its place; or a scan begins with the fault.
     ensures any { let scans = scans_of (map arc_value runs.now) in

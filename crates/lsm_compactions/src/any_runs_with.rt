@@ -16,7 +16,7 @@ ghost use Rattle.lsm_compactions.specs.Words.{CanDeal, DealTogether, Entry, Faul
 ghost use Rattle.lsm_compactions.specs.Words.{HasBegun, HasMade, HaveEntries, IsCounted};
 ghost use Rattle.lsm_compactions.specs.Words.{IsFreshRun, IsWritten, RefusesBy, RefusesForMemory};
 ghost use Rattle.lsm_compactions.specs.Words.{RefusesWritten, RunsHoldLists, RunsOn, TellsNext};
-ghost use Rattle.lsm_compactions.specs.Words.{WasTold, WasToldUntil, WritesUntil, joined, nowhere};
+ghost use Rattle.lsm_compactions.specs.Words.{WasTold, WasToldUntil, joined, nowhere};
 ghost use Rattle.lsm_compactions.specs.Words.{union_in};
 
 use crate::compact::scanners_of;
@@ -84,10 +84,8 @@ fn write_observed<I: Iterator<Item = IterItem<A>>, O: CompactionObserver, A: All
         r items.new observer.new) }
     ensures made { IfOk result (HasMade writer) }
     ensures told { IfOk result (λ r. WasTold O.says writer r observer.old observer.new) }
-    ensures until { IfErr result (λ _. WritesUntil I.next_gives writer items.old O.says
-        observer.old observer.new) }
-    ensures refused { IfErr result (λ e. is_memory e ≡ false →
-        RefusesWritten I.next_gives writer items.old e) }
+    ensures refused { IfErr result (λ e. RefusesWritten I.next_gives writer items.old O.says
+        observer.old e observer.new) }
 {
     let mut progress = CompactionProgress {
         tables: 0,
@@ -193,11 +191,11 @@ pub fn compact_any_runs_with<
     ensures told { IfOk result (λ r. WasTold O.says writer r.0 observer.old observer.new) }
     // On a refusal it was told so of the tables that were finished until then,
     ensures heard { IfErr result (λ _. WasToldUntil O.says writer observer.old observer.new) }
-    // which are those of what was kept until then.
+    // which are those of what was kept until then, behind which, memory aside, it is refused so.
     ensures until { (lists : List (List (List Entry))) →
         RunsHoldLists (map arc_value runs.now) lists → AllByRecursion HaveEntries lists →
-        IfErr result (λ _. CameUntil F.gives C.gets rules filter callback (union_in lists) writer
-        O.says observer.old observer.new) }
+        IfErr result (λ e. CameUntil F.gives C.gets rules filter callback (union_in lists) writer
+        O.says observer.old e observer.new) }
     // Memory aside, the refusal is the first one of the filter or of the writer.
     ensures refused { (lists : List (List (List Entry))) →
         RunsHoldLists (map arc_value runs.now) lists → AllByRecursion HaveEntries lists →

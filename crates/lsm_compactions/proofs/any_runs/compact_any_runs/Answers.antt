@@ -2,20 +2,22 @@ use Rattle.std.proofs.Common.{◌∙◌, ap, inl, subst, List}
 use Rattle.std.specs.Prelude.{IfOk, map}
 use Rattle.std.specs.Arc.{arc_value}
 use Rattle.sst_entries.specs.Entry.{Entry}
+use Rattle.sst_entries.specs.declared.error.Error.{Error}
 use Rattle.sst_entries.specs.Error.{Faults}
 use Rattle.sst_entries.specs.Stream.{ok_results}
 use Rattle.sst_entries.proofs.Refusals.{faults_memory}
 use Rattle.lsm_writers.specs.Tables.{TablesWriting}
 use Rattle.lsm_writers.specs.Writing.{IsWritable}
 use Rattle.lsm_writers.proofs.Refused.{memory_alone}
-use Rattle.lsm_compactions.specs.AnyRuns.{AreTablesBy}
+use Rattle.lsm_compactions.specs.AnyRuns.{AreTablesBy, RefusesOf}
 use Rattle.lsm_compactions.specs.Chain.{writes_fault}
 use Rattle.lsm_compactions.specs.Compacted.{RunsOn, kept_in}
 use Rattle.lsm_runs.specs.SeveralRuns.{union_in}
 use Rattle.lsm_runs.proofs.OneList.{one_way}
 use Rattle.lsm_compactions.specs.Compacted.{merged_as}
-use Rattle.lsm_compactions.proofs.AnyTaken.{begun_or_came}
+use Rattle.lsm_compactions.proofs.AnyTaken.{begun_or_came, refused_of}
 use Rattle.lsm_compactions.proofs.AnyWritten.{faults_of, in_order_of, in_order_whole}
+use Rattle.lsm_compactions.proofs.FilteredCame.{memory_passed}
 use Rattle.lsm_compactions.proofs.Keeping.{stays_writable}
 use Rattle.lsm_compactions.proofs.RunWriting.{wants}
 use Rattle.lsm_compactions.proofs.WrittenBy.{fits_none}
@@ -67,3 +69,13 @@ returns-in_err-kept-clause-any g c ascend =
 
 pub returns-clause-any : goal.returns-clause-any
 returns-clause-any g c ascend = inl (c.write_in_order.ensures.came _ (c.in_ok-kept.ensures.any ascend))
+
+pub returns-in_err-kept-clause-faulted : goal.returns-in_err-kept-clause-faulted
+returns-in_err-kept-clause-faulted g c lists held some =
+    memory_passed (λ (e : Error). RefusesOf c.args.writer (ok_results (kept_in c.args.rules lists)) e) c.from_residual.result c.in_err-kept.field-0.0 c.from_residual.ensures.1
+    (c.in_err-kept.ensures.err (record { lists = lists; hold = held; some = some }))
+
+pub returns-clause-faulted : goal.returns-clause-faulted
+returns-clause-faulted g c lists held some =
+    refused_of c.args.writer (ok_results (kept_in c.args.rules lists)) c.write_in_order.result
+    (c.write_in_order.ensures.came (ok_results (kept_in c.args.rules lists)) (c.in_ok-kept.ensures.list (record { lists = lists; hold = held; some = some })))

@@ -4,10 +4,11 @@ use Rattle.std.specs.Arc.{arc_value}
 use Rattle.sst_entries.specs.Entry.{Entry}
 use Rattle.sst_entries.specs.Error.{is_memory}
 use Rattle.sst_entries.specs.declared.error.Error.{Error}
+use Rattle.sst_entries.specs.declared.error.Error.TheVariants.{OutOfMemory}
 use Rattle.lsm_sorted.specs.declared.compaction.Rules.{Rules}
 use Rattle.lsm_writers.specs.Tables.{TablesWriting}
 use Rattle.lsm_compactions.specs.Compacted.{RunsOn}
-use Rattle.lsm_compactions.specs.Filtered.{CameTo, FitsKept, RefusesBy}
+use Rattle.lsm_compactions.specs.Filtered.{CameTo, CameUntil, FitsKept, RefusesBy}
 use Rattle.lsm_runs.specs.SeveralRuns.{union_in}
 use Rattle.lsm_runs.proofs.OneList.{one_way}
 use Rattle.lsm_runs.proofs.Together.{all_of}
@@ -32,7 +33,7 @@ returns-in_err-own-clause-heard g c =
 pub returns-in_err-own-clause-until : goal.returns-in_err-own-clause-until
 returns-in_err-own-clause-until g c lists held some =
     let a = c.args in
-    err_any c.from_residual.result (came_none g.F.StreamFilter.gives g.C.DroppedKvCallback.gets a.rules a.filter a.callback (union_in lists) a.writer g.O.CompactionObserver.says a.observer.now)
+    came_none g.F.StreamFilter.gives g.C.DroppedKvCallback.gets a.rules a.filter a.callback (union_in lists) a.writer g.O.CompactionObserver.says a.observer.now c.from_residual.result (wants c.from_residual.result OutOfMemory c.from_residual.ensures.1 refl)
 
 pub returns-in_err-scanners-clause-heard : goal.returns-in_err-scanners-clause-heard
 returns-in_err-scanners-clause-heard g c =
@@ -41,7 +42,7 @@ returns-in_err-scanners-clause-heard g c =
 pub returns-in_err-scanners-clause-until : goal.returns-in_err-scanners-clause-until
 returns-in_err-scanners-clause-until g c lists held some =
     let a = c.args in
-    err_any c.from_residual-in_err-scanners.result (came_none g.F.StreamFilter.gives g.C.DroppedKvCallback.gets a.rules a.filter a.callback (union_in lists) a.writer g.O.CompactionObserver.says a.observer.now)
+    came_none g.F.StreamFilter.gives g.C.DroppedKvCallback.gets a.rules a.filter a.callback (union_in lists) a.writer g.O.CompactionObserver.says a.observer.now c.from_residual-in_err-scanners.result (wants c.from_residual-in_err-scanners.result c.in_err-scanners.field-0.0 c.from_residual-in_err-scanners.ensures.1 (c.in_err-scanners.ensures.err (record { lists = lists; hold = held; some = some })))
 
 pub returns-in_err-scanners-clause-refused : goal.returns-in_err-scanners-clause-refused
 returns-in_err-scanners-clause-refused g c lists held some =
@@ -61,7 +62,7 @@ returns-in_err-stream-clause-heard g c =
 pub returns-in_err-stream-clause-until : goal.returns-in_err-stream-clause-until
 returns-in_err-stream-clause-until g c lists held some =
     let a = c.args in
-    err_any c.from_residual-in_err-stream.result (came_none g.F.StreamFilter.gives g.C.DroppedKvCallback.gets a.rules a.filter a.callback (union_in lists) a.writer g.O.CompactionObserver.says a.observer.now)
+    came_none g.F.StreamFilter.gives g.C.DroppedKvCallback.gets a.rules a.filter a.callback (union_in lists) a.writer g.O.CompactionObserver.says a.observer.now c.from_residual-in_err-stream.result (wants c.from_residual-in_err-stream.result c.in_err-stream.field-0.0 c.from_residual-in_err-stream.ensures.1 c.in_err-stream.ensures.err)
 
 pub returns-in_err-stream-clause-refused : goal.returns-in_err-stream-clause-refused
 returns-in_err-stream-clause-refused g c lists held some =
@@ -76,7 +77,7 @@ returns-in_err-stream-clause-taken g c able lists held calm fits =
 
 pub returns-in_err-outcome-clause-heard : goal.returns-in_err-outcome-clause-heard
 returns-in_err-outcome-clause-heard g c =
-    let u = c.in_err-outcome.ensures.until in
+    let u = c.in_err-outcome.ensures.refused in
     err_any c.from_residual-in_err-outcome.result (u.list, u.told)
 
 pub returns-in_err-outcome-clause-until : goal.returns-in_err-outcome-clause-until
@@ -85,8 +86,9 @@ returns-in_err-outcome-clause-until g c lists held some =
     let s = c.in_ok-stream.stream in
     let o = c.in_ok-stream.ensures in
     let has = o.list lists (c.in_ok-scanners.ensures.list (record { lists = lists; hold = held; some = some })) is_memory refl in
-    err_any c.from_residual-in_err-outcome.result
-    (came_until_by _ _ _ g.F.StreamFilter.gives g.C.DroppedKvCallback.gets s s a.rules a.filter a.callback o.rules o.filter o.callback (union_in lists) has a.writer g.O.CompactionObserver.says a.observer.now c.write_observed.new.observer c.in_err-outcome.ensures.until)
+    let f = c.in_err-outcome.field-0.0 in
+    err_passed (λ (e : Error). CameUntil g.F.StreamFilter.gives g.C.DroppedKvCallback.gets a.rules a.filter a.callback (union_in lists) a.writer g.O.CompactionObserver.says a.observer.now e c.write_observed.new.observer) c.from_residual-in_err-outcome.result f c.from_residual-in_err-outcome.ensures.1
+    (came_until_by _ _ _ g.F.StreamFilter.gives g.C.DroppedKvCallback.gets s s a.rules a.filter a.callback o.rules o.filter o.callback (union_in lists) has a.writer g.O.CompactionObserver.says a.observer.now c.write_observed.new.observer f c.in_err-outcome.ensures.refused)
 
 pub returns-in_err-outcome-clause-refused : goal.returns-in_err-outcome-clause-refused
 returns-in_err-outcome-clause-refused g c lists held some =
@@ -99,7 +101,7 @@ returns-in_err-outcome-clause-refused g c lists held some =
     let gives = g.F.StreamFilter.gives in
     let gets = g.C.DroppedKvCallback.gets in
     err_passed (λ (e : Error). is_memory e ≡ false → RefusesBy gives gets a.rules a.filter a.callback (union_in lists) a.writer e) r.result f r.ensures.1
-    (λ fine. refused_by _ _ _ gives gets s s a.rules a.filter a.callback o.rules o.filter o.callback (union_in lists) has a.writer f (c.in_err-outcome.ensures.refused fine))
+    (refused_by _ _ _ gives gets s s a.rules a.filter a.callback o.rules o.filter o.callback (union_in lists) has a.writer g.O.CompactionObserver.says a.observer.now c.write_observed.new.observer f c.in_err-outcome.ensures.refused)
 
 pub returns-in_err-outcome-clause-taken : goal.returns-in_err-outcome-clause-taken
 returns-in_err-outcome-clause-taken g c able lists held calm fits =
@@ -114,7 +116,7 @@ returns-in_err-outcome-clause-taken g c able lists held calm fits =
     let kept = subst (λ (x : Rules). FitsKept a.writer x (union_in able.lists)) (sym o.rules)
     (subst (λ (ls : List (List (List Entry))). FitsKept a.writer a.rules (union_in ls)) (sym same) fits) in
     wants r.result f r.ensures.1 (memory_unless f
-    (λ fine. fits_all _ _ _ g.F.StreamFilter.gives g.C.DroppedKvCallback.gets s (union_in able.lists) has a.writer able.writable c.tables_law.ensures.takes c.requires.fresh next calm kept f (c.in_err-outcome.ensures.refused fine)))
+    (λ fine. fits_all _ _ _ g.F.StreamFilter.gives g.C.DroppedKvCallback.gets s (union_in able.lists) has a.writer able.writable c.tables_law.ensures.takes c.requires.fresh next calm kept g.O.CompactionObserver.says a.observer.now c.write_observed.new.observer f c.in_err-outcome.ensures.refused fine))
 
 pub returns-clause-kept : goal.returns-clause-kept
 returns-clause-kept g c able lists held =

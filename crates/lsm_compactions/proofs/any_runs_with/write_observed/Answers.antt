@@ -1,15 +1,14 @@
-use Rattle.std.proofs.Common.{◌≡◌, ◌∙◌, ap, refl, sym, subst, Bool, false}
+use Rattle.std.proofs.Common.{◌∙◌, ap, inl, inr, refl, sym, subst, Bool}
 use Rattle.std.specs.Prelude.{Some}
 use Rattle.sst_entries.specs.Entry.{Entry}
-use Rattle.sst_entries.specs.Error.{is_memory}
 use Rattle.sst_entries.specs.declared.error.Error.{Error}
 use Rattle.lsm_writers.specs.Tables.{all_written}
 use Rattle.lsm_writers.specs.Writing.{may_be_written}
-use Rattle.lsm_compactions.specs.Filtered.{RefusesWritten, WritesUntil}
+use Rattle.lsm_compactions.specs.Filtered.{RefusesWritten}
 use Rattle.lsm_compactions.specs.Observed.{TellsNext}
 use Rattle.lsm_compactions.proofs.AnyTaken.{are_taken, taking_more}
-use Rattle.lsm_compactions.proofs.FilteredCame.{err_any, err_passed}
-use Rattle.lsm_compactions.proofs.Observing.{gave_more, written_until, observing_more, refused_end, refused_entry, refused_result, told_all, told_of_part, told_stopped, cut_so_more, CutSoFar}
+use Rattle.lsm_compactions.proofs.FilteredCame.{err_passed}
+use Rattle.lsm_compactions.proofs.Observing.{cut_so_more, CutSoFar, failed_end, failed_entry, failed_result, gave_more, observing_more, refused_so, told_all, told_of_part, told_stopped}
 use Rattle.lsm_compactions.proofs.WrittenBy.{Since, all_finished, since_more}
 use Rattle.lsm_compactions.proofs.any_runs_with.write_observed.Goals as goal
 
@@ -19,14 +18,9 @@ returns-in_err-item-clause-refused g c =
     let l = c.loop-item in
     let f = c.in_err-item.field-0.0 in
     let step = subst (λ r. next l.items (Some r) c.next.new.self) c.in_err-item.was c.in-Some.ensures.steps in
-    err_passed (λ (e : Error). is_memory e ≡ false → RefusesWritten next c.args.writer c.args.items.now e) c.from_residual.result f c.from_residual.ensures.1
-    (λ fine. refused_result next g.O.CompactionObserver.says c.args.writer c.args.items.now c.args.observer.now l.writer l.items c.next.new.self l.progress l.observer l.invariant.observing f fine step)
-
-pub returns-in_err-item-clause-until : goal.returns-in_err-item-clause-until
-returns-in_err-item-clause-until g c =
-    let l = c.loop-item in
-    err_any c.from_residual.result
-    (written_until g.I.Iterator.next_gives g.O.CompactionObserver.says c.args.writer c.args.items.now c.args.observer.now l.writer l.items l.items l.progress l.observer l.invariant.observing c.requires.fresh)
+    err_passed (λ (e : Error). RefusesWritten next c.args.writer c.args.items.now g.O.CompactionObserver.says c.args.observer.now e l.observer) c.from_residual.result f c.from_residual.ensures.1
+    (refused_so next g.O.CompactionObserver.says c.args.writer c.args.items.now c.args.observer.now l.writer l.items l.items l.progress l.observer l.invariant.observing c.requires.fresh f
+    (λ fine. inl (failed_result next g.O.CompactionObserver.says c.args.writer c.args.items.now c.args.observer.now l.writer l.items c.next.new.self l.progress l.observer l.invariant.observing f fine step)))
 
 pub returns-then-not-can_follow-clause-written : goal.returns-then-not-can_follow-clause-written
 returns-then-not-can_follow-clause-written g c =
@@ -53,20 +47,14 @@ returns-then-not-can_follow-clause-told g c =
 pub returns-in_err-goes_on-clause-refused : goal.returns-in_err-goes_on-clause-refused
 returns-in_err-goes_on-clause-refused g c =
     let next = g.I.Iterator.next_gives in
+    let says = g.O.CompactionObserver.says in
     let l = c.loop-item in
     let f = c.in_err-goes_on.field-0.0 in
     let step = subst (λ r. next l.items (Some r) c.next.new.self) c.in_ok-item.was c.in-Some.ensures.steps in
-    err_passed (λ (e : Error). is_memory e ≡ false → RefusesWritten next c.args.writer c.args.items.now e) c.from_residual-in_err-goes_on.result f c.from_residual-in_err-goes_on.ensures.1
-    (λ fine. refused_entry next g.O.CompactionObserver.says c.args.writer c.args.items.now c.args.observer.now l.writer l.items c.next.new.self l.progress l.observer l.invariant.observing c.in_ok-item.item step f (c.in_err-goes_on.ensures.refused fine))
-
-pub returns-in_err-goes_on-clause-until : goal.returns-in_err-goes_on-clause-until
-returns-in_err-goes_on-clause-until g c =
-    let next = g.I.Iterator.next_gives in
-    let says = g.O.CompactionObserver.says in
-    let l = c.loop-item in
-    err_any c.from_residual-in_err-goes_on.result
-    (subst (λ q. WritesUntil next c.args.writer c.args.items.now says c.args.observer.now q) (sym c.in_err-goes_on.ensures.still)
-    (written_until next says c.args.writer c.args.items.now c.args.observer.now l.writer l.items l.items l.progress l.observer l.invariant.observing c.requires.fresh))
+    err_passed (λ (e : Error). RefusesWritten next c.args.writer c.args.items.now says c.args.observer.now e c.write_and_tell.new.observer) c.from_residual-in_err-goes_on.result f c.from_residual-in_err-goes_on.ensures.1
+    (subst (λ q. RefusesWritten next c.args.writer c.args.items.now says c.args.observer.now f q) (sym c.in_err-goes_on.ensures.still)
+    (refused_so next g.O.CompactionObserver.says c.args.writer c.args.items.now c.args.observer.now l.writer l.items l.items l.progress l.observer l.invariant.observing c.requires.fresh f
+    (λ fine. inl (failed_entry next g.O.CompactionObserver.says c.args.writer c.args.items.now c.args.observer.now l.writer l.items c.next.new.self l.progress l.observer l.invariant.observing c.in_ok-item.item step f (c.in_err-goes_on.ensures.refused fine)))))
 
 pub returns-then-not-goes_on-clause-written : goal.returns-then-not-goes_on-clause-written
 returns-then-not-goes_on-clause-written g c =
@@ -118,14 +106,9 @@ returns-in_err-tables-clause-refused g c =
     let next = g.I.Iterator.next_gives in
     let l = c.loop-item in
     let f = c.in_err-tables.field-0.0 in
-    err_passed (λ (e : Error). is_memory e ≡ false → RefusesWritten next c.args.writer c.args.items.now e) c.from_residual-in_err-tables.result f c.from_residual-in_err-tables.ensures.1
-    (λ fine. refused_end next g.O.CompactionObserver.says c.args.writer c.args.items.now c.args.observer.now l.writer l.items c.next.new.self l.progress l.observer l.invariant.observing f c.in_default.ensures.steps (c.in_err-tables.ensures.refused fine))
-
-pub returns-in_err-tables-clause-until : goal.returns-in_err-tables-clause-until
-returns-in_err-tables-clause-until g c =
-    let l = c.loop-item in
-    err_any c.from_residual-in_err-tables.result
-    (written_until g.I.Iterator.next_gives g.O.CompactionObserver.says c.args.writer c.args.items.now c.args.observer.now l.writer l.items l.items l.progress l.observer l.invariant.observing c.requires.fresh)
+    err_passed (λ (e : Error). RefusesWritten next c.args.writer c.args.items.now g.O.CompactionObserver.says c.args.observer.now e l.observer) c.from_residual-in_err-tables.result f c.from_residual-in_err-tables.ensures.1
+    (refused_so next g.O.CompactionObserver.says c.args.writer c.args.items.now c.args.observer.now l.writer l.items l.items l.progress l.observer l.invariant.observing c.requires.fresh f
+    (λ fine. inr (failed_end next g.O.CompactionObserver.says c.args.writer c.args.items.now c.args.observer.now l.writer l.items c.next.new.self l.progress l.observer l.invariant.observing f c.in_default.ensures.steps (c.in_err-tables.ensures.refused fine))))
 
 pub returns-clause-written : goal.returns-clause-written
 returns-clause-written g c =
