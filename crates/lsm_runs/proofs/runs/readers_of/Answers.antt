@@ -28,7 +28,7 @@ loop-run-preserved g c =
     let run = c.run-item.result in
     let readers = c.loop-run.readers.items in
     let before = c.loop-run.invariant in
-    elim c.match-branch-2.branch [
+    elim c.match-branch-3.branch [
       | in-Some+in_ok-push w ↦
           rw (w.readers-is, w.in_ok-push.ensures.items) (record {
             list = λ lists held.
