@@ -15,7 +15,8 @@ use Rattle.lsm_writers.specs.declared.writer.FinishedTable.{FinishedTable}
 use Rattle.lsm_writers.specs.Tables.{TablesWriting, all_written, run_fault, took, took_fault}
 use Rattle.lsm_writers.specs.Writing.{IsWritable, may_be_written}
 use Rattle.lsm_compactions.specs.AnyRuns.{AreTaken, BeginsWith, CameOf, DealsResults, FailsBehind}
-use Rattle.lsm_compactions.specs.AnyRuns.{LeavesOrder, MeetsFault, RefusesOf, TakesWhole, results_fault}
+use Rattle.lsm_compactions.specs.AnyRuns.{LeavesOrder, MeetsFault, RefusesOf, TakesWhole}
+use Rattle.lsm_compactions.specs.AnyRuns.{results_fault}
 use Rattle.lsm_compactions.specs.Chain.{writes_fault}
 use Rattle.lsm_compactions.specs.Compacted.{AreWrittenBy}
 use Rattle.lsm_compactions.specs.declared.any_runs.CompactionOutcome.{CompactionOutcome}

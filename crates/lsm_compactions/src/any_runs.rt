@@ -70,14 +70,14 @@ fn write_in_order<L: Lending + Drop, A: Allocator + Clone>(
 /// Compacts several runs of any tables that were opened into new tables: what a
 /// [`LendingCompaction`](lsm_sorted::compaction::lending::LendingCompaction) keeps of all their
 /// entries together is written by `writer`, in one pass, each entry from where it lies, for as long
-/// as it comes in order. A run without a table is passed over. Nothing is asked of the runs, so that
-/// a store may compact tables of files that it did not verify.
+/// as it comes in order. A run without a table is passed over. Nothing is asked of the runs, so a
+/// store may compact tables of files that it did not verify.
 ///
 /// Where the runs may be given to [`compact_runs`](crate::compact_runs), the answer is the finished
 /// tables and the counter that it answers, and the refusal its refusal. Of any tables it is refused
 /// with the first fault of loading their blocks, as [`MultiWriter::write`] and
-/// [`MultiWriter::finish`] are, and [`Error::OutOfMemory`]. Whatever is answered, the runs are as
-/// they were.
+/// [`MultiWriter::finish`] are, and [`Error::OutOfMemory`]; a fault at the front of a run comes
+/// before any of the writer. Whatever is answered, the runs are as they were.
 pub fn compact_any_runs<A: Allocator + Clone>(
     alloc: A,
     runs: &[Arc<Run<Table<A>, A>, A>],
