@@ -29,3 +29,4 @@ pub mod LentNewestLemmas
 pub mod LentNewestListens
 pub mod LentOutsLemmas
 pub mod LentCompactionLemmas
+pub mod LentFilteredLemmas
