@@ -124,7 +124,7 @@ abbrev pub LooksAtNothing : {S F C A : Type 0} → (S → Option R → S → Typ
 LooksAtNothing advances lent s =
     (stops : Error → Bool) (xs : List Entry) → LooksAt advances lent stops s xs → xs ≡ []
 
--- one call: it may be asked again; and where nothing came, nothing is left
+-- one call: it may be asked again; and where nothing came, a compaction does nothing more
 pub record AdvancesFiltered {S : Type 0} (advances : S → Option R → S → Type 0)
     (lent : S → Option Entry) (can : S → Type 0) {F C A : Type 0}
     (gives : F → Entry → Result Verdict Error → F → Type 0) (gets : C → Entry → C → Type 0)
@@ -132,7 +132,8 @@ pub record AdvancesFiltered {S : Type 0} (advances : S → Option R → S → Ty
     : Type 0 where
   pub may : MayFilter advances can t
   pub steps : (stops : Error → Bool) → StepsFiltered advances lent stops gives gets s r t
-  pub ends : s.is_over ≡ false → r ≡ None → LooksAtNothing advances lent t
+  pub ends : (stops : Error → Bool) (xs : List Entry) → LooksAt advances lent stops s xs → r ≡ None
+      → WillCompact gives gets s xs [] t.filter t.callback
 
 -- of any list of entries without errors that the source deals: calls up to the one where nothing
 -- comes give, ask and report what a compaction of the list does

@@ -151,7 +151,9 @@ impl<L: Lending, F: LentFilter<A> + Drop, C: LentCallback + Drop, A: Allocator>
         ensures shows { self.new.shows ≡ self.old.shows }
         ensures pending { IfOk result (λ more. self.new.is_pending ≡ more) }
         ensures ends { IfOk result (λ more. more ≡ false →
-            LooksAtNothing L.advances L.lent self.new × (filtered_left L.left self.new ≡ 0)) }
+            LooksAtNothing L.advances L.lent self.old × (filtered_left L.left self.new ≡ 0)) }
+        ensures filter { self.new.filter ≡ self.old.filter }
+        ensures callback { self.new.callback ≡ self.old.callback }
         ensures few { IfOk result (λ _.
             filtered_left L.left self.new ≤ filtered_left L.left self.old) }
         ensures fewer { IfErr result (λ _.
