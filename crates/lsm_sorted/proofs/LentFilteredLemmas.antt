@@ -20,7 +20,9 @@ use Rattle.lsm_sorted.specs.LentNewest.{is_given}
 use Rattle.lsm_sorted.specs.LentCompaction.{has_to_wait, listed_answer, past_hidden}
 use Rattle.lsm_sorted.specs.LentFiltered.{DealsEntries, LooksAt, SettlesFiltered, SettlesFirst}
 use Rattle.lsm_sorted.specs.LentFiltered.{StepsFiltered, WillCompact, hidden_by, hidden_in}
-use Rattle.lsm_sorted.specs.LentFiltered.{one_before, put_into}
+use Rattle.lsm_sorted.specs.LentFiltered.{lent_filtered, one_before, put_into, shown}
+use Rattle.lsm_sorted.specs.declared.compaction.filtered.Shows.{Shows}
+use Rattle.lsm_sorted.specs.declared.compaction.filtered.Shows.TheVariants.{Nothing}
 use Rattle.lsm_sorted.specs.declared.compaction.Rules.{Rules}
 use Rattle.lsm_sorted.specs.declared.compaction.filtered.FilteredLendingCompaction.{FilteredLendingCompaction}
 use Rattle.lsm_sorted.proofs.CallLemmas.{gets_append, turn_more}
@@ -211,6 +213,13 @@ module _ (rules : Rules) (head : Entry) where
 
 -- ---- steps
 
+-- what came is what is now lent
+pub step_to : {S : Type 0} (advances : S → Option R → S → Type 0) (lent : S → Option Entry) (s u : S)
+    (o : Option Entry) → lent u ≡ o → advances s (option_map (λ x. Ok x) (lent u)) u
+    → advances s (option_map (λ x. Ok x) o) u
+step_to advances lent s u o is step =
+    subst (λ (p : Option Entry). advances s (option_map (λ x. Ok x) p) u) is step
+
 module _ {S : Type 0} (advances : S → Option R → S → Type 0) (stops : Error → Bool) where
   pub deals_entry : (s u : S) (xs : List Entry) (r : Option R) → DealsEntries advances stops s xs
       → advances s r u → answer_stops stops r ≡ false
@@ -236,18 +245,18 @@ module _ {F C : Type 0} (gives : F → Entry → Result Verdict Error → F → 
       subst (λ (c : C). Compacted gives gets t.rules t.filter c (ok_results ys) gave g d) told does
 
   -- what follows this key is hidden
-  pub will_hide : (t : FilteredLendingCompaction S F C A) (key : List ℕ) (ys : List Entry)
-      (gave : List R) (g : F) (d : C) → t.hides ≡ true → t.key.items ≡ key
+  pub will_hide : (t : FilteredLendingCompaction S F C A) (k : List ℕ) (ys : List Entry)
+      (gave : List R) (g : F) (d : C) → t.hides ≡ true → t.key.items ≡ k
       → WillCompact gives gets t ys gave g d
-      → (told : C) × GetsAll gets t.callback (of_key key (ok_results ys)) told
-      × Compacted gives gets t.rules t.filter told (after_key key (ok_results ys)) gave g d
-  will_hide t key ys gave g d hides is will = (
+      → (told : C) × GetsAll gets t.callback (of_key k (ok_results ys)) told
+      × Compacted gives gets t.rules t.filter told (after_key k (ok_results ys)) gave g d
+  will_hide t k ys gave g d hides is will = (
     will.told,
-    subst (λ (k : List ℕ). GetsAll gets t.callback (of_key k (ok_results ys)) will.told) is
+    subst (λ (j : List ℕ). GetsAll gets t.callback (of_key j (ok_results ys)) will.told) is
         (subst (λ (b : Bool). GetsAll gets t.callback
         (hidden_in (cond b (Some t.key.items) None) (ok_results ys)) will.told) hides will.hides),
-    subst (λ (k : List ℕ). Compacted gives gets t.rules t.filter will.told
-        (after_key k (ok_results ys)) gave g d) is
+    subst (λ (j : List ℕ). Compacted gives gets t.rules t.filter will.told
+        (after_key j (ok_results ys)) gave g d) is
         (subst (λ (b : Bool). Compacted gives gets t.rules t.filter will.told
         (past_hidden (cond b (Some t.key.items) None) (ok_results ys)) gave g d) hides will.does),
   )
@@ -382,6 +391,12 @@ module _ {F C : Type 0} (gives : F → Entry → Result Verdict Error → F → 
         let one = deals_entry advances stops s.source u looks.rest None looks.has step refl in
         sees_next xs looks.rest next looks.is ∙ none_first looks.rest one.0
 
+    pub settles_fault : (e : Error) (head : Entry) → advances s.source (Some (Err e)) t.source
+        → Settled (Some (Err e)) head
+    settles_fault e head step xs memory has fine =
+        let one = deals_entry advances stops s.source t.source xs (Some (Err e)) has step fine in
+        fault_first e xs one.0
+
     -- ---- a head that waits, and what follows it
     module _ (head : Entry) (waits : has_to_wait s.rules head ≡ true) (rules : t.rules ≡ s.rules)
         (filter : t.filter ≡ s.filter) (live : t.is_over ≡ false) where
@@ -488,3 +503,9 @@ module _ {F C : Type 0} (gives : F → Entry → Result Verdict Error → F → 
                       then.2);
                 },
           )
+
+-- what is lent where nothing is shown
+pub shows_nothing : {S F C A : Type 0} (lent : S → Option Entry)
+    (t : FilteredLendingCompaction S F C A) → t.shows ≡ Nothing
+    → option_map {U = R} (λ x. Ok x) (lent_filtered lent t) ≡ None
+shows_nothing lent t none = ap (λ (l : Shows). option_map {U = R} (λ x. Ok x) (shown lent l t)) none
