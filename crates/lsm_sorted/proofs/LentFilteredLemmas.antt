@@ -213,6 +213,15 @@ module _ (rules : Rules) (head : Entry) where
 
 -- ---- steps
 
+-- what is lent where nothing is shown
+pub shows_nothing : {S F C A : Type 0} (lent : S → Option Entry)
+    (t : FilteredLendingCompaction S F C A) → t.shows ≡ Nothing
+    → option_map {U = R} (λ x. Ok x) (lent_filtered lent t) ≡ None
+shows_nothing lent t none = ap (λ (l : Shows). option_map {U = R} (λ x. Ok x) (shown lent l t)) none
+
+pub same_some : (x y : Entry) (o : Option Entry) → o ≡ Some x → o ≡ Some y → x ≡ y
+same_some x y o of_x of_y = cc
+
 -- what came is what is now lent
 pub step_to : {S : Type 0} (advances : S → Option R → S → Type 0) (lent : S → Option Entry) (s u : S)
     (o : Option Entry) → lent u ≡ o → advances s (option_map (λ x. Ok x) (lent u)) u
@@ -397,9 +406,28 @@ module _ {F C : Type 0} (gives : F → Entry → Result Verdict Error → F → 
         let one = deals_entry advances stops s.source t.source xs (Some (Err e)) has step fine in
         fault_first e xs one.0
 
-    -- ---- a head that waits, and what follows it
-    module _ (head : Entry) (waits : has_to_wait s.rules head ≡ true) (rules : t.rules ≡ s.rules)
-        (filter : t.filter ≡ s.filter) (live : t.is_over ≡ false) where
+    -- of the entry that the source lends, where that is what is lent
+    pub settled_source : (head x : Entry) → lent s.source ≡ Some head → lent s.source ≡ Some x
+        → Settled (Some (Ok (zeroed s.rules head))) head
+        → Settled (option_map (λ y. Ok y) (option_map (zeroed s.rules) (lent s.source))) x
+    settled_source head x is lends settles =
+        subst (λ (y : Entry).
+        Settled (option_map (λ z. Ok z) (option_map (zeroed s.rules) (lent s.source))) y)
+        (same_some head x (lent s.source) is lends)
+        (subst (λ (o : Option Entry).
+        Settled (option_map (λ z. Ok z) (option_map (zeroed s.rules) o)) head) (sym is) settles)
+
+    -- where it is let go
+    pub settled_gone : (head x : Entry) → lent s.source ≡ Some head → lent s.source ≡ Some x
+        → t.shows ≡ Nothing → Settled None head
+        → Settled (option_map (λ y. Ok y) (lent_filtered lent t)) x
+    settled_gone head x is lends none settles =
+        subst (λ (y : Entry). Settled (option_map (λ z. Ok z) (lent_filtered lent t)) y)
+        (same_some head x (lent s.source) is lends)
+        (subst (λ (r : Option R). Settled r head) (sym (shows_nothing lent t none)) settles)
+
+    -- ---- a head, and what follows it
+    module _ (head : Entry) (rules : t.rules ≡ s.rules) (filter : t.filter ≡ s.filter) where
       -- what a compaction does from t on, by the rules and the filter of s
       as_here : (c : C) (rs gave : List R) (g : F) (d : C)
           → Compacted gives gets t.rules t.filter c rs gave g d
@@ -423,6 +451,59 @@ module _ {F C : Type 0} (gives : F → Entry → Result Verdict Error → F → 
             (will_plain t ys gave g d plain will));
       }
 
+      -- a turn that reports these and those that t hides, before the others
+      hiding_turn : (r : Option R) (xs ys reports : List Entry)
+          → settled s.rules head (ok_results xs) ≡ record {
+            answer = r;
+            rest = after_key head.user_key (ok_results ys);
+            reports = reports ++ of_key head.user_key (ok_results ys);
+          } → GetsAll gets s.callback reports t.callback → t.hides ≡ true
+          → t.key.items ≡ head.user_key → (gave : List R) (g : F) (d : C)
+          → WillCompact gives gets t ys gave g d
+          → SettlesFirst gives gets head s xs r gave g d
+      hiding_turn r xs ys reports turn told hides key gave g d will =
+          let then = will_hide t head.user_key ys gave g d hides key will in
+          record {
+            answers = sym (ap (λ (u : Turn). u.answer) turn);
+            told = then.0;
+            reports = subst (λ (u : Turn). GetsAll gets s.callback u.reports then.0) (sym turn)
+                (gets_append gets reports (of_key head.user_key (ok_results ys)) s.callback
+                t.callback then.0 told then.1);
+            does = subst (λ (u : Turn). Compacted gives gets s.rules s.filter then.0 u.rest gave g d)
+                (sym turn)
+                (as_here then.0 (after_key head.user_key (ok_results ys)) gave g d then.2);
+          }
+
+      -- one that need not wait
+      module _ (now : has_to_wait s.rules head ≡ false) (source : t.source ≡ s.source)
+          (callback : t.callback ≡ s.callback) (live : t.is_over ≡ false)
+          (next : t.is_pending ≡ false) where
+        still_deals : (xs : List Entry) → DealsEntries advances stops s.source xs
+            → DealsEntries advances stops t.source xs
+        still_deals xs has = subst (λ (u : S). DealsEntries advances stops u xs) (sym source) has
+
+        pub keeps_high : nat_lt head.seqno s.rules.watermark ≡ false → t.hides ≡ false
+            → Settled (Some (Ok (zeroed s.rules head))) head
+        keeps_high high plain xs memory has fine = (
+          xs,
+          looks_next xs memory live next (still_deals xs has),
+          plain_turn (Some (Ok (zeroed s.rules head))) xs xs (high_answer s.rules head now xs high)
+              callback plain,
+        )
+
+        pub keeps_low : (b : Bool) → nat_lt head.seqno s.rules.watermark ≡ true
+            → b ≡ s.rules.evict && is_tombstone_kind head.kind → t.hides ≡ true
+            → t.key.items ≡ head.user_key → Settled (head_answer s.rules b head) head
+        keeps_low b low goes hides key xs memory has fine = (
+          xs,
+          looks_next xs memory live next (still_deals xs has),
+          hiding_turn (head_answer s.rules b head) xs xs []
+              (low_answer s.rules head now b xs low goes) callback hides key,
+        )
+
+    -- ---- a head that waits
+    module _ (head : Entry) (waits : has_to_wait s.rules head ≡ true) (rules : t.rules ≡ s.rules)
+        (filter : t.filter ≡ s.filter) (live : t.is_over ≡ false) where
       module _ (callback : t.callback ≡ s.callback) (plain : t.hides ≡ false) where
         pub settles_none : (b : Bool) → b ≡ s.rules.evict → t.is_pending ≡ false
             → advances s.source None t.source → Settled (head_answer s.rules b head) head
@@ -431,7 +512,7 @@ module _ {F C : Type 0} (gives : F → Entry → Result Verdict Error → F → 
             let none : xs ≡ [] = none_first xs one.0 in (
               but_first xs,
               looks_next (but_first xs) memory live next one.1,
-              plain_turn (head_answer s.rules b head) xs (but_first xs)
+              plain_turn head rules filter (head_answer s.rules b head) xs (but_first xs)
                   (subst (λ (zs : List Entry). settled s.rules head (ok_results zs) ≡ record {
                     answer = head_answer s.rules b head;
                     rest = ok_results (but_first zs);
@@ -453,7 +534,7 @@ module _ {F C : Type 0} (gives : F → Entry → Result Verdict Error → F → 
               let same : xs ≡ y ∷ but_first xs = entry_first y xs one.0 in (
                 y ∷ but_first xs,
                 looks_pending y (but_first xs) memory live pending is one.1,
-                plain_turn (head_answer s.rules b head) xs (y ∷ but_first xs)
+                plain_turn head rules filter (head_answer s.rules b head) xs (y ∷ but_first xs)
                     (subst (λ (zs : List Entry). settled s.rules head (ok_results zs) ≡ record {
                       answer = head_answer s.rules b head;
                       rest = ok_results (y ∷ but_first xs);
@@ -490,22 +571,13 @@ module _ {F C : Type 0} (gives : F → Entry → Result Verdict Error → F → 
           ∙ hides_answer s.rules head waits b y (but_first xs) low same goes in (
             but_first xs,
             looks_next (but_first xs) memory live next one.1,
-            λ gave g d will.
-                let then = will_hide t head.user_key (but_first xs) gave g d hides key will in
-                record {
-                  answers = sym (ap (λ (u : Turn). u.answer) turn);
-                  told = then.0;
-                  reports = subst (λ (u : Turn). GetsAll gets s.callback u.reports then.0) (sym turn)
-                      (t.callback, told, then.1);
-                  does = subst (λ (u : Turn). Compacted gives gets s.rules s.filter then.0 u.rest gave
-                      g d) (sym turn)
-                      (as_here then.0 (after_key head.user_key (ok_results (but_first xs))) gave g d
-                      then.2);
-                },
+            hiding_turn head rules filter (head_answer s.rules b head) xs (but_first xs) (y ∷ [])
+                turn (t.callback, told, refl) hides key,
           )
 
--- what is lent where nothing is shown
-pub shows_nothing : {S F C A : Type 0} (lent : S → Option Entry)
-    (t : FilteredLendingCompaction S F C A) → t.shows ≡ Nothing
-    → option_map {U = R} (λ x. Ok x) (lent_filtered lent t) ≡ None
-shows_nothing lent t none = ap (λ (l : Shows). option_map {U = R} (λ x. Ok x) (shown lent l t)) none
+-- ---- an entry by its parts
+
+pub parts_are : (x : Entry) (k v : List ℕ) → k ≡ x.user_key → v ≡ x.value
+    → entry k v x.seqno x.kind ≡ x
+parts_are x k v key value = ap (λ (j : List ℕ). entry j v x.seqno x.kind) key
+    ∙ ap (λ (w : List ℕ). entry x.user_key w x.seqno x.kind) value
