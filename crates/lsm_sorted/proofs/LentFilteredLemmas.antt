@@ -10,6 +10,7 @@ use Rattle.sst_entries.specs.Kind.{is_tombstone_kind, is_weak_kind}
 use Rattle.sst_entries.specs.Stream.{answer_stops, but_first, first, nowhere, ok_results}
 use Rattle.sst_entries.specs.declared.error.Error.{Error}
 use Rattle.sst_entries.specs.declared.error.Error.TheVariants.{OutOfMemory}
+use Rattle.sst_entries.specs.declared.value_type.ValueType.{ValueType}
 use Rattle.sst_entries.proofs.StreamLemmas.{deals_front}
 use Rattle.lsm_merge.specs.Ends.{R}
 use Rattle.lsm_sorted.specs.Newest.{after_key}
@@ -210,6 +211,13 @@ module _ (rules : Rules) (head : Entry) where
           rest = after_key key (ok_results xs);
           reports = y ∷ of_key key (ok_results xs);
         }) (goes_weak rules.evict head.kind y (weak_is_low low) ∙ sym is)
+
+-- ---- an entry by its parts
+
+pub parts_are : (x : Entry) (k v : List ℕ) → k ≡ x.user_key → v ≡ x.value
+    → entry k v x.seqno x.kind ≡ x
+parts_are x k v key value = ap (λ (j : List ℕ). entry j v x.seqno x.kind) key
+    ∙ ap (λ (w : List ℕ). entry x.user_key w x.seqno x.kind) value
 
 -- ---- steps
 
@@ -426,6 +434,26 @@ module _ {F C : Type 0} (gives : F → Entry → Result Verdict Error → F → 
         (same_some head x (lent s.source) is lends)
         (subst (λ (r : Option R). Settled r head) (sym (shows_nothing lent t none)) settles)
 
+    -- of the entry that the source lends, as it was changed
+    pub settled_put : (r : Option R) (kind : ValueType) (value : List ℕ) (head x : Entry)
+        → lent s.source ≡ Some head → lent s.source ≡ Some x → Settled r (put_into head kind value)
+        → Settled r (put_into x kind value)
+    settled_put r kind value head x is lends settles =
+        subst (λ (y : Entry). Settled r (put_into y kind value))
+        (same_some head x (lent s.source) is lends) settles
+
+    pub settled_held : (h : Entry) (k v : List ℕ) → k ≡ h.user_key → v ≡ h.value
+        → Settled (Some (Ok (zeroed s.rules h))) h
+        → Settled (Some (Ok (zeroed s.rules (entry k v h.seqno h.kind)))) h
+    settled_held h k v key value settles =
+        subst (λ (y : Entry). Settled (Some (Ok (zeroed s.rules y))) h)
+        (sym (parts_are h k v key value)) settles
+
+    pub settled_silent : (h : Entry) → t.shows ≡ Nothing → Settled None h
+        → Settled (option_map (λ y. Ok y) (lent_filtered lent t)) h
+    settled_silent h none settles =
+        subst (λ (r : Option R). Settled r h) (sym (shows_nothing lent t none)) settles
+
     -- ---- a head, and what follows it
     module _ (head : Entry) (rules : t.rules ≡ s.rules) (filter : t.filter ≡ s.filter) where
       -- what a compaction does from t on, by the rules and the filter of s
@@ -574,10 +602,3 @@ module _ {F C : Type 0} (gives : F → Entry → Result Verdict Error → F → 
             hiding_turn head rules filter (head_answer s.rules b head) xs (but_first xs) (y ∷ [])
                 turn (t.callback, told, refl) hides key,
           )
-
--- ---- an entry by its parts
-
-pub parts_are : (x : Entry) (k v : List ℕ) → k ≡ x.user_key → v ≡ x.value
-    → entry k v x.seqno x.kind ≡ x
-parts_are x k v key value = ap (λ (j : List ℕ). entry j v x.seqno x.kind) key
-    ∙ ap (λ (w : List ℕ). entry x.user_key w x.seqno x.kind) value

@@ -360,11 +360,13 @@ impl<L: Lending, F: LentFilter<A> + Drop, C: LentCallback + Drop, A: Allocator>
         if waits {
             return self.settle(seqno, kind);
         }
-        if seqno < self.rules.watermark {
-            self.hides = true;
-            if goes {
-                return Ok(false);
-            }
+        if seqno >= self.rules.watermark {
+            self.shows = Shows::Held(seqno, kind);
+            return Ok(true);
+        }
+        self.hides = true;
+        if goes {
+            return Ok(false);
         }
         self.shows = Shows::Held(seqno, kind);
         Ok(true)
