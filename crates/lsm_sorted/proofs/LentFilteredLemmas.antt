@@ -3,15 +3,18 @@ use Rattle.std.proofs.Common.{◌≡◌, refl, sym, ◌∙◌, ap, subst, ℕ, B
 use Rattle.std.proofs.Common.{List, [], ◌∷◌, ◌++◌, append_assoc}
 use Rattle.std.specs.Prelude.{Option, Some, None, Result, Ok, Err, is_some, not, ◌&&◌}
 use Rattle.std.specs.Option.{option_map}
+use Rattle.std.specs.List.{AllByRecursion}
+use Rattle.std.specs.Iterator.{Yields}
 use Rattle.std.proofs.Math.Bool.{and-false}
 use Rattle.sst_entries.specs.Entry.{Entry, entry}
 use Rattle.sst_entries.specs.Key.{same_key}
 use Rattle.sst_entries.specs.Kind.{is_tombstone_kind, is_weak_kind}
-use Rattle.sst_entries.specs.Stream.{answer_stops, but_first, first, nowhere, ok_results}
+use Rattle.sst_entries.specs.Stream.{CanDeal, answer_stops, but_first, first, nowhere, ok_results}
+use Rattle.sst_entries.specs.Stream.{result_stops}
 use Rattle.sst_entries.specs.declared.error.Error.{Error}
 use Rattle.sst_entries.specs.declared.error.Error.TheVariants.{OutOfMemory}
 use Rattle.sst_entries.specs.declared.value_type.ValueType.{ValueType}
-use Rattle.sst_entries.proofs.StreamLemmas.{deals_front}
+use Rattle.sst_entries.proofs.StreamLemmas.{can_by, deals_front}
 use Rattle.lsm_merge.specs.Ends.{R}
 use Rattle.lsm_sorted.specs.Newest.{after_key}
 use Rattle.lsm_sorted.specs.Compaction.{Verdict, drop, goes, keep, is_value, reports_by, told_by, zeroed}
@@ -19,6 +22,8 @@ use Rattle.lsm_sorted.specs.Compacting.{Asks, AsksIf, Compacted, GetsAll, Turn, 
 use Rattle.lsm_sorted.specs.Compacting.{key_follows, of_key, settled, turned}
 use Rattle.lsm_sorted.specs.LentNewest.{is_given}
 use Rattle.lsm_sorted.specs.LentCompaction.{has_to_wait, listed_answer, past_hidden}
+use Rattle.lsm_sorted.specs.LentFiltered.{AdvancesFiltered, CompactsLent, LooksAtNothing}
+use Rattle.lsm_sorted.specs.LentFiltered.{MayFilter, lent_callback, lent_filter}
 use Rattle.lsm_sorted.specs.LentFiltered.{DealsEntries, LooksAt, SettlesFiltered, SettlesFirst}
 use Rattle.lsm_sorted.specs.LentFiltered.{StepsFiltered, WillCompact, hidden_by, hidden_in}
 use Rattle.lsm_sorted.specs.LentFiltered.{lent_filtered, one_before, put_into, shown}
@@ -828,3 +833,151 @@ pub steps_silent : {F C : Type 0} (gives : F → Entry → Result Verdict Error 
 steps_silent gives gets advances lent stops s t none steps =
     subst (λ (r : Option R). StepsFiltered advances lent stops gives gets s r t)
     (sym (shows_nothing lent t none)) steps
+
+-- ---- whole calls
+
+not_none : {P : Type 0} (o : Option Entry) (b : Bool) → b ≡ is_some o → b ≡ true
+    → option_map {U = R} (λ y. Ok y) o ≡ None → P
+not_none None b more lends none = let no : true ≡ false = sym lends ∙ more in absurd cc
+not_none (Some x) b more lends none = absurd cc
+
+nothing_hidden : (k : Option (List ℕ)) → hidden_in k [] ≡ []
+nothing_hidden None = refl
+nothing_hidden (Some j) = refl
+
+nothing_past : (k : Option (List ℕ)) → past_hidden k [] ≡ []
+nothing_past None = refl
+nothing_past (Some j) = refl
+
+module _ {F C : Type 0} (gives : F → Entry → Result Verdict Error → F → Type 0)
+    (gets : C → Entry → C → Type 0) {S A : Type 0} where
+  -- a compaction of nothing
+  pub ends_here : (m : FilteredLendingCompaction S F C A) (ys : List Entry) (g : F) (d : C)
+      → ys ≡ [] → g ≡ m.filter → d ≡ m.callback → WillCompact gives gets m ys [] g d
+  ends_here m ys g d none filter callback =
+      subst (λ (zs : List Entry). WillCompact gives gets m zs [] g d) (sym none) (record {
+        told = m.callback;
+        hides = subst (λ (es : List Entry). GetsAll gets m.callback es m.callback)
+            (sym (nothing_hidden (hidden_by m))) refl;
+        does = subst (λ (rs : List R). Compacted gives gets m.rules m.filter m.callback rs [] g d)
+            (sym (nothing_past (hidden_by m))) (record {
+              judged = [];
+              over = refl;
+              tombstones = tt;
+              answers = refl;
+              says = filter;
+              reports = callback;
+            });
+      })
+
+  module _ (advances : S → Option R → S → Type 0) (lent : S → Option Entry) where
+    abbrev StepsAt : (Error → Bool) → FilteredLendingCompaction S F C A → Option R
+        → FilteredLendingCompaction S F C A → Type 0
+    StepsAt stops s r t = StepsFiltered advances lent stops gives gets s r t
+
+    pub steps_begun : (stops : Error → Bool) (s : FilteredLendingCompaction S F C A)
+        → StepsAt stops s None s
+    steps_begun stops s xs looks fine = (xs, looks, λ gave g d will. will)
+
+    -- one step after another
+    pub steps_then : (stops : Error → Bool) (s m t : FilteredLendingCompaction S F C A)
+        (r : Option R) → StepsAt stops s None m → StepsAt stops m r t → StepsAt stops s r t
+    steps_then stops s m t r before after xs looks fine =
+        let one = before xs looks refl in
+        let two = after one.0 one.1 fine in (
+          two.0,
+          two.1,
+          λ gave g d will. one.2 (listed_answer r ++ gave) g d (two.2 gave g d will),
+        )
+
+    -- nothing is shown
+    pub steps_quiet : (stops : Error → Bool) (s t : FilteredLendingCompaction S F C A)
+        → t.shows ≡ Nothing → StepsAt stops s (option_map (λ y. Ok y) (lent_filtered lent t)) t
+        → StepsAt stops s None t
+    steps_quiet stops s t none steps =
+        subst (λ (r : Option R). StepsAt stops s r t) (shows_nothing lent t none) steps
+
+    module _ (can : S → Type 0) where
+      abbrev Advances : FilteredLendingCompaction S F C A → Option R
+          → FilteredLendingCompaction S F C A → Type 0
+      Advances = AdvancesFiltered advances lent can gives gets
+
+      -- an answer
+      pub advances_some : (s t : FilteredLendingCompaction S F C A) (r : R)
+          → MayFilter advances can t → ((stops : Error → Bool) → StepsAt stops s (Some r) t)
+          → Advances s (Some r) t
+      advances_some s t r may steps = record {
+        may = may;
+        steps = steps;
+        ends = λ stops xs looks none. let no : Some r ≡ None = none in absurd cc;
+      }
+
+      pub advances_lent : (s t : FilteredLendingCompaction S F C A) (b : Bool)
+          → b ≡ is_some (lent_filtered lent t) → b ≡ true → MayFilter advances can t
+          → ((stops : Error → Bool)
+          → StepsAt stops s (option_map (λ y. Ok y) (lent_filtered lent t)) t)
+          → Advances s (option_map (λ y. Ok y) (lent_filtered lent t)) t
+      advances_lent s t b more lends may steps = record {
+        may = may;
+        steps = steps;
+        ends = λ stops xs looks none. not_none (lent_filtered lent t) b more lends none;
+      }
+
+      -- nothing is left at m
+      pub advances_end : (s m t : FilteredLendingCompaction S F C A) → t.shows ≡ Nothing
+          → MayFilter advances can t → t.filter ≡ m.filter → t.callback ≡ m.callback
+          → ((stops : Error → Bool) → StepsAt stops s None m)
+          → ((stops : Error → Bool) → StepsAt stops m None t) → LooksAtNothing advances lent m
+          → Advances s (option_map (λ y. Ok y) (lent_filtered lent t)) t
+      advances_end s m t none may filter callback before after nothing = record {
+        may = may;
+        steps = λ stops. steps_silent gives gets advances lent stops s t none
+            (steps_then stops s m t None (before stops) (after stops));
+        ends = λ stops xs looks quiet.
+            let one = before stops xs looks refl in
+            one.2 [] t.filter t.callback (ends_here m one.0 t.filter t.callback
+            (nothing stops one.0 one.1) filter callback);
+      }
+
+      -- one that is over
+      pub advances_over : (s t : FilteredLendingCompaction S F C A) (r : Option R)
+          → s.is_over ≡ true → MayFilter advances can t → Advances s r t
+      advances_over s t r over may = record {
+        may = may;
+        steps = λ stops xs looks fine.
+            let no : true ≡ false = sym over ∙ looks.live in absurd cc;
+        ends = λ stops xs looks none.
+            let no : true ≡ false = sym over ∙ looks.live in absurd cc;
+      }
+
+      -- all calls up to the one where nothing comes
+      whole_from : (stops : Error → Bool) (gave : List R)
+          (s t u : FilteredLendingCompaction S F C A) (xs : List Entry)
+          → LooksAt advances lent stops s xs
+          → AllByRecursion (λ r. result_stops stops r ≡ false) gave → Yields Advances s gave t
+          → Advances t None u → WillCompact gives gets s xs gave u.filter u.callback
+      whole_from stops [] s t u xs looks fine runs last =
+          (subst (λ (v : FilteredLendingCompaction S F C A). Advances v None u) (sym runs) last).ends
+          stops xs looks refl
+      whole_from stops (r ∷ gave) s t u xs looks fine runs last =
+          let one = runs.1.steps stops xs looks fine.0 in
+          one.2 gave u.filter u.callback
+          (whole_from stops gave runs.0 t u one.0 one.1 fine.1 runs.2 last)
+
+      pub compacts_lent : (s : FilteredLendingCompaction S F C A) → s.hides ≡ false
+          → s.is_pending ≡ false → s.is_over ≡ false
+          → CompactsLent advances s.source Advances s s.rules gives gets s.filter s.callback
+          lent_filter lent_callback
+      compacts_lent s plain next live = record {
+        whole = λ stops xs gave t u memory has fine runs last.
+            will_plain gives gets s xs gave u.filter u.callback plain
+            (whole_from stops gave s t u xs
+            (looks_next gives gets advances lent stops s s xs memory live next has) fine runs last);
+      }
+
+      pub can_filter : (s : FilteredLendingCompaction S F C A)
+          → CanDeal advances nowhere can can s.source
+          → CanDeal Advances nowhere (MayFilter advances can) (MayFilter advances can) s
+      can_filter s may = can_by Advances nowhere (MayFilter advances can) (MayFilter advances can)
+          (MayFilter advances can) (λ u m. (m, m)) (λ u r t m step. step.may)
+          (λ u r t m step. absurd step) s may
