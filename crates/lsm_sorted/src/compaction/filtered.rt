@@ -75,7 +75,9 @@ enum Shows {
 /// it was before the filter, a hidden one when it is passed.
 ///
 /// An entry that the filter changes is lent from two buffers, for its key and its value. An error
-/// of the filter is passed on in the place of the entry, and it goes on behind it.
+/// of the filter is passed on in the place of the entry, and it goes on behind it. Where memory is
+/// refused, the answer is [`Error::OutOfMemory`] in the place of the entry, and nothing comes after
+/// it.
 #[derive(Drop)]
 pub struct FilteredLendingCompaction<L, F = NoFilter, C = NoCallback, A: Allocator = Global> {
     source: L,
@@ -93,9 +95,12 @@ pub struct FilteredLendingCompaction<L, F = NoFilter, C = NoCallback, A: Allocat
     is_over: bool,
 }
 
-impl<L: Lending, F: LentFilter<A> + Drop, C: LentCallback + Drop, A: Allocator>
-    FilteredLendingCompaction<L, F, C, A>
-{
+impl<
+    L: Lending,
+    F: LentFilter<A> + Drop,
+    C: LentCallback + Drop,
+    A: Allocator,
+> FilteredLendingCompaction<L, F, C, A> {
     /// What a compaction by these rules keeps of what the source has still to lend, as this filter
     /// leaves it; this callback is told the rest. Nothing is asked of them yet. Refused
     /// [`Error::OutOfMemory`] alone, where the allocator cannot be cloned for the second buffer.
@@ -137,6 +142,15 @@ impl<L: Lending, F: LentFilter<A> + Drop, C: LentCallback + Drop, A: Allocator>
         ensures { result.now ≡ lent_callback self.now }
     {
         &self.callback
+    }
+
+    /// The callback, for which the compaction is given up.
+    pub fn into_callback(self) -> C
+    where
+        L: Drop,
+        ensures { result ≡ lent_callback self }
+    {
+        self.callback
     }
 
     // Sees that there is an entry to look at, and answers whether there is one.
@@ -441,8 +455,7 @@ impl<L: Lending, F: LentFilter<A> + Drop, C: LentCallback + Drop, A: Allocator>
 }
 
 impl<L: Lending, F: LentFilter<A> + Drop, C: LentCallback + Drop, A: Allocator> Lending
-    for FilteredLendingCompaction<L, F, C, A>
-{
+    for FilteredLendingCompaction<L, F, C, A> {
     ghost can_advance = { MayFilter L.advances L.can_advance };
 
     ghost advances = { AdvancesFiltered L.advances L.lent L.can_advance F.gives C.gets };

@@ -24,7 +24,7 @@ returns-in-Err-clause-may g c =
 pub returns-in-Ok-clause-steps : goal.returns-in-Ok-clause-steps
 returns-in-Ok-clause-steps g c = λ stops.
     fetches_entry g.F.LentFilter.gives g.C.LentCallback.gets g.L.Lending.advances g.L.Lending.lent stops c.args.self.now _ refl refl c.requires.live refl c.if-self.false
-        c.in-Ok.more (g.L.Lending.lent c.advance.new.self) refl c.in-Ok.ensures.more refl refl c.in-Ok.ensures.goes
+    c.in-Ok.more (g.L.Lending.lent c.advance.new.self) refl c.in-Ok.ensures.more refl refl c.in-Ok.ensures.goes
 
 pub returns-in-Ok-clause-ends : goal.returns-in-Ok-clause-ends
 returns-in-Ok-clause-ends g c none = (

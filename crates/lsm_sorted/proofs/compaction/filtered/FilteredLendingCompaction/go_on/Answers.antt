@@ -2,10 +2,8 @@
 use Rattle.std.proofs.Common.{◌∙◌, arith}
 use Rattle.std.specs.Prelude.{Some, None, Err}
 use Rattle.std.proofs.lemmas.Result.{err_from_is_err_and}
-use Rattle.sst_entries.specs.Lending.{came}
-use Rattle.lsm_sorted.specs.LentFiltered.{lent_filtered}
-use Rattle.lsm_sorted.proofs.LentFilteredLemmas.{advances_end, advances_lent, advances_some}
-use Rattle.lsm_sorted.proofs.LentFilteredLemmas.{steps_begun, steps_quiet, steps_then}
+use Rattle.lsm_sorted.proofs.LentFilteredCalls.{advances_end, advances_lent, advances_some}
+use Rattle.lsm_sorted.proofs.LentFilteredCalls.{steps_begun, steps_quiet, steps_then}
 use Rattle.lsm_sorted.proofs.compaction.filtered.FilteredLendingCompaction.go_on.Goals as goal
 
 pub loop-self-init : goal.loop-self-init

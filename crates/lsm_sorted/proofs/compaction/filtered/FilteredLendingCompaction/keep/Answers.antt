@@ -1,14 +1,11 @@
 -- A head as it is.
 use Rattle.std.proofs.Common.{◌≡◌, refl, sym, ◌∙◌, ap, subst, true, false}
-use Rattle.std.specs.Prelude.{Option, Some, None, Ok}
+use Rattle.std.specs.Prelude.{Some, None}
 use Rattle.std.specs.Option.{option_map}
 use Rattle.std.proofs.lemmas.Bool.{le-ltb, lt-ltb}
 use Rattle.sst_entries.specs.Entry.{Entry}
 use Rattle.sst_entries.specs.Lending.{entry_of_ref}
-use Rattle.lsm_merge.specs.Ends.{R}
-use Rattle.lsm_sorted.specs.Compaction.{zeroed}
 use Rattle.lsm_sorted.specs.LentCompaction.{has_to_wait}
-use Rattle.lsm_sorted.specs.LentFiltered.{SettlesFiltered}
 use Rattle.lsm_sorted.proofs.LentFilteredLemmas.{keeps_high, keeps_low, same_some, settled_memory}
 use Rattle.lsm_sorted.proofs.LentFilteredLemmas.{settled_gone, settled_source}
 use Rattle.lsm_sorted.proofs.compaction.filtered.FilteredLendingCompaction.keep.Goals as goal

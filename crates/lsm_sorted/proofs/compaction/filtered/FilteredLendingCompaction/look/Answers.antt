@@ -1,13 +1,13 @@
 -- An entry is looked at.
-use Rattle.std.proofs.Common.{◌≡◌, refl, sym, ◌∙◌, ap, subst, ℕ, List, [], ◌∷◌}
-use Rattle.std.specs.Prelude.{Option, Some, None, Ok, Err}
+use Rattle.std.proofs.Common.{◌≡◌, refl, sym, ◌∙◌, ap, subst, ℕ, List}
+use Rattle.std.specs.Prelude.{Some, None, Ok, Err}
 use Rattle.std.specs.Option.{option_map}
 use Rattle.sst_entries.specs.Lending.{came, entry_of_ref}
 use Rattle.lsm_sorted.specs.Compaction.{drop, keep, replace, told_by}
 use Rattle.lsm_sorted.specs.LentFiltered.{lent_filtered, put_into}
 use Rattle.lsm_sorted.specs.Verdicts.{verdict_of}
-use Rattle.lsm_sorted.proofs.LentFilteredLemmas.{asked_no_more, asked_of_it, judged_by, looks_gone}
-use Rattle.lsm_sorted.proofs.LentFilteredLemmas.{looks_left, steps_silent}
+use Rattle.lsm_sorted.proofs.LentFilteredCalls.{asked_no_more, asked_of_it, judged_by, looks_gone}
+use Rattle.lsm_sorted.proofs.LentFilteredCalls.{looks_left, steps_silent}
 use Rattle.lsm_sorted.proofs.compaction.filtered.FilteredLendingCompaction.look.Goals as goal
 
 pub returns-then-is_tombstone-clause-steps : goal.returns-then-is_tombstone-clause-steps

@@ -1,6 +1,6 @@
 -- A fresh compaction.
 use Rattle.std.proofs.Common.{refl}
-use Rattle.lsm_sorted.proofs.LentFilteredLemmas.{can_filter, compacts_lent}
+use Rattle.lsm_sorted.proofs.LentFilteredCalls.{can_filter, compacts_lent}
 use Rattle.lsm_sorted.proofs.compaction.filtered.FilteredLendingCompaction.new.Goals as goal
 
 pub returns-clause-whole : goal.returns-clause-whole

@@ -1,13 +1,13 @@
 -- A head that is changed.
 use Rattle.std.proofs.Common.{◌≡◌, refl, sym, ◌∙◌, ap, subst, true, false}
-use Rattle.std.specs.Prelude.{Option, Some, None, Ok}
+use Rattle.std.specs.Prelude.{Some, None}
 use Rattle.std.specs.Option.{option_map}
 use Rattle.std.proofs.lemmas.Bool.{le-ltb, lt-ltb}
 use Rattle.sst_entries.specs.Entry.{Entry}
 use Rattle.sst_entries.specs.Lending.{came, entry_of_ref}
 use Rattle.lsm_sorted.specs.LentCompaction.{has_to_wait}
 use Rattle.lsm_sorted.specs.LentFiltered.{SettlesFiltered, lent_filtered, put_into}
-use Rattle.lsm_sorted.proofs.LentFilteredLemmas.{keeps_high, keeps_low, parts_are, same_some}
+use Rattle.lsm_sorted.proofs.LentFilteredLemmas.{keeps_high, keeps_low, parts_are}
 use Rattle.lsm_sorted.proofs.LentFilteredLemmas.{settled_held, settled_memory, settled_put}
 use Rattle.lsm_sorted.proofs.LentFilteredLemmas.{settled_silent}
 use Rattle.lsm_sorted.proofs.compaction.filtered.FilteredLendingCompaction.replace.Goals as goal
@@ -58,16 +58,16 @@ returns-then-waits-clause-settles g c = λ stops x lends.
     (subst (λ (y : Entry). SettlesFiltered g.L.Lending.advances lent stops g.F.LentFilter.gives g.C.LentCallback.gets s r t y)
     (parts_are h _ _ key bytes)
     (λ xs memory has fine.
-        let one = c.settle.ensures.settles stops xs memory has fine in (
-          one.0,
-          one.1,
-          λ gave f d will. let first = one.2 gave f d will in record {
-            answers = first.answers;
-            told = first.told;
-            reports = first.reports;
-            does = first.does;
-          },
-        )))
+    let one = c.settle.ensures.settles stops xs memory has fine in (
+      one.0,
+      one.1,
+      λ gave f d will. let first = one.2 gave f d will in record {
+        answers = first.answers;
+        told = first.told;
+        reports = first.reports;
+        does = first.does;
+      },
+    )))
 
 pub returns-then-seqno-self-clause-settles : goal.returns-then-seqno-self-clause-settles
 returns-then-seqno-self-clause-settles g c = λ stops x lends.

@@ -1,6 +1,6 @@
 -- A head in the buffers.
 use Rattle.std.proofs.Common.{refl, sym, ap, subst, ◌∙◌, Bool}
-use Rattle.std.specs.Prelude.{Option, Some, None, Err}
+use Rattle.std.specs.Prelude.{Option}
 use Rattle.std.proofs.lemmas.Result.{err_from_is_err_and}
 use Rattle.sst_entries.specs.Entry.{entry}
 use Rattle.lsm_merge.specs.Ends.{R}
@@ -23,8 +23,8 @@ returns-then-branch-clause-settles g c = λ stops.
     let head = entry s.key.items s.value.items c.args.seqno c.args.kind in
     let after = c.in_ok-lets_go.ensures in
     subst (λ (r : Option R). SettlesFiltered g.L.Lending.advances g.L.Lending.lent stops g.F.LentFilter.gives g.C.LentCallback.gets s r t head)
-        (ap (λ (b : Bool). head_answer s.rules b head) c.if-branch.true ∙ sym (shows_nothing g.L.Lending.lent t (after.shows ∙ c.requires.empty)))
-        (after.settles stops head c.requires.waits refl refl)
+    (ap (λ (b : Bool). head_answer s.rules b head) c.if-branch.true ∙ sym (shows_nothing g.L.Lending.lent t (after.shows ∙ c.requires.empty)))
+    (after.settles stops head c.requires.waits refl refl)
 
 pub returns-clause-settles : goal.returns-clause-settles
 returns-clause-settles g c = λ stops xs memory has fine.
@@ -34,7 +34,7 @@ returns-clause-settles g c = λ stops xs memory has fine.
     let after = c.in_ok-lets_go.ensures in
     let answer = held_answer t.rules s.rules t.key.items t.value.items head c.in_ok-lets_go.field-0 after.rules (ap (λ v. v.items) after.key) (ap (λ v. v.items) after.value) c.if-branch.false in
     let one = subst (λ (r : Option R). SettlesFiltered g.L.Lending.advances g.L.Lending.lent stops g.F.LentFilter.gives g.C.LentCallback.gets s r t head)
-        (sym answer) (after.settles stops head c.requires.waits refl refl) xs memory has fine in (
+    (sym answer) (after.settles stops head c.requires.waits refl refl) xs memory has fine in (
       one.0,
       record {
         memory = one.1.memory;

@@ -1,8 +1,8 @@
 -- A head that waits for what follows.
-use Rattle.std.proofs.Common.{◌≡◌, refl, sym, ◌∙◌, ap, subst, true, false}
+use Rattle.std.proofs.Common.{◌≡◌, sym, ◌∙◌, ap, subst, true}
 use Rattle.std.specs.Prelude.{Some, None}
 use Rattle.std.specs.Option.{option_map}
-use Rattle.sst_entries.specs.Entry.{Entry, entry}
+use Rattle.sst_entries.specs.Entry.{Entry}
 use Rattle.sst_entries.specs.Lending.{came, entry_of_ref}
 use Rattle.lsm_sorted.specs.LentCompaction.{has_to_wait}
 use Rattle.lsm_sorted.specs.LentFiltered.{SettlesFiltered, lent_filtered}
@@ -43,13 +43,13 @@ returns-clause-settles g c = λ stops x lends.
     subst (λ (y : Entry). SettlesFiltered g.L.Lending.advances lent stops g.F.LentFilter.gives g.C.LentCallback.gets s r t y)
     (parts_are head _ _ c.in_default-remember.ensures.bytes c.in_default-remember-2.ensures.bytes ∙ same)
     (λ xs memory has fine.
-        let one = c.settle.ensures.settles stops xs memory has fine in (
-          one.0,
-          one.1,
-          λ gave f d will. let first = one.2 gave f d will in record {
-            answers = first.answers;
-            told = first.told;
-            reports = first.reports;
-            does = first.does;
-          },
-        ))
+    let one = c.settle.ensures.settles stops xs memory has fine in (
+      one.0,
+      one.1,
+      λ gave f d will. let first = one.2 gave f d will in record {
+        answers = first.answers;
+        told = first.told;
+        reports = first.reports;
+        does = first.does;
+      },
+    ))

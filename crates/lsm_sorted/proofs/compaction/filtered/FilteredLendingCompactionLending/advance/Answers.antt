@@ -1,5 +1,4 @@
 -- One call.
-use Rattle.lsm_sorted.proofs.LentFilteredLemmas.{advances_over}
 use Rattle.lsm_sorted.proofs.compaction.filtered.FilteredLendingCompactionLending.advance.Goals as goal
 
 pub returns-clause-goes : goal.returns-clause-goes
