@@ -5,7 +5,8 @@ use Rattle.std.specs.List.{AllByRecursion}
 use Rattle.std.specs.Iterator.{Yields}
 use Rattle.std.specs.Option.{option_map}
 use Rattle.sst_entries.specs.Entry.{Entry, entry}
-use Rattle.sst_entries.specs.Stream.{CanDeal, Deals, answer_stops, nowhere, ok_results, result_stops}
+use Rattle.sst_entries.specs.Stream.{CanDeal, Deals, answer_stops, nowhere, ok_results}
+use Rattle.sst_entries.specs.Stream.{result_stops}
 use Rattle.sst_entries.specs.declared.error.Error.{Error}
 use Rattle.sst_entries.specs.declared.error.Error.TheVariants.{OutOfMemory}
 use Rattle.sst_entries.specs.declared.value_type.ValueType.{ValueType}
@@ -112,7 +113,8 @@ module _ {S : Type 0} (advances : S → Option R → S → Type 0) (lent : S →
 
       -- the same of a head that the filter left, before what the source still deals
       abbrev pub SettlesFiltered : Entry → Type 0
-      SettlesFiltered head = (xs : List Entry) → stops OutOfMemory ≡ true → DealsEntries advances stops s.source xs
+      SettlesFiltered head = (xs : List Entry) → stops OutOfMemory ≡ true
+          → DealsEntries advances stops s.source xs
           → answer_stops stops r ≡ false
           → (ys : List Entry) × LooksAt t ys
           × ((gave : List R) (g : F) (d : C) → WillCompact gives gets t ys gave g d

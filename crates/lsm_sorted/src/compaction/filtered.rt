@@ -1,6 +1,8 @@
-//! Entries that are lent from where they lie, as a filter leaves them, without what no reader needs.
+//! Entries that are lent from where they lie as a filter leaves them, but for what no
+//! reader needs.
 ghost use Rattle.std.specs.Prelude.{◌≡◌, ◌<◌, ◌≤◌, true, false, cond, List};
-ghost use Rattle.std.specs.Prelude.{Bool, Result, IfErr, IfOk, None, Ok, OnErr, Some, is_some, IsSome};
+ghost use Rattle.std.specs.Prelude.{Bool, Result, IfErr, IfOk, IsSome, None, Ok, OnErr, Some};
+ghost use Rattle.std.specs.Prelude.{is_some};
 ghost use Rattle.sst_entries.specs.Entry.{Entry, entry};
 ghost use Rattle.sst_entries.specs.Lending.{came, entry_of_ref};
 ghost use Rattle.sst_entries.specs.Stream.{CanDeal, Lowers, nowhere};
@@ -84,7 +86,7 @@ pub struct FilteredLendingCompaction<L, F = NoFilter, C = NoCallback, A: Allocat
     rules: Rules,
     filter: F,
     callback: C,
-    // The key of the entry that was kept last, and the value, where that had to wait or was changed.
+    // The key of the entry that was kept last, and the value, where it had to wait or was changed.
     key: Vec<u8, A>,
     value: Vec<u8, A>,
     shows: Shows,
@@ -120,6 +122,8 @@ impl<
             IfOk result (CanDeal ⟦<FilteredLendingCompaction<L, F, C, A> as Lending>⟧.advances
             nowhere ⟦<FilteredLendingCompaction<L, F, C, A> as Lending>⟧.can_advance
             ⟦<FilteredLendingCompaction<L, F, C, A> as Lending>⟧.can_advance) }
+        ensures advance { CanDeal L.advances nowhere L.can_advance L.can_advance source →
+            IfOk result ⟦<FilteredLendingCompaction<L, F, C, A> as Lending>⟧.can_advance }
         ensures err { IfErr result (λ e. e ≡ OutOfMemory) }
     {
         let key = Vec::new(alloc.clone()?);
@@ -160,7 +164,8 @@ impl<
         requires live { self.old.is_over ≡ false }
         ensures may { MayFilter L.advances L.can_advance self.new }
         ensures steps { (stops : Error → Bool) →
-            StepsFiltered L.advances L.lent stops F.gives C.gets self.old (failure result) self.new }
+            StepsFiltered L.advances L.lent stops F.gives C.gets self.old (failure result)
+            self.new }
         ensures over { self.new.is_over ≡ self.old.is_over }
         ensures shows { self.new.shows ≡ self.old.shows }
         ensures pending { IfOk result (λ more. self.new.is_pending ≡ more) }
