@@ -72,21 +72,21 @@ first_entries (e ∷ es) = refl
 
 -- ---- by kinds
 
-goes_alone : (evict : Bool) (kind : ValueType) → goes evict kind None
+pub goes_alone : (evict : Bool) (kind : ValueType) → goes evict kind None
     ≡ evict && is_tombstone_kind kind
 goes_alone evict Value = sym (and-false evict)
 goes_alone evict Tombstone = sym (and-true evict)
 goes_alone evict WeakTombstone = sym (and-true evict)
 goes_alone evict Indirection = sym (and-false evict)
 
-goes_strong : (evict : Bool) (kind : ValueType) (next : Option Entry) → is_weak_kind kind ≡ false
+pub goes_strong : (evict : Bool) (kind : ValueType) (next : Option Entry) → is_weak_kind kind ≡ false
     → goes evict kind next ≡ evict && is_tombstone_kind kind
 goes_strong evict Value next h = sym (and-false evict)
 goes_strong evict Tombstone next h = sym (and-true evict)
 goes_strong evict WeakTombstone next h = cc
 goes_strong evict Indirection next h = sym (and-false evict)
 
-goes_weak : (evict : Bool) (kind : ValueType) (next : Entry) → is_weak_kind kind ≡ true
+pub goes_weak : (evict : Bool) (kind : ValueType) (next : Entry) → is_weak_kind kind ≡ true
     → goes evict kind (Some next) ≡ is_value next.kind
 goes_weak evict Value next h = cc
 goes_weak evict Tombstone next h = cc
@@ -256,7 +256,7 @@ module _ (rules : Rules) where
             | false ↦ λ h. (both rules.evict (is_tombstone_kind x.kind) h).1
           ] waits
 
-      last_goes : goes rules.evict x.kind None ≡ rules.evict
+      pub last_goes : goes rules.evict x.kind None ≡ rules.evict
       last_goes = goes_alone rules.evict x.kind ∙ ap (λ (b : Bool). rules.evict && b) dies
           ∙ and-true rules.evict
 

@@ -29,3 +29,6 @@ pub mod LentNewestLemmas
 pub mod LentNewestListens
 pub mod LentOutsLemmas
 pub mod LentCompactionLemmas
+pub mod LentSettled
+pub mod LentFilteredLemmas
+pub mod LentFilteredCalls

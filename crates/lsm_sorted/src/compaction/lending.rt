@@ -67,7 +67,7 @@ pub struct LendingCompaction<L, A: Allocator = Global> {
 impl Rules {
     // Whether what follows an entry says whether it stays.
     #[inline(always)]
-    fn has_to_wait(&self, entry: &EntryRef<'_>) -> bool
+    pub(super) fn has_to_wait(&self, entry: &EntryRef<'_>) -> bool
         ensures { result ≡ has_to_wait self.now (entry_of_ref entry.now) }
     {
         if entry.seqno < self.watermark {
@@ -79,7 +79,7 @@ impl Rules {
 
     // Whether an entry that need not wait goes.
     #[inline(always)]
-    fn goes_at_once(&self, entry: &EntryRef<'_>) -> bool
+    pub(super) fn goes_at_once(&self, entry: &EntryRef<'_>) -> bool
         ensures { result ≡ (self.now.evict && is_tombstone_kind (entry_of_ref entry.now).kind) }
     {
         self.evict && entry.is_tombstone()
@@ -87,7 +87,7 @@ impl Rules {
 
     // A number as it is given.
     #[inline(always)]
-    fn zeroed(&self, seqno: SeqNo) -> SeqNo
+    pub(super) fn zeroed(&self, seqno: SeqNo) -> SeqNo
         ensures { result ≡
             (if self.now.zeroing && nat_lt seqno self.now.watermark then 0 else seqno) }
     {
@@ -101,7 +101,7 @@ impl Rules {
 
 // Puts these bytes into a buffer in place of its own.
 #[inline(always)]
-fn remember<A: Allocator>(buffer: &mut Vec<u8, A>, bytes: &[u8]) -> Result<(), Error>
+pub(super) fn remember<A: Allocator>(buffer: &mut Vec<u8, A>, bytes: &[u8]) -> Result<(), Error>
     ensures bytes { IfOk result (λ _. buffer.new.items ≡ bytes.now) }
     ensures err { IfErr result (λ e. e ≡ OutOfMemory) }
 {
@@ -112,7 +112,7 @@ fn remember<A: Allocator>(buffer: &mut Vec<u8, A>, bytes: &[u8]) -> Result<(), E
 
 // Whether an entry is a version of a key.
 #[inline(always)]
-fn is_version<A: Allocator>(key: &Vec<u8, A>, entry: &EntryRef<'_>) -> bool
+pub(super) fn is_version<A: Allocator>(key: &Vec<u8, A>, entry: &EntryRef<'_>) -> bool
     ensures { result ≡ same_key (entry_of_ref entry.now).user_key key.now.items }
 {
     entry.user_key == key.as_slice()
@@ -120,7 +120,7 @@ fn is_version<A: Allocator>(key: &Vec<u8, A>, entry: &EntryRef<'_>) -> bool
 
 // Whether an entry is a version of a key of which the next are hidden.
 #[inline(always)]
-fn is_given<A: Allocator>(hides: bool, key: &Vec<u8, A>, entry: &EntryRef<'_>) -> bool
+pub(super) fn is_given<A: Allocator>(hides: bool, key: &Vec<u8, A>, entry: &EntryRef<'_>) -> bool
     ensures { result ≡
         is_given (cond hides (Some key.now.items) None) (entry_of_ref entry.now) }
 {
@@ -129,7 +129,7 @@ fn is_given<A: Allocator>(hides: bool, key: &Vec<u8, A>, entry: &EntryRef<'_>) -
 
 // Whether a kind is a value.
 #[inline(always)]
-fn is_value(kind: ValueType) -> bool
+pub(super) fn is_value(kind: ValueType) -> bool
     ensures { result ≡ is_value kind }
 {
     matches!(kind, ValueType::Value)
