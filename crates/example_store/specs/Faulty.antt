@@ -12,7 +12,8 @@ use Rattle.example_store.specs.declared.store.open.FileFault.{FileFault}
 use Rattle.example_store.specs.declared.store.open.FileFault.TheVariants.{Empty, TooHigh, Unopened}
 use Rattle.example_store.specs.declared.store.open.FileFault.TheVariants.{Unsound, Weak}
 use Rattle.example_store.specs.declared.store.open.OpenError.{OpenError}
-use Rattle.example_store.specs.declared.store.open.OpenError.TheVariants.{File, NoFile, OldestTooHigh}
+use Rattle.example_store.specs.declared.store.open.OpenError.TheVariants.{File, NoFile}
+use Rattle.example_store.specs.declared.store.open.OpenError.TheVariants.{OldestTooHigh}
 use Rattle.example_store.specs.declared.store.open.OpenError.TheVariants.{OutOfMemory, OutOfOrder}
 use Rattle.example_store.specs.declared.store.open.OpenError.TheVariants.{Repeated, SeqNoOverflow}
 

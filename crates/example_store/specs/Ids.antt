@@ -10,8 +10,8 @@ abbrev pub counter_behind : Option ℕ → ℕ → List (List OpenTable) → Opt
 counter_behind ids target [] = ids
 counter_behind ids target (run ∷ runs) = ids_behind ids target (sum_by length (run ∷ runs))
 
--- what a store writes of a list, in one run at most: tables that its target cuts, under ids from its
--- counter on
+-- what a store writes of a list, in one run at most: tables that its target cuts, under ids from
+-- its counter on
 pub record AreMadeOf (s : Holding) (es : List Entry) (made : List (List OpenTable)) : Type 0 where
   pub has : HaveAll es made
   pub few : length made ≤ 1
@@ -30,7 +30,7 @@ abbrev pub StaysOrFlushes : Holding → Holding → Type 0
 StaysOrFlushes old new = (new ≡ old) ⊎ HasFlushed old new × (new.recent ≡ [])
 
 -- an entry was put to what is in no table where there was room, and else that was flushed before
-pub record HasTaken (e : Entry) (old new : Holding) : Type 0 where
+pub record IsTakenIn (e : Entry) (old new : Holding) : Type 0 where
   pub beside : length old.recent < old.limit → IsPut e old.recent new.recent
   pub runs : length old.recent < old.limit → new.runs ≡ old.runs
   pub ids : length old.recent < old.limit → new.ids ≡ old.ids

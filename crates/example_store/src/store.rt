@@ -4,7 +4,7 @@ ghost use Rattle.std.specs.Prelude.{IfOk, IfSome, List, MatchOption, None, Ok, O
 ghost use Rattle.std.specs.Prelude.{Option, Some, false, length, ℕ};
 ghost use Rattle.std.specs.Arc.{arc_value};
 ghost use Rattle.std.specs.Option.{option_map};
-ghost use Rattle.example_store.specs.Ids.{HasFlushed, HasTaken, StaysOrFlushes};
+ghost use Rattle.example_store.specs.Ids.{HasFlushed, IsTakenIn, StaysOrFlushes};
 ghost use Rattle.example_store.specs.Recent.{IsPut};
 ghost use Rattle.example_store.specs.Story.{AreNumbered, IsOwnRun, IsTold, put_fault, value_in};
 ghost use Rattle.logpurple.specs.Words.{AreCutOf, Entry, Gives, HasList, IsStrict, IsWritable};
@@ -124,7 +124,7 @@ impl<A: Allocator + Clone> Store<A> {
         ensures target { self.new.target ≡ self.old.target }
         // The entry is put to those of the memtable. One that is full is flushed before.
         ensures taken { OnOk result
-            (HasTaken (entry key.now value.now self.old.next Value) self.old self.new) }
+            (IsTakenIn (entry key.now value.now self.old.next Value) self.old self.new) }
         ensures err { OnErr result (StaysOrFlushes self.old self.new) }
         // No table is made where there is room.
         ensures waits { length self.old.recent < self.old.limit → self.new.runs ≡ self.old.runs }
@@ -152,7 +152,7 @@ impl<A: Allocator + Clone> Store<A> {
         ensures limit { self.new.limit ≡ self.old.limit }
         ensures target { self.new.target ≡ self.old.target }
         ensures taken { OnOk result
-            (HasTaken (entry key.now [] self.old.next Tombstone) self.old self.new) }
+            (IsTakenIn (entry key.now [] self.old.next Tombstone) self.old self.new) }
         ensures err { OnErr result (StaysOrFlushes self.old self.new) }
         ensures waits { length self.old.recent < self.old.limit → self.new.runs ≡ self.old.runs }
         ensures room { length self.old.recent < self.old.limit →
@@ -177,7 +177,7 @@ impl<A: Allocator + Clone> Store<A> {
         ensures limit { self.new.limit ≡ self.old.limit }
         ensures target { self.new.target ≡ self.old.target }
         ensures taken { OnOk result
-            (HasTaken (entry key.now value.now self.old.next kind) self.old self.new) }
+            (IsTakenIn (entry key.now value.now self.old.next kind) self.old self.new) }
         ensures err { OnErr result (StaysOrFlushes self.old self.new) }
         ensures waits { length self.old.recent < self.old.limit → self.new.runs ≡ self.old.runs }
         ensures room { length self.old.recent < self.old.limit →

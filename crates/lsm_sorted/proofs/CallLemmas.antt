@@ -54,8 +54,8 @@ module _ {F C : Type 0} (gives : F → Entry → Result Verdict Error → F → 
       ] asks
 
   -- a turn before the rest of a compaction
-  pub turn_more : (f h g : F) (c b d : C) (x : Entry) (rs zs : List R) (r : Option R) (gave : List R)
-      → Turns gives gets rules f c x rs r h b zs → Compacted gives gets rules h b zs gave g d
+  pub turn_more : (f h g : F) (c b d : C) (x : Entry) (rs zs : List R) (r : Option R) (gave : List
+      R) → Turns gives gets rules f c x rs r h b zs → Compacted gives gets rules h b zs gave g d
       → Compacted gives gets rules f c (Ok x ∷ rs) (listed r ++ gave) g d
   turn_more f h g c b d x rs zs r gave t rest =
       let v = t.verdict in

@@ -64,8 +64,8 @@ abbrev pub Fine : Option R → Type 0
 Fine r = (stops : Error → Bool) → answer_stops stops r ≡ false
 
 module _ {S : Type 0} (ask : S → Option R → S → Type 0) where
-  pub each_append : (ps qs : List (Option R)) (s u v : S) → GaveEach ask s ps u → GaveEach ask u qs v
-      → GaveEach ask s (ps ++ qs) v
+  pub each_append : (ps qs : List (Option R)) (s u v : S) → GaveEach ask s ps u → GaveEach ask u
+      qs v → GaveEach ask s (ps ++ qs) v
   each_append [] qs s u v h k = subst (λ (w : S). GaveEach ask w qs v) (sym h) k
   each_append (r ∷ ps) qs s u v h k = (h.0, h.1, each_append ps qs h.0 u v h.2 k)
 

@@ -426,8 +426,8 @@ module _ {S : Type 0} (advances : S → Option R → S → Type 0) (lent : S →
     waits_settled is pending hides on same live looks r answer ys leaves fine =
         let known : answer_stops stops (answer_of s.rules head result) ≡ false =
         sym (ap (answer_stops stops) answer) ∙ fine in
-        let one = settles.at leaves.rest (subst (λ (v : S). Rest stops advances v leaves.rest) (sym source)
-        leaves.has) (fine_result stops s.rules head result known) in
+        let one = settles.at leaves.rest (subst (λ (v : S). Rest stops advances v leaves.rest)
+        (sym source) leaves.has) (fine_result stops s.rules head result known) in
         let whole : lent_outs s.rules (Ok head ∷ leaves.rest)
         ≡ listed_answer (answer_of s.rules head result)
         ++ lent_outs s.rules (looks_at lent t one.0) =

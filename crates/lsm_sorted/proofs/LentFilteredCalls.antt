@@ -71,7 +71,8 @@ module _ {F C : Type 0} (gives : F → Entry → Result Verdict Error → F → 
     module _ (pending : s.is_pending ≡ true) (source : m.source ≡ s.source) where
       seen : (o : Option Entry) (xs rest : List Entry) → lent s.source ≡ o
           → xs ≡ cond s.is_pending (one_before (lent s.source) rest) rest → xs ≡ one_before o rest
-      seen o xs rest lends is = sees_head gives gets advances lent stops s t o xs rest pending lends is
+      seen o xs rest lends is = sees_head gives gets advances lent stops s t o xs rest pending
+          lends is
 
       dealt : (xs : List Entry) → DealsEntries advances stops s.source xs
           → DealsEntries advances stops m.source xs
@@ -88,7 +89,8 @@ module _ {F C : Type 0} (gives : F → Entry → Result Verdict Error → F → 
               subst (LooksAt advances lent stops t) (sym same)
                   (looks_next gives gets advances lent stops s t looks.rest looks.memory live next
                   (subst (λ (u : FilteredLendingCompaction S F C A).
-                  DealsEntries advances stops u.source looks.rest) at (dealt looks.rest looks.has))),
+                  DealsEntries advances stops u.source looks.rest) at (dealt looks.rest
+                  looks.has))),
               same_will gives gets advances lent stops s t xs
                   (sym (ap (λ (u : FilteredLendingCompaction S F C A). u.rules) at) ∙ rules) filter
                   callback hidden,
@@ -108,8 +110,8 @@ module _ {F C : Type 0} (gives : F → Entry → Result Verdict Error → F → 
               let set : t.rules ≡ s.rules =
               sym (ap (λ (u : FilteredLendingCompaction S F C A). u.rules) at) ∙ rules in
               let got : gets s.callback x t.callback =
-              subst (λ (u : FilteredLendingCompaction S F C A). gets s.callback x u.callback) at told
-              in (
+              subst (λ (u : FilteredLendingCompaction S F C A). gets s.callback x u.callback) at
+              told in (
                 looks.rest,
                 looks_next gives gets advances lent stops s t looks.rest looks.memory live next has,
                 λ gave g d will.
@@ -123,8 +125,8 @@ module _ {F C : Type 0} (gives : F → Entry → Result Verdict Error → F → 
                             subst (λ (k : Option (List ℕ)). GetsAll gets t.callback
                                 (hidden_in k (ok_results looks.rest)) will.told) hidden will.hides,
                           );
-                      does = subst (λ (rs : List R). Compacted gives gets s.rules s.filter will.told rs
-                          gave g d) (sym more.past)
+                      does = subst (λ (rs : List R). Compacted gives gets s.rules s.filter
+                          will.told rs gave g d) (sym more.past)
                           (subst (λ (q : Rules). Compacted gives gets q s.filter will.told
                           (past_hidden (hidden_by s) (ok_results looks.rest)) gave g d) set
                           (subst (λ (f : F). Compacted gives gets t.rules f will.told
@@ -149,10 +151,10 @@ module _ {F C : Type 0} (gives : F → Entry → Result Verdict Error → F → 
             turns r xs rest turn told same is_turn answer got gave g d does =
                 let stop = hides_no_more (hidden_by s) x (ok_results rest) fresh in
                 let all : GetsAll gets s.callback (reports_by x v ++ turn.reports) told =
-                gets_append gets (reports_by x v) turn.reports s.callback m.callback told reports got
-                in
-                subst (λ (zs : List Entry). WillCompact gives gets s zs (listed_answer r ++ gave) g d)
-                (sym same) (record {
+                gets_append gets (reports_by x v) turn.reports s.callback m.callback told reports
+                got in
+                subst (λ (zs : List Entry). WillCompact gives gets s zs (listed_answer r ++ gave)
+                g d) (sym same) (record {
                   told = s.callback;
                   hides = subst (λ (es : List Entry). GetsAll gets s.callback es s.callback)
                       (sym stop.told) refl;
@@ -191,8 +193,9 @@ module _ {F C : Type 0} (gives : F → Entry → Result Verdict Error → F → 
                       (subst (λ (u : Turn). GetsAll gets m.callback u.reports first.told) at_s
                       first.reports) gave g d
                       (subst (λ (u : Turn). Compacted gives gets s.rules m.filter first.told u.rest
-                      gave g d) at_s (subst (λ (q : Rules). Compacted gives gets q m.filter first.told
-                      (settled m.rules h (ok_results looks.rest)).rest gave g d) rules first.does)),
+                      gave g d) at_s (subst (λ (q : Rules). Compacted gives gets q m.filter
+                      first.told (settled m.rules h (ok_results looks.rest)).rest gave g d) rules
+                      first.does)),
                 )
 
             -- it leaves none
@@ -371,8 +374,8 @@ module _ {F C : Type 0} (gives : F → Entry → Result Verdict Error → F → 
           → AllByRecursion (λ r. result_stops stops r ≡ false) gave → Yields Advances s gave t
           → Advances t None u → WillCompact gives gets s xs gave u.filter u.callback
       whole_from stops [] s t u xs looks fine runs last =
-          (subst (λ (v : FilteredLendingCompaction S F C A). Advances v None u) (sym runs) last).ends
-          stops xs looks refl
+          (subst (λ (v : FilteredLendingCompaction S F C A). Advances v None u) (sym runs)
+          last).ends stops xs looks refl
       whole_from stops (r ∷ gave) s t u xs looks fine runs last =
           let one = runs.1.steps stops xs looks fine.0 in
           one.2 gave u.filter u.callback

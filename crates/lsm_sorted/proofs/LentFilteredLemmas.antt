@@ -49,8 +49,8 @@ pub same_some : (x y : Entry) (o : Option Entry) → o ≡ Some x → o ≡ Some
 same_some x y o of_x of_y = cc
 
 -- what came is what is now lent
-pub step_to : {S : Type 0} (advances : S → Option R → S → Type 0) (lent : S → Option Entry) (s u : S)
-    (o : Option Entry) → lent u ≡ o → advances s (option_map (λ x. Ok x) (lent u)) u
+pub step_to : {S : Type 0} (advances : S → Option R → S → Type 0) (lent : S → Option Entry)
+    (s u : S) (o : Option Entry) → lent u ≡ o → advances s (option_map (λ x. Ok x) (lent u)) u
     → advances s (option_map (λ x. Ok x) o) u
 step_to advances lent s u o is step =
     subst (λ (p : Option Entry). advances s (option_map (λ x. Ok x) p) u) is step
@@ -60,8 +60,8 @@ module _ {S : Type 0} (advances : S → Option R → S → Type 0) (stops : Erro
       → advances s r u → answer_stops stops r ≡ false
       → (r ≡ first (ok_results xs)) × DealsEntries advances stops u (but_first xs)
   deals_entry s u xs r has step fine =
-      let one = deals_front (answer_stops stops) advances nowhere s (ok_results xs) r u has step fine
-      in (
+      let one = deals_front (answer_stops stops) advances nowhere s (ok_results xs) r u has step
+      fine in (
         one.0,
         subst (λ (rs : List R). Rest stops advances u rs) (but_first_ok xs) one.1,
       )
@@ -213,8 +213,8 @@ module _ {F C : Type 0} (gives : F → Entry → Result Verdict Error → F → 
         pub fetches_fault : (e : Error) → advances s.source (Some (Err e)) t.source
             → Steps (Some (Err e))
         fetches_fault e step xs looks fine =
-            let one = deals_entry advances stops s.source t.source looks.rest (Some (Err e)) looks.has
-            step fine in fault_first e looks.rest one.0
+            let one = deals_entry advances stops s.source t.source looks.rest (Some (Err e))
+            looks.has step fine in fault_first e looks.rest one.0
 
     -- nothing is left of a source that answers nothing
     pub left_nothing : (o : Option Entry) (b : Bool) (u : S) → s.is_pending ≡ false
@@ -278,8 +278,8 @@ module _ {F C : Type 0} (gives : F → Entry → Result Verdict Error → F → 
       as_here : (c : C) (rs gave : List R) (g : F) (d : C)
           → Compacted gives gets t.rules t.filter c rs gave g d
           → Compacted gives gets s.rules s.filter c rs gave g d
-      as_here c rs gave g d does = subst (λ (q : Rules). Compacted gives gets q s.filter c rs gave g d)
-          rules (subst (λ (f : F). Compacted gives gets t.rules f c rs gave g d) filter does)
+      as_here c rs gave g d does = subst (λ (q : Rules). Compacted gives gets q s.filter c rs gave
+          g d) rules (subst (λ (f : F). Compacted gives gets t.rules f c rs gave g d) filter does)
 
       -- a turn that reports nothing, before these
       plain_turn : (r : Option R) (xs ys : List Entry) → settled s.rules head (ok_results xs)
@@ -292,8 +292,8 @@ module _ {F C : Type 0} (gives : F → Entry → Result Verdict Error → F → 
         told = t.callback;
         reports = subst (λ (u : Turn). GetsAll gets s.callback u.reports t.callback) (sym turn)
             callback;
-        does = subst (λ (u : Turn). Compacted gives gets s.rules s.filter t.callback u.rest gave g d)
-            (sym turn) (as_here t.callback (ok_results ys) gave g d
+        does = subst (λ (u : Turn). Compacted gives gets s.rules s.filter t.callback u.rest gave g
+            d) (sym turn) (as_here t.callback (ok_results ys) gave g d
             (will_plain t ys gave g d plain will));
       }
 
@@ -315,8 +315,8 @@ module _ {F C : Type 0} (gives : F → Entry → Result Verdict Error → F → 
             reports = subst (λ (u : Turn). GetsAll gets s.callback u.reports then.0) (sym turn)
                 (gets_append gets reports (of_key head.user_key (ok_results ys)) s.callback
                 t.callback then.0 told then.1);
-            does = subst (λ (u : Turn). Compacted gives gets s.rules s.filter then.0 u.rest gave g d)
-                (sym turn)
+            does = subst (λ (u : Turn). Compacted gives gets s.rules s.filter then.0 u.rest gave g
+                d) (sym turn)
                 (as_here then.0 (after_key head.user_key (ok_results ys)) gave g d then.2);
           }
 

@@ -18,7 +18,7 @@ use Rattle.sst_entries.proofs.StreamLemmas.{can_by, deals_by, deals_front}
 use Rattle.lsm_merge.specs.Ends.{R}
 use Rattle.lsm_merge.specs.Union.{Ascends, entries_among, newest}
 use Rattle.lsm_sorted.specs.Newest.{is_of}
-use Rattle.lsm_sorted.specs.LentNewest.{newest_results, is_given, news, last_key, is_other}
+use Rattle.lsm_sorted.specs.LentNewest.{newest_results, is_given, news, given_key, is_other}
 use Rattle.lsm_sorted.specs.LentNewest.{lent_newest}
 use Rattle.lsm_sorted.specs.LentNewest.{MayNewest, LeavesNewest, AdvancesNewest}
 use Rattle.lsm_sorted.specs.LentNewest.{DealsNewestResults, DealsNewestEntries}
@@ -180,10 +180,10 @@ module _ {S : Type 0} (stops : Error → Bool) (advances : S → Option R → S 
       )
 
   module _ {A : Type 0} (lent : S → Option Entry) (s n : LendingNewest S A) (u : S)
-      (still : Still (last_key s) s.source u) (live : n.is_over ≡ false) where
+      (still : Still (given_key s) s.source u) (live : n.is_over ≡ false) where
     -- an entry of another key is lent
     pub gives_other : (b : Bool) → n.has_key ≡ true → b ≡ is_some (lent n.source) → b ≡ true
-        → is_other (last_key s) (lent n.source) ≡ true
+        → is_other (given_key s) (lent n.source) ≡ true
         → ((x : Entry) → lent n.source ≡ Some x → n.key.items ≡ x.user_key)
         → advances u (came (Ok b) (lent n.source)) n.source
         → DealsFirst stops (LeavesNewest stops advances) s
@@ -204,11 +204,11 @@ module _ {S : Type 0} (stops : Error → Bool) (advances : S → Option R → S 
             subst (λ (o : Option Entry). advances u (came (Ok b) o) n.source) e step in
             let one = deals_front (answer_stops stops) advances nowhere u was.0 (Some (Ok x))
             n.source was.1 call refl in
-            let fresh : is_given (last_key s) x ≡ false = flipped (is_given (last_key s) x)
-            (subst (λ (o : Option Entry). is_other (last_key s) o ≡ true) e other) in
+            let fresh : is_given (given_key s) x ≡ false = flipped (is_given (given_key s) x)
+            (subst (λ (o : Option Entry). is_other (given_key s) o ≡ true) e other) in
             let list : ys ≡ Ok x ∷ news (Some x.user_key) (but_first was.0) = leaves.is ∙ was.2
-            ∙ ap (news (last_key s)) (begins (Ok x) was.0 one.0)
-            ∙ ap (λ (b : Bool). cond b (news (last_key s) (but_first was.0))
+            ∙ ap (news (given_key s)) (begins (Ok x) was.0 one.0)
+            ∙ ap (λ (b : Bool). cond b (news (given_key s) (but_first was.0))
             (Ok x ∷ news (Some x.user_key) (but_first was.0))) fresh in (
               ap (option_map (λ y. Ok y)) (lends ∙ e) ∙ sym (ap first list),
               record {
@@ -225,18 +225,18 @@ module _ {S : Type 0} (stops : Error → Bool) (advances : S → Option R → S 
 
     -- the same, where what it lends was kept
     pub gives_kept : (t : S) → n.source ≡ t → (b : Bool) → n.has_key ≡ true
-        → b ≡ is_some (lent t) → b ≡ true → is_other (last_key s) (lent t) ≡ true
+        → b ≡ is_some (lent t) → b ≡ true → is_other (given_key s) (lent t) ≡ true
         → ((x : Entry) → lent t ≡ Some x → n.key.items ≡ x.user_key)
         → advances u (came (Ok b) (lent t)) t
         → DealsFirst stops (LeavesNewest stops advances) s
         (option_map (λ x. Ok x) (lent_newest lent n)) n
     gives_kept t from b key same more other is step = gives_other b key
         (subst (λ (v : S). b ≡ is_some (lent v)) (sym from) same) more
-        (subst (λ (v : S). is_other (last_key s) (lent v) ≡ true) (sym from) other)
+        (subst (λ (v : S). is_other (given_key s) (lent v) ≡ true) (sym from) other)
         (subst (λ (v : S). (x : Entry) → lent v ≡ Some x → n.key.items ≡ x.user_key) (sym from) is)
         (subst (λ (v : S). advances u (came (Ok b) (lent v)) v) (sym from) step)
 
-    module _ (kept : last_key n ≡ last_key s) where
+    module _ (kept : given_key n ≡ given_key s) where
       -- the source has ended
       pub gives_end : (b : Bool) → b ≡ is_some (lent n.source) → b ≡ false
           → advances u (came (Ok b) (lent n.source)) n.source
@@ -259,7 +259,7 @@ module _ {S : Type 0} (stops : Error → Bool) (advances : S → Option R → S 
               let one = deals_front (answer_stops stops) advances nowhere u was.0 None n.source
               was.1 call refl in
               let empty : was.0 ≡ [] = is_nothing was.0 one.0 in
-              let list : ys ≡ [] = leaves.is ∙ was.2 ∙ ap (news (last_key s)) empty in (
+              let list : ys ≡ [] = leaves.is ∙ was.2 ∙ ap (news (given_key s)) empty in (
                 ap (option_map (λ y. Ok y)) (lends_none e) ∙ sym (ap first list),
                 record {
                   memory = leaves.memory;
@@ -267,7 +267,7 @@ module _ {S : Type 0} (stops : Error → Bool) (advances : S → Option R → S 
                   rest = but_first was.0;
                   has = one.1;
                   is = ap but_first list
-                      ∙ sym (ap (λ (qs : List R). news (last_key n) (but_first qs)) empty);
+                      ∙ sym (ap (λ (qs : List R). news (given_key n) (but_first qs)) empty);
                 },
               )
 
@@ -278,8 +278,8 @@ module _ {S : Type 0} (stops : Error → Bool) (advances : S → Option R → S 
           let was = still leaves.rest leaves.has in
           let one = deals_front (answer_stops stops) advances nowhere u was.0 (Some (Err e))
           n.source was.1 step fine in
-          let list : ys ≡ Err e ∷ news (last_key s) (but_first was.0) = leaves.is ∙ was.2
-          ∙ ap (news (last_key s)) (begins (Err e) was.0 one.0) in (
+          let list : ys ≡ Err e ∷ news (given_key s) (but_first was.0) = leaves.is ∙ was.2
+          ∙ ap (news (given_key s)) (begins (Err e) was.0 one.0) in (
             sym (ap first list),
             record {
               memory = leaves.memory;
@@ -299,7 +299,7 @@ module _ {S : Type 0} (stops : Error → Bool) (advances : S → Option R → S 
 
 -- the same key was given last
 pub last_same : {S A : Type 0} (n s : LendingNewest S A) → n.key ≡ s.key → n.has_key ≡ s.has_key
-    → last_key n ≡ last_key s
+    → given_key n ≡ given_key s
 last_same n s key has = ap (λ v. cond n.has_key (Some v.items) None) key
     ∙ ap (λ (b : Bool). cond b (Some s.key.items) None) has
 

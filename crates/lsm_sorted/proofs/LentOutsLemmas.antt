@@ -17,7 +17,8 @@ use Rattle.lsm_merge.specs.Ends.{R}
 use Rattle.lsm_sorted.specs.declared.compaction.Rules.{Rules}
 use Rattle.lsm_sorted.specs.Newest.{after_key}
 use Rattle.lsm_sorted.specs.Compaction.{goes, zeroed, given, head_given, Versions, before, by_key}
-use Rattle.lsm_sorted.specs.Compaction.{error_of, entries, heads, expired, concat_by, as_is, is_value}
+use Rattle.lsm_sorted.specs.Compaction.{error_of, entries, heads, expired, concat_by, as_is}
+use Rattle.lsm_sorted.specs.Compaction.{is_value}
 use Rattle.lsm_sorted.specs.Compaction.{unfiltered, as_they_are, Judged, outs_of, kept, gone}
 use Rattle.lsm_sorted.specs.Compaction.{is_version_of}
 use Rattle.lsm_sorted.specs.Compacting.{of_key, head_answer}
@@ -79,8 +80,8 @@ goes_alone evict Tombstone = sym (and-true evict)
 goes_alone evict WeakTombstone = sym (and-true evict)
 goes_alone evict Indirection = sym (and-false evict)
 
-pub goes_strong : (evict : Bool) (kind : ValueType) (next : Option Entry) → is_weak_kind kind ≡ false
-    → goes evict kind next ≡ evict && is_tombstone_kind kind
+pub goes_strong : (evict : Bool) (kind : ValueType) (next : Option Entry) → is_weak_kind kind ≡
+    false → goes evict kind next ≡ evict && is_tombstone_kind kind
 goes_strong evict Value next h = sym (and-false evict)
 goes_strong evict Tombstone next h = sym (and-true evict)
 goes_strong evict WeakTombstone next h = cc
@@ -193,8 +194,8 @@ module _ (rules : Rules) where
         (error_first (after_key x.user_key rs))
         ++ lent_outs rules (past_error (after_key x.user_key rs))) high
         ∙ ap (λ (key : List ℕ). Ok (zeroed rules x) ∷ (lent_outs_of rules (group_of key y rs)
-        ++ lent_outs rules (past_error (after_key key rs)))) (sym (same_is y.user_key x.user_key same))
-        ∙ ap (λ (ys : List R). Ok (zeroed rules x) ∷ ys)
+        ++ lent_outs rules (past_error (after_key key rs)))) (sym (same_is y.user_key x.user_key
+        same)) ∙ ap (λ (ys : List R). Ok (zeroed rules x) ∷ ys)
         (sym (ap (concat_by (lent_outs_of rules)) (first_group y rs)))
 
     given_by : (b : Bool) (gone : Entry → Bool) (ys : List R) → gone x ≡ b

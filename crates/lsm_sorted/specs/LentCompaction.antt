@@ -101,8 +101,8 @@ abbrev pub listed_answer : Option R → List R
 listed_answer None = []
 listed_answer (Some r) = r ∷ []
 
--- a step from s to t gave r, or nothing yet: that and what is still to come of t is what was to come
--- of s, up to an error that stops it
+-- a step from s to t gave r, or nothing yet: that and what is still to come of t is what was to
+-- come of s, up to an error that stops it
 abbrev pub DealsSome : (Error → Bool) → {T : Type 0} → (T → List R → Type 0) → T → Option R → T
     → Type 0
 DealsSome stops Has s r t = (xs : List R) → Has s xs → answer_stops stops r ≡ false
@@ -168,8 +168,8 @@ module _ {S A : Type 0} (advances : S → Option R → S → Type 0) (s : Lendin
 
 module _ {S T : Type 0} (advances : S → Option R → S → Type 0) (source : S)
     (next : T → Option R → T → Type 0) (t : T) (rules : Rules) where
-  -- where want of memory stops its reader: of any list of results what is lent of it, and the errors
-  -- in their places
+  -- where want of memory stops its reader: of any list of results what is lent of it, and the
+  -- errors in their places
   pub record DealsCompactedResults : Type 0 where
     pub deals : (stops : Error → Bool) (xs : List R) → stops OutOfMemory ≡ true
         → Deals (answer_stops stops) advances nowhere source xs

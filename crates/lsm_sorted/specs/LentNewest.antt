@@ -34,8 +34,8 @@ abbrev pub newest_lender : {S A : Type 0} → LendingNewest S A → S
 newest_lender s = s.source
 
 -- the key that was given last
-abbrev pub last_key : {S A : Type 0} → LendingNewest S A → Option (List ℕ)
-last_key s = cond s.has_key (Some s.key.items) None
+abbrev pub given_key : {S A : Type 0} → LendingNewest S A → Option (List ℕ)
+given_key s = cond s.has_key (Some s.key.items) None
 
 -- whether what is lent is an entry of another key
 abbrev pub is_other : Option (List ℕ) → Option Entry → Bool
@@ -62,7 +62,7 @@ pub record LeavesNewest {S A : Type 0} (stops : Error → Bool) (advances : S �
   pub live : s.is_over ≡ false
   pub rest : List R
   pub has : Deals (answer_stops stops) advances nowhere s.source rest
-  pub is : ys ≡ news (last_key s) rest
+  pub is : ys ≡ news (given_key s) rest
 
 -- one call: it may be asked again, and where s stands for a list, what came is the first of it, up
 -- to an error that stops the source, and t stands for the others; it tells the source's errors

@@ -8,7 +8,7 @@ ghost use Rattle.sst_entries.specs.declared.error.Error.{Error};
 ghost use Rattle.sst_entries.specs.declared.error.Error.TheVariants.{OutOfMemory};
 ghost use Rattle.lsm_sorted.specs.LentFaults.{AlwaysTells, PassesAll, StaysOver};
 ghost use Rattle.lsm_sorted.specs.LentNewest.{AdvancesNewest, DealsNewestEntries};
-ghost use Rattle.lsm_sorted.specs.LentNewest.{DealsNewestResults, MayNewest, is_other, last_key};
+ghost use Rattle.lsm_sorted.specs.LentNewest.{DealsNewestResults, MayNewest, is_other, given_key};
 ghost use Rattle.lsm_sorted.specs.LentNewest.{lent_newest, newest_left, newest_lender};
 
 use sst_entries::{EntryRef, Error, Lending};
@@ -67,7 +67,7 @@ impl<L: Lending, A: Allocator> LendingNewest<L, A> {
     // Whether what the source lends is of another key than what was lent last.
     #[inline(always)]
     fn is_other(&self) -> bool
-        ensures { result ≡ is_other (last_key self.now) (L.lent self.now.source) }
+        ensures { result ≡ is_other (given_key self.now) (L.lent self.now.source) }
     {
         match self.source.entry() {
             Some(entry) => !self.has_key || entry.user_key != self.key.as_slice(),

@@ -4,7 +4,7 @@ use Rattle.std.specs.Prelude.{Option}
 use Rattle.std.proofs.lemmas.Result.{err_from_is_err_and}
 use Rattle.sst_entries.specs.Stream.{CanDeal, nowhere}
 use Rattle.sst_entries.proofs.StreamLemmas.{can_front, can_now}
-use Rattle.lsm_sorted.specs.LentNewest.{is_other, last_key}
+use Rattle.lsm_sorted.specs.LentNewest.{is_other, given_key}
 use Rattle.lsm_sorted.proofs.LentNewestLemmas.{still_skips, gives_kept, gives_end, gives_fault, gives_memory}
 use Rattle.lsm_sorted.proofs.LentNewestLemmas.{last_same, lowers_le}
 use Rattle.lsm_sorted.proofs.LentNewestListens.{hears_end, hears_fault, hears_lent, hears_memory}
@@ -53,7 +53,7 @@ returns-then-is_other-clause-goes g c =
     let can = g.L.Lending.can_advance in
     let lent = g.L.Lending.lent in
     let kept = last_same m c.args.self.now before.key before.has in
-    let other : is_other (last_key c.args.self.now) (lent t) ≡ true =
+    let other : is_other (given_key c.args.self.now) (lent t) ≡ true =
     subst (λ (k : Option (List ℕ)). is_other k (lent t) ≡ true) kept (sym c.is_other.ensures ∙ c.if-is_other.true) in
     record {
       may = subst (CanDeal g.L.Lending.advances nowhere can can) (sym c.in_default.ensures.source)
@@ -74,7 +74,7 @@ loop-self-preserved g c =
     let can = g.L.Lending.can_advance in
     let lent = g.L.Lending.lent in
     let kept = last_same m c.args.self.now before.key before.has in
-    let same : is_other (last_key c.args.self.now) (lent t) ≡ false =
+    let same : is_other (given_key c.args.self.now) (lent t) ≡ false =
     subst (λ (k : Option (List ℕ)). is_other k (lent t) ≡ false) kept (sym c.is_other.ensures ∙ c.if-is_other.false) in
     record {
       may = can_front g.L.Lending.advances nowhere can can m.source _ t before.may c.in_ok-advance.ensures.goes;
@@ -82,7 +82,7 @@ loop-self-preserved g c =
       has = before.has;
       live = before.live;
       lowers = let less = lowers_le (lent t) (g.L.Lending.left m.source) (g.L.Lending.left t) c.in_ok-advance.ensures.lowers in omega (arith, less, before.lowers);
-      still = λ stops. still_skips stops g.L.Lending.advances (last_key c.args.self.now) c.args.self.now.source m.source t (lent t) (before.still stops) same c.in_ok-advance.ensures.goes;
+      still = λ stops. still_skips stops g.L.Lending.advances (given_key c.args.self.now) c.args.self.now.source m.source t (lent t) (before.still stops) same c.in_ok-advance.ensures.goes;
       skipped = skips_more g.L.Lending.advances c.args.self.now.source m.source t (lent t) before.skipped c.in_ok-advance.ensures.goes;
     }
 

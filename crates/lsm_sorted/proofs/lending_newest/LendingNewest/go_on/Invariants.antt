@@ -1,7 +1,7 @@
 use Rattle.std.proofs.Common.{◌≡◌, ◌≤◌, Bool}
 use Rattle.sst_entries.specs.Stream.{CanDeal, nowhere}
 use Rattle.sst_entries.specs.declared.error.Error.{Error}
-use Rattle.lsm_sorted.specs.LentNewest.{last_key}
+use Rattle.lsm_sorted.specs.LentNewest.{given_key}
 use Rattle.lsm_sorted.proofs.LentNewestLemmas.{Still}
 use Rattle.lsm_sorted.proofs.LentNewestListens.{Skipped}
 use Rattle.lsm_sorted.proofs.lending_newest.LendingNewest.go_on.Given as goal
@@ -16,7 +16,7 @@ invariant-loop-self g l =
       has : l.self.has_key ≡ l.initial.self.has_key;
       live : l.self.is_over ≡ l.initial.self.is_over;
       lowers : g.L.Lending.left l.self.source ≤ g.L.Lending.left l.initial.self.source;
-      still : (stops : Error → Bool) → Still stops advances (last_key l.initial.self)
+      still : (stops : Error → Bool) → Still stops advances (given_key l.initial.self)
           l.initial.self.source l.self.source;
       skipped : Skipped advances l.initial.self.source l.self.source;
     }
