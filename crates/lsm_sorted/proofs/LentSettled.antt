@@ -34,8 +34,9 @@ pub entry_first : (x : Entry) (xs : List Entry) → Some (Ok x) ≡ first (ok_re
 entry_first x [] h = absurd cc
 entry_first x (y ∷ xs) h = cc
 
-pub fault_first : {P : Type 0} (e : Error) (xs : List Entry) → Some (Err e) ≡ first (ok_results
-xs) → P fault_first e [] h = absurd cc
+pub fault_first : {P : Type 0} (e : Error) (xs : List Entry)
+    → Some (Err e) ≡ first (ok_results xs) → P
+fault_first e [] h = absurd cc
 fault_first e (x ∷ xs) h = absurd cc
 
 -- what follows a key in such a list is one
