@@ -143,7 +143,7 @@ module _ {A : Type 0} where
 
       -- the next table was opened
       pub comes_on : (p : Unopened) (part : Range A) (c : LendingRange A)
-          → LoadGives range_remains coming_tables KeepsTables Front u.parts (Some (Ok part)) p
+          → LoadGives (range_remains {A = A}) coming_tables KeepsTables Front u.parts (Some (Ok part)) p
           → c ≡ unlent_range part
           → Comes s (record u { parts = p; front = Some c })
       comes_on p part c loads is = record {
@@ -158,10 +158,10 @@ module _ {A : Type 0} where
 
       -- it could not be opened
       pub lends_fault : (p : Unopened) (e : Error)
-          → LoadGives range_remains coming_tables KeepsTables Front u.parts (Some (Err e)) p
+          → LoadGives (range_remains {A = A}) coming_tables KeepsTables Front u.parts (Some (Err e)) p
           → Lends s (Some (Err e)) (record u { parts = p; front = o })
       lends_fault p e loads = record {
-        takes = fault range_remains coming_tables KeepsTables Front (walk_of_tables s)
+        takes = fault (range_remains {A = A}) coming_tables KeepsTables Front (walk_of_tables s)
             (walk_of_tables (with_front u o)) (walk_of_tables (record u { parts = p; front = o })) e
             there_kept over_front.results loads refl refl;
         there = λ x stands. absurd (none_here x stands);
@@ -169,7 +169,7 @@ module _ {A : Type 0} where
 
       -- none is to come, and the table at the back is left
       pub lends_rest : (p : Unopened) (b : Option (LendingRange A)) (r : Result Bool Error)
-          → LoadGives range_remains coming_tables KeepsTables Front u.parts None p
+          → LoadGives (range_remains {A = A}) coming_tables KeepsTables Front u.parts None p
           → ReaderLends u.back (came r (lent_of_reader b)) b
           → Lends s (came r (lent_of_tables (record u { parts = p; front = o; back = b })))
           (record u { parts = p; front = o; back = b })
@@ -177,7 +177,7 @@ module _ {A : Type 0} where
           subst (λ (k : Option Entry). Lends s (came r (option_or k (lent_of_reader b)))
           (record u { parts = p; front = o; back = b })) (sym none)
           (record {
-            takes = rest range_remains coming_tables KeepsTables Front (walk_of_tables s)
+            takes = rest (range_remains {A = A}) coming_tables KeepsTables Front (walk_of_tables s)
                 (walk_of_tables (with_front u o))
                 (walk_of_tables (record u { parts = p; front = o }))
                 (walk_of_tables (record u { parts = p; front = o; back = b }))

@@ -76,7 +76,7 @@ impl<L: Lending> LendingBelow<L> {
 }
 
 /// Each of several sources that lend below one bound. Refused [`Error::OutOfMemory`] alone.
-pub fn each_lending_below<L: Lending, A: Allocator>(
+pub fn each_lending_below<L: Lending + Drop, A: Allocator>(
     alloc: A,
     sources: Vec<L, A>,
     seqno: SeqNo,

@@ -8,4 +8,4 @@ pub returns-clause-deals : goal.returns-clause-deals
 returns-clause-deals g c = rw (c.of_walk.ensures, ← c.self.view_is) (lending_deals _)
 
 pub returns-clause-list : goal.returns-clause-list
-returns-clause-list g c es deals = rw (c.of_walk.ensures, ← c.self.view_is) (lends_list (RunGives back_of back_tables) _ es (rw (← c.self.view_is) at deals))
+returns-clause-list g c es deals = rw c.of_walk.ensures (lends_list (RunGives back_of back_tables) _ es (rw (← c.self.view_is) at deals))
