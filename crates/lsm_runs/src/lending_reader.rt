@@ -56,11 +56,19 @@ fn advance_in<A: Allocator + Clone>(part: &mut Option<LendingIter<A>>) -> Result
     }
 }
 
-// Lets a table's reader go for the next one.
-fn put<A: Allocator>(part: &mut Option<LendingIter<A>>, next: LendingIter<A>)
+// Lets a reader go for the next one. It is generic in the readers, so that none of their parts is
+// looked at.
+fn put<T: Drop>(part: &mut Option<T>, next: T)
     ensures { part.new ≡ Some next }
 {
     drop(mem::replace(part, Some(next)));
+}
+
+// Lets a reader go.
+fn let_go<T: Drop>(part: &mut Option<T>)
+    ensures { part.new ≡ None }
+{
+    drop(part.take());
 }
 
 // The entry that is lent of a table, where one is opened.
@@ -113,8 +121,8 @@ fn end<A: Allocator + Clone>(walk: &mut LentTables<A>)
     ensures { lending_run walk.new ≡ over_run (lending_run walk.old) }
 {
     walk.parts.end();
-    walk.front = None;
-    walk.back = None;
+    let_go(&mut walk.front);
+    let_go(&mut walk.back);
 }
 
 /// The entries of the tables of a run, one table behind another, lent from the blocks where they
