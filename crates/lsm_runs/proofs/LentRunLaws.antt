@@ -1,6 +1,6 @@
 -- What a reader of a run that lends deals, and how far off its end is.
 use Rattle.std.proofs.Common.{◌≡◌, ℕ, true, List, subst, ◌∙◌, arith}
-use Rattle.std.specs.Prelude.{Option, Some, None, Result, Ok, Err}
+use Rattle.std.specs.Prelude.{Option, Some, None, Ok, Err}
 use Rattle.std.specs.declared.ops.Bound.{Bound}
 use Rattle.sst_entries.specs.Entry.{Entry}
 use Rattle.sst_entries.specs.Point.{within}

@@ -1,9 +1,7 @@
 -- Readers of several runs that lend, below a bound of numbers, and what is newest of them.
-use Rattle.std.proofs.Common.{◌≡◌, ℕ, Bool, true, List, [], ◌∷◌, refl, sym, ap, subst, ◌∙◌}
+use Rattle.std.proofs.Common.{◌≡◌, ℕ, List, [], ◌∷◌, refl, sym, ap, subst, ◌∙◌}
 use Rattle.std.specs.Prelude.{Option, map}
 use Rattle.std.specs.List.{AllZip}
-use Rattle.sst_entries.specs.declared.error.Error.{Error}
-use Rattle.sst_entries.specs.declared.error.Error.TheVariants.{OutOfMemory}
 use Rattle.sst_entries.specs.declared.stream.Direction.{Direction}
 use Rattle.sst_entries.specs.declared.stream.Direction.TheVariants.{Front, Back}
 use Rattle.sst_entries.specs.Entry.{Entry}
@@ -20,7 +18,7 @@ use Rattle.lsm_sorted.specs.declared.below.Below.{Below}
 use Rattle.lsm_sorted.proofs.BelowLemmas.{below_entries, deals_in_front}
 use Rattle.lsm_runs.specs.LentBelow.{LendsBelow, MayLendBelow}
 use Rattle.lsm_runs.specs.LentNewestRuns.{LendsNewest}
-use Rattle.lsm_runs.specs.LentRun.{LendingRun, RunLends, unlent_run}
+use Rattle.lsm_runs.specs.LentRun.{LendingRun, RunLends}
 use Rattle.lsm_runs.specs.RunLists.{DealTogether, DealsList}
 use Rattle.lsm_runs.specs.RunRange.{RunGives, RunRange, front_tables}
 use Rattle.lsm_runs.proofs.Numbered.{each_ascends as numbered_ascend, numbered_joined}
@@ -47,26 +45,6 @@ module _ {A : Type 0} (back : RunRange A → Option R → RunRange A → Type 0)
   lends_list s es deals stops memory = record {
     answers = λ ends rs t runs fine.
         (deals stops memory).answers ends rs t.run (gives_along ends rs s t runs) fine;
-  }
-
-  each_lends : (sources : List (RunRange A)) (dealt : List (List Entry))
-      → AllZip (λ (s : RunRange A) (es : List Entry). DealsList Gives back es s) sources dealt
-      → AllZip (λ (s : LendingRun A) (es : List Entry). DealsList RunLends nowhere es s)
-      (map unlent_run sources) dealt
-  each_lends [] [] all = tt
-  each_lends [] (es ∷ dealt) all = absurd all
-  each_lends (s ∷ sources) [] all = absurd all
-  each_lends (s ∷ sources) (es ∷ dealt) all =
-      (lends_list (unlent_run s) es all.0, each_lends sources dealt all.1)
-
-  pub together_lent : (sources : List (RunRange A)) (found : List (List Entry))
-      → DealTogether Gives back sources found
-      → DealTogether RunLends nowhere (map unlent_run sources) found
-  together_lent sources found d = record {
-    dealt = d.dealt;
-    same = d.same;
-    ascend = d.ascend;
-    deal = each_lends sources d.dealt d.deal;
   }
 
 -- ---- below a bound
@@ -132,26 +110,19 @@ newest_lent advances next t sources found d law stops memory =
     (ok_results (newest (sort_entries es)))) (entries_joined d.dealt ∙ d.same)
     (law.deals stops results memory sorted (no_errors_joined d.dealt))
 
--- of readers of runs below a bound
-pub newest_below : {A T : Type 0} (bound : ℕ) (back : RunRange A → Option R → RunRange A → Type 0)
-    (can : LendingRun A → Type 0) (left : LendingRun A → ℕ) (next : T → Option R → T → Type 0)
-    (t : T) (readers : List (RunRange A)) (found : List (List Entry)) (es : List Entry)
-    (lent : List (LendingRun A)) (below : List (Below (LendingRun A)))
-    → lent ≡ map unlent_run readers → below ≡ map (below_of bound) lent
-    → sort_entries (joined found) ≡ es
-    → DealTogether (RunGives front_of front_tables) back readers found
-    → LendsNewest (LendsBelow RunLends can left) below next t
+-- of sources below a bound
+pub newest_below : {S T : Type 0} (bound : ℕ) (advances : S → Option R → S → Type 0)
+    (can : S → Type 0) (left : S → ℕ) (next : T → Option R → T → Type 0) (t : T) (sources : List S)
+    (found : List (List Entry)) (es : List Entry) (below : List (Below S))
+    → below ≡ map (below_of bound) sources → sort_entries (joined found) ≡ es
+    → DealTogether advances nowhere sources found
+    → LendsNewest (LendsBelow advances can left) below next t
     → DealsList next nowhere (newest (numbered_below bound es)) t
-newest_below {A} bound back can left next t readers found es lent below are under is d law =
-    let sources = map (below_of bound) (map unlent_run readers) in
-    let same : below ≡ sources =
-    under ∙ ap (λ (xs : List (LendingRun A)). map (below_of bound) xs) are in
-    let told = newest_lent (LendsBelow RunLends can left) next t sources
-    (map (numbered_below bound) found)
-    (together_below bound RunLends can left (map unlent_run readers) found
-    (together_lent back readers found d))
-    (subst (λ (xs : List (Below (LendingRun A))). LendsNewest (LendsBelow RunLends can left) xs
-    next t) same law) in
+newest_below {S} bound advances can left next t sources found es below are is d law =
+    let told = newest_lent (LendsBelow advances can left) next t (map (below_of bound) sources)
+    (map (numbered_below bound) found) (together_below bound advances can left sources found d)
+    (subst (λ (xs : List (Below S)). LendsNewest (LendsBelow advances can left) xs next t) are law)
+    in
     subst (λ (us : List Entry). DealsList next nowhere (newest us) t)
     (ap sort_entries (sym (numbered_joined bound found))
     ∙ sym (filter_sorted (λ (e : Entry). nat_lt e.seqno bound) (joined found))

@@ -1,14 +1,14 @@
 //! Several runs as one that lends.
-ghost use Rattle.std.specs.Prelude.{◌≡◌, ◌<◌, All, IfErr, IfOk, List, None, map};
+ghost use Rattle.std.specs.Prelude.{◌≡◌, ◌<◌, [], All, IfErr, IfOk, List, MatchOption, None, map};
 ghost use Rattle.std.specs.Arc.{arc_value};
 ghost use Rattle.sst_entries.specs.declared.error.Error.TheVariants.{OutOfMemory};
-ghost use Rattle.lsm_runs.specs.Words.{CanDeal, DealsList, Entry, LendsNewest, RunsHoldLists};
-ghost use Rattle.lsm_runs.specs.Words.{newest, nowhere, numbered_below, union_in, unlent_run};
-ghost use Rattle.lsm_runs.specs.Words.{within};
+ghost use Rattle.lsm_runs.specs.Words.{CanDeal, DealTogether, DealsList, Entry, HoldLists};
+ghost use Rattle.lsm_runs.specs.Words.{IsInOrder, LendsNewest, RunsHoldLists, joined, newest};
+ghost use Rattle.lsm_runs.specs.Words.{nowhere, numbered_below, range_of, union_in, within};
 
+use crate::bounds::share;
 use crate::lending_below::each_lending_below;
-use crate::runs::readers_within;
-use crate::{LendingBelow, LendingRunReader, RunReader};
+use crate::{LendingBelow, LendingRunReader};
 use lsm_merge::LendingMerger;
 use lsm_ranges::Run;
 use lsm_readers::Table;
@@ -25,19 +25,60 @@ pub type LentNewestOf<L, A> = LendingNewest<LendingMerger<L, A>, A>;
 /// [`lend_runs_at`] gives.
 pub type LentNewestOfRunsAt<A> = LentNewestOf<LendingBelow<LendingRunReader<A>>, A>;
 
-// Readers of runs that lend what these have left.
-fn each_lending<A: Allocator + Clone>(
-    alloc: A,
-    readers: Vec<RunReader<A>, A>,
-) -> Result<Vec<LendingRunReader<A>, A>, Error>
-    ensures of { IfOk result (λ v. v.items ≡ map unlent_run readers.items) }
+// The lending reader of a run within both bounds, where a table's range reaches past them.
+fn lender_of<A: Allocator + Clone>(
+    run: &Arc<Run<Table<A>, A>, A>,
+    range: &(Bound<UserKey<A>>, Bound<UserKey<A>>),
+) -> Result<Option<LendingRunReader<A>>, Error>
+    // Of tables of lists in a run in order it lends what lies within the bounds; without a reader
+    // there is nothing.
+    ensures list { let advances = ⟦<LendingRunReader<A> as Lending>⟧.advances in
+        (lists : List (List Entry)) →
+        IsInOrder range_of (arc_value run.now) × HoldLists (arc_value run.now) lists →
+        let found = within range.now.0 range.now.1 (joined lists) in IfOk result (λ r.
+        MatchOption r (found ≡ []) (λ reader. DealsList advances nowhere found reader)) }
     ensures err { IfErr result (λ e. e ≡ OutOfMemory) }
 {
-    let lending = readers
-        .into_iter()
-        .map(|reader| reader.lend())
-        .collect(alloc)?;
-    Ok(lending)
+    let bounds = (share(&range.0)?, share(&range.1)?);
+    LendingRunReader::new(run.clone()?, bounds)
+}
+
+// A lending reader of each run that has a table whose range reaches past both bounds.
+fn lenders_of<A: Allocator + Clone>(
+    alloc: A,
+    runs: &[Arc<Run<Table<A>, A>, A>],
+    range: &(Bound<UserKey<A>>, Bound<UserKey<A>>),
+) -> Result<Vec<LendingRunReader<A>, A>, Error>
+    // Of tables of lists in runs in order they lend together what of each run lies within the
+    // bounds.
+    ensures list { let advances = ⟦<LendingRunReader<A> as Lending>⟧.advances in
+        (lists : List (List (List Entry))) → RunsHoldLists (map arc_value runs.now) lists →
+        let found = map (λ ls. within range.now.0 range.now.1 (joined ls)) lists in
+        IfOk result (λ v. DealTogether advances nowhere v.items found) }
+    ensures err { IfErr result (λ e. e ≡ OutOfMemory) }
+{
+    let mut lenders = Vec::new(alloc);
+    for run in runs {
+        if let Some(lender) = lender_of(run, range)? {
+            lenders.push(lender)?;
+        }
+    }
+    Ok(lenders)
+}
+
+// The lending readers of several runs within bounds, which it takes and drops.
+fn lenders_within<A: Allocator + Clone>(
+    alloc: A,
+    runs: &[Arc<Run<Table<A>, A>, A>],
+    range: (Bound<UserKey<A>>, Bound<UserKey<A>>),
+) -> Result<Vec<LendingRunReader<A>, A>, Error>
+    ensures list { let advances = ⟦<LendingRunReader<A> as Lending>⟧.advances in
+        (lists : List (List (List Entry))) → RunsHoldLists (map arc_value runs.now) lists →
+        let found = map (λ ls. within range.0 range.1 (joined ls)) lists in
+        IfOk result (λ v. DealTogether advances nowhere v.items found) }
+    ensures err { IfErr result (λ e. e ≡ OutOfMemory) }
+{
+    lenders_of(alloc, runs, &range)
 }
 
 // The newest versions of sources that lend. It is generic in these, so that none of a reader's
@@ -90,8 +131,7 @@ pub fn lend_runs_at<A: Allocator + Clone>(
     ensures advance { IfOk result ⟦<LentNewestOfRunsAt<A> as Lending>⟧.can_advance }
     ensures err { IfErr result (λ e. e ≡ OutOfMemory) }
 {
-    let readers = readers_within(alloc.clone()?, runs, range)?;
-    let lending = each_lending(alloc.clone()?, readers)?;
-    let below = each_lending_below(alloc.clone()?, lending, seqno)?;
+    let lenders = lenders_within(alloc.clone()?, runs, range)?;
+    let below = each_lending_below(alloc.clone()?, lenders, seqno)?;
     lent_stream(alloc, below)
 }

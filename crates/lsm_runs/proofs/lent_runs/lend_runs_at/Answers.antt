@@ -1,9 +1,8 @@
 use Rattle.std.specs.Prelude.{ℕ}
 use Rattle.sst_entries.proofs.StreamLemmas.{can_now}
-use Rattle.sst_entries.specs.Stream.{back_of, nowhere}
 use Rattle.lsm_ranges.proofs.PackLemmas.{if_ok}
 use Rattle.lsm_runs.specs.LentRun.{RunLends}
-use Rattle.lsm_runs.specs.RunRange.{RunGives, back_tables, run_size}
+use Rattle.lsm_runs.specs.RunRange.{run_size}
 use Rattle.lsm_runs.proofs.LentBelows.{can_lend_below}
 use Rattle.lsm_runs.proofs.LentRunLaws.{lending_deals}
 use Rattle.lsm_runs.proofs.LentTogether.{newest_below}
@@ -16,8 +15,8 @@ returns-clause-list g c lists held =
     let low = c.args.range.0 in
     let high = c.args.range.1 in
     if_ok c.lent_stream.result
-    (λ s law. newest_below c.args.seqno (RunGives back_of back_tables) (λ _. Unit {0}) (λ u. run_size u.run) _ s c.in_ok-readers.readers.items _ _ c.in_ok-lending.lending.items c.in_ok-below.below.items
-    c.in_ok-lending.ensures.of c.in_ok-below.ensures.of (union_cut {S = ℕ} (λ _ _ _. ℕ) (λ _ _ _. ℕ) low high lists) (c.in_ok-readers.ensures.list lists held) law)
+    (λ s law. newest_below c.args.seqno RunLends (λ _. Unit {0}) (λ u. run_size u.run) _ s c.in_ok-lenders.lenders.items _ _ c.in_ok-below.below.items
+    c.in_ok-below.ensures.of (union_cut {S = ℕ} (λ _ _ _. ℕ) (λ _ _ _. ℕ) low high lists) (c.in_ok-lenders.ensures.list lists held) law)
     c.lent_stream.ensures.deals
 
 pub returns-clause-whole : goal.returns-clause-whole
