@@ -24,10 +24,10 @@ loop-run-preserved g c =
     elim c.match-branch-2.branch [
       | in-Some+in_ok-push w ↦
           rw (w.lenders-is, w.in_ok-push.ensures.items) (λ lists held.
-              read_more RunLends nowhere arc_value low high runs i lists held run c.loop-run-test.true c.run-item.is lenders (before lists held) w.in-Some.lender
-              (λ ls own. rw w.in-Some.is at (c.in_ok-lender.ensures.list ls own)))
+          read_more RunLends nowhere arc_value low high runs i lists held run c.loop-run-test.true c.run-item.is lenders (before lists held) w.in-Some.lender
+          (λ ls own. rw w.in-Some.is at (c.in_ok-lender.ensures.list ls own)))
       | in_default w ↦
           rw w.lenders-is (λ lists held.
-              read_none RunLends nowhere arc_value low high runs i lists held run c.loop-run-test.true c.run-item.is lenders (before lists held)
-              (λ ls own. rw w.in_default.is at (c.in_ok-lender.ensures.list ls own)))
+          read_none RunLends nowhere arc_value low high runs i lists held run c.loop-run-test.true c.run-item.is lenders (before lists held)
+          (λ ls own. rw w.in_default.is at (c.in_ok-lender.ensures.list ls own)))
     ]
