@@ -19,3 +19,7 @@ pub mod AllSources
 pub mod ScanSteps
 pub mod Spanned
 pub mod Shares
+pub mod LentRuns
+pub mod LentRunLaws
+pub mod LentBelows
+pub mod LentTogether

@@ -42,11 +42,11 @@ none_cut bound low high lists all =
     (λ (e : Entry). e.seqno < bound) (union_in lists) all))
 
 module _ (bound : ℕ) where
-  numbered_joined : (ls : List (List Entry))
+  pub numbered_joined : (ls : List (List Entry))
       → numbered_below bound (joined ls) ≡ joined (map (numbered_below bound) ls)
   numbered_joined ls = filter_joined (λ (e : Entry). nat_lt e.seqno bound) ls
 
-  each_ascends : (ls : List (List Entry)) → AllByRecursion Ascends ls
+  pub each_ascends : (ls : List (List Entry)) → AllByRecursion Ascends ls
       → AllByRecursion Ascends (map (numbered_below bound) ls)
   each_ascends [] up = tt
   each_ascends (es ∷ ls) up =

@@ -14,7 +14,7 @@ use Rattle.lsm_runs.specs.RunRange.{front_tables, run_left, run_size}
 use Rattle.lsm_runs.proofs.RunSteps.{End, R}
 
 module _ {A : Type 0} where
-  nothing : (s : RunRange A) → IsRunEnded s → run_left s ≡ []
+  pub nothing : (s : RunRange A) → IsRunEnded s → run_left s ≡ []
   nothing s ended = nil_from_length (run_left s) (omega (arith, ended))
 
   ends_by : (of : End) (needed : RunRange A → ℕ) (s : RunRange A) (r : Option R) (t : RunRange A)

@@ -5,4 +5,7 @@ pub mod RunLists
 pub mod RunScan
 pub mod SeveralRuns
 pub mod SpansRead
+pub mod LentRun
+pub mod LentBelow
+pub mod LentNewestRuns
 pub mod Words

@@ -4,7 +4,7 @@ pub use Rattle.sst_entries.specs.Entry.{Entry}
 pub use Rattle.sst_entries.specs.Error.{Faults, FaultsFirst, Gives, is_memory}
 pub use Rattle.sst_entries.specs.Lending.{came}
 pub use Rattle.sst_entries.specs.Point.{point, within}
-pub use Rattle.sst_entries.specs.Stream.{CanDeal, back_of, first, front_of, nowhere}
+pub use Rattle.sst_entries.specs.Stream.{CanDeal, Lowers, back_of, first, front_of, nowhere}
 pub use Rattle.sst_blocks.specs.Opened.{none_opened}
 pub use Rattle.lsm_block_indexes.specs.Dealt.{DealsEnding}
 pub use Rattle.lsm_formats.specs.Chunks.{joined}
@@ -16,7 +16,7 @@ pub use Rattle.lsm_readers.specs.Answer.{lift}
 pub use Rattle.lsm_readers.specs.Read.{DoesRead, Opens}
 pub use Rattle.lsm_readers.specs.Table.{OpenTable}
 pub use Rattle.lsm_walks.specs.Ends.{taken_at}
-pub use Rattle.lsm_sorted.specs.Below.{numbered_below}
+pub use Rattle.lsm_sorted.specs.Below.{DealsBelow, below_of, numbered_below}
 pub use Rattle.lsm_sorted.specs.NewestLaws.{AnswersNewest, CanAskNewest, DealsNewest, IsNewestOf}
 pub use Rattle.lsm_runs.specs.RunParts.{ends_given, range_of, span_of}
 pub use Rattle.lsm_runs.specs.RunRange.{IsRunOf, OpensAtMost, RunGives, back_tables, front_tables}
@@ -32,3 +32,8 @@ pub use Rattle.lsm_runs.specs.SpansRead.{spans_within, with_readers}
 pub use Rattle.lsm_runs.specs.SeveralRuns.{LoadsEach, is_older, leading_of, loads_together}
 pub use Rattle.lsm_runs.specs.SeveralRuns.{run_read, run_read_behind, runs_read, runs_read_by_age}
 pub use Rattle.lsm_runs.specs.SeveralRuns.{runs_told, union_in, worth_asking}
+pub use Rattle.lsm_runs.specs.LentRun.{LendingRun, ReaderLends, RunLends, Stands, lending_run}
+pub use Rattle.lsm_runs.specs.LentRun.{lent_of_reader, lent_of_tables, over_run, range_of_reader}
+pub use Rattle.lsm_runs.specs.LentRun.{unlent_run, walk_of_tables}
+pub use Rattle.lsm_runs.specs.LentBelow.{LendsBelow, MayLendBelow, lent_passes}
+pub use Rattle.lsm_runs.specs.LentNewestRuns.{LendsNewest}

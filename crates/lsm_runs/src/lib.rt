@@ -2,6 +2,9 @@
 #![tactic(auto)]
 
 mod bounds;
+mod lending_below;
+mod lending_reader;
+mod lent_runs;
 mod run_reader;
 mod run_scanner;
 mod runs;
@@ -10,6 +13,9 @@ mod spans;
 mod unopened;
 
 pub use bounds::share;
+pub use lending_below::{LendingBelow, each_lending_below};
+pub use lending_reader::LendingRunReader;
+pub use lent_runs::{LentNewestOf, LentNewestOfRunsAt, lend_runs_at};
 pub use run_reader::RunReader;
 pub use run_scanner::RunScanner;
 pub use runs::{

@@ -7,15 +7,16 @@ ghost use Rattle.lsm_runs.specs.Words.{ArePlacesOf, DealsEnding, DealsList, Entr
 ghost use Rattle.lsm_runs.specs.Words.{IsInOrder, IsRunOf, OpensAtMost, RunGives, back_of};
 ghost use Rattle.lsm_runs.specs.Words.{back_tables, ends_given, front_of, front_tables, joined};
 ghost use Rattle.lsm_runs.specs.Words.{overlap_indexes, run_left, run_size, span_list, span_of};
-ghost use Rattle.lsm_runs.specs.Words.{tables_at, taken_at, within};
+ghost use Rattle.lsm_runs.specs.Words.{nowhere, tables_at, taken_at, unlent_run, within};
 
+use crate::LendingRunReader;
 use crate::spans::{ends_in, places_within};
 use crate::unopened::Unopened;
 use lsm_iters::Iter;
 use lsm_ranges::{Ranged, Run};
 use lsm_readers::Table;
 use lsm_walks::{Ends, Walk};
-use sst_blocks::{Error, IterItem, UserKey};
+use sst_blocks::{Error, IterItem, Lending, UserKey};
 use sst_entries::Direction;
 use std::alloc::{Allocator, Global};
 use std::marker::Model;
@@ -140,6 +141,24 @@ impl<A: Allocator + Clone> RunReader<A> {
         RunReader {
             walk: Walk::new(Unopened::new(run, range, ends)),
         }
+    }
+
+    /// What is left, lent from the blocks where it lies, front to back.
+    pub fn lend(self) -> LendingRunReader<A>
+        ensures is { result ≡ unlent_run self }
+        // Want of memory aside it lends what the reader would give, up to the first error, and then
+        // nothing; it may be asked however often.
+        ensures deals { let advances = ⟦<LendingRunReader<A> as Lending>⟧.advances in
+            let may = ⟦<LendingRunReader<A> as Lending>⟧.can_advance in
+            DealsEnding advances nowhere may may result (run_left self) }
+        // A list that it deals is lent.
+        ensures list { let gives = ⟦<RunReader<A> as Iterator>⟧.next_gives in
+            let back_gives = ⟦<RunReader<A> as DoubleEndedIterator>⟧.next_back_gives in
+            let advances = ⟦<LendingRunReader<A> as Lending>⟧.advances in
+            (es : List Entry) → DealsList gives back_gives es self →
+            DealsList advances nowhere es result }
+    {
+        LendingRunReader::of_walk(self.walk)
     }
 
     /// How many tables were opened. An opening that is refused is not counted.

@@ -1,0 +1,220 @@
+-- One step of a reader of a run that lends its entries.
+use Rattle.std.proofs.Common.{◌≡◌, Bool, true, false, List, [], refl, sym, ap, subst, ◌∙◌, arith}
+use Rattle.std.specs.Prelude.{Option, Some, None, Result, Ok, Err, IfOk, is_some}
+use Rattle.std.specs.Option.{option_map, option_or}
+use Rattle.sst_entries.specs.declared.error.Error.{Error}
+use Rattle.sst_entries.specs.declared.stream.Direction.TheVariants.{Front}
+use Rattle.sst_entries.specs.Entry.{Entry}
+use Rattle.sst_entries.specs.Lending.{came}
+use Rattle.lsm_walks.specs.declared.walk.Walk.{Walk}
+use Rattle.lsm_walks.specs.Ends.{IsOver, StepGives, remains_in}
+use Rattle.lsm_walks.specs.Parts.{LoadGives}
+use Rattle.lsm_walks.specs.Walks.{Ended, WalkTakes}
+use Rattle.lsm_walks.proofs.Reaching.{Going, Reached, entered, fault, item, kept, rest, starts}
+use Rattle.lsm_iters.specs.Lending.{LendingRange, RangeLends, unlent_range}
+use Rattle.lsm_iters.specs.Lift.{lifted_told}
+use Rattle.lsm_iters.specs.Range.{Range, range_remains}
+use Rattle.lsm_iters.proofs.RangeLaws.{range_step}
+use Rattle.lsm_runs.specs.LentRun.{LendingRun, LentTables, ReaderLends, RunLends, Stands}
+use Rattle.lsm_runs.specs.LentRun.{lending_run, lent_of_reader, lent_of_tables, over_run}
+use Rattle.lsm_runs.specs.LentRun.{range_of_reader, walk_of_tables}
+use Rattle.lsm_runs.specs.RunRange.{Unopened}
+use Rattle.lsm_runs.specs.Tables.{EndsTables, KeepsTables, coming_tables, none_unopened, run_of}
+use Rattle.lsm_runs.proofs.RunSteps.{R, run_gives}
+
+abbrev given : Option Entry → Option R
+given l = option_map (λ e. Ok e) l
+
+some_there : (l : Option Entry) → is_some l ≡ true → (e : Entry) × (l ≡ Some e)
+some_there None is = let wrong : false ≡ true = is in absurd cc
+some_there (Some e) is = (e, refl)
+
+pub none_there : (l : Option Entry) → is_some l ≡ false → l ≡ None
+none_there None is = refl
+none_there (Some e) is = let wrong : true ≡ false = is in absurd cc
+
+-- what is lent at the front, or else at the back
+pub front_lent : (l k : Option Entry) → is_some l ≡ true → true ≡ is_some (option_or l k)
+front_lent None k is = let wrong : false ≡ true = is in absurd cc
+front_lent (Some e) k is = refl
+
+pub back_lent : (r : Result Bool Error) (l k : Option Entry) → l ≡ None
+    → IfOk r (λ more. more ≡ is_some k) → IfOk r (λ more. more ≡ is_some (option_or l k))
+back_lent r l k none more =
+    subst (λ (o : Option Entry). IfOk r (λ b. b ≡ is_some (option_or o k))) (sym none) more
+
+-- ---- the reader of one table
+
+module _ {A : Type 0} where
+  stands_none : (x : R) → Stands {A = A} None x → ⊥
+  stands_none x stands = let wrong : None ≡ Some stands.range = stands.is in absurd cc
+
+  stands_there : (s : LendingRange A) (r : Option R) (t : LendingRange A) → RangeLends s r t
+      → (x : R) → Stands (Some s.range) x → r ≡ Some x
+  stands_there s r t step x stands =
+      let same : s.range ≡ stands.range = let is : Some s.range ≡ Some stands.range = stands.is in cc
+      in
+      step.there (ap (λ (u : Range A). u.handles.sought) same ∙ stands.sought) stands.entry
+      stands.others (ap (λ (u : Range A). u.front) same ∙ stands.front)
+      ∙ ap (λ (u : Range A). Some (lifted_told u.of.global_seqno stands.entry)) same
+      ∙ ap (λ (y : R). Some y) (sym stands.told)
+
+  pub reader_lends : (s : LendingRange A) (r : Option R) (t : LendingRange A) → RangeLends s r t
+      → ReaderLends (Some s) r (Some t)
+  reader_lends s r t step = record {
+    gives = range_step Front s.range t.range r step.gives;
+    there = stands_there s r t step;
+  }
+
+  pub none_lends : ReaderLends {A = A} None None None
+  none_lends = record {
+    gives = record {
+      answer = (refl, record { results = refl; loads = refl });
+      loads = omega arith;
+    };
+    there = λ x stands. absurd (stands_none x stands);
+  }
+
+-- ---- the walk
+
+abbrev W : Type 0 → Type 0
+W A = Walk Unopened (Range A)
+
+module _ {A : Type 0} where
+  abbrev Takes_to : W A → Option R → W A → Type 0
+  Takes_to s r u = WalkTakes range_remains coming_tables KeepsTables Front s r u
+
+  -- from s the step has come to u; what stood in a loaded block of the first table stands there yet
+  pub record Comes (s u : LentTables A) : Type 0 where
+    pub going : Going range_remains coming_tables KeepsTables Front (walk_of_tables s)
+        (walk_of_tables u)
+    pub unmoved : (x : R) → Stands (range_of_reader s.front) x → Stands (range_of_reader u.front) x
+
+  pub comes_first : (s : LentTables A) → Comes s s
+  comes_first s = record {
+    going = starts range_remains coming_tables KeepsTables Front (walk_of_tables s);
+    unmoved = λ x stands. stands;
+  }
+
+  abbrev with_front : LentTables A → Option (LendingRange A) → LentTables A
+  with_front u o = record u { front = o }
+
+  -- what the step gives
+  pub record Lends (s : LentTables A) (r : Option R) (t : LentTables A) : Type 0 where
+    pub takes : Takes_to (walk_of_tables s) r (walk_of_tables t)
+    pub there : (x : R) → Stands (range_of_reader s.front) x → r ≡ Some x
+
+  module _ (s u : LentTables A) (o : Option (LendingRange A)) (comes : Comes s u) where
+    -- an entry of the table at the front, or an error in its place
+    pub lends_item : (x : R) → ReaderLends u.front (Some x) o → Lends s (Some x) (with_front u o)
+    lends_item x lends = record {
+      takes = item range_remains coming_tables KeepsTables Front (walk_of_tables s)
+          (walk_of_tables u) (walk_of_tables (with_front u o)) x comes.going lends.gives refl;
+      there = λ y stands. lends.there y (comes.unmoved y stands);
+    }
+
+    pub lends_entry : is_some (lent_of_reader o) ≡ true
+        → ReaderLends u.front (came (Ok true) (lent_of_reader o)) o
+        → Lends s (came (Ok true) (lent_of_tables (with_front u o))) (with_front u o)
+    lends_entry some lends =
+        let l = some_there (lent_of_reader o) some in
+        let here : ReaderLends u.front (Some (Ok l.0)) o =
+        subst (λ (k : Option Entry). ReaderLends u.front (given k) o) l.1 lends in
+        subst (λ (k : Option Entry). Lends s (given (option_or k (lent_of_reader u.back)))
+        (with_front u o)) (sym l.1) (lends_item (Ok l.0) here)
+
+    -- or the table has no more
+    module _ (none : lent_of_reader o ≡ None)
+        (lends : ReaderLends u.front (came (Ok false) (lent_of_reader o)) o) where
+      nothing : ReaderLends u.front None o
+      nothing = subst (λ (k : Option Entry). ReaderLends u.front (given k) o) none lends
+
+      none_here : (x : R) → Stands (range_of_reader s.front) x → ⊥
+      none_here x stands =
+          let wrong : None ≡ Some x = nothing.there x (comes.unmoved x stands) in cc
+
+      there_kept : Reached range_remains coming_tables KeepsTables Front (walk_of_tables s)
+          (walk_of_tables (with_front u o))
+      there_kept = kept range_remains coming_tables KeepsTables Front (walk_of_tables s)
+          (walk_of_tables u) (walk_of_tables (with_front u o)) comes.going.reached nothing.gives refl
+
+      over_front : IsOver (remains_in range_remains (range_of_reader o))
+      over_front = nothing.gives.answer.1
+
+      -- the next table was opened
+      pub comes_on : (p : Unopened) (part : Range A) (c : LendingRange A)
+          → LoadGives (range_remains {A = A}) coming_tables KeepsTables Front u.parts (Some (Ok part)) p
+          → c ≡ unlent_range part
+          → Comes s (record u { parts = p; front = Some c })
+      comes_on p part c loads is = record {
+        going = entered range_remains coming_tables KeepsTables Front (walk_of_tables s)
+            (walk_of_tables (with_front u o))
+            (walk_of_tables (record u { parts = p; front = Some c })) p part there_kept
+            over_front.results loads
+            (ap (λ (x : LendingRange A). walk_of_tables
+            (record u { parts = p; front = Some x })) is);
+        unmoved = λ x stands. absurd (none_here x stands);
+      }
+
+      -- it could not be opened
+      pub lends_fault : (p : Unopened) (e : Error)
+          → LoadGives (range_remains {A = A}) coming_tables KeepsTables Front u.parts (Some (Err e)) p
+          → Lends s (Some (Err e)) (record u { parts = p; front = o })
+      lends_fault p e loads = record {
+        takes = fault (range_remains {A = A}) coming_tables KeepsTables Front (walk_of_tables s)
+            (walk_of_tables (with_front u o)) (walk_of_tables (record u { parts = p; front = o })) e
+            there_kept over_front.results loads refl refl;
+        there = λ x stands. absurd (none_here x stands);
+      }
+
+      -- none is to come, and the table at the back is left
+      pub lends_rest : (p : Unopened) (b : Option (LendingRange A)) (r : Result Bool Error)
+          → LoadGives (range_remains {A = A}) coming_tables KeepsTables Front u.parts None p
+          → ReaderLends u.back (came r (lent_of_reader b)) b
+          → Lends s (came r (lent_of_tables (record u { parts = p; front = o; back = b })))
+          (record u { parts = p; front = o; back = b })
+      lends_rest p b r loads last =
+          subst (λ (k : Option Entry). Lends s (came r (option_or k (lent_of_reader b)))
+          (record u { parts = p; front = o; back = b })) (sym none)
+          (record {
+            takes = rest (range_remains {A = A}) coming_tables KeepsTables Front (walk_of_tables s)
+                (walk_of_tables (with_front u o))
+                (walk_of_tables (record u { parts = p; front = o }))
+                (walk_of_tables (record u { parts = p; front = o; back = b }))
+                (came r (lent_of_reader b)) there_kept over_front loads refl refl last.gives refl;
+            there = λ x stands. absurd (none_here x stands);
+          })
+
+  -- ---- the run
+
+  pub lends_run : (s n : LentTables A) (l : Option Entry) → Lends s (given l) n
+      → RunLends (lending_run s) (given l) (lending_run n)
+  lends_run s n None lends = record {
+    gives = run_gives Front (walk_of_tables s) (walk_of_tables n) None
+        (record { taken = walk_of_tables n; takes = lends.takes; goes = refl });
+    there = lends.there;
+  }
+  lends_run s n (Some e) lends = record {
+    gives = run_gives Front (walk_of_tables s) (walk_of_tables n) (Some (Ok e))
+        (record { taken = walk_of_tables n; takes = lends.takes; goes = refl });
+    there = lends.there;
+  }
+
+  abbrev ended_walk : LentTables A → W A
+  ended_walk n = record { parts = none_unopened n.parts; front = None; back = None }
+
+  pub lends_error : (s n : LentTables A) (e : Error) → Lends s (Some (Err e)) n
+      → RunLends (lending_run s) (Some (Err e)) (over_run (lending_run n))
+  lends_error s n e lends = record {
+    gives = run_gives Front (walk_of_tables s) (ended_walk n) (Some (Err e)) (record {
+      taken = walk_of_tables n;
+      takes = lends.takes;
+      goes = record {
+        front = refl;
+        back = refl;
+        done = record { parts = refl; loads = refl };
+        kept = refl;
+      };
+    });
+    there = lends.there;
+  }

@@ -1,0 +1,33 @@
+use Rattle.std.specs.Prelude.{ℕ}
+use Rattle.sst_entries.proofs.StreamLemmas.{can_now}
+use Rattle.lsm_ranges.proofs.PackLemmas.{if_ok}
+use Rattle.lsm_runs.specs.LentRun.{RunLends}
+use Rattle.lsm_runs.specs.RunRange.{run_size}
+use Rattle.lsm_runs.proofs.LentBelows.{can_lend_below}
+use Rattle.lsm_runs.proofs.LentRunLaws.{lending_deals}
+use Rattle.lsm_runs.proofs.LentTogether.{newest_below}
+use Rattle.lsm_runs.proofs.Numbered.{dealt_as, none_cut}
+use Rattle.lsm_runs.proofs.Together.{all_of, union_cut}
+use Rattle.lsm_runs.proofs.lent_runs.lend_runs_at.Goals as goal
+
+pub returns-clause-list : goal.returns-clause-list
+returns-clause-list g c lists held =
+    let low = c.args.range.0 in
+    let high = c.args.range.1 in
+    if_ok c.lent_stream.result
+    (λ s law. newest_below c.args.seqno RunLends (λ _. Unit {0}) (λ u. run_size u.run) _ s c.in_ok-lenders.lenders.items _ _ c.in_ok-below.below.items
+    c.in_ok-below.ensures.of (union_cut {S = ℕ} (λ _ _ _. ℕ) (λ _ _ _. ℕ) low high lists) (c.in_ok-lenders.ensures.list lists held) law)
+    c.lent_stream.ensures.deals
+
+pub returns-clause-whole : goal.returns-clause-whole
+returns-clause-whole g c lists held all =
+    if_ok c.lent_stream.result
+    (λ s deals. dealt_as _ _ s _ _ (none_cut c.args.seqno c.args.range.0 c.args.range.1 lists all) deals)
+    (returns-clause-list g c lists held)
+
+pub returns-clause-can : goal.returns-clause-can
+returns-clause-can g c =
+    c.lent_stream.ensures.can (all_of _ (λ b. can_lend_below RunLends (λ _. Unit {0}) (λ u. run_size u.run) b (lending_deals b.iter).can) c.in_ok-below.below.items)
+
+pub returns-clause-advance : goal.returns-clause-advance
+returns-clause-advance g c = if_ok c.lent_stream.result (λ s can. can_now _ _ _ _ s can) (returns-clause-can g c)

@@ -1,0 +1,22 @@
+-- Of a source that lends the entries numbered below a bound, and its errors.
+use Rattle.std.specs.Prelude.{ℕ, Bool, true, nat_lt, Option, Some, None}
+use Rattle.std.specs.Iterator.{at_most}
+use Rattle.sst_entries.specs.Entry.{Entry}
+use Rattle.sst_entries.specs.Stream.{nowhere}
+use Rattle.lsm_merge.specs.Ends.{R}
+use Rattle.lsm_sorted.specs.Below.{GivesBelow, MayAsk}
+use Rattle.lsm_sorted.specs.declared.below.Below.{Below}
+
+-- an entry that is lent passes where it is numbered below the bound; nothing passes too
+abbrev pub lent_passes : ℕ → Option Entry → Bool
+lent_passes bound None = true
+lent_passes bound (Some e) = nat_lt e.seqno bound
+
+module _ {S : Type 0} (advances : S → Option R → S → Type 0) (can : S → Type 0) (left : S → ℕ) where
+  -- the source may be asked
+  abbrev pub MayLendBelow : Below S → Type 0
+  MayLendBelow = MayAsk advances nowhere can can (λ s. at_most (left s))
+
+  -- one call: what comes is the source's first that passes
+  abbrev pub LendsBelow : Below S → Option R → Below S → Type 0
+  LendsBelow = GivesBelow MayLendBelow advances

@@ -1,0 +1,88 @@
+-- A reader of a run that lends its entries, from the front.
+use Rattle.std.specs.Prelude.{◌≡◌, true, List, ◌∷◌, Option, Some, None, Result}
+use Rattle.std.specs.Option.{option_map, option_or}
+use Rattle.sst_entries.specs.declared.error.Error.{Error}
+use Rattle.sst_entries.specs.declared.stream.Direction.TheVariants.{Front}
+use Rattle.sst_entries.specs.Entry.{Entry}
+use Rattle.sst_entries.specs.Stream.{front_of}
+use Rattle.lsm_walks.specs.declared.walk.Walk.{Walk}
+use Rattle.lsm_walks.specs.Ends.{StepGives, remains_in}
+use Rattle.lsm_iters.specs.Lending.{LendingRange}
+use Rattle.lsm_iters.specs.Lift.{lifted_told}
+use Rattle.lsm_iters.specs.Range.{Range, range_remains}
+use Rattle.lsm_runs.specs.RunRange.{RunGives, RunRange, Unopened, front_tables}
+use Rattle.lsm_runs.specs.Tables.{none_unopened, run_of}
+
+-- ---- the reader of one table
+
+-- where a table is opened, the entry that its reader lends, and what is left of it
+abbrev pub lent_of_reader : {A : Type 0} → Option (LendingRange A) → Option Entry
+lent_of_reader None = None
+lent_of_reader (Some s) = s.lent
+
+abbrev pub range_of_reader : {A : Type 0} → Option (LendingRange A) → Option (Range A)
+range_of_reader s = option_map (λ x. x.range) s
+
+-- what comes next of a table stands in a block that is loaded
+pub record Stands {A : Type 0} (reader : Option (Range A)) (x : Result Entry Error) : Type 0 where
+  pub range : Range A
+  pub is : reader ≡ Some range
+  pub sought : range.handles.sought ≡ true
+  pub entry : Entry
+  pub others : List Entry
+  pub front : range.front ≡ entry ∷ others
+  pub told : x ≡ lifted_told range.of.global_seqno entry
+
+-- one step of it; what stands in a loaded block comes, whatever memory there is
+pub record ReaderLends {A : Type 0} (s : Option (LendingRange A)) (r : Option (Result Entry Error))
+    (t : Option (LendingRange A)) : Type 0 where
+  pub gives : StepGives Front (remains_in range_remains (range_of_reader s)) r
+      (remains_in range_remains (range_of_reader t))
+  pub there : (x : Result Entry Error) → Stands (range_of_reader s) x → r ≡ Some x
+
+-- ---- a walk over the tables of a run
+
+-- a walk whose readers lend
+abbrev pub LentTables : Type 0 → Type 0
+LentTables A = Walk Unopened (LendingRange A)
+
+-- the same without what is lent
+abbrev pub walk_of_tables : {A : Type 0} → LentTables A → Walk Unopened (Range A)
+walk_of_tables w = record {
+  parts = w.parts;
+  front = range_of_reader w.front;
+  back = range_of_reader w.back;
+}
+
+-- the entry that is lent
+abbrev pub lent_of_tables : {A : Type 0} → LentTables A → Option Entry
+lent_of_tables w = option_or (lent_of_reader w.front) (lent_of_reader w.back)
+
+-- ---- the run
+
+-- what a reader of a run still deals, and the entry that is lent
+pub record LendingRun (A : Type 0) : Type 0 where
+  pub run : RunRange A
+  pub lent : Option Entry
+
+abbrev pub lending_run : {A : Type 0} → LentTables A → LendingRun A
+lending_run w = record { run = run_of (walk_of_tables w); lent = lent_of_tables w }
+
+-- before an entry was asked for
+abbrev pub unlent_run : {A : Type 0} → RunRange A → LendingRun A
+unlent_run s = record { run = s; lent = None }
+
+-- nothing is lent, and nothing more comes
+abbrev pub over_run : {A : Type 0} → LendingRun A → LendingRun A
+over_run s = unlent_run (record {
+  unopened = none_unopened s.run.unopened;
+  front = None;
+  back = None;
+})
+
+-- one step: as one call at the front of the run; and what stands next in a loaded block of the
+-- table that is opened at the front comes, whatever memory there is
+pub record RunLends {A : Type 0} (s : LendingRun A) (r : Option (Result Entry Error))
+    (t : LendingRun A) : Type 0 where
+  pub gives : RunGives front_of front_tables s.run r t.run
+  pub there : (x : Result Entry Error) → Stands s.run.front x → r ≡ Some x
