@@ -4,30 +4,105 @@
 #![tactic(auto)]
 
 pub use lsm_formats::ItemName;
-pub use lsm_merge::{LendingMerger, Merger};
-pub use lsm_ranges::{KeyRange, Ranged, Run, optimize_runs, overlap_chain};
+pub use lsm_merge::LendingMerger;
+pub use lsm_merge::Merger;
+pub use lsm_ranges::KeyRange;
+pub use lsm_ranges::Ranged;
+pub use lsm_ranges::Run;
+pub use lsm_ranges::optimize_runs;
+pub use lsm_ranges::overlap_chain;
 pub use lsm_runs::share;
+pub use lsm_sorted::Below;
+pub use lsm_sorted::LendingNewest;
+pub use lsm_sorted::MvccStream;
+pub use lsm_sorted::NewestOf;
 pub use lsm_sorted::compaction::Rules;
+pub use lsm_sorted::compaction::filtered::FilteredLendingCompaction;
+pub use lsm_sorted::compaction::filtered::LentCallback;
+pub use lsm_sorted::compaction::filtered::LentFilter;
 pub use lsm_sorted::compaction::lending::LendingCompaction;
-pub use lsm_sorted::compaction::stream::{
-    CompactionStream, DroppedKvCallback, NoCallback, NoFilter, StreamFilter, StreamFilterVerdict,
-};
-pub use lsm_sorted::{Below, LendingNewest, MvccStream, NewestOf, each_below, newest_of};
-pub use lsm_tables::{
-    CompactionObserver, CompactionOutcome, CompactionProgress, Fault, Finding, Iter, NewestOfRuns,
-    NewestOfRunsAt, NewestOfSourcesAt, NoObserver, OpenOptions, ParsedMeta, Query, RunReader,
-    RunScanner, Scanner, Table, Verification, Verified, VerifyError, compact_any_runs,
-    compact_any_runs_with, compact_runs, compact_to_run, compact_to_run_with, compaction_law,
-    get_many, get_runs, get_runs_by_age, get_runs_by_age_counted, get_runs_counted, pack_runs,
-    packing_law, range_runs, range_runs_at, range_sources_at, read_run, write_and_open, write_run,
-    write_run_with,
-};
-pub use lsm_writers::{
-    BloomConstructionPolicy, FilterKind, FinishedTable, IndexKind, Metadata, MultiWriter, Options,
-    TableId, TableIds, Timestamp, TreeId, Writer, is_writable, write_list,
-};
-pub use sst_blocks::{
-    Checksum, Direction, EntryRef, Error, InternalKey, InternalValue, IterItem, Lending, Opened,
-    SectionName, SeqNo, Slice, UserKey, UserValue, ValueType, answers_at, compare_versions,
-    source_of,
-};
+pub use lsm_sorted::compaction::stream::CompactionStream;
+pub use lsm_sorted::compaction::stream::DroppedKvCallback;
+pub use lsm_sorted::compaction::stream::NoCallback;
+pub use lsm_sorted::compaction::stream::NoFilter;
+pub use lsm_sorted::compaction::stream::StreamFilter;
+pub use lsm_sorted::compaction::stream::StreamFilterVerdict;
+pub use lsm_sorted::each_below;
+pub use lsm_sorted::newest_of;
+pub use lsm_tables::CompactionObserver;
+pub use lsm_tables::CompactionOutcome;
+pub use lsm_tables::CompactionProgress;
+pub use lsm_tables::Fault;
+pub use lsm_tables::Finding;
+pub use lsm_tables::Iter;
+pub use lsm_tables::LendingBelow;
+pub use lsm_tables::LendingIter;
+pub use lsm_tables::LendingRunReader;
+pub use lsm_tables::LentNewestOfRunsAt;
+pub use lsm_tables::NewestOfRuns;
+pub use lsm_tables::NewestOfRunsAt;
+pub use lsm_tables::NewestOfSourcesAt;
+pub use lsm_tables::NoObserver;
+pub use lsm_tables::OpenOptions;
+pub use lsm_tables::ParsedMeta;
+pub use lsm_tables::Query;
+pub use lsm_tables::RunReader;
+pub use lsm_tables::RunScanner;
+pub use lsm_tables::Scanner;
+pub use lsm_tables::Table;
+pub use lsm_tables::Verification;
+pub use lsm_tables::Verified;
+pub use lsm_tables::VerifyError;
+pub use lsm_tables::compact_any_runs;
+pub use lsm_tables::compact_any_runs_with;
+pub use lsm_tables::compact_runs;
+pub use lsm_tables::compact_to_run;
+pub use lsm_tables::compact_to_run_with;
+pub use lsm_tables::compaction_law;
+pub use lsm_tables::get_many;
+pub use lsm_tables::get_runs;
+pub use lsm_tables::get_runs_by_age;
+pub use lsm_tables::get_runs_by_age_counted;
+pub use lsm_tables::get_runs_counted;
+pub use lsm_tables::lend_runs_at;
+pub use lsm_tables::pack_runs;
+pub use lsm_tables::packing_law;
+pub use lsm_tables::range_runs;
+pub use lsm_tables::range_runs_at;
+pub use lsm_tables::range_sources_at;
+pub use lsm_tables::read_run;
+pub use lsm_tables::write_and_open;
+pub use lsm_tables::write_run;
+pub use lsm_tables::write_run_with;
+pub use lsm_writers::BloomConstructionPolicy;
+pub use lsm_writers::FilterKind;
+pub use lsm_writers::FinishedTable;
+pub use lsm_writers::IndexKind;
+pub use lsm_writers::Metadata;
+pub use lsm_writers::MultiWriter;
+pub use lsm_writers::Options;
+pub use lsm_writers::TableId;
+pub use lsm_writers::TableIds;
+pub use lsm_writers::Timestamp;
+pub use lsm_writers::TreeId;
+pub use lsm_writers::Writer;
+pub use lsm_writers::is_writable;
+pub use lsm_writers::write_list;
+pub use sst_blocks::Checksum;
+pub use sst_blocks::Direction;
+pub use sst_blocks::EntryRef;
+pub use sst_blocks::Error;
+pub use sst_blocks::InternalKey;
+pub use sst_blocks::InternalValue;
+pub use sst_blocks::IterItem;
+pub use sst_blocks::Lending;
+pub use sst_blocks::Opened;
+pub use sst_blocks::SectionName;
+pub use sst_blocks::SeqNo;
+pub use sst_blocks::Slice;
+pub use sst_blocks::UserKey;
+pub use sst_blocks::UserValue;
+pub use sst_blocks::ValueType;
+pub use sst_blocks::answers_at;
+pub use sst_blocks::compare_versions;
+pub use sst_blocks::source_of;

@@ -28,9 +28,9 @@ pub use lsm_readers::{
     TableInner, Verification, Verified, VerifyError, get_many, point_in,
 };
 pub use lsm_runs::{
-    NewestOfRuns, NewestOfRunsAt, NewestOfSourcesAt, RunReader, RunScanner, get_runs,
-    get_runs_by_age, get_runs_by_age_counted, get_runs_counted, range_runs, range_runs_at,
-    range_sources_at,
+    LendingBelow, LendingRunReader, LentNewestOf, LentNewestOfRunsAt, NewestOfRuns, NewestOfRunsAt,
+    NewestOfSourcesAt, RunReader, RunScanner, get_runs, get_runs_by_age, get_runs_by_age_counted,
+    get_runs_counted, lend_runs_at, range_runs, range_runs_at, range_sources_at,
 };
 pub use lsm_sorted::compaction::Rules;
 pub use lsm_writers::{FinishedTable, MultiWriter, TableIds};

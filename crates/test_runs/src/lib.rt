@@ -16,6 +16,8 @@ mod key_ranges;
 #[cfg(test)]
 mod lends;
 #[cfg(test)]
+mod lent_ranges;
+#[cfg(test)]
 mod long_keys;
 #[cfg(test)]
 mod memory;

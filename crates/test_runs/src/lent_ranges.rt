@@ -1,0 +1,99 @@
+//! Ranges over runs that lend, beside those that give.
+use lsm_tables::{lend_runs_at, range_runs_at};
+use sst_blocks::{Error, SeqNo, ValueType};
+use std::alloc::Global;
+use std::ops::Bound;
+use test_lent::{agree, random};
+use test_tables::large::add;
+use test_tables::rows::Row;
+use test_tables::runs::{Bounds, Tables, owned_range, run_of};
+
+const KEYS: &[&[u8]] = &[b"", b"a", b"b", b"bb", b"c", b"d"];
+
+const RUNS: u64 = 3;
+
+fn kind_of(number: u64) -> ValueType {
+    match number % 4 {
+        0 => ValueType::Tombstone,
+        1 => ValueType::WeakTombstone,
+        _ => ValueType::Value,
+    }
+}
+
+// Some versions of a key, the newest first, whose numbers are those of one run.
+fn add_versions(
+    rows: &mut Vec<Row<'static>>,
+    key: &'static [u8],
+    seed: &mut u64,
+    run: u64,
+) -> Result<(), Error> {
+    for version in (0..random(seed) % 4).rev() {
+        let kind = kind_of(random(seed));
+        rows.push((key, version * RUNS + run, kind, b""))?;
+    }
+    Ok(())
+}
+
+// Rows of a run that look random, and a last one, so that there is one.
+fn rows_of(alloc: Global, seed: &mut u64, run: u64) -> Result<Vec<Row<'static>>, Error> {
+    let mut rows = Vec::new(alloc);
+    for key in KEYS {
+        add_versions(&mut rows, *key, seed, run)?;
+    }
+    rows.push((b"e", run, ValueType::Value, b""))?;
+    Ok(rows)
+}
+
+// A run of one table for each number.
+fn random_runs(alloc: Global, mut seed: u64) -> Result<Vec<Tables<Global>>, Error> {
+    let mut runs = Vec::new(alloc);
+    for run in 0..RUNS {
+        let rows = rows_of(alloc, &mut seed, run)?;
+        add(&mut runs, run_of(alloc, &[rows.as_slice()]))?;
+    }
+    Ok(runs)
+}
+
+// Whether the newest versions below a bound come lent as they are given, from the front.
+#[tactic(auto, using(sst_entries::proofs::FrontLemmas::can_in_front))]
+fn lends_what_it_gives(
+    alloc: Global,
+    runs: &[Tables<Global>],
+    bounds: Bounds<'_>,
+    seqno: SeqNo,
+) -> Result<bool, Error> {
+    let given = owned_range(alloc, bounds)?;
+    let lent = owned_range(alloc, bounds)?;
+    agree(
+        range_runs_at(alloc, runs, given, seqno)?,
+        lend_runs_at(alloc, runs, lent, seqno)?,
+        KEYS.len() + 3,
+    )
+}
+
+const WITHIN: &[Bounds<'static>] = &[
+    (Bound::Unbounded, Bound::Unbounded),
+    (Bound::Included(b"a"), Bound::Excluded(b"c")),
+    (Bound::Excluded(b"a"), Bound::Included(b"bb")),
+    (Bound::Included(b"f"), Bound::Unbounded),
+];
+
+// Whether they do within all bounds, and at all snapshots.
+fn lends_all(alloc: Global, seed: u64) -> Result<bool, Error> {
+    let runs = random_runs(alloc, seed)?;
+    for bounds in WITHIN {
+        for seqno in [0, 1, 4, 7, SeqNo::MAX] {
+            if !lends_what_it_gives(alloc, &runs, *bounds, seqno)? {
+                return Ok(false);
+            }
+        }
+    }
+    Ok(true)
+}
+
+#[test]
+fn ranges_over_runs_lend_what_they_give(rt: HostRuntime) {
+    for seed in 1..=6u64 {
+        assert!(rt; matches!(lends_all(rt.alloc(), seed), Ok(true)), "{seed}");
+    }
+}
