@@ -10,8 +10,8 @@ abbrev pub counter_behind : Option ℕ → ℕ → List (List OpenTable) → Opt
 counter_behind ids target [] = ids
 counter_behind ids target (run ∷ runs) = ids_behind ids target (sum_by length (run ∷ runs))
 
--- what a store writes of a list, in one run at most: tables that its target cuts, under ids from its
--- counter on
+-- what a store writes of a list, in one run at most: tables that its target cuts, under ids from
+-- its counter on
 pub record AreMadeOf (s : Holding) (es : List Entry) (made : List (List OpenTable)) : Type 0 where
   pub has : HaveAll es made
   pub few : length made ≤ 1
