@@ -1,6 +1,6 @@
 -- What a refusal to open a store names.
-use Rattle.std.proofs.Common.{◌≡◌, refl, sym, ◌∙◌, ap, subst, ℕ, zero, suc, ◌-◌, ◌^◌, ◌<◌, ◌⊎◌, inl}
-use Rattle.std.proofs.Common.{inr}
+use Rattle.std.proofs.Common.{◌≡◌, refl, sym, ◌∙◌, ap, subst, ℕ, zero, suc, ◌-◌, ◌^◌, ◌<◌, ◌⊎◌}
+use Rattle.std.proofs.Common.{inl, inr}
 use Rattle.std.proofs.Common.{true, false, List, [], ◌∷◌, ◌++◌, length, take, drop, get_or, arith}
 use Rattle.std.specs.Prelude.{Ok, Err, IfErr, IsErrAnd, Result, map}
 use Rattle.std.specs.List.{AllByRecursion}
@@ -15,9 +15,8 @@ use Rattle.example_store.specs.Story.{IsOwnRun, IsOwnTable}
 use Rattle.example_store.specs.declared.store.close.Closed.{Closed}
 use Rattle.example_store.specs.declared.store.open.FileFault.TheVariants.{Unopened}
 use Rattle.example_store.specs.declared.store.open.OpenError.{OpenError}
-use Rattle.example_store.specs.declared.store.open.OpenError.TheVariants.{File, NoFile}
-use Rattle.example_store.specs.declared.store.open.OpenError.TheVariants.{OldestTooHigh}
-use Rattle.example_store.specs.declared.store.open.OpenError.TheVariants.{OutOfMemory, OutOfOrder}
+use Rattle.example_store.specs.declared.store.open.OpenError.TheVariants.{File, NoFile, OutOfMemory}
+use Rattle.example_store.specs.declared.store.open.OpenError.TheVariants.{OldestTooHigh, OutOfOrder}
 use Rattle.example_store.specs.declared.store.open.OpenError.TheVariants.{Repeated, SeqNoOverflow}
 use Rattle.example_store.proofs.Opening.{order_alike}
 use Rattle.example_store.proofs.Own.{bytes_of, table_stored}
@@ -156,8 +155,8 @@ names_first_run next bytes items made ys i y e so_far less is fine named =
     names_first next (map items ys) (map items (take i ys)) (items y) (map items (drop (suc i) ys))
     (ap (map items) (about ys i y less is) ∙ map-append items (take i ys) (y ∷ drop (suc i) ys))
     (subst (AllByRecursion (AreOwnFiles next)) so_far fine) e
-    (subst (λ (n : ℕ). NamesInRun next (items y) n e) (sym (length-map made bytes) ∙ ap length
-    so_far) named)
+    (subst (λ (n : ℕ). NamesInRun next (items y) n e)
+    (sym (length-map made bytes) ∙ ap length so_far) named)
 
 -- and of what was kept, where its numbers are right
 pub names_kept : {A : Type 0} (c : Closed A) (e : OpenError) → HasNumbers c

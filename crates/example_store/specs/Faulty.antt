@@ -12,9 +12,8 @@ use Rattle.example_store.specs.declared.store.open.FileFault.{FileFault}
 use Rattle.example_store.specs.declared.store.open.FileFault.TheVariants.{Empty, TooHigh, Unopened}
 use Rattle.example_store.specs.declared.store.open.FileFault.TheVariants.{Unsound, Weak}
 use Rattle.example_store.specs.declared.store.open.OpenError.{OpenError}
-use Rattle.example_store.specs.declared.store.open.OpenError.TheVariants.{File, NoFile}
-use Rattle.example_store.specs.declared.store.open.OpenError.TheVariants.{OldestTooHigh}
-use Rattle.example_store.specs.declared.store.open.OpenError.TheVariants.{OutOfMemory, OutOfOrder}
+use Rattle.example_store.specs.declared.store.open.OpenError.TheVariants.{File, NoFile, OutOfMemory}
+use Rattle.example_store.specs.declared.store.open.OpenError.TheVariants.{OldestTooHigh, OutOfOrder}
 use Rattle.example_store.specs.declared.store.open.OpenError.TheVariants.{Repeated, SeqNoOverflow}
 
 -- a file that may be a store's: it stores a list that has an entry, and a store's own alone
