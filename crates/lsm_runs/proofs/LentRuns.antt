@@ -52,8 +52,8 @@ module _ {A : Type 0} where
   stands_there : (s : LendingRange A) (r : Option R) (t : LendingRange A) → RangeLends s r t
       → (x : R) → Stands (Some s.range) x → r ≡ Some x
   stands_there s r t step x stands =
-      let same : s.range ≡ stands.range = let is : Some s.range ≡ Some stands.range = stands.is in cc
-      in
+      let same : s.range ≡ stands.range =
+      let is : Some s.range ≡ Some stands.range = stands.is in cc in
       step.there (ap (λ (u : Range A). u.handles.sought) same ∙ stands.sought) stands.entry
       stands.others (ap (λ (u : Range A). u.front) same ∙ stands.front)
       ∙ ap (λ (u : Range A). Some (lifted_told u.of.global_seqno stands.entry)) same
@@ -136,15 +136,16 @@ module _ {A : Type 0} where
       there_kept : Reached range_remains coming_tables KeepsTables Front (walk_of_tables s)
           (walk_of_tables (with_front u o))
       there_kept = kept range_remains coming_tables KeepsTables Front (walk_of_tables s)
-          (walk_of_tables u) (walk_of_tables (with_front u o)) comes.going.reached nothing.gives refl
+          (walk_of_tables u) (walk_of_tables (with_front u o)) comes.going.reached nothing.gives
+          refl
 
       over_front : IsOver (remains_in range_remains (range_of_reader o))
       over_front = nothing.gives.answer.1
 
       -- the next table was opened
       pub comes_on : (p : Unopened) (part : Range A) (c : LendingRange A)
-          → LoadGives (range_remains {A = A}) coming_tables KeepsTables Front u.parts (Some (Ok part)) p
-          → c ≡ unlent_range part
+          → LoadGives (range_remains {A = A}) coming_tables KeepsTables Front u.parts
+          (Some (Ok part)) p → c ≡ unlent_range part
           → Comes s (record u { parts = p; front = Some c })
       comes_on p part c loads is = record {
         going = entered range_remains coming_tables KeepsTables Front (walk_of_tables s)
@@ -158,8 +159,8 @@ module _ {A : Type 0} where
 
       -- it could not be opened
       pub lends_fault : (p : Unopened) (e : Error)
-          → LoadGives (range_remains {A = A}) coming_tables KeepsTables Front u.parts (Some (Err e)) p
-          → Lends s (Some (Err e)) (record u { parts = p; front = o })
+          → LoadGives (range_remains {A = A}) coming_tables KeepsTables Front u.parts
+          (Some (Err e)) p → Lends s (Some (Err e)) (record u { parts = p; front = o })
       lends_fault p e loads = record {
         takes = fault (range_remains {A = A}) coming_tables KeepsTables Front (walk_of_tables s)
             (walk_of_tables (with_front u o)) (walk_of_tables (record u { parts = p; front = o })) e
