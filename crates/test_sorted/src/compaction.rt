@@ -5,33 +5,40 @@ ghost use Rattle.sst_entries.specs.Stream.{CanDeal, nowhere};
 
 use crate::merging::passed_of;
 use crate::merging_front::forward_of;
-use crate::words::{gives_all, gives_so, holds, said_by, said_of_entry};
+use crate::words::{gives_all, gives_so, holds, said_by, said_of_lent};
 use lsm_sorted::MvccStream;
 use lsm_sorted::compaction::stream::{
     CompactionStream, DroppedKvCallback, StreamFilter, StreamFilterVerdict,
 };
-use sst_entries::{Error, InternalValue, IterItem, Slice, ValueType};
+use sst_entries::{EntryRef, Error, InternalValue, IterItem, Slice, ValueType};
 use std::alloc::{Allocator, Global};
 use std::str::SplitWhitespace;
 use test_refusing::Refusing;
 
-// Compares what it receives to the words that it is to receive.
+/// Compares what it receives to the words that it is to receive.
 #[derive(Drop)]
-struct Received {
+pub struct Received {
     words: SplitWhitespace<'static>,
     is_right: bool,
 }
 
 impl Received {
-    fn new(wanted: &'static str) -> Received {
+    /// A callback that is to receive these.
+    pub fn new(wanted: &'static str) -> Received {
         Received {
             words: wanted.split_whitespace(),
             is_right: true,
         }
     }
 
-    // Whether all that was wanted was received, and nothing else.
-    fn is_done(mut self) -> bool {
+    /// Compares an entry to the next word.
+    pub fn receive(&mut self, entry: &EntryRef<'_>) {
+        let said = said_of_lent(entry);
+        self.is_right &= self.words.next().is_some_and(|word| said_by(word) == said);
+    }
+
+    /// Whether all that was wanted was received, and nothing else.
+    pub fn is_done(mut self) -> bool {
         self.is_right && self.words.next().is_none()
     }
 }
@@ -40,27 +47,30 @@ impl DroppedKvCallback<Global> for Received {
     ghost gets = { λ c x d. Unit {0} };
 
     fn on_dropped(&mut self, kv: &InternalValue) {
-        let said = said_of_entry(kv);
-        self.is_right &= self.words.next().is_some_and(|word| said_by(word) == said);
+        self.receive(&kv.as_entry_ref());
     }
 }
 
-// Acts on some entries, and keeps all others.
+/// Acts on some entries, and keeps all others.
 #[derive(Clone, Copy)]
-enum Plan {
+pub enum Plan {
+    /// Keeps all.
     KeepAll,
+    /// Drops what has this number.
     DropAt(u64),
+    /// Refuses what has this number.
     FailAt(u64),
+    /// Puts tombstones for what is below this number.
     ReplaceBelow(u64),
+    /// Drops a key, and puts tombstones for what is below this number.
     DropKeyReplaceBelow(u8, u64),
 }
 
-impl StreamFilter<Global> for Plan {
-    ghost gives = { λ f x v g. Unit {0} };
-
-    fn filter_item(&mut self, item: &InternalValue) -> Result<StreamFilterVerdict, Error> {
-        let seqno = item.key.seqno;
-        let is_of = |key: u8| match item.key.user_key.as_slice() {
+impl Plan {
+    /// What becomes of an entry.
+    pub fn says_of(&self, entry: &EntryRef<'_>) -> Result<StreamFilterVerdict, Error> {
+        let seqno = entry.seqno;
+        let is_of = |key: u8| match entry.user_key {
             [byte, ..] => *byte == key,
             [] => false,
         };
@@ -73,6 +83,14 @@ impl StreamFilter<Global> for Plan {
             ),
             _ => Ok(StreamFilterVerdict::Keep),
         }
+    }
+}
+
+impl StreamFilter<Global> for Plan {
+    ghost gives = { λ f x v g. Unit {0} };
+
+    fn filter_item(&mut self, item: &InternalValue) -> Result<StreamFilterVerdict, Error> {
+        self.says_of(&item.as_entry_ref())
     }
 }
 

@@ -5,6 +5,8 @@
 #[cfg(test)]
 mod compaction;
 #[cfg(test)]
+mod filtered;
+#[cfg(test)]
 mod lending;
 #[cfg(test)]
 mod merging;

@@ -143,8 +143,8 @@ fn letter_of(kind: ValueType) -> u8 {
     }
 }
 
-// What is said of an entry that is lent.
-fn said_of_lent(entry: &EntryRef<'_>) -> Said {
+/// What is said of an entry that is lent.
+pub fn said_of_lent(entry: &EntryRef<'_>) -> Said {
     (
         byte_of(entry.user_key),
         letter_of(entry.value_type),
@@ -184,16 +184,23 @@ fn said_of_step(more: Result<bool, Error>, lent: Option<EntryRef<'_>>) -> Said {
     }
 }
 
-/// Whether what lends answers so first.
-pub fn lends_so<L: Lending + Drop>(mut source: L, wanted: &str) -> bool
-    requires { CanDeal L.advances nowhere L.can_advance L.can_advance source }
+/// Whether what lends answers so next.
+pub fn lends_next<L: Lending>(source: &mut L, wanted: &str) -> bool
+    requires { CanDeal L.advances nowhere L.can_advance L.can_advance source.old }
 {
     let mut is_right = true;
     for word in wanted.split_whitespace() {
-        let more = go_on(&mut source);
+        let more = go_on(source);
         is_right &= said_by(word) == said_of_step(more, source.entry());
     }
     is_right
+}
+
+/// Whether what lends, which is let go of, answers so first.
+pub fn lends_so<L: Lending + Drop>(mut source: L, wanted: &str) -> bool
+    requires { CanDeal L.advances nowhere L.can_advance L.can_advance source }
+{
+    lends_next(&mut source, wanted)
 }
 
 // Whether there is a word, which says an answer.
