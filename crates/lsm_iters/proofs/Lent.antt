@@ -13,7 +13,8 @@ use Rattle.sst_entries.specs.Lending.{came}
 use Rattle.sst_entries.specs.Span.{Span, rest_in}
 use Rattle.sst_entries.specs.Stream.{but_first, first, front_of, ok_results}
 use Rattle.sst_blocks.proofs.SpanLemmas.{left_empty}
-use Rattle.lsm_walks.specs.Ends.{StepAnswers, StepGives, remains_in, rest_of, span_remains, taken_at}
+use Rattle.lsm_walks.specs.Ends.{StepAnswers, StepGives, remains_in, rest_of, span_remains}
+use Rattle.lsm_walks.specs.Ends.{taken_at}
 use Rattle.lsm_walks.specs.Parts.{LoadGives}
 use Rattle.lsm_walks.specs.Walks.{WalkTakes}
 use Rattle.lsm_walks.proofs.AtEnds.{map_taken, none_taken}

@@ -1,6 +1,6 @@
 //! The entries of a table within bounds, lent from the front.
-ghost use Rattle.std.specs.Prelude.{◌≡◌, ◌∷◌, ◌+◌, ◌<◌, ◌^◌, Ok, Err, IfErr, IfOk, List, MatchOption};
-ghost use Rattle.std.specs.Prelude.{None, Some, is_some};
+ghost use Rattle.std.specs.Prelude.{◌≡◌, ◌∷◌, ◌+◌, ◌<◌, ◌^◌, Err, IfErr, IfOk, List, MatchOption};
+ghost use Rattle.std.specs.Prelude.{None, Ok, Some, is_some};
 ghost use Rattle.std.specs.Option.{option_map};
 ghost use Rattle.sst_entries.specs.Entry.{Entry};
 ghost use Rattle.sst_entries.specs.Lending.{entry_of_ref};

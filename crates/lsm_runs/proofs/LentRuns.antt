@@ -1,5 +1,5 @@
 -- One step of a reader of a run that lends its entries.
-use Rattle.std.proofs.Common.{◌≡◌, Bool, true, false, List, [], refl, sym, ap, subst, ◌∙◌, arith}
+use Rattle.std.proofs.Common.{◌≡◌, Bool, true, false, refl, sym, ap, subst, ◌∙◌, arith}
 use Rattle.std.specs.Prelude.{Option, Some, None, Result, Ok, Err, IfOk, is_some}
 use Rattle.std.specs.Option.{option_map, option_or}
 use Rattle.sst_entries.specs.declared.error.Error.{Error}
@@ -7,19 +7,19 @@ use Rattle.sst_entries.specs.declared.stream.Direction.TheVariants.{Front}
 use Rattle.sst_entries.specs.Entry.{Entry}
 use Rattle.sst_entries.specs.Lending.{came}
 use Rattle.lsm_walks.specs.declared.walk.Walk.{Walk}
-use Rattle.lsm_walks.specs.Ends.{IsOver, StepGives, remains_in}
+use Rattle.lsm_walks.specs.Ends.{IsOver, remains_in}
 use Rattle.lsm_walks.specs.Parts.{LoadGives}
-use Rattle.lsm_walks.specs.Walks.{Ended, WalkTakes}
+use Rattle.lsm_walks.specs.Walks.{WalkTakes}
 use Rattle.lsm_walks.proofs.Reaching.{Going, Reached, entered, fault, item, kept, rest, starts}
 use Rattle.lsm_iters.specs.Lending.{LendingRange, RangeLends, unlent_range}
 use Rattle.lsm_iters.specs.Lift.{lifted_told}
 use Rattle.lsm_iters.specs.Range.{Range, range_remains}
 use Rattle.lsm_iters.proofs.RangeLaws.{range_step}
-use Rattle.lsm_runs.specs.LentRun.{LendingRun, LentTables, ReaderLends, RunLends, Stands}
+use Rattle.lsm_runs.specs.LentRun.{LentTables, ReaderLends, RunLends, Stands}
 use Rattle.lsm_runs.specs.LentRun.{lending_run, lent_of_reader, lent_of_tables, over_run}
 use Rattle.lsm_runs.specs.LentRun.{range_of_reader, walk_of_tables}
 use Rattle.lsm_runs.specs.RunRange.{Unopened}
-use Rattle.lsm_runs.specs.Tables.{EndsTables, KeepsTables, coming_tables, none_unopened, run_of}
+use Rattle.lsm_runs.specs.Tables.{KeepsTables, coming_tables, none_unopened}
 use Rattle.lsm_runs.proofs.RunSteps.{R, run_gives}
 
 abbrev given : Option Entry → Option R
@@ -52,8 +52,8 @@ module _ {A : Type 0} where
   stands_there : (s : LendingRange A) (r : Option R) (t : LendingRange A) → RangeLends s r t
       → (x : R) → Stands (Some s.range) x → r ≡ Some x
   stands_there s r t step x stands =
-      let same : s.range ≡ stands.range = let is : Some s.range ≡ Some stands.range = stands.is in cc
-      in
+      let is : Some s.range ≡ Some stands.range = stands.is in
+      let same : s.range ≡ stands.range = cc in
       step.there (ap (λ (u : Range A). u.handles.sought) same ∙ stands.sought) stands.entry
       stands.others (ap (λ (u : Range A). u.front) same ∙ stands.front)
       ∙ ap (λ (u : Range A). Some (lifted_told u.of.global_seqno stands.entry)) same
@@ -136,14 +136,16 @@ module _ {A : Type 0} where
       there_kept : Reached range_remains coming_tables KeepsTables Front (walk_of_tables s)
           (walk_of_tables (with_front u o))
       there_kept = kept range_remains coming_tables KeepsTables Front (walk_of_tables s)
-          (walk_of_tables u) (walk_of_tables (with_front u o)) comes.going.reached nothing.gives refl
+          (walk_of_tables u) (walk_of_tables (with_front u o)) comes.going.reached nothing.gives
+          refl
 
       over_front : IsOver (remains_in range_remains (range_of_reader o))
       over_front = nothing.gives.answer.1
 
       -- the next table was opened
       pub comes_on : (p : Unopened) (part : Range A) (c : LendingRange A)
-          → LoadGives (range_remains {A = A}) coming_tables KeepsTables Front u.parts (Some (Ok part)) p
+          → LoadGives (range_remains {A = A}) coming_tables KeepsTables Front u.parts
+          (Some (Ok part)) p
           → c ≡ unlent_range part
           → Comes s (record u { parts = p; front = Some c })
       comes_on p part c loads is = record {
@@ -158,7 +160,8 @@ module _ {A : Type 0} where
 
       -- it could not be opened
       pub lends_fault : (p : Unopened) (e : Error)
-          → LoadGives (range_remains {A = A}) coming_tables KeepsTables Front u.parts (Some (Err e)) p
+          → LoadGives (range_remains {A = A}) coming_tables KeepsTables Front u.parts
+          (Some (Err e)) p
           → Lends s (Some (Err e)) (record u { parts = p; front = o })
       lends_fault p e loads = record {
         takes = fault (range_remains {A = A}) coming_tables KeepsTables Front (walk_of_tables s)

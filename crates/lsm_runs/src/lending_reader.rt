@@ -128,9 +128,9 @@ fn end<A: Allocator + Clone>(walk: &mut LentTables<A>)
 /// The entries of the tables of a run, one table behind another, lent from the blocks where they
 /// lie, front to back. It shares the run. A contract sees what is lent and what is left.
 ///
-/// A table is opened by the first step that needs it, once. It gives what a [`RunReader`] gives, and
-/// refuses in the same places; an entry takes no memory. After an error, [`Error::OutOfMemory`]
-/// among them, nothing more comes.
+/// A table is opened by the first step that needs it, once. It lends what a [`RunReader`] gives,
+/// and refuses in the same places; an entry takes no memory. After an error,
+/// [`Error::OutOfMemory`] among them, nothing more comes.
 #[derive(Drop)]
 pub struct LendingRunReader<A: Allocator = Global> {
     walk: LentTables<A>,
