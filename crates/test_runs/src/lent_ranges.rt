@@ -29,7 +29,8 @@ fn add_versions(
 ) -> Result<(), Error> {
     for version in (0..random(seed) % 4).rev() {
         let kind = kind_of(random(seed));
-        rows.push((key, version * RUNS + run, kind, b""))?;
+        let seqno = version.wrapping_mul(RUNS).wrapping_add(run);
+        rows.push((key, seqno, kind, b""))?;
     }
     Ok(())
 }
