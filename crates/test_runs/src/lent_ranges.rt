@@ -4,7 +4,6 @@ use sst_blocks::{Error, SeqNo, ValueType};
 use std::alloc::Global;
 use std::ops::Bound;
 use test_lent::{agree, random};
-use test_tables::large::add;
 use test_tables::rows::Row;
 use test_tables::runs::{Bounds, Tables, owned_range, run_of};
 
@@ -50,7 +49,8 @@ fn random_runs(alloc: Global, mut seed: u64) -> Result<Vec<Tables<Global>>, Erro
     let mut runs = Vec::new(alloc);
     for run in 0..RUNS {
         let rows = rows_of(alloc, &mut seed, run)?;
-        add(&mut runs, run_of(alloc, &[rows.as_slice()]))?;
+        let tables = run_of(alloc, &[rows.as_slice()])?;
+        runs.push(tables)?;
     }
     Ok(runs)
 }
