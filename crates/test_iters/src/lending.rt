@@ -3,30 +3,83 @@
 use crate::kinds::{Kind, ROWS, bytes_by, pins_index};
 use crate::ranges::range_in;
 use lsm_tables::{Iter, LendingIter};
-use sst_blocks::{Error, Lending, Slice};
+use sst_blocks::{EntryRef, Error, IterItem, Lending, Opened, Slice};
 use std::alloc::Global;
 use std::ops::Bound;
 use test_tables::runs::{ALL, Bounds};
 
-// Whether what is lent next is what is given next.
-fn is_next(by_value: &mut Iter, lending: &mut LendingIter) -> bool {
-    match by_value.next() {
-        Some(Ok(item)) => {
-            lending.advance() == Ok(true) && lending.entry() == Some(item.as_entry_ref())
-        }
-        Some(Err(error)) => lending.advance() == Err(error) && lending.entry().is_none(),
-        None => lending.advance() == Ok(false) && lending.entry().is_none(),
+trait Gives {
+    fn gives(&mut self) -> Option<IterItem<Global>>;
+
+    fn loaded(&self) -> Opened;
+}
+
+impl Gives for Iter {
+    fn gives(&mut self) -> Option<IterItem<Global>> {
+        self.next()
+    }
+
+    fn loaded(&self) -> Opened {
+        self.opened()
     }
 }
 
-// Whether a range lends what another gives, to two calls behind the end, with as many loads.
-fn agree(mut by_value: Iter, mut lending: LendingIter) -> bool {
+trait Lends {
+    // Goes on to the next entry, and whether what came and what is lent is what was given.
+    fn lends(&mut self, given: &Option<IterItem<Global>>) -> bool;
+
+    fn loaded(&self) -> Opened;
+}
+
+// Whether a step that lends answers as one that gave.
+fn is_same(
+    more: Result<bool, Error>,
+    lent: Option<EntryRef<'_>>,
+    given: &Option<IterItem<Global>>,
+) -> bool {
+    match (more, given) {
+        (Ok(true), Some(Ok(item))) => lent == Some(item.as_entry_ref()),
+        (Err(error), Some(Err(fault))) => lent.is_none() && error == *fault,
+        (Ok(false), None) => lent.is_none(),
+        _ => false,
+    }
+}
+
+impl Lends for LendingIter {
+    fn lends(&mut self, given: &Option<IterItem<Global>>) -> bool {
+        let more = self.advance();
+        is_same(more, self.entry(), given)
+    }
+
+    fn loaded(&self) -> Opened {
+        self.opened()
+    }
+}
+
+// Whether a range lends what another gives, to two calls behind the end, with as many loads. It is
+// generic in both, so that none of their parts is looked at.
+fn agree<G: Gives, L: Lends>(giving: &mut G, lending: &mut L) -> bool {
     for _ in 0..ROWS.len() + 2 {
-        if !is_next(&mut by_value, &mut lending) || by_value.opened() != lending.opened() {
+        let given = giving.gives();
+        if !lending.lends(&given) || giving.loaded() != lending.loaded() {
             return false;
         }
     }
     true
+}
+
+// The same of two ranges, once both are made.
+fn both<G: Gives + Drop, L: Lends + Drop>(
+    giving: Result<G, Error>,
+    lending: Result<L, Error>,
+) -> Result<bool, Error> {
+    let mut giving = giving?;
+    let mut lending = lending?;
+    Ok(agree(&mut giving, &mut lending))
+}
+
+fn lent(range: Result<Iter, Error>) -> Result<LendingIter, Error> {
+    Ok(range?.lend())
 }
 
 fn lends_what_it_gives(
@@ -35,9 +88,10 @@ fn lends_what_it_gives(
     pin_index: bool,
     bounds: Bounds<'_>,
 ) -> Result<bool, Error> {
-    let by_value = range_in(alloc, Ok(bytes.clone()?), pin_index, bounds)?;
-    let lending = range_in(alloc, Ok(bytes.clone()?), pin_index, bounds)?.lend();
-    Ok(agree(by_value, lending))
+    both(
+        range_in(alloc, Ok(bytes.clone()?), pin_index, bounds),
+        lent(range_in(alloc, Ok(bytes.clone()?), pin_index, bounds)),
+    )
 }
 
 const KINDS: &[Kind] = &[Kind::Loaded, Kind::OnDemand, Kind::TwoLevels, Kind::Older];

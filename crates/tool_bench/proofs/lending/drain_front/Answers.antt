@@ -5,10 +5,10 @@ use Rattle.tool_bench.proofs.lending.drain_front.Goals as goal
 
 pub advance-requires : goal.advance-requires
 advance-requires g c = can_now g.L.Lending.advances nowhere g.L.Lending.can_advance
-    g.L.Lending.can_advance c.loop-source.source c.loop-source.invariant
+    g.L.Lending.can_advance c.loop.source c.loop.invariant
 
-pub loop-source-preserved-in-Some : goal.loop-source-preserved-in-Some
-loop-source-preserved-in-Some g c = can_front g.L.Lending.advances nowhere g.L.Lending.can_advance
-    g.L.Lending.can_advance c.loop-source.source
+pub loop-preserved : goal.loop-preserved
+loop-preserved g c = can_front g.L.Lending.advances nowhere g.L.Lending.can_advance
+    g.L.Lending.can_advance c.loop.source
     (came c.advance.result (g.L.Lending.lent c.advance.new.self)) c.advance.new.self
-    c.loop-source.invariant c.advance.ensures.goes
+    c.loop.invariant c.advance.ensures.goes
