@@ -37,7 +37,8 @@ pub use Rattle.lsm_readers.specs.Answer.{lift}
 pub use Rattle.lsm_readers.specs.Stored.{BearsOut, StoresList}
 pub use Rattle.lsm_readers.specs.Table.{OpenTable}
 unfoldable pub use Rattle.lsm_readers.specs.Verify.{table_found}
-pub use Rattle.lsm_readers.specs.Words.{body_of, recovered_told}
+pub use Rattle.lsm_readers.specs.Parts.{recovered_told}
+pub use Rattle.sst_sections.specs.Sections.{body_of}
 pub use Rattle.lsm_readers.specs.declared.verify.Finding.{Finding}
 pub use Rattle.lsm_readers.specs.Verification.{bytes_read, steps_of, verifying}
 pub use Rattle.lsm_runs.specs.RunLists.{DealWithin, DealsList, HoldLists, HoldsList, RunsHoldLists}

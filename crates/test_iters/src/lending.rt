@@ -68,7 +68,7 @@ fn agree<G: Gives, L: Lends>(giving: &mut G, lending: &mut L) -> bool {
     true
 }
 
-// The same of two ranges, once both are made.
+// Whether a range lends what another gives, once both are made.
 fn both<G: Gives + Drop, L: Lends + Drop>(
     giving: Result<G, Error>,
     lending: Result<L, Error>,
