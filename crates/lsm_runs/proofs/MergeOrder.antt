@@ -78,7 +78,8 @@ StandsAt at (Err e) = Unit {0}
 abbrev IsPlaced : Placed → Type 0
 IsPlaced p = StandsAt p.at p.is
 
-places_placed : (before : Option Entry) (rs : List R) → AllByRecursion IsPlaced (places_of before rs)
+places_placed : (before : Option Entry) (rs : List R)
+    → AllByRecursion IsPlaced (places_of before rs)
 places_placed before [] = tt
 places_placed before (Ok x ∷ rs) = (refl, places_placed (Some x) rs)
 places_placed before (Err e ∷ rs) = (tt, places_placed before rs)

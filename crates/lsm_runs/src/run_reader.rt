@@ -5,7 +5,8 @@ ghost use Rattle.std.specs.Arc.{arc_value};
 ghost use Rattle.std.specs.Iterator.{at_most};
 ghost use Rattle.lsm_runs.specs.Words.{ArePlacesOf, DealsEnding, DealsList, Entry, HoldLists};
 ghost use Rattle.lsm_runs.specs.Words.{IsInOrder, IsRunOf, LendsOfAtMost, OpensAtMost, RunGives};
-ghost use Rattle.lsm_runs.specs.Words.{back_of, back_tables, ends_given, front_of, front_tables, joined};
+ghost use Rattle.lsm_runs.specs.Words.{back_of, back_tables, ends_given, front_of};
+ghost use Rattle.lsm_runs.specs.Words.{front_tables, joined};
 ghost use Rattle.lsm_runs.specs.Words.{overlap_indexes, run_left, run_size, span_list, span_of};
 ghost use Rattle.lsm_runs.specs.Words.{nowhere, tables_at, taken_at, unlent_run, within};
 
