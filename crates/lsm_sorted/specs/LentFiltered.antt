@@ -117,9 +117,9 @@ module _ {F C : Type 0} (gives : F → Entry → Result Verdict Error → F → 
 
   module _ (advances : S → Option R → S → Type 0) (lent : S → Option Entry)
       (s : FilteredLendingCompaction S F C A) where
-    -- a step gave r, or nothing yet: what the source answered in it, whether an error ends the
-    -- stream, and whether it asks on; and that, and what a compaction does from t on, is what one
-    -- does from s on
+    -- a step gave r, or nothing yet: what the source answered in it, and whether an error ends the
+    -- stream; and r, and what a compaction does from t on, is what one does from s on, whatever the
+    -- source has still to deal
     pub record StepsFiltered (r : Option R) (t : FilteredLendingCompaction S F C A) : Type 0 where
       pub answers : List (Option R)
       pub gave : GaveEach advances s.source answers t.source
@@ -148,16 +148,16 @@ module _ {F C : Type 0} (gives : F → Entry → Result Verdict Error → F → 
       pub ended : r ≡ None → t.is_pending ≡ false → EndsIn None step.answers
       pub idle : s.is_pending ≡ false → NothingCame step.answers → r ≡ None
 
-    -- a call that answered r: nothing only where the source did, and where it did nothing else,
-    -- unless something waited to be looked at; and without an entry nothing waits
+    -- a call that answered r: nothing, where the source answered nothing at last; nothing too where
+    -- nothing waited to be looked at and no more came; and behind any but an entry nothing waits
     pub record CallsFiltered (r : Option R) (t : FilteredLendingCompaction S F C A) : Type 0 where
       pub step : StepsFiltered r t
       pub ended : r ≡ None → EndsIn None step.answers
       pub idle : s.is_pending ≡ false → NothingCame step.answers → r ≡ None
       pub rests : is_entry r ≡ false → t.is_pending ≡ false
 
--- one call: it may be asked again; one that is over stays so, answers nothing and leaves its source
--- alone
+-- one call: it may be asked again; one that is over stays so, answers nothing and leaves its source,
+-- its filter and its callback alone
 pub record AdvancesFiltered {S : Type 0} (advances : S → Option R → S → Type 0)
     (lent : S → Option Entry) (can : S → Type 0) {F C A : Type 0}
     (gives : F → Entry → Result Verdict Error → F → Type 0) (gets : C → Entry → C → Type 0)
@@ -166,6 +166,7 @@ pub record AdvancesFiltered {S : Type 0} (advances : S → Option R → S → Ty
   pub may : MayFilter advances can t
   pub live : s.is_over ≡ false → CallsFiltered gives gets advances lent s r t
   pub ended : s.is_over ≡ true → (r ≡ None) × (t.is_over ≡ true) × (t.source ≡ s.source)
+      × (t.filter ≡ s.filter) × (t.callback ≡ s.callback)
 
 -- a source deals these entries, without errors
 abbrev pub DealsEntries : {S : Type 0} → (S → Option R → S → Type 0) → (Error → Bool) → S
@@ -185,8 +186,8 @@ pub record CompactsLent {S T F C : Type 0} (advances : S → Option R → S → 
       → Compacted gives gets rules f c (ok_results xs) gave (filter_in u) (callback_in u)
 
 -- of any list of results that the source deals: calls up to the one where nothing comes give, ask
--- and report what a compaction that lends does of it; and calls up to an error what one does of
--- what the source does not still deal, that error among it
+-- and report what a compaction that lends does of it; and calls up to an error, that error among
+-- what they give, do so of a part in front, and the rest is what the source has still to deal
 pub record CompactsLentResults {S T F C : Type 0} (advances : S → Option R → S → Type 0)
     (source : S) (next : T → Option R → T → Type 0) (s : T) (rules : Rules)
     (gives : F → Entry → Result Verdict Error → F → Type 0) (gets : C → Entry → C → Type 0) (f : F)
