@@ -444,9 +444,9 @@ impl<
                 self.is_pending = false;
                 Ok(false)
             }
-            Err(error) => {
+            Err(refused) => {
                 self.is_pending = false;
-                Err(error)
+                Err(refused)
             }
         }
     }

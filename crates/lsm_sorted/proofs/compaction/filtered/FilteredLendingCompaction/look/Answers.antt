@@ -79,9 +79,9 @@ returns-in-Err-clause-steps g c =
     let is : lent s.source ≡ Some head = sym c.entry.ensures ∙ ap (option_map entry_of_ref) c.in-Some.is in
     let fresh = sym c.is_given.ensures ∙ c.if-is_given.false in
     let f = c.filter_ref.new.self in
-    looks_failed g.F.LentFilter.gives g.C.LentCallback.gets g.L.Lending.advances lent s (judged_by s f s.callback) _ c.requires.pending head is fresh (Err c.in-Err.error)
-    (asked_of_it g.F.LentFilter.gives s.filter f head (Err c.in-Err.error) (sym c.is_tombstone.ensures ∙ c.if-is_tombstone.false) c.in-Err.ensures)
-    refl refl refl refl refl refl c.requires.live refl c.in-Err.error refl c.in-Err.ensures
+    looks_failed g.F.LentFilter.gives g.C.LentCallback.gets g.L.Lending.advances lent s (judged_by s f s.callback) _ c.requires.pending head is fresh (Err c.in-Err.refused)
+    (asked_of_it g.F.LentFilter.gives s.filter f head (Err c.in-Err.refused) (sym c.is_tombstone.ensures ∙ c.if-is_tombstone.false) c.in-Err.ensures)
+    refl refl refl refl refl refl c.requires.live refl c.in-Err.refused refl c.in-Err.ensures
 
 pub returns-in_default-clause-steps : goal.returns-in_default-clause-steps
 returns-in_default-clause-steps g c =
