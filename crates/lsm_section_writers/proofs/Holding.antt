@@ -365,6 +365,11 @@ rest_fault_for result w given key policy hashes h some same held fault =
     ∙ ap (λ (hs : List ℕ). fault_for (tenths_of policy) (length hs)) (sym held) in
     subst (λ x. Faults result x) (sym told) fault
 
+-- the last key that is taken is the one that was kept
+pub taken_key : (kept taken : Option (List ℕ)) (key : List ℕ) {end_key : List ℕ}
+    → kept ≡ Some key → taken ≡ kept → taken ≡ Some end_key → end_key ≡ key
+taken_key kept taken key is same some = let e = sym some ∙ same ∙ is in cc
+
 pub some_is_not_none : (last : Option (List ℕ)) (key : List ℕ) → last ≡ Some key → last ≡ None → ⊥
 some_is_not_none last key some none = let e : Some key ≡ None = sym some ∙ none in cc
 
