@@ -1,13 +1,11 @@
 -- Handles whose end keys lie among others: one more, and all of them as they were told.
-use Rattle.std.proofs.Common.{◌≡◌, refl, sym, ◌∙◌, ap, ap₂, subst, ℕ, ◌+◌, ◌-◌, ◌<◌, ◌≤◌, List, []}
-use Rattle.std.proofs.Common.{◌∷◌, ◌++◌, length, take, drop, map, arith, length-append, length-drop}
-use Rattle.std.specs.Prelude.{slice_range, unwrap_or, Some, Option}
-use Rattle.std.specs.List.{AllByRecursion}
-use Rattle.std.proofs.lemmas.List.{drop-append-le, take-append-le, take_all, append-nil}
+use Rattle.std.proofs.Common.{◌≡◌, refl, sym, ◌∙◌, ap, ap₂, subst, ℕ, ◌-◌, ◌≤◌, List, []}
+use Rattle.std.proofs.Common.{◌∷◌, ◌++◌, length, take, drop, arith, length-append, length-drop}
+use Rattle.std.specs.Prelude.{slice_range}
+use Rattle.std.proofs.lemmas.List.{drop-append-le, take-append-le, take_all}
 use Rattle.std.proofs.Math.Seq.{drop-append_seam}
 use Rattle.sst_entries.proofs.Lists.{all_append, all_more}
 use Rattle.sst_blocks.specs.Handle.{Handle}
-use Rattle.sst_blocks.specs.Place.{Place}
 use Rattle.lsm_section_writers.specs.Kept.{AreAmong, IsAmong, handle_among, handle_with}
 use Rattle.lsm_section_writers.specs.Kept.{handles_among}
 use Rattle.lsm_section_writers.specs.declared.kept.HandlePlace.{HandlePlace}

@@ -1,10 +1,10 @@
 -- The key fills a part, or waits.
-use Rattle.std.proofs.Common.{◌++◌, ◌∷◌, [], ap, refl, sym, ◌∙◌, List, ℕ}
+use Rattle.std.proofs.Common.{◌++◌, ◌∷◌, [], ap, refl, ◌∙◌, List, ℕ}
 use Rattle.sst_blocks.proofs.Faults.{on_ok}
 use Rattle.std.proofs.lemmas.List.{append-nil}
 use Rattle.lsm_section_writers.specs.Held.{as_list, CutParts, end_keys}
 use Rattle.lsm_section_writers.proofs.RisingLaws.{rising_front}
-use Rattle.lsm_section_writers.proofs.Holding.{cuts_fault, pushed_cuts, pushed_waits, taken_key, waits_fault, waits_rising}
+use Rattle.lsm_section_writers.proofs.Holding.{pushed_cuts, pushed_waits, taken_key}
 use Rattle.lsm_section_writers.proofs.filter_partitioned.PartitionedFilterWriter.push_key.Goals as goal
 
 pub invariant_of-self-in-Some : goal.invariant_of-self-in-Some

@@ -1,5 +1,5 @@
 -- The handle's key lies at the end.
-use Rattle.std.proofs.Common.{◌≡◌, ◌∙◌, ap, List, [], ◌∷◌, ◌++◌, unwrap_or}
+use Rattle.std.proofs.Common.{◌∙◌, ap, List, [], ◌∷◌, ◌++◌, unwrap_or}
 use Rattle.sst_entries.proofs.StreamLemmas.{on_err}
 use Rattle.sst_blocks.specs.Handle.{Handle}
 use Rattle.lsm_section_writers.specs.Kept.{handle_with, handles_among}
