@@ -4,7 +4,7 @@ use Rattle.std.proofs.Common.{[], ◌∷◌, drop, length, refl, sym, ap, subst,
 use Rattle.std.proofs.lemmas.Bool.{ltb-false}
 use Rattle.std.specs.Prelude.{Option, Some, None, Result, Ok, Err, is_some, nat_lt}
 use Rattle.std.specs.Prelude.{IfErr, IfOk, if◌then◌else◌}
-use Rattle.std.specs.Option.{option_map, option_or}
+use Rattle.std.specs.Option.{option_map}
 use Rattle.sst_entries.specs.declared.error.Error.{Error}
 use Rattle.sst_entries.specs.declared.error.Error.TheVariants.{OutOfMemory, SeqNoOverflow}
 use Rattle.sst_entries.specs.declared.stream.Direction.TheVariants.{Front}
@@ -13,7 +13,8 @@ use Rattle.sst_entries.specs.Lending.{came}
 use Rattle.sst_entries.specs.Span.{Span, rest_in}
 use Rattle.sst_entries.specs.Stream.{but_first, first, front_of, ok_results}
 use Rattle.sst_blocks.proofs.SpanLemmas.{left_empty}
-use Rattle.lsm_walks.specs.Ends.{StepAnswers, StepGives, remains_in, rest_of, span_remains, taken_at}
+use Rattle.lsm_walks.specs.Ends.{StepAnswers, StepGives, remains_in, rest_of, span_remains}
+use Rattle.lsm_walks.specs.Ends.{taken_at}
 use Rattle.lsm_walks.specs.Parts.{LoadGives}
 use Rattle.lsm_walks.specs.Walks.{WalkTakes}
 use Rattle.lsm_walks.proofs.AtEnds.{map_taken, none_taken}
@@ -29,6 +30,7 @@ use Rattle.lsm_iters.specs.Lift.{lifted, lifted_told, number_told}
 use Rattle.lsm_iters.specs.Range.{Range, RangeGives, front_next, left_in}
 use Rattle.lsm_iters.specs.Rows.{Bounded}
 use Rattle.lsm_iters.specs.Steps.{LoadsNone, SeeksOnce, lifted_answer, stopped}
+use Rattle.lsm_iters.proofs.Moved.{none_to_come, takes_moved}
 use Rattle.lsm_iters.proofs.Ranges.{R}
 use Rattle.lsm_iters.proofs.Walked.{W, walk_refused, walk_steps}
 
@@ -172,7 +174,7 @@ module _ {A : Type 0} where
     lends_item some =
         let l = some_there (lent_in o) some in
         let was : Some (Ok l.0) ≡ came (Ok true) (lent_stored (with_front u o)) =
-        ap (λ (k : Option Entry). given (option_or k (lent_in u.back))) (sym l.1) in
+        ap given (sym l.1) in
         record {
           takes = subst (λ (r : Option R). Takes_to (walk_of_lent s) r
               (walk_of_lent (with_front u o))) was
@@ -225,26 +227,23 @@ module _ {A : Type 0} where
         there = λ x es here. absurd (none_here x es here);
       }
 
-      -- none is to come, and the block at the back is left
+      -- none is to come, and the block at the back is left, and comes to the front
       pub lends_rest : (p : Blocks A) (b : Option LentSpan) (more : Bool)
           → LoadGives span_remains coming_blocks KeepsBlocks Front u.parts None p
           → LendsFirst u.back b
-          → Lends s (came (Ok more) (lent_stored (record u { parts = p; front = o; back = b })))
-          (record u { parts = p; front = o; back = b })
-      lends_rest p b more loads last =
-          let was : given (lent_in b) ≡ came (Ok more)
-          (lent_stored (record u { parts = p; front = o; back = b })) =
-          ap (λ (k : Option Entry). given (option_or k (lent_in b))) (sym none) in
-          record {
-            takes = subst (λ (r : Option R). Takes_to (walk_of_lent s) r
-                (walk_of_lent (record u { parts = p; front = o; back = b }))) was
-                (rest span_remains coming_blocks KeepsBlocks Front (walk_of_lent s)
-                (walk_of_lent (with_front u o)) (walk_of_lent (record u { parts = p; front = o }))
-                (walk_of_lent (record u { parts = p; front = o; back = b })) (given (lent_in b))
-                there_kept (step_is None none).answer.1 loads refl refl
-                (lent_step (span_in u.back) (span_in b) (lent_in b) last) refl);
-            there = λ x es here. absurd (none_here x es here);
-          }
+          → Lends s (came (Ok more) (lent_in b)) (record { parts = p; front = b; back = o })
+      lends_rest p b more loads last = record {
+        takes = takes_moved span_remains coming_blocks KeepsBlocks (walk_of_lent s)
+            (walk_of_lent (record { parts = p; front = o; back = b })) over_front
+            (none_to_come span_remains coming_blocks KeepsBlocks u.parts p loads)
+            (given (lent_in b))
+            (rest span_remains coming_blocks KeepsBlocks Front (walk_of_lent s)
+            (walk_of_lent (with_front u o)) (walk_of_lent (record u { parts = p; front = o }))
+            (walk_of_lent (record u { parts = p; front = o; back = b })) (given (lent_in b))
+            there_kept (step_is None none).answer.1 loads refl refl
+            (lent_step (span_in u.back) (span_in b) (lent_in b) last) refl);
+        there = λ x es here. absurd (none_here x es here);
+      }
 
 -- ---- a number that is lifted
 

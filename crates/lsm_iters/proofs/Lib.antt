@@ -6,5 +6,6 @@ pub mod Lifts
 pub mod Naming
 pub mod Walked
 pub mod RangeLaws
+pub mod Moved
 pub mod Lent
 pub mod LentLaws

@@ -1,6 +1,6 @@
 -- A range of a table that lends its entries, from the front.
 use Rattle.std.specs.Prelude.{◌≡◌, true, List, ◌∷◌, Option, Some, None, Result}
-use Rattle.std.specs.Option.{option_map, option_or}
+use Rattle.std.specs.Option.{option_map}
 use Rattle.sst_entries.specs.declared.error.Error.{Error}
 use Rattle.sst_entries.specs.Entry.{Entry}
 use Rattle.sst_entries.specs.Span.{Span}
@@ -49,9 +49,9 @@ walk_of_lent w = record {
   back = span_in w.back;
 }
 
--- the entry that is lent, as it is stored
+-- the entry that is lent, as it is stored: only the block at the front lends
 abbrev pub lent_stored : {A : Type 0} → LentWalk A → Option Entry
-lent_stored w = option_or (lent_in w.front) (lent_in w.back)
+lent_stored w = lent_in w.front
 
 -- ---- the range
 

@@ -49,6 +49,7 @@ impl<A: Allocator> Model for Blocks<A> {
 impl<A: Allocator + Clone> Blocks<A> {
     /// Seeks the edges of the bounds, where they were not sought yet. Refused
     /// [`Error::OutOfMemory`] alone.
+    #[inline(always)]
     pub fn initialize(&mut self) -> Result<(), Error>
         ensures ok { let low = lower_edge self.old.of.low in
             let high = upper_edge self.old.of.high in

@@ -47,7 +47,8 @@ impl<A: Allocator + Clone> Handles<A> {
     }
 
     /// Seeks the edges of two bounds, where they were not sought yet. Refused
-    /// [`Error::OutOfMemory`] alone.
+    /// [`Error::OutOfMemory`] alone. Each step asks for it, and only the first seeks.
+    #[inline(always)]
     pub fn seek(&mut self, lower: &Option<Bound<A>>, upper: &Option<Bound<A>>) -> Result<(), Error>
         ensures ok { let low = lower_edge (edge_in lower.now) in
             let high = upper_edge (edge_in upper.now) in
@@ -62,6 +63,25 @@ impl<A: Allocator + Clone> Handles<A> {
         if self.sought {
             return Ok(());
         }
+        self.seek_edges(lower, upper)
+    }
+
+    // Seeks them, which were not sought yet.
+    #[inline(never)]
+    fn seek_edges(
+        &mut self,
+        lower: &Option<Bound<A>>,
+        upper: &Option<Bound<A>>,
+    ) -> Result<(), Error>
+        requires { self.old.sought ≡ false }
+        ensures ok { let low = lower_edge (edge_in lower.now) in
+            let high = upper_edge (edge_in upper.now) in
+            OnOk result (SeeksOnce self.old self.new low high) }
+        ensures none { LoadsNone (left_in self.old) (left_in self.new) }
+        ensures sought { self.new.sought ≡ true }
+        ensures refused { OnErr result (TakesMemory self.old.iter) }
+        ensures err { IfErr result (λ e. e ≡ OutOfMemory) }
+    {
         self.sought = true;
         seek_lower(&mut self.iter, lower)?;
         seek_upper(&mut self.iter, upper)

@@ -1,6 +1,6 @@
 //! The entries of a table within bounds, lent from the front.
-ghost use Rattle.std.specs.Prelude.{◌≡◌, ◌∷◌, ◌+◌, ◌<◌, ◌^◌, Ok, Err, IfErr, IfOk, List, MatchOption};
-ghost use Rattle.std.specs.Prelude.{None, Some, is_some};
+ghost use Rattle.std.specs.Prelude.{◌≡◌, ◌∷◌, ◌+◌, ◌<◌, ◌^◌, Ok, Err, IfErr, IfOk, List};
+ghost use Rattle.std.specs.Prelude.{MatchOption, None, Some, is_some};
 ghost use Rattle.std.specs.Option.{option_map};
 ghost use Rattle.sst_entries.specs.Entry.{Entry};
 ghost use Rattle.sst_entries.specs.Lending.{entry_of_ref};
@@ -54,7 +54,7 @@ fn put<A: Allocator>(part: &mut Option<SpanCursor<A>>, next: SpanCursor<A>)
 }
 
 // The entry that is lent of a block, where one is loaded.
-#[inline]
+#[inline(always)]
 fn entry_in<A: Allocator>(part: &Option<SpanCursor<A>>) -> Option<EntryRef<'_>>
     ensures { option_map entry_of_ref result ≡ lent_in part.now }
 {
@@ -77,14 +77,22 @@ fn lent_walk<A: Allocator>(walk: Walk<Blocks<A>, OwnedDataBlockIter<A>>) -> Lent
 }
 
 // The entry that is lent, as it is stored.
-#[inline]
+#[inline(always)]
 fn stored<A: Allocator>(walk: &LentWalk<A>) -> Option<EntryRef<'_>>
     ensures { option_map entry_of_ref result ≡ lent_stored walk.now }
 {
-    match entry_in(&walk.front) {
-        Some(entry) => Some(entry),
-        None => entry_in(&walk.back),
-    }
+    entry_in(&walk.front)
+}
+
+// Goes on to the next entry of the block at the back, where no other is left, and answers whether
+// there is one. The block comes to the front, so that only what stands there ever lends.
+fn advance_last<A: Allocator>(walk: &mut LentWalk<A>) -> bool
+    ensures is { walk.new ≡ record walk.old { front = walk.new.front; back = walk.old.front } }
+    ensures first { LendsFirst walk.old.back walk.new.front }
+    ensures more { result ≡ is_some (lent_stored walk.new) }
+{
+    mem::swap(&mut walk.front, &mut walk.back);
+    advance_in(&mut walk.front)
 }
 
 // Goes on to the next entry, as it is stored, and answers whether there is one. A block is let go
@@ -103,7 +111,7 @@ fn step<A: Allocator + Clone>(walk: &mut LentWalk<A>) -> Result<bool, Error>
         match walk.parts.load(Direction::Front) {
             Some(Ok(part)) => put(&mut walk.front, part.into_cursor()),
             Some(Err(error)) => return Err(error),
-            None => return Ok(advance_in(&mut walk.back)),
+            None => return Ok(advance_last(walk)),
         }
     }
 }
@@ -221,7 +229,8 @@ impl<A: Allocator + Clone> Lending for LendingIter<A> {
         }
     }
 
-    #[inline]
+    // Always inlined, as all that it calls: a merger asks for it at each comparison.
+    #[inline(always)]
     fn entry(&self) -> Option<EntryRef<'_>> {
         match stored(&self.walk) {
             None => None,

@@ -6,6 +6,7 @@ use sst_blocks::{Error, SeqNo};
 
 /// A stored number with the global number added. Refused [`Error::SeqNoOverflow`] where the sum
 /// passes `u64`. No memory is taken.
+#[inline]
 pub fn lift_seqno(seqno: SeqNo, global_seqno: SeqNo) -> Result<SeqNo, Error>
     ensures { result ≡ number_told global_seqno seqno }
 {

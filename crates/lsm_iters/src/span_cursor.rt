@@ -65,7 +65,7 @@ impl<A: Allocator> SpanCursor<A> {
     }
 
     /// The entry that is lent.
-    #[inline]
+    #[inline(always)]
     pub fn entry(&self) -> Option<EntryRef<'_>>
         ensures { option_map entry_of_ref result ≡ self.now.lent }
     {

@@ -1,7 +1,7 @@
 -- One step of a reader of a run that lends its entries.
 use Rattle.std.proofs.Common.{◌≡◌, Bool, true, false, List, [], refl, sym, ap, subst, ◌∙◌, arith}
-use Rattle.std.specs.Prelude.{Option, Some, None, Result, Ok, Err, IfOk, is_some}
-use Rattle.std.specs.Option.{option_map, option_or}
+use Rattle.std.specs.Prelude.{Option, Some, None, Result, Ok, Err, is_some}
+use Rattle.std.specs.Option.{option_map}
 use Rattle.sst_entries.specs.declared.error.Error.{Error}
 use Rattle.sst_entries.specs.declared.stream.Direction.TheVariants.{Front}
 use Rattle.sst_entries.specs.Entry.{Entry}
@@ -14,6 +14,7 @@ use Rattle.lsm_walks.proofs.Reaching.{Going, Reached, entered, fault, item, kept
 use Rattle.lsm_iters.specs.Lending.{LendingRange, RangeLends, unlent_range}
 use Rattle.lsm_iters.specs.Lift.{lifted_told}
 use Rattle.lsm_iters.specs.Range.{Range, range_remains}
+use Rattle.lsm_iters.proofs.Moved.{none_to_come, takes_moved}
 use Rattle.lsm_iters.proofs.RangeLaws.{range_step}
 use Rattle.lsm_runs.specs.LentRun.{LendingRun, LentTables, ReaderLends, RunLends, Stands}
 use Rattle.lsm_runs.specs.LentRun.{lending_run, lent_of_reader, lent_of_tables, over_run}
@@ -32,16 +33,6 @@ some_there (Some e) is = (e, refl)
 pub none_there : (l : Option Entry) → is_some l ≡ false → l ≡ None
 none_there None is = refl
 none_there (Some e) is = let wrong : true ≡ false = is in absurd cc
-
--- what is lent at the front, or else at the back
-pub front_lent : (l k : Option Entry) → is_some l ≡ true → true ≡ is_some (option_or l k)
-front_lent None k is = let wrong : false ≡ true = is in absurd cc
-front_lent (Some e) k is = refl
-
-pub back_lent : (r : Result Bool Error) (l k : Option Entry) → l ≡ None
-    → IfOk r (λ more. more ≡ is_some k) → IfOk r (λ more. more ≡ is_some (option_or l k))
-back_lent r l k none more =
-    subst (λ (o : Option Entry). IfOk r (λ b. b ≡ is_some (option_or o k))) (sym none) more
 
 -- ---- the reader of one table
 
@@ -120,8 +111,8 @@ module _ {A : Type 0} where
         let l = some_there (lent_of_reader o) some in
         let here : ReaderLends u.front (Some (Ok l.0)) o =
         subst (λ (k : Option Entry). ReaderLends u.front (given k) o) l.1 lends in
-        subst (λ (k : Option Entry). Lends s (given (option_or k (lent_of_reader u.back)))
-        (with_front u o)) (sym l.1) (lends_item (Ok l.0) here)
+        subst (λ (k : Option Entry). Lends s (given k) (with_front u o)) (sym l.1)
+        (lends_item (Ok l.0) here)
 
     -- or the table has no more
     module _ (none : lent_of_reader o ≡ None)
@@ -168,23 +159,22 @@ module _ {A : Type 0} where
         there = λ x stands. absurd (none_here x stands);
       }
 
-      -- none is to come, and the table at the back is left
+      -- none is to come, and the table at the back is left, and comes to the front
       pub lends_rest : (p : Unopened) (b : Option (LendingRange A)) (r : Result Bool Error)
           → LoadGives (range_remains {A = A}) coming_tables KeepsTables Front u.parts None p
           → ReaderLends u.back (came r (lent_of_reader b)) b
-          → Lends s (came r (lent_of_tables (record u { parts = p; front = o; back = b })))
-          (record u { parts = p; front = o; back = b })
-      lends_rest p b r loads last =
-          subst (λ (k : Option Entry). Lends s (came r (option_or k (lent_of_reader b)))
-          (record u { parts = p; front = o; back = b })) (sym none)
-          (record {
-            takes = rest (range_remains {A = A}) coming_tables KeepsTables Front (walk_of_tables s)
-                (walk_of_tables (with_front u o))
-                (walk_of_tables (record u { parts = p; front = o }))
-                (walk_of_tables (record u { parts = p; front = o; back = b }))
-                (came r (lent_of_reader b)) there_kept over_front loads refl refl last.gives refl;
-            there = λ x stands. absurd (none_here x stands);
-          })
+          → Lends s (came r (lent_of_reader b)) (record { parts = p; front = b; back = o })
+      lends_rest p b r loads last = record {
+        takes = takes_moved (range_remains {A = A}) coming_tables KeepsTables (walk_of_tables s)
+            (walk_of_tables (record { parts = p; front = o; back = b })) over_front.results
+            (none_to_come (range_remains {A = A}) coming_tables KeepsTables u.parts p loads)
+            (came r (lent_of_reader b))
+            (rest (range_remains {A = A}) coming_tables KeepsTables Front (walk_of_tables s)
+            (walk_of_tables (with_front u o)) (walk_of_tables (record u { parts = p; front = o }))
+            (walk_of_tables (record { parts = p; front = o; back = b }))
+            (came r (lent_of_reader b)) there_kept over_front loads refl refl last.gives refl);
+        there = λ x stands. absurd (none_here x stands);
+      }
 
   -- ---- the run
 

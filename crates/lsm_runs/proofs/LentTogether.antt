@@ -9,18 +9,20 @@ use Rattle.sst_entries.specs.Stream.{Deals, Runs, answer_stops, front_of, nowher
 use Rattle.std.specs.Prelude.{nat_lt}
 use Rattle.lsm_formats.specs.Chunks.{joined}
 use Rattle.lsm_merge.specs.Ends.{R}
-use Rattle.lsm_merge.specs.MergeLaws.{DealSorted, DealsMerged}
+use Rattle.lsm_merge.specs.InPlace.{merge_of}
+use Rattle.lsm_merge.specs.MergeLaws.{DealSorted, DealsInPlace, DealsMerged}
 use Rattle.lsm_merge.specs.Union.{all_entries, newest, sort_entries, union_of}
 use Rattle.lsm_merge.proofs.UnionLemmas.{ascends_in_order}
 use Rattle.lsm_sorted.specs.Below.{below_of, numbered_below}
-use Rattle.lsm_sorted.specs.LentNewest.{DealsNewestEntries}
+use Rattle.lsm_sorted.specs.LentNewest.{DealsNewestEntries, DealsNewestResults}
 use Rattle.lsm_sorted.specs.declared.below.Below.{Below}
 use Rattle.lsm_sorted.proofs.BelowLemmas.{below_entries, deals_in_front}
 use Rattle.lsm_runs.specs.LentBelow.{LendsBelow, MayLendBelow}
 use Rattle.lsm_runs.specs.LentNewestRuns.{LendsNewest}
-use Rattle.lsm_runs.specs.LentRun.{LendingRun, RunLends}
+use Rattle.lsm_runs.specs.LentRun.{LendingRun, LendsOfAtMost, RunLends}
 use Rattle.lsm_runs.specs.RunLists.{DealTogether, DealsList}
-use Rattle.lsm_runs.specs.RunRange.{RunGives, RunRange, front_tables}
+use Rattle.lsm_runs.specs.RunRange.{OpensAtMost, RunGives, RunRange, front_tables}
+use Rattle.lsm_runs.proofs.MergeOrder.{merged_ascends}
 use Rattle.lsm_runs.proofs.Numbered.{each_ascends as numbered_ascend, numbered_joined}
 use Rattle.lsm_runs.proofs.Together.{each_ascends, each_deals}
 use Rattle.lsm_runs.proofs.Unions.{entries_joined, filter_sorted, no_errors_joined}
@@ -46,6 +48,11 @@ module _ {A : Type 0} (back : RunRange A → Option R → RunRange A → Type 0)
     answers = λ ends rs t runs fine.
         (deals stops memory).answers ends rs t.run (gives_along ends rs s t runs) fine;
   }
+
+  -- and opens no more tables
+  pub lends_few : (s : LendingRun A) (most : ℕ) → OpensAtMost Gives back most s.run
+      → LendsOfAtMost RunLends most s
+  lends_few s most few ends rs t runs = few ends rs t.run (gives_along ends rs s t runs)
 
 -- ---- below a bound
 
@@ -89,11 +96,15 @@ module _ (bound : ℕ) {S : Type 0} (advances : S → Option R → S → Type 0)
 pub lends_newest : {S M T : Type 0} (advances : S → Option R → S → Type 0) (its : List S)
     (merged : M → Option R → M → Type 0) (m : M) (next : T → Option R → T → Type 0) (t : T)
     → DealsMerged advances nowhere its merged nowhere m → DealsNewestEntries merged m next t
+    → DealsInPlace advances nowhere its merged nowhere m → DealsNewestResults merged m next t
     → LendsNewest advances its next t
-lends_newest advances its merged m next t both news = record {
+lends_newest advances its merged m next t both news placed results = record {
   deals = λ stops lists memory sorted none.
       news.deals stops (union_of lists) memory (ascends_in_order (all_entries lists))
       (both.deals stops lists sorted none);
+  places = λ stops lists memory sorted.
+      results.deals stops (merge_of lists) memory (merged_ascends lists)
+      (placed.deals stops lists sorted);
 }
 
 newest_lent : {S T : Type 0} (advances : S → Option R → S → Type 0)

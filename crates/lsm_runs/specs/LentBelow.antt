@@ -1,5 +1,5 @@
 -- Of a source that lends the entries numbered below a bound, and its errors.
-use Rattle.std.specs.Prelude.{ℕ, Bool, true, nat_lt, Option, Some, None}
+use Rattle.std.specs.Prelude.{ℕ, Bool, true, nat_lt, Option, Some, None, if◌then◌else◌}
 use Rattle.std.specs.Iterator.{at_most}
 use Rattle.sst_entries.specs.Entry.{Entry}
 use Rattle.sst_entries.specs.Stream.{nowhere}
@@ -11,6 +11,15 @@ use Rattle.lsm_sorted.specs.declared.below.Below.{Below}
 abbrev pub lent_passes : ℕ → Option Entry → Bool
 lent_passes bound None = true
 lent_passes bound (Some e) = nat_lt e.seqno bound
+
+-- of an entry that may be lent what passes
+abbrev pub only_below : ℕ → Option Entry → Option Entry
+only_below bound None = None
+only_below bound (Some e) = if nat_lt e.seqno bound then Some e else None
+
+-- what is lent: of what the source lends what is below the bound
+abbrev pub lent_below : {S : Type 0} → (S → Option Entry) → Below S → Option Entry
+lent_below lent b = only_below b.seqno (lent b.iter)
 
 module _ {S : Type 0} (advances : S → Option R → S → Type 0) (can : S → Type 0) (left : S → ℕ) where
   -- the source may be asked

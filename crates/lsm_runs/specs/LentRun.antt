@@ -1,10 +1,11 @@
 -- A reader of a run that lends its entries, from the front.
-use Rattle.std.specs.Prelude.{◌≡◌, true, List, ◌∷◌, Option, Some, None, Result}
-use Rattle.std.specs.Option.{option_map, option_or}
+use Rattle.std.specs.Prelude.{◌≡◌, ℕ, ◌≤◌, true, List, ◌∷◌, Option, Some, None, Result}
+use Rattle.std.specs.Option.{option_map}
 use Rattle.sst_entries.specs.declared.error.Error.{Error}
+use Rattle.sst_entries.specs.declared.stream.Direction.{Direction}
 use Rattle.sst_entries.specs.declared.stream.Direction.TheVariants.{Front}
 use Rattle.sst_entries.specs.Entry.{Entry}
-use Rattle.sst_entries.specs.Stream.{front_of}
+use Rattle.sst_entries.specs.Stream.{Runs, front_of, nowhere}
 use Rattle.lsm_walks.specs.declared.walk.Walk.{Walk}
 use Rattle.lsm_walks.specs.Ends.{StepGives, remains_in}
 use Rattle.lsm_iters.specs.Lending.{LendingRange}
@@ -54,9 +55,9 @@ walk_of_tables w = record {
   back = range_of_reader w.back;
 }
 
--- the entry that is lent
+-- the entry that is lent: only the table at the front lends
 abbrev pub lent_of_tables : {A : Type 0} → LentTables A → Option Entry
-lent_of_tables w = option_or (lent_of_reader w.front) (lent_of_reader w.back)
+lent_of_tables w = lent_of_reader w.front
 
 -- ---- the run
 
@@ -86,3 +87,10 @@ pub record RunLends {A : Type 0} (s : LendingRun A) (r : Option (Result Entry Er
     (t : LendingRun A) : Type 0 where
   pub gives : RunGives front_of front_tables s.run r t.run
   pub there : (x : Result Entry Error) → Stands s.run.front x → r ≡ Some x
+
+-- wherever it goes on no more tables were opened than so many
+abbrev pub LendsOfAtMost : {A : Type 0} (advances : LendingRun A → Option (Result Entry Error)
+    → LendingRun A → Type 0) → ℕ → LendingRun A → Type 0
+LendsOfAtMost {A} advances most s =
+    (ends : List Direction) (rs : List (Option (Result Entry Error))) (t : LendingRun A) →
+    Runs advances nowhere s ends rs t → t.run.unopened.opened ≤ most

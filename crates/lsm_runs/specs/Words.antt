@@ -10,13 +10,15 @@ pub use Rattle.lsm_block_indexes.specs.Dealt.{DealsEnding}
 pub use Rattle.lsm_formats.specs.Chunks.{joined}
 pub use Rattle.lsm_formats.specs.Facts.{highest_seqno}
 pub use Rattle.lsm_formats.specs.Options.{default_options}
-pub use Rattle.lsm_merge.specs.Union.{item_cmp, newest}
+pub use Rattle.lsm_merge.specs.InPlace.{merge_of}
+pub use Rattle.lsm_merge.specs.Union.{Ascends, entries_among, item_cmp, newest}
 pub use Rattle.lsm_ranges.specs.Run.{ArePlacesOf, IsInOrder, overlap_indexes}
 pub use Rattle.lsm_readers.specs.Answer.{lift}
 pub use Rattle.lsm_readers.specs.Read.{DoesRead, Opens}
 pub use Rattle.lsm_readers.specs.Table.{OpenTable}
 pub use Rattle.lsm_walks.specs.Ends.{taken_at}
-pub use Rattle.lsm_sorted.specs.Below.{DealsBelow, below_of, numbered_below}
+pub use Rattle.lsm_sorted.specs.Below.{DealsBelow, below_of, below_told, numbered_below}
+pub use Rattle.lsm_sorted.specs.LentNewest.{newest_results}
 pub use Rattle.lsm_sorted.specs.NewestLaws.{AnswersNewest, CanAskNewest, DealsNewest, IsNewestOf}
 pub use Rattle.lsm_runs.specs.RunParts.{ends_given, range_of, span_of}
 pub use Rattle.lsm_runs.specs.RunRange.{IsRunOf, OpensAtMost, RunGives, back_tables, front_tables}
@@ -32,8 +34,10 @@ pub use Rattle.lsm_runs.specs.SpansRead.{spans_within, with_readers}
 pub use Rattle.lsm_runs.specs.SeveralRuns.{LoadsEach, is_older, leading_of, loads_together}
 pub use Rattle.lsm_runs.specs.SeveralRuns.{run_read, run_read_behind, runs_read, runs_read_by_age}
 pub use Rattle.lsm_runs.specs.SeveralRuns.{runs_told, union_in, worth_asking}
-pub use Rattle.lsm_runs.specs.LentRun.{LendingRun, ReaderLends, RunLends, Stands, lending_run}
+pub use Rattle.lsm_runs.specs.LentRun.{LendingRun, LendsOfAtMost, ReaderLends, RunLends}
+pub use Rattle.lsm_runs.specs.LentRun.{Stands, lending_run}
 pub use Rattle.lsm_runs.specs.LentRun.{lent_of_reader, lent_of_tables, over_run, range_of_reader}
 pub use Rattle.lsm_runs.specs.LentRun.{unlent_run, walk_of_tables}
-pub use Rattle.lsm_runs.specs.LentBelow.{LendsBelow, MayLendBelow, lent_passes}
-pub use Rattle.lsm_runs.specs.LentNewestRuns.{LendsNewest}
+pub use Rattle.lsm_runs.specs.LentBelow.{LendsBelow, MayLendBelow, lent_below, lent_passes}
+pub use Rattle.lsm_runs.specs.LentBelow.{only_below}
+pub use Rattle.lsm_runs.specs.LentNewestRuns.{LendsNewest, LendsResults, runs_told_within}

@@ -2,7 +2,8 @@
 ghost use Rattle.std.specs.Prelude.{◌≡◌, IfErr, IfOk, None, OnErr, is_some, map};
 ghost use Rattle.sst_entries.specs.declared.error.Error.TheVariants.{OutOfMemory};
 ghost use Rattle.lsm_runs.specs.Words.{CanDeal, DealsBelow, LendsBelow, Lowers, MayLendBelow};
-ghost use Rattle.lsm_runs.specs.Words.{below_of, came, lent_passes, nowhere};
+ghost use Rattle.lsm_runs.specs.Words.{below_of, came, lent_below, lent_passes, nowhere};
+ghost use Rattle.lsm_runs.specs.Words.{only_below};
 
 use sst_blocks::{EntryRef, Error, Lending, SeqNo};
 use std::alloc::Allocator;
@@ -44,6 +45,7 @@ fn advance_below<L: Lending>(source: &mut L, seqno: SeqNo) -> Result<bool, Error
         (came result (L.lent source.new)) (below_of seqno source.new) }
     ensures more { IfOk result (λ more. more ≡ is_some (L.lent source.new)) }
     ensures err { OnErr result (L.lent source.new ≡ None) }
+    ensures low { only_below seqno (L.lent source.new) ≡ L.lent source.new }
     ensures lowers { Lowers (came result (L.lent source.new)) (L.left source.old)
         (L.left source.new) }
 {
@@ -59,6 +61,10 @@ impl<L: Lending> LendingBelow<L> {
     /// The entries of a source numbered below `seqno`. Nothing is asked of it yet.
     pub fn new(source: L, seqno: SeqNo) -> Self
         ensures of { result ≡ below_of seqno source }
+        // What the source lends before it is asked to go on is lent on where it is numbered below
+        // the bound. So nothing else ever is.
+        ensures lent { ⟦<LendingBelow<L> as Lending>⟧.lent result ≡
+            only_below seqno (L.lent source) }
         // Of any list, up to an error that stops the source: what of it is numbered below the
         // bound, and its errors.
         ensures deals { DealsBelow L.advances nowhere source seqno
@@ -96,7 +102,7 @@ impl<L: Lending> Lending for LendingBelow<L> {
 
     ghost advances = { LendsBelow L.advances L.can_advance L.left };
 
-    ghost lent = { λ b. L.lent b.iter };
+    ghost lent = { lent_below L.lent };
 
     ghost left = { λ b. L.left b.iter };
 
@@ -105,8 +111,11 @@ impl<L: Lending> Lending for LendingBelow<L> {
         advance_below(&mut self.source, self.seqno)
     }
 
-    #[inline]
+    #[inline(always)]
     fn entry(&self) -> Option<EntryRef<'_>> {
-        self.source.entry()
+        match self.source.entry() {
+            Some(entry) if entry.seqno < self.seqno => Some(entry),
+            _ => None,
+        }
     }
 }

@@ -1,6 +1,6 @@
 //! Reading the tables of a run one behind another, lent from the front.
-ghost use Rattle.std.specs.Prelude.{◌≡◌, ℕ, [], None, Some, Err, IfErr, IfOk, IfSome, IsOk, List};
-ghost use Rattle.std.specs.Prelude.{MatchOption, Result, is_some, map};
+ghost use Rattle.std.specs.Prelude.{◌≡◌, ℕ, ◌+◌, ◌-◌, [], None, Some, Err, IfErr, IfOk, IfSome};
+ghost use Rattle.std.specs.Prelude.{IsOk, List, MatchOption, Result, is_some, length, map};
 ghost use Rattle.std.specs.Arc.{arc_value};
 ghost use Rattle.std.specs.Option.{option_map};
 ghost use Rattle.sst_entries.specs.Lending.{entry_of_ref};
@@ -11,7 +11,8 @@ ghost use Rattle.lsm_iters.specs.Range.{range_remains};
 ghost use Rattle.lsm_walks.specs.Walks.{WalkTakes};
 ghost use Rattle.lsm_runs.specs.Tables.{KeepsTables, coming_tables, run_of};
 ghost use Rattle.lsm_runs.specs.Words.{ArePlacesOf, DealsEnding, DealsList, Entry, HoldLists};
-ghost use Rattle.lsm_runs.specs.Words.{IsInOrder, IsRunOf, ReaderLends, RunLends, Stands, came};
+ghost use Rattle.lsm_runs.specs.Words.{IsInOrder, IsRunOf, LendsOfAtMost, ReaderLends, RunLends};
+ghost use Rattle.lsm_runs.specs.Words.{Stands, came};
 ghost use Rattle.lsm_runs.specs.Words.{joined, lending_run, lent_of_reader, lent_of_tables};
 ghost use Rattle.lsm_runs.specs.Words.{nowhere, over_run, overlap_indexes, range_of_reader};
 ghost use Rattle.lsm_runs.specs.Words.{run_left, run_size, span_of, unlent_run, walk_of_tables};
@@ -71,8 +72,20 @@ fn let_go<T: Drop>(part: &mut Option<T>)
     drop(part.take());
 }
 
+// Goes on to the next entry of the table at the back, where no other is left, and answers whether
+// there is one. The table comes to the front, so that only what stands there ever lends.
+fn advance_last<A: Allocator + Clone>(walk: &mut LentTables<A>) -> Result<bool, Error>
+    ensures is { walk.new ≡ record walk.old { front = walk.new.front; back = walk.old.front } }
+    ensures lends { ReaderLends walk.old.back (came result (lent_of_tables walk.new))
+        walk.new.front }
+    ensures more { IfOk result (λ more. more ≡ is_some (lent_of_tables walk.new)) }
+{
+    mem::swap(&mut walk.front, &mut walk.back);
+    advance_in(&mut walk.front)
+}
+
 // The entry that is lent of a table, where one is opened.
-#[inline]
+#[inline(always)]
 fn entry_in<A: Allocator + Clone>(part: &Option<LendingIter<A>>) -> Option<EntryRef<'_>>
     ensures { option_map entry_of_ref result ≡ lent_of_reader part.now }
 {
@@ -111,7 +124,7 @@ fn step<A: Allocator + Clone>(walk: &mut LentTables<A>) -> Result<bool, Error>
         match walk.parts.load(Direction::Front) {
             Some(Ok(reader)) => put(&mut walk.front, reader.lend()),
             Some(Err(error)) => return Err(error),
-            None => return advance_in(&mut walk.back),
+            None => return advance_last(walk),
         }
     }
 }
@@ -175,6 +188,17 @@ impl<A: Allocator + Clone> LendingRunReader<A> {
             let found = within range.0 range.1 (joined lists) in
             IfOk result (λ r. MatchOption r (found ≡ [])
             (λ reader. DealsList advances nowhere found reader)) }
+        // On a run in order no more tables are opened than have a range that reaches past both
+        // bounds.
+        ensures few { let advances = ⟦<LendingRunReader<A> as Lending>⟧.advances in
+            let range_of = ⟦<Table<A> as Ranged>⟧.range in
+            let tables = arc_value run in IsInOrder range_of tables → (ends : ℕ × ℕ) →
+            overlap_indexes range.0 range.1 (map range_of tables) ≡ Some ends → IfOk result (λ r.
+            IfSome r (LendsOfAtMost advances (ends.1 + 1 - ends.0))) }
+        // Of any other run, no more than it has.
+        ensures most { let advances = ⟦<LendingRunReader<A> as Lending>⟧.advances in
+            let tables = arc_value run in
+            IfOk result (λ r. IfSome r (LendsOfAtMost advances (length tables))) }
         ensures ok { IsOk result }
     {
         match RunReader::new(run, range)? {
@@ -220,11 +244,8 @@ impl<A: Allocator + Clone> Lending for LendingRunReader<A> {
         }
     }
 
-    #[inline]
+    #[inline(always)]
     fn entry(&self) -> Option<EntryRef<'_>> {
-        match entry_in(&self.walk.front) {
-            Some(entry) => Some(entry),
-            None => entry_in(&self.walk.back),
-        }
+        entry_in(&self.walk.front)
     }
 }

@@ -1,10 +1,15 @@
 //! Several runs as one that lends.
-ghost use Rattle.std.specs.Prelude.{◌≡◌, ◌<◌, [], All, IfErr, IfOk, List, MatchOption, None, map};
+ghost use Rattle.std.specs.Prelude.{◌≡◌, ◌<◌, ℕ, [], All, IfErr, IfOk, List, MatchOption, None};
+ghost use Rattle.std.specs.Prelude.{Some, map};
 ghost use Rattle.std.specs.Arc.{arc_value};
+ghost use Rattle.std.specs.List.{AllByRecursion, AllZip};
 ghost use Rattle.sst_entries.specs.declared.error.Error.TheVariants.{OutOfMemory};
-ghost use Rattle.lsm_runs.specs.Words.{CanDeal, DealTogether, DealsList, Entry, HoldLists};
-ghost use Rattle.lsm_runs.specs.Words.{IsInOrder, LendsNewest, RunsHoldLists, joined, newest};
-ghost use Rattle.lsm_runs.specs.Words.{nowhere, numbered_below, range_of, union_in, within};
+ghost use Rattle.lsm_runs.specs.Words.{Ascends, CanDeal, DealTogether, DealsList, Entry};
+ghost use Rattle.lsm_runs.specs.Words.{HoldLists, IsInOrder, IsRunOf, LendsNewest, LendsResults};
+ghost use Rattle.lsm_runs.specs.Words.{RunsHoldLists, below_told, entries_among, joined, merge_of};
+ghost use Rattle.lsm_runs.specs.Words.{newest, newest_results, nowhere, numbered_below};
+ghost use Rattle.lsm_runs.specs.Words.{overlap_indexes, range_of, runs_told_within, span_of};
+ghost use Rattle.lsm_runs.specs.Words.{spans_within, union_in, within};
 
 use crate::bounds::share;
 use crate::lending_below::each_lending_below;
@@ -37,6 +42,12 @@ fn lender_of<A: Allocator + Clone>(
         IsInOrder range_of (arc_value run.now) × HoldLists (arc_value run.now) lists →
         let found = within range.now.0 range.now.1 (joined lists) in IfOk result (λ r.
         MatchOption r (found ≡ []) (λ reader. DealsList advances nowhere found reader)) }
+    // Of any tables in a run in order it is that of the span of those whose ranges reach past both
+    // bounds.
+    ensures span { let tables = arc_value run.now in IsInOrder range_of tables →
+        let found = overlap_indexes range.now.0 range.now.1 (map range_of tables) in
+        IfOk result (λ r. MatchOption r (found ≡ None) (λ reader. (ends : ℕ × ℕ) ×
+        (found ≡ Some ends) × IsRunOf tables (span_of ends range.now.0 range.now.1) reader.run)) }
     ensures err { IfErr result (λ e. e ≡ OutOfMemory) }
 {
     let bounds = (share(&range.0)?, share(&range.1)?);
@@ -55,9 +66,14 @@ fn lenders_of<A: Allocator + Clone>(
         (lists : List (List (List Entry))) → RunsHoldLists (map arc_value runs.now) lists →
         let found = map (λ ls. within range.now.0 range.now.1 (joined ls)) lists in
         IfOk result (λ v. DealTogether advances nowhere v.items found) }
+    // Of any tables in runs in order they are those of the spans.
+    ensures spans { AllByRecursion (IsInOrder range_of) (map arc_value runs.now) →
+        IfOk result (λ v. AllZip (λ reader span. IsRunOf span.0 span.1 reader)
+        (map (λ s. s.run) v.items)
+        (spans_within range.now.0 range.now.1 (map arc_value runs.now))) }
     ensures err { IfErr result (λ e. e ≡ OutOfMemory) }
 {
-    let mut lenders = Vec::new(alloc);
+    let mut lenders = Vec::with_capacity(alloc, runs.len())?;
     for run in runs {
         if let Some(lender) = lender_of(run, range)? {
             lenders.push(lender)?;
@@ -76,6 +92,9 @@ fn lenders_within<A: Allocator + Clone>(
         (lists : List (List (List Entry))) → RunsHoldLists (map arc_value runs.now) lists →
         let found = map (λ ls. within range.0 range.1 (joined ls)) lists in
         IfOk result (λ v. DealTogether advances nowhere v.items found) }
+    ensures spans { AllByRecursion (IsInOrder range_of) (map arc_value runs.now) →
+        IfOk result (λ v. AllZip (λ reader span. IsRunOf span.0 span.1 reader)
+        (map (λ s. s.run) v.items) (spans_within range.0 range.1 (map arc_value runs.now))) }
     ensures err { IfErr result (λ e. e ≡ OutOfMemory) }
 {
     lenders_of(alloc, runs, &range)
@@ -124,6 +143,15 @@ pub fn lend_runs_at<A: Allocator + Clone>(
         All (λ e. e.seqno < seqno) (union_in lists) →
         let found = newest (within range.0 range.1 (union_in lists)) in
         IfOk result (λ s. DealsList advances nowhere found s) }
+    // Of any tables in runs in order, whatever their bytes: where the entries that each run's
+    // tables tell within the bounds come in order up to their first error, it lends what is newest
+    // of these results below `seqno`, merged up to the first error, which comes in its place.
+    ensures places { let advances = ⟦<LentNewestOfRunsAt<A> as Lending>⟧.advances in
+        let told = runs_told_within range.0 range.1 (map arc_value runs.now) in
+        AllByRecursion (IsInOrder range_of) (map arc_value runs.now) →
+        AllByRecursion (λ rs. Ascends (entries_among rs)) told →
+        let found = newest_results (merge_of (map (below_told seqno) told)) in
+        IfOk result (LendsResults advances found) }
     // Whatever the tables' bytes are, it may be asked however often.
     ensures can { IfOk result (CanDeal ⟦<LentNewestOfRunsAt<A> as Lending>⟧.advances nowhere
         ⟦<LentNewestOfRunsAt<A> as Lending>⟧.can_advance

@@ -4,8 +4,9 @@ ghost use Rattle.std.specs.Prelude.{MatchOption, length, map};
 ghost use Rattle.std.specs.Arc.{arc_value};
 ghost use Rattle.std.specs.Iterator.{at_most};
 ghost use Rattle.lsm_runs.specs.Words.{ArePlacesOf, DealsEnding, DealsList, Entry, HoldLists};
-ghost use Rattle.lsm_runs.specs.Words.{IsInOrder, IsRunOf, OpensAtMost, RunGives, back_of};
-ghost use Rattle.lsm_runs.specs.Words.{back_tables, ends_given, front_of, front_tables, joined};
+ghost use Rattle.lsm_runs.specs.Words.{IsInOrder, IsRunOf, LendsOfAtMost, OpensAtMost, RunGives};
+ghost use Rattle.lsm_runs.specs.Words.{back_of, back_tables, ends_given, front_of};
+ghost use Rattle.lsm_runs.specs.Words.{front_tables, joined};
 ghost use Rattle.lsm_runs.specs.Words.{overlap_indexes, run_left, run_size, span_list, span_of};
 ghost use Rattle.lsm_runs.specs.Words.{nowhere, tables_at, taken_at, unlent_run, within};
 
@@ -157,6 +158,12 @@ impl<A: Allocator + Clone> RunReader<A> {
             let advances = ⟦<LendingRunReader<A> as Lending>⟧.advances in
             (es : List Entry) → DealsList gives back_gives es self →
             DealsList advances nowhere es result }
+        // No more tables are opened than the reader would open.
+        ensures few { let gives = ⟦<RunReader<A> as Iterator>⟧.next_gives in
+            let back_gives = ⟦<RunReader<A> as DoubleEndedIterator>⟧.next_back_gives in
+            let advances = ⟦<LendingRunReader<A> as Lending>⟧.advances in
+            (most : ℕ) → OpensAtMost gives back_gives most self →
+            LendsOfAtMost advances most result }
     {
         LendingRunReader::of_walk(self.walk)
     }

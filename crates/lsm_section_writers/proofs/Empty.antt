@@ -1,11 +1,11 @@
 -- An index without handles.
 use Rattle.std.proofs.Common.{◌≡◌, refl, ◌∙◌, ap, sym, subst, ℕ, ◌==◌, Bool, true, false, List, []}
 use Rattle.std.proofs.Common.{◌∷◌, ◌++◌, length, take, arith}
-use Rattle.std.specs.Prelude.{None, Result, Ok, Err, OnErr, vec_len}
+use Rattle.std.specs.Prelude.{None, Result, Ok, Err, OnErr, vec_len, IsTrue, ◌↔◌}
 use Rattle.std.specs.declared.vec.Vec.{Vec}
 use Rattle.std.proofs.Math.Seq.{take-append_seam}
 use Rattle.std.proofs.lemmas.Bool.Decides.{nat_tests}
-use Rattle.std.proofs.lemmas.List.{append-nil, nil_from_length}
+use Rattle.std.proofs.lemmas.List.{append-nil}
 use Rattle.std.specs.List.{AllByRecursion}
 use Rattle.sst_entries.specs.declared.error.Error.{Error}
 use Rattle.sst_sections.specs.Number.{le4}
@@ -37,11 +37,10 @@ is_zero n r e t = let z : (n == 0) ≡ true = sym e ∙ t in grind (arith, nat_t
 pub is_not_zero : (n : ℕ) (r : Bool) → r ≡ (n == 0) → r ≡ false → n ≡ 0 → ⊥
 is_not_zero n r e f z = let no : (n == 0) ≡ false = sym e ∙ f in grind (arith, nat_tests, no, z)
 
-pub vec_is_empty : {X Z : Type 0} (v : Vec X Z) (r : Bool) → r ≡ (vec_len v == 0) → r ≡ true
-    → v.items ≡ []
-vec_is_empty v r e t =
-    let none : vec_len v ≡ 0 = is_zero (vec_len v) r e t in
-    nil_from_length v.items (omega (arith, v.ok.0, none))
+-- a test of emptiness that fails
+pub is_some_then : {X : Type 0} (r : Bool) (xs ys : List X) → xs ≡ ys
+    → (IsTrue r ↔ (xs ≡ [])) → r ≡ false → ys ≡ [] → ⊥
+is_some_then r xs ys same test f none = let t = test.1 (same ∙ none) in cc
 
 pub vec_is_some : {X Z : Type 0} (v : Vec X Z) (xs : List X) (r : Bool) → v.items ≡ xs
     → r ≡ (vec_len v == 0) → r ≡ false → xs ≡ [] → ⊥

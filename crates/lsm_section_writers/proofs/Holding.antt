@@ -19,7 +19,7 @@ use Rattle.lsm_section_writers.specs.Given.{key_part, keys_in, no_keys, key_part
 use Rattle.lsm_section_writers.specs.Given.{rest_keys, with_key}
 use Rattle.lsm_section_writers.specs.Held.{AreFiltersOf, as_list, CutPart, CutParts, Cuts, end_keys}
 use Rattle.lsm_section_writers.specs.Held.{filters_of, HasParts, HoldsAll, HoldsParts, last_key_of}
-use Rattle.lsm_section_writers.specs.FilterRefusing.{key_parts_bound, keys_fault, register_fault}
+use Rattle.lsm_section_writers.specs.FilterRefusing.{key_parts_bound, keys_fault}
 use Rattle.lsm_section_writers.specs.Rising.{AreRising}
 use Rattle.lsm_section_writers.proofs.RisingLaws.{last_keys_rise, last_more}
 
@@ -313,46 +313,6 @@ pushed_waits w u v given key end_key hash r h same hashed policy size parts boun
     })
     v (sym test ∙ f) parts' bound' hashes' (last ∙ ap (λ (k : List ℕ). Some k) same)
 
--- and what pushing it refuses
-module _ (w u : CutParts) (given : GivenKeys) (key : List ℕ) (hash : ℕ) (r : Bool)
-    (h : HoldsParts w given) (hashed : hash ≡ hash_of key)
-    (policy : u.policy ≡ w.policy) (size : u.size ≡ w.size) (parts : u.parts ≡ w.parts)
-    (bound : u.bound ≡ w.bound) (hashes : u.hashes ≡ w.hashes ++ hash ∷ [])
-    (test : r ≡ nat_le u.size (size_for (tenths_of u.policy) (length u.hashes))) where
-  adds : Adds key w u
-  adds = record {
-    policy = policy;
-    size = size;
-    parts = parts;
-    bound = bound;
-    hashes = hashes
-        ∙ ap (λ (x : ℕ). w.hashes ++ x ∷ []) hashed;
-  }
-
-  abbrev part : List (List ℕ)
-  part = given.pending ++ key ∷ []
-
-  pub cuts_fault : {X : Type 0} (result : Result X Error) → r ≡ true
-      → Faults result (fault_for (tenths_of u.policy) (length u.hashes)) →
-      Faults result (register_fault (Partitioned w.size) w.policy given.pending key)
-  cuts_fault result t fault =
-      let filled : is_full_filter w.policy w.size part ≡ true = sym (test_is w u given key h adds)
-      ∙ sym test ∙ t in
-      let told : register_fault (Partitioned w.size) w.policy given.pending key
-      ≡ fault_for (tenths_of u.policy) (length u.hashes) =
-      ap (λ (b : Bool). if b then fault_for (tenths_of w.policy) (length part) else None) filled
-      ∙ ap (λ (n : ℕ). fault_for (tenths_of w.policy) n) (sym (count_more w u given key h adds))
-      ∙ ap (λ (p : BloomConstructionPolicy). fault_for (tenths_of p) (length u.hashes))
-      (sym policy) in
-      subst (λ x. Faults result x) (sym told) fault
-
-  pub waits_fault : r ≡ false → register_fault (Partitioned w.size) w.policy given.pending key
-      ≡ None
-  waits_fault f =
-      let waits : is_full_filter w.policy w.size part ≡ false = sym (test_is w u given key h adds)
-      ∙ sym test ∙ f in
-      ap (λ (b : Bool). if b then fault_for (tenths_of w.policy) (length part) else None) waits
-
 pub rest_fault_for : {X : Type 0} (result : Result X Error) (w : CutParts) (given : GivenKeys)
     (key : List ℕ) (policy : BloomConstructionPolicy) (hashes : List ℕ) → HoldsParts w given →
     w.last ≡ Some key → policy ≡ w.policy → hashes ≡ w.hashes
@@ -364,6 +324,11 @@ rest_fault_for result w given key policy hashes h some same held fault =
     ∙ ap (λ (p : BloomConstructionPolicy). fault_for (tenths_of p) (length w.hashes)) (sym same)
     ∙ ap (λ (hs : List ℕ). fault_for (tenths_of policy) (length hs)) (sym held) in
     subst (λ x. Faults result x) (sym told) fault
+
+-- the last key that is taken is the one that was kept
+pub taken_key : (kept taken : Option (List ℕ)) (key : List ℕ) {end_key : List ℕ}
+    → kept ≡ Some key → taken ≡ kept → taken ≡ Some end_key → end_key ≡ key
+taken_key kept taken key is same some = let e = sym some ∙ same ∙ is in cc
 
 pub some_is_not_none : (last : Option (List ℕ)) (key : List ℕ) → last ≡ Some key → last ≡ None → ⊥
 some_is_not_none last key some none = let e : Some key ≡ None = sym some ∙ none in cc
@@ -382,14 +347,4 @@ cut_rising cs longer parts part key last same named pushed none rising =
     let all : end_keys longer ++ as_list last ≡ end_keys parts ++ key ∷ [] =
     ap (λ (x : Option (List ℕ)). end_keys longer ++ as_list x) none ∙ append-nil (end_keys longer)
     ∙ keys in
-    subst (λ ks. AreRising ks) (sym all) rising
-
-pub waits_rising : (cs parts : List CutPart) (key end_key : List ℕ) (last : Option (List ℕ))
-    → cs ≡ parts → end_key ≡ key → last ≡ Some end_key →
-    AreRising (end_keys parts ++ key ∷ []) → AreRising (end_keys cs ++ as_list last)
-waits_rising cs parts key end_key last same named some rising =
-    let all : end_keys cs ++ as_list last ≡ end_keys parts ++ key ∷ [] =
-    ap (λ (x : Option (List ℕ)). end_keys cs ++ as_list x)
-    (some ∙ ap (λ (k : List ℕ). Some k) named)
-    ∙ ap (λ (ps : List CutPart). end_keys ps ++ key ∷ []) same in
     subst (λ ks. AreRising ks) (sym all) rising

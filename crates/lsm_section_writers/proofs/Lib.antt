@@ -1,4 +1,5 @@
 pub mod Strict
+pub mod Keeping
 pub mod Behind
 pub mod Tops
 pub mod Cutting

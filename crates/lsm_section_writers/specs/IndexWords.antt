@@ -12,4 +12,5 @@ pub use Rattle.lsm_formats.specs.Layout.{appended}
 pub use Rattle.lsm_formats.specs.Partitions.{handle_size, handles_block, index_tops, is_full_index}
 pub use Rattle.lsm_formats.specs.Partitions.{partitioned_index}
 pub use Rattle.lsm_formats.specs.Parts.{parts_by}
+pub use Rattle.lsm_section_writers.specs.Kept.{handle_with}
 pub use Rattle.lsm_section_writers.specs.IndexRefusing.{kind_fault, part_fault, parts_fault}

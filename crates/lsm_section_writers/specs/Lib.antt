@@ -1,4 +1,5 @@
 pub mod Registered
+pub mod Kept
 pub mod IndexRefusing
 pub mod IndexWords
 pub mod IndexEither

@@ -21,9 +21,10 @@ ghost use Rattle.sst_sections.specs.declared.version.TableVersion.TheVariants.{V
 
 use crate::build::build_from_buffer;
 use crate::filter_writer::FilterWriter;
+use crate::key_buffer::KeyBuffer;
 use sst_blocks::{
     Block, BlockType, BloomConstructionPolicy, Builder, CompressionType, Error, IndexBlock,
-    KeyedBlockHandle, SectionName, SectionWriter, UserKey, filter_bound,
+    KeyedBlockHandle, SectionName, SectionWriter, filter_bound,
 };
 use std::alloc::{Allocator, Global};
 use std::marker::Model;
@@ -31,7 +32,7 @@ use std::marker::Model;
 /// A partition that was cut: the last of its keys, and its filter.
 #[derive(Drop)]
 struct FilterPartition<A: Allocator = Global> {
-    end_key: UserKey<A>,
+    end_key: KeyBuffer<A>,
     filter: Builder<A>,
 }
 
@@ -56,7 +57,7 @@ pub struct PartitionedFilterWriter<A: Allocator = Global> {
     relative_file_pos: u64,
     // the keys behind: their hashes, and the last one where there are any
     bloom_hash_buffer: Vec<u64, A>,
-    last_key: Option<UserKey<A>>,
+    last_key: Option<KeyBuffer<A>>,
     failed: bool,
 }
 
@@ -123,7 +124,7 @@ impl<A: Allocator + Clone> PartitionedFilterWriter<A> {
     }
 
     // Cuts the pending keys off, of which `end_key` is the last.
-    fn spill_filter_partition(&mut self, end_key: UserKey<A>) -> Result<(), Error>
+    fn spill_filter_partition(&mut self, end_key: KeyBuffer<A>) -> Result<(), Error>
         requires { AreRising (end_keys self.old.parts ++ end_key ∷ []) }
         ensures ok { OnOk result (Cuts end_key self.old self.new) }
         ensures policy { self.new.policy ≡ self.old.policy }
@@ -158,12 +159,14 @@ impl<A: Allocator + Clone> PartitionedFilterWriter<A> {
     {
         let hash = Builder::<A>::get_hash(key);
         self.bloom_hash_buffer.push(hash)?;
-        let end_key = UserKey::from(self.partitions.allocator().clone()?, key)?;
-        if self.is_full() {
-            return self.spill_filter_partition(end_key);
+        KeyBuffer::keep(&mut self.last_key, self.partitions.allocator(), key)?;
+        if !self.is_full() {
+            return Ok(());
         }
-        drop(self.last_key.replace(end_key));
-        Ok(())
+        match self.last_key.take() {
+            Some(end_key) => self.spill_filter_partition(end_key),
+            None => Ok(()), // there is the key that came
+        }
     }
 
     // Cuts the pending keys off, where there are any.
@@ -304,9 +307,10 @@ fn write_partition<A: Allocator + Clone>(
     ensures unchanged { OnErr result (writer.new ≡ writer.old) }
     ensures err { IfErr result (λ e. e ≡ OutOfMemory) }
 {
+    let end_key = partition.end_key.into_key()?;
     let payload = partition.filter.build();
     let place = Block::write_into(writer, &payload, BlockType::Filter, CompressionType::None)?;
-    Ok(KeyedBlockHandle::new(partition.end_key, 0, place))
+    Ok(KeyedBlockHandle::new(end_key, 0, place))
 }
 
 /// Writes the section of the top level: one block of these handles. Refused where it is too large,

@@ -1,36 +1,45 @@
 //! The handles that writers of either kind keep.
 ghost use Rattle.std.specs.Prelude.{◌≡◌, ◌++◌, ◌∷◌, [], true, false, OnOk, OnErr};
 ghost use Rattle.lsm_section_writers.specs.IndexWords.{Faults, FaultsFirst, failed_fault};
+ghost use Rattle.lsm_section_writers.specs.IndexWords.{handle_with};
 
-use sst_blocks::{Error, KeyedBlockHandle};
+use crate::kept::KeptHandles;
+use sst_blocks::{BlockHandle, Error, SeqNo};
 use std::alloc::{Allocator, Global};
 
 /// The handles that were registered, and whether the writer has refused.
 #[derive(Drop)]
 pub(crate) struct HeldHandles<A: Allocator = Global> {
-    pub(crate) handles: Vec<KeyedBlockHandle<A>, A>,
+    pub(crate) handles: KeptHandles<A>,
     pub(crate) failed: bool,
 }
 
 impl<A: Allocator> HeldHandles<A> {
     /// No handles.
     pub(crate) fn new(alloc: A) -> HeldHandles<A>
-        ensures handles { result.handles.items ≡ [] }
+        ensures handles { result.handles ≡ [] }
         ensures failed { result.failed ≡ false }
     {
         HeldHandles {
-            handles: Vec::new(alloc),
+            handles: KeptHandles::new(alloc),
             failed: false,
         }
     }
+}
 
-    /// Keeps a copy of a handle behind the others. Refused [`Error::WriterFailed`] after a refusal,
-    /// and [`Error::OutOfMemory`].
-    pub(crate) fn register_data_block(&mut self, handle: &KeyedBlockHandle<A>) -> Result<(), Error>
+impl<A: Allocator + Clone> HeldHandles<A> {
+    /// Keeps a handle of these parts behind the others. Refused [`Error::WriterFailed`] after a
+    /// refusal, and [`Error::OutOfMemory`].
+    pub(crate) fn register_ref(
+        &mut self,
+        end_key: &[u8],
+        seqno: SeqNo,
+        block: BlockHandle,
+    ) -> Result<(), Error>
         ensures ok { OnOk result (
-            self.new.handles.items ≡ self.old.handles.items ++ handle.now ∷ []) }
+            self.new.handles ≡ self.old.handles ++ handle_with end_key.now seqno block ∷ []) }
         ensures works { OnOk result (self.new.failed ≡ false) }
-        ensures unchanged { OnErr result (self.new.handles.items ≡ self.old.handles.items) }
+        ensures unchanged { OnErr result (self.new.handles ≡ self.old.handles) }
         ensures failed { OnErr result (self.new.failed ≡ true) }
         ensures refused { Faults result (failed_fault self.old.failed) }
         ensures first { FaultsFirst result (failed_fault self.old.failed) }
@@ -39,7 +48,7 @@ impl<A: Allocator> HeldHandles<A> {
             return Err(Error::WriterFailed); // nothing is registered
         }
         self.failed = true;
-        self.handles.push(handle.clone()?)?;
+        self.handles.push(end_key, seqno, block)?;
         self.failed = false;
         Ok(())
     }

@@ -8,7 +8,7 @@ use crate::index_full::FullIndexWriter;
 use crate::index_partitioned::PartitionedIndexWriter;
 use crate::index_writer::BlockIndexWriter;
 use lsm_formats::IndexKind;
-use sst_blocks::{CompressionType, Error, KeyedBlockHandle, SectionWriter};
+use sst_blocks::{BlockHandle, CompressionType, Error, SectionWriter, SeqNo};
 use std::alloc::{Allocator, Global};
 
 /// A writer of an index, of a kind that is chosen while it runs.
@@ -27,9 +27,9 @@ impl<A: Allocator> IndexWriterImpl<A> {
         compression: CompressionType,
         held: HeldHandles<A>,
     ) -> IndexWriterImpl<A>
-        requires { AreStrictHandles held.handles.items }
+        requires { AreStrictHandles held.handles }
         ensures { registered_by result ≡
-            record { handles = held.handles.items; kind = kind; failed = held.failed } }
+            record { handles = held.handles; kind = kind; failed = held.failed } }
     {
         match kind {
             IndexKind::Full => IndexWriterImpl::Full(FullIndexWriter::of(compression, held)),
@@ -49,10 +49,15 @@ impl<A: Allocator + Clone> BlockIndexWriter<A> for IndexWriterImpl<A> {
 
     ghost has_failed = { λ w. (registered_by w).failed };
 
-    fn register_data_block(&mut self, handle: &KeyedBlockHandle<A>) -> Result<(), Error> {
+    fn register_ref(
+        &mut self,
+        end_key: &[u8],
+        seqno: SeqNo,
+        block: BlockHandle,
+    ) -> Result<(), Error> {
         match self {
-            IndexWriterImpl::Full(writer) => writer.register_data_block(handle),
-            IndexWriterImpl::Partitioned(writer) => writer.register_data_block(handle),
+            IndexWriterImpl::Full(writer) => writer.register_ref(end_key, seqno, block),
+            IndexWriterImpl::Partitioned(writer) => writer.register_ref(end_key, seqno, block),
         }
     }
 

@@ -13,8 +13,9 @@ use crate::block::{write_empty_top_level, write_top_level};
 use crate::held::HeldHandles;
 use crate::index_either::IndexWriterImpl;
 use crate::index_writer::BlockIndexWriter;
+use crate::kept::KeptHandles;
 use lsm_formats::IndexKind;
-use sst_blocks::{CompressionType, Error, KeyedBlockHandle, SectionWriter};
+use sst_blocks::{BlockHandle, CompressionType, Error, SectionWriter, SeqNo};
 use std::alloc::{Allocator, Global};
 use std::marker::Model;
 
@@ -34,12 +35,12 @@ impl<A: Allocator> Model for FullIndexWriter<A> {
     ghost Value = { Registered };
 
     ghost view = { λ w. record {
-      handles = w.held.handles.items;
+      handles = w.held.handles;
       kind = Full;
       failed = w.held.failed;
     } };
 
-    ghost invariant = { λ w. AreStrictHandles w.held.handles.items };
+    ghost invariant = { λ w. AreStrictHandles w.held.handles };
 }
 
 impl<A: Allocator> FullIndexWriter<A> {
@@ -52,9 +53,9 @@ impl<A: Allocator> FullIndexWriter<A> {
 
     /// A writer of these handles.
     pub(crate) fn of(compression: CompressionType, held: HeldHandles<A>) -> FullIndexWriter<A>
-        requires { AreStrictHandles held.handles.items }
+        requires { AreStrictHandles held.handles }
         ensures { result ≡
-            record { handles = held.handles.items; kind = Full; failed = held.failed } }
+            record { handles = held.handles; kind = Full; failed = held.failed } }
     {
         FullIndexWriter { compression, held }
     }
@@ -75,8 +76,13 @@ impl<A: Allocator + Clone> BlockIndexWriter<A> for FullIndexWriter<A> {
 
     ghost has_failed = { λ w. w.failed };
 
-    fn register_data_block(&mut self, handle: &KeyedBlockHandle<A>) -> Result<(), Error> {
-        self.held.register_data_block(handle)
+    fn register_ref(
+        &mut self,
+        end_key: &[u8],
+        seqno: SeqNo,
+        block: BlockHandle,
+    ) -> Result<(), Error> {
+        self.held.register_ref(end_key, seqno, block)
     }
 
     fn finish(self, writer: &mut SectionWriter<A>) -> Result<usize, Error> {
@@ -87,7 +93,7 @@ impl<A: Allocator + Clone> BlockIndexWriter<A> for FullIndexWriter<A> {
             write_empty_top_level(writer, self.compression)?;
             return Ok(1);
         }
-        write_section(writer, &self.held.handles, self.compression)
+        write_section(writer, self.held.handles, self.compression)
     }
 
     fn use_compression(mut self, compression: CompressionType) -> FullIndexWriter<A> {
@@ -104,19 +110,20 @@ impl<A: Allocator + Clone> BlockIndexWriter<A> for FullIndexWriter<A> {
 /// Refused where the block is too large, and [`Error::OutOfMemory`].
 fn write_section<A: Allocator + Clone>(
     writer: &mut SectionWriter<A>,
-    handles: &Vec<KeyedBlockHandle<A>, A>,
+    kept: KeptHandles<A>,
     compression: CompressionType,
 ) -> Result<usize, Error>
     requires unwritten { HasNoIndex writer.old }
-    requires strict { AreStrictHandles handles.now.items }
+    requires strict { AreStrictHandles kept }
     ensures ok { OnOk result (writer.new ≡
-        appended writer.old ((Tli, handles_block V4 handles.now.items) ∷ [])) }
+        appended writer.old ((Tli, handles_block V4 kept) ∷ [])) }
     ensures count { IfOk result (λ n. n ≡ 1) }
-    ensures fits { OnOk result (SectionFits (Tli, handles_block V4 handles.now.items)) }
+    ensures fits { OnOk result (SectionFits (Tli, handles_block V4 kept)) }
     ensures before { take (length writer.old.bytes) writer.new.bytes ≡ writer.old.bytes }
-    ensures refused { Faults result (handles_fault handles.now.items) }
+    ensures refused { Faults result (handles_fault kept) }
 {
+    let handles = kept.into_handles()?;
     let mut buffer = Vec::new(handles.allocator().clone()?);
-    write_top_level(writer, handles, &mut buffer, compression)?;
+    write_top_level(writer, &handles, &mut buffer, compression)?;
     Ok(1)
 }

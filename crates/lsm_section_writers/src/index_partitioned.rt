@@ -18,7 +18,10 @@ ghost use Rattle.sst_sections.specs.declared.version.TableVersion.TheVariants.{V
 use crate::block::{write_block, write_empty_top_level, write_top_level};
 use crate::held::HeldHandles;
 use crate::index_writer::BlockIndexWriter;
-use sst_blocks::{CompressionType, Error, KeyedBlockHandle, SectionName, SectionWriter};
+use crate::kept::KeptHandles;
+use sst_blocks::{
+    BlockHandle, CompressionType, Error, KeyedBlockHandle, SectionName, SectionWriter, SeqNo,
+};
 use std::alloc::{Allocator, Global};
 use std::marker::Model;
 
@@ -43,12 +46,12 @@ impl<A: Allocator> Model for PartitionedIndexWriter<A> {
     ghost Value = { Registered };
 
     ghost view = { λ w. record {
-      handles = w.held.handles.items;
+      handles = w.held.handles;
       kind = Partitioned w.partition_size;
       failed = w.held.failed;
     } };
 
-    ghost invariant = { λ w. AreStrictHandles w.held.handles.items };
+    ghost invariant = { λ w. AreStrictHandles w.held.handles };
 }
 
 impl<A: Allocator> PartitionedIndexWriter<A> {
@@ -65,9 +68,9 @@ impl<A: Allocator> PartitionedIndexWriter<A> {
         partition_size: u32,
         held: HeldHandles<A>,
     ) -> PartitionedIndexWriter<A>
-        requires { AreStrictHandles held.handles.items }
+        requires { AreStrictHandles held.handles }
         ensures { result ≡ record {
-          handles = held.handles.items;
+          handles = held.handles;
           kind = Partitioned partition_size;
           failed = held.failed;
         } }
@@ -87,20 +90,29 @@ impl<A: Allocator + Clone> BlockIndexWriter<A> for PartitionedIndexWriter<A> {
 
     ghost has_failed = { λ w. w.failed };
 
-    fn register_data_block(&mut self, handle: &KeyedBlockHandle<A>) -> Result<(), Error> {
-        self.held.register_data_block(handle)
+    fn register_ref(
+        &mut self,
+        end_key: &[u8],
+        seqno: SeqNo,
+        block: BlockHandle,
+    ) -> Result<(), Error> {
+        self.held.register_ref(end_key, seqno, block)
     }
 
     fn finish(self, writer: &mut SectionWriter<A>) -> Result<usize, Error> {
         if self.held.failed {
             return Err(Error::WriterFailed); // nothing is written
         }
-        let handles = &self.held.handles;
-        if handles.is_empty() {
+        if self.held.handles.is_empty() {
             write_no_partitions(writer, self.compression)?;
             return Ok(0);
         }
-        write_sections(writer, handles, self.partition_size, self.compression)
+        write_sections(
+            writer,
+            self.held.handles,
+            self.partition_size,
+            self.compression,
+        )
     }
 
     fn use_compression(mut self, compression: CompressionType) -> PartitionedIndexWriter<A> {
@@ -136,29 +148,30 @@ fn write_no_partitions<A: Allocator + Clone>(
 /// [`Error::OutOfMemory`].
 fn write_sections<A: Allocator + Clone>(
     writer: &mut SectionWriter<A>,
-    handles: &Vec<KeyedBlockHandle<A>, A>,
+    kept: KeptHandles<A>,
     partition_size: u32,
     compression: CompressionType,
 ) -> Result<usize, Error>
     requires unwritten { HasNoIndex writer.old }
-    requires strict { AreStrictHandles handles.now.items }
-    ensures ok { let parts = parts_by (is_full_index partition_size) handles.now.items in
+    requires strict { AreStrictHandles kept }
+    ensures ok { let parts = parts_by (is_full_index partition_size) kept in
         let at = length writer.old.bytes in
         OnOk result (writer.new ≡ appended writer.old (partitioned_index V4 at parts)) }
-    ensures count { let parts = parts_by (is_full_index partition_size) handles.now.items in
+    ensures count { let parts = parts_by (is_full_index partition_size) kept in
         IfOk result (λ n. n ≡ length parts) }
-    ensures fits { let parts = parts_by (is_full_index partition_size) handles.now.items in
+    ensures fits { let parts = parts_by (is_full_index partition_size) kept in
         let at = length writer.old.bytes in
         OnOk result (AllByRecursion SectionFits (partitioned_index V4 at parts)) }
     ensures before { take (length writer.old.bytes) writer.new.bytes ≡ writer.old.bytes }
-    ensures refused { Faults result (kind_fault (Partitioned partition_size) handles.now.items) }
+    ensures refused { Faults result (kind_fault (Partitioned partition_size) kept) }
 {
+    let handles = kept.into_handles()?;
     writer.start(SectionName::Index)?;
     let mut buffer = Vec::new(handles.allocator().clone()?);
     let mut tops = Vec::new(handles.allocator().clone()?);
     write_partitions(
         writer,
-        handles,
+        &handles,
         partition_size,
         &mut tops,
         &mut buffer,

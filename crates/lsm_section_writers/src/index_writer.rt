@@ -1,6 +1,6 @@
 //! What writers of an index do.
 
-use sst_blocks::{CompressionType, Error, KeyedBlockHandle, SectionWriter};
+use sst_blocks::{BlockHandle, CompressionType, Error, KeyedBlockHandle, SectionWriter, SeqNo};
 use std::alloc::Allocator;
 
 /// Takes the handles of a table's data blocks, and writes an index of them.
@@ -19,6 +19,7 @@ pub trait BlockIndexWriter<A: Allocator> {
     ghost use Rattle.lsm_formats.specs.Layout.{appended};
     ghost use Rattle.lsm_formats.specs.declared.options.IndexKind.{IndexKind};
     ghost use Rattle.lsm_section_writers.specs.IndexRefusing.{index_fault};
+    ghost use Rattle.lsm_section_writers.specs.Kept.{handle_with};
 
     /// The kind of the index.
     ghost kind: { Self → IndexKind };
@@ -35,6 +36,31 @@ pub trait BlockIndexWriter<A: Allocator> {
     fn register_data_block(&mut self, handle: &KeyedBlockHandle<A>) -> Result<(), Error>
         requires { AreStrictHandles (registered self.old ++ handle.now ∷ []) }
         ensures ok { OnOk result (registered self.new ≡ registered self.old ++ handle.now ∷ []) }
+        ensures works { OnOk result (has_failed self.new ≡ false) }
+        ensures unchanged { OnErr result (registered self.new ≡ registered self.old) }
+        ensures failed { OnErr result (has_failed self.new ≡ true) }
+        ensures kind { kind self.new ≡ kind self.old }
+        ensures refused { Faults result (failed_fault (has_failed self.old)) }
+        // That it has failed takes no memory to find.
+        ensures first { FaultsFirst result (failed_fault (has_failed self.old)) }
+    {
+        let block = BlockHandle::new(handle.offset(), handle.size());
+        self.register_ref(handle.end_key().as_slice(), handle.seqno(), block)
+    }
+
+    /// Registers a data block by where it lies and by the key and the number of its last entry, as
+    /// [`BlockIndexWriter::register_data_block`] does. The end key is copied behind the others,
+    /// into memory that all of them share.
+    fn register_ref(
+        &mut self,
+        end_key: &[u8],
+        seqno: SeqNo,
+        block: BlockHandle,
+    ) -> Result<(), Error>
+        requires { AreStrictHandles (registered self.old ++ handle_with end_key.now seqno block
+            ∷ []) }
+        ensures ok { OnOk result (registered self.new ≡
+            registered self.old ++ handle_with end_key.now seqno block ∷ []) }
         ensures works { OnOk result (has_failed self.new ≡ false) }
         ensures unchanged { OnErr result (registered self.new ≡ registered self.old) }
         ensures failed { OnErr result (has_failed self.new ≡ true) }

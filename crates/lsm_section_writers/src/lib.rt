@@ -13,6 +13,8 @@ mod index_either;
 mod index_full;
 mod index_partitioned;
 mod index_writer;
+mod kept;
+mod key_buffer;
 
 pub use filter_either::FilterWriterImpl;
 pub use filter_full::FullFilterWriter;
@@ -24,3 +26,4 @@ pub use index_either::IndexWriterImpl;
 pub use index_full::FullIndexWriter;
 pub use index_partitioned::PartitionedIndexWriter;
 pub use index_writer::BlockIndexWriter;
+pub use key_buffer::KeyBuffer;

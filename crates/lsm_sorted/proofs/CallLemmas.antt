@@ -14,15 +14,15 @@ use Rattle.lsm_sorted.specs.Compacting.{failed, answered, again, KeepsTombstones
 use Rattle.lsm_sorted.proofs.OutsLemmas.{listed, asked_head, judged}
 use Rattle.lsm_sorted.proofs.TurnLemmas.{EachJudged, turn_explained}
 
-abbrev StaysIfTombstone : Judged → Type 0
+abbrev pub StaysIfTombstone : Judged → Type 0
 StaysIfTombstone j = is_tombstone_kind j.entry.kind ≡ true → j.verdict ≡ Ok keep
 
-to_tombstones : (js : List JudgedItem) → EachJudged StaysIfTombstone js → KeepsTombstones js
+pub to_tombstones : (js : List JudgedItem) → EachJudged StaysIfTombstone js → KeepsTombstones js
 to_tombstones [] h = tt
 to_tombstones (Ok j ∷ js) h = (h.0, to_tombstones js h.1)
 to_tombstones (Err e ∷ js) h = to_tombstones js h
 
-of_tombstones : (js : List JudgedItem) → KeepsTombstones js → EachJudged StaysIfTombstone js
+pub of_tombstones : (js : List JudgedItem) → KeepsTombstones js → EachJudged StaysIfTombstone js
 of_tombstones [] h = tt
 of_tombstones (Ok j ∷ js) h = (h.0, of_tombstones js h.1)
 of_tombstones (Err e ∷ js) h = of_tombstones js h
@@ -35,7 +35,7 @@ gets_append gets (x ∷ xs) ys b c d h k = (h.0, h.1, gets_append gets xs ys h.0
 module _ {F C : Type 0} (gives : F → Entry → Result Verdict Error → F → Type 0)
     (gets : C → Entry → C → Type 0) (rules : Rules) where
   -- asked of a head, a filter says what its turn had it say
-  says_head : (x : Entry) (v : Result Verdict Error) (f g h : F) (js : List Judged)
+  pub says_head : (x : Entry) (v : Result Verdict Error) (f g h : F) (js : List Judged)
       → Asks gives f x v g → SaysOf gives g js h → SaysOf gives f (asked_head (judged x v) ++ js) h
   says_head x v f g h js asks says =
       elim (not (is_tombstone_kind x.kind)) as (λ b. AsksIf gives b f x v g
@@ -44,7 +44,7 @@ module _ {F C : Type 0} (gives : F → Entry → Result Verdict Error → F → 
         | false ↦ λ a. subst (λ u. SaysOf gives u js h) a.1 says
       ] asks
 
-  stays : (x : Entry) (v : Result Verdict Error) (f g : F) → Asks gives f x v g
+  pub stays : (x : Entry) (v : Result Verdict Error) (f g : F) → Asks gives f x v g
       → StaysIfTombstone (judged x v)
   stays x v f g asks =
       elim (is_tombstone_kind x.kind) as (λ b. AsksIf gives (not b) f x v g → b ≡ true

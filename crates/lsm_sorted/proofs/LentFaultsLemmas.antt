@@ -54,7 +54,7 @@ last_fault e [] h = let no : true ≡ false = h.0 in absurd cc
 last_fault e (b ∷ before) h = last_fault e before h.1
 
 -- no error that is passed on is the stream's own
-passes_or_wants : (r : Option R) (answers : List (Option R)) → Passes r answers
+pub passes_or_wants : (r : Option R) (answers : List (Option R)) → Passes r answers
     → WantsItself r answers → ⊥
 passes_or_wants None answers passes wants = let no : None ≡ Some (Err OutOfMemory) = wants.0 in
     absurd cc

@@ -16,17 +16,17 @@ use Rattle.lsm_sorted.proofs.LentFaultsLemmas.{came_after, came_before, ends_app
 use Rattle.lsm_sorted.proofs.LentFaultsLemmas.{fault_comes, no_faults_append}
 
 -- a step on behind answers without errors
-passing_after : (r : Option R) (ps qs : List (Option R)) → NoFaults ps → Passing r qs
+pub passing_after : (r : Option R) (ps qs : List (Option R)) → NoFaults ps → Passing r qs
     → Passing r (ps ++ qs)
 passing_after None ps qs none h = no_faults_append ps qs none h
 passing_after (Some (Ok x)) ps qs none h = no_faults_append ps qs none h
 passing_after (Some (Err e)) ps qs none h = ends_append (Some (Err e)) ps qs none h
 
-wants_after : (r : Option R) (ps qs : List (Option R)) → NoFaults ps → WantsItself r qs
+pub wants_after : (r : Option R) (ps qs : List (Option R)) → NoFaults ps → WantsItself r qs
     → WantsItself r (ps ++ qs)
 wants_after r ps qs none h = (h.0, no_faults_append ps qs none h.1)
 
-nothing_wanted : {P : Type 0} (answers : List (Option R)) → WantsItself None answers → P
+pub nothing_wanted : {P : Type 0} (answers : List (Option R)) → WantsItself None answers → P
 nothing_wanted answers wants = let no : None ≡ Some (Err OutOfMemory) = wants.0 in absurd cc
 
 same_ok : (b c : Bool) (r : Result Bool Error) → r ≡ Ok b → r ≡ Ok c → b ≡ c

@@ -309,10 +309,10 @@ hidden_stops key y rs h = ap (λ (b : Bool). cond b (after_key key rs) (Ok y ∷
 -- ---- lists without errors
 
 -- no error follows the versions of a key
-abbrev Calm : List Versions → Type 0
+abbrev pub Calm : List Versions → Type 0
 Calm vs = AllByRecursion (λ v. v.error ≡ None) vs
 
-calm_before : (j : Judged) (vs : List Versions) → Calm vs → Calm (before j vs)
+pub calm_before : (j : Judged) (vs : List Versions) → Calm vs → Calm (before j vs)
 calm_before j [] h = (refl, tt)
 calm_before j (v ∷ vs) h = elim (is_version_of v.versions j) as (λ b. Calm
     (cond b (record { versions = j ∷ v.versions; error = v.error } ∷ vs)
@@ -328,7 +328,7 @@ module _ (rules : Rules) where
   calm_given None hs = refl
   calm_given (Some n) hs = refl
 
-  calm_outs : (vs : List Versions) → Calm vs
+  pub calm_outs : (vs : List Versions) → Calm vs
       → concat_by (lent_outs_of rules) vs ≡ concat_by (outs_of rules) vs
   calm_outs [] h = refl
   calm_outs (v ∷ vs) h =

@@ -29,6 +29,8 @@ pub mod LentNewestLemmas
 pub mod LentNewestListens
 pub mod LentOutsLemmas
 pub mod LentCompactionLemmas
-pub mod LentSettled
+pub mod LentTurnLemmas
 pub mod LentFilteredLemmas
 pub mod LentFilteredCalls
+pub mod LentFilteredFaultsLemmas
+pub mod LentFilteredRuns

@@ -13,7 +13,7 @@ use Rattle.lsm_sorted.specs.declared.compaction.Rules.{Rules}
 use Rattle.lsm_sorted.specs.Compaction.{Verdict, drop, Judged, JudgedItem, told, is_left}
 use Rattle.lsm_sorted.specs.Compaction.{reports_by, is_cut, heads, expired, zeroed, head_given}
 use Rattle.lsm_sorted.specs.Compaction.{given, Versions, is_version_of, before, by_key, gone}
-use Rattle.lsm_sorted.specs.Compaction.{error_of, entries, outs_of, reported_heads, reported_of}
+use Rattle.lsm_sorted.specs.Compaction.{error_of, entries, reported_heads, reported_of}
 use Rattle.lsm_sorted.specs.Compaction.{asked_of, concat_by, outs, reported, asked, as_is}
 use Rattle.lsm_sorted.specs.Compaction.{unfiltered}
 use Rattle.std.proofs.lemmas.List.{append-nil}
@@ -44,6 +44,17 @@ alone j = record { versions = j ∷ []; error = None }
 abbrev with_first : Judged → Versions → Versions
 with_first j v = record { versions = j ∷ v.versions; error = v.error }
 
+-- by when the last head goes, what the versions of a key give, and all do
+abbrev pub Going : Type 0
+Going = Option Entry → Option Error → Entry → Bool
+
+abbrev pub given_of : Going → Rules → Versions → List R
+given_of go rules v = given rules (go (first (entries (expired rules.watermark v.versions))) v.error)
+    (heads rules.watermark v.versions) ++ error_of v.error
+
+abbrev pub all_given : Going → Rules → List JudgedItem → List R
+all_given go rules js = concat_by (given_of go rules) (by_key js)
+
 -- joined lists, where a version stands before others or alone
 module _ {A : Type 0} (f : Versions → List A) (j : Judged) where
   before_joined : (front : List A) → f (alone j) ≡ front
@@ -61,16 +72,20 @@ module _ {A : Type 0} (f : Versions → List A) (j : Judged) where
 
 -- a version that the filter drops
 module _ (rules : Rules) (x : Entry) where
-  dropped_of : (V : List Judged) (e : Option Error)
-      → outs_of rules (record { versions = judged x (Ok drop) ∷ V; error = e })
-      ≡ outs_of rules (record { versions = V; error = e })
-  dropped_of [] e = refl
-  dropped_of (k ∷ ks) e = refl
+  dropped_of : (go : Going) (V : List Judged) (e : Option Error)
+      → given_of go rules (record { versions = judged x (Ok drop) ∷ V; error = e })
+      ≡ given_of go rules (record { versions = V; error = e })
+  dropped_of go [] e = refl
+  dropped_of go (k ∷ ks) e = refl
+
+  pub dropped_given : (go : Going) (js : List JudgedItem)
+      → all_given go rules (Ok (judged x (Ok drop)) ∷ js) ≡ all_given go rules js
+  dropped_given go js = before_joined (given_of go rules) (judged x (Ok drop)) [] refl
+      (λ v h. dropped_of go v.versions v.error) (by_key js)
 
   pub dropped_outs : (js : List JudgedItem)
       → outs rules (Ok (judged x (Ok drop)) ∷ js) ≡ outs rules js
-  dropped_outs js = before_joined (outs_of rules) (judged x (Ok drop)) [] refl
-      (λ v h. dropped_of v.versions v.error) (by_key js)
+  dropped_outs js = dropped_given (gone rules) js
 
   pub dropped_reported : (js : List JudgedItem)
       → reported rules (Ok (judged x (Ok drop)) ∷ js) ≡ x ∷ reported rules js
@@ -86,16 +101,20 @@ module _ (rules : Rules) (x : Entry) where
 
 -- a version for which the filter answers an error
 module _ (rules : Rules) (x : Entry) (e : Error) where
-  failed_of : (V : List Judged) (o : Option Error)
-      → outs_of rules (record { versions = judged x (Err e) ∷ V; error = o })
-      ≡ Err e ∷ outs_of rules (record { versions = V; error = o })
-  failed_of [] o = refl
-  failed_of (k ∷ ks) o = refl
+  failed_of : (go : Going) (V : List Judged) (o : Option Error)
+      → given_of go rules (record { versions = judged x (Err e) ∷ V; error = o })
+      ≡ Err e ∷ given_of go rules (record { versions = V; error = o })
+  failed_of go [] o = refl
+  failed_of go (k ∷ ks) o = refl
+
+  pub failed_given : (go : Going) (js : List JudgedItem)
+      → all_given go rules (Ok (judged x (Err e)) ∷ js) ≡ Err e ∷ all_given go rules js
+  failed_given go js = before_joined (given_of go rules) (judged x (Err e)) (Err e ∷ []) refl
+      (λ v h. failed_of go v.versions v.error) (by_key js)
 
   pub failed_outs : (js : List JudgedItem)
       → outs rules (Ok (judged x (Err e)) ∷ js) ≡ Err e ∷ outs rules js
-  failed_outs js = before_joined (outs_of rules) (judged x (Err e)) (Err e ∷ []) refl
-      (λ v h. failed_of v.versions v.error) (by_key js)
+  failed_outs js = failed_given (gone rules) js
 
   pub failed_reported : (js : List JudgedItem)
       → reported rules (Ok (judged x (Err e)) ∷ js) ≡ reported rules js
@@ -138,8 +157,8 @@ module _ (rules : Rules) (j : Judged) (y : Entry) (left : told j ≡ Ok (Some y)
       && nat_lt j.entry.seqno rules.watermark) left ∙ low
 
   -- by whether it is a cut, what its key gives, reports and asks
-  abbrev outs_if : Bool → List Judged → Option Error → List R
-  outs_if b V e = given rules (gone rules (first (entries (cond b V (expired rules.watermark V))))
+  abbrev given_if : Going → Bool → List Judged → Option Error → List R
+  given_if go b V e = given rules (go (first (entries (cond b V (expired rules.watermark V))))
       e) (j ∷ cond b [] (heads rules.watermark V)) ++ error_of e
 
   abbrev reported_if : Bool → List Judged → List Entry
@@ -169,13 +188,17 @@ module _ (rules : Rules) (j : Judged) (y : Entry) (left : told j ≡ Ok (Some y)
         (alone j ∷ v ∷ b.others))) same ∙ ap (λ (ys : List A). ys ++ concat_by f b.others)
         (one b.more b.error) ∙ append_assoc front (f v) (concat_by f b.others))
 
-    pub open_outs : outs rules (Ok j ∷ Ok k ∷ js) ≡ Ok (zeroed rules y) ∷ outs rules (Ok k ∷ js)
-    open_outs = first_joined (outs_of rules) (Ok (zeroed rules y) ∷ [])
-        (λ V e. ap (λ (b : Bool). outs_if b (k ∷ V) e) (high_is_no_cut high)
+    pub open_given : (go : Going) → all_given go rules (Ok j ∷ Ok k ∷ js)
+        ≡ Ok (zeroed rules y) ∷ all_given go rules (Ok k ∷ js)
+    open_given go = first_joined (given_of go rules) (Ok (zeroed rules y) ∷ [])
+        (λ V e. ap (λ (b : Bool). given_if go b (k ∷ V) e) (high_is_no_cut high)
         ∙ ap (λ (o : Result (Option Entry) Error).
         (head_given rules (λ x. false) o ++ given rules
-        (gone rules (first (entries (expired rules.watermark (k ∷ V)))) e)
+        (go (first (entries (expired rules.watermark (k ∷ V)))) e)
         (heads rules.watermark (k ∷ V))) ++ error_of e) left)
+
+    pub open_outs : outs rules (Ok j ∷ Ok k ∷ js) ≡ Ok (zeroed rules y) ∷ outs rules (Ok k ∷ js)
+    open_outs = open_given (gone rules)
 
     pub open_reported : reported rules (Ok j ∷ Ok k ∷ js) ≡ reports_by j.entry j.verdict
         ++ reported rules (Ok k ∷ js)
@@ -264,21 +287,26 @@ module _ (key : List ℕ) (js : List JudgedItem) (over : follows_in key js ≡ f
           ∙ sym (ap (λ (zs : List Entry). f true (unfiltered zs)) none)
     ]
 
+    pub close_given : (go : Going) → all_given go rules (Ok j ∷ (ok_results (unfiltered es) ++ js))
+        ≡ head_given rules (go (first es) (error_in js)) (Ok (Some y))
+        ++ (error_of (error_in js) ++ all_given go rules (behind_error js))
+    close_given go =
+        let rest = concat_by (given_of go rules) (by_key (behind_error js)) in
+        ap (concat_by (given_of go rules)) (closes j es its all)
+        ∙ ap (λ (ys : List R). ys ++ rest) (by_cut
+        (λ b V. given_if rules j y left go b V (error_in js)) refl)
+        ∙ ap (λ (zs : List Entry). (head_given rules (go (first zs) (error_in js)) (told j)
+        ++ error_of (error_in js)) ++ rest) (entries_as_is es)
+        ∙ ap (λ (o : Result (Option Entry) Error).
+        (head_given rules (go (first es) (error_in js)) o ++ error_of (error_in js))
+        ++ rest) left
+        ∙ append_assoc (head_given rules (go (first es) (error_in js)) (Ok (Some y)))
+        (error_of (error_in js)) rest
+
     pub close_outs : outs rules (Ok j ∷ (ok_results (unfiltered es) ++ js)) ≡ head_given rules
         (gone rules (first es) (error_in js))
         (Ok (Some y)) ++ (error_of (error_in js) ++ outs rules (behind_error js))
-    close_outs =
-        let rest = concat_by (outs_of rules) (by_key (behind_error js)) in
-        ap (concat_by (outs_of rules)) (closes j es its all)
-        ∙ ap (λ (ys : List R). ys ++ rest) (by_cut
-        (λ b V. outs_if rules j y left b V (error_in js)) refl)
-        ∙ ap (λ (zs : List Entry). (head_given rules (gone rules (first zs) (error_in js)) (told j)
-        ++ error_of (error_in js)) ++ rest) (entries_as_is es)
-        ∙ ap (λ (o : Result (Option Entry) Error).
-        (head_given rules (gone rules (first es) (error_in js)) o ++ error_of (error_in js))
-        ++ rest) left
-        ∙ append_assoc (head_given rules (gone rules (first es) (error_in js)) (Ok (Some y)))
-        (error_of (error_in js)) rest
+    close_outs = close_given (gone rules)
 
     pub close_reported : reported rules (Ok j ∷ (ok_results (unfiltered es) ++ js))
         ≡ (reports_by j.entry j.verdict ++ es) ++ reported rules (behind_error js)

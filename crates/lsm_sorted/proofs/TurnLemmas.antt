@@ -40,13 +40,13 @@ pub record Explained (P : Judged → Type 0) (rules : Rules) (j : Judged) (rs : 
   pub asks : asked rules js ≡ asked_head j ++ asked rules js'
   pub each : P j → EachJudged P js' → EachJudged P js
 
-follows_items : (key : List ℕ) (js : List JudgedItem)
+pub follows_items : (key : List ℕ) (js : List JudgedItem)
     → key_follows key (items js) ≡ follows_in key js
 follows_items key [] = refl
 follows_items key (Ok k ∷ js) = refl
 follows_items key (Err e ∷ js) = refl
 
-items_append : (es : List Entry) (js : List JudgedItem)
+pub items_append : (es : List Entry) (js : List JudgedItem)
     → items (ok_results (unfiltered es) ++ js) ≡ ok_results es ++ items js
 items_append [] js = refl
 items_append (e ∷ es) js = ap (λ (rs : List R). Ok e ∷ rs) (items_append es js)
@@ -99,7 +99,7 @@ and_false true false e = absurd cc
 and_false false b e = inr refl
 
 module _ (P : Judged → Type 0) (plain : (x : Entry) → P (as_is x)) (rules : Rules) where
-  each_unfiltered : (es : List Entry) (js : List JudgedItem) → EachJudged P js
+  pub each_unfiltered : (es : List Entry) (js : List JudgedItem) → EachJudged P js
       → EachJudged P (ok_results (unfiltered es) ++ js)
   each_unfiltered [] js h = h
   each_unfiltered (e ∷ es) js h = (plain e, each_unfiltered es js h)

@@ -13,6 +13,7 @@ use Rattle.lsm_merge.specs.Ends.{R}
 use Rattle.lsm_sorted.specs.Newest.{after_key}
 use Rattle.lsm_sorted.specs.Compaction.{goes, zeroed, given, Versions, by_key, error_of, entries}
 use Rattle.lsm_sorted.specs.Compaction.{heads, expired, concat_by, as_they_are, kept, unfiltered}
+use Rattle.lsm_sorted.specs.Compaction.{JudgedItem}
 use Rattle.lsm_sorted.specs.CompactionState.{answer_of, failure}
 use Rattle.lsm_sorted.specs.Hears.{GaveEach}
 use Rattle.lsm_sorted.specs.LentFaults.{CallTells, EndsIn, NoFaults, NothingCame, Passes}
@@ -40,9 +41,13 @@ lent_outs_of rules v = given rules
     (gone_of_lent rules (first (entries (expired rules.watermark v.versions))) v.error)
     (heads rules.watermark v.versions) ++ error_of v.error
 
--- all that is lent of a list of results
+-- all that is lent of a list of results, once a filter was asked
+abbrev pub lent_outs_by : Rules → List JudgedItem → List R
+lent_outs_by rules js = concat_by (lent_outs_of rules) (by_key js)
+
+-- the same where it keeps all
 abbrev pub lent_outs : Rules → List R → List R
-lent_outs rules rs = concat_by (lent_outs_of rules) (by_key (as_they_are rs))
+lent_outs rules rs = lent_outs_by rules (as_they_are rs)
 
 -- the list without the entries in front that this key hides, if one hides any
 abbrev pub past_hidden : Option (List ℕ) → List R → List R

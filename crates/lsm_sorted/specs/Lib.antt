@@ -15,6 +15,7 @@ pub mod Verdicts
 pub mod Ahead
 pub mod CompactionState
 pub mod LentCompaction
+pub mod LentFilteredFaults
 pub mod LentFiltered
 pub mod ReadLaw
 pub mod Words

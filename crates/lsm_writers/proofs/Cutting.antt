@@ -18,6 +18,8 @@ use Rattle.sst_sections.specs.Fnv.{fnv1a}
 use Rattle.sst_blocks.specs.Bounds.{data_block_bound_of, entry_bound}
 use Rattle.sst_blocks.specs.Handle.{Handle}
 use Rattle.sst_blocks.specs.Handles.{AreStrictHandles}
+use Rattle.sst_blocks.specs.Place.{Place}
+use Rattle.lsm_section_writers.specs.Kept.{handle_with}
 use Rattle.sst_sections.specs.Number.{le4, le8, num4}
 use Rattle.sst_blocks.specs.Payload.{payload}
 use Rattle.sst_blocks.specs.Reading.{entries_in}
@@ -300,6 +302,15 @@ registered_strict cs w hs before failed c h old works strict ok e =
     strict ok refl eh refl in
     let some = all_more (IsReadable V4) HasSome (λ x r. r.some) (cs ++ c ∷ []) made.readable in
     rw made.index (handles_strict V4 (cs ++ c ∷ []) some made.strict)
+
+-- the handle of a block by where it lies
+pub told_handle : (es written : List Entry) (at : ℕ) (block : Place) → written ≡ es
+    → block ≡ record { offset = at; size = block_size V4 es }
+    → handle_with (last_entry written).user_key (last_entry written).seqno block
+    ≡ handle_of V4 at es
+told_handle es written at block same is =
+    ap (λ (x : List Entry). handle_with (last_entry x).user_key (last_entry x).seqno block) same
+    ∙ ap (λ (b : Place). handle_with (last_entry es).user_key (last_entry es).seqno b) is
 
 pub rest_is : (es : List Entry) → 0 < length es → rest_chunk es ≡ es ∷ []
 rest_is [] h = absurd (omega (arith, h))

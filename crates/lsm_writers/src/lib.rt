@@ -12,8 +12,8 @@ pub use lsm_formats::{
 };
 pub use lsm_section_writers::{
     BlockIndexWriter, FilterWriter, FilterWriterImpl, FullFilterWriter, FullIndexWriter,
-    IndexWriterImpl, PartitionedFilterWriter, PartitionedIndexWriter, options_set_before_keys,
-    registered_keys_are_admitted, small_partitions_fit,
+    IndexWriterImpl, KeyBuffer, PartitionedFilterWriter, PartitionedIndexWriter,
+    options_set_before_keys, registered_keys_are_admitted, small_partitions_fit,
 };
 pub use multi_writer::{MultiWriter, tables_law};
 pub use sst_filters::BloomConstructionPolicy;

@@ -1,7 +1,7 @@
 //! Entries that are lent from where they lie as a filter leaves them, but for what no
 //! reader needs.
 ghost use Rattle.std.specs.Prelude.{◌≡◌, ◌<◌, ◌≤◌, true, false, cond, List};
-ghost use Rattle.std.specs.Prelude.{Bool, Result, IfErr, IfOk, IsSome, None, Ok, OnErr, Some};
+ghost use Rattle.std.specs.Prelude.{Result, IfErr, IfOk, IsSome, None, Ok, OnErr, Some};
 ghost use Rattle.std.specs.Prelude.{is_some};
 ghost use Rattle.sst_entries.specs.Entry.{Entry, entry};
 ghost use Rattle.sst_entries.specs.Lending.{came, entry_of_ref};
@@ -11,10 +11,13 @@ ghost use Rattle.sst_entries.specs.declared.error.Error.TheVariants.{OutOfMemory
 ghost use Rattle.lsm_sorted.specs.Compaction.{Verdict, keep};
 ghost use Rattle.lsm_sorted.specs.CompactionState.{answer_of, failure};
 ghost use Rattle.lsm_sorted.specs.LentCompaction.{has_to_wait, one_more_if};
-ghost use Rattle.lsm_sorted.specs.LentFiltered.{AdvancesFiltered, CompactsLent, LooksAtNothing};
-ghost use Rattle.lsm_sorted.specs.LentFiltered.{MayFilter, SettlesFiltered, StepsFiltered};
-ghost use Rattle.lsm_sorted.specs.LentFiltered.{filtered_left, lent_callback, lent_filter};
-ghost use Rattle.lsm_sorted.specs.LentFiltered.{lent_filtered, put_into};
+ghost use Rattle.lsm_sorted.specs.LentFaults.{AlwaysTells};
+ghost use Rattle.lsm_sorted.specs.LentFiltered.{AdvancesFiltered, CompactsLent};
+ghost use Rattle.lsm_sorted.specs.LentFiltered.{CompactsLentResults, FetchesFiltered, MayFilter};
+ghost use Rattle.lsm_sorted.specs.LentFiltered.{SettlesFiltered, StepsFiltered, filtered_left};
+ghost use Rattle.lsm_sorted.specs.LentFiltered.{lent_callback, lent_filter, lent_filtered};
+ghost use Rattle.lsm_sorted.specs.LentFiltered.{lent_source, put_into};
+ghost use Rattle.lsm_sorted.specs.LentFilteredFaults.{FilterSays, PassesAllOr, StaysOverOr};
 ghost use Rattle.lsm_sorted.specs.Verdicts.{said};
 ghost use Rattle.lsm_sorted.specs.declared.compaction.filtered.Shows.TheVariants.{Nothing};
 
@@ -117,6 +120,18 @@ impl<
         ensures whole { IfOk result (λ s. CompactsLent L.advances source
             ⟦<FilteredLendingCompaction<L, F, C, A> as Lending>⟧.advances s rules F.gives C.gets
             filter callback lent_filter lent_callback) }
+        // With errors among it, the same between them, and each error in its place.
+        ensures places { IfOk result (λ s. CompactsLentResults L.advances source
+            ⟦<FilteredLendingCompaction<L, F, C, A> as Lending>⟧.advances s rules F.gives C.gets
+            filter callback lent_source lent_filter lent_callback) }
+        // Over any source, each of its errors as it is, and no other but one that the filter says
+        // and its own want of memory.
+        ensures faults { IfOk result (AlwaysTells (PassesAllOr (FilterSays F.gives)) L.advances
+            source lent_source ⟦<FilteredLendingCompaction<L, F, C, A> as Lending>⟧.advances) }
+        // Behind its own want of memory nothing comes. Where nothing came, it asks the source
+        // again, and nothing comes while that gives nothing.
+        ensures over { IfOk result (AlwaysTells (StaysOverOr (FilterSays F.gives)) L.advances
+            source lent_source ⟦<FilteredLendingCompaction<L, F, C, A> as Lending>⟧.advances) }
         // Where the source may be asked for as long as wanted, so may it.
         ensures can { CanDeal L.advances nowhere L.can_advance L.can_advance source →
             IfOk result (CanDeal ⟦<FilteredLendingCompaction<L, F, C, A> as Lending>⟧.advances
@@ -163,16 +178,13 @@ impl<
         requires may { MayFilter L.advances L.can_advance self.old }
         requires live { self.old.is_over ≡ false }
         ensures may { MayFilter L.advances L.can_advance self.new }
-        ensures steps { (stops : Error → Bool) →
-            StepsFiltered L.advances L.lent stops F.gives C.gets self.old (failure result)
+        ensures fetches { FetchesFiltered F.gives C.gets L.advances L.lent self.old (failure result)
             self.new }
         ensures over { self.new.is_over ≡ self.old.is_over }
         ensures shows { self.new.shows ≡ self.old.shows }
         ensures pending { IfOk result (λ more. self.new.is_pending ≡ more) }
-        ensures ends { IfOk result (λ more. more ≡ false →
-            LooksAtNothing L.advances L.lent self.old × (filtered_left L.left self.new ≡ 0)) }
-        ensures filter { self.new.filter ≡ self.old.filter }
-        ensures callback { self.new.callback ≡ self.old.callback }
+        ensures ends { IfOk result (λ more. more ≡ false → filtered_left L.left self.new ≡ 0) }
+        ensures rests { OnErr result (self.new.is_pending ≡ false) }
         ensures few { IfOk result (λ _.
             filtered_left L.left self.new ≤ filtered_left L.left self.old) }
         ensures fewer { IfErr result (λ _.
@@ -205,10 +217,11 @@ impl<
         ensures shows { self.new.shows ≡ self.old.shows }
         ensures key { self.new.key ≡ self.old.key }
         ensures value { self.new.value ≡ self.old.value }
-        ensures settles { (stops : Error → Bool) (head : Entry) →
+        ensures rests { OnErr result (self.new.is_pending ≡ false) }
+        ensures settles { (head : Entry) →
             has_to_wait self.old.rules head ≡ true → head.user_key ≡ self.old.key.items →
-            head.seqno ≡ seqno → SettlesFiltered L.advances L.lent stops F.gives C.gets self.old
-            (answer_of self.old.rules head result) self.new head }
+            head.seqno ≡ seqno → SettlesFiltered F.gives C.gets L.advances L.lent self.old head
+            (answer_of self.old.rules head result) self.new }
         ensures few { one_more_if self.new.is_pending (L.left self.new.source) ≤
             L.left self.old.source }
     {
@@ -238,10 +251,10 @@ impl<
         requires waits { has_to_wait self.old.rules
             (entry self.old.key.items self.old.value.items seqno kind) ≡ true }
         ensures may { MayFilter L.advances L.can_advance self.new }
-        ensures settles { (stops : Error → Bool) →
-            SettlesFiltered L.advances L.lent stops F.gives C.gets self.old
-            (came result (lent_filtered L.lent self.new)) self.new
-            (entry self.old.key.items self.old.value.items seqno kind) }
+        ensures settles { SettlesFiltered F.gives C.gets L.advances L.lent self.old
+            (entry self.old.key.items self.old.value.items seqno kind)
+            (came result (lent_filtered L.lent self.new)) self.new }
+        ensures rests { OnErr result (self.new.is_pending ≡ false) }
         ensures more { IfOk result (λ more. more ≡ is_some (lent_filtered L.lent self.new)) }
         ensures err { OnErr result (lent_filtered L.lent self.new ≡ None) }
         ensures live { self.new.is_over ≡ false }
@@ -266,10 +279,10 @@ impl<
         requires waits { (head : Entry) → L.lent self.old.source ≡ Some head →
             has_to_wait self.old.rules head ≡ true }
         ensures may { MayFilter L.advances L.can_advance self.new }
-        ensures settles { (stops : Error → Bool) (head : Entry) →
-            L.lent self.old.source ≡ Some head →
-            SettlesFiltered L.advances L.lent stops F.gives C.gets self.old
-            (came result (lent_filtered L.lent self.new)) self.new head }
+        ensures settles { (head : Entry) → L.lent self.old.source ≡ Some head →
+            SettlesFiltered F.gives C.gets L.advances L.lent self.old head
+            (came result (lent_filtered L.lent self.new)) self.new }
+        ensures rests { OnErr result (self.new.is_pending ≡ false) }
         ensures more { IfOk result (λ more. more ≡ is_some (lent_filtered L.lent self.new)) }
         ensures err { OnErr result (lent_filtered L.lent self.new ≡ None) }
         ensures live { IfOk result (λ _. self.new.is_over ≡ false) }
@@ -302,10 +315,10 @@ impl<
         requires empty { self.old.shows ≡ Nothing }
         requires some { IsSome (L.lent self.old.source) }
         ensures may { MayFilter L.advances L.can_advance self.new }
-        ensures settles { (stops : Error → Bool) (head : Entry) →
-            L.lent self.old.source ≡ Some head →
-            SettlesFiltered L.advances L.lent stops F.gives C.gets self.old
-            (came result (lent_filtered L.lent self.new)) self.new head }
+        ensures settles { (head : Entry) → L.lent self.old.source ≡ Some head →
+            SettlesFiltered F.gives C.gets L.advances L.lent self.old head
+            (came result (lent_filtered L.lent self.new)) self.new }
+        ensures rests { OnErr result (self.new.is_pending ≡ false) }
         ensures more { IfOk result (λ more. more ≡ is_some (lent_filtered L.lent self.new)) }
         ensures err { OnErr result (lent_filtered L.lent self.new ≡ None) }
         ensures live { IfOk result (λ _. self.new.is_over ≡ false) }
@@ -346,10 +359,10 @@ impl<
         requires empty { self.old.shows ≡ Nothing }
         requires some { IsSome (L.lent self.old.source) }
         ensures may { MayFilter L.advances L.can_advance self.new }
-        ensures settles { (stops : Error → Bool) (head : Entry) →
-            L.lent self.old.source ≡ Some head →
-            SettlesFiltered L.advances L.lent stops F.gives C.gets self.old
-            (came result (lent_filtered L.lent self.new)) self.new (put_into head kind value.now) }
+        ensures settles { (head : Entry) → L.lent self.old.source ≡ Some head →
+            SettlesFiltered F.gives C.gets L.advances L.lent self.old
+            (put_into head kind value.now) (came result (lent_filtered L.lent self.new)) self.new }
+        ensures rests { OnErr result (self.new.is_pending ≡ false) }
         ensures more { IfOk result (λ more. more ≡ is_some (lent_filtered L.lent self.new)) }
         ensures err { OnErr result (lent_filtered L.lent self.new ≡ None) }
         ensures live { IfOk result (λ _. self.new.is_over ≡ false) }
@@ -398,9 +411,9 @@ impl<
         requires pending { self.old.is_pending ≡ true }
         requires empty { self.old.shows ≡ Nothing }
         ensures may { MayFilter L.advances L.can_advance self.new }
-        ensures steps { (stops : Error → Bool) →
-            StepsFiltered L.advances L.lent stops F.gives C.gets self.old
+        ensures steps { StepsFiltered F.gives C.gets L.advances L.lent self.old
             (came result (lent_filtered L.lent self.new)) self.new }
+        ensures rests { OnErr result (self.new.is_pending ≡ false) }
         ensures more { IfOk result (λ more. more ≡ is_some (lent_filtered L.lent self.new)) }
         ensures err { OnErr result (lent_filtered L.lent self.new ≡ None) }
         ensures live { IfOk result (λ _. self.new.is_over ≡ false) }
@@ -431,9 +444,9 @@ impl<
                 self.is_pending = false;
                 Ok(false)
             }
-            Err(error) => {
+            Err(refused) => {
                 self.is_pending = false;
-                Err(error)
+                Err(refused)
             }
         }
     }

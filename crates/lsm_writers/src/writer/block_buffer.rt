@@ -5,9 +5,10 @@ ghost use Rattle.std.specs.Prelude.{IfErr, IfOk, IsTrue, OnErr, OnOk};
 ghost use Rattle.std.specs.Option.{option_map};
 ghost use Rattle.sst_blocks.specs.Encoding.{IsShortEntry};
 ghost use Rattle.sst_blocks.specs.Payload.{IsSpellable, spelled};
+ghost use Rattle.sst_entries.specs.Kind.{tag_of};
 ghost use Rattle.sst_entries.specs.Lending.{entry_of_ref};
 ghost use Rattle.sst_entries.specs.declared.error.Error.TheVariants.{OutOfMemory};
-ghost use Rattle.sst_sections.specs.Number.{le4};
+ghost use Rattle.sst_sections.specs.Number.{le4, le8};
 ghost use Rattle.sst_sections.specs.declared.version.TableVersion.TheVariants.{V4};
 ghost use Rattle.lsm_formats.specs.Index.{block_size};
 ghost use Rattle.lsm_writers.specs.Buffered.{IsMark, MarksFront};
@@ -19,7 +20,7 @@ use sst_blocks::{
     ValueType,
 };
 use sst_entries::EntryRef;
-use sst_sections::number::{put_u32, put_u64};
+use sst_sections::number::put_u32;
 use std::alloc::{Allocator, Global};
 use std::marker::Model;
 
@@ -229,6 +230,20 @@ fn put_count<A: Allocator>(payload: &mut Vec<u8, A>, count: u32)
     payload[3] = fourth;
 }
 
+/// What stands before the key of an entry: its kind, its number and the lengths of key and value.
+#[tactic(auto, unfolding(sst_sections::specs::Number::le4, sst_sections::specs::Number::le8))]
+fn entry_head(value_type: ValueType, seqno: SeqNo, key_len: u32, value_len: u32) -> [u8; 17]
+    ensures { result ≡ (tag_of value_type ∷ []) ++ le8 seqno ++ le4 key_len ++ le4 value_len }
+{
+    let tag = value_type.tag();
+    let [n1, n2, n3, n4, n5, n6, n7, n8] = seqno.to_le_bytes();
+    let [k1, k2, k3, k4] = key_len.to_le_bytes();
+    let [v1, v2, v3, v4] = value_len.to_le_bytes();
+    [
+        tag, n1, n2, n3, n4, n5, n6, n7, n8, k1, k2, k3, k4, v1, v2, v3, v4,
+    ]
+}
+
 /// Writes an entry at the end of `buf`. Refused [`Error::OutOfMemory`] alone. What `buf` held stays
 /// at its front.
 #[tactic(auto, unfolding(sst_blocks::specs::Payload::spelled))]
@@ -240,10 +255,10 @@ fn put_entry<A: Allocator>(buf: &mut Vec<u8, A>, entry: &EntryRef<'_>) -> Result
     ensures front { take (vec_len buf.old) buf.new.items ≡ buf.old.items }
     ensures err { IfErr result (λ e. e ≡ OutOfMemory) }
 {
-    buf.push(entry.value_type.tag())?;
-    put_u64(buf, entry.seqno)?;
-    put_u32(buf, entry.user_key.len() as u32)?;
-    put_u32(buf, entry.value.len() as u32)?;
+    let key_len = entry.user_key.len() as u32;
+    let value_len = entry.value.len() as u32;
+    let head = entry_head(entry.value_type, entry.seqno, key_len, value_len);
+    buf.extend_from_slice(&head)?;
     buf.extend_from_slice(entry.user_key)?;
     buf.extend_from_slice(entry.value)?;
     Ok(())

@@ -1,9 +1,11 @@
 //! The data blocks of a table, with the index that they are registered with.
 ghost use Rattle.std.specs.Prelude.{◌≡◌, ◌+◌, ◌*◌, ◌++◌, ◌^◌, ◌<◌, List, [], ◌∷◌, Option, None};
-ghost use Rattle.std.specs.Prelude.{Some, false, length, IfOk, IfErr, OnOk, OnErr};
+ghost use Rattle.std.specs.Prelude.{Some, true, false, length, IfOk, IfErr, OnOk, OnErr};
+ghost use Rattle.sst_blocks.specs.Handles.{AreStrictHandles};
+ghost use Rattle.lsm_section_writers.specs.Kept.{handle_with};
 ghost use Rattle.lsm_writers.specs.Words.{AreCutBy, BlockFits, CanCut, CountsCut, Entry};
-ghost use Rattle.lsm_writers.specs.Words.{Cut, IsReadable, IsStrict, data_block, data_section};
-ghost use Rattle.lsm_writers.specs.Words.{entries_fault, entry_head_len, handle_of, handles};
+ghost use Rattle.lsm_writers.specs.Words.{Cut, IsStrict, data_section};
+ghost use Rattle.lsm_writers.specs.Words.{entries_fault, entry_head_len, handles};
 ghost use Rattle.lsm_writers.specs.Words.{joined, laid, last_of};
 ghost use Rattle.lsm_writers.specs.Words.{rest_chunk, with_cut};
 ghost use Rattle.std.specs.Option.{option_map};
@@ -16,10 +18,8 @@ ghost use Rattle.std.specs.List.{AllByRecursion};
 
 use crate::writer::block_buffer::BlockBuffer;
 use crate::writer::meta::Metadata;
-use lsm_section_writers::{BlockIndexWriter, FullIndexWriter};
-use sst_blocks::{
-    BlockOffset, Error, KeyedBlockHandle, SectionName, SectionWriter, SeqNo, UserKey,
-};
+use lsm_section_writers::{BlockIndexWriter, FullIndexWriter, KeyBuffer};
+use sst_blocks::{BlockHandle, BlockOffset, Error, SectionName, SectionWriter};
 use sst_entries::EntryRef;
 use std::alloc::{Allocator, Global};
 use std::marker::Model;
@@ -34,6 +34,8 @@ pub(crate) struct DataBlocks<A: Allocator = Global> {
     index_writer: FullIndexWriter<A>,
     // the entries of the last block; the next one's come into its memory
     last_block: BlockBuffer<A>,
+    // memory for the last key of the next block
+    spare_key: Option<KeyBuffer<A>>,
 }
 
 impl<A: Allocator> Model for DataBlocks<A> {
@@ -72,6 +74,7 @@ impl<A: Allocator + Clone> DataBlocks<A> {
             file_writer,
             index_writer,
             last_block,
+            spare_key: None,
         })
     }
 
@@ -110,20 +113,10 @@ impl<A: Allocator + Clone> DataBlocks<A> {
         let Some(last) = chunk.last() else {
             return Ok(());
         };
-        let seqno = last.seqno;
-        let last_key = UserKey::from(chunk.allocator().clone()?, last.user_key)?;
-        if let Err(error) = add_block(
-            &mut self.file_writer,
-            &mut self.index_writer,
-            chunk,
-            &last_key,
-            seqno,
-        ) {
-            drop(last_key);
-            return Err(error);
-        }
+        KeyBuffer::keep(&mut self.spare_key, chunk.allocator(), last.user_key)?;
+        add_block(&mut self.file_writer, &mut self.index_writer, chunk)?;
         let end = BlockOffset(self.file_writer.position());
-        meta.count_block(chunk.len(), chunk.payload_len(), end, last_key);
+        meta.count_block(chunk.len(), chunk.payload_len(), end, &mut self.spare_key);
         mem::swap(&mut self.last_block, chunk);
         chunk.clear();
         Ok(())
@@ -142,23 +135,20 @@ impl<A: Allocator + Clone> DataBlocks<A> {
             file_writer,
             index_writer,
             last_block,
+            ..
         } = self;
         (file_writer, index_writer, last_block.into_memory())
     }
 }
 
-/// Writes these entries as a block at the end, and registers it with the index. The last one has
-/// this key and this number. Refused [`Error::OutOfMemory`] alone; the blocks before stay.
+/// Writes these entries as a block at the end, and registers it with the index. Refused
+/// [`Error::OutOfMemory`] alone; the blocks before stay.
 fn add_block<A: Allocator + Clone>(
     file_writer: &mut SectionWriter<A>,
     index_writer: &mut FullIndexWriter<A>,
     entries: &mut BlockBuffer<A>,
-    last_key: &UserKey<A>,
-    seqno: SeqNo,
 ) -> Result<(), Error>
     requires some { 0 < length entries.old }
-    requires key { last_key.now ≡ (last_entry entries.old).user_key }
-    requires number { seqno ≡ (last_entry entries.old).seqno }
     requires fit { entries_fault entries.old ≡ None }
     requires cut { CanCut file_writer.old index_writer.old.handles index_writer.old.failed
         entries.old }
@@ -174,34 +164,31 @@ fn add_block<A: Allocator + Clone>(
         AreCutBy chunks file_writer.new index_writer.new before) }
     ensures err { IfErr result (λ e. e ≡ OutOfMemory) }
 {
-    let handle = write_chunk(file_writer, entries, last_key, seqno)?;
-    index_writer.register_data_block(&handle)
+    let block = entries.write_into(file_writer)?;
+    register_block(index_writer, entries, block)
 }
 
-/// Writes these entries as a block at the end. Answers what the index has of the block. Refused
-/// [`Error::OutOfMemory`] alone; nothing is written then.
-fn write_chunk<A: Allocator + Clone>(
-    file_writer: &mut SectionWriter<A>,
-    entries: &mut BlockBuffer<A>,
-    last_key: &UserKey<A>,
-    seqno: SeqNo,
-) -> Result<KeyedBlockHandle<A>, Error>
-    requires some { 0 < length entries.old }
-    requires key { last_key.now ≡ (last_entry entries.old).user_key }
-    requires number { seqno ≡ (last_entry entries.old).seqno }
-    requires strict { IsStrict entries.old }
-    requires fit { entries_fault entries.old ≡ None }
-    ensures ok { OnOk result (file_writer.new ≡ record file_writer.old {
-      bytes = file_writer.old.bytes ++ data_block V4 entries.old;
-    }) }
-    ensures handle { IfOk result (λ h. h ≡
-        handle_of V4 (length file_writer.old.bytes) entries.old) }
-    ensures readable { OnOk result (IsReadable V4 entries.old) }
-    ensures same { entries.new ≡ entries.old }
-    ensures unchanged { OnErr result (file_writer.new ≡ file_writer.old) }
+/// Registers the block of these entries with the index. Refused [`Error::OutOfMemory`] alone.
+fn register_block<A: Allocator + Clone>(
+    index_writer: &mut FullIndexWriter<A>,
+    entries: &BlockBuffer<A>,
+    block: BlockHandle,
+) -> Result<(), Error>
+    requires some { 0 < length entries.now }
+    requires works { index_writer.old.failed ≡ false }
+    requires strict { let last = last_entry entries.now in
+        AreStrictHandles (index_writer.old.handles
+        ++ handle_with last.user_key last.seqno block ∷ []) }
+    ensures ok { let last = last_entry entries.now in
+        OnOk result (index_writer.new.handles ≡ index_writer.old.handles
+        ++ handle_with last.user_key last.seqno block ∷ []) }
+    ensures works { OnOk result (index_writer.new.failed ≡ false) }
+    ensures unchanged { OnErr result (index_writer.new.handles ≡ index_writer.old.handles) }
+    ensures failed { OnErr result (index_writer.new.failed ≡ true) }
     ensures err { IfErr result (λ e. e ≡ OutOfMemory) }
 {
-    let end_key = last_key.clone()?;
-    let place = entries.write_into(file_writer)?;
-    Ok(KeyedBlockHandle::new(end_key, seqno, place))
+    match entries.last() {
+        Some(last) => index_writer.register_ref(last.user_key, last.seqno, block),
+        None => Ok(()), // there is an entry
+    }
 }

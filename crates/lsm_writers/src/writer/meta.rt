@@ -6,9 +6,11 @@ ghost use Rattle.sst_entries.specs.declared.error.Error.TheVariants.{OutOfMemory
 ghost use Rattle.lsm_formats.specs.Facts.{is_weak, is_value_kind, starts_key, is_reclaimable};
 ghost use Rattle.sst_entries.specs.Kind.{is_weak_kind};
 
+use lsm_section_writers::KeyBuffer;
 use sst_blocks::{BlockOffset, Error, SeqNo, UserKey, ValueType};
 use sst_entries::EntryRef;
 use std::alloc::{Allocator, Global};
+use std::mem;
 
 /// Counts of what was written. The fields that speak of blocks, with `item_count` and `last_key`,
 /// change when a block is cut; the others change with each entry.
@@ -35,7 +37,7 @@ pub struct Metadata<A: Allocator = Global> {
     /// The first key.
     pub first_key: Option<UserKey<A>>,
     /// The last key of the blocks that were cut.
-    pub last_key: Option<UserKey<A>>,
+    pub last_key: Option<KeyBuffer<A>>,
     /// The lowest number, `u64::MAX` where there is none.
     pub lowest_seqno: SeqNo,
     /// The highest number, 0 where there is none.
@@ -180,13 +182,13 @@ impl<A: Allocator> Metadata<A> {
     }
 
     /// Counts a block that was cut: its entries, the bytes of its payload, where it ends and its
-    /// last key.
+    /// last key, which is exchanged for the one of the block before.
     pub(crate) fn count_block(
         &mut self,
         items: usize,
         size: usize,
         end: BlockOffset,
-        last_key: UserKey<A>,
+        last_key: &mut Option<KeyBuffer<A>>,
     )
         requires { (self.old.data_block_count + 1 < 2 ^ 64) × (self.old.item_count + items < 2 ^ 64)
             × (self.old.uncompressed_size + size < 2 ^ 64) }
@@ -195,13 +197,13 @@ impl<A: Allocator> Metadata<A> {
           item_count = self.old.item_count + items;
           file_pos = end;
           uncompressed_size = self.old.uncompressed_size + size;
-          last_key = Some last_key;
+          last_key = last_key.old;
         } }
     {
         self.data_block_count += 1;
         self.item_count += items;
         self.file_pos = end;
         self.uncompressed_size += size as u64;
-        self.last_key = Some(last_key);
+        mem::swap(&mut self.last_key, last_key);
     }
 }

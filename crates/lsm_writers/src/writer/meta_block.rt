@@ -17,7 +17,7 @@ use crate::writer::meta::Metadata;
 use lsm_formats::{FILTER_HASH_TYPE, ItemName, Label, Options};
 use sst_blocks::{
     Block, BlockType, CompressionType, DataBlock, Error, InternalValue, SectionName, SectionWriter,
-    Slice, UserKey, ValueType,
+    Slice, ValueType,
 };
 use std::alloc::Allocator;
 
@@ -144,8 +144,8 @@ fn put_level_and_key_items<A: Allocator + Clone>(
             (ItemName::IndexKeysHaveSeqno, &[1]),
             (ItemName::InitialLevel, &[label.initial_level]),
             (ItemName::ItemCount, &bytes8(meta.item_count as u64)),
-            (ItemName::KeyMax, bytes_of(&meta.last_key)),
-            (ItemName::KeyMin, bytes_of(&meta.first_key)),
+            (ItemName::KeyMax, last_key(meta)),
+            (ItemName::KeyMin, first_key(meta)),
         ],
     )
 }
@@ -263,11 +263,21 @@ fn table_version() -> &'static [u8]
     &[4]
 }
 
-/// The bytes of a key, none where there is no key.
-fn bytes_of<A: Allocator>(key: &Option<UserKey<A>>) -> &[u8]
-    ensures { result.now ≡ unwrap_or key.now [] }
+/// The bytes of the first key, none where there is no key.
+fn first_key<A: Allocator>(meta: &Metadata<A>) -> &[u8]
+    ensures { result.now ≡ unwrap_or meta.now.first_key [] }
 {
-    match key {
+    match &meta.first_key {
+        Some(key) => key.as_slice(),
+        None => &[],
+    }
+}
+
+/// The bytes of the last key, none where there is no key.
+fn last_key<A: Allocator>(meta: &Metadata<A>) -> &[u8]
+    ensures { result.now ≡ unwrap_or meta.now.last_key [] }
+{
+    match &meta.last_key {
         Some(key) => key.as_slice(),
         None => &[],
     }

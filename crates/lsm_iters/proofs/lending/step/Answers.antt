@@ -45,10 +45,12 @@ pub returns-in-None-clause-takes : goal.returns-in-None-clause-takes
 returns-in-None-clause-takes g c =
     let gives = c.advance_in.ensures in
     let none = none_there _ (sym gives.more ∙ c.if-advance_in.false) in
-    (lends_rest c.args.walk.now c.loop-walk.walk c.advance_in.new.part c.loop-walk.invariant gives.first none c.load.new.self c.advance_in-in-None.new.part c.advance_in-in-None.result c.in-None.ensures c.advance_in-in-None.ensures.first).takes
+    let last = c.advance_last.ensures in
+    rw last.is ((lends_rest c.args.walk.now c.loop-walk.walk c.advance_in.new.part c.loop-walk.invariant gives.first none c.load.new.self c.advance_last.new.walk.front c.advance_last.result c.in-None.ensures last.first).takes)
 
 pub returns-in-None-clause-there : goal.returns-in-None-clause-there
 returns-in-None-clause-there g c =
     let gives = c.advance_in.ensures in
     let none = none_there _ (sym gives.more ∙ c.if-advance_in.false) in
-    (lends_rest c.args.walk.now c.loop-walk.walk c.advance_in.new.part c.loop-walk.invariant gives.first none c.load.new.self c.advance_in-in-None.new.part c.advance_in-in-None.result c.in-None.ensures c.advance_in-in-None.ensures.first).there
+    let last = c.advance_last.ensures in
+    (lends_rest c.args.walk.now c.loop-walk.walk c.advance_in.new.part c.loop-walk.invariant gives.first none c.load.new.self c.advance_last.new.walk.front c.advance_last.result c.in-None.ensures last.first).there

@@ -5,7 +5,7 @@ use Rattle.sst_entries.specs.declared.stream.Direction.TheVariants.{Front}
 use Rattle.lsm_walks.proofs.Reaching.{smaller}
 use Rattle.lsm_iters.specs.Range.{range_remains}
 use Rattle.lsm_runs.specs.Tables.{KeepsTables, coming_tables}
-use Rattle.lsm_runs.proofs.LentRuns.{back_lent, comes_first, comes_on, front_lent, lends_entry, lends_fault, lends_item, lends_rest, none_there}
+use Rattle.lsm_runs.proofs.LentRuns.{comes_first, comes_on, lends_entry, lends_fault, lends_item, lends_rest, none_there}
 use Rattle.lsm_runs.proofs.lending_reader.step.Goals as goal
 
 pub loop-walk-init : goal.loop-walk-init
@@ -32,7 +32,7 @@ returns-then-branch-clause-there g c =
     (lends_entry c.args.walk.now c.loop-walk.walk c.advance_in.new.part c.loop-walk.invariant (sym step.more ∙ c.if-branch.true) step.lends).there
 
 pub returns-then-branch-clause-more : goal.returns-then-branch-clause-more
-returns-then-branch-clause-more g c = front_lent _ _ (sym c.in_ok-advance_in.ensures.more ∙ c.if-branch.true)
+returns-then-branch-clause-more g c = sym (sym c.in_ok-advance_in.ensures.more ∙ c.if-branch.true)
 
 pub loop-walk-preserved : goal.loop-walk-preserved
 loop-walk-preserved g c =
@@ -60,16 +60,12 @@ pub returns-in-None-clause-takes : goal.returns-in-None-clause-takes
 returns-in-None-clause-takes g c =
     let step = c.in_ok-advance_in.ensures in
     let none = none_there _ (sym step.more ∙ c.if-branch.false) in
-    (lends_rest c.args.walk.now c.loop-walk.walk c.advance_in.new.part c.loop-walk.invariant none step.lends c.load.new.self c.advance_in-in-None.new.part c.advance_in-in-None.result c.in-None.ensures.gives c.advance_in-in-None.ensures.lends).takes
+    let last = c.advance_last.ensures in
+    rw last.is ((lends_rest c.args.walk.now c.loop-walk.walk c.advance_in.new.part c.loop-walk.invariant none step.lends c.load.new.self c.advance_last.new.walk.front c.advance_last.result c.in-None.ensures.gives last.lends).takes)
 
 pub returns-in-None-clause-there : goal.returns-in-None-clause-there
 returns-in-None-clause-there g c =
     let step = c.in_ok-advance_in.ensures in
     let none = none_there _ (sym step.more ∙ c.if-branch.false) in
-    (lends_rest c.args.walk.now c.loop-walk.walk c.advance_in.new.part c.loop-walk.invariant none step.lends c.load.new.self c.advance_in-in-None.new.part c.advance_in-in-None.result c.in-None.ensures.gives c.advance_in-in-None.ensures.lends).there
-
-pub returns-in-None-clause-more : goal.returns-in-None-clause-more
-returns-in-None-clause-more g c =
-    let step = c.in_ok-advance_in.ensures in
-    let none = none_there _ (sym step.more ∙ c.if-branch.false) in
-    back_lent c.advance_in-in-None.result _ _ none c.advance_in-in-None.ensures.more
+    let last = c.advance_last.ensures in
+    (lends_rest c.args.walk.now c.loop-walk.walk c.advance_in.new.part c.loop-walk.invariant none step.lends c.load.new.self c.advance_last.new.walk.front c.advance_last.result c.in-None.ensures.gives last.lends).there

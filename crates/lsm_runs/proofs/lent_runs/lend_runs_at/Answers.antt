@@ -1,9 +1,11 @@
-use Rattle.std.specs.Prelude.{ℕ}
+use Rattle.std.specs.Prelude.{ℕ, map}
+use Rattle.std.specs.Arc.{arc_value}
 use Rattle.sst_entries.proofs.StreamLemmas.{can_now}
 use Rattle.lsm_ranges.proofs.PackLemmas.{if_ok}
 use Rattle.lsm_runs.specs.LentRun.{RunLends}
 use Rattle.lsm_runs.specs.RunRange.{run_size}
 use Rattle.lsm_runs.proofs.LentBelows.{can_lend_below}
+use Rattle.lsm_runs.proofs.LentPlaces.{newest_places}
 use Rattle.lsm_runs.proofs.LentRunLaws.{lending_deals}
 use Rattle.lsm_runs.proofs.LentTogether.{newest_below}
 use Rattle.lsm_runs.proofs.Numbered.{dealt_as, none_cut}
@@ -31,3 +33,9 @@ returns-clause-can g c =
 
 pub returns-clause-advance : goal.returns-clause-advance
 returns-clause-advance g c = if_ok c.lent_stream.result (λ s can. can_now _ _ _ _ s can) (returns-clause-can g c)
+
+pub returns-clause-places : goal.returns-clause-places
+returns-clause-places g c order up =
+    if_ok c.lent_stream.result
+    (λ s law. newest_places c.args.seqno _ s c.args.range.0 c.args.range.1 (map arc_value c.args.runs.now) c.in_ok-lenders.lenders.items c.in_ok-below.below.items c.in_ok-below.ensures.of (c.in_ok-lenders.ensures.spans order) up law)
+    c.lent_stream.ensures.deals

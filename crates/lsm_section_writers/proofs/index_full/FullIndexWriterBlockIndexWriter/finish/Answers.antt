@@ -13,7 +13,7 @@ use Rattle.lsm_formats.specs.Kinds.{index_parts, index_sections}
 use Rattle.lsm_formats.specs.Layout.{appended}
 use Rattle.lsm_formats.specs.declared.options.IndexKind.TheVariants.{Full}
 use Rattle.lsm_section_writers.specs.Registered.{Registered}
-use Rattle.lsm_section_writers.proofs.Empty.{empty_count, empty_fault, empty_fits, empty_front, empty_written, same_front, vec_is_empty, vec_is_some}
+use Rattle.lsm_section_writers.proofs.Empty.{empty_count, empty_fault, empty_fits, empty_front, empty_written, same_front, is_some_then}
 use Rattle.lsm_section_writers.proofs.Finishing.{works_fault, works_first}
 use Rattle.lsm_section_writers.proofs.index_full.FullIndexWriterBlockIndexWriter.finish.Goals as goal
 
@@ -35,7 +35,7 @@ returns-clause-fits g c =
 
 pub returns-clause-refused : goal.returns-clause-refused
 returns-clause-refused g c =
-    works_fault c.write_section.result c.args.self Full c.self.inside.held.handles.items c.self.inside.held.failed c.self.view_is c.if-self.false
+    works_fault c.write_section.result c.args.self Full c.self.inside.held.handles c.self.inside.held.failed c.self.view_is c.if-self.false
     c.write_section.ensures.refused
 
 pub returns-clause-first : goal.returns-clause-first
@@ -45,24 +45,24 @@ returns-clause-first g c =
 -- without handles
 pub returns-then-is_empty-clause-ok : goal.returns-then-is_empty-clause-ok
 returns-then-is_empty-clause-ok g c =
-    empty_written c.args.self Full c.self.inside.held.handles.items c.self.inside.held.failed c.args.writer.now c.write_empty_top_level.new.writer c.self.view_is
-    (vec_is_empty c.self.inside.held.handles c.is_empty.result c.is_empty.ensures c.if-is_empty.true)
+    empty_written c.args.self Full c.self.inside.held.handles c.self.inside.held.failed c.args.writer.now c.write_empty_top_level.new.writer c.self.view_is
+    (c.is_empty.ensures.0 c.if-is_empty.true)
     c.in_ok-write_empty_top_level.ensures.ok
 
 pub returns-then-is_empty-clause-count : goal.returns-then-is_empty-clause-count
 returns-then-is_empty-clause-count g c =
-    empty_count c.args.self Full c.self.inside.held.handles.items c.self.inside.held.failed c.args.writer.now c.write_empty_top_level.new.writer c.self.view_is
-    (vec_is_empty c.self.inside.held.handles c.is_empty.result c.is_empty.ensures c.if-is_empty.true)
+    empty_count c.args.self Full c.self.inside.held.handles c.self.inside.held.failed c.args.writer.now c.write_empty_top_level.new.writer c.self.view_is
+    (c.is_empty.ensures.0 c.if-is_empty.true)
 
 pub returns-then-is_empty-clause-fits : goal.returns-then-is_empty-clause-fits
 returns-then-is_empty-clause-fits g c =
-    empty_fits c.args.self Full c.self.inside.held.handles.items c.self.inside.held.failed c.args.writer.now c.write_empty_top_level.new.writer c.self.view_is
-    (vec_is_empty c.self.inside.held.handles c.is_empty.result c.is_empty.ensures c.if-is_empty.true)
+    empty_fits c.args.self Full c.self.inside.held.handles c.self.inside.held.failed c.args.writer.now c.write_empty_top_level.new.writer c.self.view_is
+    (c.is_empty.ensures.0 c.if-is_empty.true)
 
 pub returns-then-is_empty-clause-refused : goal.returns-then-is_empty-clause-refused
 returns-then-is_empty-clause-refused g c =
-    empty_fault c.args.self Full c.self.inside.held.handles.items c.self.inside.held.failed c.args.writer.now c.write_empty_top_level.new.writer c.self.view_is
-    (vec_is_empty c.self.inside.held.handles c.is_empty.result c.is_empty.ensures c.if-is_empty.true)
+    empty_fault c.args.self Full c.self.inside.held.handles c.self.inside.held.failed c.args.writer.now c.write_empty_top_level.new.writer c.self.view_is
+    (c.is_empty.ensures.0 c.if-is_empty.true)
     c.if-self.false
 
 pub returns-then-is_empty-clause-first : goal.returns-then-is_empty-clause-first
@@ -91,5 +91,5 @@ returns-in_err-write_empty_top_level-clause-idle g c =
 pub returns-clause-idle : goal.returns-clause-idle
 returns-clause-idle g c =
     let none : c.args.self.handles ≡ [] → c.write_section.new.writer.bytes ≡ c.args.writer.now.bytes = λ none.
-    absurd (vec_is_some c.self.inside.held.handles c.args.self.handles c.is_empty.result (ap (λ (w : Registered). w.handles) c.self.view_is) c.is_empty.ensures c.if-is_empty.false none) in
+    absurd (is_some_then c.is_empty.result c.self.inside.held.handles c.args.self.handles (ap (λ (w : Registered). w.handles) c.self.view_is) c.is_empty.ensures c.if-is_empty.false none) in
     on_err c.write_section.result none

@@ -1,6 +1,5 @@
 use Rattle.std.specs.Prelude.{None}
-use Rattle.std.proofs.Common.{◌≡◌, ◌≤◌, Bool, false}
-use Rattle.sst_entries.specs.declared.error.Error.{Error}
+use Rattle.std.proofs.Common.{◌≡◌, ◌≤◌, false}
 use Rattle.lsm_sorted.specs.LentFiltered.{MayFilter, StepsFiltered, filtered_left}
 use Rattle.lsm_sorted.specs.declared.compaction.filtered.Shows.TheVariants.{Nothing}
 use Rattle.lsm_sorted.proofs.compaction.filtered.FilteredLendingCompaction.go_on.Given as goal
@@ -12,8 +11,8 @@ invariant-loop-self g l =
       live : l.self.is_over ≡ false;
       empty : l.self.shows ≡ Nothing;
       few : filtered_left g.L.Lending.left l.self ≤ filtered_left g.L.Lending.left l.initial.self;
-      some : (stops : Error → Bool) → StepsFiltered g.L.Lending.advances g.L.Lending.lent stops
-          g.F.LentFilter.gives g.C.LentCallback.gets l.initial.self None l.self;
+      some : StepsFiltered g.F.LentFilter.gives g.C.LentCallback.gets g.L.Lending.advances
+          g.L.Lending.lent l.initial.self None l.self;
     }
 
 abbrev pub decreases-loop-self : goal.decreases-loop-self

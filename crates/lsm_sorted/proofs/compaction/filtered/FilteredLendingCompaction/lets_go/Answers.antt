@@ -23,7 +23,7 @@ returns-in_err-self-clause-may g c =
 pub returns-in_err-self-clause-settles : goal.returns-in_err-self-clause-settles
 returns-in_err-self-clause-settles g c =
     let p = err_from_is_err_and c.from_residual.result c.from_residual.ensures.1 in
-    rw (p.1, p.2) (λ stops head waits key number. settles_fault g.F.LentFilter.gives g.C.LentCallback.gets g.L.Lending.advances g.L.Lending.lent stops c.args.self.now _ c.in_err-self.field-0.0 head c.in_err-self.ensures.goes)
+    rw (p.1, p.2) (λ head waits key number. settles_fault g.F.LentFilter.gives g.C.LentCallback.gets g.L.Lending.advances g.L.Lending.lent c.args.self.now _ head refl refl c.requires.live waits refl c.requires.hides c.in_err-self.field-0.0 c.requires.pending c.in_err-self.ensures.goes)
 
 pub returns-in_default-clause-may : goal.returns-in_default-clause-may
 returns-in_default-clause-may g c =
@@ -46,7 +46,7 @@ returns-in_default-clause-settles g c =
     let s = c.args.self.now in
     let none : g.L.Lending.lent c.advance.new.self ≡ None = sym c.entry.ensures ∙ ap (option_map entry_of_ref) c.in_default.is in
     let step = step_to g.L.Lending.advances g.L.Lending.lent s.source c.advance.new.self None none c.in_ok-self.ensures.goes in
-    λ stops head waits key number. settles_none g.F.LentFilter.gives g.C.LentCallback.gets g.L.Lending.advances g.L.Lending.lent stops s _ head waits refl refl c.requires.live refl c.requires.hides s.rules.evict refl (c.in_ok-self.ensures.more ∙ ap is_some none) step
+    λ head waits key number. settles_none g.F.LentFilter.gives g.C.LentCallback.gets g.L.Lending.advances g.L.Lending.lent s _ head refl refl c.requires.live waits refl c.requires.hides s.rules.evict refl (c.in_ok-self.ensures.more ∙ ap is_some none) step
 
 pub returns-then-not-is_version-clause-settles : goal.returns-then-not-is_version-clause-settles
 returns-then-not-is_version-clause-settles g c =
@@ -54,7 +54,7 @@ returns-then-not-is_version-clause-settles g c =
     let is : g.L.Lending.lent c.advance.new.self ≡ Some (entry_of_ref c.in-Some.next) = sym c.entry.ensures ∙ ap (option_map entry_of_ref) c.in-Some.is in
     let step = step_to g.L.Lending.advances g.L.Lending.lent s.source c.advance.new.self (Some (entry_of_ref c.in-Some.next)) is c.in_ok-self.ensures.goes in
     let other = sym c.is_version.ensures ∙ c.if-not-is_version.true in
-    λ stops head waits key number. settles_other g.F.LentFilter.gives g.C.LentCallback.gets g.L.Lending.advances g.L.Lending.lent stops s _ head waits refl refl c.requires.live refl c.requires.hides (entry_of_ref c.in-Some.next) is (c.in_ok-self.ensures.more ∙ ap is_some is) step s.rules.evict refl
+    λ head waits key number. settles_other g.F.LentFilter.gives g.C.LentCallback.gets g.L.Lending.advances g.L.Lending.lent s _ head refl refl c.requires.live waits refl c.requires.hides (entry_of_ref c.in-Some.next) is (c.in_ok-self.ensures.more ∙ ap is_some is) step s.rules.evict refl
     (subst (λ (k : List ℕ). same_key (entry_of_ref c.in-Some.next).user_key k ≡ false) (sym key) other)
 
 pub returns-then-seqno-self-clause-settles : goal.returns-then-seqno-self-clause-settles
@@ -63,7 +63,7 @@ returns-then-seqno-self-clause-settles g c =
     let is : g.L.Lending.lent c.advance.new.self ≡ Some (entry_of_ref c.in-Some.next) = sym c.entry.ensures ∙ ap (option_map entry_of_ref) c.in-Some.is in
     let step = step_to g.L.Lending.advances g.L.Lending.lent s.source c.advance.new.self (Some (entry_of_ref c.in-Some.next)) is c.in_ok-self.ensures.goes in
     let same = sym c.is_version.ensures ∙ c.if-not-is_version.false in
-    λ stops head waits key number. settles_high g.F.LentFilter.gives g.C.LentCallback.gets g.L.Lending.advances g.L.Lending.lent stops s _ head waits refl refl c.requires.live refl c.requires.hides (entry_of_ref c.in-Some.next) is (c.in_ok-self.ensures.more ∙ ap is_some is) step
+    λ head waits key number. settles_high g.F.LentFilter.gives g.C.LentCallback.gets g.L.Lending.advances g.L.Lending.lent s _ head refl refl c.requires.live waits refl c.requires.hides (entry_of_ref c.in-Some.next) is (c.in_ok-self.ensures.more ∙ ap is_some is) step
     (subst (λ (k : List ℕ). same_key (entry_of_ref c.in-Some.next).user_key k ≡ true) (sym key) same)
     (le-ltb head.seqno s.rules.watermark (subst (λ (n : ℕ). s.rules.watermark ≤ n) (sym number) c.if-seqno-self.true))
 
@@ -73,6 +73,6 @@ returns-clause-settles g c =
     let is : g.L.Lending.lent c.advance.new.self ≡ Some (entry_of_ref c.in-Some.next) = sym c.entry.ensures ∙ ap (option_map entry_of_ref) c.in-Some.is in
     let step = step_to g.L.Lending.advances g.L.Lending.lent s.source c.advance.new.self (Some (entry_of_ref c.in-Some.next)) is c.in_ok-self.ensures.goes in
     let same = sym c.is_version.ensures ∙ c.if-not-is_version.false in
-    λ stops head waits key number. settles_low g.F.LentFilter.gives g.C.LentCallback.gets g.L.Lending.advances g.L.Lending.lent stops s _ head waits refl refl c.requires.live (entry_of_ref c.in-Some.next) step c.on_dropped_ref.ensures
+    λ head waits key number. settles_low g.F.LentFilter.gives g.C.LentCallback.gets g.L.Lending.advances g.L.Lending.lent s _ head refl refl c.requires.live waits (entry_of_ref c.in-Some.next) step c.on_dropped_ref.ensures
     (subst (λ (k : List ℕ). same_key (entry_of_ref c.in-Some.next).user_key k ≡ true) (sym key) same) c.is_value.result c.is_value.ensures refl refl (sym key)
     (lt-ltb head.seqno s.rules.watermark (subst (λ (n : ℕ). n < s.rules.watermark) (sym number) c.if-seqno-self.false))

@@ -26,23 +26,23 @@ settle-requires-clause-waits g c =
     subst (λ (y : Entry). has_to_wait s.rules y ≡ true) (sym (parts_are h _ _ key bytes)) (sym c.has_to_wait-waits.ensures ∙ c.if-waits.true)
 
 pub returns-in_default-clause-settles : goal.returns-in_default-clause-settles
-returns-in_default-clause-settles g c = λ stops x lends.
+returns-in_default-clause-settles g c = λ x lends.
     let lent = g.L.Lending.lent in
     let none : lent c.args.self.now.source ≡ None = sym c.entry.ensures ∙ ap (option_map entry_of_ref) c.in_default.is in
     let no : None ≡ Some x = sym none ∙ lends in absurd cc
 
 pub returns-in-Err-clause-settles : goal.returns-in-Err-clause-settles
-returns-in-Err-clause-settles g c = λ stops x is.
+returns-in-Err-clause-settles g c = λ x is.
     let lent = g.L.Lending.lent in
-    settled_memory g.F.LentFilter.gives g.C.LentCallback.gets g.L.Lending.advances lent stops c.args.self.now _ c.in-Err.error (put_into x c.args.kind c.args.value.now) c.in-Err.ensures.err
+    settled_memory g.F.LentFilter.gives g.C.LentCallback.gets g.L.Lending.advances lent c.args.self.now _ c.in-Err.error (put_into x c.args.kind c.args.value.now) c.in-Err.ensures.err refl refl
 
 pub returns-in-Err-remember-clause-settles : goal.returns-in-Err-remember-clause-settles
-returns-in-Err-remember-clause-settles g c = λ stops x is.
+returns-in-Err-remember-clause-settles g c = λ x is.
     let lent = g.L.Lending.lent in
-    settled_memory g.F.LentFilter.gives g.C.LentCallback.gets g.L.Lending.advances lent stops c.args.self.now _ c.in-Err-remember.error (put_into x c.args.kind c.args.value.now) c.in-Err-remember.ensures.err
+    settled_memory g.F.LentFilter.gives g.C.LentCallback.gets g.L.Lending.advances lent c.args.self.now _ c.in-Err-remember.error (put_into x c.args.kind c.args.value.now) c.in-Err-remember.ensures.err refl refl
 
 pub returns-then-waits-clause-settles : goal.returns-then-waits-clause-settles
-returns-then-waits-clause-settles g c = λ stops x lends.
+returns-then-waits-clause-settles g c = λ x lends.
     let lent = g.L.Lending.lent in
     let s = c.args.self.now in
     let kind = c.args.kind in
@@ -54,23 +54,18 @@ returns-then-waits-clause-settles g c = λ stops x lends.
     let bytes = c.in_default-remember-2.ensures.bytes in
     let t = c.settle.new.self in
     let r = came c.settle.result (lent_filtered lent t) in
-    settled_put g.F.LentFilter.gives g.C.LentCallback.gets g.L.Lending.advances lent stops s t r kind value head x is lends
-    (subst (λ (y : Entry). SettlesFiltered g.L.Lending.advances lent stops g.F.LentFilter.gives g.C.LentCallback.gets s r t y)
+    settled_put g.F.LentFilter.gives g.C.LentCallback.gets g.L.Lending.advances lent s t r kind value head x is lends
+    (subst (λ (y : Entry). SettlesFiltered g.F.LentFilter.gives g.C.LentCallback.gets g.L.Lending.advances lent s y r t)
     (parts_are h _ _ key bytes)
-    (λ xs memory has fine.
-    let one = c.settle.ensures.settles stops xs memory has fine in (
-      one.0,
-      one.1,
-      λ gave f d will. let first = one.2 gave f d will in record {
-        answers = first.answers;
-        told = first.told;
-        reports = first.reports;
-        does = first.does;
-      },
-    )))
+    (let one = c.settle.ensures.settles in record {
+      answers = one.answers;
+      gave = one.gave;
+      told = one.told;
+      does = λ live rest more f d ends will. record { at = (one.does live rest more f d ends will).at };
+    }))
 
 pub returns-then-seqno-self-clause-settles : goal.returns-then-seqno-self-clause-settles
-returns-then-seqno-self-clause-settles g c = λ stops x lends.
+returns-then-seqno-self-clause-settles g c = λ x lends.
     let lent = g.L.Lending.lent in
     let s = c.args.self.now in
     let kind = c.args.kind in
@@ -80,12 +75,12 @@ returns-then-seqno-self-clause-settles g c = λ stops x lends.
     let h = put_into head kind value in
     let key = c.in_default-remember.ensures.bytes in
     let bytes = c.in_default-remember-2.ensures.bytes in
-    settled_put g.F.LentFilter.gives g.C.LentCallback.gets g.L.Lending.advances lent stops s _ _ kind value head x is lends (settled_held g.F.LentFilter.gives g.C.LentCallback.gets g.L.Lending.advances lent stops s _ h _ _ key bytes
-    (keeps_high g.F.LentFilter.gives g.C.LentCallback.gets g.L.Lending.advances lent stops s _ h refl refl (sym c.has_to_wait-waits.ensures ∙ c.if-waits.false) refl refl c.requires.live refl
+    settled_put g.F.LentFilter.gives g.C.LentCallback.gets g.L.Lending.advances lent s _ _ kind value head x is lends (settled_held g.F.LentFilter.gives g.C.LentCallback.gets g.L.Lending.advances lent s _ h _ _ key bytes
+    (keeps_high g.F.LentFilter.gives g.C.LentCallback.gets g.L.Lending.advances lent s _ h refl refl c.requires.live (sym c.has_to_wait-waits.ensures ∙ c.if-waits.false) refl refl refl
     (le-ltb head.seqno s.rules.watermark c.if-seqno-self.true) c.requires.hides))
 
 pub returns-then-goes-clause-settles : goal.returns-then-goes-clause-settles
-returns-then-goes-clause-settles g c = λ stops x lends.
+returns-then-goes-clause-settles g c = λ x lends.
     let lent = g.L.Lending.lent in
     let s = c.args.self.now in
     let kind = c.args.kind in
@@ -95,12 +90,12 @@ returns-then-goes-clause-settles g c = λ stops x lends.
     let h = put_into head kind value in
     let key = c.in_default-remember.ensures.bytes in
     let bytes = c.in_default-remember-2.ensures.bytes in
-    settled_put g.F.LentFilter.gives g.C.LentCallback.gets g.L.Lending.advances lent stops s _ _ kind value head x is lends (settled_silent g.F.LentFilter.gives g.C.LentCallback.gets g.L.Lending.advances lent stops s _ h c.requires.empty
-    (keeps_low g.F.LentFilter.gives g.C.LentCallback.gets g.L.Lending.advances lent stops s _ h refl refl (sym c.has_to_wait-waits.ensures ∙ c.if-waits.false) refl refl c.requires.live refl true
+    settled_put g.F.LentFilter.gives g.C.LentCallback.gets g.L.Lending.advances lent s _ _ kind value head x is lends (settled_silent g.F.LentFilter.gives g.C.LentCallback.gets g.L.Lending.advances lent s _ h c.requires.empty
+    (keeps_low g.F.LentFilter.gives g.C.LentCallback.gets g.L.Lending.advances lent s _ h refl refl c.requires.live (sym c.has_to_wait-waits.ensures ∙ c.if-waits.false) refl refl refl true
     (lt-ltb head.seqno s.rules.watermark c.if-seqno-self.false) (sym c.if-goes.true ∙ c.goes_at_once-goes.ensures) refl key))
 
 pub returns-clause-settles : goal.returns-clause-settles
-returns-clause-settles g c = λ stops x lends.
+returns-clause-settles g c = λ x lends.
     let lent = g.L.Lending.lent in
     let s = c.args.self.now in
     let kind = c.args.kind in
@@ -110,6 +105,6 @@ returns-clause-settles g c = λ stops x lends.
     let h = put_into head kind value in
     let key = c.in_default-remember.ensures.bytes in
     let bytes = c.in_default-remember-2.ensures.bytes in
-    settled_put g.F.LentFilter.gives g.C.LentCallback.gets g.L.Lending.advances lent stops s _ _ kind value head x is lends (settled_held g.F.LentFilter.gives g.C.LentCallback.gets g.L.Lending.advances lent stops s _ h _ _ key bytes
-    (keeps_low g.F.LentFilter.gives g.C.LentCallback.gets g.L.Lending.advances lent stops s _ h refl refl (sym c.has_to_wait-waits.ensures ∙ c.if-waits.false) refl refl c.requires.live refl false
+    settled_put g.F.LentFilter.gives g.C.LentCallback.gets g.L.Lending.advances lent s _ _ kind value head x is lends (settled_held g.F.LentFilter.gives g.C.LentCallback.gets g.L.Lending.advances lent s _ h _ _ key bytes
+    (keeps_low g.F.LentFilter.gives g.C.LentCallback.gets g.L.Lending.advances lent s _ h refl refl c.requires.live (sym c.has_to_wait-waits.ensures ∙ c.if-waits.false) refl refl refl false
     (lt-ltb head.seqno s.rules.watermark c.if-seqno-self.false) (sym c.if-goes.false ∙ c.goes_at_once-goes.ensures) refl key))

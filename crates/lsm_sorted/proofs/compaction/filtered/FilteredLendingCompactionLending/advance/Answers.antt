@@ -6,24 +6,19 @@ returns-clause-goes g c =
     let goes = c.go_on.ensures.goes in
     record {
       may = goes.may;
-      steps = λ stops xs looks fine.
-          let one = goes.steps stops xs (record {
-            memory = looks.memory;
-            live = looks.live;
-            rest = looks.rest;
-            has = looks.has;
-            is = looks.is;
-          }) fine in (
-            one.0,
-            one.1,
-            λ gave f d will. let w = one.2 gave f d will in record { told = w.told; hides = w.hides; does = w.does },
-          );
-      ends = λ stops xs looks none.
-          let w = goes.ends stops xs (record {
-            memory = looks.memory;
-            live = looks.live;
-            rest = looks.rest;
-            has = looks.has;
-            is = looks.is;
-          }) none in record { told = w.told; hides = w.hides; does = w.does };
+      live = λ o. let call = goes.live o in record {
+        step = record {
+          answers = call.step.answers;
+          gave = call.step.gave;
+          told = call.step.told;
+          idle = call.step.idle;
+          does = λ live rest more f d ends will.
+              let w = call.step.does live rest more f d ends will in
+              record { told = w.told; hides = w.hides; does = w.does };
+        };
+        ended = call.ended;
+        idle = call.idle;
+        rests = call.rests;
+      };
+      ended = goes.ended;
     }
