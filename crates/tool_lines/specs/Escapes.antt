@@ -1,6 +1,6 @@
 -- Any bytes as one word of visible bytes.
 use Rattle.std.specs.Prelude.{◌≡◌, ◌≢◌, ◌⊎◌, ◌<◌, ◌/◌, ◌%◌, ◌&&◌, ◌==◌, ℕ, Bool, true, not, List, []}
-use Rattle.std.specs.Prelude.{◌∷◌, ◌++◌, if◌then◌else◌, nat_eq}
+use Rattle.std.specs.Prelude.{◌∷◌, ◌++◌, if◌then◌else◌, nat_eq, slice_index}
 use Rattle.std.specs.Char.{digit_char, is_ascii_graphic}
 use Rattle.std.specs.Cmp.Lexicographic.{pointwise}
 use Rattle.std.specs.List.{flat_map}
@@ -40,3 +40,7 @@ AreCodes word (b ∷ bs) = (rest : List ℕ) × Begins word b rest × AreCodes r
 abbrev pub StandsFor : List ℕ → List ℕ → Type 0
 StandsFor word [] = word ≡ 45 ∷ []
 StandsFor word (b ∷ bs) = (word ≢ 45 ∷ []) × AreCodes word (b ∷ bs)
+
+-- numbers that are bytes
+abbrev pub AreBytes : List ℕ → Type 0
+AreBytes bs = (i : ℕ) → slice_index bs i < 256

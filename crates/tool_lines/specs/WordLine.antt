@@ -9,7 +9,8 @@ use Rattle.sst_entries.specs.declared.value_type.ValueType.{ValueType}
 use Rattle.sst_entries.specs.declared.value_type.ValueType.TheVariants.{Value, Tombstone}
 use Rattle.sst_entries.specs.declared.value_type.ValueType.TheVariants.{WeakTombstone, Indirection}
 use Rattle.tool_lines.specs.Escapes.{StandsFor, text_of}
-use Rattle.tool_lines.specs.declared.entry_line.LineError as error
+use Rattle.tool_lines.specs.declared.entry_line.LineError.{LineError}
+use Rattle.tool_lines.specs.declared.entry_line.LineError.TheVariants as fault
 
 -- the letter of a kind: V, T, W or I
 abbrev pub letter_of : ValueType → ℕ
@@ -62,16 +63,16 @@ pub record Spells (line : List ℕ) (e : Entry) : Type 0 where
   pub value_is : StandsFor words.value e.value
 
 -- what is wrong of a line is said truly
-abbrev pub IsWordFault : List ℕ → error.LineError → Type 0
-IsWordFault line error.TheVariants.OutOfMemory = Unit {0}
-IsWordFault line error.TheVariants.Words = length (words_of line) ≢ 4
-IsWordFault line error.TheVariants.Key =
+abbrev pub IsWordFault : List ℕ → LineError → Type 0
+IsWordFault line fault.OutOfMemory = Unit {0}
+IsWordFault line fault.Words = length (words_of line) ≢ 4
+IsWordFault line fault.Key =
     (words : FourWords line) × ((key : List ℕ) → ¬ StandsFor words.key key)
-IsWordFault line error.TheVariants.Number =
+IsWordFault line fault.Number =
     (words : FourWords line) × ((n : ℕ) → ¬ Counts words.number n)
-IsWordFault line error.TheVariants.Kind =
+IsWordFault line fault.Kind =
     (words : FourWords line) × ((kind : ValueType) → words.kind ≢ letter_of kind ∷ [])
-IsWordFault line error.TheVariants.Value =
+IsWordFault line fault.Value =
     (words : FourWords line) × ((value : List ℕ) → ¬ StandsFor words.value value)
-IsWordFault line error.TheVariants.Json = ⊥
-IsWordFault line error.TheVariants.Members = ⊥
+IsWordFault line fault.Json = ⊥
+IsWordFault line fault.Members = ⊥

@@ -1,7 +1,9 @@
 //! Entries as lines.
-ghost use Rattle.std.specs.Prelude.{◌≡◌, ◌++◌, ◌∷◌, [], IfOk, IfErr};
+ghost use Rattle.std.specs.Prelude.{◌≡◌, ◌++◌, ◌∷◌, [], IfOk, IfErr, OnOk};
 ghost use Rattle.sst_entries.specs.Lending.{entry_of_ref};
-ghost use Rattle.tool_lines.specs.EntryLine.{IsFault, Reads, entry_line};
+ghost use Rattle.tool_lines.specs.WordLine.{IsWordFault, Spells, word_line};
+ghost use Rattle.tool_lines.specs.declared.entry_line.Format.TheVariants.{Lines};
+ghost use Rattle.tool_lines.specs.declared.entry_line.LineError.TheVariants.{OutOfMemory};
 
 use crate::object_line::{parse_object, push_object};
 use crate::word_line::{parse_words, push_words};
@@ -28,11 +30,22 @@ pub fn append_entry<A: Allocator + Copy>(
     entry: &EntryRef<'_>,
     format: Format,
 ) -> Result<Vec<u8, A>, AllocError>
+    ensures words { format ≡ Lines → IfOk result (λ t. t.items ≡
+        text.items ++ word_line (entry_of_ref entry.now) ++ 10 ∷ []) }
+    // The words spell the entry.
+    ensures spells { format ≡ Lines → OnOk result
+        (Spells (word_line (entry_of_ref entry.now)) (entry_of_ref entry.now)) }
 {
-    let mut text = match format {
-        Format::Lines => append_words(text, entry)?,
-        Format::Json => push_object(alloc, text, entry)?,
-    };
+    match format {
+        Format::Lines => end_line(append_words(text, entry)?),
+        Format::Json => end_line(push_object(alloc, text, entry)?),
+    }
+}
+
+// Appends a line's end.
+fn end_line<A: Allocator>(mut text: Vec<u8, A>) -> Result<Vec<u8, A>, AllocError>
+    ensures { IfOk result (λ t. t.items ≡ text.items ++ 10 ∷ []) }
+{
     text.extend_from_slice(b"\n")?;
     Ok(text)
 }
@@ -41,9 +54,25 @@ fn append_words<A: Allocator>(
     mut text: Vec<u8, A>,
     entry: &EntryRef<'_>,
 ) -> Result<Vec<u8, A>, AllocError>
+    ensures text { IfOk result
+        (λ t. t.items ≡ text.items ++ word_line (entry_of_ref entry.now)) }
+    ensures spells { OnOk result
+        (Spells (word_line (entry_of_ref entry.now)) (entry_of_ref entry.now)) }
 {
     push_words(&mut text, entry)?;
     Ok(text)
+}
+
+/// Writes an entry as words and reads it back: it is the same. Refused for want of memory alone.
+pub fn read_back<A: Allocator + Copy>(
+    alloc: A,
+    entry: &EntryRef<'_>,
+) -> Result<InternalValue<A>, LineError>
+    ensures same { IfOk result (λ e. e ≡ entry_of_ref entry.now) }
+    ensures refused { IfErr result (λ e. e ≡ OutOfMemory) }
+{
+    let line = append_words(Vec::new(alloc), entry)?;
+    parse_words(alloc, &line)
 }
 
 /// The entry of a line without its end. The members of an object may come in any order, and no
@@ -53,6 +82,8 @@ pub fn parse_entry<A: Allocator + Copy>(
     line: &[u8],
     format: Format,
 ) -> Result<InternalValue<A>, LineError>
+    ensures spells { format ≡ Lines → IfOk result (λ e. Spells line.now e) }
+    ensures refused { format ≡ Lines → IfErr result (λ e. IsWordFault line.now e) }
 {
     match format {
         Format::Lines => parse_words(alloc, line),

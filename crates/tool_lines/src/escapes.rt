@@ -1,9 +1,9 @@
 //! Any bytes as one word of visible bytes.
-ghost use Rattle.std.specs.Prelude.{◌≡◌, ◌≢◌, ◌<◌, ◌×◌, ℕ, List, ◌∷◌, ◌++◌, length, false, OnOk};
+ghost use Rattle.std.specs.Prelude.{◌≡◌, ◌≢◌, ◌<◌, ℕ, List, ◌∷◌, ◌++◌, length, false, OnOk};
 ghost use Rattle.std.specs.Prelude.{IfSome, IfNone, IfOk, IfErr};
 ghost use Rattle.std.specs.Char.{digit_char};
-ghost use Rattle.tool_lines.specs.Escapes.{AreCodes, Begins, StandsFor, code_of, codes_of, escaped};
-ghost use Rattle.tool_lines.specs.Escapes.{is_plain, text_of};
+ghost use Rattle.tool_lines.specs.Escapes.{AreBytes, AreCodes, Begins, StandsFor, code_of};
+ghost use Rattle.tool_lines.specs.Escapes.{codes_of, escaped, is_plain, text_of};
 ghost use Rattle.tool_lines.specs.Faults.{is_memory};
 ghost use Rattle.tool_lines.specs.declared.entry_line.LineError.TheVariants.{Key};
 
@@ -18,7 +18,7 @@ pub fn append_bytes<A: Allocator>(
 ) -> Result<Vec<u8, A>, AllocError>
     ensures text { IfOk result (λ t. t.items ≡ text.items ++ text_of bytes.now) }
     // What is appended stands for the bytes.
-    ensures stands { StandsFor (text_of bytes.now) bytes.now }
+    ensures stands { OnOk result (StandsFor (text_of bytes.now) bytes.now) }
 {
     push_bytes(&mut text, bytes)?;
     Ok(text)
@@ -30,7 +30,7 @@ pub(crate) fn push_bytes<A: Allocator>(
     bytes: &[u8],
 ) -> Result<(), AllocError>
     ensures text { OnOk result (text.new.items ≡ text.old.items ++ text_of bytes.now) }
-    ensures stands { StandsFor (text_of bytes.now) bytes.now }
+    ensures stands { OnOk result (StandsFor (text_of bytes.now) bytes.now) }
 {
     if bytes.is_empty() {
         text.extend_from_slice(b"-")
@@ -43,7 +43,9 @@ pub(crate) fn push_bytes<A: Allocator>(
 
 // Each byte by its code.
 fn push_codes<A: Allocator>(text: &mut Vec<u8, A>, bytes: &[u8]) -> Result<(), AllocError>
-    ensures { OnOk result (text.new.items ≡ text.old.items ++ codes_of bytes.now) }
+    requires { AreBytes bytes.now }
+    ensures text { OnOk result (text.new.items ≡ text.old.items ++ codes_of bytes.now) }
+    ensures bytes { AreBytes bytes.now }
 {
     for byte in bytes {
         push_code(text, *byte)?;

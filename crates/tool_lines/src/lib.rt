@@ -8,5 +8,5 @@ mod object_line;
 mod tests;
 mod word_line;
 
-pub use entry_line::{Format, LineError, append_entry, parse_entry};
+pub use entry_line::{Format, LineError, append_entry, parse_entry, read_back};
 pub use escapes::{append_bytes, parse_bytes};

@@ -30,9 +30,11 @@ const ENTRIES: [EntryRef<'static>; 4] = [
     },
 ];
 
-const LINES: &[u8] = b"k 7 V v\n\\x2d 0 T -\na\\x20b\\x5c 18446744073709551615 W \\xff\\x00\n\\xc3\\xa4 12 I \"\\x0a\n";
+const LINES: &[u8] =
+    b"k 7 V v\n\\x2d 0 T -\na\\x20b\\x5c 18446744073709551615 W \\xff\\x00\n\\xc3\\xa4 12 I \"\\x0a\n";
 
-const OBJECTS: &[u8] = b"{\"key\":\"k\",\"seqno\":7,\"kind\":\"value\",\"value\":\"v\"}\n{\"key\":\"-\",\"seqno\":0,\"kind\":\"tombstone\",\"value\":\"\"}\n{\"key\":\"a b\\\\\",\"seqno\":18446744073709551615,\"kind\":\"weak_tombstone\",\"value\":{\"hex\":\"ff00\"}}\n{\"key\":\"\xc3\xa4\",\"seqno\":12,\"kind\":\"indirection\",\"value\":\"\\\"\\n\"}\n";
+const OBJECTS: &[u8] =
+    b"{\"key\":\"k\",\"seqno\":7,\"kind\":\"value\",\"value\":\"v\"}\n{\"key\":\"-\",\"seqno\":0,\"kind\":\"tombstone\",\"value\":\"\"}\n{\"key\":\"a b\\\\\",\"seqno\":18446744073709551615,\"kind\":\"weak_tombstone\",\"value\":{\"hex\":\"ff00\"}}\n{\"key\":\"\xc3\xa4\",\"seqno\":12,\"kind\":\"indirection\",\"value\":\"\\\"\\n\"}\n";
 
 // Whether the entries have these lines.
 fn are_written<A: Allocator + Copy>(alloc: A, format: Format, lines: &[u8]) -> bool {
@@ -102,11 +104,26 @@ const BAD_LINES: [(&[u8], LineError); 9] = [
 const BAD_OBJECTS: [(&[u8], LineError); 7] = [
     (b"{", LineError::Json),
     (b"7", LineError::Json),
-    (b"{\"key\":\"\",\"key\":\"\",\"seqno\":7,\"value\":\"\"}", LineError::Json),
-    (b"{\"key\":\"\",\"seqno\":7,\"value\":\"\"}", LineError::Members),
-    (b"{\"key\":\"\",\"seqno\":7,\"kind\":\"value\",\"other\":\"\"}", LineError::Members),
-    (b"{\"key\":\"\",\"seqno\":7.0,\"kind\":\"value\",\"value\":\"\"}", LineError::Number),
-    (b"{\"key\":{\"hex\":\"f\"},\"seqno\":7,\"kind\":\"value\",\"value\":\"\"}", LineError::Key),
+    (
+        b"{\"key\":\"\",\"key\":\"\",\"seqno\":7,\"value\":\"\"}",
+        LineError::Json,
+    ),
+    (
+        b"{\"key\":\"\",\"seqno\":7,\"value\":\"\"}",
+        LineError::Members,
+    ),
+    (
+        b"{\"key\":\"\",\"seqno\":7,\"kind\":\"value\",\"other\":\"\"}",
+        LineError::Members,
+    ),
+    (
+        b"{\"key\":\"\",\"seqno\":7.0,\"kind\":\"value\",\"value\":\"\"}",
+        LineError::Number,
+    ),
+    (
+        b"{\"key\":{\"hex\":\"f\"},\"seqno\":7,\"kind\":\"value\",\"value\":\"\"}",
+        LineError::Key,
+    ),
 ];
 
 fn count_refused<A: Allocator + Copy>(

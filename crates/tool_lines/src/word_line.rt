@@ -1,14 +1,16 @@
 //! Entries as words: KEY NUMBER KIND VALUE.
-ghost use Rattle.std.specs.Prelude.{◌≡◌, ◌≢◌, ◌==◌, ◌<◌, ◌∷◌, [], ◌++◌, length, Some, OnOk};
-ghost use Rattle.std.specs.Prelude.{IfSome, IfNone, IfOk, IfErr};
+ghost use Rattle.std.specs.Prelude.{◌≡◌, ◌≢◌, ◌==◌, ◌<◌, ℕ, List, ◌∷◌, [], ◌++◌, length, false};
+ghost use Rattle.std.specs.Prelude.{Some, OnOk, IfSome, IfNone, IfOk, IfErr};
 ghost use Rattle.std.specs.Option.{SomeIff, option_copied};
 ghost use Rattle.std.specs.List.{position};
 ghost use Rattle.std.specs.Str.Parse.{digits_value};
-ghost use Rattle.sst_entries.specs.Error.{is_memory as wants_memory};
 ghost use Rattle.sst_entries.specs.Lending.{entry_of_ref};
 ghost use Rattle.sst_entries.specs.declared.value_type.ValueType.{ValueType};
+ghost use Rattle.tool_lines.specs.Escapes.{StandsFor};
+ghost use Rattle.tool_lines.specs.Faults.{is_memory};
 ghost use Rattle.tool_lines.specs.WordLine.{IsNumber, IsWordFault, Spells, letter_of, word_line};
 ghost use Rattle.tool_lines.specs.WordLine.{words_behind, words_of};
+ghost use Rattle.tool_lines.specs.declared.entry_line.LineError.TheVariants.{OutOfMemory};
 
 use crate::LineError;
 use crate::escapes::{parse_word, push_bytes};
@@ -32,7 +34,8 @@ pub(crate) fn push_words<A: Allocator>(
 ) -> Result<(), AllocError>
     ensures text { OnOk result
         (text.new.items ≡ text.old.items ++ word_line (entry_of_ref entry.now)) }
-    ensures spells { Spells (word_line (entry_of_ref entry.now)) (entry_of_ref entry.now) }
+    ensures spells { OnOk result
+        (Spells (word_line (entry_of_ref entry.now)) (entry_of_ref entry.now)) }
 {
     push_bytes(text, entry.user_key)?;
     text.extend_from_slice(b" ")?;
@@ -83,12 +86,17 @@ fn parse_slice<A: Allocator + Clone>(
     word: &[u8],
     fault: LineError,
 ) -> Result<Slice<A>, LineError>
+    ensures bytes { IfOk result (λ bytes. StandsFor word.now bytes) }
+    ensures refused { IfErr result (λ e. is_memory e ≡ false →
+        (e ≡ fault) × ((bytes : List ℕ) → ¬ StandsFor word.now bytes)) }
 {
     slice_of(parse_word(alloc, word, fault)?)
 }
 
 // The bytes of a vector, which is given up.
 pub(crate) fn slice_of<A: Allocator + Clone>(bytes: Vec<u8, A>) -> Result<Slice<A>, LineError>
+    ensures ok { IfOk result (λ slice. slice ≡ bytes.items) }
+    ensures err { IfErr result (λ e. e ≡ OutOfMemory) }
 {
     match Slice::from_vec(bytes) {
         Ok(slice) => Ok(slice),
