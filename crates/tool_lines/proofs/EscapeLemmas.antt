@@ -1,14 +1,14 @@
 -- Words of codes: what they stand for, and that it is one.
 use Rattle.std.proofs.Common.{◌≡◌, refl, sym, ◌∙◌, ap, subst, inl, inr, ℕ, suc, ◌+◌, ◌*◌, ◌<◌, ◌/◌}
-use Rattle.std.proofs.Common.{◌%◌, Bool, true, false, List, [], ◌∷◌, ◌++◌, ◌⊎◌, length, get_or, arith}
+use Rattle.std.proofs.Common.{◌%◌, Bool, true, false, List, [], ◌∷◌, ◌++◌, ◌⊎◌, length, arith}
 use Rattle.std.proofs.Common.{append_assoc, lit<}
-use Rattle.std.specs.Prelude.{Result, Ok, Err, IfErr, if◌then◌else◌, nat_eq, not, ◌==◌}
+use Rattle.std.specs.Prelude.{Result, Ok, Err, IfErr, if◌then◌else◌, nat_eq, ◌==◌}
 use Rattle.std.specs.Char.{digit_char}
 use Rattle.std.specs.Cmp.Lexicographic.{pointwise}
 use Rattle.std.proofs.lemmas.Bool.{eqb-true}
 use Rattle.std.proofs.lemmas.Bool.Decides.{nat_tests}
 use Rattle.sst_entries.proofs.KeyLemmas.{same_is}
-use Rattle.tool_lines.specs.Escapes.{AreBytes, AreCodes, Begins, StandsFor, code_of}
+use Rattle.tool_lines.specs.Escapes.{AreBytes, AreCodes, Begins, StandsFor}
 use Rattle.tool_lines.specs.Escapes.{codes_of, escaped, is_plain, text_of}
 use Rattle.tool_lines.specs.Faults.{is_memory}
 use Rattle.tool_lines.specs.declared.entry_line.LineError.{LineError}

@@ -3,29 +3,30 @@ use Rattle.std.proofs.Common.{◌≡◌, refl, sym, ◌∙◌, ap, subst, ℕ, z
 use Rattle.std.proofs.Common.{◌^◌, ◌⊎◌, inl, inr, Bool, true, lit<}
 use Rattle.std.proofs.Common.{false, List, [], ◌∷◌, ◌++◌, length, take, drop, get_or, arith}
 use Rattle.std.proofs.Common.{ltb-true, ltb-false, append_assoc}
-use Rattle.std.specs.Prelude.{Option, Some, None, Result, Ok, Err, IfOk, IfErr, is_some, ◌==◌, nat_lt}
-use Rattle.std.specs.Prelude.{if◌then◌else◌}
+use Rattle.std.specs.Prelude.{Option, Some, None, Result, Ok, Err, IfOk, IfErr, is_some, ◌==◌}
+use Rattle.std.specs.Prelude.{nat_lt, if◌then◌else◌}
 use Rattle.std.specs.Option.{option_copied}
 use Rattle.std.specs.Borrow.{Bor}
 use Rattle.std.specs.Result.{IsErrAnd, OnOk}
 use Rattle.std.specs.Char.{digit_char}
 use Rattle.std.specs.Fmt.{decimal}
 use Rattle.std.specs.Int.{IsInRange}
-use Rattle.std.specs.List.{All, join_with_byte, onto_first, position, position_or_len}
+use Rattle.std.specs.List.{All, onto_first, position, position_or_len}
 use Rattle.std.specs.List.{slice_split}
 use Rattle.std.specs.Str.Parse.{AllDigits, digits_value}
 use Rattle.std.proofs.lemmas.Bool.Decides.{nat_tests}
 use Rattle.std.proofs.lemmas.Fmt.{decimal_digit, decimal_is_IsNumeral, first_decimal}
 use Rattle.std.proofs.lemmas.List.Elements.{All-append, All-cons, All-nil}
-use Rattle.std.proofs.lemmas.List.Splits.{length-slice_split, slice_split_at, slice_split_first, slice_split_none}
+use Rattle.std.proofs.lemmas.List.Splits.{length-slice_split, slice_split_at, slice_split_first}
+use Rattle.std.proofs.lemmas.List.Splits.{slice_split_none}
 use Rattle.std.proofs.lemmas.Str.Parse.{digit_from_value}
 use Rattle.sst_entries.specs.Entry.{Entry, entry}
 use Rattle.sst_entries.specs.declared.value_type.ValueType.{ValueType}
 use Rattle.sst_entries.specs.declared.value_type.ValueType.TheVariants.{Value, Tombstone}
 use Rattle.sst_entries.specs.declared.value_type.ValueType.TheVariants.{WeakTombstone, Indirection}
-use Rattle.tool_lines.specs.Escapes.{AreCodes, Begins, StandsFor, escaped, is_plain, text_of}
+use Rattle.tool_lines.specs.Escapes.{AreCodes, StandsFor, escaped, is_plain, text_of}
 use Rattle.tool_lines.specs.Faults.{is_memory}
-use Rattle.tool_lines.specs.WordLine.{Counts, FourWords, IsNumber, IsWordFault, Spells, letter_of}
+use Rattle.tool_lines.specs.WordLine.{Counts, FourWords, IsWordFault, Spells, letter_of}
 use Rattle.tool_lines.specs.WordLine.{word_line, words_behind, words_of}
 use Rattle.tool_lines.specs.declared.entry_line.LineError.{LineError}
 use Rattle.tool_lines.specs.declared.entry_line.LineError.TheVariants.{OutOfMemory, Words, Key}
@@ -302,7 +303,15 @@ pub five_words : (line k r₁ n r₂ t r₃ v : List ℕ) (r : Option (List ℕ)
     → words_of r₂ ≡ t ∷ words_of r₃ → words_of r₃ ≡ v ∷ words_behind r → is_some r ≡ true
     → length (words_of line) ≡ 4 → ⊥
 five_words line k r₁ n r₂ t r₃ v r p q s u some four =
-    absurd (omega (arith, ap length p, ap length q, ap length s, ap length u, behind_some r some, four))
+    absurd (omega (
+      arith,
+      ap length p,
+      ap length q,
+      ap length s,
+      ap length u,
+      behind_some r some,
+      four,
+    ))
 
 pub copied_some : (r : Option (Bor (List ℕ))) → is_some r ≡ true → is_some (option_copied r) ≡ true
 copied_some None h = h

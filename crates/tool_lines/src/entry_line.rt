@@ -13,9 +13,9 @@ use std::alloc::{AllocError, AllocFailed, Allocator};
 /// How an entry stands on a line.
 #[derive(Clone, Copy, Debug, PartialEq, Eq)]
 pub enum Format {
-    /// As words, KEY NUMBER KIND VALUE, with one space between. Kinds are `V` for a value, `T` for a
-    /// tombstone, `W` for a weak one and `I` for an indirection. In keys and values a byte that is
-    /// not visible and a backslash are written `\xNN`, and `-` stands for no bytes.
+    /// As words, KEY NUMBER KIND VALUE, with one space between. Kinds are `V` for a value, `T` for
+    /// a tombstone, `W` for a weak one and `I` for an indirection. In keys and values a byte that
+    /// is not visible and a backslash are written `\xNN`, and `-` stands for no bytes.
     Lines,
     /// As an object, `{"key":"k","seqno":7,"kind":"value","value":"v"}`, with kinds `value`,
     /// `tombstone`, `weak_tombstone` and `indirection`; bytes that are no UTF-8 are
@@ -103,7 +103,7 @@ pub enum LineError {
     Words,
 
     /// A key with a byte or an escape that stands for none.
-    #[error("a key is visible bytes, with any other byte and a backslash as \\xNN, or - for none")]
+    #[error("a key is visible bytes, with any other byte and a backslash as \\xNN, or -")]
     Key,
 
     /// A number with another byte than digits, with leading zeros, or of 2^64 or more.
@@ -115,7 +115,7 @@ pub enum LineError {
     Kind,
 
     /// A value with a byte or an escape that stands for none.
-    #[error("a value is visible bytes, with any other byte and a backslash as \\xNN, or - for none")]
+    #[error("a value is visible bytes, with any other byte and a backslash as \\xNN, or -")]
     Value,
 
     /// The line is no object of JSON, or an object in it has a member twice.

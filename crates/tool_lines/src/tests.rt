@@ -6,20 +6,20 @@ use std::alloc::Allocator;
 const ENTRIES: [EntryRef<'static>; 4] = [
     EntryRef {
         user_key: b"k",
-        seqno: 7,
+        seqno: u64::MAX,
         value_type: ValueType::Value,
         value: b"v",
     },
     EntryRef {
         user_key: b"-",
         seqno: 0,
-        value_type: ValueType::Tombstone,
+        value_type: ValueType::WeakTombstone,
         value: b"",
     },
     EntryRef {
         user_key: b"a b\\",
-        seqno: u64::MAX,
-        value_type: ValueType::WeakTombstone,
+        seqno: 300,
+        value_type: ValueType::Tombstone,
         value: b"\xff\x00",
     },
     EntryRef {
@@ -30,30 +30,42 @@ const ENTRIES: [EntryRef<'static>; 4] = [
     },
 ];
 
-const LINES: &[u8] =
-    b"k 7 V v\n\\x2d 0 T -\na\\x20b\\x5c 18446744073709551615 W \\xff\\x00\n\\xc3\\xa4 12 I \"\\x0a\n";
+const LINES: [&[u8]; 4] = [
+    b"k 18446744073709551615 V v",
+    b"\\x2d 0 W -",
+    b"a\\x20b\\x5c 300 T \\xff\\x00",
+    b"\\xc3\\xa4 12 I \"\\x0a",
+];
 
-const OBJECTS: &[u8] =
-    b"{\"key\":\"k\",\"seqno\":7,\"kind\":\"value\",\"value\":\"v\"}\n{\"key\":\"-\",\"seqno\":0,\"kind\":\"tombstone\",\"value\":\"\"}\n{\"key\":\"a b\\\\\",\"seqno\":18446744073709551615,\"kind\":\"weak_tombstone\",\"value\":{\"hex\":\"ff00\"}}\n{\"key\":\"\xc3\xa4\",\"seqno\":12,\"kind\":\"indirection\",\"value\":\"\\\"\\n\"}\n";
+const OBJECTS: [&[u8]; 4] = [
+    b"{\"key\":\"k\",\"seqno\":18446744073709551615,\"kind\":\"value\",\"value\":\"v\"}",
+    b"{\"key\":\"-\",\"seqno\":0,\"kind\":\"weak_tombstone\",\"value\":\"\"}",
+    b"{\"key\":\"a b\\\\\",\"seqno\":300,\"kind\":\"tombstone\",\"value\":{\"hex\":\"ff00\"}}",
+    b"{\"key\":\"\xc3\xa4\",\"seqno\":12,\"kind\":\"indirection\",\"value\":\"\\\"\\n\"}",
+];
 
-// Whether the entries have these lines.
-fn are_written<A: Allocator + Copy>(alloc: A, format: Format, lines: &[u8]) -> bool {
-    let mut text = Vec::new(alloc);
-    for entry in &ENTRIES {
-        match append_entry(alloc, text, entry, format) {
-            Ok(more) => text = more,
-            Err(_) => return false,
-        }
+// Whether an entry has a line, and its end.
+fn is_written<A: Allocator + Copy>(
+    alloc: A,
+    format: Format,
+    entry: &EntryRef<'_>,
+    line: &[u8],
+) -> bool {
+    match append_entry(alloc, Vec::new(alloc), entry, format) {
+        Ok(text) => match text.split_last() {
+            Some((end, rest)) => *end == b'\n' && rest == line,
+            None => false,
+        },
+        Err(_) => false,
     }
-    text.as_slice() == lines
 }
 
 // Whether a line is that of an entry.
 fn is_entry<A: Allocator + Copy>(
     alloc: A,
     format: Format,
-    line: &[u8],
     entry: &EntryRef<'_>,
+    line: &[u8],
 ) -> bool {
     match parse_entry(alloc, line, format) {
         Ok(item) => item.as_entry_ref() == *entry,
@@ -61,11 +73,11 @@ fn is_entry<A: Allocator + Copy>(
     }
 }
 
-// How many of some lines are those of the entries.
-fn count_read<A: Allocator + Copy>(alloc: A, format: Format, lines: &[u8]) -> usize {
+// How many of the entries have these lines, and are read of them.
+fn count_lines<A: Allocator + Copy>(alloc: A, format: Format, lines: &[&[u8]]) -> usize {
     let mut count = 0usize;
-    for (line, entry) in lines.split(|byte| *byte == b'\n').zip(&ENTRIES) {
-        if is_entry(alloc, format, line, entry) {
+    for (entry, line) in ENTRIES.iter().zip(lines) {
+        if is_written(alloc, format, entry, line) && is_entry(alloc, format, entry, line) {
             count = count.saturating_add(1);
         }
     }
@@ -78,15 +90,9 @@ fn refusal<A: Allocator + Copy>(alloc: A, format: Format, line: &[u8]) -> Option
 }
 
 #[test]
-fn entries_have_their_lines(rt: HostRuntime) {
-    assert!(rt; are_written(rt.alloc(), Format::Lines, LINES));
-    assert!(rt; are_written(rt.alloc(), Format::Json, OBJECTS));
-}
-
-#[test]
-fn lines_are_read_back(rt: HostRuntime) {
-    assert!(rt; count_read(rt.alloc(), Format::Lines, LINES) == 4);
-    assert!(rt; count_read(rt.alloc(), Format::Json, OBJECTS) == 4);
+fn entries_have_their_lines_and_are_read_of_them(rt: HostRuntime) {
+    assert!(rt; count_lines(rt.alloc(), Format::Lines, &LINES) == 4);
+    assert!(rt; count_lines(rt.alloc(), Format::Json, &OBJECTS) == 4);
 }
 
 const BAD_LINES: [(&[u8], LineError); 9] = [

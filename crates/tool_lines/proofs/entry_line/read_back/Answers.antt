@@ -1,4 +1,4 @@
-use Rattle.std.proofs.Common.{◌≡◌, ◌∙◌, refl, sym, subst, List, ℕ, [], ◌++◌}
+use Rattle.std.proofs.Common.{◌≡◌, refl, sym, subst, List, ℕ}
 use Rattle.sst_entries.specs.Lending.{entry_of_ref}
 use Rattle.tool_lines.specs.WordLine.{Spells, word_line}
 use Rattle.tool_lines.proofs.WordLemmas.{none_refused, same_read}

@@ -1,4 +1,4 @@
-use Rattle.std.proofs.Common.{◌≡◌, sym, subst, List, ℕ, [], append-nil, refl}
+use Rattle.std.proofs.Common.{sym, subst, List, ℕ, [], append-nil, refl}
 use Rattle.tool_lines.specs.Escapes.{AreCodes}
 use Rattle.tool_lines.proofs.EscapeLemmas.{Reading, reading_goes, reading_starts, reading_stops}
 use Rattle.tool_lines.proofs.EscapeLemmas.{empty_is, some_is}

@@ -1,5 +1,5 @@
-use Rattle.std.proofs.Common.{◌≡◌, refl, sym, ◌∙◌, ap, subst, List, ℕ, rules}
-use Rattle.tool_lines.specs.WordLine.{Counts, FourWords, IsNumber, letter_of}
+use Rattle.std.proofs.Common.{rules}
+use Rattle.tool_lines.specs.WordLine.{FourWords, IsNumber}
 use Rattle.tool_lines.specs.declared.entry_line.LineError.TheVariants as fault
 use Rattle.tool_lines.proofs.WordLemmas.{fault_by, fault_of, no_kind}
 use Rattle.tool_lines.proofs.word_line.parse_words.Goals as goal

@@ -1,4 +1,4 @@
-use Rattle.std.proofs.Common.{◌≡◌, ◌∙◌, ◌++◌, ◌∷◌, ◌<◌, ◌^◌, [], List, ℕ, arith, rules}
+use Rattle.std.proofs.Common.{◌≡◌, ◌∙◌, ◌++◌, ◌∷◌, ◌<◌, ◌^◌, [], rules}
 use Rattle.std.specs.Fmt.{decimal}
 use Rattle.sst_entries.specs.Lending.{entry_of_ref}
 use Rattle.tool_lines.specs.Escapes.{StandsFor, text_of}

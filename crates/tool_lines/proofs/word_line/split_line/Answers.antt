@@ -1,7 +1,5 @@
-use Rattle.std.proofs.Common.{◌≡◌, ◌∙◌, ap, List, ℕ, ◌∷◌, length, rules}
-use Rattle.std.specs.Prelude.{Option, Some}
+use Rattle.std.proofs.Common.{rules}
 use Rattle.std.specs.Option.{option_copied}
-use Rattle.tool_lines.specs.WordLine.{words_of}
 use Rattle.tool_lines.proofs.WordLemmas.{copied_some, five_words}
 use Rattle.tool_lines.proofs.word_line.split_line.Goals as goal
 
