@@ -47,7 +47,7 @@ fn print_place<W: Write>(output: &mut W, place: Place, all: u64) -> io::Result<(
     let share = share_of(place.size, all);
     let (whole, tenths) = (share / 10, share % 10);
     let (offset, size) = (place.offset, place.size);
-    write!(output, "{offset:>12} {size:>12} {whole:>4}.{tenths} %  ")?;
+    write!(output, "{offset:>12} {size:>12} {whole:>4}.{tenths} %")?;
     print_bar(output, share / 25)?;
     output.write_all(b"\n")
 }
@@ -60,7 +60,12 @@ fn share_of(part: u64, all: u64) -> u64 {
         .min(1000)
 }
 
+// Nothing for a length of 0.
 fn print_bar<W: Write>(output: &mut W, length: u64) -> io::Result<()> {
+    if length == 0 {
+        return Ok(());
+    }
+    output.write_all(b"  ")?;
     for _ in 0..length {
         output.write_all(b"#")?;
     }

@@ -67,7 +67,7 @@ fn parts_of<A: Allocator + Copy>(alloc: A, table: &Table<A>) -> Result<Parts<A>,
         entries: table.metadata.item_count,
         index: kind_of(table.regions.index.is_some()),
         filter: filter_of(table),
-        spread: spread_of(u64::from(table.filter_size()), keys),
+        spread: spread_of(filter_bytes(table), keys),
         sections,
         blocks,
     })
@@ -92,6 +92,14 @@ fn filter_of<A: Allocator>(table: &Table<A>) -> &'static str {
         "none"
     } else {
         kind_of(table.regions.filter_tli.is_some())
+    }
+}
+
+// How many bytes the filter has: without the header where its one block stays loaded.
+fn filter_bytes<A: Allocator>(table: &Table<A>) -> u64 {
+    match table.pinned_filter_size() {
+        0 => u64::from(table.filter_size()),
+        size => size as u64,
     }
 }
 

@@ -3,8 +3,8 @@ use Rattle.std.proofs.Common.{◌≡◌}
 use Rattle.lsm_readers.specs.Verification.{steps_of}
 use Rattle.tool_show.proofs.checks.look_at.Given as goal
 
-abbrev pub invariant-loop : goal.invariant-loop
-invariant-loop g l = l.verification.table ≡ l.table
+abbrev pub invariant-loop-blocks : goal.invariant-loop-blocks
+invariant-loop-blocks g l = l.verification.table ≡ l.table
 
-abbrev pub decreases-loop : goal.decreases-loop
-decreases-loop g l = steps_of l.verification
+abbrev pub decreases-loop-blocks : goal.decreases-loop-blocks
+decreases-loop-blocks g l = steps_of l.verification
