@@ -1,6 +1,6 @@
 -- Files, one after another.
 use Rattle.std.proofs.Common.{◌≡◌, refl, sym, ◌∙◌, ap, subst, ℕ, zero, suc, ◌+◌, ◌<◌, List, [], ◌∷◌}
-use Rattle.std.proofs.Common.{◌++◌, length, get_or, map, take, arith, true, false, Bool, below_more}
+use Rattle.std.proofs.Common.{◌++◌, length, get_or, map, take, arith, true, false, below_more}
 use Rattle.std.specs.Prelude.{Result, Ok, Err, IfOk, IfErr, is_ok}
 use Rattle.std.proofs.lemmas.List.{map-append, take_more}
 use Rattle.lsm_readers.specs.Table.{OpenTable}

@@ -1,4 +1,4 @@
-use Rattle.std.proofs.Common.{◌≡◌, ◌∷◌, [], ◌+◌, sym, subst, List, map, take, rules}
+use Rattle.std.proofs.Common.{◌≡◌, ◌∷◌, [], ◌+◌, sym, subst, map, take, rules}
 use Rattle.std.specs.Arc.{arc_value}
 use Rattle.tool_show.specs.Files.{runs_in}
 use Rattle.tool_show.proofs.FileLemmas.{runs_more}
