@@ -1,0 +1,9 @@
+-- Why a line is no entry's.
+use Rattle.std.specs.Prelude.{Bool, true, false}
+use Rattle.tool_lines.specs.declared.entry_line.LineError.{LineError}
+use Rattle.tool_lines.specs.declared.entry_line.LineError.TheVariants.{OutOfMemory}
+
+-- want of memory, which says nothing of the line
+abbrev pub is_memory : LineError → Bool
+is_memory OutOfMemory = true
+is_memory e = false

@@ -1,0 +1,170 @@
+//! Entries as words: KEY NUMBER KIND VALUE.
+ghost use Rattle.std.specs.Prelude.{◌≡◌, ◌≢◌, ◌==◌, ◌<◌, ℕ, List, ◌∷◌, [], ◌++◌, length, false};
+ghost use Rattle.std.specs.Prelude.{Some, OnOk, IfSome, IfNone, IfOk, IfErr};
+ghost use Rattle.std.specs.Option.{SomeIff, option_copied};
+ghost use Rattle.std.specs.List.{position};
+ghost use Rattle.std.specs.Str.Parse.{digits_value};
+ghost use Rattle.sst_entries.specs.Lending.{entry_of_ref};
+ghost use Rattle.sst_entries.specs.declared.value_type.ValueType.{ValueType};
+ghost use Rattle.tool_lines.specs.Escapes.{StandsFor};
+ghost use Rattle.tool_lines.specs.Faults.{is_memory};
+ghost use Rattle.tool_lines.specs.WordLine.{IsNumber, IsWordFault, Spells, letter_of, word_line};
+ghost use Rattle.tool_lines.specs.WordLine.{words_behind, words_of};
+ghost use Rattle.tool_lines.specs.declared.entry_line.LineError.TheVariants.{OutOfMemory};
+
+use crate::LineError;
+use crate::escapes::{parse_word, push_bytes};
+use itoa::Buffer;
+use sst_entries::{EntryRef, InternalValue, Slice, ValueType};
+use std::alloc::{AllocError, Allocator};
+
+/// The words of a line.
+#[derive(Clone, Copy)]
+struct Words<'a> {
+    key: &'a [u8],
+    seqno: &'a [u8],
+    kind: &'a [u8],
+    value: &'a [u8],
+}
+
+/// Appends an entry's words, with one space between.
+pub(crate) fn push_words<A: Allocator>(
+    text: &mut Vec<u8, A>,
+    entry: &EntryRef<'_>,
+) -> Result<(), AllocError>
+    ensures text { OnOk result
+        (text.new.items ≡ text.old.items ++ word_line (entry_of_ref entry.now)) }
+    ensures spells { OnOk result
+        (Spells (word_line (entry_of_ref entry.now)) (entry_of_ref entry.now)) }
+{
+    push_bytes(text, entry.user_key)?;
+    text.extend_from_slice(b" ")?;
+    text.extend_from_slice(Buffer::new().format(entry.seqno).as_bytes())?;
+    text.extend_from_slice(&[b' ', letter_of(entry.value_type), b' '])?;
+    push_bytes(text, entry.value)
+}
+
+// A kind's letter.
+fn letter_of(kind: ValueType) -> u8
+    ensures { result ≡ letter_of kind }
+{
+    match kind {
+        ValueType::Value => b'V',
+        ValueType::Tombstone => b'T',
+        ValueType::WeakTombstone => b'W',
+        ValueType::Indirection => b'I',
+    }
+}
+
+/// The entry that a line's words spell. Refused with what is wrong of the line.
+pub(crate) fn parse_words<A: Allocator + Copy>(
+    alloc: A,
+    line: &[u8],
+) -> Result<InternalValue<A>, LineError>
+    ensures spells { IfOk result (λ e. Spells line.now e) }
+    ensures refused { IfErr result (λ e. IsWordFault line.now e) }
+{
+    let Some(words) = split_line(line) else {
+        return Err(LineError::Words);
+    };
+    let Some(seqno) = parse_number(words.seqno) else {
+        return Err(LineError::Number);
+    };
+    let Some(kind) = parse_kind(words.kind) else {
+        return Err(LineError::Kind);
+    };
+    let key = parse_slice(alloc, words.key, LineError::Key)?;
+    match parse_slice(alloc, words.value, LineError::Value) {
+        Ok(value) => Ok(InternalValue::from_components(key, value, seqno, kind)),
+        Err(error) => Err(error),
+    }
+}
+
+// The bytes of a word, as a slice.
+fn parse_slice<A: Allocator + Clone>(
+    alloc: A,
+    word: &[u8],
+    fault: LineError,
+) -> Result<Slice<A>, LineError>
+    ensures bytes { IfOk result (λ bytes. StandsFor word.now bytes) }
+    ensures refused { IfErr result (λ e. is_memory e ≡ false →
+        (e ≡ fault) × ((bytes : List ℕ) → ¬ StandsFor word.now bytes)) }
+{
+    slice_of(parse_word(alloc, word, fault)?)
+}
+
+// The bytes of a vector, which is given up.
+pub(crate) fn slice_of<A: Allocator + Clone>(bytes: Vec<u8, A>) -> Result<Slice<A>, LineError>
+    ensures ok { IfOk result (λ slice. slice ≡ bytes.items) }
+    ensures err { IfErr result (λ e. e ≡ OutOfMemory) }
+{
+    match Slice::from_vec(bytes) {
+        Ok(slice) => Ok(slice),
+        Err(_) => Err(LineError::OutOfMemory),
+    }
+}
+
+// The four words of a line.
+fn split_line(line: &[u8]) -> Option<Words<'_>>
+    ensures some { IfSome result (λ w. words_of line.now ≡
+        w.key.now ∷ w.seqno.now ∷ w.kind.now ∷ w.value.now ∷ []) }
+    ensures none { IfNone result (length (words_of line.now) ≢ 4) }
+{
+    let (key, rest) = split_word(line);
+    let (seqno, rest) = split_word(rest?);
+    let (kind, rest) = split_word(rest?);
+    let (value, rest) = split_word(rest?);
+    if rest.is_some() {
+        return None;
+    }
+    Some(Words {
+        key,
+        seqno,
+        kind,
+        value,
+    })
+}
+
+// The first word, and what follows the space behind it.
+fn split_word(line: &[u8]) -> (&[u8], Option<&[u8]>)
+    ensures { words_of line.now ≡ result.0.now ∷ words_behind (option_copied result.1) }
+{
+    match find_space(line) {
+        Some(at) => (&line[..at], Some(&line[at + 1..])),
+        None => (line, None),
+    }
+}
+
+fn find_space(line: &[u8]) -> Option<usize>
+    ensures first { result ≡ position (λ byte. byte == 32) line.now }
+    ensures within { IfSome result (λ at. at < length line.now) }
+{
+    line.iter().position(|byte| *byte == b' ')
+}
+
+/// A decimal number without leading zeros.
+pub(crate) fn parse_number(word: &[u8]) -> Option<u64>
+    ensures { SomeIff result (IsNumber word.now) (digits_value 10 word.now) }
+{
+    if let [b'+', ..] | [b'0', _, ..] = word {
+        return None;
+    }
+    match str::from_utf8(word) {
+        Ok(text) => text.parse::<u64>().ok(),
+        Err(_) => None,
+    }
+}
+
+// The kind of a letter.
+fn parse_kind(word: &[u8]) -> Option<ValueType>
+    ensures letter { IfSome result (λ kind. word.now ≡ letter_of kind ∷ []) }
+    ensures all { (kind : ValueType) → word.now ≡ letter_of kind ∷ [] → result ≡ Some kind }
+{
+    match word {
+        b"V" => Some(ValueType::Value),
+        b"T" => Some(ValueType::Tombstone),
+        b"W" => Some(ValueType::WeakTombstone),
+        b"I" => Some(ValueType::Indirection),
+        _ => None,
+    }
+}

@@ -1,0 +1,182 @@
+//! What a table says of itself, as plain values.
+ghost use Rattle.std.specs.Iterator.{IsFinite};
+
+use crate::checks::{item_name, section_name};
+use lsm_block_indexes::{BlockIndex, BlockIndexIter};
+use lsm_formats::ItemName;
+use lsm_readers::Table;
+use sst_blocks::{BlockHandle, Error, KeyedBlockHandle, SectionName};
+use std::alloc::Allocator;
+
+/// Where something lies in a file, in bytes.
+#[derive(Clone, Copy, Debug)]
+pub(crate) struct Place {
+    /// Where it begins.
+    pub(crate) offset: u64,
+    /// How long it is.
+    pub(crate) size: u64,
+}
+
+/// A section of a file.
+#[derive(Clone, Copy, Debug)]
+pub(crate) struct NamedPlace {
+    pub(crate) name: &'static str,
+    pub(crate) place: Place,
+}
+
+/// How an item of the meta block is shown.
+#[derive(Clone, Copy, Debug, PartialEq, Eq)]
+pub(crate) enum Shown {
+    /// As a number, which is stored with its lowest byte first.
+    Number,
+    /// As bytes.
+    Bytes,
+}
+
+/// The items of the meta block, and how each is shown.
+pub(crate) const ITEMS: [(ItemName, Shown); 29] = [
+    (ItemName::BlockCountData, Shown::Number),
+    (ItemName::BlockCountFilter, Shown::Number),
+    (ItemName::BlockCountIndex, Shown::Number),
+    (ItemName::ChecksumType, Shown::Number),
+    (ItemName::CompressionData, Shown::Number),
+    (ItemName::CompressionIndex, Shown::Number),
+    (ItemName::CrateVersion, Shown::Bytes),
+    (ItemName::CreatedAt, Shown::Number),
+    (ItemName::DataBlockHashRatio, Shown::Number),
+    (ItemName::FileSize, Shown::Number),
+    (ItemName::FilterHashType, Shown::Number),
+    (ItemName::IndexKeysHaveSeqno, Shown::Number),
+    (ItemName::InitialLevel, Shown::Number),
+    (ItemName::ItemCount, Shown::Number),
+    (ItemName::KeyMax, Shown::Bytes),
+    (ItemName::KeyMin, Shown::Bytes),
+    (ItemName::KeyCount, Shown::Number),
+    (ItemName::PrefixTruncationData, Shown::Number),
+    (ItemName::PrefixTruncationIndex, Shown::Number),
+    (ItemName::RestartIntervalData, Shown::Number),
+    (ItemName::RestartIntervalIndex, Shown::Number),
+    (ItemName::SeqnoMax, Shown::Number),
+    (ItemName::SeqnoMin, Shown::Number),
+    (ItemName::TableId, Shown::Number),
+    (ItemName::TableVersion, Shown::Number),
+    (ItemName::TombstoneCount, Shown::Number),
+    (ItemName::UserDataSize, Shown::Number),
+    (ItemName::WeakTombstoneCount, Shown::Number),
+    (ItemName::WeakTombstoneReclaimable, Shown::Number),
+];
+
+/// The number of bytes that are stored with the lowest first, where it is below 2^64.
+pub(crate) fn little_endian(bytes: &[u8]) -> Option<u64> {
+    let mut number = 0u64;
+    for byte in bytes.iter().rev() {
+        number = number.checked_mul(256)?.checked_add(u64::from(*byte))?;
+    }
+    Some(number)
+}
+
+/// The name of an item in a file.
+pub(crate) fn name_of_item(item: ItemName) -> &'static str {
+    item_name(item)
+}
+
+/// The sections of a table, as they lie: the data blocks come first.
+pub(crate) fn sections_of<A: Allocator + Copy>(
+    alloc: A,
+    table: &Table<A>,
+) -> Result<Vec<NamedPlace, A>, Error> {
+    let regions = table.regions;
+    let data = Place {
+        offset: 0,
+        size: table.metadata.file_size,
+    };
+    let mut sections = Vec::new(alloc);
+    add_section(&mut sections, SectionName::Data, Some(data))?;
+    add_section(&mut sections, SectionName::Index, place_of(regions.index))?;
+    add_section(&mut sections, SectionName::Tli, place_of(Some(regions.tli)))?;
+    add_section(&mut sections, SectionName::Filter, place_of(regions.filter))?;
+    add_section(
+        &mut sections,
+        SectionName::FilterTli,
+        place_of(regions.filter_tli),
+    )?;
+    add_section(
+        &mut sections,
+        SectionName::Meta,
+        place_of(Some(regions.metadata)),
+    )?;
+    Ok(sections)
+}
+
+fn place_of(handle: Option<BlockHandle>) -> Option<Place> {
+    let handle = handle?;
+    Some(Place {
+        offset: handle.offset().0,
+        size: u64::from(handle.size()),
+    })
+}
+
+fn add_section<A: Allocator>(
+    sections: &mut Vec<NamedPlace, A>,
+    section: SectionName,
+    place: Option<Place>,
+) -> Result<(), Error> {
+    if let Some(place) = place {
+        let name = section_name(section);
+        sections.push(NamedPlace { name, place })?;
+    }
+    Ok(())
+}
+
+/// Where the data blocks lie, by the index. Refused as the index's blocks are.
+pub(crate) fn blocks_of<A: Allocator + Copy>(
+    alloc: A,
+    table: &Table<A>,
+) -> Result<Vec<Place, A>, Error> {
+    let index = table.block_index()?;
+    let handles = index.iter();
+    drop(index);
+    collect_places(alloc, handles?)
+}
+
+fn collect_places<I: BlockIndexIter<A> + Drop, A: Allocator + Copy>(
+    alloc: A,
+    handles: I,
+) -> Result<Vec<Place, A>, Error>
+    requires can { I.can_next handles }
+    requires finite { IsFinite (I.remaining handles) }
+{
+    let mut places = Vec::new(alloc);
+    for handle in handles {
+        places.push(place_of_block(&handle?))?;
+    }
+    Ok(places)
+}
+
+fn place_of_block<A: Allocator>(handle: &KeyedBlockHandle<A>) -> Place {
+    Place {
+        offset: handle.offset().0,
+        size: u64::from(handle.size()),
+    }
+}
+
+/// A filter as it is spread over keys.
+#[derive(Clone, Copy, Debug)]
+pub(crate) struct Spread {
+    /// Tenths of a bit for each key.
+    pub(crate) tenths: u64,
+    /// How many of a million keys that are not there it passes, about.
+    pub(crate) passed: u64,
+}
+
+/// How a filter of so many bytes is spread over so many keys; `None` for none.
+pub(crate) fn spread_of(bytes: u64, keys: u64) -> Option<Spread> {
+    let tenths = bytes.saturating_mul(80).checked_div(keys)?;
+    let mut passed = 1_000_000u64;
+    // With the best number of probes each bit lets a share of 0.6185 of the keys through, and each
+    // tenth of a bit one of 0.9531.
+    for _ in 0..tenths.min(300) {
+        passed = passed.saturating_mul(9531) / 10_000;
+    }
+    Some(Spread { tenths, passed })
+}

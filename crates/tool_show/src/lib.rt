@@ -1,0 +1,19 @@
+//! What the tool shows of opened table files: entries, the version that a reader sees, what a table
+//! says of itself, and what is wrong of it.
+#![tactic(auto)]
+
+mod checks;
+mod dumps;
+mod error;
+mod facts;
+mod gets;
+mod named;
+mod picture;
+mod stats;
+
+pub use checks::{NoProgress, Progress, verify};
+pub use dumps::{DumpOptions, dump};
+pub use error::ShowError;
+pub use gets::{GetOptions, get};
+pub use named::NamedTable;
+pub use stats::stat;

@@ -1,0 +1,302 @@
+//! What tables say of themselves.
+use crate::error::Failure;
+use crate::facts::{
+    ITEMS, NamedPlace, Place, Shown, Spread, blocks_of, little_endian, name_of_item, sections_of,
+    spread_of,
+};
+use crate::picture::{print_blocks, print_sections};
+use crate::{NamedTable, ShowError};
+use json::Writer;
+use lsm_formats::ItemName;
+use lsm_readers::Table;
+use sst_blocks::{Error, Slice};
+use std::alloc::{AllocError, Allocator};
+use std::io::{self, Write};
+use tool_lines::{Format, append_bytes};
+
+/// Writes what each table says of itself: the items of its meta block, its sections and its data
+/// blocks with their sizes and shares of the file, entries a block, the kinds of index and filter,
+/// the filter's bits a key, and how many of the keys that are not there it is expected to let
+/// through. As text, or an object of JSON for each file on a line. Refused with the first failure;
+/// what was written stays.
+pub fn stat<'a, A: Allocator + Copy, W: Write>(
+    alloc: A,
+    output: &mut W,
+    files: &[NamedTable<'a, A>],
+    format: Format,
+) -> Result<(), ShowError<'a>> {
+    for file in files {
+        if let Err(failure) = stat_file(alloc, output, file, format) {
+            return Err(failure.of_file(file.name));
+        }
+    }
+    Ok(())
+}
+
+/// What is shown of a table beside its items.
+#[derive(Drop)]
+struct Parts<A: Allocator> {
+    size: u64,
+    entries: u64,
+    index: &'static str,
+    filter: &'static str,
+    spread: Option<Spread>,
+    sections: Vec<NamedPlace, A>,
+    blocks: Vec<Place, A>,
+}
+
+fn stat_file<A: Allocator + Copy, W: Write>(
+    alloc: A,
+    output: &mut W,
+    file: &NamedTable<'_, A>,
+    format: Format,
+) -> Result<(), Failure> {
+    let parts = parts_of(alloc, &file.table)?;
+    match format {
+        Format::Lines => print_text(alloc, output, file, &parts),
+        Format::Json => print_object(alloc, output, file, &parts),
+    }
+}
+
+fn parts_of<A: Allocator + Copy>(alloc: A, table: &Table<A>) -> Result<Parts<A>, Error> {
+    let keys = number_of(table, ItemName::KeyCount)?;
+    let sections = sections_of(alloc, table)?;
+    let blocks = blocks_of(alloc, table)?;
+    Ok(Parts {
+        size: table.file_len() as u64,
+        entries: table.metadata.item_count,
+        index: kind_of(table.regions.index.is_some()),
+        filter: filter_of(table),
+        spread: spread_of(filter_bytes(table), keys),
+        sections,
+        blocks,
+    })
+}
+
+// The number of an item, or 0 where it is none.
+fn number_of<A: Allocator + Copy>(table: &Table<A>, item: ItemName) -> Result<u64, Error> {
+    let value = table.meta_item(item)?;
+    Ok(little_endian(value.as_slice()).unwrap_or(0))
+}
+
+fn kind_of(has_partitions: bool) -> &'static str {
+    if has_partitions {
+        "partitioned"
+    } else {
+        "full"
+    }
+}
+
+fn filter_of<A: Allocator>(table: &Table<A>) -> &'static str {
+    if table.regions.filter.is_none() {
+        "none"
+    } else {
+        kind_of(table.regions.filter_tli.is_some())
+    }
+}
+
+// How many bytes the filter has: without the header where its one block stays loaded.
+fn filter_bytes<A: Allocator>(table: &Table<A>) -> u64 {
+    match table.pinned_filter_size() {
+        0 => u64::from(table.filter_size()),
+        size => size as u64,
+    }
+}
+
+fn print_text<A: Allocator + Copy, W: Write>(
+    alloc: A,
+    output: &mut W,
+    file: &NamedTable<'_, A>,
+    parts: &Parts<A>,
+) -> Result<(), Failure> {
+    let (name, size) = (file.name, parts.size);
+    writeln!(output, "{name}: {size} bytes")?;
+    for (item, shown) in &ITEMS {
+        print_item(alloc, output, &file.table, *item, *shown)?;
+    }
+    print_summary(output, parts)?;
+    Ok(print_pictures(output, parts)?)
+}
+
+// An item of the meta block on a line, where there is one.
+fn print_item<A: Allocator + Copy, W: Write>(
+    alloc: A,
+    output: &mut W,
+    table: &Table<A>,
+    item: ItemName,
+    shown: Shown,
+) -> Result<(), Failure> {
+    match table.meta_item(item) {
+        Ok(value) => print_value(alloc, output, name_of_item(item), &value, shown),
+        Err(Error::MetaKeyMissing) => Ok(()),
+        Err(error) => Err(Failure::Refused(error)),
+    }
+}
+
+fn print_value<A: Allocator + Copy, W: Write>(
+    alloc: A,
+    output: &mut W,
+    name: &str,
+    value: &Slice<A>,
+    shown: Shown,
+) -> Result<(), Failure> {
+    write!(output, "  {name:<26} ")?;
+    let number = number_shown(value.as_slice(), shown);
+    if let Some(number) = number {
+        return Ok(writeln!(output, "{number}")?);
+    }
+    let text = append_bytes(Vec::new(alloc), value.as_slice())?;
+    output.write_all(&text)?;
+    Ok(output.write_all(b"\n")?)
+}
+
+fn number_shown(value: &[u8], shown: Shown) -> Option<u64> {
+    match shown {
+        Shown::Number => little_endian(value),
+        Shown::Bytes => None,
+    }
+}
+
+fn print_summary<A: Allocator, W: Write>(output: &mut W, parts: &Parts<A>) -> io::Result<()> {
+    let (index, filter) = (parts.index, parts.filter);
+    writeln!(output, "index {index}, filter {filter}")?;
+    match parts.spread {
+        Some(spread) if parts.filter != "none" => print_spread(output, spread),
+        _ => Ok(()),
+    }
+}
+
+fn print_spread<W: Write>(output: &mut W, spread: Spread) -> io::Result<()> {
+    let (bits, tenths) = (spread.tenths / 10, spread.tenths % 10);
+    let (percent, rest) = (spread.passed / 10_000, spread.passed % 10_000 / 100);
+    writeln!(
+        output,
+        "filter {bits}.{tenths} bits a key, about {percent}.{rest:02} % false answers"
+    )
+}
+
+fn print_pictures<A: Allocator, W: Write>(output: &mut W, parts: &Parts<A>) -> io::Result<()> {
+    writeln!(output, "sections          offset        bytes   share")?;
+    print_sections(output, &parts.sections, parts.size)?;
+    let (count, entries) = (parts.blocks.len(), parts.entries);
+    let tenths = entries
+        .saturating_mul(10)
+        .checked_div(count as u64)
+        .unwrap_or(0);
+    let (each, rest) = (tenths / 10, tenths % 10);
+    writeln!(output, "data blocks {count}, {each}.{rest} entries each")?;
+    print_blocks(output, &parts.blocks, parts.size)
+}
+
+fn print_object<A: Allocator + Copy, W: Write>(
+    alloc: A,
+    output: &mut W,
+    file: &NamedTable<'_, A>,
+    parts: &Parts<A>,
+) -> Result<(), Failure> {
+    let mut writer = Writer::new(Vec::new(alloc));
+    write_object(alloc, &mut writer, file, parts)?;
+    let mut text = writer.into_inner();
+    text.push(b'\n')?;
+    Ok(output.write_all(&text)?)
+}
+
+fn write_object<A: Allocator + Copy>(
+    alloc: A,
+    writer: &mut Writer<A>,
+    file: &NamedTable<'_, A>,
+    parts: &Parts<A>,
+) -> Result<(), Error> {
+    writer.begin_object()?;
+    writer.key("name")?;
+    writer.string(file.name)?;
+    writer.key("bytes")?;
+    writer.u64(parts.size)?;
+    write_items(alloc, writer, &file.table)?;
+    write_kinds(writer, parts)?;
+    write_sections(writer, &parts.sections)?;
+    write_blocks(writer, &parts.blocks)?;
+    Ok(writer.end_object()?)
+}
+
+fn write_items<A: Allocator + Copy>(
+    alloc: A,
+    writer: &mut Writer<A>,
+    table: &Table<A>,
+) -> Result<(), Error> {
+    writer.key("meta")?;
+    writer.begin_object()?;
+    for (item, shown) in &ITEMS {
+        match table.meta_item(*item) {
+            Ok(value) => write_value(alloc, writer, name_of_item(*item), &value, *shown)?,
+            Err(Error::MetaKeyMissing) => {}
+            Err(error) => return Err(error),
+        }
+    }
+    Ok(writer.end_object()?)
+}
+
+fn write_value<A: Allocator + Copy>(
+    alloc: A,
+    writer: &mut Writer<A>,
+    name: &str,
+    value: &Slice<A>,
+    shown: Shown,
+) -> Result<(), Error> {
+    writer.key(name)?;
+    if let Some(number) = number_shown(value.as_slice(), shown) {
+        return Ok(writer.u64(number)?);
+    }
+    let text = append_bytes(Vec::new(alloc), value.as_slice())?;
+    let told = writer.string(str::from_utf8(&text).unwrap_or(""));
+    drop(text);
+    Ok(told?)
+}
+
+fn write_kinds<A: Allocator>(writer: &mut Writer<A>, parts: &Parts<A>) -> Result<(), AllocError> {
+    writer.key("index")?;
+    writer.string(parts.index)?;
+    writer.key("filter")?;
+    writer.string(parts.filter)?;
+    if let Some(spread) = parts.spread {
+        writer.key("filter_bits_per_key_tenths")?;
+        writer.u64(spread.tenths)?;
+        writer.key("false_answers_per_million")?;
+        writer.u64(spread.passed)?;
+    }
+    Ok(())
+}
+
+fn write_sections<A: Allocator>(
+    writer: &mut Writer<A>,
+    sections: &[NamedPlace],
+) -> Result<(), AllocError> {
+    writer.key("sections")?;
+    writer.begin_array()?;
+    for section in sections {
+        writer.begin_object()?;
+        writer.key("name")?;
+        writer.string(section.name)?;
+        write_place(writer, section.place)?;
+    }
+    writer.end_array()
+}
+
+fn write_blocks<A: Allocator>(writer: &mut Writer<A>, blocks: &[Place]) -> Result<(), AllocError> {
+    writer.key("blocks")?;
+    writer.begin_array()?;
+    for block in blocks {
+        writer.begin_object()?;
+        write_place(writer, *block)?;
+    }
+    writer.end_array()
+}
+
+// A place, and the end of its object.
+fn write_place<A: Allocator>(writer: &mut Writer<A>, place: Place) -> Result<(), AllocError> {
+    writer.key("offset")?;
+    writer.u64(place.offset)?;
+    writer.key("bytes")?;
+    writer.u64(place.size)?;
+    writer.end_object()
+}
