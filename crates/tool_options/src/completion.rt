@@ -76,10 +76,7 @@ fn push_value(
     match argument.takes {
         Takes::Names(names) => {
             write!(text, "    '{command} {dashes}{word}') words='")?;
-            for name in names {
-                text.push_str(name)?;
-                text.push_str(" ")?;
-            }
+            push_names(text, names)?;
             text.push_str("' ;;\n")
         }
         Takes::Text | Takes::Number(_, _) => {
@@ -90,6 +87,15 @@ fn push_value(
         }
         Takes::Nothing | Takes::File | Takes::Files | Takes::FilesAndKey(_) => Ok(()),
     }
+}
+
+// Names, each with a space behind it.
+fn push_names(text: &mut String, names: &[&str]) -> Result<(), AllocError> {
+    for name in names {
+        text.push_str(name)?;
+        text.push_str(" ")?;
+    }
+    Ok(())
 }
 
 // The options of a command.

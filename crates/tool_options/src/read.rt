@@ -59,7 +59,7 @@ fn read_write<'a>(matches: &ArgMatches<'a>) -> Result<WriteTask<'a>, Misread>
 {
     Ok(WriteTask {
         file: text(matches, "file").ok_or(Misread::Absent)?,
-        partitioned: text(matches, "index") == Some("partitioned"),
+        partitioned: says(matches, "index", "partitioned"),
         filter_bits: text(matches, "filter")
             .and_then(filter_bits)
             .ok_or(Misread::Filter)?,
@@ -147,11 +147,21 @@ fn text<'a>(matches: &ArgMatches<'a>, name: &str) -> Option<&'a str>
     matches.get_str(name)
 }
 
+// Whether a word stands behind an argument.
+fn says(matches: &ArgMatches<'_>, name: &str, word: &str) -> bool
+    ensures { IsTrue result ↔ (first_of name.now (rows_of (found_of matches.now)) ≡ Some word.now) }
+{
+    match text(matches, name) {
+        Some(text) => text == word,
+        None => false,
+    }
+}
+
 // Whether a flag is there.
 fn flag(matches: &ArgMatches<'_>, name: &str) -> bool
     ensures { IsTrue result ↔ Has (rows_of (found_of matches.now)) name.now }
 {
-    matches.get_str(name) == Some("true")
+    says(matches, name, "true")
 }
 
 // The words that stand in places of their own.

@@ -1,4 +1,7 @@
 //! The bar that shows how far a command has come.
+ghost use Rattle.std.specs.Prelude.{◌≡◌};
+ghost use Rattle.tool_tasks.specs.Bars.{hundredths};
+
 use std::io::Write;
 use std::rt::Clock;
 use std::time::Duration;
@@ -20,7 +23,9 @@ pub(crate) struct Bar<'e, 'c, E: Write, C: Clock> {
 }
 
 /// How many hundredths are done of what there is: all where there is nothing.
-pub(crate) fn hundredths(done: u64, all: u64) -> u64 {
+pub(crate) fn hundredths(done: u64, all: u64) -> u64
+    ensures { result ≡ hundredths done all }
+{
     match (u128::from(done) * 100).checked_div(u128::from(all)) {
         Some(part) => u64::try_from(part.min(100)).unwrap_or(100),
         None => 100,

@@ -1,4 +1,7 @@
 //! Why a command did not succeed.
+ghost use Rattle.std.specs.Prelude.{◌≡◌};
+ghost use Rattle.tool_tasks.specs.Statuses.{status_of_failure};
+
 use std::alloc::{AllocError, AllocFailed};
 use std::{fmt, io};
 use tool_files::FileError;
@@ -25,7 +28,9 @@ pub(crate) enum Failure<'a> {
 
 impl<'a> Failure<'a> {
     /// The exit status: 2 where the command line is at fault.
-    pub(crate) fn status(&self) -> u8 {
+    pub(crate) fn status(&self) -> u8
+        ensures { result ≡ status_of_failure self.now }
+    {
         match self {
             Failure::Key(_, LineError::OutOfMemory) => 1,
             Failure::Key(_, _) => 2,

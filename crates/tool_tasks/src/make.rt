@@ -1,4 +1,8 @@
 //! Tables that are made.
+ghost use Rattle.std.specs.Prelude.{◌≡◌};
+ghost use Rattle.sst_filters.specs.declared.policy.BloomConstructionPolicy.TheVariants.{BitsPerKey};
+ghost use Rattle.tool_tasks.specs.Options.{format_of, index_of, tenths};
+
 use crate::System;
 use crate::failure::Failure;
 use logpurple::{BloomConstructionPolicy, IndexKind, Rules, Timestamp};
@@ -12,7 +16,9 @@ use tool_make::{
 use tool_options::{CompactTask, PackTask, WriteTask};
 
 /// How a line spells an entry.
-pub(crate) fn format_of(json: bool) -> Format {
+pub(crate) fn format_of(json: bool) -> Format
+    ensures { result ≡ format_of json }
+{
     if json { Format::Json } else { Format::Lines }
 }
 
@@ -25,7 +31,18 @@ fn now<C: Clock>(clock: &C) -> Timestamp {
 }
 
 // How a table is written.
-fn write_options(task: &WriteTask<'_>, created_at: Timestamp) -> WriteOptions {
+fn write_options(task: &WriteTask<'_>, created_at: Timestamp) -> WriteOptions
+    ensures { result ≡ record {
+      index = index_of task.now.partitioned task.now.partition_size;
+      filter = BitsPerKey (tenths task.now.filter_bits);
+      block_size = task.now.block_size;
+      level = task.now.level;
+      target = task.now.target;
+      created_at = created_at;
+      format = format_of task.now.json;
+      sort = task.now.sort;
+    } }
+{
     WriteOptions {
         index: if task.partitioned {
             IndexKind::Partitioned(task.partition_size)
@@ -43,7 +60,17 @@ fn write_options(task: &WriteTask<'_>, created_at: Timestamp) -> WriteOptions {
 }
 
 // How tables are compacted.
-fn compact_options(task: &CompactTask<'_>, created_at: Timestamp) -> CompactOptions {
+fn compact_options(task: &CompactTask<'_>, created_at: Timestamp) -> CompactOptions
+    ensures { result ≡ record {
+      rules = record {
+        watermark = task.now.watermark;
+        evict = task.now.evict;
+        zeroing = task.now.zero;
+      };
+      target = task.now.target;
+      created_at = created_at;
+    } }
+{
     CompactOptions {
         rules: Rules {
             watermark: task.watermark,

@@ -1,4 +1,7 @@
 //! One command line, done.
+ghost use Rattle.std.specs.Prelude.{◌≡◌, ◌≤◌, IfOk, MatchResult};
+ghost use Rattle.tool_tasks.specs.Statuses.{status_of_answer, status_of_failure};
+
 use crate::failure::Failure;
 use crate::{System, make, show};
 use std::convert::AsStr;
@@ -8,7 +11,9 @@ use std::rt::{Clock, Files};
 use tool_options::{Parsed, Task, parse};
 
 // The status of an answer to a question: 0 for yes.
-fn status_of(yes: bool) -> u8 {
+fn status_of(yes: bool) -> u8
+    ensures { result ≡ status_of_answer yes }
+{
     if yes { 0 } else { 1 }
 }
 
@@ -23,7 +28,9 @@ pub fn run<S: AsStr, R: Files, C: Clock, I: Read + Drop, W: Write, E: Write>(
     output: &mut W,
     errors: &mut E,
     shows_bar: bool,
-) -> u8 {
+) -> u8
+    ensures { result ≤ 2 }
+{
     match parse(system.alloc, words) {
         Ok(Parsed::Task(task)) => {
             let done = execute(system, &task, input, output, errors, shows_bar);
@@ -40,14 +47,19 @@ pub fn run<S: AsStr, R: Files, C: Clock, I: Read + Drop, W: Write, E: Write>(
 }
 
 // Prints a text, whole.
-fn print<'a, W: Write>(output: &mut W, text: &str) -> Result<u8, Failure<'a>> {
+fn print<'a, W: Write>(output: &mut W, text: &str) -> Result<u8, Failure<'a>>
+    ensures { IfOk result (λ status. status ≡ 0) }
+{
     output.write_all(text.as_bytes())?;
     output.flush()?;
     Ok(0)
 }
 
 // The status of what was done, and the sentence where it failed.
-fn report<E: Write>(done: Result<u8, Failure<'_>>, errors: &mut E) -> u8 {
+fn report<E: Write>(done: Result<u8, Failure<'_>>, errors: &mut E) -> u8
+    ensures { MatchResult done (λ status. result ≡ status)
+        (λ failure. result ≡ status_of_failure failure) }
+{
     match done {
         Ok(status) => status,
         Err(failure) => {
@@ -66,7 +78,9 @@ fn execute<'a, R: Files, C: Clock, I: Read + Drop, W: Write, E: Write>(
     output: &mut W,
     errors: &mut E,
     shows_bar: bool,
-) -> Result<u8, Failure<'a>> {
+) -> Result<u8, Failure<'a>>
+    ensures { IfOk result (λ status. status ≤ 1) }
+{
     let status = match task {
         Task::Write(task) => make::write(system, task, input, output).and(Ok(0)),
         Task::Dump(task) => show::dump(system, task, output).and(Ok(0)),
