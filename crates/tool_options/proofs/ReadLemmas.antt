@@ -1,8 +1,8 @@
 -- What the getters of matches say, in words of rows.
-use Rattle.std.proofs.Common.{◌≡◌, ◌∙◌, ℕ, List, [], Bor, ap, refl}
+use Rattle.std.proofs.Common.{◌≡◌, ◌∙◌, ℕ, List, [], ap, refl}
 use Rattle.std.specs.Prelude.{Option, Some, None, Result, Ok, Err, codes, option_map, unwrap_or}
 use Rattle.std.specs.Str.Parse.{ParsesUnsigned}
-use Rattle.clap.specs.Words.{ReadsOne, Text, found_of, matched_of, one_of, one_text, raw_values, rows_of}
+use Rattle.clap.specs.Words.{ReadsOne, Text, matched_of, one_of, one_text, raw_values, rows_of}
 use Rattle.clap.specs.declared.parser.matches.Found.{Found}
 use Rattle.clap.proofs.WalkLemmas.{one_text-rows, raw_values-rows}
 use Rattle.tool_options.specs.Tasks.{Spells, placed}

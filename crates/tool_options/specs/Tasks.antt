@@ -11,9 +11,7 @@ use Rattle.tool_options.specs.declared.tasks.WriteTask.{WriteTask}
 use Rattle.tool_options.specs.declared.tasks.DumpTask.{DumpTask}
 use Rattle.tool_options.specs.declared.tasks.GetTask.{GetTask}
 use Rattle.tool_options.specs.declared.tasks.StatTask.{StatTask}
-use Rattle.tool_options.specs.declared.tasks.VerifyTask.{VerifyTask}
 use Rattle.tool_options.specs.declared.tasks.CompactTask.{CompactTask}
-use Rattle.tool_options.specs.declared.tasks.PackTask.{PackTask}
 
 -- the texts behind references
 abbrev pub texts_of : List (Bor Text) → List Text
