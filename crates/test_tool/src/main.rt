@@ -3,9 +3,9 @@
 //! and `$ `. The page `docs/SST.md` is made so, and is this program's output.
 #![tactic(auto)]
 
-mod session;
+mod shell;
 
-use session::Session;
+use shell::Session;
 use std::io;
 
 fn main(rt: HostRuntime) -> anyhow::Result<()> {

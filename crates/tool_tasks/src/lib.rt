@@ -5,9 +5,9 @@
 mod bar;
 mod failure;
 mod make;
-mod run;
+mod running;
 mod show;
-mod system;
+mod systems;
 
-pub use run::run;
-pub use system::System;
+pub use running::run;
+pub use systems::System;

@@ -57,7 +57,7 @@ fn print<'a, W: Write>(output: &mut W, text: &str) -> Result<u8, Failure<'a>>
 
 // The status of what was done, and the sentence where it failed.
 fn report<E: Write>(done: Result<u8, Failure<'_>>, errors: &mut E) -> u8
-    ensures { MatchResult done (λ status. result ≡ status)
+    ensures { MatchResult done.entry (λ status. result ≡ status)
         (λ failure. result ≡ status_of_failure failure) }
 {
     match done {
