@@ -1,0 +1,18 @@
+-- What the words of the command line ask for.
+use Rattle.std.specs.Prelude.{◌≡◌, ⊤, List, Option, Some}
+use Rattle.clap.specs.Words.{Row, Text}
+use Rattle.tool_options.specs.Tasks.{AsksFor}
+use Rattle.tool_options.specs.declared.words.Parsed.{Parsed}
+use Rattle.tool_options.specs.declared.words.Parsed.TheVariants as parsed
+
+-- where a task comes of a command and the rows of its arguments, they ask for it
+abbrev pub AsksBy : Option (Text × List Row) → Parsed → Type 0
+AsksBy found (parsed.Task t) = (name : Text) × (rows : List Row) × (found ≡ Some (name, rows)) × AsksFor name rows t
+AsksBy found (parsed.Shown text) = ⊤
+AsksBy found (parsed.Mistaken text) = ⊤
+
+-- nothing is to be done
+abbrev pub IsText : Parsed → Type 0
+IsText (parsed.Task t) = ⊥
+IsText (parsed.Shown text) = ⊤
+IsText (parsed.Mistaken text) = ⊤

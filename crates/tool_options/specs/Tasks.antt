@@ -1,0 +1,91 @@
+-- What the rows that a parse finds for a command say: the command's task.
+use Rattle.std.specs.Prelude.{◌≡◌, ◌⊎◌, ◌↔◌, ◌<◌, ◌≤◌, ◌^◌, ◌++◌, ◌∷◌, ℕ, List, [], Option, Some, None}
+use Rattle.std.specs.Prelude.{IsTrue, codes, map, option_map, unwrap_or}
+use Rattle.std.specs.Borrow.{Bor}
+use Rattle.std.specs.Option.{SomeIff}
+use Rattle.std.specs.Str.Parse.{IsNumeral, digits_value, without_leading_plus}
+use Rattle.clap.specs.Words.{Row, Text, all_of, first_of, one_of}
+use Rattle.tool_options.specs.declared.tasks.Task.{Task}
+use Rattle.tool_options.specs.declared.tasks.Task.TheVariants as task
+use Rattle.tool_options.specs.declared.tasks.WriteTask.{WriteTask}
+use Rattle.tool_options.specs.declared.tasks.DumpTask.{DumpTask}
+use Rattle.tool_options.specs.declared.tasks.GetTask.{GetTask}
+use Rattle.tool_options.specs.declared.tasks.StatTask.{StatTask}
+use Rattle.tool_options.specs.declared.tasks.CompactTask.{CompactTask}
+
+-- the texts behind references
+abbrev pub texts_of : List (Bor Text) → List Text
+texts_of = map (λ s. s.now)
+
+-- the text behind a reference that may be absent
+abbrev pub text_in : Option (Bor Text) → Option Text
+text_in = option_map (λ s. s.now)
+
+-- what number of so many bits a text spells that may be absent, if it spells one
+abbrev pub Spells : ℕ → Option Text → Option ℕ → Type 0
+Spells bits None number = number ≡ None
+Spells bits (Some text) number = SomeIff number
+    (IsNumeral 10 (without_leading_plus text)
+    × (digits_value 10 (without_leading_plus text) < 2 ^ bits))
+    (digits_value 10 (without_leading_plus text))
+
+-- how many bits a filter has for a key: none, or from 1 to 100
+abbrev pub SpellsBits : Text → ℕ → Type 0
+SpellsBits text bits = ((text ≡ codes "none") × (bits ≡ 0))
+    ⊎ (Spells 32 (Some text) (Some bits) × (1 ≤ bits) × (bits ≤ 100))
+
+-- the words that stand in places of their own
+abbrev pub placed : List Row → List Text
+placed rows = unwrap_or (all_of (codes "files") rows) []
+
+-- a flag is there
+abbrev pub Has : List Row → Text → Type 0
+Has rows name = first_of name rows ≡ Some (codes "true")
+
+pub record AsksToWrite (rows : List Row) (t : WriteTask) : Type 0 where
+  pub file : first_of (codes "file") rows ≡ Some t.file.now
+  pub partitioned : IsTrue t.partitioned ↔ (first_of (codes "index") rows ≡ Some (codes "partitioned"))
+  pub filter : (text : Text) × (first_of (codes "filter") rows ≡ Some text) × SpellsBits text t.filter_bits
+  pub block_size : Spells 32 (one_of (codes "block-size") rows) (Some t.block_size)
+  pub partition_size : Spells 32 (one_of (codes "partition-size") rows) (Some t.partition_size)
+  pub level : Spells 8 (one_of (codes "level") rows) (Some t.level)
+  pub target : Spells 64 (one_of (codes "target") rows) t.target
+  pub sort : IsTrue t.sort ↔ Has rows (codes "sort")
+  pub json : IsTrue t.json ↔ Has rows (codes "json")
+
+pub record AsksToDump (rows : List Row) (t : DumpTask) : Type 0 where
+  pub files : texts_of t.files.items ≡ placed rows
+  pub from : text_in t.from ≡ first_of (codes "from") rows
+  pub to : text_in t.to ≡ first_of (codes "to") rows
+  pub reverse : IsTrue t.reverse ↔ Has rows (codes "reverse")
+  pub limit : Spells 64 (one_of (codes "limit") rows) t.limit
+  pub json : IsTrue t.json ↔ Has rows (codes "json")
+
+-- the key is the last word
+pub record AsksToGet (rows : List Row) (t : GetTask) : Type 0 where
+  pub files : texts_of t.files.items ++ t.key.now ∷ [] ≡ placed rows
+  pub at : Spells 64 (one_of (codes "at") rows) t.at
+  pub loads : IsTrue t.loads ↔ Has rows (codes "loads")
+  pub json : IsTrue t.json ↔ Has rows (codes "json")
+
+pub record AsksForStat (rows : List Row) (t : StatTask) : Type 0 where
+  pub files : texts_of t.files.items ≡ placed rows
+  pub json : IsTrue t.json ↔ Has rows (codes "json")
+
+pub record AsksToCompact (rows : List Row) (t : CompactTask) : Type 0 where
+  pub files : texts_of t.files.items ≡ placed rows
+  pub folder : first_of (codes "to") rows ≡ Some t.folder.now
+  pub watermark : Spells 64 (one_of (codes "watermark") rows) (Some t.watermark)
+  pub evict : IsTrue t.evict ↔ Has rows (codes "evict")
+  pub zero : IsTrue t.zero ↔ Has rows (codes "zero")
+  pub target : Spells 64 (one_of (codes "target") rows) t.target
+
+-- the command of this name asks for the task
+abbrev pub AsksFor : Text → List Row → Task → Type 0
+AsksFor name rows (task.Write t) = (name ≡ codes "write") × AsksToWrite rows t
+AsksFor name rows (task.Dump t) = (name ≡ codes "dump") × AsksToDump rows t
+AsksFor name rows (task.Get t) = (name ≡ codes "get") × AsksToGet rows t
+AsksFor name rows (task.Stat t) = (name ≡ codes "stat") × AsksForStat rows t
+AsksFor name rows (task.Verify t) = (name ≡ codes "verify") × (texts_of t.files.items ≡ placed rows)
+AsksFor name rows (task.Compact t) = (name ≡ codes "compact") × AsksToCompact rows t
+AsksFor name rows (task.Pack t) = (name ≡ codes "pack") × (texts_of t.files.items ≡ placed rows)

@@ -1,0 +1,107 @@
+//! What words come to.
+use crate::{Parsed, parse};
+use std::alloc::{AllocError, Global};
+use std::test::Fail;
+
+/// Lines of words, and how what they come to begins.
+const LINES: [(&str, &str); 20] = [
+    (
+        "sst write f",
+        "Write(WriteTask { file: \"f\", partitioned: false, filter_bits: 10, block_size: 4096, \
+         partition_size: 4096, level: 0, target: None, sort: false, json: false })",
+    ),
+    (
+        "sst write --index partitioned f --filter none --block-size 7 --partition-size=8 --level \
+         3 --target 9 --sort --json",
+        "Write(WriteTask { file: \"f\", partitioned: true, filter_bits: 0, block_size: 7, \
+         partition_size: 8, level: 3, target: Some(9), sort: true, json: true })",
+    ),
+    (
+        "sst dump a b --from x --to=y --reverse --limit 3 --json",
+        "Dump(DumpTask { files: [\"a\", \"b\"], from: Some(\"x\"), to: Some(\"y\"), reverse: \
+         true, limit: Some(3), json: true })",
+    ),
+    (
+        "sst get a b c --at 7 --loads --json",
+        "Get(GetTask { files: [\"a\", \"b\"], key: \"c\", at: Some(7), loads: true, json: true })",
+    ),
+    (
+        "sst get -- a -k",
+        "Get(GetTask { files: [\"a\"], key: \"-k\", at: None, loads: false, json: false })",
+    ),
+    (
+        "sst stat a b --json",
+        "Stat(StatTask { files: [\"a\", \"b\"], json: true })",
+    ),
+    ("sst verify a", "Verify(VerifyTask { files: [\"a\"] })"),
+    (
+        "sst compact a b --to c --watermark 4 --evict --zero --target 5",
+        "Compact(CompactTask { files: [\"a\", \"b\"], folder: \"c\", watermark: 4, evict: true, \
+         zero: true, target: Some(5) })",
+    ),
+    ("sst pack a b", "Pack(PackTask { files: [\"a\", \"b\"] })"),
+    (
+        "sst write f --filter 101",
+        "mistaken error: invalid value for '--filter <BITS>': neither 1 to 100 nor none\n",
+    ),
+    (
+        "sst write f --filter 0",
+        "mistaken error: invalid value for '--filter <BITS>'",
+    ),
+    (
+        "sst write f --level 256",
+        "mistaken error: invalid value '256' for '--level <N>': 256 is not in 0..=255\n",
+    ),
+    (
+        "sst write f --block-size 4194305",
+        "mistaken error: invalid value '4194305' for '--block-size <BYTES>'",
+    ),
+    (
+        "sst write f --index half",
+        "mistaken error: invalid value 'half' for '--index <KIND>'\n",
+    ),
+    (
+        "sst get a",
+        "mistaken error: 2 values required by '<FILE> <KEY>...'; only 1 was provided\n",
+    ),
+    (
+        "sst compact a",
+        "mistaken error: the following required arguments were not provided:\n  --to <FOLDER>\n",
+    ),
+    (
+        "sst verify",
+        "mistaken error: the following required arguments were not provided:\n  <FILE>...\n",
+    ),
+    (
+        "sst dumb",
+        "mistaken error: unrecognized subcommand 'dumb'\n",
+    ),
+    ("sst --version", "shown sst 1.0\n"),
+    (
+        "sst help pack",
+        "shown Prints in which runs tables can stand\n",
+    ),
+];
+
+// What a line of words comes to, as text.
+fn shown(alloc: Global, line: &str) -> Result<String, AllocError> {
+    let mut words = Vec::new(alloc);
+    for word in line.split(' ') {
+        words.push(word)?;
+    }
+    match parse(alloc, words.as_slice())? {
+        Parsed::Task(task) => format!(in alloc; "{task:?}"),
+        Parsed::Shown(text) => format!(in alloc; "shown {text}"),
+        Parsed::Mistaken(text) => format!(in alloc; "mistaken {text}"),
+    }
+}
+
+#[test]
+fn words_come_to_tasks_and_texts(rt: HostRuntime) -> Result<(), Fail> {
+    let lines = LINES;
+    for (line, expected) in lines.as_slice() {
+        let text = shown(rt.alloc(), line)?;
+        assert!(rt; text.as_str().starts_with(expected), "{line}: {text}");
+    }
+    Ok(())
+}

@@ -1,0 +1,96 @@
+//! The words of the command line, parsed.
+ghost use Rattle.std.specs.Prelude.{◌≡◌, IfOk, map, true};
+ghost use Rattle.clap.specs.Words.{found_of, is_simple, rows_of, subcommand_of, subcommand_rows_of};
+ghost use Rattle.tool_options.specs.Program.{program_of};
+ghost use Rattle.tool_options.specs.Asks.{AsksBy, IsText};
+
+use crate::command::program;
+use crate::completion::completion;
+use crate::manual::manual;
+use crate::read::{Misread, read_task};
+use crate::tasks::Task;
+use crate::texts::{COMMANDS, CommandText};
+use clap::error::ErrorKind;
+use clap::{ArgMatches, Error};
+use std::alloc::{AllocError, Global};
+use std::convert::AsStr;
+
+/// What the words of the command line come to.
+#[derive(Debug, Drop)]
+pub enum Parsed<'a> {
+    /// Something to do.
+    Task(Task<'a>),
+    /// A text for standard output, and nothing more to do: help, the version, a completion or the
+    /// manual.
+    Shown(String),
+    /// The words ask for nothing that can be done. A text for standard error says what was
+    /// expected.
+    Mistaken(String),
+}
+
+/// Parses the words of the command line, of which the first is the program's name.
+///
+/// Refused for want of memory alone.
+pub fn parse<'a, S: AsStr>(alloc: Global, words: &'a [S]) -> Result<Parsed<'a>, AllocError> {
+    parse_by(alloc, COMMANDS.as_slice(), words)
+}
+
+// Parses words by some commands.
+fn parse_by<'a, S: AsStr>(
+    alloc: Global,
+    commands: &'static [CommandText],
+    words: &'a [S],
+) -> Result<Parsed<'a>, AllocError>
+    ensures { is_simple (program_of commands.now) ≡ true → IfOk result (AsksBy
+        (subcommand_of (program_of commands.now) (map S.text words.now))) }
+{
+    match program(alloc, commands)?.try_get_matches_from(words) {
+        Ok(matches) => answer(alloc, &matches),
+        Err(error) => explain(alloc, &error),
+    }
+}
+
+// What the matches of the program ask for.
+fn answer<'a>(alloc: Global, matches: &ArgMatches<'a>) -> Result<Parsed<'a>, AllocError>
+    ensures { IfOk result (AsksBy (subcommand_rows_of matches.now)) }
+{
+    match matches.subcommand() {
+        Some(("completion", _)) => Ok(Parsed::Shown(completion(alloc)?)),
+        Some(("man", _)) => Ok(Parsed::Shown(manual(alloc)?)),
+        Some((name, matches)) => match read_task(alloc, name, matches) {
+            Ok(task) => Ok(Parsed::Task(task)),
+            Err(misread) => mistake(alloc, name, misread),
+        },
+        None => mistake(alloc, "help", Misread::Absent),
+    }
+}
+
+// What the parser says of words that it does not take, or that ask for help or the version.
+fn explain<'a>(alloc: Global, error: &Error) -> Result<Parsed<'a>, AllocError>
+    ensures { IfOk result IsText }
+{
+    if error.kind() == ErrorKind::OutOfMemory {
+        return Err(AllocError);
+    }
+    let text = format!(in alloc; "{error}")?;
+    if error.use_stderr() {
+        Ok(Parsed::Mistaken(text))
+    } else {
+        Ok(Parsed::Shown(text))
+    }
+}
+
+// What was expected of the command `name`, in the parser's own form.
+fn mistake<'a>(alloc: Global, name: &str, misread: Misread) -> Result<Parsed<'a>, AllocError>
+    ensures { IfOk result IsText }
+{
+    let expected = match misread {
+        Misread::OutOfMemory => return Err(AllocError),
+        Misread::Filter => "invalid value for '--filter <BITS>': neither 1 to 100 nor none",
+        Misread::Absent => "a required argument was not provided",
+    };
+    let text = format!(in alloc;
+        "error: {expected}\n\nFor more information, try 'sst {name} --help'.\n"
+    )?;
+    Ok(Parsed::Mistaken(text))
+}

@@ -1,0 +1,99 @@
+//! One command line, done.
+ghost use Rattle.std.specs.Prelude.{◌≡◌, ◌≤◌, IfOk, MatchResult};
+ghost use Rattle.tool_tasks.specs.Statuses.{status_of_answer, status_of_failure};
+
+use crate::failure::Failure;
+use crate::{System, make, show};
+use std::convert::AsStr;
+use std::io;
+use std::io::{Read, Write};
+use std::rt::{Clock, Files};
+use tool_options::{Parsed, Task, parse};
+
+// The status of an answer to a question: 0 for yes.
+fn status_of(yes: bool) -> u8
+    ensures { result ≡ status_of_answer yes }
+{
+    if yes { 0 } else { 1 }
+}
+
+/// Does what the words ask for, of which the first is the program's name, and answers the exit
+/// status: 0; 1 where something was refused, is at fault or was not found; 2 where the words are at
+/// fault. What is printed goes to `output`, and the sentence that says why not all was done to
+/// `errors`, with a bar for what takes long if that is wanted.
+pub fn run<S: AsStr, R: Files, C: Clock, I: Read + Drop, W: Write, E: Write>(
+    system: System<'_, R, C>,
+    words: &[S],
+    input: I,
+    output: &mut W,
+    errors: &mut E,
+    shows_bar: bool,
+) -> u8
+    ensures { result ≤ 2 }
+{
+    match parse(system.alloc, words) {
+        Ok(Parsed::Task(task)) => {
+            let done = execute(system, &task, input, output, errors, shows_bar);
+            report(done, errors)
+        }
+        Ok(Parsed::Shown(text)) => report(print(output, text.as_str()), errors),
+        Ok(Parsed::Mistaken(text)) => {
+            // A status is all that is left where not even this can be printed.
+            let _ = errors.write_all(text.as_str().as_bytes());
+            2
+        }
+        Err(error) => report(Err(Failure::from(error)), errors),
+    }
+}
+
+// Prints a text, whole.
+fn print<'a, W: Write>(output: &mut W, text: &str) -> Result<u8, Failure<'a>>
+    ensures { IfOk result (λ status. status ≡ 0) }
+{
+    output.write_all(text.as_bytes())?;
+    output.flush()?;
+    Ok(0)
+}
+
+// The status of what was done, and the sentence where it failed.
+fn report<E: Write>(done: Result<u8, Failure<'_>>, errors: &mut E) -> u8
+    ensures { MatchResult done.entry (λ status. result ≡ status)
+        (λ failure. result ≡ status_of_failure failure) }
+{
+    match done {
+        Ok(status) => status,
+        Err(failure) => {
+            // A status is all that is left where not even this can be printed.
+            let _ = writeln!(errors, "sst: {failure}");
+            failure.status()
+        }
+    }
+}
+
+// Does a task.
+fn execute<'a, R: Files, C: Clock, I: Read + Drop, W: Write, E: Write>(
+    system: System<'_, R, C>,
+    task: &Task<'a>,
+    input: I,
+    output: &mut W,
+    errors: &mut E,
+    shows_bar: bool,
+) -> Result<u8, Failure<'a>>
+    ensures { IfOk result (λ status. status ≤ 1) }
+{
+    let status = match task {
+        Task::Write(task) => make::write(system, task, input, output).and(Ok(0)),
+        Task::Dump(task) => show::dump(system, task, output).and(Ok(0)),
+        Task::Get(task) => show::get(system, task, output).map(status_of),
+        Task::Stat(task) => show::stat(system, task, output).and(Ok(0)),
+        Task::Verify(task) => {
+            show::verify(system, task, output, errors, shows_bar).map(status_of)
+        }
+        Task::Compact(task) => make::compact(system, task, output).and(Ok(0)),
+        Task::Pack(task) => make::pack(system, task, output).and(Ok(0)),
+    };
+    let flushed: io::Result<()> = output.flush();
+    let status = status?;
+    flushed?;
+    Ok(status)
+}
