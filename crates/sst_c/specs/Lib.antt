@@ -8,3 +8,4 @@ pub mod Writing
 pub mod Steps
 pub mod Facts
 pub mod Files
+pub mod Verify

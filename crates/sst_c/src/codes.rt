@@ -1,8 +1,5 @@
 //! What a call answers: 0, the number of a refusal of the library, or one of these.
 ghost use Rattle.std.specs.Prelude.{◌≡◌};
-ghost use Rattle.sst_c.specs.Codes.{code_of};
-
-use sst_blocks::Error;
 
 /// Memory is wanted, as the library numbers it.
 pub(crate) const NO_MEMORY: u32 = 1;
@@ -28,12 +25,16 @@ pub(crate) const NO_SUCH: u32 = 105;
 /// Nothing was found that could be handed out.
 pub(crate) const NOTHING: u32 = 106;
 
-/// The number of a refusal, or 0.
-pub(crate) fn code_of(outcome: Result<(), Error>) -> u32
-    ensures { result ≡ code_of outcome }
+/// A verification found something wrong.
+pub(crate) const FAULTY: u32 = 107;
+
+/// The version of the calls: what a header of another first number names may differ.
+const VERSION: u32 = 1;
+
+/// The version of the calls.
+#[unsafe(no_mangle)]
+pub extern "C" fn sst_version() -> u32
+    ensures { result ≡ 1 }
 {
-    match outcome {
-        Ok(()) => 0,
-        Err(error) => u32::from(error.number()),
-    }
+    VERSION
 }

@@ -4,7 +4,7 @@ ghost use Rattle.std.specs.Global.{Global as Heap};
 ghost use Rattle.lsm_writers.specs.declared.writer.FinishedTable.{FinishedTable as Finished};
 ghost use Rattle.sst_c.specs.Copies.{laid};
 ghost use Rattle.sst_c.specs.Files.{file_at, file_told};
-ghost use Rattle.sst_c.specs.What.{are_files};
+ghost use Rattle.sst_c.specs.What.{are_files, tables_in};
 ghost use Rattle.sst_c.specs.declared.held.Held.{Held as HeldValue};
 
 use crate::codes::{CLOSED, NO_SUCH, OTHER_KIND};
@@ -158,6 +158,44 @@ pub extern "C" fn sst_files_copy(
         return CLOSED;
     };
     let code = copy_file(&held, index, offset, room, count);
+    files.put(held);
+    code
+}
+
+fn count_files(held: &Held, count: &mut u64) -> u32
+    ensures other { are_files held.now.what ≡ false → result ≡ 102 }
+    ensures some { are_files held.now.what ≡ true → result ≡ 0 }
+    ensures count { are_files held.now.what ≡ true →
+        count.new ≡ length (tables_in held.now.what) }
+    ensures left { result ≢ 0 → count.new ≡ count.old }
+{
+    match &held.what {
+        What::Files(files) => {
+            *count = files.tables.len() as u64;
+            0
+        }
+        _ => OTHER_KIND,
+    }
+}
+
+/// Tells how many finished tables there are. Refused 100 where the handle is closed and 102 where
+/// it holds no finished tables; what `count` says stays then.
+#[unsafe(no_mangle)]
+pub extern "C" fn sst_files_count(alloc: Global, files: &mut Handle, count: &mut u64) -> u32
+    ensures kept { files.new.boxed.value ≡ files.old.boxed.value }
+    ensures shut { files.old.boxed.value ≡ None → result ≡ 100 }
+    ensures other { (h : HeldValue) → files.old.boxed.value ≡ Some h → are_files h.what ≡ false →
+        result ≡ 102 }
+    ensures some { (h : HeldValue) → files.old.boxed.value ≡ Some h → are_files h.what ≡ true →
+        result ≡ 0 }
+    ensures count { (h : HeldValue) → files.old.boxed.value ≡ Some h → are_files h.what ≡ true →
+        count.new ≡ length (tables_in h.what) }
+    ensures left { result ≢ 0 → count.new ≡ count.old }
+{
+    let Some(held) = files.take(alloc) else {
+        return CLOSED;
+    };
+    let code = count_files(&held, count);
     files.put(held);
     code
 }
