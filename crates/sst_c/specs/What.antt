@@ -2,6 +2,8 @@
 use Rattle.std.specs.Prelude.{◌≡◌, ℕ, ◌==◌, Bool, true, false, List, [], Option, Some, None}
 use Rattle.std.specs.Prelude.{Result, Ok}
 use Rattle.std.specs.Prelude.{if◌then◌else◌}
+use Rattle.std.specs.Prelude.{map}
+use Rattle.std.specs.Arc.{arc_value}
 use Rattle.std.specs.Global.{Global}
 use Rattle.std.specs.declared.ops.Bound.{Bound}
 use Rattle.std.specs.declared.ops.Bound.TheVariants.{Unbounded, Included, Excluded}
@@ -16,7 +18,7 @@ use Rattle.lsm_writers.specs.Writing.{Writing}
 use Rattle.sst_c.specs.declared.held.Files.{Files}
 use Rattle.sst_c.specs.declared.held.Held.{Held}
 use Rattle.sst_c.specs.declared.held.What.{What}
-use Rattle.sst_c.specs.declared.held.What.TheVariants.{Table, Range as RangeOf, Files as FilesOf}
+use Rattle.sst_c.specs.declared.held.What.TheVariants.{Table, Range as RangeOf, Files as FilesOf, Runs}
 
 -- it is a table of which this holds
 abbrev pub IsTableWhere : (OpenTable → Type 0) → What → Type 0
@@ -54,6 +56,15 @@ writer_in _ = None
 abbrev pub tables_in : What → List (FinishedTable Global)
 tables_in (FilesOf fs) = fs.tables.items
 tables_in _ = []
+
+abbrev pub are_runs : What → Bool
+are_runs (Runs rs) = true
+are_runs _ = false
+
+-- the tables of each run
+abbrev pub runs_in : What → List (List OpenTable)
+runs_in (Runs rs) = map arc_value rs.items
+runs_in _ = []
 
 -- a table that was opened from these bytes, with this global number and these pins, of which
 -- nothing was read yet

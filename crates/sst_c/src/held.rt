@@ -1,8 +1,10 @@
 //! What is behind a handle.
 use lsm_iters::Iter;
+use lsm_ranges::Run;
 use lsm_readers::Table;
 use lsm_writers::{FinishedTable, Writer};
 use sst_blocks::InternalValue;
+use std::sync::Arc;
 
 /// What is behind a handle.
 #[derive(Drop)]
@@ -22,6 +24,8 @@ pub enum What {
     Range(Iter),
     /// Tables that are written: those that are finished, and the one that is not.
     Files(Files),
+    /// Runs of tables, the newest first.
+    Runs(Vec<Arc<Run<Table>>>),
 }
 
 /// Tables that are written.
