@@ -1,5 +1,15 @@
 /* Sorted tables of a log-structured store, for callers in C and C++ and in what calls C.
  *
+ *     sst_handle table = {0};
+ *     sst_entry entry;
+ *     sst_lent lent;
+ *     if (sst_table_open(file, len, 0, true, true, &table) == 0 &&
+ *         sst_table_get(&table, key, key_len, SST_NEWEST, &entry) == 0 &&
+ *         entry.kind == SST_VALUE && sst_found_lend(&table, &lent) == 0) {
+ *       fwrite(lent.value, 1, lent.value_len, stdout);
+ *     }
+ *     sst_close(&table);
+ *
  * What a caller holds is a handle: two words in memory of its own, which begin as zeros
  * (`sst_handle table = {0};`). A call fills it; `sst_close` empties it, and may be called twice.
  * What was opened from what a handle holds has shares of its own, so handles may be closed in any
@@ -86,7 +96,7 @@ uint32_t sst_version(void);
 /* Closes a handle, whatever it holds; one that holds nothing stays as it is. */
 void sst_close(sst_handle *handle);
 
-/* What a read found. A read (`sst_table_get`, `sst_range_next`) keeps the entry that it found, and
+/* What a read found. A read (`sst_table_get`, `sst_runs_get`, `sst_range_next`) keeps the entry that it found, and
  * the handle keeps it until the next read by it.
  */
 
@@ -173,6 +183,22 @@ uint32_t sst_range_open(sst_handle *table, uint32_t lower_kind, const uint8_t *l
  * Where it is refused nothing more comes, from either end.
  */
 uint32_t sst_range_next(sst_handle *range, bool back, sst_entry *entry);
+
+/* Several tables as one. */
+
+/* Begins a list of runs, each of one table, into a handle that holds nothing. */
+uint32_t sst_runs_open(sst_handle *runs);
+
+/* Adds a table to a list of runs, behind those that are there: the newest comes first. The list has
+ * a share of the table.
+ */
+uint32_t sst_runs_add(sst_handle *runs, sst_handle *table);
+
+/* Finds the newest version of a key that is numbered below `seqno`, a deletion too, in all tables of
+ * a list of runs together, and keeps it, as `sst_table_get` does of one.
+ */
+uint32_t sst_runs_get(sst_handle *runs, const uint8_t *key, size_t key_len, uint64_t seqno,
+                      sst_entry *entry);
 
 /* Writing a table. */
 

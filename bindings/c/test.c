@@ -157,6 +157,39 @@ static void test_bounds(sst_handle *table) {
   sst_close(&range);
 }
 
+/* Two tables with the same keys: the newer version is found, wherever its table stands. */
+static void test_runs(const sst_options *options, const uint8_t *file, size_t len) {
+  sst_handle writer = {0}, older = {0}, newer = {0}, runs = {0};
+  sst_entry entry;
+  CHECK(sst_writer_open(options, &writer) == 0);
+  CHECK(sst_writer_add(&writer, bytes("key000001"), 9, 20, SST_VALUE, bytes("new"), 3) == 0);
+  CHECK(sst_writer_add(&writer, bytes("other"), 5, 21, SST_VALUE, bytes("more"), 4) == 0);
+  CHECK(sst_writer_finish(&writer) == 0);
+  size_t newer_len;
+  uint8_t *newer_file = file_of(&writer, SIZE_MAX, &newer_len);
+  CHECK(sst_table_open(newer_file, newer_len, 0, false, false, &newer) == 0);
+  CHECK(sst_table_open(file, len, 0, true, true, &older) == 0);
+  CHECK(sst_runs_add(&runs, &newer) == SST_CLOSED);
+  CHECK(sst_runs_open(&runs) == 0 && sst_runs_open(&runs) == SST_OPEN);
+  CHECK(sst_runs_get(&runs, bytes("other"), 5, SST_NEWEST, &entry) == 0 && entry.kind == 0);
+  CHECK(sst_runs_add(&runs, &writer) == SST_OTHER_KIND);
+  CHECK(sst_runs_add(&newer, &older) == SST_OTHER_KIND);
+  CHECK(sst_runs_add(&runs, &newer) == 0 && sst_runs_add(&runs, &older) == 0);
+  sst_close(&newer);
+  sst_close(&older);
+  CHECK(sst_runs_get(&runs, bytes("key000001"), 9, SST_NEWEST, &entry) == 0);
+  CHECK(entry.seqno == 20 && has_found(&runs, &entry, "key000001", "new"));
+  CHECK(sst_runs_get(&runs, bytes("key000001"), 9, 20, &entry) == 0);
+  CHECK(entry.seqno == 2 && has_found(&runs, &entry, "key000001", "value 2 of 1"));
+  CHECK(sst_runs_get(&runs, bytes("other"), 5, SST_NEWEST, &entry) == 0);
+  CHECK(has_found(&runs, &entry, "other", "more"));
+  CHECK(sst_table_get(&runs, bytes("other"), 5, SST_NEWEST, &entry) == SST_OTHER_KIND);
+  CHECK(sst_runs_get(&writer, bytes("other"), 5, SST_NEWEST, &entry) == SST_OTHER_KIND);
+  free(newer_file);
+  sst_close(&runs);
+  sst_close(&writer);
+}
+
 /* Each kind of handle in each call that takes another. */
 static void test_misuse(const sst_options *options, const uint8_t *file, size_t len) {
   sst_handle closed = {0}, writer = {0}, table = {0};
@@ -273,6 +306,7 @@ static void test_table(const sst_options *options, int n, size_t piece, bool pin
   test_bounds(&table);
   if (n < 10) {
     test_misuse(options, file, len);
+    test_runs(options, file, len);
     test_damage(file, len, 2 * n + (n + 6) / 7);
   }
   free(file); /* the table has a copy of its own */

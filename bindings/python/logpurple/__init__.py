@@ -141,32 +141,15 @@ class _Held:
                      ctypes.string_at(lent.value, lent.value_len))
 
 
-class Table(_Held):
-    """An opened table.
+class _Read(_Held):
+    """What is read by keys."""
 
-    >>> writer = Writer()
-    >>> writer.add(b"a", b"1")
-    >>> with Table.open(writer.finish()) as table:
-    ...     len(table), dict(table.range())
-    (1, {b'a': b'1'})
-    """
-
-    @staticmethod
-    def open(source: Union[bytes, str, "os.PathLike[str]"], global_seqno: int = 0,
-             pin_filter: bool = True, pin_index: bool = True) -> "Table":
-        """Opens a table's bytes, or the file at a path."""
-        if not isinstance(source, bytes):
-            with open(source, "rb") as file:
-                source = file.read()
-        table = Table()
-        _test(_calls.table_open(source, len(source), global_seqno, pin_filter, pin_index,
-                                byref(table._handle)))
-        return table
+    _get = None
 
     def entry(self, key: bytes, at: int = NEWEST) -> Optional[Entry]:
         """The newest version of a key that is numbered below `at`, a deletion too."""
         told = _calls.EntryTold()
-        _test(_calls.table_get(byref(self._handle), key, len(key), at, byref(told)))
+        _test(type(self)._get(byref(self._handle), key, len(key), at, byref(told)))
         return self._found(told)
 
     def get(self, key: bytes, default: Optional[bytes] = None,
@@ -185,6 +168,31 @@ class Table(_Held):
 
     def __contains__(self, key: bytes) -> bool:
         return self.get(key) is not None
+
+
+class Table(_Read):
+    """An opened table.
+
+    >>> writer = Writer()
+    >>> writer.add(b"a", b"1")
+    >>> with Table.open(writer.finish()) as table:
+    ...     len(table), dict(table.range())
+    (1, {b'a': b'1'})
+    """
+
+    _get = staticmethod(_calls.table_get)
+
+    @staticmethod
+    def open(source: Union[bytes, str, "os.PathLike[str]"], global_seqno: int = 0,
+             pin_filter: bool = True, pin_index: bool = True) -> "Table":
+        """Opens a table's bytes, or the file at a path."""
+        if not isinstance(source, bytes):
+            with open(source, "rb") as file:
+                source = file.read()
+        table = Table()
+        _test(_calls.table_open(source, len(source), global_seqno, pin_filter, pin_index,
+                                byref(table._handle)))
+        return table
 
     def __len__(self) -> int:
         """How many entries there are: versions, not keys."""
@@ -244,6 +252,31 @@ class Table(_Held):
             error.finding = told  # type: ignore[attr-defined]
             raise
         return told
+
+
+class Runs(_Read):
+    """Several tables as one, the newest first.
+
+    >>> newer, older = Writer(), Writer()
+    >>> newer.add(b"a", b"new", seqno=2)
+    >>> older.add(b"a", b"old", seqno=1)
+    >>> older.add(b"b", b"more", seqno=1)
+    >>> runs = Runs(Table.open(newer.finish()), Table.open(older.finish()))
+    >>> runs[b"a"], runs.get(b"a", at=2), runs[b"b"]
+    (b'new', b'old', b'more')
+    """
+
+    _get = staticmethod(_calls.runs_get)
+
+    def __init__(self, *tables: "Table") -> None:
+        super().__init__()
+        _test(_calls.runs_open(byref(self._handle)))
+        for table in tables:
+            self.add(table)
+
+    def add(self, table: "Table") -> None:
+        """Adds a table behind those that are there. It may be closed then."""
+        _test(_calls.runs_add(byref(self._handle), byref(table._handle)))
 
 
 def _shown(entry: Entry) -> Iterator[Tuple[bytes, bytes]]:

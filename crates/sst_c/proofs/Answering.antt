@@ -1,5 +1,5 @@
 -- What a call answers of what a call of the library did. Assumes `Logic`.
-use Rattle.std.proofs.Common.{◌≡◌, ℕ, ◌⊎◌, Bool, true, false, Option, Some, None, Result, Ok, Err, refl, sym, ap, ◌∙◌, inl, inr, subst}
+use Rattle.std.proofs.Common.{◌≡◌, ℕ, ◌⊎◌, false, Option, Some, None, Result, Ok, Err, refl, sym, ap, inl, inr, subst}
 use Rattle.sst_entries.specs.Entry.{Entry}
 use Rattle.sst_entries.specs.declared.error.Error.{Error}
 use Rattle.sst_entries.specs.declared.error.Error.TheVariants.{OutOfMemory}
@@ -120,3 +120,5 @@ no_fault_tells told none = inr (sym (ap fault_code none))
 pub memory_tells : (told : Option Error) → FaultTold 1 told
 unfolding FaultTold
 memory_tells told = inl refl
+
+pub ruleset faults = (fault_tells, no_fault_tells, not_zero)

@@ -45,3 +45,5 @@ held_or h None = h
 
 pub same_held : (o : Option Held) (k h : Held) → o ≡ Some k → o ≡ Some h → k ≡ h
 same_held o k h is same = ap (held_or h) (sym is) ∙ ap (held_or h) same
+
+pub ruleset found_answers = (answers_ok, answers_err, answers_memory)

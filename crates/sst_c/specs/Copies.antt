@@ -1,5 +1,5 @@
--- What C is handed of an entry that was found: copies where it has room, or the places of the bytes.
-use Rattle.std.specs.Prelude.{◌≡◌, ℕ, List, length, drop, ◌++◌, Option, Some, None}
+-- What C is handed of an entry that was found: copies where it has room, or where the bytes lie.
+use Rattle.std.specs.Prelude.{ℕ, List, length, drop, ◌++◌, Option, Some, None}
 use Rattle.std.specs.Prelude.{Bool, ◌||◌, nat_lt, if◌then◌else◌}
 use Rattle.sst_entries.specs.Entry.{Entry}
 

@@ -1,5 +1,5 @@
 -- Finished tables, as C sees them.
-use Rattle.std.specs.Prelude.{ℕ, ◌^◌, nat_lt, List, length, Option, Some, None, slice_get}
+use Rattle.std.specs.Prelude.{ℕ, ◌^◌, nat_lt, length, Option, slice_get}
 use Rattle.std.specs.Prelude.{if◌then◌else◌}
 use Rattle.std.specs.Global.{Global}
 use Rattle.lsm_writers.specs.declared.writer.FinishedTable.{FinishedTable}

@@ -1,8 +1,6 @@
 -- What is behind a handle.
-use Rattle.std.specs.Prelude.{◌≡◌, ℕ, ◌==◌, Bool, true, false, List, [], Option, Some, None}
-use Rattle.std.specs.Prelude.{Result, Ok}
-use Rattle.std.specs.Prelude.{if◌then◌else◌}
-use Rattle.std.specs.Prelude.{map}
+use Rattle.std.specs.Prelude.{◌≡◌, ℕ, ◌==◌, Bool, true, false, List, [], Option, None}
+use Rattle.std.specs.Prelude.{Ok, if◌then◌else◌, map}
 use Rattle.std.specs.Arc.{arc_value}
 use Rattle.std.specs.Global.{Global}
 use Rattle.std.specs.declared.ops.Bound.{Bound}
@@ -15,10 +13,10 @@ use Rattle.lsm_readers.specs.Ranges.{DealsWithin}
 use Rattle.lsm_readers.specs.Table.{OpenTable}
 use Rattle.lsm_writers.specs.declared.writer.FinishedTable.{FinishedTable}
 use Rattle.lsm_writers.specs.Writing.{Writing}
-use Rattle.sst_c.specs.declared.held.Files.{Files}
 use Rattle.sst_c.specs.declared.held.Held.{Held}
 use Rattle.sst_c.specs.declared.held.What.{What}
-use Rattle.sst_c.specs.declared.held.What.TheVariants.{Table, Range as RangeOf, Files as FilesOf, Runs}
+use Rattle.sst_c.specs.declared.held.What.TheVariants.{Table, Files as FilesOf, Runs}
+use Rattle.sst_c.specs.declared.held.What.TheVariants.{Range as RangeOf}
 
 -- it is a table of which this holds
 abbrev pub IsTableWhere : (OpenTable → Type 0) → What → Type 0
@@ -29,11 +27,6 @@ IsTableWhere holds _ = ⊥
 abbrev pub IsRangeWhere : (Range Global → Type 0) → What → Type 0
 IsRangeWhere holds (RangeOf s) = holds s
 IsRangeWhere holds _ = ⊥
-
--- they are tables that are written, of which this holds
-abbrev pub AreFilesWhere : (Files → Type 0) → What → Type 0
-AreFilesWhere holds (FilesOf fs) = holds fs
-AreFilesWhere holds _ = ⊥
 
 abbrev pub is_table : What → Bool
 is_table (Table t) = true

@@ -1,6 +1,6 @@
 -- Writing a table, as C sees it.
-use Rattle.std.specs.Prelude.{◌≡◌, ◌≢◌, ℕ, ◌==◌, ◌-◌, ◌⊎◌, true, List, [], ◌∷◌, ◌++◌, Option, Some, None}
-use Rattle.std.specs.Prelude.{if◌then◌else◌}
+use Rattle.std.specs.Prelude.{◌≡◌, ◌≢◌, ℕ, ◌==◌, ◌-◌, ◌⊎◌, true, List, [], ◌∷◌, ◌++◌}
+use Rattle.std.specs.Prelude.{Option, None, if◌then◌else◌}
 use Rattle.std.specs.Global.{Global}
 use Rattle.sst_entries.specs.Entry.{Entry}
 use Rattle.sst_entries.specs.Kind.{kind_of}
@@ -25,6 +25,7 @@ TookEntry w e code v =
     × (code ≢ 0 → v ≡ record w { failed = true })
 
 -- the one finished table of what was written stands behind others, or none where nothing was
-unfoldable pub AddsFileOf : Writing → List (FinishedTable Global) → List (FinishedTable Global) → Type 0
+unfoldable pub AddsFileOf : Writing → List (FinishedTable Global) → List (FinishedTable Global)
+    → Type 0
 AddsFileOf w old new = ((written w ≡ []) × (new ≡ old)) ⊎ ((f : FinishedTable Global)
     × IsFinished w f.id f.checksum.0 f.bytes × (new ≡ old ++ f ∷ []))

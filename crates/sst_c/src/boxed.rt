@@ -22,7 +22,8 @@ impl Model for Boxed {
     ghost use Rattle.sst_c.specs.Owned.{owned};
     ghost use Rattle.sst_c.specs.contracts.held.Held.{the_row};
 
-    ghost also_owns = { λ b. owned (⟦<Global as Allocator>⟧.dealloc_token b.alloc) the_row b.at b.value };
+    ghost also_owns = { λ b.
+        owned (⟦<Global as Allocator>⟧.dealloc_token b.alloc) the_row b.at b.value };
 }
 
 pub(crate) fn hold(loose: Loose<Held, Global>) -> Boxed

@@ -1,5 +1,6 @@
 //! Finished tables: what they are called, and their bytes.
-ghost use Rattle.std.specs.Prelude.{◌≡◌, ◌≢◌, ◌<◌, ◌≤◌, None, Some, drop, false, length, take, true};
+ghost use Rattle.std.specs.Prelude.{◌≡◌, ◌≢◌, ◌<◌, ◌≤◌, None, Some, drop, false, length, take};
+ghost use Rattle.std.specs.Prelude.{true};
 ghost use Rattle.std.specs.Global.{Global as Heap};
 ghost use Rattle.lsm_writers.specs.declared.writer.FinishedTable.{FinishedTable as Finished};
 ghost use Rattle.sst_c.specs.Copies.{laid};

@@ -198,8 +198,8 @@ pub extern "C" fn sst_range_open(
         let low = bound_of lower_kind lower.now in let high = bound_of upper_kind upper.now in
         IsSomeAnd range.new.boxed.value (λ r. IsRangeWhere (IsRangeOf t low high) r.what) }
     // on bytes that store a list it deals the list's entries within them, their numbers lifted.
-    ensures list { (h : HeldValue) (t : OpenTable) (es : List Entry) → table.old.boxed.value ≡ Some h →
-        h.what ≡ TableOf t → result ≡ 0 → StoresList t.bytes es →
+    ensures list { (h : HeldValue) (t : OpenTable) (es : List Entry) →
+        table.old.boxed.value ≡ Some h → h.what ≡ TableOf t → result ≡ 0 → StoresList t.bytes es →
         let low = bound_of lower_kind lower.now in let high = bound_of upper_kind upper.now in
         IsSomeAnd range.new.boxed.value (λ r.
         IsRangeWhere (DealsList low high es t.global_seqno) r.what) }
@@ -265,11 +265,13 @@ pub extern "C" fn sst_range_next(
     // It is one step of the range, from that end.
     ensures front { (h : HeldValue) (s : RangeValue Heap) → range.old.boxed.value ≡ Some h →
         h.what ≡ RangeOf s → back ≡ false → let gives = ⟦<Iter<Global> as Iterator>⟧.next_gives in
-        IsSomeAnd range.new.boxed.value (λ k. IsRangeWhere (StepsBy gives s result k.found) k.what) }
+        IsSomeAnd range.new.boxed.value (λ k.
+        IsRangeWhere (StepsBy gives s result k.found) k.what) }
     ensures back { (h : HeldValue) (s : RangeValue Heap) → range.old.boxed.value ≡ Some h →
         h.what ≡ RangeOf s → back ≡ true →
         let gives = ⟦<Iter<Global> as DoubleEndedIterator>⟧.next_back_gives in
-        IsSomeAnd range.new.boxed.value (λ k. IsRangeWhere (StepsBy gives s result k.found) k.what) }
+        IsSomeAnd range.new.boxed.value (λ k.
+        IsRangeWhere (StepsBy gives s result k.found) k.what) }
 {
     *entry = tell(&None);
     let Some(mut held) = range.take(alloc) else {

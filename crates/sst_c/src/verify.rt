@@ -112,7 +112,7 @@ fn tell_verified(verified: Verified) -> VerifyTold
     }
 }
 
-#[tactic(auto, using(crate::proofs::Verifying::answers_ok, crate::proofs::Verifying::answers_err, crate::proofs::Verifying::answers_memory))]
+#[tactic(auto, using(crate::proofs::Verifying::found_answers))]
 fn verify(table: &Table, told: &mut VerifyTold) -> u32
     requires { told.old ≡ no_finding }
     ensures told { VerifyAnswers result told.new

@@ -90,7 +90,7 @@ fn kind_of(kind: u32) -> Option<ValueType>
 }
 
 // Writes an entry that may follow.
-#[tactic(auto, using(crate::proofs::Answering::fault_tells, crate::proofs::Answering::no_fault_tells, crate::proofs::Answering::not_zero), unfolding(crate::specs::Writing::TookEntry))]
+#[tactic(auto, using(crate::proofs::Answering::faults), unfolding(crate::specs::Writing::TookEntry))]
 fn write(writer: &mut Writer, key: &[u8], seqno: SeqNo, kind: ValueType, value: &[u8]) -> u32
     requires { IsTrue (may_be_written (written writer.old) key.now seqno) }
     ensures { TookEntry writer.old (entry key.now value.now seqno kind) result writer.new }
@@ -190,7 +190,7 @@ pub extern "C" fn sst_writer_add(
         writer_in h.what ≡ Some w → is_some (kind_told kind) ≡ true →
         may_be_written (written w) key.now seqno ≡ false →
         (result ≡ 104) × IsSomeAnd writer.new.boxed.value (λ k. k.what ≡ h.what) }
-    // An entry that may follow is taken, or refused with the first fault, and the writer has failed.
+    // An entry that may follow is taken, or refused with the first fault: the writer has failed.
     ensures took { (h : HeldValue) (w : WritingValue) (k : Kind) → writer.old.boxed.value ≡ Some h →
         writer_in h.what ≡ Some w → kind_told kind ≡ Some k →
         may_be_written (written w) key.now seqno ≡ true →
@@ -209,7 +209,7 @@ pub extern "C" fn sst_writer_add(
 }
 
 // Finishes a writer, and puts its table behind others, where something was written.
-#[tactic(auto, using(crate::proofs::Answering::fault_tells, crate::proofs::Answering::no_fault_tells, crate::proofs::Answering::not_zero), unfolding(crate::specs::Writing::AddsFileOf))]
+#[tactic(auto, using(crate::proofs::Answering::faults), unfolding(crate::specs::Writing::AddsFileOf))]
 fn finish_behind(tables: &mut Vec<FinishedTable>, writer: Writer) -> u32
     ensures told { FaultTold result (finish_fault writer) }
     ensures finished { result ≡ 0 → AddsFileOf writer tables.old.items tables.new.items }

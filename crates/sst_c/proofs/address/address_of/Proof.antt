@@ -10,7 +10,7 @@ use types.ByLocal.{alloc_all, pass_all, free_all, look_at, sets, look_in_at}
 use contract.Monad.{fact, fact_i}
 use contract.Running.{tables}
 use denote.Exit.{yes}
-use denote.RattleType.{RattleType, owns}
+use denote.RattleType.{owns}
 use denote.Builtin.{u8, SliceRefOf}
 use denote.RawPtr.{block_ptr}
 use denote.Signature.{plain, types_at}

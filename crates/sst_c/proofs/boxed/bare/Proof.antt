@@ -1,32 +1,30 @@
-use Rattle.std.proofs.Common.{◌≡◌, List, [], ◌∷◌, ◌++◌, refl, sym, ap, ◌∙◌, subst}
+use Rattle.std.proofs.Common.{◌≡◌, List, [], ◌∷◌, ◌++◌, refl, sym, subst}
 use mir.Val.{Val}
 use base.Logic.{SProp, ent, emp, id⊢}
 use prog.Wp.{WpFn}
-use types.Kit.{‵, raw, ◌⊛◌, ◌$◌, ◌∵◌, !, qed, by, move, keep, drop, split, join, fsplit, fsplit3, fjoin, suffices, use0, use1, rewrite, feq_l, feq_i}
-use types.Run.{stop, fld, of_opd, no_more, and_then, returns, enter}
-use types.ByLocal.{alloc_all, pass_all, free_all, look_at, get, get_in, sets}
-use types.Part.{agg, sub, whole}
+use types.Kit.{‵, raw, ◌⊛◌, ◌$◌, ◌∵◌, !, qed, by, move, keep, split, fsplit3, fjoin, suffices, use0, rewrite, feq_l}
+use types.Run.{no_more, and_then, returns, enter}
+use types.ByLocal.{alloc_all, pass_all, free_all, look_at, get, sets}
+use types.Part.{agg}
 use contract.Monad.{fact, fact_i}
 use contract.Running.{tables}
-use denote.Exit.{no, yes}
+use denote.Exit.{yes}
 use denote.RattleType.{RattleType, owns}
 use denote.Signature.{types_at, type_at, plain}
 use denote.Builtin.{RawPtr}
-use denote.RawPtr.{Ptr, block_ptr, ptr_val}
-use denote.Steps.{nothing, heard}
+use denote.RawPtr.{ptr_val}
+use denote.Steps.{nothing}
 use denote.Param.{layout}
 use denote.Triple.Entry.{alive}
 use denote.Triple.Walked.{Stays, stay_dropped, walk_of, Goes-dropped}
 use Rattle.core.proofs.atomic.Steps.{Ptr-Good}
-use Rattle.core.proofs.alloc.Calls.{Goes-blank}
 use Rattle.core.proofs.cell.Inside.{Good, one}
 use Rattle.std.proofs.raw_atomic.Walks.{proved_at, leaves}
 use Rattle.std.proofs.alloc.Global.TheLaws as heap_laws
 use Rattle.std.specs.declared.option.Option.{Option}
-use Rattle.std.specs.declared.option.Option.TheVariants.{None, Some}
-use Rattle.std.specs.contracts.impls.GlobalAllocator.TheImpl.{ghosts}
-use Rattle.loose_boxes.proofs.Values.{both, Loose, loose_good, loose_in, loose_out}
-use Rattle.sst_c.proofs.Values.{R, Z, Hr, handle_in, handle_out, handle_good}
+use Rattle.std.specs.declared.option.Option.TheVariants.{None}
+use Rattle.loose_boxes.proofs.Values.{both}
+use Rattle.sst_c.proofs.Values.{R, Z, handle_in, handle_good}
 use Rattle.sst_c.specs.contracts.boxed.bare.{ended, clauses}
 use Rattle.sst_c.specs.contracts.boxed.bare.Key.{name as #self}
 use Rattle.sst_c.proofs.boxed.bare.Statement.{statement}

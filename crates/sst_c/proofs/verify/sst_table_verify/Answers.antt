@@ -1,4 +1,4 @@
-use Rattle.std.proofs.Common.{◌≡◌, ap, sym, ◌∙◌}
+use Rattle.std.proofs.Common.{ap, ◌∙◌}
 use Rattle.sst_c.proofs.Verifying.{same_held}
 use Rattle.sst_c.specs.declared.held.Held.{Held}
 use Rattle.sst_c.proofs.verify.sst_table_verify.Goals as goal
