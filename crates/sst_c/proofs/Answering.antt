@@ -1,0 +1,124 @@
+-- What a call answers of what a call of the library did. Assumes `Logic`.
+use Rattle.std.proofs.Common.{◌≡◌, ℕ, ◌⊎◌, false, Option, Some, None, Result, Ok, Err, refl, sym, ap, inl, inr, subst}
+use Rattle.sst_entries.specs.Entry.{Entry}
+use Rattle.sst_entries.specs.declared.error.Error.{Error}
+use Rattle.sst_entries.specs.declared.error.Error.TheVariants.{OutOfMemory}
+use Rattle.sst_entries.specs.declared.error.Error.TheVariants.{Truncated}
+use Rattle.sst_entries.specs.declared.error.Error.TheVariants.{InvalidHeader}
+use Rattle.sst_entries.specs.declared.error.Error.TheVariants.{InvalidTag}
+use Rattle.sst_entries.specs.declared.error.Error.TheVariants.{ChecksumMismatch}
+use Rattle.sst_entries.specs.declared.error.Error.TheVariants.{InvalidBlock}
+use Rattle.sst_entries.specs.declared.error.Error.TheVariants.{KeyTooLong}
+use Rattle.sst_entries.specs.declared.error.Error.TheVariants.{ValueTooLong}
+use Rattle.sst_entries.specs.declared.error.Error.TheVariants.{BlockTooLarge}
+use Rattle.sst_entries.specs.declared.error.Error.TheVariants.{SectionTooLarge}
+use Rattle.sst_entries.specs.declared.error.Error.TheVariants.{InvalidTrailer}
+use Rattle.sst_entries.specs.declared.error.Error.TheVariants.{MissingSection}
+use Rattle.sst_entries.specs.declared.error.Error.TheVariants.{MetaKeyMissing}
+use Rattle.sst_entries.specs.declared.error.Error.TheVariants.{InvalidMetaValue}
+use Rattle.sst_entries.specs.declared.error.Error.TheVariants.{UnsupportedTableVersion}
+use Rattle.sst_entries.specs.declared.error.Error.TheVariants.{UnsupportedHashType}
+use Rattle.sst_entries.specs.declared.error.Error.TheVariants.{UnsupportedChecksumType}
+use Rattle.sst_entries.specs.declared.error.Error.TheVariants.{UnsupportedIndexInterval}
+use Rattle.sst_entries.specs.declared.error.Error.TheVariants.{UnsupportedCompression}
+use Rattle.sst_entries.specs.declared.error.Error.TheVariants.{GlobalSeqNoTooLarge}
+use Rattle.sst_entries.specs.declared.error.Error.TheVariants.{SeqNoOverflow}
+use Rattle.sst_entries.specs.declared.error.Error.TheVariants.{TableIdsSpent}
+use Rattle.sst_entries.specs.declared.error.Error.TheVariants.{WriterFailed}
+use Rattle.sst_entries.specs.declared.error.Error.TheVariants.{Source}
+use Rattle.sst_entries.specs.Error.{Fails, Gives, is_memory, number_of}
+use Rattle.sst_c.specs.Codes.{Tells, code_of, fault_code}
+use Rattle.sst_c.specs.Writing.{FaultTold}
+use Rattle.sst_c.specs.Told.{Answers, found_of}
+
+-- a refusal wants memory, whose number is 1, or does not
+pub is_one_or_not : (e : Error) → (number_of e ≡ 1) ⊎ (is_memory e ≡ false)
+is_one_or_not OutOfMemory = inl refl
+is_one_or_not Truncated = inr refl
+is_one_or_not InvalidHeader = inr refl
+is_one_or_not (InvalidTag name byte) = inr refl
+is_one_or_not ChecksumMismatch = inr refl
+is_one_or_not InvalidBlock = inr refl
+is_one_or_not KeyTooLong = inr refl
+is_one_or_not ValueTooLong = inr refl
+is_one_or_not BlockTooLarge = inr refl
+is_one_or_not SectionTooLarge = inr refl
+is_one_or_not InvalidTrailer = inr refl
+is_one_or_not MissingSection = inr refl
+is_one_or_not MetaKeyMissing = inr refl
+is_one_or_not InvalidMetaValue = inr refl
+is_one_or_not UnsupportedTableVersion = inr refl
+is_one_or_not UnsupportedHashType = inr refl
+is_one_or_not UnsupportedChecksumType = inr refl
+is_one_or_not UnsupportedIndexInterval = inr refl
+is_one_or_not UnsupportedCompression = inr refl
+is_one_or_not GlobalSeqNoTooLarge = inr refl
+is_one_or_not SeqNoOverflow = inr refl
+is_one_or_not TableIdsSpent = inr refl
+is_one_or_not WriterFailed = inr refl
+is_one_or_not (Source n) = inr refl
+
+-- the number of a refusal is the code of what is told
+pub tells : {X : Type 0} (e : Error) (told : Result X Error) → Fails e told → Tells (number_of e) told
+tells e told fails = elim (is_one_or_not e) [ inl one ↦ inl one | inr other ↦ inr (sym (ap code_of (fails other))) ]
+
+pub tells_ok : {X : Type 0} (x : X) (told : Result X Error) → told ≡ Ok x → Tells 0 told
+tells_ok x told same = inr (sym (ap code_of same))
+
+answers_err : (e : Error) (told : Result (Option Entry) Error) → told ≡ Err e → Answers (number_of e) None told
+answers_err e told same = let P : Result (Option Entry) Error → Type 0 = λ t. Answers (number_of e) None t in subst P (sym same) (inl refl, refl)
+
+answers_one : (told : Result (Option Entry) Error) → Answers 1 None told
+answers_one (Ok x) = inr (refl, refl)
+answers_one (Err e) = (inr refl, refl)
+
+-- a read's code and entry answer what is told
+pub answers : (r : Result (Option Entry) Error) (told : Result (Option Entry) Error)
+    → Gives (λ (x : Option Entry). x) r told → Answers (code_of r) (found_of r) told
+answers (Ok x) told gives = let P : Result (Option Entry) Error → Type 0 = λ t. Answers 0 x t in subst P (sym gives) (inl (refl, refl))
+answers (Err e) told fails = elim (is_one_or_not e) [
+  | inl one ↦ (let P : ℕ → Type 0 = λ n. Answers n None told in subst P (sym one) (answers_one told))
+  | inr other ↦ answers_err e told (fails other)
+]
+
+-- no refusal has the number 0
+pub not_zero : (e : Error) → number_of e ≡ 0 → ⊥
+not_zero OutOfMemory zero = cc
+not_zero Truncated zero = cc
+not_zero InvalidHeader zero = cc
+not_zero (InvalidTag name byte) zero = cc
+not_zero ChecksumMismatch zero = cc
+not_zero InvalidBlock zero = cc
+not_zero KeyTooLong zero = cc
+not_zero ValueTooLong zero = cc
+not_zero BlockTooLarge zero = cc
+not_zero SectionTooLarge zero = cc
+not_zero InvalidTrailer zero = cc
+not_zero MissingSection zero = cc
+not_zero MetaKeyMissing zero = cc
+not_zero InvalidMetaValue zero = cc
+not_zero UnsupportedTableVersion zero = cc
+not_zero UnsupportedHashType zero = cc
+not_zero UnsupportedChecksumType zero = cc
+not_zero UnsupportedIndexInterval zero = cc
+not_zero UnsupportedCompression zero = cc
+not_zero GlobalSeqNoTooLarge zero = cc
+not_zero SeqNoOverflow zero = cc
+not_zero TableIdsSpent zero = cc
+not_zero WriterFailed zero = cc
+not_zero (Source n) zero = cc
+
+-- the number of a refusal is the code of the fault that is told
+pub fault_tells : (e : Error) (told : Option Error) → (is_memory e ≡ false → told ≡ Some e) → FaultTold (number_of e) told
+unfolding FaultTold
+fault_tells e told fails = elim (is_one_or_not e) [ inl one ↦ inl one | inr other ↦ inr (sym (ap fault_code (fails other))) ]
+
+pub no_fault_tells : (told : Option Error) → told ≡ None → FaultTold 0 told
+unfolding FaultTold
+no_fault_tells told none = inr (sym (ap fault_code none))
+
+pub memory_tells : (told : Option Error) → FaultTold 1 told
+unfolding FaultTold
+memory_tells told = inl refl
+
+pub ruleset faults = (fault_tells, no_fault_tells, not_zero)

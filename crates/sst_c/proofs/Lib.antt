@@ -1,0 +1,4 @@
+pub mod Values
+pub mod Answering
+pub mod Verifying
+pub mod Behind

@@ -1,0 +1,10 @@
+use Rattle.std.proofs.Common.{ap, ◌∙◌}
+use Rattle.sst_c.proofs.Verifying.{same_held}
+use Rattle.sst_c.specs.declared.held.Held.{Held}
+use Rattle.sst_c.proofs.verify.sst_table_verify.Goals as goal
+
+pub returns-clause-complete : goal.returns-clause-complete
+returns-clause-complete c h t es same is stores =
+    let one = same_held c.args.table.now.boxed.value c.in-Some.held.value h c.in-Some.ensures.taken same in
+    let lent = ap (λ (x : Held). x.what) (c.deref.ensures ∙ one) in
+    c.verify_held-code.ensures.complete t es (lent ∙ is) stores

@@ -1,0 +1,18 @@
+-- What C is told of what a table says of itself.
+use Rattle.lsm_readers.specs.Table.{OpenTable}
+use Rattle.sst_c.specs.declared.facts.TableFacts.{TableFacts}
+
+abbrev pub facts_told : OpenTable → TableFacts
+facts_told t = record {
+  id = t.parts.facts.id;
+  version = t.parts.facts.table_version;
+  global_seqno = t.global_seqno;
+  lowest_seqno = t.parts.facts.seqno_min;
+  highest_seqno = t.parts.facts.seqno_max;
+  item_count = t.parts.facts.item_count;
+  tombstone_count = t.parts.facts.tombstone_count;
+  weak_tombstone_count = t.parts.facts.weak_tombstone_count;
+  data_block_count = t.parts.facts.data_block_count;
+  index_block_count = t.parts.facts.index_block_count;
+  data_size = t.parts.facts.file_size;
+}

@@ -1,0 +1,11 @@
+pub mod Owned
+pub mod Codes
+pub mod Copies
+pub mod Told
+pub mod What
+pub mod Options
+pub mod Writing
+pub mod Steps
+pub mod Facts
+pub mod Files
+pub mod Verify

@@ -1,0 +1,60 @@
+-- What C says that a table is written with.
+use Rattle.std.specs.Prelude.{ℕ, ◌==◌, ◌&&◌, Bool, nat_le, nat_lt, if◌then◌else◌}
+use Rattle.sst_filters.specs.declared.policy.BloomConstructionPolicy.TheVariants.{BitsPerKey}
+use Rattle.lsm_formats.specs.declared.options.FilterKind.{FilterKind}
+use Rattle.lsm_formats.specs.declared.options.FilterKind.TheVariants.{Full as FullFilter}
+use Rattle.lsm_formats.specs.declared.options.FilterKind.TheVariants.{
+  Partitioned as PartitionedFilter,
+}
+use Rattle.lsm_formats.specs.declared.options.IndexKind.{IndexKind}
+use Rattle.lsm_formats.specs.declared.options.IndexKind.TheVariants.{Full as FullIndex}
+use Rattle.lsm_formats.specs.declared.options.IndexKind.TheVariants.{
+  Partitioned as PartitionedIndex,
+}
+use Rattle.lsm_formats.specs.Options.{label_of}
+use Rattle.lsm_formats.specs.declared.options.Options.{Options}
+use Rattle.lsm_writers.specs.Writing.{Writing, fresh_writing}
+use Rattle.sst_c.specs.declared.options.TableOptions.{TableOptions}
+
+abbrev pub default_told : TableOptions
+default_told = record {
+  id = 0;
+  created_at = 0;
+  level = 0;
+  data_block_size = 4096;
+  data_block_restart_interval = 16;
+  data_block_hash_ratio = 0;
+  index_partition_size = 0;
+  filter_partition_size = 0;
+  filter_bits_per_key = 100;
+  unused = 0;
+}
+
+-- a level and an interval of one byte, the interval not 0, and no block or partition above 4 MiB
+abbrev pub are_usable : TableOptions → Bool
+are_usable o = nat_lt o.level 256 && nat_le o.data_block_size 4194304
+    && nat_lt 0 o.data_block_restart_interval && nat_lt o.data_block_restart_interval 256
+    && nat_le o.index_partition_size 4194304 && nat_le o.filter_partition_size 4194304
+
+-- partitions of a size; one block where it is 0
+abbrev pub index_told : ℕ → IndexKind
+index_told size = if size == 0 then FullIndex else PartitionedIndex size
+
+abbrev pub filter_told : ℕ → FilterKind
+filter_told size = if size == 0 then FullFilter else PartitionedFilter size
+
+abbrev pub options_told : TableOptions → Options
+options_told o = record {
+  data_block_restart_interval = o.data_block_restart_interval;
+  index_block_restart_interval = 1;
+  data_block_hash_ratio = o.data_block_hash_ratio;
+  data_block_size = o.data_block_size;
+  index_kind = index_told o.index_partition_size;
+  filter_kind = filter_told o.filter_partition_size;
+  bloom_policy = BitsPerKey o.filter_bits_per_key;
+}
+
+-- a writer that has no entry yet
+abbrev pub writing_told : TableOptions → Writing
+writing_told o =
+    fresh_writing (label_of o.id o.level o.created_at) (options_told o)

@@ -1,0 +1,40 @@
+-- What C is told of what a read found.
+use Rattle.std.specs.Prelude.{◌≡◌, ℕ, ◌+◌, ◌⊎◌, length, Option, Some, None, Result, Ok, Err}
+use Rattle.sst_entries.specs.Entry.{Entry}
+use Rattle.sst_entries.specs.Error.{number_of}
+use Rattle.sst_entries.specs.Kind.{tag_of}
+use Rattle.sst_entries.specs.declared.error.Error.{Error}
+use Rattle.sst_c.specs.declared.entries.EntryTold.{EntryTold}
+use Rattle.sst_c.specs.declared.held.Held.{Held}
+
+-- an entry's kind, number and lengths, or zeros where there is none
+abbrev pub told_of : Option Entry → EntryTold
+told_of None = record { kind = 0; seqno = 0; key_len = 0; value_len = 0 }
+told_of (Some e) = record {
+  kind = 1 + tag_of e.kind;
+  seqno = e.seqno;
+  key_len = length e.user_key;
+  value_len = length e.value;
+}
+
+-- what the last read by a handle found
+abbrev pub found_in : Option Held → Option Entry
+found_in None = None
+found_in (Some h) = h.found
+
+-- what a read found; nothing where it was refused
+abbrev pub found_of : Result (Option Entry) Error → Option Entry
+found_of (Ok x) = x
+found_of (Err e) = None
+
+-- want of memory aside, a read answered what is told: the entry or that there is none, with 0, or
+-- the refusal's number and no entry
+abbrev pub Answers : ℕ → Option Entry → Result (Option Entry) Error → Type 0
+Answers code found (Ok x) = ((code ≡ 0) × (found ≡ x)) ⊎ ((code ≡ 1) × (found ≡ None))
+Answers code found (Err e) = ((code ≡ number_of e) ⊎ (code ≡ 1)) × (found ≡ None)
+
+-- what a step of a range answers: an entry, none at the end, or a refusal
+abbrev pub outcome_of : Option (Result Entry Error) → Result (Option Entry) Error
+outcome_of None = Ok None
+outcome_of (Some (Ok e)) = Ok (Some e)
+outcome_of (Some (Err e)) = Err e

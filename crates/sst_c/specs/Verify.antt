@@ -1,0 +1,70 @@
+-- What C is told of a verification.
+use Rattle.std.specs.Prelude.{◌≡◌, ℕ, ◌+◌, ◌⊎◌, Result, Ok, Err}
+use Rattle.sst_entries.specs.Error.{number_of}
+use Rattle.sst_sections.specs.Sections.{slot_index}
+use Rattle.lsm_readers.specs.declared.verify.Fault.{Fault}
+use Rattle.lsm_readers.specs.declared.verify.Fault.TheVariants.{Unloaded, Hollow, Misplaced}
+use Rattle.lsm_readers.specs.declared.verify.Fault.TheVariants.{TooHigh, Unordered, Denied}
+use Rattle.lsm_readers.specs.declared.verify.Fault.TheVariants.{Unfiltered, OtherKey, OtherNumber}
+use Rattle.lsm_readers.specs.declared.verify.Fault.TheVariants.{Unborne, Unnamed, OtherChecksum}
+use Rattle.lsm_readers.specs.declared.verify.Finding.{Finding}
+use Rattle.lsm_readers.specs.declared.verify.Verified.{Verified}
+use Rattle.sst_c.specs.declared.verify.VerifyTold.{VerifyTold}
+
+abbrev pub no_finding : VerifyTold
+no_finding = record {
+  item_count = 0;
+  data_block_count = 0;
+  offset = 0;
+  section = 0;
+  fault = 0;
+  detail = 0;
+  unused = 0;
+}
+
+abbrev pub fault_of : Fault → ℕ
+fault_of (Unloaded e) = 1
+fault_of Hollow = 2
+fault_of Misplaced = 3
+fault_of TooHigh = 4
+fault_of Unordered = 5
+fault_of Denied = 6
+fault_of (Unfiltered e) = 7
+fault_of OtherKey = 8
+fault_of OtherNumber = 9
+fault_of (Unborne item) = 10
+fault_of Unnamed = 11
+fault_of OtherChecksum = 12
+
+-- of a block that does not load the refusal
+abbrev pub detail_of : Fault → ℕ
+detail_of (Unloaded e) = number_of e
+detail_of (Unfiltered e) = number_of e
+detail_of _ = 0
+
+abbrev pub finding_told : Finding → VerifyTold
+finding_told f = record {
+  item_count = 0;
+  data_block_count = 0;
+  offset = f.offset;
+  section = 1 + slot_index f.section;
+  fault = fault_of f.fault;
+  detail = detail_of f.fault;
+  unused = 0;
+}
+
+abbrev pub verified_told : Verified → VerifyTold
+verified_told v = record {
+  item_count = v.item_count;
+  data_block_count = v.data_block_count;
+  offset = 0;
+  section = 0;
+  fault = 0;
+  detail = 0;
+  unused = 0;
+}
+
+-- want of memory aside, whose number is 1, what is found is told with 107, else what there is
+unfoldable pub VerifyAnswers : ℕ → VerifyTold → Result Verified Finding → Type 0
+VerifyAnswers code told (Ok v) = ((code ≡ 0) × (told ≡ verified_told v)) ⊎ (code ≡ 1)
+VerifyAnswers code told (Err f) = ((code ≡ 107) × (told ≡ finding_told f)) ⊎ (code ≡ 1)

@@ -1,0 +1,72 @@
+//! The box behind a pointer to bytes, or nothing.
+ghost use Rattle.std.specs.Prelude.{◌≡◌, IsSome, Option, Some, None};
+ghost use Rattle.sst_c.specs.declared.held.Held.{Held as HeldValue};
+
+use crate::held::Held;
+use loose_boxes::Loose;
+use std::alloc::{Allocator, Global};
+use std::marker::Model;
+use std::ptr::null_mut;
+
+/// A box behind a pointer, or nothing. The pointer does not say what it points to, since a call
+/// from C may hand in no reference to what has an enumeration or a large number in it.
+#[repr(C)]
+pub struct Boxed {
+    at: *mut u8,
+    alloc: Global,
+    /// What is in the box, where there is one.
+    pub ghost value: { Option HeldValue },
+}
+
+impl Model for Boxed {
+    ghost use Rattle.sst_c.specs.Owned.{owned};
+    ghost use Rattle.sst_c.specs.contracts.held.Held.{the_row};
+
+    ghost also_owns = { λ b.
+        owned (⟦<Global as Allocator>⟧.dealloc_token b.alloc) the_row b.at b.value };
+}
+
+pub(crate) fn hold(loose: Loose<Held, Global>) -> Boxed
+    ensures { result.value ≡ Some loose.value }
+{
+    let Loose { at, alloc } = loose;
+    Boxed {
+        at: at as *mut u8,
+        alloc,
+    }
+}
+
+pub(crate) fn release(boxed: Boxed) -> Loose<Held, Global>
+    requires { IsSome boxed.value }
+    ensures { boxed.value ≡ Some result.value }
+{
+    let Boxed { at, alloc } = boxed;
+    Loose {
+        at: at as *mut Held,
+        alloc,
+    }
+}
+
+fn bare(at: *mut u8, alloc: Global) -> Boxed
+    ensures { result.value ≡ None }
+{
+    Boxed { at, alloc }
+}
+
+fn nowhere() -> *mut u8 {
+    null_mut()
+}
+
+/// Nothing.
+pub(crate) fn no_box(alloc: Global) -> Boxed
+    ensures { result.value ≡ None }
+{
+    bare(nowhere(), alloc)
+}
+
+/// Lets nothing go.
+pub(crate) fn discard(boxed: Boxed)
+    requires { boxed.value ≡ None }
+{
+    let Boxed { at: _, alloc: _ } = boxed;
+}

@@ -1,0 +1,95 @@
+//! What a table says of itself.
+ghost use Rattle.std.specs.Prelude.{◌≡◌, ◌≢◌, false, None, Some};
+ghost use Rattle.lsm_readers.specs.Words.{OpenTable};
+ghost use Rattle.sst_c.specs.Facts.{facts_told};
+ghost use Rattle.sst_c.specs.What.{is_table};
+ghost use Rattle.sst_c.specs.declared.held.Held.{Held as HeldValue};
+ghost use Rattle.sst_c.specs.declared.held.What.TheVariants.{Table as TableOf};
+
+use crate::codes::{CLOSED, OTHER_KIND};
+use crate::handle::Handle;
+use crate::held::{Held, What};
+use lsm_readers::Table;
+use std::alloc::Global;
+
+/// What a table says of itself.
+#[repr(C)]
+#[derive(Clone, Copy)]
+pub struct TableFacts {
+    /// The table's id.
+    pub id: u64,
+    /// The version of its format, 3 or 4.
+    pub version: u64,
+    /// The number that is added to every stored number.
+    pub global_seqno: u64,
+    /// The lowest stored number.
+    pub lowest_seqno: u64,
+    /// The highest stored number.
+    pub highest_seqno: u64,
+    /// How many entries there are.
+    pub item_count: u64,
+    /// How many of them are tombstones of either kind.
+    pub tombstone_count: u64,
+    /// How many of them are weak tombstones.
+    pub weak_tombstone_count: u64,
+    /// How many data blocks there are.
+    pub data_block_count: u64,
+    /// How many index blocks there are.
+    pub index_block_count: u64,
+    /// How many bytes the data blocks have.
+    pub data_size: u64,
+}
+
+fn facts_of(table: &Table) -> TableFacts
+    ensures { result ≡ facts_told table.now }
+{
+    let said = &table.metadata;
+    TableFacts {
+        id: said.id,
+        version: u64::from(said.table_version),
+        global_seqno: table.global_seqno,
+        lowest_seqno: said.seqnos.0,
+        highest_seqno: said.seqnos.1,
+        item_count: said.item_count,
+        tombstone_count: said.tombstone_count,
+        weak_tombstone_count: said.weak_tombstone_count,
+        data_block_count: said.data_block_count,
+        index_block_count: said.index_block_count,
+        data_size: said.file_size,
+    }
+}
+
+fn tell_facts(held: &Held, facts: &mut TableFacts) -> u32
+    ensures other { is_table held.now.what ≡ false → result ≡ 102 }
+    ensures told { (t : OpenTable) → held.now.what ≡ TableOf t →
+        (result ≡ 0) × (facts.new ≡ facts_told t) }
+    ensures left { result ≢ 0 → facts.new ≡ facts.old }
+{
+    match &held.what {
+        What::Table(table) => {
+            *facts = facts_of(table);
+            0
+        }
+        _ => OTHER_KIND,
+    }
+}
+
+/// Tells what a table says of itself. Refused 100 where the handle is closed and 102 where it holds
+/// no table; what `facts` says stays then.
+#[unsafe(no_mangle)]
+pub extern "C" fn sst_table_facts(alloc: Global, table: &mut Handle, facts: &mut TableFacts) -> u32
+    ensures kept { table.new.boxed.value ≡ table.old.boxed.value }
+    ensures shut { table.old.boxed.value ≡ None → result ≡ 100 }
+    ensures other { (h : HeldValue) → table.old.boxed.value ≡ Some h → is_table h.what ≡ false →
+        result ≡ 102 }
+    ensures told { (h : HeldValue) (t : OpenTable) → table.old.boxed.value ≡ Some h →
+        h.what ≡ TableOf t → (result ≡ 0) × (facts.new ≡ facts_told t) }
+    ensures left { result ≢ 0 → facts.new ≡ facts.old }
+{
+    let Some(held) = table.take(alloc) else {
+        return CLOSED;
+    };
+    let code = tell_facts(&held, facts);
+    table.put(held);
+    code
+}

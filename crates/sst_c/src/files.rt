@@ -1,0 +1,202 @@
+//! Finished tables: what they are called, and their bytes.
+ghost use Rattle.std.specs.Prelude.{◌≡◌, ◌≢◌, ◌<◌, ◌≤◌, None, Some, drop, false, length, take};
+ghost use Rattle.std.specs.Prelude.{true};
+ghost use Rattle.std.specs.Global.{Global as Heap};
+ghost use Rattle.lsm_writers.specs.declared.writer.FinishedTable.{FinishedTable as Finished};
+ghost use Rattle.sst_c.specs.Copies.{laid};
+ghost use Rattle.sst_c.specs.Files.{file_at, file_told};
+ghost use Rattle.sst_c.specs.What.{are_files, tables_in};
+ghost use Rattle.sst_c.specs.declared.held.Held.{Held as HeldValue};
+
+use crate::codes::{CLOSED, NO_SUCH, OTHER_KIND};
+use crate::found::copy_out;
+use crate::handle::Handle;
+use crate::held::{Held, What};
+use lsm_writers::FinishedTable;
+use std::alloc::Global;
+
+/// What a finished table is called, and how long it is.
+#[repr(C)]
+#[derive(Clone, Copy)]
+pub struct FileTold {
+    /// The table's id.
+    pub id: u64,
+    /// The checksum of all its bytes, their FNV-1a sum.
+    pub checksum: u64,
+    /// How many bytes there are.
+    pub len: u64,
+}
+
+// What is told of a finished table.
+#[tactic(auto, unfolding(crate::specs::Files::file_told))]
+fn told_of(file: &FinishedTable) -> FileTold
+    ensures { result ≡ file_told file.now }
+{
+    FileTold {
+        id: file.id,
+        checksum: u64::try_from(file.checksum.0).unwrap_or(0),
+        len: file.bytes.len() as u64,
+    }
+}
+
+fn tell_file(held: &Held, index: u64, told: &mut FileTold) -> u32
+    ensures some { (f : Finished Heap) → file_at held.now.what index ≡ Some f → result ≡ 0 }
+    ensures told { (f : Finished Heap) → file_at held.now.what index ≡ Some f →
+        told.new ≡ file_told f }
+    ensures none { file_at held.now.what index ≡ None → are_files held.now.what ≡ true →
+        result ≡ 105 }
+    ensures other { are_files held.now.what ≡ false → result ≡ 102 }
+    ensures left { result ≢ 0 → told.new ≡ told.old }
+{
+    match &held.what {
+        What::Files(files) => match files.tables.get(index as usize) {
+            Some(file) => {
+                *told = told_of(file);
+                0
+            }
+            None => NO_SUCH,
+        },
+        _ => OTHER_KIND,
+    }
+}
+
+/// Tells what a finished table is called and how long it is: the one at a place, from 0 on. Refused
+/// 100 where the handle is closed, 102 where it holds no finished tables, and 105 where there is
+/// none at that place; what `told` says stays then.
+#[unsafe(no_mangle)]
+pub extern "C" fn sst_files_tell(
+    alloc: Global,
+    files: &mut Handle,
+    index: u64,
+    told: &mut FileTold,
+) -> u32
+    ensures kept { files.new.boxed.value ≡ files.old.boxed.value }
+    ensures shut { files.old.boxed.value ≡ None → result ≡ 100 }
+    ensures other { (h : HeldValue) → files.old.boxed.value ≡ Some h → are_files h.what ≡ false →
+        result ≡ 102 }
+    ensures none { (h : HeldValue) → files.old.boxed.value ≡ Some h → are_files h.what ≡ true →
+        file_at h.what index ≡ None → result ≡ 105 }
+    ensures some { (h : HeldValue) (f : Finished Heap) → files.old.boxed.value ≡ Some h →
+        file_at h.what index ≡ Some f → result ≡ 0 }
+    ensures told { (h : HeldValue) (f : Finished Heap) → files.old.boxed.value ≡ Some h →
+        file_at h.what index ≡ Some f → told.new ≡ file_told f }
+    ensures left { result ≢ 0 → told.new ≡ told.old }
+{
+    let Some(held) = files.take(alloc) else {
+        return CLOSED;
+    };
+    let code = tell_file(&held, index, told);
+    files.put(held);
+    code
+}
+
+// Copies the bytes from an offset on, as many as there is room for.
+fn copy_part(bytes: &[u8], offset: u64, room: &mut [u8], count: &mut u64) -> u32
+    ensures past { length bytes.now < offset → result ≡ 105 }
+    ensures copied { offset ≤ length bytes.now →
+        let part = take (length room.old) (drop offset bytes.now) in
+        (result ≡ 0) × (count.new ≡ length part) × (room.new ≡ laid part room.old) }
+    ensures left { result ≢ 0 → (room.new ≡ room.old) × (count.new ≡ count.old) }
+{
+    if offset > bytes.len() as u64 {
+        return NO_SUCH;
+    }
+    let rest = &bytes[offset as usize..];
+    let part = &rest[..rest.len().min(room.len())];
+    copy_out(part, room);
+    *count = part.len() as u64;
+    0
+}
+
+fn copy_file(held: &Held, index: u64, offset: u64, room: &mut [u8], count: &mut u64) -> u32
+    ensures other { are_files held.now.what ≡ false → result ≡ 102 }
+    ensures none { file_at held.now.what index ≡ None → are_files held.now.what ≡ true →
+        result ≡ 105 }
+    ensures past { (f : Finished Heap) → file_at held.now.what index ≡ Some f →
+        length f.bytes < offset → result ≡ 105 }
+    ensures copied { (f : Finished Heap) → file_at held.now.what index ≡ Some f →
+        offset ≤ length f.bytes → let part = take (length room.old) (drop offset f.bytes) in
+        (result ≡ 0) × (count.new ≡ length part) × (room.new ≡ laid part room.old) }
+    ensures left { result ≢ 0 → (room.new ≡ room.old) × (count.new ≡ count.old) }
+{
+    match &held.what {
+        What::Files(files) => match files.tables.get(index as usize) {
+            Some(file) => copy_part(file.bytes.as_slice(), offset, room, count),
+            None => NO_SUCH,
+        },
+        _ => OTHER_KIND,
+    }
+}
+
+/// Copies a finished table's bytes from an offset on, as many as there is room for, and tells how
+/// many: 0 at the end. Refused 100 where the handle is closed, 102 where it holds no finished
+/// tables, and 105 where there is none at that place or the offset is past its end; nothing is
+/// copied then.
+#[unsafe(no_mangle)]
+pub extern "C" fn sst_files_copy(
+    alloc: Global,
+    files: &mut Handle,
+    index: u64,
+    offset: u64,
+    room: &mut [u8],
+    count: &mut u64,
+) -> u32
+    ensures kept { files.new.boxed.value ≡ files.old.boxed.value }
+    ensures shut { files.old.boxed.value ≡ None → result ≡ 100 }
+    ensures other { (h : HeldValue) → files.old.boxed.value ≡ Some h → are_files h.what ≡ false →
+        result ≡ 102 }
+    ensures none { (h : HeldValue) → files.old.boxed.value ≡ Some h → are_files h.what ≡ true →
+        file_at h.what index ≡ None → result ≡ 105 }
+    ensures past { (h : HeldValue) (f : Finished Heap) → files.old.boxed.value ≡ Some h →
+        file_at h.what index ≡ Some f → length f.bytes < offset → result ≡ 105 }
+    ensures copied { (h : HeldValue) (f : Finished Heap) → files.old.boxed.value ≡ Some h →
+        file_at h.what index ≡ Some f → offset ≤ length f.bytes →
+        let part = take (length room.old) (drop offset f.bytes) in
+        (result ≡ 0) × (count.new ≡ length part) × (room.new ≡ laid part room.old) }
+    ensures left { result ≢ 0 → (room.new ≡ room.old) × (count.new ≡ count.old) }
+{
+    let Some(held) = files.take(alloc) else {
+        return CLOSED;
+    };
+    let code = copy_file(&held, index, offset, room, count);
+    files.put(held);
+    code
+}
+
+fn count_files(held: &Held, count: &mut u64) -> u32
+    ensures other { are_files held.now.what ≡ false → result ≡ 102 }
+    ensures some { are_files held.now.what ≡ true → result ≡ 0 }
+    ensures count { are_files held.now.what ≡ true →
+        count.new ≡ length (tables_in held.now.what) }
+    ensures left { result ≢ 0 → count.new ≡ count.old }
+{
+    match &held.what {
+        What::Files(files) => {
+            *count = files.tables.len() as u64;
+            0
+        }
+        _ => OTHER_KIND,
+    }
+}
+
+/// Tells how many finished tables there are. Refused 100 where the handle is closed and 102 where
+/// it holds no finished tables; what `count` says stays then.
+#[unsafe(no_mangle)]
+pub extern "C" fn sst_files_count(alloc: Global, files: &mut Handle, count: &mut u64) -> u32
+    ensures kept { files.new.boxed.value ≡ files.old.boxed.value }
+    ensures shut { files.old.boxed.value ≡ None → result ≡ 100 }
+    ensures other { (h : HeldValue) → files.old.boxed.value ≡ Some h → are_files h.what ≡ false →
+        result ≡ 102 }
+    ensures some { (h : HeldValue) → files.old.boxed.value ≡ Some h → are_files h.what ≡ true →
+        result ≡ 0 }
+    ensures count { (h : HeldValue) → files.old.boxed.value ≡ Some h → are_files h.what ≡ true →
+        count.new ≡ length (tables_in h.what) }
+    ensures left { result ≢ 0 → count.new ≡ count.old }
+{
+    let Some(held) = files.take(alloc) else {
+        return CLOSED;
+    };
+    let code = count_files(&held, count);
+    files.put(held);
+    code
+}

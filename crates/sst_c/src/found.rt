@@ -1,0 +1,134 @@
+//! What the last read found, copied or lent.
+ghost use Rattle.std.specs.Prelude.{◌≡◌, ◌≢◌, ◌≤◌, length, IsSome, None, Some};
+ghost use Rattle.sst_entries.specs.Entry.{Entry};
+ghost use Rattle.sst_c.specs.Copies.{copy_code, laid, lend_code};
+ghost use Rattle.sst_c.specs.Told.{found_in};
+
+use crate::address::address_of;
+use crate::codes::{CLOSED, NO_ROOM, NOTHING};
+use crate::handle::Handle;
+use crate::held::Held;
+use sst_blocks::InternalValue;
+use std::alloc::Global;
+
+/// Copies bytes to the front of a room that has room for them.
+pub(crate) fn copy_out(bytes: &[u8], room: &mut [u8])
+    requires { length bytes.now ≤ length room.old }
+    ensures { room.new ≡ laid bytes.now room.old }
+{
+    room[..bytes.len()].copy_from_slice(bytes);
+}
+
+// Copies the key and the value of an entry, or nothing where one of them has no room.
+fn copy_item(item: &InternalValue, key: &mut [u8], value: &mut [u8]) -> u32
+    ensures code { result ≡ copy_code (Some item.now) key.old value.old }
+    ensures key { result ≡ 0 → key.new ≡ laid item.now.user_key key.old }
+    ensures value { result ≡ 0 → value.new ≡ laid item.now.value value.old }
+    ensures left { result ≢ 0 → (key.new ≡ key.old) × (value.new ≡ value.old) }
+{
+    let (from_key, from_value) = (item.key.user_key.as_slice(), item.value.as_slice());
+    if key.len() < from_key.len() || value.len() < from_value.len() {
+        return NO_ROOM;
+    }
+    copy_out(from_key, key);
+    copy_out(from_value, value);
+    0
+}
+
+fn copy_found(held: &Held, key: &mut [u8], value: &mut [u8]) -> u32
+    ensures code { result ≡ copy_code held.now.found key.old value.old }
+    ensures copied { (e : Entry) → held.now.found ≡ Some e → result ≡ 0 →
+        (key.new ≡ laid e.user_key key.old) × (value.new ≡ laid e.value value.old) }
+    ensures left { result ≢ 0 → (key.new ≡ key.old) × (value.new ≡ value.old) }
+{
+    match &held.found {
+        Some(item) => copy_item(item, key, value),
+        None => NOTHING,
+    }
+}
+
+/// Copies the key and the value of what the last read by a handle found to the fronts of two rooms.
+/// Refused 100 where the handle is closed, 106 where nothing was found, and 103 where a room is too
+/// small: nothing is copied then, and nothing is lost.
+#[unsafe(no_mangle)]
+pub extern "C" fn sst_found_copy(
+    alloc: Global,
+    handle: &mut Handle,
+    key: &mut [u8],
+    value: &mut [u8],
+) -> u32
+    ensures kept { handle.new.boxed.value ≡ handle.old.boxed.value }
+    ensures shut { handle.old.boxed.value ≡ None → result ≡ 100 }
+    ensures code { IsSome handle.old.boxed.value →
+        result ≡ copy_code (found_in handle.old.boxed.value) key.old value.old }
+    ensures copied { (e : Entry) → found_in handle.old.boxed.value ≡ Some e → result ≡ 0 →
+        (key.new ≡ laid e.user_key key.old) × (value.new ≡ laid e.value value.old) }
+    ensures left { result ≢ 0 → (key.new ≡ key.old) × (value.new ≡ value.old) }
+{
+    let Some(held) = handle.take(alloc) else {
+        return CLOSED;
+    };
+    let code = copy_found(&held, key, value);
+    handle.put(held);
+    code
+}
+
+/// Where the key and the value lie of what was found.
+#[repr(C)]
+pub struct Lent {
+    /// The key.
+    pub key: *const u8,
+    /// How many bytes the key has.
+    pub key_len: u64,
+    /// The value.
+    pub value: *const u8,
+    /// How many bytes the value has.
+    pub value_len: u64,
+}
+
+fn lend_item(item: &InternalValue, lent: &mut Lent)
+    ensures key { lent.new.key_len ≡ length item.now.user_key }
+    ensures value { lent.new.value_len ≡ length item.now.value }
+{
+    let (key, value) = (item.key.user_key.as_slice(), item.value.as_slice());
+    lent.key = address_of(key);
+    lent.key_len = key.len() as u64;
+    lent.value = address_of(value);
+    lent.value_len = value.len() as u64;
+}
+
+fn lend_found(held: &Held, lent: &mut Lent) -> u32
+    ensures code { result ≡ lend_code held.now.found }
+    ensures lent { (e : Entry) → held.now.found ≡ Some e →
+        (lent.new.key_len ≡ length e.user_key) × (lent.new.value_len ≡ length e.value) }
+    ensures left { result ≢ 0 → lent.new ≡ lent.old }
+{
+    match &held.found {
+        Some(item) => {
+            lend_item(item, lent);
+            0
+        }
+        None => NOTHING,
+    }
+}
+
+/// Lends the key and the value of what the last read by a handle found: they lie there until the
+/// next call on the handle. Refused 100 where the handle is closed and 106 where nothing was found;
+/// what `lent` says stays then.
+#[unsafe(no_mangle)]
+pub extern "C" fn sst_found_lend(alloc: Global, handle: &mut Handle, lent: &mut Lent) -> u32
+    ensures kept { handle.new.boxed.value ≡ handle.old.boxed.value }
+    ensures shut { handle.old.boxed.value ≡ None → result ≡ 100 }
+    ensures code { IsSome handle.old.boxed.value →
+        result ≡ lend_code (found_in handle.old.boxed.value) }
+    ensures lent { (e : Entry) → found_in handle.old.boxed.value ≡ Some e →
+        (lent.new.key_len ≡ length e.user_key) × (lent.new.value_len ≡ length e.value) }
+    ensures left { result ≢ 0 → lent.new ≡ lent.old }
+{
+    let Some(held) = handle.take(alloc) else {
+        return CLOSED;
+    };
+    let code = lend_found(&held, lent);
+    handle.put(held);
+    code
+}

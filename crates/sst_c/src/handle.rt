@@ -1,0 +1,67 @@
+//! Handles: what C holds.
+ghost use Rattle.std.specs.Prelude.{◌≡◌, is_some, nat_lt, MatchOption, Option, Some, None};
+
+use crate::boxed::{Boxed, discard, hold, no_box, release};
+use crate::held::Held;
+use loose_boxes::Loose;
+use std::alloc::Global;
+use std::mem;
+
+/// What C holds: two words that begin as zeros, and a box behind them once a call has filled it. C
+/// may move it, and never uses a copy of it beside it.
+#[repr(C)]
+pub struct Handle {
+    is_open: u64,
+    boxed: Boxed,
+    ghost ok: { is_some boxed.value ≡ nat_lt 0 is_open },
+}
+
+impl Handle {
+    /// A handle that holds nothing, as one of zeros.
+    pub(crate) fn closed(alloc: Global) -> Handle
+        ensures { result.boxed.value ≡ None }
+    {
+        Handle {
+            is_open: 0,
+            boxed: no_box(alloc),
+        }
+    }
+
+    /// Puts a box into a handle that holds nothing.
+    pub(crate) fn put(&mut self, held: Box<Held>)
+        requires { self.old.boxed.value ≡ None }
+        ensures { self.new.boxed.value ≡ Some held.value }
+    {
+        discard(mem::replace(&mut self.boxed, hold(Loose::of(held))));
+        self.is_open = 1;
+    }
+
+    /// Takes out what is held, and leaves nothing.
+    pub(crate) fn take(&mut self, alloc: Global) -> Option<Box<Held>>
+        ensures taken { MatchOption result (self.old.boxed.value ≡ None)
+            (λ held. self.old.boxed.value ≡ Some held.value) }
+        ensures empty { self.new.boxed.value ≡ None }
+    {
+        if self.is_open == 0 {
+            return None;
+        }
+        self.is_open = 0;
+        Some(release(mem::replace(&mut self.boxed, no_box(alloc))).into_box())
+    }
+
+    /// Whether something is held.
+    pub(crate) fn is_open(&self) -> bool
+        ensures { result ≡ is_some self.now.boxed.value }
+    {
+        self.is_open > 0
+    }
+}
+
+/// Closes a handle: lets go what it holds. A handle that holds nothing stays as it is, so it may be
+/// closed twice. What was opened from what it holds has shares of its own, so any order will do.
+#[unsafe(no_mangle)]
+pub extern "C" fn sst_close(alloc: Global, handle: &mut Handle)
+    ensures { handle.new.boxed.value ≡ None }
+{
+    drop(handle.take(alloc));
+}

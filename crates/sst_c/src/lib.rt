@@ -1,0 +1,37 @@
+//! Sorted tables for callers in C, and in what calls C: the calls of `include/sst.h`.
+//!
+//! What a caller holds is a [`Handle`], two words of its own memory that begin as zeros. Each call
+//! takes out what is in it, works on that by the calls of the library, and puts it back; its
+//! contract says what those say. A call answers 0 or the number of what refused it: 1 to 24 are the
+//! library's refusals, those from 100 on the calls' own.
+#![tactic(auto)]
+
+mod address;
+mod boxed;
+mod codes;
+mod entries;
+mod facts;
+mod files;
+mod found;
+mod handle;
+mod held;
+mod options;
+mod ranges;
+mod runs;
+mod tables;
+mod verify;
+mod writers;
+
+pub use codes::sst_version;
+pub use entries::EntryTold;
+pub use facts::{TableFacts, sst_table_facts};
+pub use files::{FileTold, sst_files_copy, sst_files_count, sst_files_tell};
+pub use found::{Lent, sst_found_copy, sst_found_lend};
+pub use handle::{Handle, sst_close};
+pub use held::{Files, Held, What};
+pub use options::{TableOptions, sst_options_default};
+pub use ranges::{sst_range_next, sst_range_open};
+pub use runs::{sst_runs_add, sst_runs_get, sst_runs_open};
+pub use tables::{sst_table_get, sst_table_open};
+pub use verify::{VerifyTold, sst_table_verify};
+pub use writers::{sst_writer_add, sst_writer_finish, sst_writer_open};

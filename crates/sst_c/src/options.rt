@@ -1,0 +1,111 @@
+//! What a table is written with.
+ghost use Rattle.std.specs.Prelude.{◌≡◌, ◌<◌, ◌≤◌, None, Some};
+ghost use Rattle.lsm_writers.specs.Words.{IsSmallFilter, IsSmallIndex};
+ghost use Rattle.sst_c.specs.Options.{are_usable, default_told, filter_told, index_told};
+ghost use Rattle.sst_c.specs.Options.{options_told};
+
+use lsm_writers::{BloomConstructionPolicy, FilterKind, IndexKind, Options};
+
+/// What a table is written with.
+#[repr(C)]
+#[derive(Clone, Copy)]
+pub struct TableOptions {
+    /// The table's id.
+    pub id: u64,
+    /// When it is written, in nanoseconds since 1970.
+    pub created_at: u64,
+    /// The level at which it stands, at most 255.
+    pub level: u32,
+    /// How many bytes of keys and values a data block has when it is cut, at most 4 MiB.
+    pub data_block_size: u32,
+    /// After how many entries at most a data block has a place where reading can restart: 1 to 255.
+    pub data_block_restart_interval: u32,
+    /// How many buckets a data block's hash index has for each entry, in thousandths; 0 for none.
+    pub data_block_hash_ratio: u32,
+    /// How many bytes a partition of the index has when it is cut, at most 4 MiB; 0 for one block.
+    pub index_partition_size: u32,
+    /// How many bytes a partition of the filter has when it is cut, at most 4 MiB; 0 for one block.
+    pub filter_partition_size: u32,
+    /// How many bits the filter has for a key, in tenths of a bit; 0 for no filter.
+    pub filter_bits_per_key: u32,
+    /// Nothing.
+    pub unused: u32,
+}
+
+// The largest block or partition.
+const LARGEST: u32 = 4_194_304;
+
+/// Tells what a table is written with where nothing else is asked for.
+#[unsafe(no_mangle)]
+pub extern "C" fn sst_options_default(options: &mut TableOptions)
+    ensures { options.new ≡ default_told }
+{
+    *options = TableOptions {
+        id: 0,
+        created_at: 0,
+        level: 0,
+        data_block_size: 4_096,
+        data_block_restart_interval: 16,
+        data_block_hash_ratio: 0,
+        index_partition_size: 0,
+        filter_partition_size: 0,
+        filter_bits_per_key: 100,
+        unused: 0,
+    };
+}
+
+/// Whether each of the options is in its range.
+pub(crate) fn are_usable(options: &TableOptions) -> bool
+    ensures { result ≡ are_usable options.now }
+{
+    options.level < 256
+        && options.data_block_size <= LARGEST
+        && options.data_block_restart_interval > 0
+        && options.data_block_restart_interval < 256
+        && options.index_partition_size <= LARGEST
+        && options.filter_partition_size <= LARGEST
+}
+
+fn index_kind(size: u32) -> IndexKind
+    requires { size ≤ 4194304 }
+    ensures is { result ≡ index_told size }
+    ensures small { IsSmallIndex result }
+{
+    if size == 0 {
+        IndexKind::Full
+    } else {
+        IndexKind::Partitioned(size)
+    }
+}
+
+fn filter_kind(size: u32) -> FilterKind
+    requires { size ≤ 4194304 }
+    ensures is { result ≡ filter_told size }
+    ensures small { IsSmallFilter result }
+{
+    if size == 0 {
+        FilterKind::Full
+    } else {
+        FilterKind::Partitioned(size)
+    }
+}
+
+/// The options of a writer.
+pub(crate) fn writer_options(options: &TableOptions) -> Options
+    requires index { options.now.index_partition_size ≤ 4194304 }
+    requires filter { options.now.filter_partition_size ≤ 4194304 }
+    requires interval { options.now.data_block_restart_interval < 256 }
+    ensures is { result ≡ options_told options.now }
+    ensures small_index { IsSmallIndex result.index_kind }
+    ensures small_filter { IsSmallFilter result.filter_kind }
+{
+    Options {
+        data_block_restart_interval: options.data_block_restart_interval as u8,
+        index_block_restart_interval: 1,
+        data_block_hash_ratio: options.data_block_hash_ratio,
+        data_block_size: options.data_block_size,
+        index_kind: index_kind(options.index_partition_size),
+        filter_kind: filter_kind(options.filter_partition_size),
+        bloom_policy: BloomConstructionPolicy::BitsPerKey(options.filter_bits_per_key),
+    }
+}

@@ -1,0 +1,284 @@
+//! Ranges of a table, read from both ends.
+ghost use Rattle.std.specs.Prelude.{◌≡◌, ◌≢◌, ◌<◌, ◌⊎◌, ◌||◌, false, IfErr, IfOk, IsSomeAnd, List};
+ghost use Rattle.std.specs.Prelude.{None, Option, Result, Some, is_some, nat_lt, true};
+ghost use Rattle.std.specs.Global.{Global as Heap};
+ghost use Rattle.sst_entries.specs.declared.error.Error.TheVariants.{OutOfMemory};
+ghost use Rattle.lsm_iters.specs.Range.{Range as RangeValue};
+ghost use Rattle.lsm_readers.specs.Words.{Entry, IsRangeOf, OpenTable, StoresList};
+ghost use Rattle.sst_c.specs.Codes.{code_of};
+ghost use Rattle.sst_c.specs.Steps.{StepsBy};
+ghost use Rattle.sst_c.specs.Told.{found_in, outcome_of, told_of};
+ghost use Rattle.sst_c.specs.What.{DealsList, IsRangeWhere, bound_of, is_range, is_table};
+ghost use Rattle.sst_c.specs.declared.held.Held.{Held as HeldValue};
+ghost use Rattle.sst_c.specs.declared.held.What.TheVariants.{Range as RangeOf};
+ghost use Rattle.sst_c.specs.declared.held.What.TheVariants.{Table as TableOf};
+
+use crate::codes::{CLOSED, NO_SUCH, OPEN, OTHER_KIND};
+use crate::entries::{EntryTold, tell};
+use crate::handle::Handle;
+use crate::held::{Held, What};
+use crate::tables::keep;
+use lsm_iters::Iter;
+use lsm_readers::Table;
+use sst_blocks::{Error, InternalValue, IterItem, Slice};
+use std::alloc::Global;
+use std::ops::Bound;
+
+// A bound of a kind: 0 for none, 1 with the key, 2 without it.
+fn bound(alloc: Global, kind: u32, key: &[u8]) -> Result<Bound<Slice>, Error>
+    requires { kind < 3 }
+    ensures ok { IfOk result (λ b. b ≡ bound_of kind key.now) }
+    ensures err { IfErr result (λ e. e ≡ OutOfMemory) }
+{
+    match kind {
+        0 => Ok(Bound::Unbounded),
+        1 => Ok(Bound::Included(Slice::from(alloc, key)?)),
+        _ => Ok(Bound::Excluded(Slice::from(alloc, key)?)),
+    }
+}
+
+// A range of a table.
+#[tactic(auto, unfolding(crate::specs::What::DealsList))]
+fn table_range(table: &Table, lower: Bound<Slice>, upper: Bound<Slice>) -> Result<Iter, Error>
+    ensures range { IfOk result (IsRangeOf table.now lower upper) }
+    ensures list { (es : List Entry) → StoresList table.now.bytes es →
+        let g = table.now.global_seqno in IfOk result (DealsList lower upper es g) }
+    ensures err { IfErr result (λ e. e ≡ OutOfMemory) }
+{
+    table.range(lower, upper)
+}
+
+// The box of a range of a table.
+fn range_of(
+    alloc: Global,
+    table: &Table,
+    lower: Bound<Slice>,
+    upper: Bound<Slice>,
+) -> Result<Box<Held>, Error>
+    ensures new { IfOk result (λ held. held.value.found ≡ None) }
+    ensures range { IfOk result (λ held.
+        IsRangeWhere (IsRangeOf table.now lower upper) held.value.what) }
+    ensures list { (es : List Entry) → StoresList table.now.bytes es →
+        let g = table.now.global_seqno in IfOk result (λ held.
+        IsRangeWhere (DealsList lower upper es g) held.value.what) }
+    ensures err { IfErr result (λ e. e ≡ OutOfMemory) }
+{
+    let held = Held {
+        found: None,
+        what: What::Range(table_range(table, lower, upper)?),
+    };
+    Ok(Box::new(alloc, held)?)
+}
+
+// The box of a range of a table within bounds of these kinds.
+fn range_within(
+    alloc: Global,
+    table: &Table,
+    lower_kind: u32,
+    lower: &[u8],
+    upper_kind: u32,
+    upper: &[u8],
+) -> Result<Box<Held>, Error>
+    requires lower { lower_kind < 3 }
+    requires upper { upper_kind < 3 }
+    ensures new { IfOk result (λ held. held.value.found ≡ None) }
+    ensures range { let low = bound_of lower_kind lower.now in
+        let high = bound_of upper_kind upper.now in IfOk result (λ held.
+        IsRangeWhere (IsRangeOf table.now low high) held.value.what) }
+    ensures list { let low = bound_of lower_kind lower.now in
+        let high = bound_of upper_kind upper.now in
+        (es : List Entry) → StoresList table.now.bytes es → let g = table.now.global_seqno in
+        IfOk result (λ held. IsRangeWhere (DealsList low high es g) held.value.what) }
+    ensures err { IfErr result (λ e. e ≡ OutOfMemory) }
+{
+    let lower = bound(alloc, lower_kind, lower)?;
+    let upper = bound(alloc, upper_kind, upper)?;
+    range_of(alloc, table, lower, upper)
+}
+
+// Puts a range of a table into a handle that holds nothing.
+fn begin_within(
+    alloc: Global,
+    table: &Table,
+    lower_kind: u32,
+    lower: &[u8],
+    upper_kind: u32,
+    upper: &[u8],
+    range: &mut Handle,
+) -> u32
+    requires empty { range.old.boxed.value ≡ None }
+    requires lower { lower_kind < 3 }
+    requires upper { upper_kind < 3 }
+    ensures memory { (result ≡ 0) ⊎ (result ≡ 1) }
+    ensures new { result ≡ 0 → IsSomeAnd range.new.boxed.value (λ r. r.found ≡ None) }
+    ensures range { result ≡ 0 →
+        let low = bound_of lower_kind lower.now in let high = bound_of upper_kind upper.now in
+        IsSomeAnd range.new.boxed.value (λ r. IsRangeWhere (IsRangeOf table.now low high) r.what) }
+    ensures list { (es : List Entry) → StoresList table.now.bytes es → result ≡ 0 →
+        let low = bound_of lower_kind lower.now in let high = bound_of upper_kind upper.now in
+        let g = table.now.global_seqno in
+        IsSomeAnd range.new.boxed.value (λ r. IsRangeWhere (DealsList low high es g) r.what) }
+    ensures left { result ≢ 0 → range.new.boxed.value ≡ None }
+{
+    match range_within(alloc, table, lower_kind, lower, upper_kind, upper) {
+        Ok(held) => {
+            range.put(held);
+            0
+        }
+        Err(error) => u32::from(error.number()),
+    }
+}
+
+fn begin(
+    alloc: Global,
+    held: &Held,
+    lower_kind: u32,
+    lower: &[u8],
+    upper_kind: u32,
+    upper: &[u8],
+    range: &mut Handle,
+) -> u32
+    requires { range.old.boxed.value ≡ None }
+    ensures other { is_table held.now.what ≡ false → result ≡ 102 }
+    ensures kinds { (t : OpenTable) → held.now.what ≡ TableOf t →
+        nat_lt 2 lower_kind || nat_lt 2 upper_kind ≡ true → result ≡ 105 }
+    ensures memory { (t : OpenTable) → held.now.what ≡ TableOf t →
+        nat_lt 2 lower_kind || nat_lt 2 upper_kind ≡ false → (result ≡ 0) ⊎ (result ≡ 1) }
+    ensures new { result ≡ 0 → IsSomeAnd range.new.boxed.value (λ r. r.found ≡ None) }
+    ensures range { (t : OpenTable) → held.now.what ≡ TableOf t → result ≡ 0 →
+        let low = bound_of lower_kind lower.now in let high = bound_of upper_kind upper.now in
+        IsSomeAnd range.new.boxed.value (λ r. IsRangeWhere (IsRangeOf t low high) r.what) }
+    ensures list { (t : OpenTable) (es : List Entry) → held.now.what ≡ TableOf t → result ≡ 0 →
+        StoresList t.bytes es →
+        let low = bound_of lower_kind lower.now in let high = bound_of upper_kind upper.now in
+        IsSomeAnd range.new.boxed.value (λ r.
+        IsRangeWhere (DealsList low high es t.global_seqno) r.what) }
+    ensures left { result ≢ 0 → range.new.boxed.value ≡ None }
+{
+    let What::Table(table) = &held.what else {
+        return OTHER_KIND;
+    };
+    if lower_kind > 2 || upper_kind > 2 {
+        return NO_SUCH;
+    }
+    begin_within(alloc, table, lower_kind, lower, upper_kind, upper, range)
+}
+
+/// Begins to read a range of a table, into a handle that holds nothing. A bound is of kind 0 where
+/// there is none, 1 with its key and 2 without it. Nothing is loaded yet. The range owns a share of
+/// the table, which may be closed before it. Refused 101 where the range's handle holds something,
+/// 100 where the table's is closed, 102 where it holds no table, 105 where a bound has another
+/// kind, and for want of memory; the handles stay as they are then.
+#[unsafe(no_mangle)]
+pub extern "C" fn sst_range_open(
+    alloc: Global,
+    table: &mut Handle,
+    lower_kind: u32,
+    lower: &[u8],
+    upper_kind: u32,
+    upper: &[u8],
+    range: &mut Handle,
+) -> u32
+    ensures kept { table.new.boxed.value ≡ table.old.boxed.value }
+    ensures left { result ≢ 0 → range.new.boxed.value ≡ range.old.boxed.value }
+    ensures open { is_some range.old.boxed.value ≡ true → result ≡ 101 }
+    ensures shut { range.old.boxed.value ≡ None → table.old.boxed.value ≡ None → result ≡ 100 }
+    ensures other { (h : HeldValue) → range.old.boxed.value ≡ None →
+        table.old.boxed.value ≡ Some h → is_table h.what ≡ false → result ≡ 102 }
+    ensures kinds { (h : HeldValue) (t : OpenTable) → range.old.boxed.value ≡ None →
+        table.old.boxed.value ≡ Some h → h.what ≡ TableOf t →
+        nat_lt 2 lower_kind || nat_lt 2 upper_kind ≡ true → result ≡ 105 }
+    ensures memory { (h : HeldValue) (t : OpenTable) → range.old.boxed.value ≡ None →
+        table.old.boxed.value ≡ Some h → h.what ≡ TableOf t →
+        nat_lt 2 lower_kind || nat_lt 2 upper_kind ≡ false → (result ≡ 0) ⊎ (result ≡ 1) }
+    ensures new { result ≡ 0 → IsSomeAnd range.new.boxed.value (λ r. r.found ≡ None) }
+    // It reads the table within the bounds, and has made no step;
+    ensures range { (h : HeldValue) (t : OpenTable) → table.old.boxed.value ≡ Some h →
+        h.what ≡ TableOf t → result ≡ 0 →
+        let low = bound_of lower_kind lower.now in let high = bound_of upper_kind upper.now in
+        IsSomeAnd range.new.boxed.value (λ r. IsRangeWhere (IsRangeOf t low high) r.what) }
+    // on bytes that store a list it deals the list's entries within them, their numbers lifted.
+    ensures list { (h : HeldValue) (t : OpenTable) (es : List Entry) →
+        table.old.boxed.value ≡ Some h → h.what ≡ TableOf t → result ≡ 0 → StoresList t.bytes es →
+        let low = bound_of lower_kind lower.now in let high = bound_of upper_kind upper.now in
+        IsSomeAnd range.new.boxed.value (λ r.
+        IsRangeWhere (DealsList low high es t.global_seqno) r.what) }
+{
+    if range.is_open() {
+        return OPEN;
+    }
+    let Some(held) = table.take(alloc) else {
+        return CLOSED;
+    };
+    let code = begin(alloc, &held, lower_kind, lower, upper_kind, upper, range);
+    table.put(held);
+    code
+}
+
+// What a step answers, as what a read answers.
+pub(crate) fn outcome_of(answer: Option<IterItem<Global>>) -> Result<Option<InternalValue>, Error>
+    ensures { result ≡ outcome_of answer }
+{
+    match answer {
+        None => Ok(None),
+        Some(Ok(item)) => Ok(Some(item)),
+        Some(Err(error)) => Err(error),
+    }
+}
+
+fn step(held: &mut Held, back: bool) -> u32
+    ensures other { is_range held.old.what ≡ false →
+        (result ≡ 102) × (held.new.found ≡ None) × (held.new.what ≡ held.old.what) }
+    ensures front { (s : RangeValue Heap) → held.old.what ≡ RangeOf s → back ≡ false →
+        let gives = ⟦<Iter<Global> as Iterator>⟧.next_gives in
+        IsRangeWhere (StepsBy gives s result held.new.found) held.new.what }
+    ensures back { (s : RangeValue Heap) → held.old.what ≡ RangeOf s → back ≡ true →
+        let gives = ⟦<Iter<Global> as DoubleEndedIterator>⟧.next_back_gives in
+        IsRangeWhere (StepsBy gives s result held.new.found) held.new.what }
+{
+    held.found = None;
+    match &mut held.what {
+        What::Range(iter) => {
+            let answer = if back { iter.next_back() } else { iter.next() };
+            keep(&mut held.found, outcome_of(answer))
+        }
+        _ => OTHER_KIND,
+    }
+}
+
+/// Takes the next entry of a range, from the back where `back` says so, else from the front, keeps
+/// it, and tells its kind, number and lengths; zeros at the end. Refused 100 where the handle is
+/// closed, 102 where it holds no range, and as a step of a table's range, after which nothing comes
+/// from either end; nothing is kept then, and zeros are told.
+#[unsafe(no_mangle)]
+pub extern "C" fn sst_range_next(
+    alloc: Global,
+    range: &mut Handle,
+    back: bool,
+    entry: &mut EntryTold,
+) -> u32
+    ensures shut { range.old.boxed.value ≡ None →
+        (result ≡ 100) × (range.new.boxed.value ≡ None) }
+    ensures other { (h : HeldValue) → range.old.boxed.value ≡ Some h → is_range h.what ≡ false →
+        (result ≡ 102) × IsSomeAnd range.new.boxed.value (λ k. k.what ≡ h.what) }
+    ensures entry { entry.new ≡ told_of (found_in range.new.boxed.value) }
+    // It is one step of the range, from that end.
+    ensures front { (h : HeldValue) (s : RangeValue Heap) → range.old.boxed.value ≡ Some h →
+        h.what ≡ RangeOf s → back ≡ false → let gives = ⟦<Iter<Global> as Iterator>⟧.next_gives in
+        IsSomeAnd range.new.boxed.value (λ k.
+        IsRangeWhere (StepsBy gives s result k.found) k.what) }
+    ensures back { (h : HeldValue) (s : RangeValue Heap) → range.old.boxed.value ≡ Some h →
+        h.what ≡ RangeOf s → back ≡ true →
+        let gives = ⟦<Iter<Global> as DoubleEndedIterator>⟧.next_back_gives in
+        IsSomeAnd range.new.boxed.value (λ k.
+        IsRangeWhere (StepsBy gives s result k.found) k.what) }
+{
+    *entry = tell(&None);
+    let Some(mut held) = range.take(alloc) else {
+        return CLOSED;
+    };
+    let code = step(&mut held, back);
+    *entry = tell(&held.found);
+    range.put(held);
+    code
+}

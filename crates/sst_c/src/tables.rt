@@ -1,0 +1,164 @@
+//! Tables: opening and point reads.
+ghost use Rattle.std.specs.Prelude.{◌≡◌, ◌≢◌, false, IfErr, IfOk, IsSome, IsSomeAnd, List, None};
+ghost use Rattle.std.specs.Prelude.{Ok, Result, Some, is_some, true};
+ghost use Rattle.sst_entries.specs.Error.{Fails, Gives};
+ghost use Rattle.lsm_readers.specs.Words.{Entry, OpenTable, StoresList, fits_told, lift, point};
+ghost use Rattle.lsm_readers.specs.Words.{recovered_told, table_answer};
+ghost use Rattle.sst_c.specs.Codes.{Tells, code_of};
+ghost use Rattle.sst_c.specs.Told.{Answers, found_in, found_of, told_of};
+ghost use Rattle.sst_c.specs.What.{IsOpenedAs, is_table};
+ghost use Rattle.sst_c.specs.declared.held.Held.{Held as HeldValue};
+ghost use Rattle.sst_c.specs.declared.held.What.TheVariants.{Table as TableOf};
+
+use crate::codes::{CLOSED, OPEN, OTHER_KIND};
+use crate::entries::{EntryTold, tell};
+use crate::handle::Handle;
+use crate::held::{Held, What};
+use lsm_readers::Table;
+use sst_blocks::{Checksum, Error, InternalValue, SeqNo, Slice};
+use std::alloc::Global;
+
+// The box of a table that was opened from a copy of its bytes.
+fn opened(
+    alloc: Global,
+    file: &[u8],
+    global_seqno: SeqNo,
+    pin_filter: bool,
+    pin_index: bool,
+) -> Result<Box<Held>, Error>
+    ensures table { IfOk result (λ held.
+        IsOpenedAs file.now global_seqno pin_filter pin_index held.value) }
+    ensures refused { IfErr result (λ e.
+        Fails e (recovered_told file.now global_seqno pin_filter pin_index)) }
+    ensures list { (es : List Entry) → StoresList file.now es →
+        Gives (λ (_ : _). tt) result (fits_told es global_seqno) }
+{
+    let bytes = Slice::from(alloc, file)?;
+    let checksum = Checksum(0);
+    let table = Table::recover(
+        alloc,
+        bytes,
+        checksum,
+        global_seqno,
+        0,
+        pin_filter,
+        pin_index,
+    )?;
+    let held = Held {
+        found: None,
+        what: What::Table(table),
+    };
+    Ok(Box::new(alloc, held)?)
+}
+
+/// Opens a table from a copy of its bytes, into a handle that holds nothing. Refused 101 where the
+/// handle holds something, and as `Table::recover`; the handle stays as it is then.
+#[unsafe(no_mangle)]
+#[tactic(auto, using(crate::proofs::Answering::tells, crate::proofs::Answering::tells_ok))]
+pub extern "C" fn sst_table_open(
+    alloc: Global,
+    file: &[u8],
+    global_seqno: u64,
+    pin_filter: bool,
+    pin_index: bool,
+    table: &mut Handle,
+) -> u32
+    ensures open { is_some table.old.boxed.value ≡ true → result ≡ 101 }
+    ensures opened { result ≡ 0 → IsSomeAnd table.new.boxed.value
+        (IsOpenedAs file.now global_seqno pin_filter pin_index) }
+    ensures told { table.old.boxed.value ≡ None →
+        Tells result (recovered_told file.now global_seqno pin_filter pin_index) }
+    // Bytes that store a list are opened where the highest number fits.
+    ensures list { table.old.boxed.value ≡ None → (es : List Entry) → StoresList file.now es →
+        Tells result (fits_told es global_seqno) }
+    ensures left { result ≢ 0 → table.new.boxed.value ≡ table.old.boxed.value }
+{
+    if table.is_open() {
+        return OPEN;
+    }
+    match opened(alloc, file, global_seqno, pin_filter, pin_index) {
+        Ok(held) => {
+            table.put(held);
+            0
+        }
+        Err(error) => u32::from(error.number()),
+    }
+}
+
+/// Keeps what a read found, nothing where it was refused, and answers 0 or the refusal's number.
+pub(crate) fn keep(
+    found: &mut Option<InternalValue>,
+    outcome: Result<Option<InternalValue>, Error>,
+) -> u32
+    ensures code { result ≡ code_of outcome }
+    ensures found { found.new ≡ found_of outcome }
+{
+    match outcome {
+        Ok(item) => {
+            *found = item;
+            0
+        }
+        Err(error) => {
+            *found = None;
+            u32::from(error.number())
+        }
+    }
+}
+
+#[tactic(auto, using(crate::proofs::Answering::answers))]
+fn get(held: &mut Held, key: &[u8], seqno: SeqNo) -> u32
+    ensures kept { held.new.what ≡ held.old.what }
+    ensures other { is_table held.old.what ≡ false → (result ≡ 102) × (held.new.found ≡ None) }
+    ensures told { (t : OpenTable) → held.old.what ≡ TableOf t →
+        Answers result held.new.found (table_answer t key.now seqno).told }
+    ensures list { (t : OpenTable) (es : List Entry) → held.old.what ≡ TableOf t →
+        StoresList t.bytes es →
+        Answers result held.new.found (Ok (point (lift es t.global_seqno) key.now seqno)) }
+{
+    held.found = None;
+    match &held.what {
+        What::Table(table) => {
+            let hash = Table::<Global>::key_hash(key);
+            keep(&mut held.found, table.get(key, seqno, hash))
+        }
+        _ => OTHER_KIND,
+    }
+}
+
+/// Finds the newest version of a key that is numbered below `seqno`, keeps it, and tells its kind,
+/// number and lengths. Refused 100 where the handle is closed, 102 where it holds no table, and as
+/// `Table::get`; then, and where there is none, nothing is kept, and zeros are told.
+#[unsafe(no_mangle)]
+pub extern "C" fn sst_table_get(
+    alloc: Global,
+    table: &mut Handle,
+    key: &[u8],
+    seqno: u64,
+    entry: &mut EntryTold,
+) -> u32
+    ensures shut { table.old.boxed.value ≡ None →
+        (result ≡ 100) × (table.new.boxed.value ≡ None) }
+    ensures kept { (h : HeldValue) → table.old.boxed.value ≡ Some h →
+        IsSomeAnd table.new.boxed.value (λ k. k.what ≡ h.what) }
+    ensures other { (h : HeldValue) → table.old.boxed.value ≡ Some h → is_table h.what ≡ false →
+        (result ≡ 102) × (found_in table.new.boxed.value ≡ None) }
+    ensures entry { entry.new ≡ told_of (found_in table.new.boxed.value) }
+    // Whatever the bytes, it is what the table tells,
+    ensures told { (h : HeldValue) (t : OpenTable) → table.old.boxed.value ≡ Some h →
+        h.what ≡ TableOf t → let found = found_in table.new.boxed.value in
+        Answers result found (table_answer t key.now seqno).told }
+    // and on bytes that store a list the first match in the list, its numbers lifted.
+    ensures list { (h : HeldValue) (t : OpenTable) (es : List Entry) →
+        table.old.boxed.value ≡ Some h → h.what ≡ TableOf t → StoresList t.bytes es →
+        let found = found_in table.new.boxed.value in
+        Answers result found (Ok (point (lift es t.global_seqno) key.now seqno)) }
+{
+    *entry = tell(&None);
+    let Some(mut held) = table.take(alloc) else {
+        return CLOSED;
+    };
+    let code = get(&mut held, key, seqno);
+    *entry = tell(&held.found);
+    table.put(held);
+    code
+}

@@ -1,0 +1,183 @@
+//! Verifying a table.
+ghost use Rattle.std.specs.Prelude.{◌≡◌, ◌≢◌, List, None, Some, false, length};
+ghost use Rattle.sst_sections.specs.Sections.{body_of};
+ghost use Rattle.lsm_readers.specs.Verify.{table_found};
+ghost use Rattle.lsm_readers.specs.Words.{Entry, OpenTable, StoresList};
+ghost use Rattle.lsm_readers.specs.declared.verify.Finding.{Finding as FindingValue};
+ghost use Rattle.sst_c.specs.Verify.{VerifyAnswers, detail_of, fault_of, finding_told};
+ghost use Rattle.sst_c.specs.Verify.{no_finding, verified_told};
+ghost use Rattle.sst_c.specs.What.{is_table};
+ghost use Rattle.sst_c.specs.declared.held.Held.{Held as HeldValue};
+ghost use Rattle.sst_c.specs.declared.held.What.TheVariants.{Table as TableOf};
+
+use crate::codes::{CLOSED, FAULTY, NO_MEMORY, OTHER_KIND};
+use crate::handle::Handle;
+use crate::held::{Held, What};
+use lsm_readers::{Fault, Finding, Table, Verified, VerifyError};
+use std::alloc::Global;
+
+/// What a verification found: what the table has where it is sound, else what is wrong, and where.
+#[repr(C)]
+#[derive(Clone, Copy)]
+pub struct VerifyTold {
+    /// How many entries there are.
+    pub item_count: u64,
+    /// How many data blocks there are.
+    pub data_block_count: u64,
+    /// Where the block begins at which a fault was found.
+    pub offset: u64,
+    /// The section of the fault: 1 data blocks, 2 partitions of the index, 3 index, 4 filter, 5 top
+    /// level of the filter, 6 version, 7 meta block; 0 where there is none.
+    pub section: u32,
+    /// What is wrong: 1 a block does not load, 2 it is empty, 3 it does not begin where the one
+    /// before it ended, 4 an entry has the largest number, 5 an entry does not follow, 6 the filter
+    /// denies a key, 7 a block of the filter does not load, 8 a handle names another key, 9 another
+    /// number, 10 the entries do not bear out an item of the meta block, 11 no handle names a data
+    /// block, 12 the file has another checksum.
+    pub fault: u32,
+    /// Of faults 1 and 7 the number of the load's refusal.
+    pub detail: u32,
+    /// Nothing.
+    pub unused: u32,
+}
+
+fn nothing() -> VerifyTold
+    ensures { result ≡ no_finding }
+{
+    VerifyTold {
+        item_count: 0,
+        data_block_count: 0,
+        offset: 0,
+        section: 0,
+        fault: 0,
+        detail: 0,
+        unused: 0,
+    }
+}
+
+fn number_of(fault: &Fault) -> u32
+    ensures { result ≡ fault_of fault.now }
+{
+    match fault {
+        Fault::Unloaded(_) => 1,
+        Fault::Hollow => 2,
+        Fault::Misplaced => 3,
+        Fault::TooHigh => 4,
+        Fault::Unordered => 5,
+        Fault::Denied => 6,
+        Fault::Unfiltered(_) => 7,
+        Fault::OtherKey => 8,
+        Fault::OtherNumber => 9,
+        Fault::Unborne(_) => 10,
+        Fault::Unnamed => 11,
+        Fault::OtherChecksum => 12,
+    }
+}
+
+fn detail_of(fault: &Fault) -> u32
+    ensures { result ≡ detail_of fault.now }
+{
+    match fault {
+        Fault::Unloaded(error) => u32::from(error.number()),
+        Fault::Unfiltered(error) => u32::from(error.number()),
+        _ => 0,
+    }
+}
+
+fn tell_finding(finding: &Finding) -> VerifyTold
+    ensures { result ≡ finding_told finding.now }
+{
+    VerifyTold {
+        item_count: 0,
+        data_block_count: 0,
+        offset: finding.offset,
+        section: 1 + finding.section.place() as u32,
+        fault: number_of(&finding.fault),
+        detail: detail_of(&finding.fault),
+        unused: 0,
+    }
+}
+
+fn tell_verified(verified: Verified) -> VerifyTold
+    ensures { result ≡ verified_told verified }
+{
+    VerifyTold {
+        item_count: verified.item_count,
+        data_block_count: verified.data_block_count,
+        offset: 0,
+        section: 0,
+        fault: 0,
+        detail: 0,
+        unused: 0,
+    }
+}
+
+#[tactic(auto, using(crate::proofs::Verifying::found_answers))]
+fn verify(table: &Table, told: &mut VerifyTold) -> u32
+    requires { told.old ≡ no_finding }
+    ensures told { VerifyAnswers result told.new
+        (table_found (body_of table.now.bytes) table.now.parts) }
+    ensures sound { result ≡ 0 → (es : List Entry) × StoresList table.now.bytes es ×
+        (told.new.item_count ≡ length es) }
+    ensures complete { (es : List Entry) → StoresList table.now.bytes es → result ≢ 107 }
+{
+    match table.verify() {
+        Ok(verified) => {
+            *told = tell_verified(verified);
+            0
+        }
+        Err(VerifyError::OutOfMemory) => NO_MEMORY,
+        Err(VerifyError::Found(finding)) => {
+            *told = tell_finding(&finding);
+            FAULTY
+        }
+    }
+}
+
+fn verify_held(held: &Held, told: &mut VerifyTold) -> u32
+    requires { told.old ≡ no_finding }
+    ensures other { is_table held.now.what ≡ false → (result ≡ 102) × (told.new ≡ no_finding) }
+    ensures told { (t : OpenTable) → held.now.what ≡ TableOf t →
+        VerifyAnswers result told.new (table_found (body_of t.bytes) t.parts) }
+    ensures sound { (t : OpenTable) → held.now.what ≡ TableOf t → result ≡ 0 →
+        (es : List Entry) × StoresList t.bytes es × (told.new.item_count ≡ length es) }
+    ensures complete { (t : OpenTable) (es : List Entry) → held.now.what ≡ TableOf t →
+        StoresList t.bytes es → result ≢ 107 }
+{
+    match &held.what {
+        What::Table(table) => verify(table, told),
+        _ => OTHER_KIND,
+    }
+}
+
+/// Reads a whole table once, and says whether its bytes store a list, whoever wrote them. Refused
+/// 107 where something is wrong, and `told` says what comes first, 100 where the handle is closed,
+/// 102 where it holds no table, and for want of memory, which says nothing of the table; zeros are
+/// told then.
+#[unsafe(no_mangle)]
+pub extern "C" fn sst_table_verify(alloc: Global, table: &mut Handle, told: &mut VerifyTold) -> u32
+    ensures kept { table.new.boxed.value ≡ table.old.boxed.value }
+    ensures shut { table.old.boxed.value ≡ None → (result ≡ 100) × (told.new ≡ no_finding) }
+    ensures other { (h : HeldValue) → table.old.boxed.value ≡ Some h → is_table h.what ≡ false →
+        (result ≡ 102) × (told.new ≡ no_finding) }
+    // What is wrong first is found, memory aside.
+    ensures told { (h : HeldValue) (t : OpenTable) → table.old.boxed.value ≡ Some h →
+        h.what ≡ TableOf t →
+        VerifyAnswers result told.new (table_found (body_of t.bytes) t.parts) }
+    // A table that is verified stores a list, which has as many entries;
+    ensures sound { (h : HeldValue) (t : OpenTable) → table.old.boxed.value ≡ Some h →
+        h.what ≡ TableOf t → result ≡ 0 →
+        (es : List Entry) × StoresList t.bytes es × (told.new.item_count ≡ length es) }
+    // in one that stores a list nothing wrong is found.
+    ensures complete { (h : HeldValue) (t : OpenTable) (es : List Entry) →
+        table.old.boxed.value ≡ Some h → h.what ≡ TableOf t → StoresList t.bytes es →
+        result ≢ 107 }
+{
+    *told = nothing();
+    let Some(held) = table.take(alloc) else {
+        return CLOSED;
+    };
+    let code = verify_held(&held, told);
+    table.put(held);
+    code
+}

@@ -1,0 +1,297 @@
+//! Writing a table.
+ghost use Rattle.std.specs.Prelude.{◌≡◌, ◌≢◌, ◌⊎◌, [], false, IfErr, IfOk, IsSomeAnd, IsTrue, None};
+ghost use Rattle.std.specs.Prelude.{Some, is_some, true};
+ghost use Rattle.sst_entries.specs.Entry.{entry};
+ghost use Rattle.sst_entries.specs.declared.error.Error.TheVariants.{OutOfMemory};
+ghost use Rattle.sst_entries.specs.declared.value_type.ValueType.{ValueType as Kind};
+ghost use Rattle.lsm_writers.specs.Writing.{Writing as WritingValue, finish_fault, may_be_written};
+ghost use Rattle.lsm_writers.specs.Writing.{written};
+ghost use Rattle.sst_c.specs.Options.{are_usable, writing_told};
+ghost use Rattle.sst_c.specs.What.{are_files, tables_in, writer_in};
+ghost use Rattle.sst_c.specs.Writing.{AddsFileOf, FaultTold, TookEntry, kind_told};
+ghost use Rattle.sst_c.specs.declared.held.Held.{Held as HeldValue};
+
+use crate::codes::{CLOSED, NO_MEMORY, NO_SUCH, OPEN, OTHER_KIND, OUT_OF_ORDER};
+use crate::handle::Handle;
+use crate::held::{Files, Held, What};
+use crate::options::{TableOptions, are_usable, writer_options};
+use lsm_writers::{FinishedTable, Timestamp, Writer};
+use sst_blocks::{EntryRef, Error, SeqNo, ValueType};
+use std::alloc::Global;
+
+fn new_writer(alloc: Global, options: &TableOptions) -> Result<Writer, Error>
+    requires { are_usable options.now ≡ true }
+    ensures ok { IfOk result (λ w. w ≡ writing_told options.now) }
+    ensures err { IfErr result (λ e. e ≡ OutOfMemory) }
+{
+    let created_at = Timestamp::from(u128::from(options.created_at));
+    let writer = Writer::new(alloc, options.id, options.level as u8, created_at)?;
+    Ok(writer.use_options(writer_options(options)))
+}
+
+fn new_box(alloc: Global, options: &TableOptions) -> Result<Box<Held>, Error>
+    requires { are_usable options.now ≡ true }
+    ensures new { IfOk result (λ held. held.value.found ≡ None) }
+    ensures writer { IfOk result (λ held.
+        (writer_in held.value.what ≡ Some (writing_told options.now))
+        × (tables_in held.value.what ≡ [])) }
+    ensures err { IfErr result (λ e. e ≡ OutOfMemory) }
+{
+    let held = Held {
+        found: None,
+        what: What::Files(Files {
+            writer: Some(new_writer(alloc, options)?),
+            tables: Vec::new(alloc),
+        }),
+    };
+    Ok(Box::new(alloc, held)?)
+}
+
+/// Begins to write a table, into a handle that holds nothing. Refused 101 where the handle holds
+/// something, 105 where an option is out of its range, and for want of memory; the handle stays as
+/// it is then.
+#[unsafe(no_mangle)]
+pub extern "C" fn sst_writer_open(alloc: Global, options: &TableOptions, writer: &mut Handle) -> u32
+    ensures open { is_some writer.old.boxed.value ≡ true → result ≡ 101 }
+    ensures unusable { writer.old.boxed.value ≡ None → are_usable options.now ≡ false →
+        result ≡ 105 }
+    ensures memory { writer.old.boxed.value ≡ None → are_usable options.now ≡ true →
+        (result ≡ 0) ⊎ (result ≡ 1) }
+    ensures opened { result ≡ 0 → IsSomeAnd writer.new.boxed.value (λ h. (h.found ≡ None)
+        × (writer_in h.what ≡ Some (writing_told options.now)) × (tables_in h.what ≡ [])) }
+    ensures left { result ≢ 0 → writer.new.boxed.value ≡ writer.old.boxed.value }
+{
+    if writer.is_open() {
+        return OPEN;
+    }
+    if !are_usable(options) {
+        return NO_SUCH;
+    }
+    match new_box(alloc, options) {
+        Ok(held) => {
+            writer.put(held);
+            0
+        }
+        Err(error) => u32::from(error.number()),
+    }
+}
+
+// The kind that C names.
+fn kind_of(kind: u32) -> Option<ValueType>
+    ensures { result ≡ kind_told kind }
+{
+    match kind {
+        1 => Some(ValueType::Value),
+        2 => Some(ValueType::Tombstone),
+        3 => Some(ValueType::WeakTombstone),
+        5 => Some(ValueType::Indirection),
+        _ => None,
+    }
+}
+
+// Writes an entry that may follow.
+#[tactic(auto, using(crate::proofs::Answering::faults), unfolding(crate::specs::Writing::TookEntry))]
+fn write(writer: &mut Writer, key: &[u8], seqno: SeqNo, kind: ValueType, value: &[u8]) -> u32
+    requires { IsTrue (may_be_written (written writer.old) key.now seqno) }
+    ensures { TookEntry writer.old (entry key.now value.now seqno kind) result writer.new }
+{
+    let entry = EntryRef {
+        user_key: key,
+        seqno,
+        value_type: kind,
+        value,
+    };
+    match writer.write_ref(&entry) {
+        Ok(()) => 0,
+        Err(error) => u32::from(error.number()),
+    }
+}
+
+// Writes an entry, if it may follow.
+fn write_next(writer: &mut Writer, key: &[u8], seqno: SeqNo, kind: ValueType, value: &[u8]) -> u32
+    ensures order { may_be_written (written writer.old) key.now seqno ≡ false →
+        (result ≡ 104) × (writer.new ≡ writer.old) }
+    ensures took { may_be_written (written writer.old) key.now seqno ≡ true →
+        TookEntry writer.old (entry key.now value.now seqno kind) result writer.new }
+{
+    let entry = EntryRef {
+        user_key: key,
+        seqno,
+        value_type: kind,
+        value,
+    };
+    if !writer.can_follow_ref(&entry) {
+        return OUT_OF_ORDER;
+    }
+    write(writer, key, seqno, kind, value)
+}
+
+// Writes an entry of a kind that C names, if it may follow.
+fn add_kind(writer: &mut Writer, key: &[u8], seqno: SeqNo, kind: u32, value: &[u8]) -> u32
+    ensures kind { kind_told kind ≡ None → (result ≡ 105) × (writer.new ≡ writer.old) }
+    ensures order { is_some (kind_told kind) ≡ true →
+        may_be_written (written writer.old) key.now seqno ≡ false →
+        (result ≡ 104) × (writer.new ≡ writer.old) }
+    ensures took { (k : Kind) → kind_told kind ≡ Some k →
+        may_be_written (written writer.old) key.now seqno ≡ true →
+        TookEntry writer.old (entry key.now value.now seqno k) result writer.new }
+{
+    match kind_of(kind) {
+        Some(kind) => write_next(writer, key, seqno, kind, value),
+        None => NO_SUCH,
+    }
+}
+
+fn add(held: &mut Held, key: &[u8], seqno: SeqNo, kind: u32, value: &[u8]) -> u32
+    ensures other { writer_in held.old.what ≡ None →
+        (result ≡ 102) × (held.new.what ≡ held.old.what) }
+    ensures kind { (w : WritingValue) → writer_in held.old.what ≡ Some w → kind_told kind ≡ None →
+        (result ≡ 105) × (held.new.what ≡ held.old.what) }
+    ensures order { (w : WritingValue) → writer_in held.old.what ≡ Some w →
+        is_some (kind_told kind) ≡ true → may_be_written (written w) key.now seqno ≡ false →
+        (result ≡ 104) × (held.new.what ≡ held.old.what) }
+    ensures took { (w : WritingValue) (k : Kind) → writer_in held.old.what ≡ Some w →
+        kind_told kind ≡ Some k → may_be_written (written w) key.now seqno ≡ true →
+        let e = entry key.now value.now seqno k in
+        IsSomeAnd (writer_in held.new.what) (TookEntry w e result) }
+    ensures tables { tables_in held.new.what ≡ tables_in held.old.what }
+{
+    match &mut held.what {
+        What::Files(files) => match &mut files.writer {
+            Some(writer) => add_kind(writer, key, seqno, kind, value),
+            None => OTHER_KIND,
+        },
+        _ => OTHER_KIND,
+    }
+}
+
+/// Writes an entry: its key, number, kind and value. The key and the value are copied. Refused 100
+/// where the handle is closed, 102 where it holds no writer, 105 where there is no such kind, 104
+/// where the entry does not come strictly after the last one by key up and number down, or its
+/// number is the largest; the writer stays as it is then. Else refused as `Writer::write`: what was
+/// written stays, and each later call is refused 23.
+#[unsafe(no_mangle)]
+pub extern "C" fn sst_writer_add(
+    alloc: Global,
+    writer: &mut Handle,
+    key: &[u8],
+    seqno: u64,
+    kind: u32,
+    value: &[u8],
+) -> u32
+    ensures shut { writer.old.boxed.value ≡ None →
+        (result ≡ 100) × (writer.new.boxed.value ≡ None) }
+    ensures other { (h : HeldValue) → writer.old.boxed.value ≡ Some h → writer_in h.what ≡ None →
+        (result ≡ 102) × IsSomeAnd writer.new.boxed.value (λ k. k.what ≡ h.what) }
+    ensures kind { (h : HeldValue) (w : WritingValue) → writer.old.boxed.value ≡ Some h →
+        writer_in h.what ≡ Some w → kind_told kind ≡ None →
+        (result ≡ 105) × IsSomeAnd writer.new.boxed.value (λ k. k.what ≡ h.what) }
+    ensures order { (h : HeldValue) (w : WritingValue) → writer.old.boxed.value ≡ Some h →
+        writer_in h.what ≡ Some w → is_some (kind_told kind) ≡ true →
+        may_be_written (written w) key.now seqno ≡ false →
+        (result ≡ 104) × IsSomeAnd writer.new.boxed.value (λ k. k.what ≡ h.what) }
+    // An entry that may follow is taken, or refused with the first fault: the writer has failed.
+    ensures took { (h : HeldValue) (w : WritingValue) (k : Kind) → writer.old.boxed.value ≡ Some h →
+        writer_in h.what ≡ Some w → kind_told kind ≡ Some k →
+        may_be_written (written w) key.now seqno ≡ true →
+        let e = entry key.now value.now seqno k in
+        IsSomeAnd writer.new.boxed.value (λ k.
+        IsSomeAnd (writer_in k.what) (TookEntry w e result)) }
+    ensures tables { (h : HeldValue) → writer.old.boxed.value ≡ Some h →
+        IsSomeAnd writer.new.boxed.value (λ k. tables_in k.what ≡ tables_in h.what) }
+{
+    let Some(mut held) = writer.take(alloc) else {
+        return CLOSED;
+    };
+    let code = add(&mut held, key, seqno, kind, value);
+    writer.put(held);
+    code
+}
+
+// Finishes a writer, and puts its table behind others, where something was written.
+#[tactic(auto, using(crate::proofs::Answering::faults), unfolding(crate::specs::Writing::AddsFileOf))]
+fn finish_behind(tables: &mut Vec<FinishedTable>, writer: Writer) -> u32
+    ensures told { FaultTold result (finish_fault writer) }
+    ensures finished { result ≡ 0 → AddsFileOf writer tables.old.items tables.new.items }
+    ensures refused { result ≢ 0 → tables.new.items ≡ tables.old.items }
+{
+    match writer.finish() {
+        Ok(Some(table)) => match tables.push(table) {
+            Ok(()) => 0,
+            Err(refused) => {
+                drop(refused);
+                NO_MEMORY
+            }
+        },
+        Ok(None) => 0,
+        Err(error) => u32::from(error.number()),
+    }
+}
+
+// Finishes what is written.
+fn finish_files(files: &mut Files) -> u32
+    ensures none { files.old.writer ≡ None → (result ≡ 102) × (files.new ≡ files.old) }
+    ensures told { (w : WritingValue) → files.old.writer ≡ Some w →
+        FaultTold result (finish_fault w) }
+    ensures given { (w : WritingValue) → files.old.writer ≡ Some w → files.new.writer ≡ None }
+    ensures finished { (w : WritingValue) → files.old.writer ≡ Some w → result ≡ 0 →
+        AddsFileOf w files.old.tables.items files.new.tables.items }
+    ensures refused { (w : WritingValue) → files.old.writer ≡ Some w → result ≢ 0 →
+        files.new.tables.items ≡ files.old.tables.items }
+{
+    match files.writer.take() {
+        Some(writer) => finish_behind(&mut files.tables, writer),
+        None => OTHER_KIND,
+    }
+}
+
+fn finish(held: &mut Held) -> u32
+    ensures other { writer_in held.old.what ≡ None →
+        (result ≡ 102) × (held.new.what ≡ held.old.what) }
+    ensures told { (w : WritingValue) → writer_in held.old.what ≡ Some w →
+        FaultTold result (finish_fault w) }
+    ensures given { (w : WritingValue) → writer_in held.old.what ≡ Some w →
+        writer_in held.new.what ≡ None }
+    ensures kind { are_files held.new.what ≡ are_files held.old.what }
+    ensures finished { (w : WritingValue) → writer_in held.old.what ≡ Some w → result ≡ 0 →
+        AddsFileOf w (tables_in held.old.what) (tables_in held.new.what) }
+    ensures refused { (w : WritingValue) → writer_in held.old.what ≡ Some w → result ≢ 0 →
+        tables_in held.new.what ≡ tables_in held.old.what }
+{
+    match &mut held.what {
+        What::Files(files) => finish_files(files),
+        _ => OTHER_KIND,
+    }
+}
+
+/// Finishes the table that is written: the handle holds it then, or none where nothing was written.
+/// Refused 100 where the handle is closed, 102 where it holds no writer, and as `Writer::finish`:
+/// what was written is given up then.
+#[unsafe(no_mangle)]
+pub extern "C" fn sst_writer_finish(alloc: Global, writer: &mut Handle) -> u32
+    ensures shut { writer.old.boxed.value ≡ None →
+        (result ≡ 100) × (writer.new.boxed.value ≡ None) }
+    ensures other { (h : HeldValue) → writer.old.boxed.value ≡ Some h → writer_in h.what ≡ None →
+        (result ≡ 102) × IsSomeAnd writer.new.boxed.value (λ k. k.what ≡ h.what) }
+    ensures told { (h : HeldValue) (w : WritingValue) → writer.old.boxed.value ≡ Some h →
+        writer_in h.what ≡ Some w → FaultTold result (finish_fault w) }
+    ensures given { (h : HeldValue) (w : WritingValue) → writer.old.boxed.value ≡ Some h →
+        writer_in h.what ≡ Some w →
+        IsSomeAnd writer.new.boxed.value (λ k. writer_in k.what ≡ None) }
+    ensures kind { (h : HeldValue) → writer.old.boxed.value ≡ Some h →
+        IsSomeAnd writer.new.boxed.value (λ k. are_files k.what ≡ are_files h.what) }
+    // The table is that of all that was written.
+    ensures finished { (h : HeldValue) (w : WritingValue) → writer.old.boxed.value ≡ Some h →
+        writer_in h.what ≡ Some w → result ≡ 0 → IsSomeAnd writer.new.boxed.value (λ k.
+        AddsFileOf w (tables_in h.what) (tables_in k.what)) }
+    ensures refused { (h : HeldValue) (w : WritingValue) → writer.old.boxed.value ≡ Some h →
+        writer_in h.what ≡ Some w → result ≢ 0 → IsSomeAnd writer.new.boxed.value (λ k.
+        tables_in k.what ≡ tables_in h.what) }
+{
+    let Some(mut held) = writer.take(alloc) else {
+        return CLOSED;
+    };
+    let code = finish(&mut held);
+    writer.put(held);
+    code
+}

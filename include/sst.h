@@ -1,0 +1,286 @@
+/* Sorted tables of a log-structured store, for callers in C and C++ and in what calls C.
+ *
+ *     sst_handle table = {0};
+ *     sst_entry entry;
+ *     sst_lent lent;
+ *     if (sst_table_open(file, len, 0, true, true, &table) == 0 &&
+ *         sst_table_get(&table, key, key_len, SST_NEWEST, &entry) == 0 &&
+ *         entry.kind == SST_VALUE && sst_found_lend(&table, &lent) == 0) {
+ *       fwrite(lent.value, 1, lent.value_len, stdout);
+ *     }
+ *     sst_close(&table);
+ *
+ * What a caller holds is a handle: two words in memory of its own, which begin as zeros
+ * (`sst_handle table = {0};`). A call fills it; `sst_close` empties it, and may be called twice.
+ * What was opened from what a handle holds has shares of its own, so handles may be closed in any
+ * order. A handle may be moved, and no copy of it may be used beside it. One thread uses a handle
+ * at a time, and what was opened from one another stays on one thread.
+ *
+ * Each call answers 0, or the number of what refused it. 1 to 24 are the library's refusals; 23 is
+ * a writer that has refused before, 5 a block that was damaged. From 100 on they are those of the
+ * calls below. `sst_strerror` has a sentence for each.
+ *
+ * Pointers: none may be NULL. Bytes are a pointer and how many there are, in this order; where
+ * there are none, any pointer that is not NULL will do. What a call is given is read until it
+ * returns, and never kept. What a call writes to may not overlap what else it is given.
+ *
+ * Each call is proved to do what is said here, by the library's own contracts. Not proved, but
+ * relied on: that pointers are as said above, that a handle's words are written by these calls
+ * alone, and that `malloc` aligns to 16 bytes. Where lent pointers point is tested, and not proved.
+ */
+#ifndef SST_H
+#define SST_H
+
+#include <stdbool.h>
+#include <stddef.h>
+#include <stdint.h>
+
+#ifdef __cplusplus
+extern "C" {
+#endif
+
+/* The version of these calls; `sst_version` answers that of the library. */
+#define SST_VERSION 1
+
+/* What a call answers beside 0 and the library's refusals. */
+enum {
+  SST_NO_MEMORY = 1,
+  SST_CLOSED = 100,       /* the handle holds nothing */
+  SST_OPEN = 101,         /* the handle that is to be filled holds something */
+  SST_OTHER_KIND = 102,   /* the handle holds something of another kind */
+  SST_NO_ROOM = 103,      /* there is less room than what is to be copied needs */
+  SST_OUT_OF_ORDER = 104, /* the entry does not follow the one before it */
+  SST_NO_SUCH = 105,      /* a number names none of what it may name */
+  SST_NOTHING = 106,      /* the last read by the handle found nothing */
+  SST_FAULTY = 107        /* a verification found something wrong */
+};
+
+/* Kinds of entries. */
+enum {
+  SST_NO_ENTRY = 0,
+  SST_VALUE = 1,
+  SST_TOMBSTONE = 2,      /* a deletion of every older version of the key */
+  SST_WEAK_TOMBSTONE = 3, /* a deletion of the one version directly before it */
+  SST_INDIRECTION = 5     /* a value that lies elsewhere */
+};
+
+/* Bounds of a range. */
+enum { SST_UNBOUNDED = 0, SST_INCLUDED = 1, SST_EXCLUDED = 2 };
+
+/* A number that is above that of every entry: a read at it finds the newest version. */
+#define SST_NEWEST UINT64_MAX
+
+typedef struct sst_handle {
+  uint64_t words[2];
+} sst_handle;
+
+/* What is told of an entry; all of it 0 where there is none. */
+typedef struct sst_entry {
+  uint64_t kind;
+  uint64_t seqno;
+  uint64_t key_len;
+  uint64_t value_len;
+} sst_entry;
+
+/* Where the key and the value of an entry lie. */
+typedef struct sst_lent {
+  const uint8_t *key;
+  uint64_t key_len;
+  const uint8_t *value;
+  uint64_t value_len;
+} sst_lent;
+
+/* Answers SST_VERSION of the header that the library was built with. */
+uint32_t sst_version(void);
+
+/* Closes a handle, whatever it holds; one that holds nothing stays as it is. */
+void sst_close(sst_handle *handle);
+
+/* What a read found. A read (`sst_table_get`, `sst_runs_get`, `sst_range_next`) keeps the entry that it found, and
+ * the handle keeps it until the next read by it.
+ */
+
+/* Copies the key and the value of what the last read by a handle found. SST_NOTHING where nothing
+ * was found; SST_NO_ROOM where one of them has more bytes than its room: nothing is copied then, the
+ * lengths stand in the `sst_entry` of the read, and the call may be made again with more room.
+ */
+uint32_t sst_found_copy(sst_handle *handle, uint8_t *key, size_t key_room, uint8_t *value,
+                        size_t value_room);
+
+/* Lends the key and the value of what the last read by a handle found: they lie there, and may be
+ * read, until the next read by the handle or its close. SST_NOTHING where nothing was found.
+ */
+uint32_t sst_found_lend(sst_handle *handle, sst_lent *lent);
+
+/* Tables. */
+
+/* Opens a table from a copy of its bytes, into a handle that holds nothing. `global_seqno` is added
+ * to every stored number. A filter and an index in one block stay loaded where they are pinned,
+ * else each read loads them. Refused with the first fault of the bytes; the handle stays as it is
+ * then. Bytes whose blocks are damaged may open: reads that meet the damage are refused, and
+ * `sst_table_verify` finds it.
+ */
+uint32_t sst_table_open(const uint8_t *file, size_t len, uint64_t global_seqno, bool pin_filter,
+                        bool pin_index, sst_handle *table);
+
+/* Finds the newest version of a key that is numbered below `seqno`, a deletion too, and keeps it.
+ * Where there is none it answers 0, and the kind is SST_NO_ENTRY. Refused with the first fault of
+ * the blocks that it loads; zeros are told then.
+ */
+uint32_t sst_table_get(sst_handle *table, const uint8_t *key, size_t key_len, uint64_t seqno,
+                       sst_entry *entry);
+
+/* What a table says of itself. The numbers of entries are as stored, without the global number. */
+typedef struct sst_facts {
+  uint64_t id;
+  uint64_t version; /* of the format: 3 or 4 */
+  uint64_t global_seqno;
+  uint64_t lowest_seqno;
+  uint64_t highest_seqno;
+  uint64_t item_count;
+  uint64_t tombstone_count; /* of either kind */
+  uint64_t weak_tombstone_count;
+  uint64_t data_block_count;
+  uint64_t index_block_count;
+  uint64_t data_size; /* how many bytes the data blocks have */
+} sst_facts;
+
+uint32_t sst_table_facts(sst_handle *table, sst_facts *facts);
+
+/* What a verification found: the first two where the table is sound, else the rest. */
+typedef struct sst_verified {
+  uint64_t item_count;
+  uint64_t data_block_count;
+  uint64_t offset;  /* where the block begins at which something is wrong */
+  uint32_t section; /* 1 data blocks, 2 partitions of the index, 3 index, 4 filter, 5 top level of
+                       the filter, 6 version, 7 meta block */
+  uint32_t fault;   /* 1 the block does not load, 2 it is empty, 3 it does not begin where the one
+                       before it ended, 4 an entry has the largest number, 5 an entry does not
+                       follow, 6 the filter denies a key, 7 a block of the filter does not load,
+                       8 a handle names another key, 9 another number, 10 the entries do not bear
+                       out an item of the meta block, 11 no handle names a data block */
+  uint32_t detail;  /* of faults 1 and 7 the load's refusal */
+  uint32_t unused;
+} sst_verified;
+
+/* Reads a whole table once, and says whether its bytes store a list of entries in order, whoever
+ * wrote them. SST_FAULTY where they do not: `verified` says what is wrong first, and where. Refused
+ * for want of memory too, which says nothing of the table.
+ */
+uint32_t sst_table_verify(sst_handle *table, sst_verified *verified);
+
+/* Ranges. */
+
+/* Begins to read the entries of a table whose keys lie within two bounds, into a handle that holds
+ * nothing. Nothing is loaded yet. A bound that is SST_UNBOUNDED does not look at its key.
+ */
+uint32_t sst_range_open(sst_handle *table, uint32_t lower_kind, const uint8_t *lower,
+                        size_t lower_len, uint32_t upper_kind, const uint8_t *upper,
+                        size_t upper_len, sst_handle *range);
+
+/* Takes the next entry of a range from the front, or from the back, and keeps it: by key up, and of
+ * one key by number down, every version. At the end it answers 0, and the kind is SST_NO_ENTRY.
+ * Where it is refused nothing more comes, from either end.
+ */
+uint32_t sst_range_next(sst_handle *range, bool back, sst_entry *entry);
+
+/* Several tables as one. */
+
+/* Begins a list of runs, each of one table, into a handle that holds nothing. */
+uint32_t sst_runs_open(sst_handle *runs);
+
+/* Adds a table to a list of runs, behind those that are there: the newest comes first. The list has
+ * a share of the table.
+ */
+uint32_t sst_runs_add(sst_handle *runs, sst_handle *table);
+
+/* Finds the newest version of a key that is numbered below `seqno`, a deletion too, in all tables of
+ * a list of runs together, and keeps it, as `sst_table_get` does of one.
+ */
+uint32_t sst_runs_get(sst_handle *runs, const uint8_t *key, size_t key_len, uint64_t seqno,
+                      sst_entry *entry);
+
+/* Writing a table. */
+
+/* What a table is written with. */
+typedef struct sst_options {
+  uint64_t id;
+  uint64_t created_at; /* in nanoseconds since 1970 */
+  uint32_t level;      /* at most 255 */
+  uint32_t data_block_size;             /* in bytes of keys and values, at most 4 MiB */
+  uint32_t data_block_restart_interval; /* in entries, 1 to 255 */
+  uint32_t data_block_hash_ratio;       /* buckets an entry, in thousandths; 0 for none */
+  uint32_t index_partition_size;        /* in bytes, at most 4 MiB; 0 for one block */
+  uint32_t filter_partition_size;       /* in bytes, at most 4 MiB; 0 for one block */
+  uint32_t filter_bits_per_key;         /* in tenths of a bit; 0 for no filter */
+  uint32_t unused;
+} sst_options;
+
+/* Fills in what is written with where nothing else is asked for: blocks of 4,096 bytes, an index
+ * and a filter in one block each, ten bits a key; id, moment and level are 0.
+ */
+void sst_options_default(sst_options *options);
+
+/* Begins to write a table, into a handle that holds nothing. SST_NO_SUCH where an option is out of
+ * its range.
+ */
+uint32_t sst_writer_open(const sst_options *options, sst_handle *writer);
+
+/* Writes an entry, whose key and value are copied. Entries come by key up, and of one key by number
+ * down: SST_OUT_OF_ORDER where one does not, or where its number is UINT64_MAX; SST_NO_SUCH where
+ * there is no such kind. The writer stays as it is then. After any other refusal each further call
+ * is refused 23.
+ */
+uint32_t sst_writer_add(sst_handle *writer, const uint8_t *key, size_t key_len, uint64_t seqno,
+                        uint32_t kind, const uint8_t *value, size_t value_len);
+
+/* Finishes the table: the handle holds it then, in the writer's place, or none where nothing was
+ * written. Where it is refused, what was written is given up.
+ */
+uint32_t sst_writer_finish(sst_handle *writer);
+
+/* Finished tables, by their places from 0 on. */
+
+typedef struct sst_file {
+  uint64_t id;
+  uint64_t checksum; /* FNV-1a of all bytes */
+  uint64_t len;
+} sst_file;
+
+uint32_t sst_files_count(sst_handle *files, uint64_t *count);
+
+/* Tells what a finished table is called and how long it is. SST_NO_SUCH where there is none at that
+ * place.
+ */
+uint32_t sst_files_tell(sst_handle *files, uint64_t index, sst_file *file);
+
+/* Copies a finished table's bytes from an offset on, as many as there is room for, and tells how
+ * many: 0 at its end. SST_NO_SUCH where there is none at that place or the offset is past its end.
+ */
+uint32_t sst_files_copy(sst_handle *files, uint64_t index, uint64_t offset, uint8_t *room,
+                        size_t room_len, uint64_t *count);
+
+/* A sentence for what a call answers. It stays for good. */
+static inline const char *sst_strerror(uint32_t code) {
+  static const char *const library[] = {
+      "done", "out of memory", "a block reaches past the sections", "invalid block header",
+      "a block of another kind", "checksum mismatch", "invalid block payload", "key too long",
+      "value too long", "block too large", "section too large", "invalid trailer",
+      "missing section", "missing meta item", "invalid meta value", "unsupported table version",
+      "unsupported hash type", "unsupported checksum type", "unsupported index restart interval",
+      "unsupported compression", "global sequence number too large", "sequence number overflow",
+      "table ids spent", "the writer has failed", "source error"};
+  static const char *const own[] = {
+      "the handle is closed", "the handle is open", "the handle holds another kind",
+      "the room is too small", "the entry is out of order", "there is no such number",
+      "nothing was found", "the table is not sound"};
+  if (code < sizeof library / sizeof *library) return library[code];
+  if (code >= 100 && code - 100 < sizeof own / sizeof *own) return own[code - 100];
+  return "unknown refusal";
+}
+
+#ifdef __cplusplus
+}
+#endif
+
+#endif
