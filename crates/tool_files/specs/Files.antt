@@ -1,0 +1,24 @@
+-- Names of files, and what is wrong with a file.
+use Rattle.std.specs.Prelude.{◌≡◌, ◌<◌, ℕ, List, ◌++◌, Option, Some}
+use Rattle.std.specs.Prelude.{codes}
+use Rattle.std.specs.Fmt.{decimal}
+use Rattle.tool_files.specs.declared.file_error.FileFault.{FileFault}
+use Rattle.tool_files.specs.declared.file_error.FileFault.TheVariants.{CutShort}
+use Rattle.tool_files.specs.declared.file_name.FileName.{FileName}
+use Rattle.tool_files.specs.declared.file_name.FileName.TheVariants.{Part, Plain, Within}
+
+-- the path of a file
+abbrev pub path_text : FileName → List ℕ
+path_text (Plain path) = path.now
+path_text (Part path number) = path.now ++ (codes "." ++ decimal number)
+path_text (Within folder number) = folder.now ++ (codes "/" ++ (decimal number ++ codes ".sst"))
+
+-- a path beside another one: behind it stand a number and an end of its own
+abbrev pub IsBeside : List ℕ → List ℕ → Type 0
+IsBeside path text =
+    (number : ℕ) × (text ≡ path ++ (codes "." ++ (decimal number ++ codes ".tmp")))
+
+-- a file ended before it had as many bytes
+abbrev pub IsCutShort : FileFault → Option ℕ → Type 0
+IsCutShort (CutShort read size) known = (known ≡ Some size) × (read < size)
+IsCutShort fault known = Unit {0}

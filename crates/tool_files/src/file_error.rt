@@ -1,0 +1,110 @@
+//! Why a file could not be read, opened or written.
+use crate::FileName;
+use logpurple::Error;
+use std::alloc::{AllocError, AllocFailed};
+use std::{fmt, io};
+
+/// What is wrong with a file.
+#[derive(Debug, Drop)]
+pub enum FileFault {
+    /// A folder stands in the file's place.
+    Folder,
+    /// What stands in the file's place is no plain file, and not to be replaced.
+    NotPlain,
+    /// The file ended earlier than it did when it was opened.
+    CutShort {
+        /// How many bytes were read.
+        read: u64,
+        /// How many there were.
+        size: u64,
+    },
+    /// Each name that was tried for a file beside it is taken.
+    NamesTaken,
+    /// The system refused.
+    Io(io::Error),
+    /// The library refused, or memory was.
+    Refused(Error),
+}
+
+impl fmt::Display for FileFault {
+    fn fmt<W: fmt::Write>(&self, f: &mut fmt::Formatter<W>) -> fmt::Result {
+        match self {
+            FileFault::Folder => write!(f, "a folder, and no file"),
+            FileFault::NotPlain => write!(f, "no plain file, and not replaced"),
+            FileFault::CutShort { read, size } => {
+                write!(f, "cut short while it was read: {read} of {size} bytes")
+            }
+            FileFault::NamesTaken => write!(f, "each name for a file beside it is taken"),
+            FileFault::Io(error) => write!(f, "{error}"),
+            FileFault::Refused(error) => {
+                let number = error.number();
+                write!(f, "{error} ({number})")
+            }
+        }
+    }
+}
+
+impl From<io::Error> for FileFault {
+    ghost use Rattle.std.specs.Prelude.{◌≡◌};
+    ghost use Rattle.tool_files.specs.declared.file_error.FileFault.TheVariants.{Io};
+
+    ghost from_gives = { λ error fault. fault ≡ Io error };
+
+    fn from(error: io::Error) -> FileFault {
+        FileFault::Io(error)
+    }
+}
+
+impl From<Error> for FileFault {
+    ghost use Rattle.std.specs.Prelude.{◌≡◌};
+    ghost use Rattle.tool_files.specs.declared.file_error.FileFault.TheVariants.{Refused};
+
+    ghost from_gives = { λ error fault. fault ≡ Refused error };
+
+    fn from(error: Error) -> FileFault {
+        FileFault::Refused(error)
+    }
+}
+
+impl From<AllocError> for FileFault {
+    ghost use Rattle.std.specs.Prelude.{◌≡◌};
+    ghost use Rattle.logpurple.specs.Words.{OutOfMemory};
+    ghost use Rattle.tool_files.specs.declared.file_error.FileFault.TheVariants.{Refused};
+
+    ghost from_gives = { λ _ fault. fault ≡ Refused OutOfMemory };
+
+    fn from(_error: AllocError) -> FileFault {
+        FileFault::Refused(Error::OutOfMemory)
+    }
+}
+
+impl<T: Drop> From<AllocFailed<T>> for FileFault {
+    ghost use Rattle.std.specs.Prelude.{◌≡◌};
+    ghost use Rattle.logpurple.specs.Words.{OutOfMemory};
+    ghost use Rattle.tool_files.specs.declared.file_error.FileFault.TheVariants.{Refused};
+
+    ghost from_gives = { λ _ fault. fault ≡ Refused OutOfMemory };
+
+    fn from(_error: AllocFailed<T>) -> FileFault {
+        FileFault::Refused(Error::OutOfMemory)
+    }
+}
+
+/// What is wrong, and with which file: shown as a sentence, the file first, a refusal's number last
+/// in brackets.
+#[derive(Debug, Drop)]
+pub struct FileError<'a> {
+    /// The file.
+    pub name: FileName<'a>,
+    /// What is wrong with it.
+    pub fault: FileFault,
+}
+
+impl<'a> fmt::Display for FileError<'a> {
+    fn fmt<W: fmt::Write>(&self, f: &mut fmt::Formatter<W>) -> fmt::Result {
+        let (name, fault) = (&self.name, &self.fault);
+        write!(f, "{name}: {fault}")
+    }
+}
+
+impl<'a> std::error::Error for FileError<'a> {}

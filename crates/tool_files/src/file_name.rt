@@ -1,0 +1,28 @@
+//! Names of files.
+use std::fmt;
+
+/// Which file is meant. It is shown as its path.
+#[derive(Clone, Copy, Debug, PartialEq, Eq)]
+pub enum FileName<'a> {
+    /// The file at this path.
+    Plain(&'a str),
+    /// One of several files, numbered behind a dot, as `users.sst.2`.
+    Part(&'a str, u64),
+    /// A table of a folder, named by its number, as `tables/2.sst`.
+    Within(&'a str, u64),
+}
+
+impl<'a> fmt::Display for FileName<'a> {
+    ghost use Rattle.std.specs.Prelude.{Some};
+    ghost use Rattle.tool_files.specs.Files.{path_text};
+
+    ghost output = { λ name. Some (path_text name) };
+
+    fn fmt<W: fmt::Write>(&self, f: &mut fmt::Formatter<W>) -> fmt::Result {
+        match self {
+            FileName::Plain(path) => write!(f, "{path}"),
+            FileName::Part(path, number) => write!(f, "{path}.{number}"),
+            FileName::Within(folder, number) => write!(f, "{folder}/{number}.sst"),
+        }
+    }
+}
