@@ -8,8 +8,8 @@ use std::slice;
 
 /// What a call fills, and what is closed when it is dropped.
 ///
-/// Its words are written by the calls alone, through `&self` too: reads keep in the handle what they
-/// found. So it is not `Sync`, and neither is what has one.
+/// Its words are written by the calls alone, through `&self` too: reads keep in the handle what
+/// they found. So it is not `Sync`, and neither is what has one.
 ///
 /// It is `Send`, as its words are. The calls have no state but what stands behind handles, so a
 /// handle may pass to another thread together with all that shares something with it. Each type

@@ -8,9 +8,9 @@ use std::ops::RangeBounds;
 
 /// An opened table.
 ///
-/// It has a copy of its bytes. What it opens borrows it, so a table goes to another thread once none
-/// of its ranges is left, and what it shares with nothing goes with it: it is `Send`. Reads keep in
-/// it what they found, so two threads cannot read by one table: it is not `Sync`.
+/// It has a copy of its bytes, and shares them with its ranges alone. These borrow it, so it can go
+/// to another thread only once none is left, and nothing that it shares stays behind: it is `Send`.
+/// Reads keep in it what they found, so two threads cannot read by one table: it is not `Sync`.
 ///
 /// ```compile_fail,E0277
 /// fn is_sync<T: Sync>() {}

@@ -101,8 +101,8 @@ impl Writer {
     }
 
     /// Writes an entry, whose key and value are copied. Refused with `OutOfOrder` where it does not
-    /// follow the one before it or is numbered `u64::MAX`; the writer stays as it is then. After any
-    /// other refusal each further call is refused with `WriterFailed`.
+    /// follow the one before it or is numbered `u64::MAX`; the writer stays as it is then. After
+    /// any other refusal each further call is refused with `WriterFailed`.
     pub fn write(
         &mut self,
         key: &[u8],
