@@ -27,10 +27,10 @@ pub struct Range<'t> {
 }
 
 impl<'t> Range<'t> {
-    pub(crate) fn open(
+    pub(crate) fn open<K: AsRef<[u8]>>(
         table: &'t Table,
-        lower: Bound<&[u8]>,
-        upper: Bound<&[u8]>,
+        lower: Bound<&K>,
+        upper: Bound<&K>,
     ) -> Result<Range<'t>, Error> {
         let handle = Handle::closed();
         let ((lower_kind, lower), (upper_kind, upper)) = (bound(lower), bound(upper));
@@ -110,10 +110,10 @@ impl DoubleEndedIterator for Range<'_> {
 
 impl FusedIterator for Range<'_> {}
 
-fn bound(bound: Bound<&[u8]>) -> (u32, &[u8]) {
+fn bound<K: AsRef<[u8]>>(bound: Bound<&K>) -> (u32, &[u8]) {
     match bound {
         Bound::Unbounded => (sys::SST_UNBOUNDED, &[]),
-        Bound::Included(key) => (sys::SST_INCLUDED, key),
-        Bound::Excluded(key) => (sys::SST_EXCLUDED, key),
+        Bound::Included(key) => (sys::SST_INCLUDED, key.as_ref()),
+        Bound::Excluded(key) => (sys::SST_EXCLUDED, key.as_ref()),
     }
 }

@@ -129,11 +129,7 @@ impl Table {
         K: AsRef<[u8]>,
         R: RangeBounds<K>,
     {
-        Range::open(
-            self,
-            bounds.start_bound().map(|key| key.as_ref()),
-            bounds.end_bound().map(|key| key.as_ref()),
-        )
+        Range::open(self, bounds.start_bound(), bounds.end_bound())
     }
 
     /// All entries, from both ends.
