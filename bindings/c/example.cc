@@ -1,0 +1,113 @@
+// The program of example.c as one writes it in C++: a handle is closed by its destructor, can be
+// moved and not copied, and a refusal is thrown. `bindings/test` builds and runs it.
+#include "sst.h"
+
+#include <cstdio>
+#include <cstring>
+#include <stdexcept>
+#include <string>
+#include <utility>
+#include <vector>
+
+// Throws where a call was refused.
+static void test(uint32_t code) {
+  if (code != 0) throw std::runtime_error(sst_strerror(code));
+}
+
+// What a call fills. A moved handle takes its words along, so that no copy of them is used.
+class Handle {
+ public:
+  Handle() = default;
+  Handle(Handle &&other) noexcept { std::swap(words_, other.words_); }
+  Handle &operator=(Handle &&other) noexcept {
+    std::swap(words_, other.words_);
+    return *this;
+  }
+  ~Handle() { sst_close(&words_); }
+
+  sst_handle *words() { return &words_; }
+
+ private:
+  sst_handle words_ = {};
+};
+
+static const uint8_t *bytes(const std::string &text) {
+  return reinterpret_cast<const uint8_t *>(text.data());
+}
+
+static std::string text(const uint8_t *at, uint64_t len) {
+  return std::string(reinterpret_cast<const char *>(at), len);
+}
+
+static void add(Handle &writer, const std::string &key, uint64_t seqno, uint32_t kind,
+                const std::string &value) {
+  test(sst_writer_add(writer.words(), bytes(key), key.size(), seqno, kind, bytes(value),
+                      value.size()));
+}
+
+static std::vector<uint8_t> write_table() {
+  sst_options options;
+  Handle writer;
+  sst_file told;
+  uint64_t count;
+  sst_options_default(&options);
+  options.id = 1;
+  test(sst_writer_open(&options, writer.words()));
+  add(writer, "apple", 7, SST_VALUE, "red");
+  add(writer, "apple", 3, SST_VALUE, "green");
+  add(writer, "pear", 5, SST_VALUE, "yellow");
+  add(writer, "plum", 6, SST_TOMBSTONE, "");
+  test(sst_writer_finish(writer.words()));
+  test(sst_files_tell(writer.words(), 0, &told));
+  std::vector<uint8_t> file(told.len);
+  test(sst_files_copy(writer.words(), 0, 0, file.data(), file.size(), &count));
+  return file;
+}
+
+// What the last read by a handle found, copied into strings.
+static void print(const char *what, Handle &handle, const sst_entry &entry) {
+  sst_lent lent;
+  test(sst_found_lend(handle.words(), &lent));
+  std::string key = text(lent.key, lent.key_len), value = text(lent.value, lent.value_len);
+  std::printf("%s %s %u %u %s\n", what, key.c_str(), unsigned(entry.seqno), unsigned(entry.kind),
+              value.c_str());
+}
+
+static void read_key(Handle &table, const std::string &key, uint64_t seqno) {
+  sst_entry entry;
+  test(sst_table_get(table.words(), bytes(key), key.size(), seqno, &entry));
+  if (entry.kind == SST_NO_ENTRY) {
+    std::printf("none %s\n", key.c_str());
+  } else {
+    print("found", table, entry);
+  }
+}
+
+static void walk(Handle &table, const std::string &from) {
+  Handle range;
+  sst_entry entry;
+  test(sst_range_open(table.words(), SST_INCLUDED, bytes(from), from.size(), SST_UNBOUNDED,
+                      bytes(""), 0, range.words()));
+  for (;;) {
+    test(sst_range_next(range.words(), true, &entry));
+    if (entry.kind == SST_NO_ENTRY) return;
+    print("walked", range, entry);
+  }
+}
+
+static Handle open(const std::vector<uint8_t> &file) {
+  Handle table;
+  test(sst_table_open(file.data(), file.size(), 0, true, true, table.words()));
+  return table;
+}
+
+int main() {
+  sst_verified verified;
+  Handle table = open(write_table());
+  read_key(table, "apple", SST_NEWEST);
+  read_key(table, "apple", 5);
+  read_key(table, "fig", SST_NEWEST);
+  walk(table, "pear");
+  test(sst_table_verify(table.words(), &verified));
+  std::printf("verified %u\n", unsigned(verified.item_count));
+}

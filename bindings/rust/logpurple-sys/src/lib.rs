@@ -1,0 +1,190 @@
+//! The calls of `include/sst.h`, as they stand there. That header says of each what it does, when
+//! it is refused and what its pointers must be; the crate `logpurple` makes safe calls of them.
+
+#![no_std]
+#![allow(non_camel_case_types)]
+
+/// The version of the calls that these declarations name.
+pub const SST_VERSION: u32 = 1;
+
+pub const SST_NO_MEMORY: u32 = 1;
+pub const SST_CLOSED: u32 = 100;
+pub const SST_OPEN: u32 = 101;
+pub const SST_OTHER_KIND: u32 = 102;
+pub const SST_NO_ROOM: u32 = 103;
+pub const SST_OUT_OF_ORDER: u32 = 104;
+pub const SST_NO_SUCH: u32 = 105;
+pub const SST_NOTHING: u32 = 106;
+pub const SST_FAULTY: u32 = 107;
+
+pub const SST_NO_ENTRY: u64 = 0;
+pub const SST_VALUE: u64 = 1;
+pub const SST_TOMBSTONE: u64 = 2;
+pub const SST_WEAK_TOMBSTONE: u64 = 3;
+pub const SST_INDIRECTION: u64 = 5;
+
+pub const SST_UNBOUNDED: u32 = 0;
+pub const SST_INCLUDED: u32 = 1;
+pub const SST_EXCLUDED: u32 = 2;
+
+pub const SST_NEWEST: u64 = u64::MAX;
+
+/// What a call fills and `sst_close` empties: zeros hold nothing. It is moved and never copied.
+#[repr(C)]
+#[derive(Debug, Default)]
+pub struct sst_handle {
+    pub words: [u64; 2],
+}
+
+/// What is told of an entry; all of it 0 where there is none.
+#[repr(C)]
+#[derive(Clone, Copy, Debug, Default)]
+pub struct sst_entry {
+    pub kind: u64,
+    pub seqno: u64,
+    pub key_len: u64,
+    pub value_len: u64,
+}
+
+/// Where the key and the value of an entry lie.
+#[repr(C)]
+#[derive(Clone, Copy, Debug)]
+pub struct sst_lent {
+    pub key: *const u8,
+    pub key_len: u64,
+    pub value: *const u8,
+    pub value_len: u64,
+}
+
+/// What a table says of itself.
+#[repr(C)]
+#[derive(Clone, Copy, Debug, Default)]
+pub struct sst_facts {
+    pub id: u64,
+    pub version: u64,
+    pub global_seqno: u64,
+    pub lowest_seqno: u64,
+    pub highest_seqno: u64,
+    pub item_count: u64,
+    pub tombstone_count: u64,
+    pub weak_tombstone_count: u64,
+    pub data_block_count: u64,
+    pub index_block_count: u64,
+    pub data_size: u64,
+}
+
+/// What a verification found.
+#[repr(C)]
+#[derive(Clone, Copy, Debug, Default)]
+pub struct sst_verified {
+    pub item_count: u64,
+    pub data_block_count: u64,
+    pub offset: u64,
+    pub section: u32,
+    pub fault: u32,
+    pub detail: u32,
+    pub unused: u32,
+}
+
+/// What a table is written with.
+#[repr(C)]
+#[derive(Clone, Copy, Debug, Default)]
+pub struct sst_options {
+    pub id: u64,
+    pub created_at: u64,
+    pub level: u32,
+    pub data_block_size: u32,
+    pub data_block_restart_interval: u32,
+    pub data_block_hash_ratio: u32,
+    pub index_partition_size: u32,
+    pub filter_partition_size: u32,
+    pub filter_bits_per_key: u32,
+    pub unused: u32,
+}
+
+/// What a finished table is called, and how long it is.
+#[repr(C)]
+#[derive(Clone, Copy, Debug, Default)]
+pub struct sst_file {
+    pub id: u64,
+    pub checksum: u64,
+    pub len: u64,
+}
+
+extern "C" {
+    pub fn sst_version() -> u32;
+    pub fn sst_close(handle: *mut sst_handle);
+
+    pub fn sst_found_copy(
+        handle: *mut sst_handle,
+        key: *mut u8,
+        key_room: usize,
+        value: *mut u8,
+        value_room: usize,
+    ) -> u32;
+    pub fn sst_found_lend(handle: *mut sst_handle, lent: *mut sst_lent) -> u32;
+
+    pub fn sst_table_open(
+        file: *const u8,
+        len: usize,
+        global_seqno: u64,
+        pin_filter: bool,
+        pin_index: bool,
+        table: *mut sst_handle,
+    ) -> u32;
+    pub fn sst_table_get(
+        table: *mut sst_handle,
+        key: *const u8,
+        key_len: usize,
+        seqno: u64,
+        entry: *mut sst_entry,
+    ) -> u32;
+    pub fn sst_table_facts(table: *mut sst_handle, facts: *mut sst_facts) -> u32;
+    pub fn sst_table_verify(table: *mut sst_handle, verified: *mut sst_verified) -> u32;
+
+    pub fn sst_range_open(
+        table: *mut sst_handle,
+        lower_kind: u32,
+        lower: *const u8,
+        lower_len: usize,
+        upper_kind: u32,
+        upper: *const u8,
+        upper_len: usize,
+        range: *mut sst_handle,
+    ) -> u32;
+    pub fn sst_range_next(range: *mut sst_handle, back: bool, entry: *mut sst_entry) -> u32;
+
+    pub fn sst_runs_open(runs: *mut sst_handle) -> u32;
+    pub fn sst_runs_add(runs: *mut sst_handle, table: *mut sst_handle) -> u32;
+    pub fn sst_runs_get(
+        runs: *mut sst_handle,
+        key: *const u8,
+        key_len: usize,
+        seqno: u64,
+        entry: *mut sst_entry,
+    ) -> u32;
+
+    pub fn sst_options_default(options: *mut sst_options);
+    pub fn sst_writer_open(options: *const sst_options, writer: *mut sst_handle) -> u32;
+    pub fn sst_writer_add(
+        writer: *mut sst_handle,
+        key: *const u8,
+        key_len: usize,
+        seqno: u64,
+        kind: u32,
+        value: *const u8,
+        value_len: usize,
+    ) -> u32;
+    pub fn sst_writer_finish(writer: *mut sst_handle) -> u32;
+
+    pub fn sst_files_count(files: *mut sst_handle, count: *mut u64) -> u32;
+    pub fn sst_files_tell(files: *mut sst_handle, index: u64, told: *mut sst_file) -> u32;
+    pub fn sst_files_copy(
+        files: *mut sst_handle,
+        index: u64,
+        offset: u64,
+        room: *mut u8,
+        room_len: usize,
+        count: *mut u64,
+    ) -> u32;
+}

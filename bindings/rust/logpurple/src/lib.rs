@@ -1,0 +1,57 @@
+//! Sorted tables of a log-structured store: written, read from both ends, and verified.
+//!
+//! A table is bytes, and each entry has a key, a number, a kind and a value:
+//!
+//! ```
+//! use logpurple::{Table, ValueType, Writer, NEWEST};
+//!
+//! # fn main() -> Result<(), Box<dyn std::error::Error>> {
+//! let mut writer = Writer::new(1)?;
+//! writer.write(b"apple", 2, ValueType::Value, b"red")?;
+//! writer.write(b"apple", 1, ValueType::Value, b"green")?;
+//! writer.write(b"pear", 3, ValueType::Tombstone, b"")?;
+//! let file = writer.finish()?.expect("entries were written");
+//!
+//! let table = Table::open(&file)?;
+//! assert_eq!(table.get(b"apple", NEWEST)?.unwrap().value, b"red");
+//! assert_eq!(table.get(b"apple", 2)?.unwrap().value, b"green");
+//! assert!(table.get(b"pear", NEWEST)?.unwrap().is_tombstone());
+//! for item in table.range("b".."z")?.rev() {
+//!     assert_eq!(item?.key.user_key, b"pear");
+//! }
+//! assert_eq!(table.verify()?.item_count, 3);
+//! # Ok(())
+//! # }
+//! ```
+//!
+//! Below it are the calls of `sst.h`, which are proved to do what is said of them. What is between
+//! is not proved but typed: a handle is closed when it is dropped, cannot be used where it holds
+//! something else, and what it lends ends before its next read.
+
+#![warn(missing_docs)]
+#![deny(unsafe_op_in_unsafe_fn)]
+
+mod entry;
+mod error;
+mod handle;
+mod range;
+mod runs;
+mod table;
+mod verify;
+mod writer;
+
+pub use entry::{
+    InternalKey, InternalValue, LentValue, SeqNo, UserKey, UserValue, ValueType, NEWEST,
+};
+pub use error::Error;
+pub use range::Range;
+pub use runs::Runs;
+pub use table::{Metadata, OpenOptions, Table};
+pub use verify::{Fault, Finding, SectionName, Verified, VerifyError};
+pub use writer::{FinishedTable, Options, Writer};
+
+/// The version of the calls that the library answers to.
+pub fn version() -> u32 {
+    // SAFETY: it takes nothing.
+    unsafe { logpurple_sys::sst_version() }
+}

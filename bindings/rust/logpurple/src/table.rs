@@ -1,0 +1,178 @@
+//! Tables.
+
+use crate::error::test;
+use crate::handle::{get, Handle};
+use crate::{Error, InternalValue, LentValue, Range, SeqNo, Verified, VerifyError};
+use logpurple_sys as sys;
+use std::ops::RangeBounds;
+
+/// An opened table.
+///
+/// It has a copy of its bytes, and shares them with its ranges alone. These borrow it, so it can go
+/// to another thread only once none is left, and nothing that it shares stays behind: it is `Send`.
+/// Reads keep in it what they found, so two threads cannot read by one table: it is not `Sync`.
+///
+/// ```compile_fail,E0277
+/// fn is_sync<T: Sync>() {}
+/// is_sync::<logpurple::Table>();
+/// ```
+///
+/// A table cannot leave a thread while a range of it stays there:
+///
+/// ```compile_fail,E0505
+/// fn leave(table: logpurple::Table) {
+///     let range = table.iter().unwrap();
+///     std::thread::spawn(move || drop(table));
+///     drop(range);
+/// }
+/// ```
+pub struct Table {
+    pub(crate) handle: Handle,
+}
+
+/// What a table is opened with.
+#[derive(Clone, Copy, Debug, PartialEq, Eq)]
+pub struct OpenOptions {
+    /// What is added to every stored number.
+    pub global_seqno: SeqNo,
+    /// Whether a filter in one block stays loaded, else each read loads it.
+    pub pin_filter: bool,
+    /// Whether an index in one block stays loaded, else each read loads it.
+    pub pin_index: bool,
+}
+
+impl Default for OpenOptions {
+    /// Nothing is added, and both stay loaded.
+    fn default() -> OpenOptions {
+        OpenOptions { global_seqno: 0, pin_filter: true, pin_index: true }
+    }
+}
+
+impl OpenOptions {
+    /// Opens a table from a copy of its bytes. Refused with the first fault of the bytes. Bytes
+    /// whose blocks are damaged may open: reads that meet the damage are refused.
+    pub fn open(&self, file: impl AsRef<[u8]>) -> Result<Table, Error> {
+        let file = file.as_ref();
+        let handle = Handle::closed();
+        // SAFETY: the bytes are read during the call alone, and the handle holds nothing.
+        test(unsafe {
+            sys::sst_table_open(
+                file.as_ptr(),
+                file.len(),
+                self.global_seqno,
+                self.pin_filter,
+                self.pin_index,
+                handle.words(),
+            )
+        })?;
+        Ok(Table { handle })
+    }
+}
+
+/// What a table says of itself. The numbers of entries are as stored, without the global number.
+#[derive(Clone, Copy, Debug, PartialEq, Eq)]
+pub struct Metadata {
+    /// The table's id.
+    pub id: u64,
+    /// The version of its format: 3 or 4.
+    pub table_version: u64,
+    /// The lowest and the highest stored number.
+    pub seqnos: (SeqNo, SeqNo),
+    /// How many entries there are: versions, not keys.
+    pub item_count: u64,
+    /// How many of them are tombstones of either kind.
+    pub tombstone_count: u64,
+    /// How many of them are weak tombstones.
+    pub weak_tombstone_count: u64,
+    /// How many data blocks there are.
+    pub data_block_count: u64,
+    /// How many index blocks there are.
+    pub index_block_count: u64,
+    /// How many bytes the data blocks have.
+    pub file_size: u64,
+}
+
+impl Table {
+    /// Opens a table from a copy of its bytes, as `OpenOptions::default()` does.
+    pub fn open(file: impl AsRef<[u8]>) -> Result<Table, Error> {
+        OpenOptions::default().open(file)
+    }
+
+    /// Finds the newest version of a key that is numbered below `seqno`, a deletion too, and copies
+    /// it. Refused with the first fault of the blocks that it loads, and for want of memory.
+    pub fn get(&self, key: &[u8], seqno: SeqNo) -> Result<Option<InternalValue>, Error> {
+        let told = get(sys::sst_table_get, &self.handle, key, seqno)?;
+        // SAFETY: what is lent is copied here, before anything else is read.
+        let found = unsafe { self.handle.lend(told) }?;
+        found.map(|lent| lent.to_owned()).transpose()
+    }
+
+    /// As `get`, and lends what it found, until the table is used again.
+    ///
+    /// ```compile_fail,E0499
+    /// fn keep(mut table: logpurple::Table) {
+    ///     let first = table.get_lent(b"a", 9).unwrap();
+    ///     let second = table.get_lent(b"b", 9).unwrap();
+    ///     drop((first, second));
+    /// }
+    /// ```
+    pub fn get_lent(&mut self, key: &[u8], seqno: SeqNo) -> Result<Option<LentValue<'_>>, Error> {
+        let told = get(sys::sst_table_get, &self.handle, key, seqno)?;
+        // SAFETY: the table is borrowed mutably for as long as the bytes are lent.
+        unsafe { self.handle.lend(told) }
+    }
+
+    /// The entries whose keys lie within bounds, each version of a key, from both ends. Nothing is
+    /// loaded yet.
+    pub fn range<K, R>(&self, bounds: R) -> Result<Range<'_>, Error>
+    where
+        K: AsRef<[u8]>,
+        R: RangeBounds<K>,
+    {
+        Range::open(self, bounds.start_bound(), bounds.end_bound())
+    }
+
+    /// All entries, from both ends.
+    pub fn iter(&self) -> Result<Range<'_>, Error> {
+        self.range::<&[u8], _>(..)
+    }
+
+    /// What the table says of itself.
+    pub fn metadata(&self) -> Metadata {
+        let facts = self.facts();
+        Metadata {
+            id: facts.id,
+            table_version: facts.version,
+            seqnos: (facts.lowest_seqno, facts.highest_seqno),
+            item_count: facts.item_count,
+            tombstone_count: facts.tombstone_count,
+            weak_tombstone_count: facts.weak_tombstone_count,
+            data_block_count: facts.data_block_count,
+            index_block_count: facts.index_block_count,
+            file_size: facts.data_size,
+        }
+    }
+
+    /// What is added to every stored number.
+    pub fn global_seqno(&self) -> SeqNo {
+        self.facts().global_seqno
+    }
+
+    fn facts(&self) -> sys::sst_facts {
+        let mut facts = sys::sst_facts::default();
+        // SAFETY: both are references of this call.
+        let code = unsafe { sys::sst_table_facts(self.handle.words(), &mut facts) };
+        assert_eq!(code, 0, "a table that is open says of itself what there is");
+        facts
+    }
+
+    /// Reads the whole table once, and says whether its bytes store a list of entries in order,
+    /// whoever wrote them; else what is wrong first, and where. Refused for want of memory too,
+    /// which says nothing of the table.
+    pub fn verify(&self) -> Result<Verified, VerifyError> {
+        let mut told = sys::sst_verified::default();
+        // SAFETY: both are references of this call.
+        let code = unsafe { sys::sst_table_verify(self.handle.words(), &mut told) };
+        Verified::of(code, &told)
+    }
+}

@@ -1,0 +1,164 @@
+//! Writing a table.
+
+use crate::error::test;
+use crate::handle::Handle;
+use crate::{Error, InternalValue, SeqNo, ValueType};
+use logpurple_sys as sys;
+
+/// What a table is written with.
+#[derive(Clone, Copy, Debug, PartialEq, Eq)]
+pub struct Options {
+    /// The table's id.
+    pub id: u64,
+    /// When it is written, in nanoseconds since 1970.
+    pub created_at: u64,
+    /// The level at which it stands.
+    pub level: u8,
+    /// How many bytes of keys and values a data block has when it is cut, at most 4 MiB.
+    pub data_block_size: u32,
+    /// After how many entries at most reading can restart in a data block: 1 to 255.
+    pub data_block_restart_interval: u8,
+    /// How many buckets a data block's hash index has for each entry, in thousandths; 0 for none.
+    pub data_block_hash_ratio: u32,
+    /// How many bytes a partition of the index has when it is cut, at most 4 MiB; 0 for one block.
+    pub index_partition_size: u32,
+    /// How many bytes a partition of the filter has when it is cut, at most 4 MiB; 0 for one block.
+    pub filter_partition_size: u32,
+    /// How many bits the filter has for a key, in tenths of a bit; 0 for no filter.
+    pub filter_bits_per_key: u32,
+}
+
+impl Default for Options {
+    /// Blocks of 4,096 bytes, an index and a filter in one block each, ten bits a key; id, moment
+    /// and level are 0.
+    fn default() -> Options {
+        let mut told = sys::sst_options::default();
+        // SAFETY: it is a reference of this call.
+        unsafe { sys::sst_options_default(&mut told) };
+        Options {
+            id: told.id,
+            created_at: told.created_at,
+            level: told.level as u8,
+            data_block_size: told.data_block_size,
+            data_block_restart_interval: told.data_block_restart_interval as u8,
+            data_block_hash_ratio: told.data_block_hash_ratio,
+            index_partition_size: told.index_partition_size,
+            filter_partition_size: told.filter_partition_size,
+            filter_bits_per_key: told.filter_bits_per_key,
+        }
+    }
+}
+
+impl Options {
+    /// Begins to write a table. Refused with `NoSuch` where an option is out of its range, and for
+    /// want of memory.
+    pub fn open(&self) -> Result<Writer, Error> {
+        let asked = sys::sst_options {
+            id: self.id,
+            created_at: self.created_at,
+            level: self.level.into(),
+            data_block_size: self.data_block_size,
+            data_block_restart_interval: self.data_block_restart_interval.into(),
+            data_block_hash_ratio: self.data_block_hash_ratio,
+            index_partition_size: self.index_partition_size,
+            filter_partition_size: self.filter_partition_size,
+            filter_bits_per_key: self.filter_bits_per_key,
+            unused: 0,
+        };
+        let handle = Handle::closed();
+        // SAFETY: the options are read during the call alone, and the handle holds nothing.
+        test(unsafe { sys::sst_writer_open(&asked, handle.words()) })?;
+        Ok(Writer { handle })
+    }
+}
+
+/// Writes a table. Entries come by key up, and of one key by number down.
+pub struct Writer {
+    handle: Handle,
+}
+
+/// A table that is written: its bytes, and what it is called.
+#[derive(Clone, Debug, PartialEq, Eq)]
+pub struct FinishedTable {
+    /// The table's id.
+    pub id: u64,
+    /// The FNV-1a sum of all its bytes.
+    pub checksum: u64,
+    /// All its bytes.
+    pub bytes: Vec<u8>,
+}
+
+impl AsRef<[u8]> for FinishedTable {
+    fn as_ref(&self) -> &[u8] {
+        &self.bytes
+    }
+}
+
+impl Writer {
+    /// Begins to write a table of this id, with what `Options::default()` says.
+    pub fn new(id: u64) -> Result<Writer, Error> {
+        Options { id, ..Options::default() }.open()
+    }
+
+    /// Writes an entry, whose key and value are copied. Refused with `OutOfOrder` where it does not
+    /// follow the one before it or is numbered `u64::MAX`; the writer stays as it is then. After
+    /// any other refusal each further call is refused with `WriterFailed`.
+    pub fn write(
+        &mut self,
+        key: &[u8],
+        seqno: SeqNo,
+        value_type: ValueType,
+        value: &[u8],
+    ) -> Result<(), Error> {
+        // SAFETY: key and value are read during the call alone.
+        test(unsafe {
+            sys::sst_writer_add(
+                self.handle.words(),
+                key.as_ptr(),
+                key.len(),
+                seqno,
+                value_type.kind() as u32,
+                value.as_ptr(),
+                value.len(),
+            )
+        })
+    }
+
+    /// Writes an entry of its own bytes, as `write` does.
+    pub fn write_item(&mut self, item: &InternalValue) -> Result<(), Error> {
+        let key = &item.key;
+        self.write(&key.user_key, key.seqno, key.value_type, &item.value)
+    }
+
+    /// Finishes the table; `None` where nothing was written. Where it is refused, what was written
+    /// is given up.
+    pub fn finish(self) -> Result<Option<FinishedTable>, Error> {
+        let mut count = 0;
+        // SAFETY: both are references of this call.
+        test(unsafe { sys::sst_writer_finish(self.handle.words()) })?;
+        test(unsafe { sys::sst_files_count(self.handle.words(), &mut count) })?;
+        if count == 0 {
+            return Ok(None);
+        }
+        let mut told = sys::sst_file::default();
+        // SAFETY: as above.
+        test(unsafe { sys::sst_files_tell(self.handle.words(), 0, &mut told) })?;
+        let bytes = self.bytes_of(told.len)?;
+        Ok(Some(FinishedTable { id: told.id, checksum: told.checksum, bytes }))
+    }
+
+    // The bytes of the finished table, which has so many.
+    fn bytes_of(&self, len: u64) -> Result<Vec<u8>, Error> {
+        let len = usize::try_from(len).map_err(|_| Error::OutOfMemory)?;
+        let mut bytes = Vec::new();
+        bytes.try_reserve_exact(len).map_err(|_| Error::OutOfMemory)?;
+        bytes.resize(len, 0);
+        let mut count = 0;
+        // SAFETY: the room is so long, and all are references of this call.
+        test(unsafe {
+            sys::sst_files_copy(self.handle.words(), 0, 0, bytes.as_mut_ptr(), len, &mut count)
+        })?;
+        bytes.truncate(count as usize);
+        Ok(bytes)
+    }
+}

@@ -1,0 +1,106 @@
+//! The tables that the repository stores, which other programs wrote: each is read, and written
+//! again where its entries are told.
+
+mod common;
+
+use common::write;
+use logpurple::{InternalValue, Options, Table, ValueType};
+use std::fs;
+
+/// A stored table: its bytes, and where they are told its entries and what it was written with.
+#[derive(Default)]
+struct Stored {
+    bytes: Vec<u8>,
+    items: Vec<InternalValue>,
+    options: Option<Options>,
+}
+
+fn bytes_of(word: &str) -> Vec<u8> {
+    if word == "-" {
+        return Vec::new();
+    }
+    let digits = |at| u8::from_str_radix(&word[at..at + 2], 16).unwrap();
+    (0..word.len()).step_by(2).map(digits).collect()
+}
+
+fn item_of(words: &[&str]) -> InternalValue {
+    let value_type = match words[2] {
+        "1" => ValueType::Tombstone,
+        "2" => ValueType::WeakTombstone,
+        "4" => ValueType::Indirection,
+        _ => ValueType::Value,
+    };
+    let (key, value) = (bytes_of(words[0]), bytes_of(words[3]));
+    InternalValue::from_components(key, value, words[1].parse().unwrap(), value_type)
+}
+
+/// Id, level and moment; then, where they are not the defaults, the kinds of index and filter, the
+/// size of partitions, that of blocks, tenths of a bit a key and the interval of restarts.
+fn options_of(words: &[&str]) -> Options {
+    let number = |at: usize| words[at].parse::<u64>().unwrap();
+    let told = Options {
+        id: number(0),
+        level: number(1) as u8,
+        created_at: number(2),
+        ..Options::default()
+    };
+    if words.len() == 3 {
+        return told;
+    }
+    Options {
+        index_partition_size: (number(4) * number(6)) as u32,
+        filter_partition_size: (number(5) * number(6)) as u32,
+        data_block_size: number(7) as u32,
+        filter_bits_per_key: number(8) as u32,
+        data_block_restart_interval: number(9) as u8,
+        ..told
+    }
+}
+
+fn stored() -> Vec<Stored> {
+    let path = concat!(env!("CARGO_MANIFEST_DIR"), "/../../../crates/test_vectors/stdin");
+    let mut tables: Vec<Stored> = Vec::new();
+    for line in fs::read_to_string(path).unwrap().lines() {
+        let words: Vec<_> = line.split(' ').collect();
+        match (words[0], tables.last_mut()) {
+            ("table", _) => tables.push(Stored { bytes: bytes_of(words[1]), ..Stored::default() }),
+            ("entry", Some(table)) => table.items.push(item_of(&words[1..])),
+            ("write", Some(table)) => table.options = Some(options_of(&words[1..])),
+            _ => {}
+        }
+    }
+    tables
+}
+
+#[test]
+fn stored_tables_are_read() {
+    let tables = stored();
+    assert!(tables.len() > 30);
+    for stored in &tables {
+        let table = Table::open(&stored.bytes).unwrap();
+        let read: Vec<_> = table.iter().unwrap().map(Result::unwrap).collect();
+        let mut back: Vec<_> = table.iter().unwrap().rev().map(Result::unwrap).collect();
+        back.reverse();
+        assert_eq!(read, back);
+        assert_eq!(table.verify().unwrap().item_count, read.len() as u64);
+        for item in &read {
+            let found = table.get(&item.key.user_key, item.key.seqno + 1).unwrap();
+            assert_eq!(found.as_ref(), Some(item));
+        }
+        if stored.options.is_some() {
+            assert_eq!(read, stored.items);
+        }
+    }
+}
+
+#[test]
+fn stored_tables_are_written_again() {
+    let mut count = 0;
+    for stored in stored() {
+        if let Some(options) = stored.options {
+            assert!(write(&options, &stored.items).bytes == stored.bytes, "{options:?}");
+            count += 1;
+        }
+    }
+    assert!(count > 10);
+}

@@ -1,0 +1,242 @@
+//! Tables as a store uses them: written, read and damaged.
+
+mod common;
+
+use common::{items, keys, newest, random_entries, write, Entries};
+use logpurple::{
+    Error, InternalValue, OpenOptions, Options, Runs, Table, ValueType, VerifyError, Writer, NEWEST,
+};
+use std::cmp::Reverse;
+use std::ops::Bound;
+use std::thread;
+
+fn collect<I>(range: I) -> Vec<InternalValue>
+where
+    I: Iterator<Item = Result<InternalValue, Error>>,
+{
+    range.map(Result::unwrap).collect()
+}
+
+/// Small blocks, with and without partitions.
+fn small(seed: u64) -> Options {
+    Options {
+        id: seed,
+        data_block_size: 64,
+        data_block_hash_ratio: 500 * (seed as u32 % 3),
+        index_partition_size: 100 * (seed as u32 % 2),
+        filter_partition_size: 50 * (seed as u32 / 2 % 2),
+        ..Options::default()
+    }
+}
+
+#[test]
+fn the_version_is_that_of_the_declarations() {
+    assert_eq!(logpurple::version(), logpurple_sys::SST_VERSION);
+}
+
+#[test]
+fn random_tables_answer_as_a_map_does() {
+    for seed in 0..6 {
+        let entries = random_entries(seed, 300);
+        let mut table = Table::open(write(&small(seed), &items(&entries))).unwrap();
+        assert_eq!(table.verify().unwrap().item_count, entries.len() as u64);
+        for key in keys(&entries) {
+            for seqno in (0..11).chain([NEWEST]) {
+                let expected = newest(&entries, &key, seqno);
+                assert_eq!(table.get(&key, seqno).unwrap(), expected);
+                let lent = table.get_lent(&key, seqno).unwrap();
+                assert_eq!(lent.map(|lent| lent.to_owned().unwrap()), expected);
+            }
+        }
+    }
+}
+
+#[test]
+fn ranges_are_read_from_both_ends() {
+    let entries = random_entries(7, 300);
+    let all = items(&entries);
+    let table = Table::open(write(&small(1), &all)).unwrap();
+    assert_eq!(collect(table.iter().unwrap()), all);
+    assert_eq!(collect(table.iter().unwrap().rev()), all.iter().rev().cloned().collect::<Vec<_>>());
+    for turn in 2..5 {
+        assert_eq!(in_turn(&table, turn), all);
+    }
+}
+
+/// All entries, each so-manieth from the back.
+fn in_turn(table: &Table, turn: usize) -> Vec<InternalValue> {
+    let mut range = table.iter().unwrap();
+    let (mut front, mut back) = (Vec::new(), Vec::new());
+    for step in 1.. {
+        let (lent, taken) = match step % turn {
+            0 => (range.next_back_lent().unwrap(), &mut back),
+            _ => (range.next_lent().unwrap(), &mut front),
+        };
+        match lent {
+            Some(lent) => taken.push(lent.to_owned().unwrap()),
+            None => break,
+        }
+    }
+    assert!(range.next().is_none() && range.next_back().is_none());
+    front.extend(back.into_iter().rev());
+    front
+}
+
+#[test]
+fn bounds_are_those_of_the_standard_library() {
+    let entries = random_entries(8, 300);
+    let table = Table::open(write(&small(3), &items(&entries))).unwrap();
+    let bounds = |key: &'static str| {
+        [Bound::Unbounded, Bound::Included(key.as_bytes()), Bound::Excluded(key.as_bytes())]
+    };
+    for lower in ["", "a", "ab", "c"].into_iter().flat_map(bounds) {
+        for upper in ["", "b", "ca", "d"].into_iter().flat_map(bounds) {
+            let expected: Vec<_> = items(&entries)
+                .into_iter()
+                .filter(|item| is_within(&item.key.user_key, lower, upper))
+                .collect();
+            let range = table.range::<&[u8], _>((lower, upper)).unwrap();
+            assert_eq!(collect(range), expected, "{lower:?} {upper:?}");
+            let range = table.range::<&[u8], _>((lower, upper)).unwrap();
+            assert!(collect(range.rev()).iter().eq(expected.iter().rev()), "{lower:?} {upper:?}");
+        }
+    }
+}
+
+fn is_within(key: &[u8], lower: Bound<&[u8]>, upper: Bound<&[u8]>) -> bool {
+    let above = match lower {
+        Bound::Unbounded => true,
+        Bound::Included(bound) => key >= bound,
+        Bound::Excluded(bound) => key > bound,
+    };
+    let below = match upper {
+        Bound::Unbounded => true,
+        Bound::Included(bound) => key <= bound,
+        Bound::Excluded(bound) => key < bound,
+    };
+    above && below
+}
+
+#[test]
+fn the_newest_of_several_tables_is_found() {
+    let older = random_entries(9, 200);
+    let newer: Entries = random_entries(10, 200)
+        .into_iter()
+        .map(|((key, Reverse(seqno)), entry)| ((key, Reverse(seqno + 10)), entry))
+        .collect();
+    let tables =
+        [&newer, &older].map(|entries| Table::open(write(&small(2), &items(entries))).unwrap());
+    let mut runs = Runs::from_tables(tables).unwrap();
+    let both: Entries = newer.iter().chain(&older).map(|(k, e)| (k.clone(), e.clone())).collect();
+    for key in keys(&both) {
+        for seqno in (0..21).chain([NEWEST]) {
+            let expected = newest(&both, &key, seqno);
+            assert_eq!(runs.get(&key, seqno).unwrap(), expected);
+            let lent = runs.get_lent(&key, seqno).unwrap();
+            assert_eq!(lent.map(|lent| lent.to_owned().unwrap()), expected);
+        }
+    }
+    assert_eq!(collect(runs.tables()[1].iter().unwrap()), items(&older));
+    let tables = runs.into_tables();
+    assert_eq!(collect(tables[0].iter().unwrap()), items(&newer));
+}
+
+#[test]
+fn a_table_says_of_itself_what_was_written() {
+    let options = Options { id: 42, level: 3, ..Options::default() };
+    let written = write(&options, &items(&random_entries(11, 100)));
+    let opened = OpenOptions { global_seqno: 100, ..OpenOptions::default() }.open(&written);
+    let table = opened.unwrap();
+    let told = table.metadata();
+    assert_eq!((told.id, told.table_version, written.id), (42, 4, 42));
+    assert_eq!(told.item_count, table.iter().unwrap().count() as u64);
+    assert!(1 <= told.seqnos.0 && told.seqnos.1 <= 9 && told.tombstone_count > 0);
+    assert_eq!(table.global_seqno(), 100);
+    assert!(table.iter().unwrap().all(|item| item.unwrap().key.seqno > 100));
+}
+
+#[test]
+fn each_refusal_is_told() {
+    let mut writer = Writer::new(1).unwrap();
+    let mut write = |key: &[u8], seqno| writer.write(key, seqno, ValueType::Value, b"");
+    assert_eq!(write(b"b", 4), Ok(()));
+    assert_eq!(write(b"b", 4), Err(Error::OutOfOrder));
+    assert_eq!(write(b"a", 3), Err(Error::OutOfOrder));
+    assert_eq!(write(b"c", NEWEST), Err(Error::OutOfOrder));
+    assert_eq!(write(b"b", 3), Ok(()));
+    assert_eq!(write(&vec![0xff; 1 << 21], 3), Err(Error::KeyTooLong));
+    assert_eq!(write(b"d", 3), Err(Error::WriterFailed));
+    assert_eq!(writer.finish(), Err(Error::WriterFailed));
+    assert_eq!(Writer::new(1).unwrap().finish(), Ok(None));
+    let unusable = Options { data_block_restart_interval: 0, ..Options::default() };
+    assert!(matches!(unusable.open(), Err(Error::NoSuch)));
+    assert!(matches!(Table::open(b"no table"), Err(Error::InvalidTrailer)));
+    assert_eq!(Error::ChecksumMismatch.to_string(), "checksum mismatch");
+    assert_eq!((Error::ChecksumMismatch.number(), Error::Faulty.number()), (5, 107));
+}
+
+/// Each byte is damaged in turn. What opens may be read; what verifies has the same entries.
+#[test]
+fn damage_is_refused_or_found() {
+    let written = items(&random_entries(12, 5));
+    let file = write(&small(1), &written).bytes;
+    let mut found = 0;
+    for place in 0..file.len() {
+        let mut damaged = file.clone();
+        damaged[place] ^= 0xff;
+        let options = OpenOptions { pin_filter: place % 2 == 0, ..OpenOptions::default() };
+        let table = match options.open(&damaged) {
+            Ok(table) => table,
+            Err(error) => {
+                assert!((2..=20).contains(&error.number()), "{error:?}");
+                continue;
+            }
+        };
+        let read: Result<Vec<_>, _> = table.iter().unwrap().collect();
+        let back: Result<Vec<_>, _> = table.iter().unwrap().rev().collect();
+        match table.verify() {
+            Ok(_) => {
+                assert_eq!((read, back.map(|b| b.len())), (Ok(written.clone()), Ok(written.len())))
+            }
+            Err(VerifyError::Found(_)) => found += 1,
+            Err(other) => panic!("{other}"),
+        }
+    }
+    assert!(found > 0);
+}
+
+#[test]
+fn a_range_ends_at_damage_from_both_ends() {
+    let written = items(&random_entries(13, 100));
+    let mut file = write(&small(2), &written).bytes;
+    file[50] ^= 0xff;
+    let table = Table::open(&file).unwrap();
+    let mut range = table.iter().unwrap();
+    assert!(range.next_back().unwrap().is_ok());
+    assert_eq!(range.next().unwrap(), Err(Error::ChecksumMismatch));
+    assert!(range.next().is_none() && range.next_back().is_none());
+}
+
+/// Tables, writers and runs go from thread to thread, each with all that it shares something with.
+#[test]
+fn tables_go_to_other_threads() {
+    let entries = random_entries(14, 200);
+    let file = write(&small(3), &items(&entries));
+    let opened: Vec<_> = (0..4).map(|_| Table::open(&file).unwrap()).collect();
+    let readers: Vec<_> = opened
+        .into_iter()
+        .map(|table| {
+            assert!(table.iter().unwrap().next().unwrap().is_ok());
+            let expected = items(&entries);
+            thread::spawn(move || {
+                assert_eq!(collect(table.iter().unwrap()), expected);
+                Runs::from_tables([table]).unwrap()
+            })
+        })
+        .collect();
+    for reader in readers {
+        let runs = reader.join().unwrap();
+        let key = b"a".as_slice();
+        assert_eq!(runs.get(key, NEWEST).unwrap(), newest(&entries, key, NEWEST));
+    }
+}
