@@ -1,0 +1,156 @@
+-- Writers that took entries one after another.
+use Rattle.std.proofs.Common.{◌≡◌, refl, sym, ◌∙◌, ap, subst, List, [], ◌∷◌, ◌++◌, append_assoc}
+use Rattle.std.proofs.Common.{append-nil, ℕ, ◌+◌, Bool, true, false, length, length-append, ◌<◌}
+use Rattle.std.proofs.Common.{get_or, take}
+use Rattle.std.specs.Prelude.{Option, None, IsPermutation}
+use Rattle.std.specs.Io.KnownBytes.{IsAtEnd}
+use Rattle.std.proofs.lemmas.List.{map-append, take_more}
+use Rattle.sst_entries.specs.Entry.{Entry}
+use Rattle.lsm_writers.specs.declared.writer.FinishedTable.{FinishedTable}
+use Rattle.lsm_writers.specs.Tables.{IsFreshRun, TablesWriting, all_written, took, took_fault}
+use Rattle.lsm_compactions.specs.Compacted.{AreWrittenBy, RunsOn}
+use Rattle.lsm_compactions.proofs.WrittenBy.{Since, all_finished, nothing_yet, since_more}
+use Rattle.lsm_compactions.proofs.WrittenBy.{since_now}
+use Rattle.tool_lines.specs.declared.entry_line.Format.{Format}
+use Rattle.tool_make.proofs.Lines.{Goes, goes_empty, goes_end, goes_more, goes_none}
+use Rattle.tool_make.specs.Entries.{HasEntries, LosesLine, Reads, entries_in}
+use Rattle.tool_make.specs.declared.entries.Numbered.{Numbered}
+use Rattle.tool_make.specs.declared.options.WriteOptions.{WriteOptions}
+use Rattle.tool_make.specs.Written.{AreOfLines, AreTablesOf, TookAll, TookLine, TookLines}
+use Rattle.tool_make.specs.Written.{TookSorted}
+use Rattle.tool_make.specs.Written.{WritesAll, WritesSorted, writer_by}
+
+-- one more entry behind those that were taken
+pub took_more : (w m n : TablesWriting) (es : List Entry) (e : Entry) → TookAll w es m
+    → took_fault m e ≡ None → all_written n ≡ all_written m ++ e ∷ [] → n ≡ took m e
+    → TookAll w (es ++ e ∷ []) n
+took_more w m n [] e same fine listed is = (
+  subst (λ (x : TablesWriting). took_fault x e ≡ None) same fine,
+  subst (λ (x : TablesWriting). all_written (took x e) ≡ all_written x ++ e ∷ []) same
+      (ap all_written (sym is) ∙ listed),
+  is ∙ ap (λ (x : TablesWriting). took x e) same,
+)
+took_more w m n (x ∷ es) e h fine listed is =
+    (h.0, h.1, took_more (took w x) m n es e h.2 fine listed is)
+
+-- ---- lines that a writer takes as they are read
+
+-- the lines read so far spell so many entries, which a writer took
+pub record Took (format : Format) (input left : Option (List ℕ)) (w m : TablesWriting)
+    (count : ℕ) : Type 0 where
+  pub entries : List Entry
+  pub goes : Goes format input left entries
+  pub counted : count ≡ length entries
+  pub taken : TookAll w entries m
+
+pub lines_none : (format : Format) (input : Option (List ℕ)) (w : TablesWriting)
+    → Took format input input w w 0
+lines_none format input w = record {
+  entries = [];
+  goes = goes_none format input;
+  counted = refl;
+  taken = refl;
+}
+
+pub lines_empty : (format : Format) (input left new : Option (List ℕ)) (line : List ℕ)
+    (w m : TablesWriting) (count : ℕ) → Took format input left w m count
+    → LosesLine left new line → line ≡ [] → Took format input new w m count
+lines_empty format input left new line w m count h loses empty = record {
+  entries = h.entries;
+  goes = goes_empty format input left new line h.entries h.goes loses empty;
+  counted = h.counted;
+  taken = h.taken;
+}
+
+pub lines_more : (format : Format) (input left new : Option (List ℕ)) (line : List ℕ)
+    (w m n : TablesWriting) (count : ℕ) → Took format input left w m count
+    → LosesLine left new line → (line ≡ [] → ⊥) → TookLine format line m n
+    → Took format input new w n (count + 1)
+lines_more format input left new line w m n count h loses some t = record {
+  entries = h.entries ++ t.entry ∷ [];
+  goes = goes_more format input left new line h.entries t.entry h.goes loses some t.spelled;
+  counted = ap (λ (k : ℕ). k + 1) h.counted ∙ sym (length-append h.entries (t.entry ∷ []));
+  taken = took_more w m n h.entries t.entry h.taken t.taken.0
+      (ap all_written t.taken.2 ∙ t.taken.1) t.taken.2;
+}
+
+-- a line whose entry a writer took
+pub line_taken : (format : Format) (line : List ℕ) (w m : TablesWriting) (e : Entry)
+    → Reads format line e → took_fault w e ≡ None → all_written m ≡ all_written w ++ e ∷ []
+    → m ≡ took w e → TookLine format line w m
+line_taken format line w m e reads fine listed is = record {
+  entry = e;
+  spelled = reads;
+  taken = (fine, ap all_written (sym is) ∙ listed, is);
+}
+
+pub lines_end : (format : Format) (input left : Option (List ℕ)) (w m : TablesWriting)
+    (count : ℕ) → Took format input left w m count → IsAtEnd left
+    → (es : List Entry) × HasEntries format input es × (count ≡ length es) × TookAll w es m
+lines_end format input left w m count h end =
+    (h.entries, goes_end format input left h.entries h.goes end, h.counted, h.taken)
+
+-- ---- rows that a writer takes
+
+-- one more row
+pub rows_more : {A : Type 0} (w m n : TablesWriting) (rows : List (Numbered A)) (i : ℕ)
+    (row : Numbered A) → i < length rows → row ≡ get_or rows i row
+    → TookAll w (entries_in (take i rows)) m → took_fault m row.entry ≡ None
+    → all_written n ≡ all_written m ++ row.entry ∷ [] → n ≡ took m row.entry
+    → TookAll w (entries_in (take (i + 1) rows)) n
+rows_more {A} w m n rows i row less here h fine listed is =
+    let more : take (i + 1) rows ≡ take i rows ++ row ∷ [] =
+    take_more rows i row less
+    ∙ ap (λ (r : Numbered A). take i rows ++ r ∷ []) (sym here) in
+    subst (λ (es : List Entry). TookAll w es n)
+    (sym (ap (λ (rs : List (Numbered A)). entries_in rs) more
+    ∙ map-append (λ (r : Numbered A). r.entry) (take i rows) (row ∷ [])))
+    (took_more w m n (entries_in (take i rows)) row.entry h fine listed is)
+
+-- ---- the tables of a writer
+
+-- what was written before, and then these
+took_list : (w m : TablesWriting) (es : List Entry) → TookAll w es m
+    → all_written m ≡ all_written w ++ es
+took_list w m [] h = ap all_written h ∙ sym (append-nil (all_written w))
+took_list w m (e ∷ es) h =
+    took_list (took w e) m es h.2
+    ∙ ap (λ (xs : List Entry). xs ++ es) h.1
+    ∙ append_assoc (all_written w) (e ∷ []) es
+
+took_since : (w m n : TablesWriting) (es : List Entry) → IsFreshRun w → Since w m
+    → TookAll m es n → Since w n
+took_since w m n [] fresh h same = subst (Since w) (sym same) h
+took_since w m n (e ∷ es) fresh h taken =
+    took_since w (took m e) n es fresh (since_more w m fresh e h taken.0) taken.2
+
+-- the tables of a writer that took entries are those of these entries
+taken_all : {A : Type 0} (w m : TablesWriting) (es : List Entry) (fs : List (FinishedTable A))
+    → IsFreshRun w → RunsOn w → TookAll w es m → AreTablesOf m fs → WritesAll w es fs
+taken_all w m es fs fresh next taken are =
+    let all : all_written m ≡ es =
+    took_list w m es taken ∙ ap (λ (xs : List Entry). xs ++ es) (nothing_yet w fresh) in
+    (m.ids, all_finished w m fresh next (took_since w w m es fresh (since_now w fresh) taken)
+    es fs m.ids all refl are.strict are.cut are.order are.finished)
+
+taken_sorted : {A : Type 0} (sort : Bool) (w m : TablesWriting) (es : List Entry)
+    (fs : List (FinishedTable A)) → IsFreshRun w → RunsOn w → TookSorted sort w es m
+    → AreTablesOf m fs → WritesSorted sort w es fs
+taken_sorted false w m es fs fresh next taken are = taken_all w m es fs fresh next taken are
+taken_sorted true w m es fs fresh next taken are =
+    (taken.0, taken.1, taken_all w m taken.0 fs fresh next taken.2 are)
+
+-- the tables of lines
+pub of_lines : {A : Type 0} (o : WriteOptions) (input : Option (List ℕ)) (w m : TablesWriting)
+    (fs : List (FinishedTable A)) (count n : ℕ) → w ≡ writer_by o → TookLines o input w m n
+    → n ≡ count → AreTablesOf m fs → AreOfLines o input fs count
+of_lines o input w m fs count n is taken same are =
+    let by : TookSorted o.sort (writer_by o) taken.entries m =
+    subst (λ (x : TablesWriting). TookSorted o.sort x taken.entries m) is taken.taken in
+    record {
+      entries = taken.entries;
+      spelled = taken.spelled;
+      counted = sym same ∙ taken.counted;
+      written = taken_sorted o.sort (writer_by o) m taken.entries fs
+          (refl, (refl, refl, refl), refl) refl by are;
+    }
