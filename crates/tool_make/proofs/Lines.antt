@@ -1,8 +1,8 @@
 -- Entries that were read, line by line.
-use Rattle.std.proofs.Common.{◌≡◌, refl, sym, ◌∙◌, ap, subst, ℕ, ◌+◌, ◌-◌, ◌<◌, Bool, true, false}
+use Rattle.std.proofs.Common.{◌≡◌, refl, sym, ◌∙◌, ap, subst, ℕ, ◌-◌, ◌<◌, Bool, true, false}
 use Rattle.std.proofs.Common.{List, [], ◌∷◌, ◌++◌, length, take, cond, arith, append_assoc}
 use Rattle.std.proofs.Common.{append-nil, lt-ltb}
-use Rattle.std.specs.Prelude.{Option, Some, None, ◌==◌, ◌&&◌, map, nat_lt, slice_index}
+use Rattle.std.specs.Prelude.{Option, Some, None, ◌==◌, ◌&&◌, nat_lt, slice_index}
 use Rattle.std.specs.List.{onto_first}
 use Rattle.std.specs.Io.KnownBytes.{IsAtEnd}
 use Rattle.std.specs.Io.BufRead.{take_through, drop_through, first_piece, strip_last}
@@ -155,6 +155,12 @@ pub lost : (more : Bool) (old new : Option (List ℕ)) (line : List ℕ)
     → ReadsLine old new line more → more ≡ true → LosesLine old new line
 lost more old new line reads goes =
     subst (λ (b : Bool). ReadsLine old new line b) goes reads
+
+-- what a line spells, by whatever name the line goes
+pub reads_at : (format : Format) (line named : List ℕ) (e : Entry) → named ≡ line
+    → Reads format named e → Reads format line e
+reads_at format line named e same reads =
+    subst (λ (l : List ℕ). Reads format l e) same reads
 
 -- a row more
 pub goes_row : {A : Type 0} (format : Format) (input left new : Option (List ℕ)) (line : List ℕ)

@@ -2,13 +2,14 @@
 use Rattle.std.proofs.Common.{◌≡◌, refl, sym, ◌∙◌, ap, subst, List, [], ◌∷◌, ◌++◌, append_assoc}
 use Rattle.std.proofs.Common.{append-nil, ℕ, ◌+◌, Bool, true, false, length, length-append, ◌<◌}
 use Rattle.std.proofs.Common.{get_or, take}
-use Rattle.std.specs.Prelude.{Option, None, IsPermutation}
+use Rattle.std.specs.Prelude.{Option, None, Result, Ok, Err, IfOk, IsPermutation}
 use Rattle.std.specs.Io.KnownBytes.{IsAtEnd}
-use Rattle.std.proofs.lemmas.List.{map-append, take_more}
+use Rattle.std.proofs.lemmas.List.{length-map, map-append, take_more}
+use Rattle.std.proofs.lemmas.List.Sorted.{IsPermutation-map, length_permutation}
 use Rattle.sst_entries.specs.Entry.{Entry}
 use Rattle.lsm_writers.specs.declared.writer.FinishedTable.{FinishedTable}
 use Rattle.lsm_writers.specs.Tables.{IsFreshRun, TablesWriting, all_written, took, took_fault}
-use Rattle.lsm_compactions.specs.Compacted.{AreWrittenBy, RunsOn}
+use Rattle.lsm_compactions.specs.Compacted.{RunsOn}
 use Rattle.lsm_compactions.proofs.WrittenBy.{Since, all_finished, nothing_yet, since_more}
 use Rattle.lsm_compactions.proofs.WrittenBy.{since_now}
 use Rattle.tool_lines.specs.declared.entry_line.Format.{Format}
@@ -107,6 +108,26 @@ rows_more {A} w m n rows i row less here h fine listed is =
     ∙ map-append (λ (r : Numbered A). r.entry) (take i rows) (row ∷ [])))
     (took_more w m n (entries_in (take i rows)) row.entry h fine listed is)
 
+-- rows that were put in order, and then taken
+pub sorted_taken : {A E : Type 0} (format : Format) (input : Option (List ℕ))
+    (rows sorted : List (Numbered A)) (w m : TablesWriting) (told : Result ℕ E)
+    → HasEntries format input (entries_in rows) → IsPermutation rows sorted
+    → IfOk told (λ n. (n ≡ length sorted) × TookAll w (entries_in sorted) m)
+    → IfOk told (λ n. (es : List Entry) × HasEntries format input es × (n ≡ length es)
+    × ((order : List Entry) × IsPermutation es order × TookAll w order m))
+sorted_taken {A} format input rows sorted w m (Ok n) reads permuted all = (
+  entries_in rows,
+  reads,
+  all.0 ∙ length_permutation rows sorted permuted
+      ∙ sym (length-map rows (λ (r : Numbered A). r.entry)),
+  (
+    entries_in sorted,
+    IsPermutation-map (λ (r : Numbered A). r.entry) rows sorted permuted,
+    all.1,
+  ),
+)
+sorted_taken format input rows sorted w m (Err e) reads permuted all = tt
+
 -- ---- the tables of a writer
 
 -- what was written before, and then these
@@ -129,9 +150,11 @@ taken_all : {A : Type 0} (w m : TablesWriting) (es : List Entry) (fs : List (Fin
     → IsFreshRun w → RunsOn w → TookAll w es m → AreTablesOf m fs → WritesAll w es fs
 taken_all w m es fs fresh next taken are =
     let all : all_written m ≡ es =
-    took_list w m es taken ∙ ap (λ (xs : List Entry). xs ++ es) (nothing_yet w fresh) in
-    (m.ids, all_finished w m fresh next (took_since w w m es fresh (since_now w fresh) taken)
-    es fs m.ids all refl are.strict are.cut are.order are.finished)
+    took_list w m es taken ∙ ap (λ (xs : List Entry). xs ++ es) (nothing_yet w fresh) in (
+      m.ids,
+      all_finished w m fresh next (took_since w w m es fresh (since_now w fresh) taken)
+          es fs m.ids all refl are.strict are.cut are.order are.finished,
+    )
 
 taken_sorted : {A : Type 0} (sort : Bool) (w m : TablesWriting) (es : List Entry)
     (fs : List (FinishedTable A)) → IsFreshRun w → RunsOn w → TookSorted sort w es m
@@ -141,7 +164,7 @@ taken_sorted true w m es fs fresh next taken are =
     (taken.0, taken.1, taken_all w m taken.0 fs fresh next taken.2 are)
 
 -- the tables of lines
-pub of_lines : {A : Type 0} (o : WriteOptions) (input : Option (List ℕ)) (w m : TablesWriting)
+of_lines : {A : Type 0} (o : WriteOptions) (input : Option (List ℕ)) (w m : TablesWriting)
     (fs : List (FinishedTable A)) (count n : ℕ) → w ≡ writer_by o → TookLines o input w m n
     → n ≡ count → AreTablesOf m fs → AreOfLines o input fs count
 of_lines o input w m fs count n is taken same are =
@@ -154,3 +177,12 @@ of_lines o input w m fs count n is taken same are =
       written = taken_sorted o.sort (writer_by o) m taken.entries fs
           (refl, (refl, refl, refl), refl) refl by are;
     }
+
+pub told_lines : {A R E : Type 0} (o : WriteOptions) (input : Option (List ℕ))
+    (w m : TablesWriting) (n : ℕ) (fs : R → List (FinishedTable A)) (count : R → ℕ)
+    (told : Result R E) → w ≡ writer_by o → TookLines o input w m n
+    → IfOk told (λ r. (count r ≡ n) × AreTablesOf m (fs r))
+    → IfOk told (λ r. AreOfLines o input (fs r) (count r))
+told_lines o input w m n fs count (Ok r) is taken made =
+    of_lines o input w m (fs r) (count r) n is taken (sym made.0) made.1
+told_lines o input w m n fs count (Err e) is taken made = tt

@@ -4,9 +4,7 @@ ghost use Rattle.lsm_writers.specs.Writing.{IsSmallIndex};
 ghost use Rattle.tool_make.specs.Written.{options_of, target_of, writer_by};
 
 use crate::MakeError;
-use logpurple::{
-    BloomConstructionPolicy, IndexKind, MultiWriter, Options, TableIds, Timestamp,
-};
+use logpurple::{BloomConstructionPolicy, IndexKind, MultiWriter, Options, TableIds, Timestamp};
 use std::alloc::Allocator;
 use tool_lines::Format;
 

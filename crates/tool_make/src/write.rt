@@ -85,7 +85,7 @@ fn tables_of<I: BufRead, A: Allocator + Copy>(
 fn name_at<'a>(path: &'a str, options: &WriteOptions, at: usize) -> FileName<'a> {
     match options.target {
         None => FileName::Plain(path),
-        Some(_) => FileName::Part(path, at as u64 + 1),
+        Some(_) => FileName::Part(path, (at as u64).saturating_add(1)),
     }
 }
 

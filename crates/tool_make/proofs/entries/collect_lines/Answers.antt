@@ -1,6 +1,6 @@
-use Rattle.std.proofs.Common.{◌≡◌, ◌∙◌, ap, refl, rules, subst, sym, [], false, true}
+use Rattle.std.proofs.Common.{rules}
 use Rattle.tool_make.specs.Entries.{entries_in}
-use Rattle.tool_make.proofs.Lines.{at_end, goes_empty, goes_end, goes_row, lost, no_bytes}
+use Rattle.tool_make.proofs.Lines.{at_end, goes_empty, goes_end, goes_row, lost, no_bytes, reads_at}
 use Rattle.tool_make.proofs.entries.collect_lines.Goals as goal
 use Rattle.tool_make.proofs.entries.collect_lines.Goals.{then-not-is_empty+in_ok-entry+in_ok-push, else-not-is_empty}
 
@@ -20,7 +20,7 @@ loop-before-preserved g c =
     elim c.if-not-is_empty.branch [
       | then-not-is_empty+in_ok-entry+in_ok-push w ↦
           rw (w.rows-is, w.in_ok-push.ensures.items)
-          (goes_row c.args.format input (left c.loop-before.input) (left c.read_line.new.input) line rows _ c.loop-before.invariant loses (search rules) (search rules))
+          (goes_row c.args.format input (left c.loop-before.input) (left c.read_line.new.input) line rows _ c.loop-before.invariant loses (search rules) (reads_at c.args.format line w.deref.result.now _ (search rules) w.in_ok-entry.ensures))
       | else-not-is_empty w ↦
           rw w.rows-is
           (goes_empty c.args.format input (left c.loop-before.input) (left c.read_line.new.input) line (entries_in rows) c.loop-before.invariant loses (no_bytes line c.read_line.new.line.len c.is_empty.result (search rules) (search rules) (search rules)))

@@ -1,6 +1,6 @@
-use Rattle.std.proofs.Common.{rules, ◌≡◌, ◌≤◌, ◌+◌, ◌∙◌, [], arith}
+use Rattle.std.proofs.Common.{rules, arith}
 use Rattle.tool_make.proofs.Lines.{at_end, lost, no_bytes}
-use Rattle.tool_make.proofs.Taken.{lines_empty, lines_end, lines_more, lines_none}
+use Rattle.tool_make.proofs.Taken.{lines_empty, lines_end, lines_more}
 use Rattle.tool_make.proofs.entries.write_lines.Goals as goal
 use Rattle.tool_make.proofs.entries.write_lines.Goals.{then-not-is_empty+in_ok-write_line, else-not-is_empty}
 

@@ -1,5 +1,4 @@
-use Rattle.std.specs.Prelude.{◌≡◌, ◌≤◌, length, List}
-use Rattle.sst_entries.specs.Entry.{Entry}
+use Rattle.std.specs.Prelude.{◌≤◌}
 use Rattle.tool_make.proofs.Taken.{Took}
 use Rattle.tool_make.proofs.entries.write_lines.Given as goal
 
