@@ -1,3 +1,4 @@
 pub mod Entries
 pub mod Made
+pub mod TableFiles
 pub mod Written

@@ -1,5 +1,5 @@
 -- Tables that are written of lines.
-use Rattle.std.specs.Prelude.{◌≡◌, ◌-◌, ◌^◌, ◌++◌, ℕ, None, Bool, true, false, List, [], ◌∷◌, length}
+use Rattle.std.specs.Prelude.{◌≡◌, ◌≤◌, ◌-◌, ◌^◌, ◌++◌, ℕ, None, Bool, true, false, List, [], ◌∷◌, length}
 use Rattle.std.specs.Prelude.{IsPermutation, Option, Some}
 use Rattle.std.specs.Option.{unwrap_or}
 use Rattle.sst_entries.specs.Entry.{Entry}
@@ -9,6 +9,7 @@ use Rattle.lsm_writers.specs.declared.writer.FinishedTable.{FinishedTable}
 use Rattle.lsm_writers.specs.Tables.{AreFinished, AreInKeyOrder, AreTables, TablesWriting}
 use Rattle.lsm_writers.specs.Tables.{all_written, first_label, new_tables, tables_of, took}
 use Rattle.lsm_writers.specs.Tables.{took_fault, with_options}
+use Rattle.lsm_writers.specs.Writing.{IsSmallIndex}
 use Rattle.lsm_compactions.specs.Compacted.{AreWrittenBy}
 use Rattle.logpurple.specs.Words.{default_options}
 use Rattle.tool_lines.specs.declared.entry_line.Format.{Format}
@@ -27,6 +28,10 @@ options_of o = record default_options {
   index_kind = o.index;
   bloom_policy = o.filter;
 }
+
+-- no block and no partition has more than 4 MiB
+abbrev pub HasSmallSizes : WriteOptions → Type 0
+HasSmallSizes o = (o.block_size ≤ 4194304) × IsSmallIndex o.index
 
 -- the writer that is asked for
 abbrev pub writer_by : WriteOptions → TablesWriting

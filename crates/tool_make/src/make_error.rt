@@ -81,6 +81,11 @@ impl<'a> fmt::Display for MakeError<'a> {
 impl<'a> std::error::Error for MakeError<'a> {}
 
 impl<'a> From<FileError<'a>> for MakeError<'a> {
+    ghost use Rattle.std.specs.Prelude.{◌≡◌};
+    ghost use Rattle.tool_make.specs.declared.make_error.MakeError.TheVariants.{File};
+
+    ghost from_gives = { λ error made. made ≡ File error };
+
     fn from(error: FileError<'a>) -> MakeError<'a> {
         MakeError::File(error)
     }
@@ -88,24 +93,46 @@ impl<'a> From<FileError<'a>> for MakeError<'a> {
 
 // Of what is read beside files, this is the input.
 impl<'a> From<io::Error> for MakeError<'a> {
+    ghost use Rattle.std.specs.Prelude.{◌≡◌};
+    ghost use Rattle.tool_make.specs.declared.make_error.MakeError.TheVariants.{Input};
+
+    ghost from_gives = { λ error made. made ≡ Input error };
+
     fn from(error: io::Error) -> MakeError<'a> {
         MakeError::Input(error)
     }
 }
 
 impl<'a> From<Error> for MakeError<'a> {
+    ghost use Rattle.std.specs.Prelude.{◌≡◌};
+    ghost use Rattle.tool_make.specs.declared.make_error.MakeError.TheVariants.{Refused};
+
+    ghost from_gives = { λ error made. made ≡ Refused error };
+
     fn from(error: Error) -> MakeError<'a> {
         MakeError::Refused(error)
     }
 }
 
 impl<'a> From<AllocError> for MakeError<'a> {
+    ghost use Rattle.std.specs.Prelude.{◌≡◌};
+    ghost use Rattle.logpurple.specs.Words.{OutOfMemory};
+    ghost use Rattle.tool_make.specs.declared.make_error.MakeError.TheVariants.{Refused};
+
+    ghost from_gives = { λ _ made. made ≡ Refused OutOfMemory };
+
     fn from(_error: AllocError) -> MakeError<'a> {
         MakeError::Refused(Error::OutOfMemory)
     }
 }
 
 impl<'a, T: Drop> From<AllocFailed<T>> for MakeError<'a> {
+    ghost use Rattle.std.specs.Prelude.{◌≡◌};
+    ghost use Rattle.logpurple.specs.Words.{OutOfMemory};
+    ghost use Rattle.tool_make.specs.declared.make_error.MakeError.TheVariants.{Refused};
+
+    ghost from_gives = { λ _ made. made ≡ Refused OutOfMemory };
+
     fn from(_error: AllocFailed<T>) -> MakeError<'a> {
         MakeError::Refused(Error::OutOfMemory)
     }

@@ -1,7 +1,7 @@
 //! What is asked for.
-ghost use Rattle.std.specs.Prelude.{◌≡◌, ◌≤◌, IfOk};
+ghost use Rattle.std.specs.Prelude.{◌≡◌, ◌≤◌, IfOk, OnOk};
 ghost use Rattle.lsm_writers.specs.Writing.{IsSmallIndex};
-ghost use Rattle.tool_make.specs.Written.{options_of, target_of, writer_by};
+ghost use Rattle.tool_make.specs.Written.{HasSmallSizes, options_of, target_of, writer_by};
 
 use crate::MakeError;
 use logpurple::{BloomConstructionPolicy, IndexKind, MultiWriter, Options, TableIds, Timestamp};
@@ -68,7 +68,8 @@ impl WriteOptions {
         &self,
         alloc: A,
     ) -> Result<MultiWriter<A>, MakeError<'static>>
-        ensures { IfOk result (λ w. w ≡ writer_by self.now) }
+        ensures ok { IfOk result (λ w. w ≡ writer_by self.now) }
+        ensures small { OnOk result (HasSmallSizes self.now) }
     {
         if self.block_size > LARGEST || partition_size(self.index) > LARGEST {
             return Err(MakeError::SizeTooLarge);

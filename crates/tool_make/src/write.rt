@@ -1,9 +1,12 @@
 //! Tables that are written of lines.
-ghost use Rattle.std.specs.Prelude.{◌≡◌, IfOk, IsPermutation, List, length};
+ghost use Rattle.std.specs.Prelude.{◌≡◌, ◌<◌, IfOk, IsPermutation, List, OnOk, length, map};
 ghost use Rattle.sst_entries.specs.Entry.{Entry};
 ghost use Rattle.lsm_writers.specs.declared.writer.FinishedTable.{FinishedTable};
 ghost use Rattle.tool_make.specs.Entries.{HasEntries};
-ghost use Rattle.tool_make.specs.Written.{AreOfLines, AreTablesOf, TookAll, TookLines};
+ghost use Rattle.tool_files.specs.Files.{path_text};
+ghost use Rattle.tool_make.specs.TableFiles.{file_told, files_from, name_of};
+ghost use Rattle.tool_make.specs.Written.{AreOfLines, AreTablesOf, HasSmallSizes, TookAll};
+ghost use Rattle.tool_make.specs.Written.{TookLines};
 
 use crate::entries::{collect_lines, sort_rows, write_lines, write_rows};
 use crate::{Made, MakeError, WriteOptions};
@@ -68,8 +71,9 @@ fn tables_of<I: BufRead, A: Allocator + Copy>(
     input: &mut I,
     options: &WriteOptions,
 ) -> Result<Tables<A>, MakeError<'static>>
-    ensures { IfOk result (λ r.
+    ensures lines { IfOk result (λ r.
         AreOfLines options.now (I.remaining input.old) r.0.items r.1) }
+    ensures small { OnOk result (HasSmallSizes options.now) }
 {
     let mut writer = options.writer(alloc)?;
     match fill(alloc, input, options, &mut writer) {
@@ -81,12 +85,35 @@ fn tables_of<I: BufRead, A: Allocator + Copy>(
     }
 }
 
-// The name of the table at a place: the path, or one of several.
-fn name_at<'a>(path: &'a str, options: &WriteOptions, at: usize) -> FileName<'a> {
-    match options.target {
+// The name of a table's file: the path, or with a target one of several, which are numbered.
+fn name_of<'a>(path: &'a str, target: Option<u64>, number: u64) -> FileName<'a>
+    ensures { path_text result ≡ name_of path.now target number }
+{
+    match target {
         None => FileName::Plain(path),
-        Some(_) => FileName::Part(path, (at as u64).saturating_add(1)),
+        Some(_) => FileName::Part(path, number),
     }
+}
+
+// The files of tables, numbered from 1 on. Refused for want of memory alone.
+fn files_of<'a, 'b, A: Allocator + Copy>(
+    alloc: A,
+    path: &'a str,
+    target: Option<u64>,
+    tables: &'b [FinishedTable<A>],
+) -> Result<Vec<NewFile<'a, 'b>, A>, MakeError<'a>>
+    ensures { IfOk result (λ wanted.
+        map file_told wanted.items ≡ files_from path.now target 1 tables.now) }
+{
+    let mut wanted = Vec::new(alloc);
+    for table in tables {
+        let number = (wanted.len() as u64).saturating_add(1);
+        wanted.push(NewFile {
+            name: name_of(path, target, number),
+            bytes: table.bytes.as_slice(),
+        })?;
+    }
+    Ok(wanted)
 }
 
 // Writes tables into their files.
@@ -97,13 +124,7 @@ fn put_tables<'a, R: Files, A: Allocator + Copy>(
     options: &WriteOptions,
     tables: &[FinishedTable<A>],
 ) -> Result<(), MakeError<'a>> {
-    let mut wanted = Vec::new(alloc);
-    for (at, table) in tables.iter().enumerate() {
-        wanted.push(NewFile {
-            name: name_at(path, options, at),
-            bytes: table.bytes.as_slice(),
-        })?;
-    }
+    let wanted = files_of(alloc, path, options.target, tables)?;
     write_files(files, alloc, &wanted)?;
     Ok(())
 }
@@ -124,8 +145,12 @@ pub fn write_entries<'a, R: Files, I: Read + Drop, A: Allocator + Copy>(
     options: &WriteOptions,
 ) -> Result<Made, MakeError<'a>>
     // Where it answers, so many tables were made of so many entries, which the lines spell.
-    ensures { IfOk result (λ made. (fs : List (FinishedTable A)) × (made.tables ≡ length fs)
+    ensures lines { IfOk result (λ made. (fs : List (FinishedTable A))
+        × (made.tables ≡ length fs)
         × AreOfLines options.now (I.remaining input) fs made.entries) }
+    // There is an entry then, and so a table, and no block or partition is too large.
+    ensures some { IfOk result (λ made. 0 < made.tables) }
+    ensures small { OnOk result (HasSmallSizes options.now) }
 {
     let mut input = BufReader::new(alloc, input)?;
     let (tables, entries) = tables_of(alloc, &mut input, options)?;
