@@ -13,7 +13,9 @@ use Rattle.lsm_compactions.specs.Compacted.{RunsOn}
 use Rattle.lsm_compactions.proofs.WrittenBy.{Since, all_finished, nothing_yet, since_more}
 use Rattle.lsm_compactions.proofs.WrittenBy.{since_now}
 use Rattle.tool_lines.specs.declared.entry_line.Format.{Format}
-use Rattle.tool_make.proofs.Lines.{Goes, goes_empty, goes_end, goes_more, goes_none}
+use Rattle.tool_make.proofs.Lines.{Goes, goes_empty, goes_end, goes_more, goes_none, stops}
+use Rattle.tool_make.specs.declared.make_error.MakeError.{MakeError}
+use Rattle.tool_make.specs.Faults.{StopsIn, TellsLine}
 use Rattle.tool_make.specs.Entries.{HasEntries, LosesLine, Reads, entries_in}
 use Rattle.tool_make.specs.declared.entries.Numbered.{Numbered}
 use Rattle.tool_make.specs.declared.options.WriteOptions.{WriteOptions}
@@ -38,14 +40,14 @@ took_more w m n (x ∷ es) e h fine listed is =
 
 -- the lines read so far spell so many entries, which a writer took
 pub record Took (format : Format) (input left : Option (List ℕ)) (w m : TablesWriting)
-    (count : ℕ) : Type 0 where
+    (count passed : ℕ) : Type 0 where
   pub entries : List Entry
-  pub goes : Goes format input left entries
+  pub goes : Goes format input left entries passed
   pub counted : count ≡ length entries
   pub taken : TookAll w entries m
 
 pub lines_none : (format : Format) (input : Option (List ℕ)) (w : TablesWriting)
-    → Took format input input w w 0
+    → Took format input input w w 0 0
 lines_none format input w = record {
   entries = [];
   goes = goes_none format input;
@@ -54,22 +56,22 @@ lines_none format input w = record {
 }
 
 pub lines_empty : (format : Format) (input left new : Option (List ℕ)) (line : List ℕ)
-    (w m : TablesWriting) (count : ℕ) → Took format input left w m count
-    → LosesLine left new line → line ≡ [] → Took format input new w m count
-lines_empty format input left new line w m count h loses empty = record {
+    (w m : TablesWriting) (count passed : ℕ) → Took format input left w m count passed
+    → LosesLine left new line → line ≡ [] → Took format input new w m count (passed + 1)
+lines_empty format input left new line w m count passed h loses empty = record {
   entries = h.entries;
-  goes = goes_empty format input left new line h.entries h.goes loses empty;
+  goes = goes_empty format input left new line h.entries passed h.goes loses empty;
   counted = h.counted;
   taken = h.taken;
 }
 
 pub lines_more : (format : Format) (input left new : Option (List ℕ)) (line : List ℕ)
-    (w m n : TablesWriting) (count : ℕ) → Took format input left w m count
+    (w m n : TablesWriting) (count passed : ℕ) → Took format input left w m count passed
     → LosesLine left new line → (line ≡ [] → ⊥) → TookLine format line m n
-    → Took format input new w n (count + 1)
-lines_more format input left new line w m n count h loses some t = record {
+    → Took format input new w n (count + 1) (passed + 1)
+lines_more format input left new line w m n count passed h loses some t = record {
   entries = h.entries ++ t.entry ∷ [];
-  goes = goes_more format input left new line h.entries t.entry h.goes loses some t.spelled;
+  goes = goes_more format input left new line h.entries passed t.entry h.goes loses some t.spelled;
   counted = ap (λ (k : ℕ). k + 1) h.counted ∙ sym (length-append h.entries (t.entry ∷ []));
   taken = took_more w m n h.entries t.entry h.taken t.taken.0
       (ap all_written t.taken.2 ∙ t.taken.1) t.taken.2;
@@ -86,10 +88,30 @@ line_taken format line w m e reads fine listed is = record {
 }
 
 pub lines_end : (format : Format) (input left : Option (List ℕ)) (w m : TablesWriting)
-    (count : ℕ) → Took format input left w m count → IsAtEnd left
+    (count passed : ℕ) → Took format input left w m count passed → IsAtEnd left
     → (es : List Entry) × HasEntries format input es × (count ≡ length es) × TookAll w es m
-lines_end format input left w m count h end =
-    (h.entries, goes_end format input left h.entries h.goes end, h.counted, h.taken)
+lines_end format input left w m count passed h end =
+    (h.entries, goes_end format input left h.entries passed h.goes end, h.counted, h.taken)
+
+-- what was written before, and then these
+took_list : (w m : TablesWriting) (es : List Entry) → TookAll w es m
+    → all_written m ≡ all_written w ++ es
+took_list w m [] h = ap all_written h ∙ sym (append-nil (all_written w))
+took_list w m (e ∷ es) h =
+    took_list (took w e) m es h.2
+    ∙ ap (λ (xs : List Entry). xs ++ es) h.1
+    ∙ append_assoc (all_written w) (e ∷ []) es
+
+-- a line is refused
+pub lines_stop : (format : Format) (input left new : Option (List ℕ)) (line : List ℕ)
+    (w m : TablesWriting) (count passed : ℕ) (error : MakeError)
+    → Took format input left w m count passed → LosesLine left new line
+    → TellsLine (passed + 1) format (all_written m) line error
+    → StopsIn format input (all_written w) error
+lines_stop format input left new line w m count passed error h loses told =
+    stops format input left new line (all_written w) h.entries passed error h.goes loses
+    (subst (λ (es : List Entry). TellsLine (passed + 1) format es line error)
+    (took_list w m h.entries h.taken) told)
 
 -- ---- rows that a writer takes
 
@@ -129,15 +151,6 @@ sorted_taken {A} format input rows sorted w m (Ok n) reads permuted all = (
 sorted_taken format input rows sorted w m (Err e) reads permuted all = tt
 
 -- ---- the tables of a writer
-
--- what was written before, and then these
-took_list : (w m : TablesWriting) (es : List Entry) → TookAll w es m
-    → all_written m ≡ all_written w ++ es
-took_list w m [] h = ap all_written h ∙ sym (append-nil (all_written w))
-took_list w m (e ∷ es) h =
-    took_list (took w e) m es h.2
-    ∙ ap (λ (xs : List Entry). xs ++ es) h.1
-    ∙ append_assoc (all_written w) (e ∷ []) es
 
 took_since : (w m n : TablesWriting) (es : List Entry) → IsFreshRun w → Since w m
     → TookAll m es n → Since w n

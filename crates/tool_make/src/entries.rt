@@ -1,10 +1,13 @@
 //! Entries that are read from lines and written into tables.
 ghost use Rattle.std.specs.Prelude.{◌≡◌, ◌++◌, ◌∷◌, [], IfOk, IsTrue, IsPermutation, List, None};
-ghost use Rattle.std.specs.Prelude.{OnErr, OnOk, length};
+ghost use Rattle.std.specs.Prelude.{IfErr, OnOk, length, if◌then◌else◌};
 ghost use Rattle.std.specs.Io.BufRead.{strip_last};
 ghost use Rattle.sst_entries.specs.Entry.{Entry};
 ghost use Rattle.lsm_writers.specs.Tables.{all_written, took, took_fault};
 ghost use Rattle.lsm_writers.specs.Writing.{may_be_written};
+ghost use Rattle.tool_make.specs.declared.make_error.LineFault.TheVariants.{OutOfOrder, Repeated};
+ghost use Rattle.tool_make.specs.Faults.{IsOfInput, StopsIn, TellsEntry, TellsLine};
+ghost use Rattle.tool_make.specs.Faults.{TellsSpelling};
 ghost use Rattle.tool_make.specs.Written.{TookAll, TookLine};
 ghost use Rattle.tool_make.specs.Entries.{HasEntries, Reads, ReadsLine, entries_in};
 
@@ -28,8 +31,9 @@ fn read_line<I: BufRead, A: Allocator>(
     input: &mut I,
     line: &mut Vec<u8, A>,
 ) -> Result<bool, MakeError<'static>>
-    ensures { IfOk result (ReadsLine
+    ensures ok { IfOk result (ReadsLine
         (I.remaining input.old) (I.remaining input.new) line.new.items) }
+    ensures refused { IfErr result IsOfInput }
 {
     line.clear();
     let length = input.read_until(b'\n', line)?;
@@ -47,7 +51,9 @@ fn strip_end<A: Allocator>(line: &mut Vec<u8, A>)
 }
 
 // There are more lines than can be counted.
-fn too_many() -> MakeError<'static> {
+fn too_many() -> MakeError<'static>
+    ensures { IsOfInput result }
+{
     MakeError::Input(io::Error::from(ErrorKind::FileTooLarge))
 }
 
@@ -58,7 +64,8 @@ fn parse_line<A: Allocator + Copy>(
     line: &[u8],
     format: Format,
 ) -> Result<InternalValue<A>, MakeError<'static>>
-    ensures { IfOk result (λ entry. Reads format line.now entry) }
+    ensures ok { IfOk result (λ entry. Reads format line.now entry) }
+    ensures refused { IfErr result (λ error. TellsSpelling number format line.now error) }
 {
     match parse_entry(alloc, line, format) {
         Ok(entry) => Ok(entry),
@@ -69,17 +76,31 @@ fn parse_line<A: Allocator + Copy>(
     }
 }
 
-// Writes an entry behind those that were written, if it may follow.
+// What is wrong with an entry that may not follow the one before it.
+fn order_fault(sorted: bool) -> LineFault
+    ensures { result ≡ (if sorted then Repeated else OutOfOrder) }
+{
+    if sorted {
+        LineFault::Repeated
+    } else {
+        LineFault::OutOfOrder
+    }
+}
+
+// Writes an entry behind those that were written, if it may follow. Where entries were put in order,
+// one that may not follow has the key and number of the one before it.
 fn write_entry<A: Allocator + Copy>(
     writer: &mut MultiWriter<A>,
     number: u64,
     entry: &InternalValue<A>,
-    unless: LineFault,
+    sorted: bool,
 ) -> Result<(), MakeError<'static>>
     ensures ok { OnOk result (writer.new ≡ took writer.old entry.now) }
     ensures listed { OnOk result
         (all_written writer.new ≡ all_written writer.old ++ entry.now ∷ []) }
     ensures taken { OnOk result (took_fault writer.old entry.now ≡ None) }
+    ensures refused { IfErr result (λ error.
+        TellsEntry number sorted (all_written writer.old) entry.now error) }
 {
     let entry = entry.as_entry_ref();
     if entry.seqno == SeqNo::MAX {
@@ -87,7 +108,7 @@ fn write_entry<A: Allocator + Copy>(
         return Err(MakeError::Line { number, fault });
     }
     if !writer.can_follow_ref(&entry) {
-        let fault = unless;
+        let fault = order_fault(sorted);
         return Err(MakeError::Line { number, fault });
     }
     match writer.write_ref(&entry) {
@@ -108,10 +129,12 @@ fn write_line<A: Allocator + Copy>(
     format: Format,
     writer: &mut MultiWriter<A>,
 ) -> Result<(), MakeError<'static>>
-    ensures { OnOk result (TookLine format line.now writer.old writer.new) }
+    ensures ok { OnOk result (TookLine format line.now writer.old writer.new) }
+    ensures refused { IfErr result (λ error.
+        TellsLine number format (all_written writer.old) line.now error) }
 {
     let entry = parse_line(alloc, number, line, format)?;
-    write_entry(writer, number, &entry, LineFault::OutOfOrder)
+    write_entry(writer, number, &entry, false)
 }
 
 /// Writes the entries of lines, in the order in which they come, and answers how many there are.
@@ -125,8 +148,11 @@ pub(crate) fn write_lines<I: BufRead, A: Allocator + Copy>(
     format: Format,
     writer: &mut MultiWriter<A>,
 ) -> Result<u64, MakeError<'static>>
-    ensures { IfOk result (λ n. (es : List Entry) × HasEntries format (I.remaining input.old) es
+    ensures ok { IfOk result (λ n. (es : List Entry) × HasEntries format (I.remaining input.old) es
         × (n ≡ length es) × TookAll writer.old es writer.new) }
+    // Where a line is named, it is the first that is wrong, and so it is.
+    ensures refused { IfErr result (λ error.
+        StopsIn format (I.remaining input.old) (all_written writer.old) error) }
 {
     let mut line = Vec::new(alloc);
     let mut count = 0u64;
@@ -193,7 +219,7 @@ pub(crate) fn write_rows<A: Allocator + Copy>(
         (n ≡ length rows.now) × TookAll writer.old (entries_in rows.now) writer.new) }
 {
     for row in rows {
-        write_entry(writer, row.line, &row.entry, LineFault::Repeated)?;
+        write_entry(writer, row.line, &row.entry, true)?;
     }
     Ok(rows.len() as u64)
 }

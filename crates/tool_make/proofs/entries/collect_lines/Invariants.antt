@@ -5,4 +5,4 @@ use Rattle.tool_make.proofs.entries.collect_lines.Given as goal
 abbrev pub invariant-loop-before : goal.invariant-loop-before
 invariant-loop-before g l =
     Goes l.fn.format (g.I.Read.remaining l.fn.input) (g.I.Read.remaining l.input)
-    (entries_in l.rows.items)
+    (entries_in l.rows.items) l.before
