@@ -1,0 +1,201 @@
+-- Writers that took entries one after another.
+use Rattle.std.proofs.Common.{◌≡◌, refl, sym, ◌∙◌, ap, subst, List, [], ◌∷◌, ◌++◌, append_assoc}
+use Rattle.std.proofs.Common.{append-nil, ℕ, ◌+◌, Bool, true, false, length, length-append, ◌<◌}
+use Rattle.std.proofs.Common.{get_or, take}
+use Rattle.std.specs.Prelude.{Option, None, Result, Ok, Err, IfOk, IsPermutation}
+use Rattle.std.specs.Io.KnownBytes.{IsAtEnd}
+use Rattle.std.proofs.lemmas.List.{length-map, map-append, take_more}
+use Rattle.std.proofs.lemmas.List.Sorted.{IsPermutation-map, length_permutation}
+use Rattle.sst_entries.specs.Entry.{Entry}
+use Rattle.lsm_writers.specs.declared.writer.FinishedTable.{FinishedTable}
+use Rattle.lsm_writers.specs.Tables.{IsFreshRun, TablesWriting, all_written, took, took_fault}
+use Rattle.lsm_compactions.specs.Compacted.{RunsOn}
+use Rattle.lsm_compactions.proofs.WrittenBy.{Since, all_finished, nothing_yet, since_more}
+use Rattle.lsm_compactions.proofs.WrittenBy.{since_now}
+use Rattle.tool_lines.specs.declared.entry_line.Format.{Format}
+use Rattle.tool_make.proofs.Lines.{Goes, goes_empty, goes_end, goes_more, goes_none, stops}
+use Rattle.tool_make.specs.declared.make_error.MakeError.{MakeError}
+use Rattle.tool_make.specs.Faults.{StopsIn, TellsLine}
+use Rattle.tool_make.specs.Entries.{HasEntries, LosesLine, Reads, entries_in}
+use Rattle.tool_make.specs.declared.entries.Numbered.{Numbered}
+use Rattle.tool_make.specs.declared.options.WriteOptions.{WriteOptions}
+use Rattle.tool_make.specs.Written.{AreOfLines, AreTablesOf, TookAll, TookLine, TookLines}
+use Rattle.tool_make.specs.Written.{TookSorted}
+use Rattle.tool_make.specs.Written.{WritesAll, WritesSorted, writer_by}
+
+-- one more entry behind those that were taken
+pub took_more : (w m n : TablesWriting) (es : List Entry) (e : Entry) → TookAll w es m
+    → took_fault m e ≡ None → all_written n ≡ all_written m ++ e ∷ [] → n ≡ took m e
+    → TookAll w (es ++ e ∷ []) n
+took_more w m n [] e same fine listed is = (
+  subst (λ (x : TablesWriting). took_fault x e ≡ None) same fine,
+  subst (λ (x : TablesWriting). all_written (took x e) ≡ all_written x ++ e ∷ []) same
+      (ap all_written (sym is) ∙ listed),
+  is ∙ ap (λ (x : TablesWriting). took x e) same,
+)
+took_more w m n (x ∷ es) e h fine listed is =
+    (h.0, h.1, took_more (took w x) m n es e h.2 fine listed is)
+
+-- ---- lines that a writer takes as they are read
+
+-- the lines read so far spell so many entries, which a writer took
+pub record Took (format : Format) (input left : Option (List ℕ)) (w m : TablesWriting)
+    (count passed : ℕ) : Type 0 where
+  pub entries : List Entry
+  pub goes : Goes format input left entries passed
+  pub counted : count ≡ length entries
+  pub taken : TookAll w entries m
+
+pub lines_none : (format : Format) (input : Option (List ℕ)) (w : TablesWriting)
+    → Took format input input w w 0 0
+lines_none format input w = record {
+  entries = [];
+  goes = goes_none format input;
+  counted = refl;
+  taken = refl;
+}
+
+pub lines_empty : (format : Format) (input left new : Option (List ℕ)) (line : List ℕ)
+    (w m : TablesWriting) (count passed : ℕ) → Took format input left w m count passed
+    → LosesLine left new line → line ≡ [] → Took format input new w m count (passed + 1)
+lines_empty format input left new line w m count passed h loses empty = record {
+  entries = h.entries;
+  goes = goes_empty format input left new line h.entries passed h.goes loses empty;
+  counted = h.counted;
+  taken = h.taken;
+}
+
+pub lines_more : (format : Format) (input left new : Option (List ℕ)) (line : List ℕ)
+    (w m n : TablesWriting) (count passed : ℕ) → Took format input left w m count passed
+    → LosesLine left new line → (line ≡ [] → ⊥) → TookLine format line m n
+    → Took format input new w n (count + 1) (passed + 1)
+lines_more format input left new line w m n count passed h loses some t = record {
+  entries = h.entries ++ t.entry ∷ [];
+  goes = goes_more format input left new line h.entries passed t.entry h.goes loses some t.spelled;
+  counted = ap (λ (k : ℕ). k + 1) h.counted ∙ sym (length-append h.entries (t.entry ∷ []));
+  taken = took_more w m n h.entries t.entry h.taken t.taken.0
+      (ap all_written t.taken.2 ∙ t.taken.1) t.taken.2;
+}
+
+-- a line whose entry a writer took
+pub line_taken : (format : Format) (line : List ℕ) (w m : TablesWriting) (e : Entry)
+    → Reads format line e → took_fault w e ≡ None → all_written m ≡ all_written w ++ e ∷ []
+    → m ≡ took w e → TookLine format line w m
+line_taken format line w m e reads fine listed is = record {
+  entry = e;
+  spelled = reads;
+  taken = (fine, ap all_written (sym is) ∙ listed, is);
+}
+
+pub lines_end : (format : Format) (input left : Option (List ℕ)) (w m : TablesWriting)
+    (count passed : ℕ) → Took format input left w m count passed → IsAtEnd left
+    → (es : List Entry) × HasEntries format input es × (count ≡ length es) × TookAll w es m
+lines_end format input left w m count passed h end =
+    (h.entries, goes_end format input left h.entries passed h.goes end, h.counted, h.taken)
+
+-- what was written before, and then these
+took_list : (w m : TablesWriting) (es : List Entry) → TookAll w es m
+    → all_written m ≡ all_written w ++ es
+took_list w m [] h = ap all_written h ∙ sym (append-nil (all_written w))
+took_list w m (e ∷ es) h =
+    took_list (took w e) m es h.2
+    ∙ ap (λ (xs : List Entry). xs ++ es) h.1
+    ∙ append_assoc (all_written w) (e ∷ []) es
+
+-- a line is refused
+pub lines_stop : (format : Format) (input left new : Option (List ℕ)) (line : List ℕ)
+    (w m : TablesWriting) (count passed : ℕ) (error : MakeError)
+    → Took format input left w m count passed → LosesLine left new line
+    → TellsLine (passed + 1) format (all_written m) line error
+    → StopsIn format input (all_written w) error
+lines_stop format input left new line w m count passed error h loses told =
+    stops format input left new line (all_written w) h.entries passed error h.goes loses
+    (subst (λ (es : List Entry). TellsLine (passed + 1) format es line error)
+    (took_list w m h.entries h.taken) told)
+
+-- ---- rows that a writer takes
+
+-- one more row
+pub rows_more : {A : Type 0} (w m n : TablesWriting) (rows : List (Numbered A)) (i : ℕ)
+    (row : Numbered A) → i < length rows → row ≡ get_or rows i row
+    → TookAll w (entries_in (take i rows)) m → took_fault m row.entry ≡ None
+    → all_written n ≡ all_written m ++ row.entry ∷ [] → n ≡ took m row.entry
+    → TookAll w (entries_in (take (i + 1) rows)) n
+rows_more {A} w m n rows i row less here h fine listed is =
+    let more : take (i + 1) rows ≡ take i rows ++ row ∷ [] =
+    take_more rows i row less
+    ∙ ap (λ (r : Numbered A). take i rows ++ r ∷ []) (sym here) in
+    subst (λ (es : List Entry). TookAll w es n)
+    (sym (ap (λ (rs : List (Numbered A)). entries_in rs) more
+    ∙ map-append (λ (r : Numbered A). r.entry) (take i rows) (row ∷ [])))
+    (took_more w m n (entries_in (take i rows)) row.entry h fine listed is)
+
+-- rows that were put in order, and then taken
+pub sorted_taken : {A E : Type 0} (format : Format) (input : Option (List ℕ))
+    (rows sorted : List (Numbered A)) (w m : TablesWriting) (told : Result ℕ E)
+    → HasEntries format input (entries_in rows) → IsPermutation rows sorted
+    → IfOk told (λ n. (n ≡ length sorted) × TookAll w (entries_in sorted) m)
+    → IfOk told (λ n. (es : List Entry) × HasEntries format input es × (n ≡ length es)
+    × ((order : List Entry) × IsPermutation es order × TookAll w order m))
+sorted_taken {A} format input rows sorted w m (Ok n) reads permuted all = (
+  entries_in rows,
+  reads,
+  all.0 ∙ length_permutation rows sorted permuted
+      ∙ sym (length-map rows (λ (r : Numbered A). r.entry)),
+  (
+    entries_in sorted,
+    IsPermutation-map (λ (r : Numbered A). r.entry) rows sorted permuted,
+    all.1,
+  ),
+)
+sorted_taken format input rows sorted w m (Err e) reads permuted all = tt
+
+-- ---- the tables of a writer
+
+took_since : (w m n : TablesWriting) (es : List Entry) → IsFreshRun w → Since w m
+    → TookAll m es n → Since w n
+took_since w m n [] fresh h same = subst (Since w) (sym same) h
+took_since w m n (e ∷ es) fresh h taken =
+    took_since w (took m e) n es fresh (since_more w m fresh e h taken.0) taken.2
+
+-- the tables of a writer that took entries are those of these entries
+taken_all : {A : Type 0} (w m : TablesWriting) (es : List Entry) (fs : List (FinishedTable A))
+    → IsFreshRun w → RunsOn w → TookAll w es m → AreTablesOf m fs → WritesAll w es fs
+taken_all w m es fs fresh next taken are =
+    let all : all_written m ≡ es =
+    took_list w m es taken ∙ ap (λ (xs : List Entry). xs ++ es) (nothing_yet w fresh) in (
+      m.ids,
+      all_finished w m fresh next (took_since w w m es fresh (since_now w fresh) taken)
+          es fs m.ids all refl are.strict are.cut are.order are.finished,
+    )
+
+taken_sorted : {A : Type 0} (sort : Bool) (w m : TablesWriting) (es : List Entry)
+    (fs : List (FinishedTable A)) → IsFreshRun w → RunsOn w → TookSorted sort w es m
+    → AreTablesOf m fs → WritesSorted sort w es fs
+taken_sorted false w m es fs fresh next taken are = taken_all w m es fs fresh next taken are
+taken_sorted true w m es fs fresh next taken are =
+    (taken.0, taken.1, taken_all w m taken.0 fs fresh next taken.2 are)
+
+-- the tables of lines
+of_lines : {A : Type 0} (o : WriteOptions) (input : Option (List ℕ)) (w m : TablesWriting)
+    (fs : List (FinishedTable A)) (count n : ℕ) → w ≡ writer_by o → TookLines o input w m n
+    → n ≡ count → AreTablesOf m fs → AreOfLines o input fs count
+of_lines o input w m fs count n is taken same are =
+    let by : TookSorted o.sort (writer_by o) taken.entries m =
+    subst (λ (x : TablesWriting). TookSorted o.sort x taken.entries m) is taken.taken in
+    record {
+      entries = taken.entries;
+      spelled = taken.spelled;
+      counted = sym same ∙ taken.counted;
+      written = taken_sorted o.sort (writer_by o) m taken.entries fs
+          (refl, (refl, refl, refl), refl) refl by are;
+    }
+
+pub told_lines : {A R E : Type 0} (o : WriteOptions) (input : Option (List ℕ))
+    (w m : TablesWriting) (n : ℕ) (fs : R → List (FinishedTable A)) (count : R → ℕ)
+    (told : Result R E) → w ≡ writer_by o → TookLines o input w m n
+    → IfOk told (λ r. (count r ≡ n) × AreTablesOf m (fs r))
+    → IfOk told (λ r. AreOfLines o input (fs r) (count r))
+told_lines o input w m n fs count (Ok r) is taken made =
+    of_lines o input w m (fs r) (count r) n is taken (sym made.0) made.1
+told_lines o input w m n fs count (Err e) is taken made = tt

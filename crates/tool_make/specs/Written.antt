@@ -1,0 +1,91 @@
+-- Tables that are written of lines.
+use Rattle.std.specs.Prelude.{◌≡◌, ◌≤◌, ◌-◌, ◌^◌, ◌++◌, ℕ, None, Bool, true, false, List, [], ◌∷◌, length}
+use Rattle.std.specs.Prelude.{IsPermutation, Option, Some}
+use Rattle.std.specs.Option.{unwrap_or}
+use Rattle.sst_entries.specs.Entry.{Entry}
+use Rattle.sst_entries.specs.Strict.{IsStrict}
+use Rattle.lsm_formats.specs.declared.options.Options.{Options}
+use Rattle.lsm_writers.specs.declared.writer.FinishedTable.{FinishedTable}
+use Rattle.lsm_writers.specs.Tables.{AreFinished, AreInKeyOrder, AreTables, TablesWriting}
+use Rattle.lsm_writers.specs.Tables.{all_written, first_label, new_tables, tables_of, took}
+use Rattle.lsm_writers.specs.Tables.{took_fault, with_options}
+use Rattle.lsm_writers.specs.Writing.{IsSmallIndex}
+use Rattle.lsm_compactions.specs.Compacted.{AreWrittenBy}
+use Rattle.logpurple.specs.Words.{default_options}
+use Rattle.tool_lines.specs.declared.entry_line.Format.{Format}
+use Rattle.tool_make.specs.Entries.{HasEntries, Reads}
+use Rattle.tool_make.specs.declared.options.WriteOptions.{WriteOptions}
+
+-- how long a table becomes before the next one begins: no table becomes so long that is the only
+-- one
+abbrev pub target_of : Option ℕ → ℕ
+target_of target = unwrap_or target (2 ^ 64 - 1)
+
+-- what tables are written with
+abbrev pub options_of : WriteOptions → Options
+options_of o = record default_options {
+  data_block_size = o.block_size;
+  index_kind = o.index;
+  bloom_policy = o.filter;
+}
+
+-- no block and no partition has more than 4 MiB
+abbrev pub HasSmallSizes : WriteOptions → Type 0
+HasSmallSizes o = (o.block_size ≤ 4194304) × IsSmallIndex o.index
+
+-- the writer that is asked for
+abbrev pub writer_by : WriteOptions → TablesWriting
+writer_by o = with_options (new_tables (Some 1) (target_of o.target) o.level o.created_at)
+    (options_of o)
+
+-- a writer took entries one after another, and refused none
+abbrev pub TookAll : TablesWriting → List Entry → TablesWriting → Type 0
+TookAll w [] m = m ≡ w
+TookAll w (e ∷ es) m =
+    (took_fault w e ≡ None) × (all_written (took w e) ≡ all_written w ++ e ∷ [])
+    × TookAll (took w e) es m
+
+-- a writer took the entry that a line spells
+pub record TookLine (format : Format) (line : List ℕ) (w m : TablesWriting) : Type 0 where
+  pub entry : Entry
+  pub spelled : Reads format line entry
+  pub taken : TookAll w (entry ∷ []) m
+
+-- a writer took entries as they stand, or put in order
+abbrev pub TookSorted : Bool → TablesWriting → List Entry → TablesWriting → Type 0
+TookSorted false w es m = TookAll w es m
+TookSorted true w es m = (sorted : List Entry) × IsPermutation es sorted × TookAll w sorted m
+
+-- the lines of an input spell so many entries, and a writer took them
+pub record TookLines (o : WriteOptions) (input : Option (List ℕ)) (w m : TablesWriting)
+    (count : ℕ) : Type 0 where
+  pub entries : List Entry
+  pub spelled : HasEntries o.format input entries
+  pub counted : count ≡ length entries
+  pub taken : TookSorted o.sort w entries m
+
+-- the finished tables of a writer
+pub record AreTablesOf {A : Type 0} (m : TablesWriting) (fs : List (FinishedTable A)) : Type 0 where
+  pub strict : IsStrict (all_written m)
+  pub cut : AreTables m.present.options.data_block_size m.target (all_written m) (tables_of m)
+  pub order : AreInKeyOrder (tables_of m)
+  pub finished : AreFinished m.present.options (first_label m) (tables_of m) fs
+
+-- the tables of a list
+abbrev pub WritesAll : {A : Type 0} → TablesWriting → List Entry → List (FinishedTable A) → Type 0
+WritesAll w es fs = (left : Option ℕ) × AreWrittenBy w es fs left
+
+-- the tables of a list, as it stands or put in order
+abbrev pub WritesSorted : {A : Type 0} → Bool → TablesWriting → List Entry
+    → List (FinishedTable A) → Type 0
+WritesSorted false w es fs = WritesAll w es fs
+WritesSorted true w es fs =
+    (sorted : List Entry) × IsPermutation es sorted × WritesAll w sorted fs
+
+-- the lines of an input spell so many entries, and these are the tables of them
+pub record AreOfLines {A : Type 0} (o : WriteOptions) (input : Option (List ℕ))
+    (fs : List (FinishedTable A)) (count : ℕ) : Type 0 where
+  pub entries : List Entry
+  pub spelled : HasEntries o.format input entries
+  pub counted : count ≡ length entries
+  pub written : WritesSorted o.sort (writer_by o) entries fs
