@@ -1,10 +1,12 @@
 -- Tables that are compacted.
 use Rattle.std.specs.Prelude.{◌≡◌, ◌-◌, ◌^◌, ℕ, List, [], ◌∷◌, length, map, Option, Some}
+use Rattle.std.specs.List.{AllByRecursion}
 use Rattle.std.specs.Option.{unwrap_or}
 use Rattle.lsm_writers.specs.declared.writer.FinishedTable.{FinishedTable}
 use Rattle.lsm_writers.specs.Tables.{TablesWriting, new_tables}
 use Rattle.lsm_compactions.specs.AnyRuns.{WritesSome}
-use Rattle.logpurple.specs.Words.{OpenTable}
+use Rattle.lsm_compactions.specs.Compacted.{AreWrittenBy}
+use Rattle.logpurple.specs.Words.{Entry, HaveEntries, OpenTable, RunsHoldLists, kept_in}
 use Rattle.tool_compact.specs.declared.compact_options.CompactOptions.{CompactOptions}
 
 -- how long a table becomes before the next one begins: where nothing is asked for, no table
@@ -20,7 +22,17 @@ compactor_by o = new_tables (Some 1) (target_of o.target) 0 o.created_at
 abbrev pub each_alone : List OpenTable → List (List OpenTable)
 each_alone tables = map (λ t. t ∷ []) tables
 
--- so many tables of a list that can be written
-abbrev pub HasSomeTables : Type 0 → TablesWriting → ℕ → Type 0
-HasSomeTables A w count = (fs : List (FinishedTable A)) × (left : Option ℕ)
-    × WritesSome w fs left × (count ≡ length fs)
+-- tables that are made of these: those of a list that can be written; and where these are tables of
+-- lists, the newest first, those of what is kept of all entries together
+pub record AreMadeOf {A : Type 0} (o : CompactOptions) (opened : List OpenTable)
+    (tables : List (FinishedTable A)) : Type 0 where
+  pub left : Option ℕ
+  pub some : WritesSome (compactor_by o) tables left
+  pub kept : (lists : List (List (List Entry))) → RunsHoldLists (each_alone opened) lists
+      → AllByRecursion HaveEntries lists
+      → AreWrittenBy (compactor_by o) (kept_in o.rules lists) tables left
+
+-- so many tables are made of so many files, each of which was opened as a table
+abbrev pub AreMadeOfFiles : Type 0 → CompactOptions → ℕ → ℕ → Type 0
+AreMadeOfFiles A o files count = (opened : List OpenTable) × (length opened ≡ files)
+    × ((tables : List (FinishedTable A)) × (count ≡ length tables) × AreMadeOf o opened tables)

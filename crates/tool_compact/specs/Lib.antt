@@ -1,2 +1,3 @@
 pub mod Compacted
 pub mod Packed
+pub mod Printed

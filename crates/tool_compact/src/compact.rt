@@ -1,13 +1,12 @@
 //! Files that are compacted.
-ghost use Rattle.std.specs.Prelude.{◌≡◌, ◌∷◌, [], IfErr, IfOk, IfSome, List, Option, map, ℕ};
+ghost use Rattle.std.specs.Prelude.{◌≡◌, ◌∷◌, [], IfErr, IfOk, IfSome, List, Option, length, map, ℕ};
 ghost use Rattle.std.specs.Arc.{arc_value};
 ghost use Rattle.std.specs.Iterator.{IsFinite};
 ghost use Rattle.std.specs.List.{AllByRecursion};
 ghost use Rattle.logpurple.specs.Words.{CameInOrder, Entry, GoesThrough, HasMade, HaveEntries};
-ghost use Rattle.logpurple.specs.Words.{OutOfMemory, RunsHoldLists, kept_in};
-ghost use Rattle.tool_compact.specs.Compacted.{HasSomeTables, compactor_by, each_alone};
-ghost use Rattle.lsm_compactions.specs.AnyRuns.{WritesSome};
-ghost use Rattle.lsm_writers.specs.Tables.{TablesWriting};
+ghost use Rattle.logpurple.specs.Words.{OpenTable, OutOfMemory, RunsHoldLists, kept_in};
+ghost use Rattle.tool_compact.specs.Compacted.{AreMadeOf, AreMadeOfFiles, compactor_by, each_alone};
+ghost use Rattle.lsm_compactions.specs.declared.any_runs.CompactionOutcome.TheVariants.{Tables};
 
 use crate::{CompactError, CompactOptions};
 use logpurple::{
@@ -189,8 +188,7 @@ struct NewTables<A: Allocator> {
 
 // The finished tables of an outcome; none where entries came out of order.
 fn finished<A: Allocator>(outcome: CompactionOutcome<A>) -> Option<Vec<FinishedTable<A>, A>>
-    ensures { (w : TablesWriting) → HasMade w outcome →
-        IfSome result (λ tables. (left : Option ℕ) × WritesSome w tables.items left) }
+    ensures { IfSome result (λ tables. (left : Option ℕ) × (outcome ≡ Tables tables left)) }
 {
     match outcome {
         CompactionOutcome::Tables(tables, _) => Some(tables),
@@ -205,8 +203,7 @@ fn compact_opened<'a, A: Allocator + Copy>(
     tables: &[Table<A>],
     options: &CompactOptions,
 ) -> Result<NewTables<A>, CompactError<'a>>
-    ensures { IfOk result (λ made.
-        (left : Option ℕ) × WritesSome (compactor_by options.now) made.tables.items left) }
+    ensures { IfOk result (λ made. AreMadeOf options.now tables.now made.tables.items) }
 {
     let (outcome, entries) = match compact_tables(alloc, tables, options) {
         Ok(outcome) => outcome,
@@ -225,8 +222,8 @@ fn open_and_compact<'a, R: Files, A: Allocator + Copy>(
     paths: &[&'a str],
     options: &CompactOptions,
 ) -> Result<NewTables<A>, CompactError<'a>>
-    ensures { IfOk result (λ made.
-        (left : Option ℕ) × WritesSome (compactor_by options.now) made.tables.items left) }
+    ensures { IfOk result (λ made. (opened : List OpenTable) × (length opened ≡ length paths.now)
+        × AreMadeOf options.now opened made.tables.items) }
 {
     let tables = open_tables(files, alloc, paths)?;
     compact_opened(alloc, paths, &tables, options)
@@ -279,8 +276,10 @@ pub fn compact_files<'a, R: Files, A: Allocator + Copy>(
     folder: &'a str,
     options: &CompactOptions,
 ) -> Result<Made, CompactError<'a>>
-    // Where it answers, so many tables were made of a list that can be written.
-    ensures { IfOk result (λ made. HasSomeTables A (compactor_by options.now) made.tables) }
+    // So many tables of a list that can be written were made of the tables of these files; of
+    // tables of lists, those of what is kept of all entries together.
+    ensures { IfOk result (λ made.
+        AreMadeOfFiles A options.now (length paths.now) made.tables) }
 {
     let made = open_and_compact(files, alloc, paths, options)?;
     write_tables(files, alloc, folder, &made.tables)?;

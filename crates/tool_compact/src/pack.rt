@@ -1,7 +1,7 @@
 //! Files that are packed in runs.
-ghost use Rattle.std.specs.Prelude.{◌≡◌, ◌+◌, ◌∷◌, [], IfErr, IfOk, IfSome, IfNone, OnOk, length, not};
+ghost use Rattle.std.specs.Prelude.{◌≡◌, ◌+◌, ◌∷◌, [], IfErr, IfOk, IfSome, IfNone, List, OnOk, length, not};
 ghost use Rattle.lsm_ranges.specs.Packing.{AreTablesWellFormed};
-ghost use Rattle.logpurple.specs.Words.{OutOfMemory};
+ghost use Rattle.logpurple.specs.Words.{OpenTable, OutOfMemory, range_of};
 ghost use Rattle.tool_compact.specs.Packed.{IsPackedOf, alone, placed};
 
 use crate::CompactError;
@@ -124,7 +124,11 @@ pub fn pack_files<'a, R: Files, A: Allocator + Copy>(
     files: &R,
     alloc: A,
     paths: &[&'a str],
-) -> Result<Packed<Table<A>, A>, CompactError<'a>> {
+) -> Result<Packed<Table<A>, A>, CompactError<'a>>
+    // They are the tables of these files, packed.
+    ensures { IfOk result (λ packed. (opened : List OpenTable)
+        × (length opened ≡ length paths.now) × IsPackedOf range_of opened packed) }
+{
     let tables = open_tables(files, alloc, paths)?;
     check_ranges(paths, &tables)?;
     Ok(pack(alloc, tables)?)
