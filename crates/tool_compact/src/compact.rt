@@ -1,11 +1,13 @@
 //! Files that are compacted.
-ghost use Rattle.std.specs.Prelude.{◌≡◌, ◌∷◌, [], IfErr, IfOk, IfSome, List, Option, length, map, ℕ};
+ghost use Rattle.std.specs.Prelude.{◌≡◌, ◌∷◌, [], IfErr, IfNone, IfOk, IfSome, List, Option, length, map, ℕ};
 ghost use Rattle.std.specs.Arc.{arc_value};
 ghost use Rattle.std.specs.Iterator.{IsFinite};
 ghost use Rattle.std.specs.List.{AllByRecursion};
 ghost use Rattle.logpurple.specs.Words.{CameInOrder, Entry, GoesThrough, HasMade, HaveEntries};
 ghost use Rattle.logpurple.specs.Words.{OpenTable, OutOfMemory, RunsHoldLists, kept_in};
-ghost use Rattle.tool_compact.specs.Compacted.{AreMadeOf, AreMadeOfFiles, compactor_by, each_alone};
+ghost use Rattle.tool_compact.specs.declared.compact_error.CompactError.TheVariants.{Refused};
+ghost use Rattle.tool_compact.specs.Compacted.{AreMadeOf, AreMadeOfFiles, HasNoTables, IfOutOfOrder};
+ghost use Rattle.tool_compact.specs.Compacted.{TellsOrder, compactor_by, each_alone};
 ghost use Rattle.lsm_compactions.specs.declared.any_runs.CompactionOutcome.TheVariants.{Tables};
 
 use crate::{CompactError, CompactOptions};
@@ -121,7 +123,10 @@ fn blame<'a, A: Allocator + Copy>(
     paths: &[&'a str],
     tables: &[Table<A>],
     error: Error,
-) -> CompactError<'a> {
+) -> CompactError<'a>
+    ensures memory { error ≡ OutOfMemory → result ≡ Refused OutOfMemory }
+    ensures order { IfOutOfOrder result ⊥ }
+{
     if error == Error::OutOfMemory {
         return CompactError::Refused(error);
     }
@@ -188,7 +193,8 @@ struct NewTables<A: Allocator> {
 
 // The finished tables of an outcome; none where entries came out of order.
 fn finished<A: Allocator>(outcome: CompactionOutcome<A>) -> Option<Vec<FinishedTable<A>, A>>
-    ensures { IfSome result (λ tables. (left : Option ℕ) × (outcome ≡ Tables tables left)) }
+    ensures some { IfSome result (λ tables. (left : Option ℕ) × (outcome ≡ Tables tables left)) }
+    ensures none { IfNone result (HasNoTables outcome) }
 {
     match outcome {
         CompactionOutcome::Tables(tables, _) => Some(tables),
@@ -203,7 +209,8 @@ fn compact_opened<'a, A: Allocator + Copy>(
     tables: &[Table<A>],
     options: &CompactOptions,
 ) -> Result<NewTables<A>, CompactError<'a>>
-    ensures { IfOk result (λ made. AreMadeOf options.now tables.now made.tables.items) }
+    ensures made { IfOk result (λ made. AreMadeOf options.now tables.now made.tables.items) }
+    ensures order { IfErr result (TellsOrder options.now tables.now) }
 {
     let (outcome, entries) = match compact_tables(alloc, tables, options) {
         Ok(outcome) => outcome,
@@ -222,15 +229,19 @@ fn open_and_compact<'a, R: Files, A: Allocator + Copy>(
     paths: &[&'a str],
     options: &CompactOptions,
 ) -> Result<NewTables<A>, CompactError<'a>>
-    ensures { IfOk result (λ made. (opened : List OpenTable) × (length opened ≡ length paths.now)
+    ensures made { IfOk result (λ made. (opened : List OpenTable) × (length opened ≡ length paths.now)
         × AreMadeOf options.now opened made.tables.items) }
+    ensures order { IfErr result (λ e. IfOutOfOrder e ((opened : List OpenTable)
+        × (length opened ≡ length paths.now) × TellsOrder options.now opened e)) }
 {
     let tables = open_tables(files, alloc, paths)?;
     compact_opened(alloc, paths, &tables, options)
 }
 
 // Makes a folder, unless it is there.
-fn make_folder<'a, R: Files>(files: &R, folder: &'a str) -> Result<(), CompactError<'a>> {
+fn make_folder<'a, R: Files>(files: &R, folder: &'a str) -> Result<(), CompactError<'a>>
+    ensures { IfErr result (λ e. IfOutOfOrder e ⊥) }
+{
     match fs::create_dir(files, folder) {
         Ok(()) => Ok(()),
         Err(error) if error.kind() == ErrorKind::AlreadyExists => Ok(()),
@@ -247,7 +258,9 @@ fn write_tables<'a, R: Files, A: Allocator + Copy>(
     alloc: A,
     folder: &'a str,
     tables: &[FinishedTable<A>],
-) -> Result<(), CompactError<'a>> {
+) -> Result<(), CompactError<'a>>
+    ensures { IfErr result (λ e. IfOutOfOrder e ⊥) }
+{
     make_folder(files, folder)?;
     let mut wanted = Vec::new(alloc);
     for (at, table) in tables.iter().enumerate() {
@@ -278,8 +291,12 @@ pub fn compact_files<'a, R: Files, A: Allocator + Copy>(
 ) -> Result<Made, CompactError<'a>>
     // So many tables of a list that can be written were made of the tables of these files; of
     // tables of lists, those of what is kept of all entries together.
-    ensures { IfOk result (λ made.
+    ensures made { IfOk result (λ made.
         AreMadeOfFiles A options.now (length paths.now) made.tables) }
+    // Where it says that entries came out of order, tables of lists have one among what is kept of
+    // all entries together that may not follow those before it.
+    ensures order { IfErr result (λ e. IfOutOfOrder e ((opened : List OpenTable)
+        × (length opened ≡ length paths.now) × TellsOrder options.now opened e)) }
 {
     let made = open_and_compact(files, alloc, paths, options)?;
     write_tables(files, alloc, folder, &made.tables)?;

@@ -37,24 +37,46 @@ impl<'a> fmt::Display for CompactError<'a> {
 impl<'a> std::error::Error for CompactError<'a> {}
 
 impl<'a> From<FileError<'a>> for CompactError<'a> {
+    ghost use Rattle.std.specs.Prelude.{◌≡◌};
+    ghost use Rattle.tool_compact.specs.declared.compact_error.CompactError.TheVariants.{File};
+
+    ghost from_gives = { λ error e. e ≡ File error };
+
     fn from(error: FileError<'a>) -> CompactError<'a> {
         CompactError::File(error)
     }
 }
 
 impl<'a> From<Error> for CompactError<'a> {
+    ghost use Rattle.std.specs.Prelude.{◌≡◌};
+    ghost use Rattle.tool_compact.specs.declared.compact_error.CompactError.TheVariants.{Refused};
+
+    ghost from_gives = { λ error e. e ≡ Refused error };
+
     fn from(error: Error) -> CompactError<'a> {
         CompactError::Refused(error)
     }
 }
 
 impl<'a> From<AllocError> for CompactError<'a> {
+    ghost use Rattle.std.specs.Prelude.{◌≡◌};
+    ghost use Rattle.logpurple.specs.Words.{OutOfMemory};
+    ghost use Rattle.tool_compact.specs.declared.compact_error.CompactError.TheVariants.{Refused};
+
+    ghost from_gives = { λ _ e. e ≡ Refused OutOfMemory };
+
     fn from(_error: AllocError) -> CompactError<'a> {
         CompactError::Refused(Error::OutOfMemory)
     }
 }
 
 impl<'a, T: Drop> From<AllocFailed<T>> for CompactError<'a> {
+    ghost use Rattle.std.specs.Prelude.{◌≡◌};
+    ghost use Rattle.logpurple.specs.Words.{OutOfMemory};
+    ghost use Rattle.tool_compact.specs.declared.compact_error.CompactError.TheVariants.{Refused};
+
+    ghost from_gives = { λ _ e. e ≡ Refused OutOfMemory };
+
     fn from(_error: AllocFailed<T>) -> CompactError<'a> {
         CompactError::Refused(Error::OutOfMemory)
     }

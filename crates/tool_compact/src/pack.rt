@@ -2,7 +2,7 @@
 ghost use Rattle.std.specs.Prelude.{◌≡◌, ◌+◌, ◌∷◌, [], IfErr, IfOk, IfSome, IfNone, List, OnOk, length, not};
 ghost use Rattle.lsm_ranges.specs.Packing.{AreTablesWellFormed};
 ghost use Rattle.logpurple.specs.Words.{OpenTable, OutOfMemory, range_of};
-ghost use Rattle.tool_compact.specs.Packed.{IsPackedOf, alone, placed};
+ghost use Rattle.tool_compact.specs.Packed.{IsPackedOf, NamesTurned, RefusesToPack, alone, placed};
 
 use crate::CompactError;
 use crate::print::path_at;
@@ -105,7 +105,9 @@ fn pack<T: Clone + Ranged + Drop, A: Allocator + Copy>(
 
 // Refused where the range of a file's keys ends before it begins.
 fn check_ranges<'a, T: Ranged>(paths: &[&'a str], tables: &[T]) -> Result<(), CompactError<'a>>
-    ensures { OnOk result (AreTablesWellFormed T.range tables.now) }
+    ensures ok { OnOk result (AreTablesWellFormed T.range tables.now) }
+    // A refusal names a file whose range is turned.
+    ensures err { IfErr result (NamesTurned T.range paths.now tables.now) }
 {
     for (place, table) in tables.iter().enumerate() {
         if !table.key_range().is_well_formed() {
@@ -126,8 +128,11 @@ pub fn pack_files<'a, R: Files, A: Allocator + Copy>(
     paths: &[&'a str],
 ) -> Result<Packed<Table<A>, A>, CompactError<'a>>
     // They are the tables of these files, packed.
-    ensures { IfOk result (λ packed. (opened : List OpenTable)
+    ensures ok { IfOk result (λ packed. (opened : List OpenTable)
         × (length opened ≡ length paths.now) × IsPackedOf range_of opened packed) }
+    // A refusal names a file that is not opened, or one of tables whose first key is above the
+    // last; or it is for want of memory.
+    ensures err { IfErr result (RefusesToPack paths.now) }
 {
     let tables = open_tables(files, alloc, paths)?;
     check_ranges(paths, &tables)?;
