@@ -4,6 +4,7 @@ ghost use Rattle.tool_tasks.specs.Statuses.{status_of_failure};
 
 use std::alloc::{AllocError, AllocFailed};
 use std::{fmt, io};
+use tool_compact::CompactError;
 use tool_files::FileError;
 use tool_lines::LineError;
 use tool_make::MakeError;
@@ -24,6 +25,8 @@ pub(crate) enum Failure<'a> {
     Show(ShowError<'a>),
     /// Files were not made.
     Make(MakeError<'a>),
+    /// Files were not compacted or packed.
+    Compact(CompactError<'a>),
 }
 
 impl<'a> Failure<'a> {
@@ -48,6 +51,7 @@ impl<'a> fmt::Display for Failure<'a> {
             Failure::File(error) => write!(f, "{error}"),
             Failure::Show(error) => write!(f, "{error}"),
             Failure::Make(error) => write!(f, "{error}"),
+            Failure::Compact(error) => write!(f, "{error}"),
         }
     }
 }
@@ -85,5 +89,11 @@ impl<'a> From<ShowError<'a>> for Failure<'a> {
 impl<'a> From<MakeError<'a>> for Failure<'a> {
     fn from(error: MakeError<'a>) -> Failure<'a> {
         Failure::Make(error)
+    }
+}
+
+impl<'a> From<CompactError<'a>> for Failure<'a> {
+    fn from(error: CompactError<'a>) -> Failure<'a> {
+        Failure::Compact(error)
     }
 }

@@ -8,11 +8,9 @@ use crate::failure::Failure;
 use logpurple::{BloomConstructionPolicy, IndexKind, Rules, Timestamp};
 use std::io::{Read, Write};
 use std::rt::{Clock, Files};
+use tool_compact::{CompactOptions, compact_files, pack_files, print_packed};
 use tool_lines::Format;
-use tool_make::{
-    CompactOptions, WriteOptions, compact_files, pack_files, print_made, print_packed,
-    write_entries,
-};
+use tool_make::{Made, WriteOptions, print_made, write_entries};
 use tool_options::{CompactTask, PackTask, WriteTask};
 
 /// How a line spells an entry.
@@ -104,6 +102,10 @@ pub(crate) fn compact<'a, R: Files, C: Clock, W: Write>(
     let options = compact_options(task, now(system.clock));
     let files = task.files.as_slice();
     let made = compact_files(system.files, system.alloc, files, task.folder, &options)?;
+    let made = Made {
+        tables: made.tables,
+        entries: made.entries,
+    };
     print_made(output, made)?;
     Ok(())
 }

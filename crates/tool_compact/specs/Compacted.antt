@@ -1,0 +1,61 @@
+-- Tables that are compacted.
+use Rattle.std.specs.Prelude.{◌≡◌, ◌-◌, ◌^◌, ℕ, List, [], ◌∷◌, length, map, Option, Some}
+use Rattle.std.specs.List.{AllByRecursion}
+use Rattle.std.specs.Option.{unwrap_or}
+use Rattle.lsm_writers.specs.declared.writer.FinishedTable.{FinishedTable}
+use Rattle.lsm_writers.specs.Tables.{TablesWriting, new_tables}
+use Rattle.sst_entries.specs.Stream.{ok_results}
+use Rattle.lsm_compactions.specs.AnyRuns.{LeavesOrder, WritesSome}
+use Rattle.lsm_compactions.specs.Compacted.{AreWrittenBy}
+use Rattle.lsm_compactions.specs.declared.any_runs.CompactionOutcome.{CompactionOutcome}
+use Rattle.lsm_compactions.specs.declared.any_runs.CompactionOutcome.TheVariants.{Tables}
+use Rattle.logpurple.specs.Words.{Entry, HaveEntries, OpenTable, RunsHoldLists, kept_in}
+use Rattle.tool_compact.specs.declared.compact_error.CompactError.{CompactError}
+use Rattle.tool_compact.specs.declared.compact_error.CompactError.TheVariants as error
+use Rattle.tool_compact.specs.declared.compact_options.CompactOptions.{CompactOptions}
+
+-- how long a table becomes before the next one begins: where nothing is asked for, no table
+-- becomes so long
+abbrev pub target_of : Option ℕ → ℕ
+target_of target = unwrap_or target (2 ^ 64 - 1)
+
+-- the writer that is asked for
+abbrev pub compactor_by : CompactOptions → TablesWriting
+compactor_by o = new_tables (Some 1) (target_of o.target) 0 o.created_at
+
+-- tables, each in a run of its own
+abbrev pub each_alone : List OpenTable → List (List OpenTable)
+each_alone tables = map (λ t. t ∷ []) tables
+
+-- tables that are made of these: those of a list that can be written; and where these are tables of
+-- lists, the newest first, those of what is kept of all entries together
+pub record AreMadeOf {A : Type 0} (o : CompactOptions) (opened : List OpenTable)
+    (tables : List (FinishedTable A)) : Type 0 where
+  pub left : Option ℕ
+  pub some : WritesSome (compactor_by o) tables left
+  pub kept : (lists : List (List (List Entry))) → RunsHoldLists (each_alone opened) lists
+      → AllByRecursion HaveEntries lists
+      → AreWrittenBy (compactor_by o) (kept_in o.rules lists) tables left
+
+-- so many tables are made of so many files, each of which was opened as a table
+abbrev pub AreMadeOfFiles : Type 0 → CompactOptions → ℕ → ℕ → Type 0
+AreMadeOfFiles A o files count = (opened : List OpenTable) × (length opened ≡ files)
+    × ((tables : List (FinishedTable A)) × (count ≡ length tables) × AreMadeOf o opened tables)
+
+-- it came to no tables
+abbrev pub HasNoTables : {A : Type 0} → CompactionOutcome A → Type 0
+HasNoTables (Tables tables left) = ⊥
+HasNoTables _ = Unit {0}
+
+-- where an error says that entries came out of order, this holds
+abbrev pub IfOutOfOrder : CompactError → Type 0 → Type 0
+IfOutOfOrder (error.OutOfOrder path) P = P
+IfOutOfOrder error.Repeated P = P
+IfOutOfOrder _ P = Unit {0}
+
+-- where tables of lists are said to have entries out of order, one of what is kept of all together
+-- may not follow those before it
+abbrev pub TellsOrder : CompactOptions → List OpenTable → CompactError → Type 0
+TellsOrder o opened e = (lists : List (List (List Entry))) → RunsHoldLists (each_alone opened) lists
+    → AllByRecursion HaveEntries lists
+    → IfOutOfOrder e (LeavesOrder (compactor_by o) (ok_results (kept_in o.rules lists)))

@@ -1,0 +1,3 @@
+pub mod Compacted
+pub mod Packed
+pub mod Printed

@@ -1,0 +1,51 @@
+-- Files that are packed in runs.
+use denote.Ref.{Bor}
+use Rattle.std.specs.Prelude.{◌≡◌, ℕ, suc, List, [], ◌∷◌, length, false, Some}
+use Rattle.std.specs.List.{slice_get}
+use Rattle.lsm_ranges.specs.KeyRange.{Interval, is_well_formed}
+use Rattle.lsm_ranges.specs.Packing.{IsChain, IsLeastSize, SameHolders, SameTables}
+use Rattle.tool_compact.specs.declared.pack.Packed.{Packed}
+use Rattle.tool_compact.specs.declared.pack.Placed.{Placed}
+use Rattle.logpurple.specs.Words.{OpenTable, OutOfMemory, range_of}
+use Rattle.tool_compact.specs.declared.compact_error.CompactError.{CompactError}
+use Rattle.tool_compact.specs.declared.compact_error.CompactError.TheVariants as error
+use Rattle.tool_compact.specs.Printed.{path_or_mark}
+
+-- a table and its place
+abbrev pub placed : {T : Type 0} → ℕ → T → Placed T
+placed place table = record { place = place; table = table }
+
+-- tables with their places, each in a run of its own
+abbrev pub alone : {T : Type 0} → ℕ → List T → List (List (Placed T))
+alone place [] = []
+alone place (t ∷ ts) = (placed place t ∷ []) ∷ alone (suc place) ts
+
+-- runs of these tables, as few as there can be while each key keeps the order of its tables; and a
+-- chain of tables that overlap each other in turn, as long as there must be runs
+pub record IsPackedOf {T A : Type 0} (range : T → Interval) (tables : List T) (p : Packed T A)
+    : Type 0 where
+  pub same : SameTables (alone 0 tables) p.runs.items
+  pub order : SameHolders (λ t. range t.table) (alone 0 tables) p.runs.items
+  pub least : IsLeastSize (λ t. range t.table) (alone 0 tables) (length p.runs.items)
+  pub chain : IsChain (λ t. range t.table) (alone 0 tables) p.chain.items
+  pub as_long : IsLeastSize (λ t. range t.table) (alone 0 tables) (length p.chain.items)
+
+-- the error that says of a path that the first key of its file is above the last
+abbrev pub IsTurned : List ℕ → CompactError → Type 0
+IsTurned path (error.Range name) = name.now ≡ path
+IsTurned path _ = ⊥
+
+-- an error names the path of a table whose first key is above its last
+abbrev pub NamesTurned : {T : Type 0} → (T → Interval) → List (Bor (List ℕ)) → List T
+    → CompactError → Type 0
+NamesTurned {T} range paths tables e = (place : ℕ) × (t : T) × (slice_get tables place ≡ Some t)
+    × (is_well_formed (range t) ≡ false) × IsTurned (path_or_mark (slice_get paths place)) e
+
+-- why files are not packed: one cannot be opened, the first key of one is above its last, or memory
+-- is refused
+abbrev pub RefusesToPack : List (Bor (List ℕ)) → CompactError → Type 0
+RefusesToPack paths (error.File e) = Unit {0}
+RefusesToPack paths (error.Refused e) = e ≡ OutOfMemory
+RefusesToPack paths (error.Range name) = (tables : List OpenTable)
+    × (length tables ≡ length paths) × NamesTurned range_of paths tables (error.Range name)
+RefusesToPack paths _ = ⊥

@@ -1,0 +1,307 @@
+//! Files that are compacted.
+ghost use Rattle.std.specs.Prelude.{◌≡◌, ◌∷◌, [], IfErr, IfNone, IfOk, IfSome, List, Option, length, map, ℕ};
+ghost use Rattle.std.specs.Arc.{arc_value};
+ghost use Rattle.std.specs.Iterator.{IsFinite};
+ghost use Rattle.std.specs.List.{AllByRecursion};
+ghost use Rattle.logpurple.specs.Words.{CameInOrder, Entry, GoesThrough, HasMade, HaveEntries};
+ghost use Rattle.logpurple.specs.Words.{OpenTable, OutOfMemory, RunsHoldLists, kept_in};
+ghost use Rattle.tool_compact.specs.declared.compact_error.CompactError.TheVariants.{Refused};
+ghost use Rattle.tool_compact.specs.Compacted.{AreMadeOf, AreMadeOfFiles, HasNoTables, IfOutOfOrder};
+ghost use Rattle.tool_compact.specs.Compacted.{TellsOrder, compactor_by, each_alone};
+ghost use Rattle.lsm_compactions.specs.declared.any_runs.CompactionOutcome.TheVariants.{Tables};
+
+use crate::{CompactError, CompactOptions};
+use logpurple::{
+    CompactionOutcome, Error, FinishedTable, InternalValue, IterItem, OpenOptions, Run, Table,
+    compact_to_run_with,
+};
+use std::alloc::Allocator;
+use std::fs;
+use std::io::ErrorKind;
+use std::rt::Files;
+use std::sync::Arc;
+use tool_files::{FileError, FileFault, FileName, NewFile, open_tables, write_files};
+
+/// How many tables were made, and how many entries these have.
+#[derive(Clone, Copy, Debug, PartialEq, Eq)]
+pub struct Made {
+    /// The tables.
+    pub tables: u64,
+    /// The entries of all tables.
+    pub entries: u64,
+}
+
+// Runs of tables.
+type Runs<A> = Vec<Arc<Run<Table<A>, A>, A>, A>;
+
+// A share of a table as a run of its own.
+fn run_of<A: Allocator + Copy>(
+    alloc: A,
+    table: &Table<A>,
+) -> Result<Arc<Run<Table<A>, A>, A>, Error>
+    ensures ok { IfOk result (λ run. arc_value run ≡ table.now ∷ []) }
+    ensures err { IfErr result (λ e. e ≡ OutOfMemory) }
+{
+    let mut alone = Vec::new(alloc);
+    alone.push(table.clone()?)?;
+    match Run::new(alone) {
+        Some(run) => Ok(Arc::new(alloc, run)?),
+        // What has a table is a run.
+        None => Err(Error::OutOfMemory),
+    }
+}
+
+// Shares of tables, each as a run of its own.
+fn runs_of<A: Allocator + Copy>(alloc: A, tables: &[Table<A>]) -> Result<Runs<A>, Error>
+    ensures ok { IfOk result (λ runs. map arc_value runs.items ≡ each_alone tables.now) }
+    ensures err { IfErr result (λ e. e ≡ OutOfMemory) }
+{
+    let mut runs = Vec::new(alloc);
+    for table in tables {
+        runs.push(run_of(alloc, table)?)?;
+    }
+    Ok(runs)
+}
+
+// How many entries some tables tell.
+fn count_entries<A: Allocator>(tables: &[Table<A>]) -> u64 {
+    let mut count = 0u64;
+    for table in tables {
+        count = count.saturating_add(table.metadata.item_count);
+    }
+    count
+}
+
+// The first refusal among entries.
+fn first_refusal<I: Iterator<Item = IterItem<A>> + Drop, A: Allocator>(items: I) -> Option<Error>
+    requires can { I.can_next items }
+    requires finite { IsFinite (I.remaining items) }
+{
+    for item in items {
+        if let Err(error) = item {
+            return Some(error);
+        }
+    }
+    None
+}
+
+// Whether entries come in order, as far as they can be read.
+fn is_in_order<I: Iterator<Item = IterItem<A>> + Drop, A: Allocator>(items: I) -> bool
+    requires can { I.can_next items }
+    requires finite { IsFinite (I.remaining items) }
+{
+    let mut last: Option<InternalValue<A>> = None;
+    for item in items {
+        if let Ok(item) = item {
+            if !item.may_follow(last.as_ref()) {
+                return false;
+            }
+            last = Some(item);
+        }
+    }
+    true
+}
+
+// The first refusal of reading a table whole.
+fn refusal_of<A: Allocator + Copy>(table: &Table<A>) -> Option<Error> {
+    match table.scan() {
+        Ok(items) => first_refusal(items),
+        Err(error) => Some(error),
+    }
+}
+
+// Whether the entries of a table come in order.
+fn has_order<A: Allocator + Copy>(table: &Table<A>) -> bool {
+    match table.scan() {
+        Ok(items) => is_in_order(items),
+        Err(_) => true,
+    }
+}
+
+// Which file a refusal comes from, where that is known.
+fn blame<'a, A: Allocator + Copy>(
+    paths: &[&'a str],
+    tables: &[Table<A>],
+    error: Error,
+) -> CompactError<'a>
+    ensures memory { error ≡ OutOfMemory → result ≡ Refused OutOfMemory }
+    ensures order { IfOutOfOrder result ⊥ }
+{
+    if error == Error::OutOfMemory {
+        return CompactError::Refused(error);
+    }
+    for (path, table) in paths.iter().zip(tables) {
+        if let Some(error) = refusal_of(table) {
+            return CompactError::File(FileError {
+                name: FileName::Plain(path),
+                fault: FileFault::Refused(error),
+            });
+        }
+    }
+    CompactError::Refused(error)
+}
+
+// Which file has entries out of order; where none has, a key has one number twice.
+fn blame_order<'a, A: Allocator + Copy>(
+    paths: &[&'a str],
+    tables: &[Table<A>],
+) -> CompactError<'a> {
+    for (path, table) in paths.iter().zip(tables) {
+        if !has_order(table) {
+            return CompactError::OutOfOrder(path);
+        }
+    }
+    CompactError::Repeated
+}
+
+// What came of some tables, and how many entries what is made has.
+type Outcome<A> = (CompactionOutcome<A>, u64);
+
+// Compacts tables, each a run of its own.
+fn compact_tables<A: Allocator + Copy>(
+    alloc: A,
+    tables: &[Table<A>],
+    options: &CompactOptions,
+) -> Result<Outcome<A>, Error>
+    // Whatever the tables hold, what is made are tables of a list that can be written.
+    ensures made { IfOk result (λ r. HasMade (compactor_by options.now) r.0) }
+    // Of tables of lists, the newest first, these are the tables of what is kept of all entries
+    // together; or one of these comes that may not follow.
+    ensures merged { (lists : List (List (List Entry))) →
+        RunsHoldLists (each_alone tables.now) lists → AllByRecursion HaveEntries lists →
+        IfOk result (λ r.
+        CameInOrder (compactor_by options.now) (kept_in options.now.rules lists) r.0) }
+    ensures through { IfOk result (λ r. GoesThrough r.0) }
+{
+    let runs = runs_of(alloc, tables)?;
+    let writer = options.writer(alloc)?;
+    let how = OpenOptions::default();
+    let (outcome, run) = compact_to_run_with(alloc, &runs, options.rules, writer, &how)?;
+    let entries = match run {
+        Some(run) => count_entries(run.as_slice()),
+        None => 0,
+    };
+    Ok((outcome, entries))
+}
+
+// The tables that are made, and how many entries they have.
+#[derive(Drop)]
+struct NewTables<A: Allocator> {
+    tables: Vec<FinishedTable<A>, A>,
+    entries: u64,
+}
+
+// The finished tables of an outcome; none where entries came out of order.
+fn finished<A: Allocator>(outcome: CompactionOutcome<A>) -> Option<Vec<FinishedTable<A>, A>>
+    ensures some { IfSome result (λ tables. (left : Option ℕ) × (outcome ≡ Tables tables left)) }
+    ensures none { IfNone result (HasNoTables outcome) }
+{
+    match outcome {
+        CompactionOutcome::Tables(tables, _) => Some(tables),
+        CompactionOutcome::OutOfOrder | CompactionOutcome::Stopped => None,
+    }
+}
+
+// Compacts tables of files. A refusal names the file that it comes from, where that is known.
+fn compact_opened<'a, A: Allocator + Copy>(
+    alloc: A,
+    paths: &[&'a str],
+    tables: &[Table<A>],
+    options: &CompactOptions,
+) -> Result<NewTables<A>, CompactError<'a>>
+    ensures made { IfOk result (λ made. AreMadeOf options.now tables.now made.tables.items) }
+    ensures order { IfErr result (TellsOrder options.now tables.now) }
+{
+    let (outcome, entries) = match compact_tables(alloc, tables, options) {
+        Ok(outcome) => outcome,
+        Err(error) => return Err(blame(paths, tables, error)),
+    };
+    match finished(outcome) {
+        Some(tables) => Ok(NewTables { tables, entries }),
+        None => Err(blame_order(paths, tables)),
+    }
+}
+
+// Opens files and compacts their tables.
+fn open_and_compact<'a, R: Files, A: Allocator + Copy>(
+    files: &R,
+    alloc: A,
+    paths: &[&'a str],
+    options: &CompactOptions,
+) -> Result<NewTables<A>, CompactError<'a>>
+    ensures made { IfOk result (λ made. (opened : List OpenTable) × (length opened ≡ length paths.now)
+        × AreMadeOf options.now opened made.tables.items) }
+    ensures order { IfErr result (λ e. IfOutOfOrder e ((opened : List OpenTable)
+        × (length opened ≡ length paths.now) × TellsOrder options.now opened e)) }
+{
+    let tables = open_tables(files, alloc, paths)?;
+    compact_opened(alloc, paths, &tables, options)
+}
+
+// Makes a folder, unless it is there.
+fn make_folder<'a, R: Files>(files: &R, folder: &'a str) -> Result<(), CompactError<'a>>
+    ensures { IfErr result (λ e. IfOutOfOrder e ⊥) }
+{
+    match fs::create_dir(files, folder) {
+        Ok(()) => Ok(()),
+        Err(error) if error.kind() == ErrorKind::AlreadyExists => Ok(()),
+        Err(error) => Err(CompactError::File(FileError {
+            name: FileName::Plain(folder),
+            fault: FileFault::Io(error),
+        })),
+    }
+}
+
+// Writes tables into a folder.
+fn write_tables<'a, R: Files, A: Allocator + Copy>(
+    files: &R,
+    alloc: A,
+    folder: &'a str,
+    tables: &[FinishedTable<A>],
+) -> Result<(), CompactError<'a>>
+    ensures { IfErr result (λ e. IfOutOfOrder e ⊥) }
+{
+    make_folder(files, folder)?;
+    let mut wanted = Vec::new(alloc);
+    for (at, table) in tables.iter().enumerate() {
+        wanted.push(NewFile {
+            name: FileName::Within(folder, at as u64 + 1),
+            bytes: table.bytes.as_slice(),
+        })?;
+    }
+    write_files(files, alloc, &wanted)?;
+    Ok(())
+}
+
+/// Compacts files of tables, each a run of its own, as
+/// [`compact_any_runs`](logpurple::compact_any_runs), and writes the new tables into a folder, which
+/// is made where there is none: the files `1.sst`, `2.sst` and so on, which take the place of files
+/// of these names.
+///
+/// Refused as [`open_tables`], where a block of a file cannot be read, where the entries of a file
+/// are out of order, where a key has one number twice in the files, as the writer of the tables,
+/// [`write_files`] and the system are, and for want of memory. No file was changed then but as
+/// [`write_files`] says.
+pub fn compact_files<'a, R: Files, A: Allocator + Copy>(
+    files: &R,
+    alloc: A,
+    paths: &[&'a str],
+    folder: &'a str,
+    options: &CompactOptions,
+) -> Result<Made, CompactError<'a>>
+    // So many tables of a list that can be written were made of the tables of these files; of
+    // tables of lists, those of what is kept of all entries together.
+    ensures made { IfOk result (λ made.
+        AreMadeOfFiles A options.now (length paths.now) made.tables) }
+    // Where it says that entries came out of order, tables of lists have one among what is kept of
+    // all entries together that may not follow those before it.
+    ensures order { IfErr result (λ e. IfOutOfOrder e ((opened : List OpenTable)
+        × (length opened ≡ length paths.now) × TellsOrder options.now opened e)) }
+{
+    let made = open_and_compact(files, alloc, paths, options)?;
+    write_tables(files, alloc, folder, &made.tables)?;
+    Ok(Made {
+        tables: made.tables.len() as u64,
+        entries: made.entries,
+    })
+}

@@ -1,0 +1,14 @@
+//! Files of tables that are compacted, and packed in runs.
+#![tactic(auto)]
+
+mod compact;
+mod compact_error;
+mod compact_options;
+mod pack;
+mod print;
+
+pub use compact::{Made, compact_files};
+pub use compact_error::CompactError;
+pub use compact_options::CompactOptions;
+pub use pack::{Packed, Placed, pack_files};
+pub use print::print_packed;
