@@ -1,5 +1,6 @@
 -- Tables that are compacted.
-use Rattle.std.specs.Prelude.{◌≡◌, ◌-◌, ◌^◌, ℕ, List, [], ◌∷◌, length, map, Option, Some}
+use Rattle.std.specs.Prelude.{◌≡◌, ◌-◌, ◌^◌, ℕ, List, [], ◌∷◌, length, map}
+use Rattle.std.specs.Prelude.{Option, Some, min, sum_by}
 use Rattle.std.specs.List.{AllByRecursion}
 use Rattle.std.specs.Option.{unwrap_or}
 use Rattle.lsm_writers.specs.declared.writer.FinishedTable.{FinishedTable}
@@ -7,9 +8,11 @@ use Rattle.lsm_writers.specs.Tables.{TablesWriting, new_tables}
 use Rattle.sst_entries.specs.Stream.{ok_results}
 use Rattle.lsm_compactions.specs.AnyRuns.{LeavesOrder, WritesSome}
 use Rattle.lsm_compactions.specs.Compacted.{AreWrittenBy}
+use Rattle.lsm_compactions.specs.OpenedBy.{AreOpenedBy, default_opening}
 use Rattle.lsm_compactions.specs.declared.any_runs.CompactionOutcome.{CompactionOutcome}
 use Rattle.lsm_compactions.specs.declared.any_runs.CompactionOutcome.TheVariants.{Tables}
 use Rattle.logpurple.specs.Words.{Entry, HaveEntries, OpenTable, RunsHoldLists, kept_in}
+use Rattle.tool_compact.specs.declared.compact.Made.{Made}
 use Rattle.tool_compact.specs.declared.compact_error.CompactError.{CompactError}
 use Rattle.tool_compact.specs.declared.compact_error.CompactError.TheVariants as error
 use Rattle.tool_compact.specs.declared.compact_options.CompactOptions.{CompactOptions}
@@ -37,10 +40,26 @@ pub record AreMadeOf {A : Type 0} (o : CompactOptions) (opened : List OpenTable)
       → AllByRecursion HaveEntries lists
       → AreWrittenBy (compactor_by o) (kept_in o.rules lists) tables left
 
--- so many tables are made of so many files, each of which was opened as a table
-abbrev pub AreMadeOfFiles : Type 0 → CompactOptions → ℕ → ℕ → Type 0
-AreMadeOfFiles A o files count = (opened : List OpenTable) × (length opened ≡ files)
-    × ((tables : List (FinishedTable A)) × (count ≡ length tables) × AreMadeOf o opened tables)
+-- how many entries tables say that they have together, as far as that can be counted
+abbrev pub counted : List OpenTable → ℕ
+counted tables = min (sum_by (λ t. t.parts.facts.item_count) tables) (2 ^ 64 - 1)
+
+-- so many entries are told by finished tables, once these are opened
+abbrev pub TellCount : {A : Type 0} → List (FinishedTable A) → ℕ → Type 0
+TellCount tables count = (opened : List OpenTable) × AreOpenedBy default_opening tables opened
+    × (count ≡ counted opened)
+
+-- so many are told by what it came to
+abbrev pub HasCount : {A : Type 0} → CompactionOutcome A → ℕ → Type 0
+HasCount (Tables tables left) count = TellCount tables.items count
+HasCount _ count = Unit {0}
+
+-- so many tables with so many entries are made of so many files, each of which was opened as a
+-- table
+abbrev pub AreMadeOfFiles : Type 0 → CompactOptions → ℕ → Made → Type 0
+AreMadeOfFiles A o files made = (opened : List OpenTable) × (length opened ≡ files)
+    × ((tables : List (FinishedTable A)) × (made.tables ≡ length tables) × AreMadeOf o opened tables
+    × TellCount tables made.entries)
 
 -- it came to no tables
 abbrev pub HasNoTables : {A : Type 0} → CompactionOutcome A → Type 0

@@ -7,7 +7,8 @@ ghost use Rattle.logpurple.specs.Words.{CameInOrder, Entry, GoesThrough, HasMade
 ghost use Rattle.logpurple.specs.Words.{OpenTable, OutOfMemory, RunsHoldLists, kept_in};
 ghost use Rattle.tool_compact.specs.declared.compact_error.CompactError.TheVariants.{Refused};
 ghost use Rattle.tool_compact.specs.Compacted.{AreMadeOf, AreMadeOfFiles, HasNoTables, IfOutOfOrder};
-ghost use Rattle.tool_compact.specs.Compacted.{TellsOrder, compactor_by, each_alone};
+ghost use Rattle.tool_compact.specs.Compacted.{HasCount, TellCount, TellsOrder, compactor_by, counted};
+ghost use Rattle.tool_compact.specs.Compacted.{each_alone};
 ghost use Rattle.lsm_compactions.specs.declared.any_runs.CompactionOutcome.TheVariants.{Tables};
 
 use crate::{CompactError, CompactOptions};
@@ -64,7 +65,9 @@ fn runs_of<A: Allocator + Copy>(alloc: A, tables: &[Table<A>]) -> Result<Runs<A>
 }
 
 // How many entries some tables tell.
-fn count_entries<A: Allocator>(tables: &[Table<A>]) -> u64 {
+fn count_entries<A: Allocator>(tables: &[Table<A>]) -> u64
+    ensures { result ≡ counted tables.now }
+{
     let mut count = 0u64;
     for table in tables {
         count = count.saturating_add(table.metadata.item_count);
@@ -172,6 +175,7 @@ fn compact_tables<A: Allocator + Copy>(
         IfOk result (λ r.
         CameInOrder (compactor_by options.now) (kept_in options.now.rules lists) r.0) }
     ensures through { IfOk result (λ r. GoesThrough r.0) }
+    ensures count { IfOk result (λ r. HasCount r.0 r.1) }
 {
     let runs = runs_of(alloc, tables)?;
     let writer = options.writer(alloc)?;
@@ -210,6 +214,7 @@ fn compact_opened<'a, A: Allocator + Copy>(
     options: &CompactOptions,
 ) -> Result<NewTables<A>, CompactError<'a>>
     ensures made { IfOk result (λ made. AreMadeOf options.now tables.now made.tables.items) }
+    ensures count { IfOk result (λ made. TellCount made.tables.items made.entries) }
     ensures order { IfErr result (TellsOrder options.now tables.now) }
 {
     let (outcome, entries) = match compact_tables(alloc, tables, options) {
@@ -231,6 +236,7 @@ fn open_and_compact<'a, R: Files, A: Allocator + Copy>(
 ) -> Result<NewTables<A>, CompactError<'a>>
     ensures made { IfOk result (λ made. (opened : List OpenTable) × (length opened ≡ length paths.now)
         × AreMadeOf options.now opened made.tables.items) }
+    ensures count { IfOk result (λ made. TellCount made.tables.items made.entries) }
     ensures order { IfErr result (λ e. IfOutOfOrder e ((opened : List OpenTable)
         × (length opened ≡ length paths.now) × TellsOrder options.now opened e)) }
 {
@@ -290,9 +296,10 @@ pub fn compact_files<'a, R: Files, A: Allocator + Copy>(
     options: &CompactOptions,
 ) -> Result<Made, CompactError<'a>>
     // So many tables of a list that can be written were made of the tables of these files; of
-    // tables of lists, those of what is kept of all entries together.
+    // tables of lists, those of what is kept of all entries together. As many entries are answered as
+    // these tables tell.
     ensures made { IfOk result (λ made.
-        AreMadeOfFiles A options.now (length paths.now) made.tables) }
+        AreMadeOfFiles A options.now (length paths.now) made) }
     // Where it says that entries came out of order, tables of lists have one among what is kept of
     // all entries together that may not follow those before it.
     ensures order { IfErr result (λ e. IfOutOfOrder e ((opened : List OpenTable)
