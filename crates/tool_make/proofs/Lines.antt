@@ -166,7 +166,8 @@ pub goes_more : (format : Format) (input left new : Option (List ℕ)) (line : L
 goes_more format None left new line es count e h loses some reads = tt
 goes_more format (Some bytes) None new line es count e h loses some reads = absurd h
 goes_more format (Some bytes) (Some rest) new line es count e h loses some reads =
-    goes_on format bytes rest line new es (e ∷ []) count h loses (spell_one format line e some reads)
+    goes_on format bytes rest line new es (e ∷ []) count h loses
+    (spell_one format line e some reads)
 
 -- nothing is left
 pub goes_end : (format : Format) (input left : Option (List ℕ)) (es : List Entry) (count : ℕ)

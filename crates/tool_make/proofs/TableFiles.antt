@@ -21,7 +21,8 @@ files_behind {A} path target number (x ∷ fs) f =
     let more : suc number + length fs ≡ number + length (x ∷ fs) = omega arith in
     ap (λ (l : List (List ℕ × List ℕ)). (name_of path target number, x.bytes) ∷ l)
     (files_behind path target (suc number) fs f
-    ∙ ap (λ (n : ℕ). files_from path target (suc number) fs ++ (name_of path target n, f.bytes) ∷ [])
+    ∙ ap (λ (n : ℕ). files_from path target (suc number) fs
+    ++ (name_of path target n, f.bytes) ∷ [])
     more)
 
 -- so it is as the files are listed
@@ -41,6 +42,7 @@ files_more {A} path target fs i f wanted file number less here so_far counted na
     ∙ ap (λ (n : List ℕ). files_from path target 1 (take i fs) ++ (n, file.bytes.now) ∷ []) named
     ∙ ap (λ (b : List ℕ). files_from path target 1 (take i fs)
     ++ (name_of path target number, b) ∷ []) held
-    ∙ ap (λ (n : ℕ). files_from path target 1 (take i fs) ++ (name_of path target n, f.bytes) ∷ []) at
+    ∙ ap (λ (n : ℕ). files_from path target 1 (take i fs)
+    ++ (name_of path target n, f.bytes) ∷ []) at
     ∙ sym (files_behind path target 1 (take i fs) f)
     ∙ ap (λ (l : List (FinishedTable A)). files_from path target 1 l) (sym more)

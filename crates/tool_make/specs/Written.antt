@@ -1,5 +1,6 @@
 -- Tables that are written of lines.
-use Rattle.std.specs.Prelude.{◌≡◌, ◌≤◌, ◌-◌, ◌^◌, ◌++◌, ℕ, None, Bool, true, false, List, [], ◌∷◌, length}
+use Rattle.std.specs.Prelude.{◌≡◌, ◌≤◌, ◌-◌, ◌^◌, ◌++◌, ℕ, None, Bool, true, false}
+use Rattle.std.specs.Prelude.{List, [], ◌∷◌, length}
 use Rattle.std.specs.Prelude.{IsPermutation, Option, Some}
 use Rattle.std.specs.Option.{unwrap_or}
 use Rattle.sst_entries.specs.Entry.{Entry}

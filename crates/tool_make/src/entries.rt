@@ -87,8 +87,8 @@ fn order_fault(sorted: bool) -> LineFault
     }
 }
 
-// Writes an entry behind those that were written, if it may follow. Where entries were put in order,
-// one that may not follow has the key and number of the one before it.
+// Writes an entry behind those that were written, if it may follow. Where entries were put in
+// order, one that may not follow has the key and number of the one before it.
 fn write_entry<A: Allocator + Copy>(
     writer: &mut MultiWriter<A>,
     number: u64,
