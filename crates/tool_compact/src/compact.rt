@@ -18,7 +18,6 @@ use logpurple::{
 };
 use std::alloc::Allocator;
 use std::fs;
-use std::io::ErrorKind;
 use std::rt::Files;
 use std::sync::Arc;
 use tool_files::{FileError, FileFault, FileName, NewFile, open_tables, write_files};
@@ -244,13 +243,12 @@ fn open_and_compact<'a, R: Files, A: Allocator + Copy>(
     compact_opened(alloc, paths, &tables, options)
 }
 
-// Makes a folder, unless it is there.
+// Makes a folder, which must not be there yet, so that nothing in it is replaced or taken for new.
 fn make_folder<'a, R: Files>(files: &R, folder: &'a str) -> Result<(), CompactError<'a>>
     ensures { IfErr result (λ e. IfOutOfOrder e ⊥) }
 {
     match fs::create_dir(files, folder) {
         Ok(()) => Ok(()),
-        Err(error) if error.kind() == ErrorKind::AlreadyExists => Ok(()),
         Err(error) => Err(CompactError::File(FileError {
             name: FileName::Plain(folder),
             fault: FileFault::Io(error),
@@ -259,7 +257,7 @@ fn make_folder<'a, R: Files>(files: &R, folder: &'a str) -> Result<(), CompactEr
 }
 
 // Writes tables into a folder.
-fn write_tables<'a, R: Files, A: Allocator + Copy>(
+fn fill_folder<'a, R: Files, A: Allocator + Copy>(
     files: &R,
     alloc: A,
     folder: &'a str,
@@ -267,7 +265,6 @@ fn write_tables<'a, R: Files, A: Allocator + Copy>(
 ) -> Result<(), CompactError<'a>>
     ensures { IfErr result (λ e. IfOutOfOrder e ⊥) }
 {
-    make_folder(files, folder)?;
     let mut wanted = Vec::new(alloc);
     for (at, table) in tables.iter().enumerate() {
         wanted.push(NewFile {
@@ -279,15 +276,31 @@ fn write_tables<'a, R: Files, A: Allocator + Copy>(
     Ok(())
 }
 
+// Writes tables into a new folder. Where that is refused, the folder goes too, if nothing is in it.
+fn write_tables<'a, R: Files, A: Allocator + Copy>(
+    files: &R,
+    alloc: A,
+    folder: &'a str,
+    tables: &[FinishedTable<A>],
+) -> Result<(), CompactError<'a>>
+    ensures { IfErr result (λ e. IfOutOfOrder e ⊥) }
+{
+    make_folder(files, folder)?;
+    let filled = fill_folder(files, alloc, folder, tables);
+    if filled.is_err() {
+        let _ = fs::remove_dir(files, folder);
+    }
+    filled
+}
+
 /// Compacts files of tables, each a run of its own, as
 /// [`compact_any_runs`](logpurple::compact_any_runs), and writes the new tables into a folder, which
-/// is made where there is none: the files `1.sst`, `2.sst` and so on, which take the place of files
-/// of these names.
+/// it makes: the files `1.sst`, `2.sst` and so on.
 ///
 /// Refused as [`open_tables`], where a block of a file cannot be read, where the entries of a file
-/// are out of order, where a key has one number twice in the files, as the writer of the tables,
-/// [`write_files`] and the system are, and for want of memory. No file was changed then but as
-/// [`write_files`] says.
+/// are out of order, where a key has one number twice in what is kept of the files, as the writer of
+/// the tables, [`write_files`] and the system are, where the folder is there already, and for want
+/// of memory. No file that was there is changed.
 pub fn compact_files<'a, R: Files, A: Allocator + Copy>(
     files: &R,
     alloc: A,

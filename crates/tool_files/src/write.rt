@@ -34,8 +34,8 @@ struct Beside<A: Allocator> {
 /// Writes files. Each is written beside its name, under a name of its own that no file had, and
 /// synced; once all are whole, each is renamed and takes the place of the file that had its name.
 ///
-/// Refused where the system refuses, where a folder or what else is no plain file has a file's
-/// name, where a thousand names beside it are taken, and for want of memory: then the files that
+/// Refused where the system refuses, where a folder, a link or what else is no plain file has a
+/// file's name, where a thousand names beside it are taken, and for want of memory: then the files that
 /// were written are removed, as far as the system does it, and what had the names stays. Only where
 /// a renaming is refused, the files before it stand renamed.
 pub fn write_files<'a, R: Files, A: Allocator + Copy>(
@@ -108,12 +108,15 @@ fn path_of<A: Allocator + Copy>(alloc: A, name: &FileName<'_>) -> Result<String<
     format!(in alloc; "{name}")
 }
 
-// Refused where what has the file's name is not to be replaced: all but a plain file.
+// Refused where what has the file's name is not to be replaced: all but a plain file, links too,
+// and where the system does not tell what has it.
 fn check_place<R: Files>(files: &R, path: &str) -> Result<(), FileFault> {
-    match fs::metadata(files, path) {
+    match fs::symlink_metadata(files, path) {
         Ok(metadata) if metadata.is_dir() => Err(FileFault::Folder),
         Ok(metadata) if !metadata.is_file() => Err(FileFault::NotPlain),
-        _ => Ok(()),
+        Ok(_) => Ok(()),
+        Err(error) if error.kind() == ErrorKind::NotFound => Ok(()),
+        Err(error) => Err(FileFault::Io(error)),
     }
 }
 
