@@ -14,7 +14,8 @@
  * (`sst_handle table = {0};`). A call fills it; `sst_close` empties it, and may be called twice.
  * What was opened from what a handle holds has shares of its own, so handles may be closed in any
  * order. A handle may be moved, and no copy of it may be used beside it. One thread uses a handle
- * at a time, and what was opened from one another stays on one thread.
+ * at a time; a handle and what was opened from what it holds are used by one thread at a time
+ * together, with what orders memory between two, as a lock does.
  *
  * Each call answers 0, or the number of what refused it. 1 to 24 are the library's refusals; 23 is
  * a writer that has refused before, 5 a block that was damaged. From 100 on they are those of the
@@ -24,9 +25,10 @@
  * there are none, any pointer that is not NULL will do. What a call is given is read until it
  * returns, and never kept. What a call writes to may not overlap what else it is given.
  *
- * Each call is proved to do what is said here, by the library's own contracts. Not proved, but
- * relied on: that pointers are as said above, that a handle's words are written by these calls
- * alone, and that `malloc` aligns to 16 bytes. Where lent pointers point is tested, and not proved.
+ * What each call answers, tells and leaves is proved, by the library's own contracts; docs/C.md has
+ * what of it is not. Relied on, and not proved: that pointers are as said above, that a handle's
+ * words are written by these calls alone, and that `malloc` aligns to 16 bytes. Where lent pointers
+ * point is tested, and not proved.
  */
 #ifndef SST_H
 #define SST_H
@@ -228,8 +230,8 @@ uint32_t sst_writer_open(const sst_options *options, sst_handle *writer);
 
 /* Writes an entry, whose key and value are copied. Entries come by key up, and of one key by number
  * down: SST_OUT_OF_ORDER where one does not, or where its number is UINT64_MAX; SST_NO_SUCH where
- * there is no such kind. The writer stays as it is then. After any other refusal each further call
- * is refused 23.
+ * there is no such kind. The writer stays as it is then. After any other refusal an entry that may
+ * follow is refused 23, or for want of memory.
  */
 uint32_t sst_writer_add(sst_handle *writer, const uint8_t *key, size_t key_len, uint64_t seqno,
                         uint32_t kind, const uint8_t *value, size_t value_len);
@@ -247,6 +249,7 @@ typedef struct sst_file {
   uint64_t len;
 } sst_file;
 
+/* Tells how many tables are finished: none of a writer that is not finished, or wrote nothing. */
 uint32_t sst_files_count(sst_handle *files, uint64_t *count);
 
 /* Tells what a finished table is called and how long it is. SST_NO_SUCH where there is none at that

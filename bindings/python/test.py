@@ -1,10 +1,13 @@
 """Tests of the package: `bindings/test` runs them, with the examples of its pages."""
 
+import copy
 import doctest
 import os
+import pickle
 import random
 import sys
 import tempfile
+import threading
 import unittest
 
 sys.path.insert(0, os.path.dirname(__file__))
@@ -103,6 +106,47 @@ class Tables(unittest.TestCase):
                 table.verify()
             except logpurple.Faulty as error:
                 self.assertGreater(error.finding.fault, 0)
+
+    def test_threads_share_a_table(self):
+        entries = entries_of(6, 300)
+        table = Table.open(file_of(entries))
+        keys = sorted({entry.key for entry in entries})
+        wrong = []
+
+        def read(start):
+            for i in range(2000):
+                key = keys[(start + 7 * i) % len(keys)]
+                if table.entry(key) != newest(entries, key, logpurple.NEWEST):
+                    wrong.append(key)
+            if list(table.entries()) != entries:
+                wrong.append(b"all")
+
+        threads = [threading.Thread(target=read, args=(31 * n,)) for n in range(6)]
+        for thread in threads:
+            thread.start()
+        for thread in threads:
+            thread.join()
+        self.assertEqual(wrong, [])
+
+    def test_what_is_opened_is_not_copied(self):
+        table = Table.open(file_of(entries_of(7, 3)))
+        for copied in (copy.copy, copy.deepcopy, pickle.dumps):
+            with self.assertRaises(TypeError):
+                copied(table)
+            with self.assertRaises(TypeError):
+                copied(table._handle)
+
+    def test_numbers_that_do_not_fit(self):
+        writer = logpurple.Writer()
+        table = Table.open(file_of(entries_of(8, 3)))
+        for call in (lambda: writer.add(b"a", b"", seqno=2**64), lambda: table.get(b"a", at=-1),
+                     lambda: writer.add(b"a", b"", kind=2**32 + 1), lambda: table.get(b"a", at=2**64),
+                     lambda: Table.open(b"", global_seqno=2**64), lambda: logpurple.Writer(id=2**64),
+                     lambda: logpurple.Writer(filter_bits_per_key=2**32)):
+            with self.assertRaises(OverflowError):
+                call()
+        with self.assertRaises(TypeError):
+            table.get("a")
 
 
 def load_tests(loader, tests, pattern):

@@ -16,11 +16,16 @@ b'green'
 False
 >>> [(entry.key, entry.seqno, entry.kind.name) for entry in table.entries()]
 [(b'apple', 2, 'VALUE'), (b'apple', 1, 'VALUE'), (b'pear', 3, 'TOMBSTONE')]
+
+Any number of threads may use what they share: one lock lets one call in at a time. What is opened is
+neither copied nor pickled.
 """
 
 import ctypes
 import enum
+import operator
 import os
+import threading
 from typing import Iterator, NamedTuple, Optional, Tuple, Union
 
 from . import _calls
@@ -112,6 +117,28 @@ def _test(code: int) -> None:
         raise _ERRORS.get(code, TableError)(code)
 
 
+def _number(value: int, bits: int = 64) -> int:
+    """A number that a call takes as it is, since none is cut off at a word's end."""
+    value = operator.index(value)
+    if not 0 <= value < 1 << bits:
+        raise OverflowError(f"{value} has no place in {bits} bits")
+    return value
+
+
+def _plain(value: bytes) -> bytes:
+    """Bytes as they are, without what a subclass says of them."""
+    return value if type(value) is bytes else bytes(memoryview(value))
+
+
+def _copied(address: int, length: int) -> bytes:
+    return bytes((ctypes.c_char * length).from_address(address))
+
+
+# A read writes to its handle, and what it lends is copied by a second call: so one thread at a time
+# is at work on what is held. Tables, their ranges and runs share, so there is one lock for all.
+_lock = threading.RLock()
+
+
 class _Held:
     """What has a handle: it is closed once nothing names it, or by `close` or `with`."""
 
@@ -120,7 +147,8 @@ class _Held:
 
     def close(self) -> None:
         """Lets go what is held. It may be closed twice."""
-        _calls.close(byref(self._handle))
+        with _lock:
+            _calls.close(byref(self._handle))
 
     def __enter__(self):
         return self
@@ -129,16 +157,26 @@ class _Held:
         self.close()
 
     def __del__(self) -> None:
-        if hasattr(self, "_handle") and _calls is not None:
-            _calls.close(byref(self._handle))
+        if hasattr(self, "_handle") and _calls is not None and _lock is not None:
+            with _lock:
+                _calls.close(byref(self._handle))
+
+    def __copy__(self):
+        raise TypeError(f"a {type(self).__name__} is not copied")
+
+    def __deepcopy__(self, _: object):
+        raise TypeError(f"a {type(self).__name__} is not copied")
+
+    def __reduce_ex__(self, _: object):
+        raise TypeError(f"a {type(self).__name__} is not pickled")
 
     def _found(self, told: "_calls.EntryTold") -> Optional[Entry]:
         if told.kind == 0:
             return None
         lent = _calls.Lent()
         _test(_calls.found_lend(byref(self._handle), byref(lent)))
-        return Entry(ctypes.string_at(lent.key, lent.key_len), told.seqno, Kind(told.kind),
-                     ctypes.string_at(lent.value, lent.value_len))
+        return Entry(_copied(lent.key, lent.key_len), told.seqno, Kind(told.kind),
+                     _copied(lent.value, lent.value_len))
 
 
 class _Read(_Held):
@@ -148,9 +186,11 @@ class _Read(_Held):
 
     def entry(self, key: bytes, at: int = NEWEST) -> Optional[Entry]:
         """The newest version of a key that is numbered below `at`, a deletion too."""
+        key, at = _plain(key), _number(at)
         told = _calls.EntryTold()
-        _test(type(self)._get(byref(self._handle), key, len(key), at, byref(told)))
-        return self._found(told)
+        with _lock:
+            _test(type(self)._get(byref(self._handle), key, len(key), at, byref(told)))
+            return self._found(told)
 
     def get(self, key: bytes, default: Optional[bytes] = None,
             at: int = NEWEST) -> Optional[bytes]:
@@ -186,11 +226,13 @@ class Table(_Read):
     def open(source: Union[bytes, str, "os.PathLike[str]"], global_seqno: int = 0,
              pin_filter: bool = True, pin_index: bool = True) -> "Table":
         """Opens a table's bytes, or the file at a path."""
-        if not isinstance(source, bytes):
+        if isinstance(source, bytes):
+            source = _plain(source)
+        else:
             with open(source, "rb") as file:
                 source = file.read()
         table = Table()
-        _test(_calls.table_open(source, len(source), global_seqno, pin_filter, pin_index,
+        _test(_calls.table_open(source, len(source), _number(global_seqno), pin_filter, pin_index,
                                 byref(table._handle)))
         return table
 
@@ -201,14 +243,18 @@ class Table(_Read):
     def entries(self, lower: Optional[bytes] = None, upper: Optional[bytes] = None,
                 reverse: bool = False) -> Iterator[Entry]:
         """Every version of each key from `lower` on and below `upper`, in order."""
+        low = b"" if lower is None else _plain(lower)
+        high = b"" if upper is None else _plain(upper)
         with _Held() as held:
-            _test(_calls.range_open(byref(self._handle), 0 if lower is None else 1, lower or b"",
-                                    len(lower or b""), 0 if upper is None else 2, upper or b"",
-                                    len(upper or b""), byref(held._handle)))
+            with _lock:
+                _test(_calls.range_open(byref(self._handle), 0 if lower is None else 1, low,
+                                        len(low), 0 if upper is None else 2, high, len(high),
+                                        byref(held._handle)))
             told = _calls.EntryTold()
             while True:
-                _test(_calls.range_next(byref(held._handle), reverse, byref(told)))
-                found = held._found(told)
+                with _lock:
+                    _test(_calls.range_next(byref(held._handle), reverse, byref(told)))
+                    found = held._found(told)
                 if found is None:
                     return
                 yield found
@@ -233,7 +279,8 @@ class Table(_Read):
     def facts(self) -> "_calls.Facts":
         """What the table says of itself: `item_count`, `lowest_seqno` and others."""
         facts = _calls.Facts()
-        _test(_calls.table_facts(byref(self._handle), byref(facts)))
+        with _lock:
+            _test(_calls.table_facts(byref(self._handle), byref(facts)))
         return facts
 
     def verify(self) -> "_calls.Verified":
@@ -247,7 +294,8 @@ class Table(_Read):
         """
         told = _calls.Verified()
         try:
-            _test(_calls.table_verify(byref(self._handle), byref(told)))
+            with _lock:
+                _test(_calls.table_verify(byref(self._handle), byref(told)))
         except TableError as error:
             error.finding = told  # type: ignore[attr-defined]
             raise
@@ -276,7 +324,8 @@ class Runs(_Read):
 
     def add(self, table: "Table") -> None:
         """Adds a table behind those that are there. It may be closed then."""
-        _test(_calls.runs_add(byref(self._handle), byref(table._handle)))
+        with _lock:
+            _test(_calls.runs_add(byref(self._handle), byref(table._handle)))
 
 
 def _shown(entry: Entry) -> Iterator[Tuple[bytes, bytes]]:
@@ -301,16 +350,19 @@ class Writer(_Held):
         super().__init__()
         chosen = _calls.Options()
         _calls.options_default(byref(chosen))
+        fields = dict(_calls.Options._fields_)
         for name, value in options.items():
-            if name not in {field[0] for field in _calls.Options._fields_}:
+            if name not in fields:
                 raise TypeError(f"no option {name!r}")
-            setattr(chosen, name, value)
+            setattr(chosen, name, _number(value, 8 * ctypes.sizeof(fields[name])))
         _test(_calls.writer_open(byref(chosen), byref(self._handle)))
 
     def add(self, key: bytes, value: bytes, seqno: int = 0, kind: Kind = Kind.VALUE) -> None:
         """Writes an entry."""
-        _test(_calls.writer_add(byref(self._handle), key, len(key), seqno, kind, value,
-                                len(value)))
+        key, value = _plain(key), _plain(value)
+        with _lock:
+            _test(_calls.writer_add(byref(self._handle), key, len(key), _number(seqno),
+                                    _number(kind, 32), value, len(value)))
 
     def delete(self, key: bytes, seqno: int = 0) -> None:
         """Writes a deletion of every older version of a key."""
@@ -322,11 +374,12 @@ class Writer(_Held):
         >>> Writer().finish() is None
         True
         """
-        _test(_calls.writer_finish(byref(self._handle)))
-        count = ctypes.c_uint64()
-        _test(_calls.files_count(byref(self._handle), byref(count)))
-        file = self._file() if count.value else None
-        self.close()
+        with _lock:
+            _test(_calls.writer_finish(byref(self._handle)))
+            count = ctypes.c_uint64()
+            _test(_calls.files_count(byref(self._handle), byref(count)))
+            file = self._file() if count.value else None
+            self.close()
         return file
 
     def _file(self) -> bytes:

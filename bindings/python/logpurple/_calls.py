@@ -10,6 +10,11 @@ class Handle(Structure):
 
     _fields_ = [("words", c_uint64 * 2)]
 
+    def _refuse(self, *_):
+        raise TypeError("a handle is neither copied nor pickled")
+
+    __copy__ = __deepcopy__ = __reduce__ = __reduce_ex__ = _refuse
+
 
 class EntryTold(Structure):
     """What is told of an entry."""
@@ -79,6 +84,8 @@ _handle = POINTER(Handle)
 _bytes = (ctypes.c_char_p, c_size_t)
 
 version = _call("sst_version")
+if version() != 1:
+    raise ImportError(f"the library has version {version()} of its calls, and not 1")
 close = _call("sst_close", _handle, answers=None)
 found_lend = _call("sst_found_lend", _handle, POINTER(Lent))
 table_open = _call("sst_table_open", *_bytes, c_uint64, c_bool, c_bool, _handle)
