@@ -98,13 +98,13 @@ uint32_t sst_version(void);
 /* Closes a handle, whatever it holds; one that holds nothing stays as it is. */
 void sst_close(sst_handle *handle);
 
-/* What a read found. A read (`sst_table_get`, `sst_runs_get`, `sst_range_next`) keeps the entry that it found, and
- * the handle keeps it until the next read by it.
+/* What a read found. A read (`sst_table_get`, `sst_runs_get`, `sst_range_next`) keeps the entry that
+ * it found, and the handle keeps it until the next read by it.
  */
 
 /* Copies the key and the value of what the last read by a handle found. SST_NOTHING where nothing
- * was found; SST_NO_ROOM where one of them has more bytes than its room: nothing is copied then, the
- * lengths stand in the `sst_entry` of the read, and the call may be made again with more room.
+ * was found; SST_NO_ROOM where one of them has more bytes than its room: nothing is copied then,
+ * the lengths stand in the `sst_entry` of the read, and the call may be made again with more room.
  */
 uint32_t sst_found_copy(sst_handle *handle, uint8_t *key, size_t key_room, uint8_t *value,
                         size_t value_room);

@@ -102,7 +102,8 @@ impl Writer {
 
     /// Writes an entry, whose key and value are copied. Refused with `OutOfOrder` where it does not
     /// follow the one before it or is numbered `u64::MAX`; the writer stays as it is then. After
-    /// any other refusal each further call is refused with `WriterFailed`.
+    /// any other refusal an entry that may follow is refused with `WriterFailed`, or for want of
+    /// memory.
     pub fn write(
         &mut self,
         key: &[u8],
