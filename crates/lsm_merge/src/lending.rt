@@ -32,6 +32,8 @@ pub struct LendingMerger<L, A: Allocator = Global> {
     // that it is taken out and put back there without a move where it stays ahead.
     queue: Vec<usize, A>,
     is_started: bool,
+    // Whether the source that went on last stayed ahead of all others.
+    stayed_ahead: bool,
 }
 
 // Whether an entry comes before another: by key, number and kind, and where these tie by the places
@@ -75,6 +77,7 @@ impl<L: Lending + Drop, A: Allocator> LendingMerger<L, A> {
             sources,
             queue,
             is_started: false,
+            stayed_ahead: false,
         })
     }
 }
@@ -114,8 +117,11 @@ impl<L: Lending, A: Allocator> LendingMerger<L, A> {
             return 0;
         };
         match self.queue.last() {
-            // One comparison where a source stays ahead for long.
-            Some(&next) if self.comes_before(&entry, source, next) => self.queue.len(),
+            // One comparison where a source stays ahead for long. Where sources take turns, it would
+            // be in vain most times.
+            Some(&next) if self.stayed_ahead && self.comes_before(&entry, source, next) => {
+                self.queue.len()
+            }
             _ => self
                 .queue
                 .partition_point(|&other| self.comes_before(&entry, source, other)),
@@ -142,6 +148,7 @@ impl<L: Lending, A: Allocator> LendingMerger<L, A> {
     {
         if self.sources[source].advance()? {
             let place = self.place_of(source);
+            self.stayed_ahead = place == self.queue.len();
             // There is room for each source.
             let _ = self.queue.insert(place, source);
         }
