@@ -1,5 +1,5 @@
 -- One step of a reader of a run that lends its entries.
-use Rattle.std.proofs.Common.{◌≡◌, Bool, true, false, List, [], refl, sym, ap, subst, ◌∙◌, arith}
+use Rattle.std.proofs.Common.{◌≡◌, Bool, true, false, refl, sym, ap, subst, ◌∙◌, arith}
 use Rattle.std.specs.Prelude.{Option, Some, None, Result, Ok, Err, is_some}
 use Rattle.std.specs.Option.{option_map}
 use Rattle.sst_entries.specs.declared.error.Error.{Error}
@@ -7,20 +7,20 @@ use Rattle.sst_entries.specs.declared.stream.Direction.TheVariants.{Front}
 use Rattle.sst_entries.specs.Entry.{Entry}
 use Rattle.sst_entries.specs.Lending.{came}
 use Rattle.lsm_walks.specs.declared.walk.Walk.{Walk}
-use Rattle.lsm_walks.specs.Ends.{IsOver, StepGives, remains_in}
+use Rattle.lsm_walks.specs.Ends.{IsOver, remains_in}
 use Rattle.lsm_walks.specs.Parts.{LoadGives}
-use Rattle.lsm_walks.specs.Walks.{Ended, WalkTakes}
+use Rattle.lsm_walks.specs.Walks.{WalkTakes}
 use Rattle.lsm_walks.proofs.Reaching.{Going, Reached, entered, fault, item, kept, rest, starts}
 use Rattle.lsm_iters.specs.Lending.{LendingRange, RangeLends, unlent_range}
 use Rattle.lsm_iters.specs.Lift.{lifted_told}
 use Rattle.lsm_iters.specs.Range.{Range, range_remains}
 use Rattle.lsm_iters.proofs.Moved.{none_to_come, takes_moved}
 use Rattle.lsm_iters.proofs.RangeLaws.{range_step}
-use Rattle.lsm_runs.specs.LentRun.{LendingRun, LentTables, ReaderLends, RunLends, Stands}
+use Rattle.lsm_runs.specs.LentRun.{LentTables, ReaderLends, RunLends, Stands}
 use Rattle.lsm_runs.specs.LentRun.{lending_run, lent_of_reader, lent_of_tables, over_run}
 use Rattle.lsm_runs.specs.LentRun.{range_of_reader, walk_of_tables}
 use Rattle.lsm_runs.specs.RunRange.{Unopened}
-use Rattle.lsm_runs.specs.Tables.{EndsTables, KeepsTables, coming_tables, none_unopened, run_of}
+use Rattle.lsm_runs.specs.Tables.{KeepsTables, coming_tables, none_unopened}
 use Rattle.lsm_runs.proofs.RunSteps.{R, run_gives}
 
 abbrev given : Option Entry → Option R
@@ -175,6 +175,25 @@ module _ {A : Type 0} where
             (came r (lent_of_reader b)) there_kept over_front loads refl refl last.gives refl);
         there = λ x stands. absurd (none_here x stands);
       }
+
+      -- the same, of the walk that the load left
+      pub lends_last : (v n : LentTables A) (r : Result Bool Error)
+          → LoadGives (range_remains {A = A}) coming_tables KeepsTables Front u.parts None v.parts
+          → v ≡ record u { parts = v.parts; front = o }
+          → n ≡ record v { front = n.front; back = v.front }
+          → ReaderLends v.back (came r (lent_of_reader n.front)) n.front
+          → Lends s (came r (lent_of_reader n.front)) n
+      lends_last v n r loads was is last =
+          let back : v.back ≡ u.back = ap (λ (w : LentTables A). w.back) was in
+          let front : v.front ≡ o = ap (λ (w : LentTables A). w.front) was in
+          let from_u : ReaderLends u.back (came r (lent_of_reader n.front)) n.front =
+          subst (λ (b : Option (LendingRange A)). ReaderLends b (came r (lent_of_reader n.front))
+          n.front) back last in
+          let after : n ≡ record { parts = v.parts; front = n.front; back = o } =
+          is ∙ ap (λ (b : Option (LendingRange A)).
+          record { parts = v.parts; front = n.front; back = b }) front in
+          subst (λ (m : LentTables A). Lends s (came r (lent_of_reader n.front)) m) (sym after)
+          (lends_rest v.parts n.front r loads from_u)
 
   -- ---- the run
 

@@ -1,5 +1,5 @@
 -- A reader of a run that lends its entries, from the front.
-use Rattle.std.specs.Prelude.{◌≡◌, ℕ, ◌≤◌, true, List, ◌∷◌, Option, Some, None, Result}
+use Rattle.std.specs.Prelude.{◌≡◌, ℕ, ◌≤◌, true, List, ◌∷◌, Option, Some, None, Result, Ok, Err}
 use Rattle.std.specs.Option.{option_map}
 use Rattle.sst_entries.specs.declared.error.Error.{Error}
 use Rattle.sst_entries.specs.declared.stream.Direction.{Direction}
@@ -8,11 +8,12 @@ use Rattle.sst_entries.specs.Entry.{Entry}
 use Rattle.sst_entries.specs.Stream.{Runs, front_of, nowhere}
 use Rattle.lsm_walks.specs.declared.walk.Walk.{Walk}
 use Rattle.lsm_walks.specs.Ends.{StepGives, remains_in}
-use Rattle.lsm_iters.specs.Lending.{LendingRange}
+use Rattle.lsm_walks.specs.Parts.{LoadGives}
+use Rattle.lsm_iters.specs.Lending.{LendingRange, unlent_range}
 use Rattle.lsm_iters.specs.Lift.{lifted_told}
 use Rattle.lsm_iters.specs.Range.{Range, range_remains}
 use Rattle.lsm_runs.specs.RunRange.{RunGives, RunRange, Unopened, front_tables}
-use Rattle.lsm_runs.specs.Tables.{none_unopened, run_of}
+use Rattle.lsm_runs.specs.Tables.{KeepsTables, coming_tables, none_unopened, run_of}
 
 -- ---- the reader of one table
 
@@ -58,6 +59,23 @@ walk_of_tables w = record {
 -- the entry that is lent: only the table at the front lends
 abbrev pub lent_of_tables : {A : Type 0} → LentTables A → Option Entry
 lent_of_tables w = lent_of_reader w.front
+
+-- one load at the front: of the parts s, with p left
+abbrev pub LoadsFront : {A : Type 0} → Unopened → Option (Result (Range A) Error) → Unopened
+    → Type 0
+LoadsFront s r p = LoadGives range_remains coming_tables KeepsTables Front s r p
+
+-- the table that comes next was opened and is at the front now, or it could not be, or none is to
+-- come
+abbrev pub OpensNext : {A : Type 0} → LentTables A → Option (Result (Unit {0}) Error) → LentTables A
+    → Type 0
+OpensNext {A = A} s None t =
+    LoadsFront {A = A} s.parts None t.parts × (t ≡ record s { parts = t.parts })
+OpensNext {A = A} s (Some (Err e)) t =
+    LoadsFront {A = A} s.parts (Some (Err e)) t.parts × (t ≡ record s { parts = t.parts })
+OpensNext {A = A} s (Some (Ok u)) t =
+    (reader : Range A) × LoadsFront s.parts (Some (Ok reader)) t.parts
+    × (t ≡ record s { parts = t.parts; front = Some (unlent_range reader) })
 
 -- ---- the run
 

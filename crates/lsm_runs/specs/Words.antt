@@ -36,7 +36,8 @@ pub use Rattle.lsm_runs.specs.SeveralRuns.{run_read, run_read_behind, runs_read,
 pub use Rattle.lsm_runs.specs.SeveralRuns.{runs_told, union_in, worth_asking}
 pub use Rattle.lsm_runs.specs.LentRun.{LendingRun, LendsOfAtMost, ReaderLends, RunLends}
 pub use Rattle.lsm_runs.specs.LentRun.{Stands, lending_run}
-pub use Rattle.lsm_runs.specs.LentRun.{lent_of_reader, lent_of_tables, over_run, range_of_reader}
+pub use Rattle.lsm_runs.specs.LentRun.{OpensNext, lent_of_reader, lent_of_tables, over_run}
+pub use Rattle.lsm_runs.specs.LentRun.{range_of_reader}
 pub use Rattle.lsm_runs.specs.LentRun.{unlent_run, walk_of_tables}
 pub use Rattle.lsm_runs.specs.LentBelow.{LendsBelow, MayLendBelow, lent_below, lent_passes}
 pub use Rattle.lsm_runs.specs.LentBelow.{only_below}

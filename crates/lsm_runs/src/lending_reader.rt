@@ -11,8 +11,8 @@ ghost use Rattle.lsm_iters.specs.Range.{range_remains};
 ghost use Rattle.lsm_walks.specs.Walks.{WalkTakes};
 ghost use Rattle.lsm_runs.specs.Tables.{KeepsTables, coming_tables, run_of};
 ghost use Rattle.lsm_runs.specs.Words.{ArePlacesOf, DealsEnding, DealsList, Entry, HoldLists};
-ghost use Rattle.lsm_runs.specs.Words.{IsInOrder, IsRunOf, LendsOfAtMost, ReaderLends, RunLends};
-ghost use Rattle.lsm_runs.specs.Words.{Stands, came};
+ghost use Rattle.lsm_runs.specs.Words.{IsInOrder, IsRunOf, LendsOfAtMost, OpensNext, ReaderLends};
+ghost use Rattle.lsm_runs.specs.Words.{RunLends, Stands, came};
 ghost use Rattle.lsm_runs.specs.Words.{joined, lending_run, lent_of_reader, lent_of_tables};
 ghost use Rattle.lsm_runs.specs.Words.{nowhere, over_run, overlap_indexes, range_of_reader};
 ghost use Rattle.lsm_runs.specs.Words.{run_left, run_size, span_of, unlent_run, walk_of_tables};
@@ -106,6 +106,23 @@ fn lent_tables<A: Allocator + Clone>(walk: Walk<Unopened<A>, Iter<A>>) -> LentTa
     }
 }
 
+// Opens the table that comes next and puts it to the front, to be lent; none where none is to come.
+// It is a call of its own, so that room for a reader is made ready once a table, and not once an
+// entry.
+#[inline(never)]
+fn open_next<A: Allocator + Clone>(walk: &mut LentTables<A>) -> Option<Result<(), Error>>
+    ensures { OpensNext walk.old result walk.new }
+{
+    match walk.parts.load(Direction::Front) {
+        Some(Ok(reader)) => {
+            put(&mut walk.front, reader.lend());
+            Some(Ok(()))
+        }
+        Some(Err(error)) => Some(Err(error)),
+        None => None,
+    }
+}
+
 // Goes on to the next entry, and answers whether there is one; an error does not end the walk yet.
 // A table is let go where the next is opened, and with it the entry that was lent of it.
 #[inline]
@@ -121,8 +138,8 @@ fn step<A: Allocator + Clone>(walk: &mut LentTables<A>) -> Result<bool, Error>
         if advance_in(&mut walk.front)? {
             return Ok(true);
         }
-        match walk.parts.load(Direction::Front) {
-            Some(Ok(reader)) => put(&mut walk.front, reader.lend()),
+        match open_next(walk) {
+            Some(Ok(())) => {}
             Some(Err(error)) => return Err(error),
             None => return advance_last(walk),
         }

@@ -1,11 +1,13 @@
-use Rattle.std.proofs.Common.{◌∙◌, sym}
-use Rattle.std.specs.Prelude.{Ok, Err}
+use Rattle.std.proofs.Common.{◌∙◌, refl, sym}
+use Rattle.std.specs.Prelude.{Some, Ok, Err}
 use Rattle.std.proofs.lemmas.Result.{err_from_is_err_and}
 use Rattle.sst_entries.specs.declared.stream.Direction.TheVariants.{Front}
 use Rattle.lsm_walks.proofs.Reaching.{smaller}
+use Rattle.lsm_iters.specs.Lending.{unlent_range}
 use Rattle.lsm_iters.specs.Range.{range_remains}
+use Rattle.lsm_runs.specs.LentRun.{OpensNext}
 use Rattle.lsm_runs.specs.Tables.{KeepsTables, coming_tables}
-use Rattle.lsm_runs.proofs.LentRuns.{comes_first, comes_on, lends_entry, lends_fault, lends_item, lends_rest, none_there}
+use Rattle.lsm_runs.proofs.LentRuns.{comes_first, comes_on, lends_entry, lends_fault, lends_item, lends_last, none_there}
 use Rattle.lsm_runs.proofs.lending_reader.step.Goals as goal
 
 pub loop-walk-init : goal.loop-walk-init
@@ -38,34 +40,40 @@ pub loop-walk-preserved : goal.loop-walk-preserved
 loop-walk-preserved g c =
     let step = c.in_ok-advance_in.ensures in
     let none = none_there _ (sym step.more ∙ c.if-branch.false) in
-    let on = comes_on c.args.walk.now c.loop-walk.walk c.advance_in.new.part c.loop-walk.invariant none step.lends c.load.new.self c.in-Some-Ok.reader c.lend.result (rw c.in-Some-Ok.field-0-is at c.in-Some-Ok.ensures.gives) c.lend.ensures.is in
-    rw c.put.ensures on
+    let opens : OpensNext (record c.loop-walk.walk { front = c.advance_in.new.part }) (Some (Ok tt)) c.open_next.new.walk = rw c.in-Some-Ok.field-0-is at c.in-Some-Ok.ensures in
+    rw opens.2 (comes_on c.args.walk.now c.loop-walk.walk c.advance_in.new.part c.loop-walk.invariant none step.lends c.open_next.new.walk.parts opens.0 (unlent_range opens.0) opens.1 refl)
 
 pub loop-walk-smaller : goal.loop-walk-smaller
-loop-walk-smaller g c = smaller range_remains coming_tables KeepsTables Front c.loop-walk.walk.parts c.load.new.self c.in-Some-Ok.reader (rw c.in-Some-Ok.field-0-is at c.in-Some-Ok.ensures.gives)
+loop-walk-smaller g c =
+    let opens : OpensNext (record c.loop-walk.walk { front = c.advance_in.new.part }) (Some (Ok tt)) c.open_next.new.walk = rw c.in-Some-Ok.field-0-is at c.in-Some-Ok.ensures in
+    smaller range_remains coming_tables KeepsTables Front c.loop-walk.walk.parts c.open_next.new.walk.parts opens.0 opens.1
 
 pub returns-in-Some-Err-clause-takes : goal.returns-in-Some-Err-clause-takes
 returns-in-Some-Err-clause-takes g c =
     let step = c.in_ok-advance_in.ensures in
     let none = none_there _ (sym step.more ∙ c.if-branch.false) in
-    (lends_fault c.args.walk.now c.loop-walk.walk c.advance_in.new.part c.loop-walk.invariant none step.lends c.load.new.self c.in-Some-Err.error (rw c.in-Some-Err.field-0-is at c.in-Some-Err.ensures.gives)).takes
+    let opens : OpensNext (record c.loop-walk.walk { front = c.advance_in.new.part }) (Some (Err c.in-Some-Err.error)) c.open_next.new.walk = rw c.in-Some-Err.field-0-is at c.in-Some-Err.ensures in
+    rw opens.1 ((lends_fault c.args.walk.now c.loop-walk.walk c.advance_in.new.part c.loop-walk.invariant none step.lends c.open_next.new.walk.parts c.in-Some-Err.error opens.0).takes)
 
 pub returns-in-Some-Err-clause-there : goal.returns-in-Some-Err-clause-there
 returns-in-Some-Err-clause-there g c =
     let step = c.in_ok-advance_in.ensures in
     let none = none_there _ (sym step.more ∙ c.if-branch.false) in
-    (lends_fault c.args.walk.now c.loop-walk.walk c.advance_in.new.part c.loop-walk.invariant none step.lends c.load.new.self c.in-Some-Err.error (rw c.in-Some-Err.field-0-is at c.in-Some-Err.ensures.gives)).there
+    let opens : OpensNext (record c.loop-walk.walk { front = c.advance_in.new.part }) (Some (Err c.in-Some-Err.error)) c.open_next.new.walk = rw c.in-Some-Err.field-0-is at c.in-Some-Err.ensures in
+    ((lends_fault c.args.walk.now c.loop-walk.walk c.advance_in.new.part c.loop-walk.invariant none step.lends c.open_next.new.walk.parts c.in-Some-Err.error opens.0).there)
 
 pub returns-in-None-clause-takes : goal.returns-in-None-clause-takes
 returns-in-None-clause-takes g c =
     let step = c.in_ok-advance_in.ensures in
     let none = none_there _ (sym step.more ∙ c.if-branch.false) in
     let last = c.advance_last.ensures in
-    rw last.is ((lends_rest c.args.walk.now c.loop-walk.walk c.advance_in.new.part c.loop-walk.invariant none step.lends c.load.new.self c.advance_last.new.walk.front c.advance_last.result c.in-None.ensures.gives last.lends).takes)
+    let opens = c.in-None.ensures in
+    (lends_last c.args.walk.now c.loop-walk.walk c.advance_in.new.part c.loop-walk.invariant none step.lends c.open_next.new.walk c.advance_last.new.walk c.advance_last.result opens.0 opens.1 last.is last.lends).takes
 
 pub returns-in-None-clause-there : goal.returns-in-None-clause-there
 returns-in-None-clause-there g c =
     let step = c.in_ok-advance_in.ensures in
     let none = none_there _ (sym step.more ∙ c.if-branch.false) in
     let last = c.advance_last.ensures in
-    (lends_rest c.args.walk.now c.loop-walk.walk c.advance_in.new.part c.loop-walk.invariant none step.lends c.load.new.self c.advance_last.new.walk.front c.advance_last.result c.in-None.ensures.gives last.lends).there
+    let opens = c.in-None.ensures in
+    (lends_last c.args.walk.now c.loop-walk.walk c.advance_in.new.part c.loop-walk.invariant none step.lends c.open_next.new.walk c.advance_last.new.walk c.advance_last.result opens.0 opens.1 last.is last.lends).there
