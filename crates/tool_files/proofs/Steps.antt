@@ -15,7 +15,7 @@ use Rattle.tool_files.specs.declared.write.Beside.{Beside}
 use Rattle.tool_files.specs.declared.write.NewFile.{NewFile}
 use Rattle.tool_files.specs.Placed.{AreBeside, AreNotPlaced, AreNotPut, ArePlaced, IsEarly}
 use Rattle.tool_files.specs.Placed.{IsNotSynced, Standing, StandsBeside, StopRenaming, StopSyncing}
-use Rattle.tool_files.specs.Placed.{StopWriting, StopPutting, StopsAt, StopsBefore, TellsRenamed}
+use Rattle.tool_files.specs.Placed.{StopWriting, StopPutting, StopsRenamingAt, StopsBefore, TellsRenamed}
 use Rattle.tool_files.specs.Files.{path_text}
 use Rattle.tool_files.specs.Placed.{IfLeft, TellsLeft, removing, renaming, syncing, writing}
 use Rattle.tool_files.specs.Standing.{IsAdded, IsWritten, standing_in, standing_of}
@@ -176,7 +176,7 @@ stops_before {A} wanted i file bs e less here are named early = record {
 -- one that was not renamed
 pub stops_at : {A : Type 0} (bs : List (Beside A)) (i : ℕ) (b : Beside A) (e : FileError)
     → i < length bs → b ≡ get_or bs i b → e.name ≡ b.file.name → TellsRenamed e.fault i
-    → StopsAt (standing_in bs) i e
+    → StopsRenamingAt (standing_in bs) i e
 stops_at {A} bs i b e less here named counted = record {
   before = standing_in (take i bs);
   one = standing_of b;
@@ -248,7 +248,7 @@ stop_putting known one new wanted all e are written stops =
 
 -- some were renamed, and the others removed
 pub stop_renaming : (known one new : Option (List Step)) (all : List Standing) (n : ℕ)
-    (e : FileError) → StopsAt all n e → one ≡ then_done known (renaming (take n all))
+    (e : FileError) → StopsRenamingAt all n e → one ≡ then_done known (renaming (take n all))
     → new ≡ then_done one (removing (drop n all)) → AreNotPut known all e new
 stop_renaming known one new all n e stops renamed removed =
     inl record {
@@ -325,7 +325,7 @@ stopped_before {A} wanted i d old new e less are kept named early =
 -- the same of one that was not renamed
 pub stopped_at : {A : Type 0} (bs : List (Beside A)) (i : ℕ) (d : Beside A) (e : FileError)
     → i < length bs → e.name ≡ (get_or bs i d).file.name → TellsRenamed e.fault i
-    → StopsAt (standing_in bs) i e
+    → StopsRenamingAt (standing_in bs) i e
 stopped_at {A} bs i d e less named counted =
     stops_at bs i (get_or bs i d) e less (get_or_default bs i d (get_or bs i d) less) named counted
 

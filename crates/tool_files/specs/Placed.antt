@@ -82,7 +82,7 @@ TellsRenamed (AfterOthers renamed error) n = (n ≡ renamed) × (0 < n)
 TellsRenamed fault n = ⊥
 
 -- of files that stand beside their names the one behind so many was not renamed
-pub record StopsAt (all : List Standing) (n : ℕ) (e : FileError) : Type 0 where
+pub record StopsRenamingAt (all : List Standing) (n : ℕ) (e : FileError) : Type 0 where
   pub before : List Standing
   pub one : Standing
   pub behind : List Standing
@@ -96,7 +96,7 @@ pub record StopsAt (all : List Standing) (n : ℕ) (e : FileError) : Type 0 wher
 pub record StopRenaming (known : Option (List Step)) (all : List Standing) (e : FileError)
     (new : Option (List Step)) : Type 0 where
   pub renamed : ℕ
-  pub stops : StopsAt all renamed e
+  pub stops : StopsRenamingAt all renamed e
   pub done : new ≡ then_done known (renaming (take renamed all) ++ removing (drop renamed all))
 
 -- the name of a file may not be on the disk of its folder yet

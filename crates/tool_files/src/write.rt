@@ -5,7 +5,7 @@ ghost use Rattle.std.specs.Option.{option_map};
 ghost use Rattle.std.specs.Fs.{IsFile, file_type, metadata_mode, permissions_mode};
 ghost use Rattle.tool_files.specs.Files.{IsBeside, path_text};
 ghost use Rattle.tool_files.specs.Placed.{AreBeside, AreNotPlaced, AreNotPut, ArePlaced, IsEarly};
-ghost use Rattle.tool_files.specs.Placed.{StopSyncing, StopsAt, StopsBefore, TellsRenamed};
+ghost use Rattle.tool_files.specs.Placed.{StopSyncing, StopsRenamingAt, StopsBefore, TellsRenamed};
 ghost use Rattle.tool_files.specs.Placed.{IfLeft, TellsLeft, removing, renaming, syncing, writing};
 ghost use Rattle.tool_files.specs.Standing.{IsAdded, IsWritten, standing_in, standing_of};
 ghost use Rattle.tool_files.specs.Steps.{then_done};
@@ -317,7 +317,7 @@ fn give_up<'a, P: Place, A: Allocator>(
     error: io::Error,
 ) -> FileError<'a>
     requires { renamed < length written.now }
-    ensures stops { StopsAt (standing_in written.now) renamed result }
+    ensures stops { StopsRenamingAt (standing_in written.now) renamed result }
     ensures removed { P.done place.new
         ≡ then_done (P.done place.old) (removing (drop renamed (standing_in written.now))) }
 {
