@@ -372,3 +372,54 @@ left_named (Err e) next there known new h =
     if_left e.fault
     ((path_text e.name ≡ next) × IfSome there (λ b. b ≡ true) × (new ≡ known))
     (path_text e.name ≡ next) (λ all. all.0) h
+
+-- none is told where files are placed
+early_none : (fault : FileFault) → IsEarly fault → IfLeft fault ⊥
+early_none Folder h = tt
+early_none NotPlain h = tt
+early_none Left h = h
+early_none (CutShort read size) h = tt
+early_none NamesTaken h = tt
+early_none (AfterOthers renamed error) h = tt
+early_none (NotSynced error) h = tt
+early_none (Io error) h = tt
+early_none (Refused error) h = tt
+
+renamed_none : (fault : FileFault) (n : ℕ) → TellsRenamed fault n → IfLeft fault ⊥
+renamed_none Folder n h = tt
+renamed_none NotPlain n h = tt
+renamed_none Left n h = h
+renamed_none (CutShort read size) n h = tt
+renamed_none NamesTaken n h = tt
+renamed_none (AfterOthers renamed error) n h = tt
+renamed_none (NotSynced error) n h = tt
+renamed_none (Io error) n h = tt
+renamed_none (Refused error) n h = tt
+
+synced_none : (fault : FileFault) → IsNotSynced fault → IfLeft fault ⊥
+synced_none Folder h = tt
+synced_none NotPlain h = tt
+synced_none Left h = h
+synced_none (CutShort read size) h = tt
+synced_none NamesTaken h = tt
+synced_none (AfterOthers renamed error) h = tt
+synced_none (NotSynced error) h = tt
+synced_none (Io error) h = tt
+synced_none (Refused error) h = tt
+
+unput_none : (known new : Option (List Step)) (all : List Standing) (e : FileError)
+    → AreNotPut known all e new → IfLeft e.fault ⊥
+unput_none known new all e (inl stop) = renamed_none e.fault stop.renamed stop.stops.counted
+unput_none known new all e (inr stop) = synced_none e.fault stop.told
+
+placed_none : (known new : Option (List Step)) (wanted : List NewFile) (e : FileError)
+    → AreNotPlaced known wanted e new → IfLeft e.fault ⊥
+placed_none known new wanted e (inl stop) = early_none e.fault stop.stops.early
+placed_none known new wanted e (inr stop) =
+    unput_none (then_done known (writing stop.all)) new stop.all e stop.stops
+
+pub none_left : {R : Type 0} (told : Result R FileError) (known new : Option (List Step))
+    (wanted : List NewFile) → IfErr told (λ e. AreNotPlaced known wanted e new)
+    → IfErr told (λ e. IfLeft e.fault ⊥)
+none_left (Ok r) known new wanted h = tt
+none_left (Err e) known new wanted h = placed_none known new wanted e h

@@ -47,8 +47,9 @@ pub fn write_files<'a, R: Files, A: Allocator + Copy>(
     alloc: A,
     wanted: &[NewFile<'a, '_>],
 ) -> Result<(), FileError<'a>>
-    // A refusal names one of the files.
-    ensures { IfErr result (λ e. Any (λ file. file.name ≡ e.name) wanted.now) }
+    // A refusal names one of the files, and tells none of an earlier write.
+    ensures named { IfErr result (λ e. Any (λ file. file.name ≡ e.name) wanted.now) }
+    ensures left { IfErr result (λ e. IfLeft e.fault ⊥) }
 {
     place_files(&mut Disk { files }, alloc, wanted)
 }
