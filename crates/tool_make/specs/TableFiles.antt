@@ -1,5 +1,5 @@
 -- Files of tables that are written.
-use Rattle.std.specs.Prelude.{◌≡◌, ◌+◌, ℕ, suc, List, [], ◌∷◌, ◌++◌, Option, Some, None, codes}
+use Rattle.std.specs.Prelude.{◌≡◌, ◌≤◌, ◌+◌, ℕ, suc, List, [], ◌∷◌, ◌++◌, Option, Some, None, codes}
 use Rattle.std.specs.Fmt.{decimal}
 use Rattle.lsm_writers.specs.declared.writer.FinishedTable.{FinishedTable}
 use Rattle.tool_files.specs.Files.{path_text}
@@ -30,3 +30,10 @@ abbrev pub TellsEarlier : List ℕ → Option ℕ → ℕ → MakeError → Type
 TellsEarlier path target tables (File error) =
     IfLeft error.fault (path_text error.name ≡ table_file_name path target (tables + 1))
 TellsEarlier path target tables error = Unit {0}
+
+-- where a file is told, it is that of one of the tables, or the one behind them
+abbrev pub TellsTableFile : List ℕ → Option ℕ → ℕ → MakeError → Type 0
+TellsTableFile path target tables (File error) =
+    (number : ℕ) × (number ≤ tables)
+    × (path_text error.name ≡ table_file_name path target (number + 1))
+TellsTableFile path target tables error = Unit {0}

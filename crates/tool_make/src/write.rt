@@ -6,7 +6,7 @@ ghost use Rattle.tool_make.specs.Entries.{HasEntries};
 ghost use Rattle.tool_files.specs.Files.{path_text};
 ghost use Rattle.logpurple.specs.Words.{OutOfMemory};
 ghost use Rattle.tool_make.specs.declared.make_error.MakeError.TheVariants.{Refused};
-ghost use Rattle.tool_make.specs.TableFiles.{TellsEarlier, files_from, named_bytes};
+ghost use Rattle.tool_make.specs.TableFiles.{TellsEarlier, TellsTableFile, files_from, named_bytes};
 ghost use Rattle.tool_make.specs.TableFiles.{table_file_name};
 ghost use Rattle.tool_make.specs.Written.{AreOfLines, AreTablesOf, HasSmallSizes, TookAll};
 ghost use Rattle.tool_make.specs.Written.{TookLines};
@@ -129,6 +129,8 @@ fn put_tables<'a, R: Files, A: Allocator + Copy>(
     options: &WriteOptions,
     tables: &[FinishedTable<A>],
 ) -> Result<(), MakeError<'a>>
+    ensures named { IfErr result
+        (TellsTableFile path.now options.now.target (length tables.now)) }
     ensures left { IfErr result
         (TellsEarlier path.now options.now.target (length tables.now)) }
 {
