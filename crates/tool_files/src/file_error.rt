@@ -11,6 +11,8 @@ pub enum FileFault {
     Folder,
     /// What stands in the file's place is no plain file, and not to be replaced.
     NotPlain,
+    /// The file would stand behind those that are written, as if it were one of them.
+    Left,
     /// The file ended earlier than it did when it was opened.
     CutShort {
         /// How many bytes were read.
@@ -20,6 +22,15 @@ pub enum FileFault {
     },
     /// Each name that was tried for a file beside it is taken.
     NamesTaken,
+    /// The file was not renamed, and others before it were.
+    AfterOthers {
+        /// How many were.
+        renamed: u64,
+        /// Why this one was not.
+        error: io::Error,
+    },
+    /// The file has its name, and its folder was not synced.
+    NotSynced(io::Error),
     /// The system refused.
     Io(io::Error),
     /// The library refused, or memory was.
@@ -31,10 +42,17 @@ impl fmt::Display for FileFault {
         match self {
             FileFault::Folder => write!(f, "a folder, and no file"),
             FileFault::NotPlain => write!(f, "no plain file, and not replaced"),
+            FileFault::Left => write!(f, "left of an earlier write, and not replaced"),
             FileFault::CutShort { read, size } => {
                 write!(f, "cut short while it was read: {read} of {size} bytes")
             }
             FileFault::NamesTaken => write!(f, "each name for a file beside it is taken"),
+            FileFault::AfterOthers { renamed, error } => {
+                write!(f, "not replaced, and {renamed} before it are: {error}")
+            }
+            FileFault::NotSynced(error) => {
+                write!(f, "written, but its folder is not synced: {error}")
+            }
             FileFault::Io(error) => write!(f, "{error}"),
             FileFault::Refused(error) => {
                 let number = error.number();

@@ -4,11 +4,13 @@
 mod file_error;
 mod file_name;
 mod open;
+mod place;
 mod read;
 mod write;
 
 pub use file_error::{FileError, FileFault};
 pub use file_name::FileName;
 pub use open::{open_table, open_tables};
+pub use place::{Disk, Place};
 pub use read::{read_file, read_whole};
-pub use write::{NewFile, write_files};
+pub use write::{NewFile, place_files, place_series, write_files, write_series};

@@ -1,8 +1,9 @@
 //! Opening files as tables.
-ghost use Rattle.std.specs.Prelude.{◌≡◌, ◌++◌, ◌∷◌, [], IfErr, IfOk, OnOk, length, true};
+ghost use Rattle.std.specs.Prelude.{◌≡◌, ◌++◌, ◌∷◌, [], Any, IfErr, IfOk, OnOk, length, true};
 ghost use Rattle.std.specs.List.{AllByRecursion};
 ghost use Rattle.logpurple.specs.Words.{Gives, OpenTable, recovered_told};
 ghost use Rattle.tool_files.specs.Files.{path_text};
+ghost use Rattle.tool_files.specs.Opened.{IsToldByBytes};
 
 use crate::{FileError, FileFault, FileName, read_file};
 use logpurple::{Checksum, Error, Slice, Table};
@@ -13,7 +14,7 @@ use std::rt::Files;
 fn open_bytes<A: Allocator + Copy>(alloc: A, bytes: Slice<A>) -> Result<Table<A>, Error>
     ensures told { Gives (λ (t : OpenTable). t.parts) result (recovered_told bytes 0 true true) }
     ensures bytes { IfOk result (λ t. t.bytes ≡ bytes) }
-    ensures number { IfOk result (λ t. t.global_seqno ≡ 0) }
+    ensures recovered { IfOk result IsToldByBytes }
 {
     Table::recover(alloc, bytes, Checksum(0), 0, 0, true, true)
 }
@@ -26,7 +27,8 @@ pub fn open_table<'a, R: Files, A: Allocator + Copy>(
     alloc: A,
     path: &'a str,
 ) -> Result<Table<A>, FileError<'a>>
-    ensures number { IfOk result (λ t. t.global_seqno ≡ 0) }
+    // The table is what its bytes tell.
+    ensures recovered { IfOk result IsToldByBytes }
     // A refusal names the file.
     ensures named { IfErr result (λ e. path_text e.name ≡ path.now) }
 {
@@ -66,8 +68,12 @@ pub fn open_tables<'a, R: Files, A: Allocator + Copy>(
     paths: &[&'a str],
 ) -> Result<Vec<Table<A>, A>, FileError<'a>>
     ensures each { IfOk result (λ tables. length tables.items ≡ length paths.now) }
+    // Each table is what its bytes tell.
+    ensures recovered { IfOk result (λ tables. AllByRecursion IsToldByBytes tables.items) }
     ensures numbers { IfOk result (λ tables.
         AllByRecursion (λ (t : OpenTable). t.global_seqno ≡ 0) tables.items) }
+    // A refusal names one of the files.
+    ensures named { IfErr result (λ e. Any (λ path. path_text e.name ≡ path.now) paths.now) }
 {
     let mut tables = Vec::new(alloc);
     for path in paths {

@@ -8,9 +8,9 @@ use Rattle.std.specs.Cmp.Lexicographic.{pointwise}
 use Rattle.std.proofs.lemmas.Bool.{eqb-true}
 use Rattle.std.proofs.lemmas.Bool.Decides.{nat_tests}
 use Rattle.sst_entries.proofs.KeyLemmas.{same_is}
-use Rattle.tool_lines.specs.Escapes.{AreBytes, AreCodes, Begins, StandsFor}
-use Rattle.tool_lines.specs.Escapes.{codes_of, escaped, is_plain, text_of}
-use Rattle.tool_lines.specs.Faults.{is_memory}
+use Rattle.tool_lines.specs.Escapes.{AreBytes, AreCodes, Begins, WordMeans}
+use Rattle.tool_lines.specs.Escapes.{codes_of, escaped, is_plain, bytes_word}
+use Rattle.tool_lines.specs.Faults.{lacks_memory}
 use Rattle.tool_lines.specs.declared.entry_line.LineError.{LineError}
 
 -- a digit tells its value
@@ -77,7 +77,7 @@ codes_once (b ∷ bs) (c ∷ cs) w h k =
     cc
 
 -- a word stands for one list of bytes
-pub stands_once : (bs cs w : List ℕ) → StandsFor w bs → StandsFor w cs → bs ≡ cs
+pub stands_once : (bs cs w : List ℕ) → WordMeans w bs → WordMeans w cs → bs ≡ cs
 stands_once [] [] w h k = refl
 stands_once [] (c ∷ cs) w h k = absurd (k.0 h)
 stands_once (b ∷ bs) [] w h k = absurd (h.0 k)
@@ -105,9 +105,9 @@ escaped_other e = absurd cc
 
 stands_by : (b : ℕ) (bs : List ℕ) (p : Bool) → pointwise nat_eq (b ∷ bs) (45 ∷ []) ≡ p
     → AreBytes (b ∷ bs)
-    → StandsFor (if p then escaped 45 else codes_of (b ∷ bs)) (b ∷ bs)
+    → WordMeans (if p then escaped 45 else codes_of (b ∷ bs)) (b ∷ bs)
 stands_by b bs true e f =
-    subst (λ (v : List ℕ). StandsFor (escaped 45) v) (sym (same_is (b ∷ bs) (45 ∷ []) e))
+    subst (λ (v : List ℕ). WordMeans (escaped 45) v) (sym (same_is (b ∷ bs) (45 ∷ []) e))
     (escaped_other, dash_escaped)
 stands_by b bs false e f =
     let all : AreCodes (codes_of (b ∷ bs)) (b ∷ bs) = codes_all (b ∷ bs) f in (
@@ -122,7 +122,7 @@ stands_by b bs false e f =
           absurd cc
 
 -- what is written for bytes stands for them
-pub stands_all : (bs : List ℕ) → AreBytes bs → StandsFor (text_of bs) bs
+pub stands_all : (bs : List ℕ) → AreBytes bs → WordMeans (bytes_word bs) bs
 stands_all [] f = refl
 stands_all (b ∷ bs) f = stands_by b bs (pointwise nat_eq (b ∷ bs) (45 ∷ [])) refl f
 
@@ -174,17 +174,17 @@ not_dash [] none h = absurd cc
 not_dash (x ∷ xs) none h = absurd cc
 
 -- no codes stand for no bytes
-pub no_codes : (word bs : List ℕ) → word ≡ [] → StandsFor word bs → ⊥
+pub no_codes : (word bs : List ℕ) → word ≡ [] → WordMeans word bs → ⊥
 no_codes word [] none h = not_dash word none h
 no_codes word (b ∷ bs) none h = begins_some word b h.1.0 none h.1.1
 
 -- codes of a word that is not - stand for what the word does
 pub codes_stand : (word bytes : List ℕ) → (word ≡ [] → ⊥) → (word ≡ 45 ∷ [] → ⊥)
-    → AreCodes word bytes → StandsFor word bytes
+    → AreCodes word bytes → WordMeans word bytes
 codes_stand word [] some other h = absurd (some h)
 codes_stand word (b ∷ bs) some other h = (other, h)
 
-pub stand_codes : (word bytes : List ℕ) → (word ≡ 45 ∷ [] → ⊥) → StandsFor word bytes
+pub stand_codes : (word bytes : List ℕ) → (word ≡ 45 ∷ [] → ⊥) → WordMeans word bytes
     → AreCodes word bytes
 stand_codes word [] other h = absurd (other h)
 stand_codes word (b ∷ bs) other h = h.1
@@ -211,8 +211,8 @@ empty_is (x ∷ xs) b e h =
 -- where codes are refused, so is the word
 pub refused_word : {X : Type 0} (r : Result X LineError) (word : List ℕ) (fault : LineError)
     → (word ≡ 45 ∷ [] → ⊥)
-    → IfErr r (λ e. is_memory e ≡ false → (e ≡ fault) × ((bs : List ℕ) → AreCodes word bs → ⊥))
-    → IfErr r (λ e. is_memory e ≡ false → (e ≡ fault) × ((bs : List ℕ) → StandsFor word bs → ⊥))
+    → IfErr r (λ e. lacks_memory e ≡ false → (e ≡ fault) × ((bs : List ℕ) → AreCodes word bs → ⊥))
+    → IfErr r (λ e. lacks_memory e ≡ false → (e ≡ fault) × ((bs : List ℕ) → WordMeans word bs → ⊥))
 refused_word (Ok x) word fault other h = tt
 refused_word (Err e) word fault other h = λ fine.
     ((h fine).0, λ bs stands. (h fine).1 bs (stand_codes word bs other stands))

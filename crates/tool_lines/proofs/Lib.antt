@@ -1,2 +1,3 @@
 mod EscapeLemmas
+mod ObjectLemmas
 mod WordLemmas

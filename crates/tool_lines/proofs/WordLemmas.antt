@@ -24,10 +24,10 @@ use Rattle.sst_entries.specs.Entry.{Entry, entry}
 use Rattle.sst_entries.specs.declared.value_type.ValueType.{ValueType}
 use Rattle.sst_entries.specs.declared.value_type.ValueType.TheVariants.{Value, Tombstone}
 use Rattle.sst_entries.specs.declared.value_type.ValueType.TheVariants.{WeakTombstone, Indirection}
-use Rattle.tool_lines.specs.Escapes.{AreCodes, StandsFor, escaped, is_plain, text_of}
-use Rattle.tool_lines.specs.Faults.{is_memory}
-use Rattle.tool_lines.specs.WordLine.{Counts, FourWords, IsWordFault, Spells, letter_of}
-use Rattle.tool_lines.specs.WordLine.{word_line, words_behind, words_of}
+use Rattle.tool_lines.specs.Escapes.{AreCodes, WordMeans, escaped, is_plain, bytes_word}
+use Rattle.tool_lines.specs.Faults.{lacks_memory}
+use Rattle.tool_lines.specs.WordLine.{SpellsNumber, FourWords, IsWordFault, SpellsEntry, kind_letter}
+use Rattle.tool_lines.specs.WordLine.{word_line, line_words_behind, line_words}
 use Rattle.tool_lines.specs.declared.entry_line.LineError.{LineError}
 use Rattle.tool_lines.specs.declared.entry_line.LineError.TheVariants.{OutOfMemory, Words, Key}
 use Rattle.tool_lines.specs.declared.entry_line.LineError.TheVariants.{Number, Kind, Json, Members}
@@ -46,7 +46,7 @@ found_by line at false h found = let e : Some at ≡ None = found ∙ rw h refl 
 
 -- a line that has a space
 pub cut_at : (line : List ℕ) (at : ℕ) → Some at ≡ position is_space line
-    → words_of line ≡ take at line ∷ words_of (drop (at + 1) line)
+    → line_words line ≡ take at line ∷ line_words (drop (at + 1) line)
 cut_at line at found =
     let f = found_by line at _ refl found in
     slice_split_first is_space line 0 f.0 ∙ sym (rw f.1 refl)
@@ -59,7 +59,7 @@ uncut_step x xs true e h again = absurd (omega (arith, rw e at h))
 uncut_step x xs false e h again = rw e (ap (onto_first x) (again (omega (arith, rw e at h))))
 
 uncut_from : (line : List ℕ) → length line ≤ position_or_len is_space line
-    → words_of line ≡ line ∷ []
+    → line_words line ≡ line ∷ []
 uncut_from [] h = refl
 uncut_from (x ∷ xs) h = uncut_step x xs _ refl h (uncut_from xs)
 
@@ -70,7 +70,7 @@ none_by line true h found = let e : None ≡ Some (position_or_len is_space line
 none_by line false h found = ltb-false _ _ h
 
 -- a line that has none
-pub uncut : (line : List ℕ) → None ≡ position is_space line → words_of line ≡ line ∷ []
+pub uncut : (line : List ℕ) → None ≡ position is_space line → line_words line ≡ line ∷ []
 uncut line found = uncut_from line (none_by line _ refl found)
 
 -- no byte of a word is a space
@@ -110,7 +110,7 @@ codes_word w [] h = subst IsWord (sym h) (All-nil NoSpace)
 codes_word w (b ∷ bs) h = begins_word w b h.0 h.1.0 h.1.1 (codes_word h.0 bs h.2)
 
 -- what stands for bytes is one word
-stands_word : (w bs : List ℕ) → StandsFor w bs → IsWord w
+stands_word : (w bs : List ℕ) → WordMeans w bs → IsWord w
 stands_word w [] h = subst IsWord (sym h) (one NoSpace 45 refl)
 stands_word w (b ∷ bs) h = codes_word w (b ∷ bs) h.1
 
@@ -122,7 +122,7 @@ digits_word [] h = All-nil NoSpace
 digits_word (x ∷ xs) h =
     All-cons NoSpace x xs (no_digit x (digit_from_value x h.0)) (digits_word xs h.1)
 
-letter_word : (kind : ValueType) → IsWord (letter_of kind ∷ [])
+letter_word : (kind : ValueType) → IsWord (kind_letter kind ∷ [])
 letter_word Value = one NoSpace 86 refl
 letter_word Tombstone = one NoSpace 84 refl
 letter_word WeakTombstone = one NoSpace 87 refl
@@ -130,7 +130,7 @@ letter_word Indirection = one NoSpace 73 refl
 
 -- words with a space between them are the words of what they make
 four_words : (k n t v : List ℕ) → IsWord k → IsWord n → IsWord t → IsWord v
-    → words_of (k ++ 32 ∷ (n ++ 32 ∷ (t ++ 32 ∷ v))) ≡ k ∷ n ∷ t ∷ v ∷ []
+    → line_words (k ++ 32 ∷ (n ++ 32 ∷ (t ++ 32 ∷ v))) ≡ k ∷ n ∷ t ∷ v ∷ []
 four_words k n t v kw nw tw vw =
     slice_split_at is_space k 32 (n ++ 32 ∷ (t ++ 32 ∷ v)) kw refl
     ∙ ap (λ (ws : List (List ℕ)). k ∷ ws) (slice_split_at is_space n 32 (t ++ 32 ∷ v) nw refl
@@ -144,7 +144,7 @@ zeros (suc n) h e =
     absurd (omega (arith, first, e))
 
 -- a number's decimal digits are its word
-pub counts : (n : ℕ) → n < 2 ^ 64 → Counts (decimal n) n
+pub counts : (n : ℕ) → n < 2 ^ 64 → SpellsNumber (decimal n) n
 counts n h =
     let d = decimal_is_IsNumeral n h in
     record {
@@ -158,20 +158,20 @@ counts n h =
     }
 
 -- an entry's line spells it
-pub spells_all : (e : Entry) → StandsFor (text_of e.user_key) e.user_key
-    → StandsFor (text_of e.value) e.value → e.seqno < 2 ^ 64 → Spells (word_line e) e
+pub spells_all : (e : Entry) → WordMeans (bytes_word e.user_key) e.user_key
+    → WordMeans (bytes_word e.value) e.value → e.seqno < 2 ^ 64 → SpellsEntry (word_line e) e
 spells_all e keys values fits =
     let number = counts e.seqno fits in
     record {
       words = record {
-        key = text_of e.user_key;
+        key = bytes_word e.user_key;
         number = decimal e.seqno;
-        kind = letter_of e.kind ∷ [];
-        value = text_of e.value;
-        are = four_words (text_of e.user_key) (decimal e.seqno) (letter_of e.kind ∷ [])
-            (text_of e.value) (stands_word (text_of e.user_key) e.user_key keys)
+        kind = kind_letter e.kind ∷ [];
+        value = bytes_word e.value;
+        are = four_words (bytes_word e.user_key) (decimal e.seqno) (kind_letter e.kind ∷ [])
+            (bytes_word e.value) (stands_word (bytes_word e.user_key) e.user_key keys)
             (digits_word (decimal e.seqno) number.number.digits) (letter_word e.kind)
-            (stands_word (text_of e.value) e.value values);
+            (stands_word (bytes_word e.value) e.value values);
       };
       key_is = keys;
       seqno_is = number;
@@ -185,7 +185,7 @@ kind_at n =
     if n == 86 then Value
     else (if n == 84 then Tombstone else (if n == 87 then WeakTombstone else Indirection))
 
-kind_back : (kind : ValueType) → kind_at (letter_of kind) ≡ kind
+kind_back : (kind : ValueType) → kind_at (kind_letter kind) ≡ kind
 unfolding kind_at
 kind_back Value = refl
 kind_back Tombstone = refl
@@ -195,9 +195,9 @@ kind_back Indirection = refl
 only_one : (m n : ℕ) → m ∷ [] ≡ n ∷ [] → m ≡ n
 only_one m n e = cc
 
-letter_once : (s t : ValueType) → letter_of s ∷ [] ≡ letter_of t ∷ [] → s ≡ t
+letter_once : (s t : ValueType) → kind_letter s ∷ [] ≡ kind_letter t ∷ [] → s ≡ t
 letter_once s t e =
-    sym (kind_back s) ∙ ap kind_at (only_one (letter_of s) (letter_of t) e) ∙ kind_back t
+    sym (kind_back s) ∙ ap kind_at (only_one (kind_letter s) (kind_letter t) e) ∙ kind_back t
 
 -- a line has one choice of four words
 words_once : (line : List ℕ) (v w : FourWords line)
@@ -212,32 +212,36 @@ alike : (k l : List ℕ) (m n : ℕ) (s t : ValueType) (v w : List ℕ) → k �
 alike k l m n s t v w p q r o = rw (p, q, r, o) refl
 
 -- a line spells one entry
-pub spells_once : (line : List ℕ) (a b : Entry) → Spells line a → Spells line b → a ≡ b
+pub spells_once : (line : List ℕ) (a b : Entry) → SpellsEntry line a → SpellsEntry line b → a ≡ b
 spells_once line a b h k =
     let same = words_once line h.words k.words in
     let key : a.user_key ≡ b.user_key = stands_once a.user_key b.user_key k.words.key
-    (subst (λ (w : List ℕ). StandsFor w a.user_key) same.0 h.key_is) k.key_is in
+    (subst (λ (w : List ℕ). WordMeans w a.user_key) same.0 h.key_is) k.key_is in
     let number : a.seqno ≡ b.seqno = h.seqno_is.value_is
     ∙ ap (digits_value 10) same.1 ∙ sym k.seqno_is.value_is in
     let kind : a.kind ≡ b.kind = letter_once a.kind b.kind (sym h.kind_is ∙ same.2 ∙ k.kind_is) in
     let value : a.value ≡ b.value = stands_once a.value b.value k.words.value
-    (subst (λ (w : List ℕ). StandsFor w a.value) same.3 h.value_is) k.value_is in
+    (subst (λ (w : List ℕ). WordMeans w a.value) same.3 h.value_is) k.value_is in
     alike a.user_key b.user_key a.seqno b.seqno a.kind b.kind a.value b.value key number kind value
 
 -- the four words of a line that spells an entry stand for something
-pub no_fault : (line : List ℕ) (e : Entry) (f : LineError) → Spells line e → IsWordFault line f
+pub no_fault : (line : List ℕ) (e : Entry) (f : LineError) → SpellsEntry line e → IsWordFault line f
     → f ≡ OutOfMemory
 no_fault line e OutOfMemory h k = refl
 no_fault line e Words h k = absurd (k (ap length h.words.are))
 no_fault line e Key h k = absurd (k.1 e.user_key
-    (subst (λ (w : List ℕ). StandsFor w e.user_key) (words_once line h.words k.0).0 h.key_is))
+    (subst (λ (w : List ℕ). WordMeans w e.user_key) (words_once line h.words k.0).0 h.key_is))
 no_fault line e Number h k = absurd (k.1 e.seqno
-    (subst (λ (w : List ℕ). Counts w e.seqno) (words_once line h.words k.0).1 h.seqno_is))
+    (subst (λ (w : List ℕ). SpellsNumber w e.seqno) (words_once line h.words k.0).1 h.seqno_is))
 no_fault line e Kind h k = absurd (k.1 e.kind (sym (words_once line h.words k.0).2 ∙ h.kind_is))
 no_fault line e (fault.Value) h k = absurd (k.1 e.value
-    (subst (λ (w : List ℕ). StandsFor w e.value) (words_once line h.words k.0).3 h.value_is))
+    (subst (λ (w : List ℕ). WordMeans w e.value) (words_once line h.words k.0).3 h.value_is))
 no_fault line e Json h k = absurd k
 no_fault line e Members h k = absurd k
+no_fault line e (fault.KeyMember) h k = absurd k
+no_fault line e (fault.NumberMember) h k = absurd k
+no_fault line e (fault.KindMember) h k = absurd k
+no_fault line e (fault.ValueMember) h k = absurd k
 
 -- a line, part by part
 pub line_parts : (before key number value : List ℕ) (letter : ℕ)
@@ -256,7 +260,7 @@ pub on_ok : {X E : Type 0} (P Q : Type 0) (r : Result X E) → OnOk r P → (P �
 on_ok P Q (Ok x) h f = f h
 on_ok P Q (Err e) h f = tt
 
-memory_only : (e : LineError) → is_memory e ≡ true → e ≡ OutOfMemory
+memory_only : (e : LineError) → lacks_memory e ≡ true → e ≡ OutOfMemory
 memory_only OutOfMemory h = refl
 memory_only Words h = absurd cc
 memory_only Key h = absurd cc
@@ -265,16 +269,20 @@ memory_only Kind h = absurd cc
 memory_only (fault.Value) h = absurd cc
 memory_only Json h = absurd cc
 memory_only Members h = absurd cc
+memory_only (fault.KeyMember) h = absurd cc
+memory_only (fault.NumberMember) h = absurd cc
+memory_only (fault.KindMember) h = absurd cc
+memory_only (fault.ValueMember) h = absurd cc
 
-fault_at : (line : List ℕ) (e f : LineError) (b : Bool) → is_memory e ≡ b
-    → (is_memory e ≡ false → (e ≡ f) × IsWordFault line f) → IsWordFault line e
+fault_at : (line : List ℕ) (e f : LineError) (b : Bool) → lacks_memory e ≡ b
+    → (lacks_memory e ≡ false → (e ≡ f) × IsWordFault line f) → IsWordFault line e
 fault_at line e f true p h = subst (IsWordFault line) (sym (memory_only e p)) tt
 fault_at line e f false p h = subst (IsWordFault line) (sym (h p).0) (h p).1
 
 -- a refusal but want of memory is a fault of the line
 pub fault_by : (line : List ℕ) (e f : LineError)
-    → (is_memory e ≡ false → (e ≡ f) × IsWordFault line f) → IsWordFault line e
-fault_by line e f h = fault_at line e f (is_memory e) refl h
+    → (lacks_memory e ≡ false → (e ≡ f) × IsWordFault line f) → IsWordFault line e
+fault_by line e f h = fault_at line e f (lacks_memory e) refl h
 
 -- what is known anyhow
 pub always : {X E : Type 0} (P : Type 0) (r : Result X E) → P → OnOk r P
@@ -289,19 +297,19 @@ fault_of (Err y) line e is h = subst (IsWordFault line) (sym is) h
 
 -- a letter that is none
 pub no_kind : (word : List ℕ) (r : Option ValueType) → r ≡ None
-    → ((kind : ValueType) → word ≡ letter_of kind ∷ [] → r ≡ Some kind) → (kind : ValueType)
-    → word ≡ letter_of kind ∷ [] → ⊥
+    → ((kind : ValueType) → word ≡ kind_letter kind ∷ [] → r ≡ Some kind) → (kind : ValueType)
+    → word ≡ kind_letter kind ∷ [] → ⊥
 no_kind word r none all kind is = let e : None ≡ Some kind = sym none ∙ all kind is in absurd cc
 
-behind_some : (r : Option (List ℕ)) → is_some r ≡ true → 0 < length (words_behind r)
+behind_some : (r : Option (List ℕ)) → is_some r ≡ true → 0 < length (line_words_behind r)
 behind_some None h = absurd cc
 behind_some (Some rest) h = omega (arith, length-slice_split is_space rest)
 
 -- a line of more than four words
 pub five_words : (line k r₁ n r₂ t r₃ v : List ℕ) (r : Option (List ℕ))
-    → words_of line ≡ k ∷ words_of r₁ → words_of r₁ ≡ n ∷ words_of r₂
-    → words_of r₂ ≡ t ∷ words_of r₃ → words_of r₃ ≡ v ∷ words_behind r → is_some r ≡ true
-    → length (words_of line) ≡ 4 → ⊥
+    → line_words line ≡ k ∷ line_words r₁ → line_words r₁ ≡ n ∷ line_words r₂
+    → line_words r₂ ≡ t ∷ line_words r₃ → line_words r₃ ≡ v ∷ line_words_behind r → is_some r ≡ true
+    → length (line_words line) ≡ 4 → ⊥
 five_words line k r₁ n r₂ t r₃ v r p q s u some four =
     absurd (omega (
       arith,
@@ -318,12 +326,12 @@ copied_some None h = h
 copied_some (Some rest) h = refl
 
 -- what spells an entry is read as it
-pub same_read : {X : Type 0} (r : Result Entry X) (line : List ℕ) (e : Entry) → Spells line e
-    → IfOk r (λ x. Spells line x) → IfOk r (λ x. x ≡ e)
+pub same_read : {X : Type 0} (r : Result Entry X) (line : List ℕ) (e : Entry) → SpellsEntry line e
+    → IfOk r (λ x. SpellsEntry line x) → IfOk r (λ x. x ≡ e)
 same_read (Ok x) line e spells h = spells_once line x e h spells
 same_read (Err f) line e spells h = tt
 
 pub none_refused : {X : Type 0} (r : Result X LineError) (line : List ℕ) (e : Entry)
-    → Spells line e → IfErr r (λ f. IsWordFault line f) → IfErr r (λ f. f ≡ OutOfMemory)
+    → SpellsEntry line e → IfErr r (λ f. IsWordFault line f) → IfErr r (λ f. f ≡ OutOfMemory)
 none_refused (Ok x) line e spells h = tt
 none_refused (Err f) line e spells h = no_fault line e f spells h

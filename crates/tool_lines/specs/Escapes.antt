@@ -14,16 +14,16 @@ abbrev pub escaped : ℕ → List ℕ
 escaped b = 92 ∷ 120 ∷ digit_char (b / 16) ∷ digit_char (b % 16) ∷ []
 
 -- how a byte is written
-abbrev pub code_of : ℕ → List ℕ
-code_of b = if is_plain b then b ∷ [] else escaped b
+abbrev pub byte_code : ℕ → List ℕ
+byte_code b = if is_plain b then b ∷ [] else escaped b
 
 abbrev pub codes_of : List ℕ → List ℕ
-codes_of bytes = flat_map code_of bytes
+codes_of bytes = flat_map byte_code bytes
 
 -- how bytes are written: - for none, and a lone - so that it is not taken for these
-abbrev pub text_of : List ℕ → List ℕ
-text_of [] = 45 ∷ []
-text_of (b ∷ bs) =
+abbrev pub bytes_word : List ℕ → List ℕ
+bytes_word [] = 45 ∷ []
+bytes_word (b ∷ bs) =
     if pointwise nat_eq (b ∷ bs) (45 ∷ []) then escaped 45 else codes_of (b ∷ bs)
 
 -- a word begins with what may be read for a byte: itself, or its digits; and goes on
@@ -37,9 +37,9 @@ AreCodes word [] = word ≡ []
 AreCodes word (b ∷ bs) = (rest : List ℕ) × Begins word b rest × AreCodes rest bs
 
 -- what a word stands for: - for no bytes, any other for the bytes that may be read
-abbrev pub StandsFor : List ℕ → List ℕ → Type 0
-StandsFor word [] = word ≡ 45 ∷ []
-StandsFor word (b ∷ bs) = (word ≢ 45 ∷ []) × AreCodes word (b ∷ bs)
+abbrev pub WordMeans : List ℕ → List ℕ → Type 0
+WordMeans word [] = word ≡ 45 ∷ []
+WordMeans word (b ∷ bs) = (word ≢ 45 ∷ []) × AreCodes word (b ∷ bs)
 
 -- numbers that are bytes
 abbrev pub AreBytes : List ℕ → Type 0

@@ -4,6 +4,6 @@ use Rattle.tool_lines.specs.declared.entry_line.LineError.{LineError}
 use Rattle.tool_lines.specs.declared.entry_line.LineError.TheVariants.{OutOfMemory}
 
 -- want of memory, which says nothing of the line
-abbrev pub is_memory : LineError → Bool
-is_memory OutOfMemory = true
-is_memory e = false
+abbrev pub lacks_memory : LineError → Bool
+lacks_memory OutOfMemory = true
+lacks_memory e = false

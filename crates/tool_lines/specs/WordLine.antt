@@ -9,42 +9,42 @@ use Rattle.sst_entries.specs.Entry.{Entry}
 use Rattle.sst_entries.specs.declared.value_type.ValueType.{ValueType}
 use Rattle.sst_entries.specs.declared.value_type.ValueType.TheVariants.{Value, Tombstone}
 use Rattle.sst_entries.specs.declared.value_type.ValueType.TheVariants.{WeakTombstone, Indirection}
-use Rattle.tool_lines.specs.Escapes.{StandsFor, text_of}
+use Rattle.tool_lines.specs.Escapes.{WordMeans, bytes_word}
 use Rattle.tool_lines.specs.declared.entry_line.LineError.{LineError}
 use Rattle.tool_lines.specs.declared.entry_line.LineError.TheVariants as fault
 
 -- the letter of a kind: V, T, W or I
-abbrev pub letter_of : ValueType → ℕ
-letter_of Value = 86
-letter_of Tombstone = 84
-letter_of WeakTombstone = 87
-letter_of Indirection = 73
+abbrev pub kind_letter : ValueType → ℕ
+kind_letter Value = 86
+kind_letter Tombstone = 84
+kind_letter WeakTombstone = 87
+kind_letter Indirection = 73
 
 -- an entry's line: its key, number, kind and value
 abbrev pub word_line : Entry → List ℕ
 word_line e =
     join_with_byte 32
-    (text_of e.user_key ∷ decimal e.seqno ∷ (letter_of e.kind ∷ []) ∷ text_of e.value ∷ [])
+    (bytes_word e.user_key ∷ decimal e.seqno ∷ (kind_letter e.kind ∷ []) ∷ bytes_word e.value ∷ [])
 
 -- the parts of a line between its spaces
-abbrev pub words_of : List ℕ → List (List ℕ)
-words_of line = slice_split (λ b. b == 32) line
+abbrev pub line_words : List ℕ → List (List ℕ)
+line_words line = slice_split (λ b. b == 32) line
 
 -- the words of what follows a space, if there is one
-abbrev pub words_behind : Option (List ℕ) → List (List ℕ)
-words_behind None = []
-words_behind (Some rest) = words_of rest
+abbrev pub line_words_behind : Option (List ℕ) → List (List ℕ)
+line_words_behind None = []
+line_words_behind (Some rest) = line_words rest
 
 -- decimal digits of a number that fits 64 bits, the first no zero but in the number 0
-pub record IsNumber (word : List ℕ) : Type 0 where
+pub record IsNumberWord (word : List ℕ) : Type 0 where
   pub some : 0 < length word
   pub digits : AllDigits 10 word
   pub no_zeros : slice_index word 0 ≡ 48 → length word ≡ 1
   pub fits : digits_value 10 word < 2 ^ 64
 
 -- a number's word, and the number
-pub record Counts (word : List ℕ) (n : ℕ) : Type 0 where
-  pub number : IsNumber word
+pub record SpellsNumber (word : List ℕ) (n : ℕ) : Type 0 where
+  pub number : IsNumberWord word
   pub value_is : n ≡ digits_value 10 word
 
 -- the four words of a line
@@ -53,27 +53,31 @@ pub record FourWords (line : List ℕ) : Type 0 where
   pub number : List ℕ
   pub kind : List ℕ
   pub value : List ℕ
-  pub are : words_of line ≡ key ∷ number ∷ kind ∷ value ∷ []
+  pub are : line_words line ≡ key ∷ number ∷ kind ∷ value ∷ []
 
 -- a line's words spell an entry
-pub record Spells (line : List ℕ) (e : Entry) : Type 0 where
+pub record SpellsEntry (line : List ℕ) (e : Entry) : Type 0 where
   pub words : FourWords line
-  pub key_is : StandsFor words.key e.user_key
-  pub seqno_is : Counts words.number e.seqno
-  pub kind_is : words.kind ≡ letter_of e.kind ∷ []
-  pub value_is : StandsFor words.value e.value
+  pub key_is : WordMeans words.key e.user_key
+  pub seqno_is : SpellsNumber words.number e.seqno
+  pub kind_is : words.kind ≡ kind_letter e.kind ∷ []
+  pub value_is : WordMeans words.value e.value
 
 -- what is wrong of a line is said truly
 abbrev pub IsWordFault : List ℕ → LineError → Type 0
 IsWordFault line fault.OutOfMemory = Unit {0}
-IsWordFault line fault.Words = length (words_of line) ≢ 4
+IsWordFault line fault.Words = length (line_words line) ≢ 4
 IsWordFault line fault.Key =
-    (words : FourWords line) × ((key : List ℕ) → ¬ StandsFor words.key key)
+    (words : FourWords line) × ((key : List ℕ) → ¬ WordMeans words.key key)
 IsWordFault line fault.Number =
-    (words : FourWords line) × ((n : ℕ) → ¬ Counts words.number n)
+    (words : FourWords line) × ((n : ℕ) → ¬ SpellsNumber words.number n)
 IsWordFault line fault.Kind =
-    (words : FourWords line) × ((kind : ValueType) → words.kind ≢ letter_of kind ∷ [])
+    (words : FourWords line) × ((kind : ValueType) → words.kind ≢ kind_letter kind ∷ [])
 IsWordFault line fault.Value =
-    (words : FourWords line) × ((value : List ℕ) → ¬ StandsFor words.value value)
+    (words : FourWords line) × ((value : List ℕ) → ¬ WordMeans words.value value)
 IsWordFault line fault.Json = ⊥
 IsWordFault line fault.Members = ⊥
+IsWordFault line fault.KeyMember = ⊥
+IsWordFault line fault.NumberMember = ⊥
+IsWordFault line fault.KindMember = ⊥
+IsWordFault line fault.ValueMember = ⊥

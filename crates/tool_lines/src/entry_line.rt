@@ -1,8 +1,11 @@
 //! Entries as lines.
-ghost use Rattle.std.specs.Prelude.{◌≡◌, ◌++◌, ◌∷◌, [], IfOk, IfErr, OnOk};
+ghost use Rattle.std.specs.Prelude.{◌≡◌, ◌++◌, ◌∷◌, [], IfErr, IfOk, List, OnOk};
 ghost use Rattle.sst_entries.specs.Lending.{entry_of_ref};
-ghost use Rattle.tool_lines.specs.WordLine.{IsWordFault, Spells, word_line};
-ghost use Rattle.tool_lines.specs.declared.entry_line.Format.TheVariants.{Lines};
+ghost use Rattle.json.specs.Print.{print};
+ghost use Rattle.json.specs.Token.{Token};
+ghost use Rattle.tool_lines.specs.ObjectLine.{SpellsObject, WritesEntry};
+ghost use Rattle.tool_lines.specs.WordLine.{IsWordFault, SpellsEntry, word_line};
+ghost use Rattle.tool_lines.specs.declared.entry_line.Format.TheVariants.{Json, Lines};
 ghost use Rattle.tool_lines.specs.declared.entry_line.LineError.TheVariants.{OutOfMemory};
 
 use crate::object_line::{parse_object, push_object};
@@ -32,9 +35,11 @@ pub fn append_entry<A: Allocator + Copy>(
 ) -> Result<Vec<u8, A>, AllocError>
     ensures words { format ≡ Lines → IfOk result (λ t. t.items ≡
         text.items ++ word_line (entry_of_ref entry.now) ++ 10 ∷ []) }
+    ensures object { format ≡ Json → IfOk result (λ t. (ts : List Token)
+        × WritesEntry (entry_of_ref entry.now) ts × (t.items ≡ text.items ++ print ts ++ 10 ∷ [])) }
     // The words spell the entry.
     ensures spells { format ≡ Lines → OnOk result
-        (Spells (word_line (entry_of_ref entry.now)) (entry_of_ref entry.now)) }
+        (SpellsEntry (word_line (entry_of_ref entry.now)) (entry_of_ref entry.now)) }
 {
     match format {
         Format::Lines => end_line(append_words(text, entry)?),
@@ -57,7 +62,7 @@ fn append_words<A: Allocator>(
     ensures text { IfOk result
         (λ t. t.items ≡ text.items ++ word_line (entry_of_ref entry.now)) }
     ensures spells { OnOk result
-        (Spells (word_line (entry_of_ref entry.now)) (entry_of_ref entry.now)) }
+        (SpellsEntry (word_line (entry_of_ref entry.now)) (entry_of_ref entry.now)) }
 {
     push_words(&mut text, entry)?;
     Ok(text)
@@ -82,8 +87,9 @@ pub fn parse_entry<A: Allocator + Copy>(
     line: &[u8],
     format: Format,
 ) -> Result<InternalValue<A>, LineError>
-    ensures spells { format ≡ Lines → IfOk result (λ e. Spells line.now e) }
+    ensures spells { format ≡ Lines → IfOk result (λ e. SpellsEntry line.now e) }
     ensures refused { format ≡ Lines → IfErr result (λ e. IsWordFault line.now e) }
+    ensures object { format ≡ Json → IfOk result (λ e. SpellsObject line.now e) }
 {
     match format {
         Format::Lines => parse_words(alloc, line),
@@ -111,7 +117,7 @@ pub enum LineError {
     Number,
 
     /// A kind that is none.
-    #[error("a kind is V, T, W or I, in JSON value, tombstone, weak_tombstone or indirection")]
+    #[error("a kind is V, T, W or I")]
     Kind,
 
     /// A value with a byte or an escape that stands for none.
@@ -125,6 +131,23 @@ pub enum LineError {
     /// An object with other members than an entry's.
     #[error("not an object with the members key, seqno, kind and value")]
     Members,
+
+    /// A member key that stands for no bytes.
+    #[error("key is a string, or {{\"hex\":\"..\"}} with two digits for each byte")]
+    KeyMember,
+
+    /// A member seqno that is no number, or has a point, an exponent or a sign, leading zeros, or
+    /// is 2^64 or more.
+    #[error("seqno is a number of decimal digits without leading zeros, below 2^64")]
+    NumberMember,
+
+    /// A member kind that is none.
+    #[error("kind is value, tombstone, weak_tombstone or indirection")]
+    KindMember,
+
+    /// A member value that stands for no bytes.
+    #[error("value is a string, or {{\"hex\":\"..\"}} with two digits for each byte")]
+    ValueMember,
 }
 
 impl From<AllocError> for LineError {

@@ -2,9 +2,9 @@
 ghost use Rattle.std.specs.Prelude.{◌≡◌, ◌≢◌, ◌<◌, ℕ, List, ◌∷◌, ◌++◌, length, false, OnOk};
 ghost use Rattle.std.specs.Prelude.{IfSome, IfNone, IfOk, IfErr};
 ghost use Rattle.std.specs.Char.{digit_char};
-ghost use Rattle.tool_lines.specs.Escapes.{AreBytes, AreCodes, Begins, StandsFor, code_of};
-ghost use Rattle.tool_lines.specs.Escapes.{codes_of, escaped, is_plain, text_of};
-ghost use Rattle.tool_lines.specs.Faults.{is_memory};
+ghost use Rattle.tool_lines.specs.Escapes.{AreBytes, AreCodes, Begins, WordMeans, byte_code};
+ghost use Rattle.tool_lines.specs.Escapes.{codes_of, escaped, is_plain, bytes_word};
+ghost use Rattle.tool_lines.specs.Faults.{lacks_memory};
 ghost use Rattle.tool_lines.specs.declared.entry_line.LineError.TheVariants.{Key};
 
 use crate::LineError;
@@ -16,9 +16,9 @@ pub fn append_bytes<A: Allocator>(
     mut text: Vec<u8, A>,
     bytes: &[u8],
 ) -> Result<Vec<u8, A>, AllocError>
-    ensures text { IfOk result (λ t. t.items ≡ text.items ++ text_of bytes.now) }
+    ensures text { IfOk result (λ t. t.items ≡ text.items ++ bytes_word bytes.now) }
     // What is appended stands for the bytes.
-    ensures stands { OnOk result (StandsFor (text_of bytes.now) bytes.now) }
+    ensures stands { OnOk result (WordMeans (bytes_word bytes.now) bytes.now) }
 {
     push_bytes(&mut text, bytes)?;
     Ok(text)
@@ -29,8 +29,8 @@ pub(crate) fn push_bytes<A: Allocator>(
     text: &mut Vec<u8, A>,
     bytes: &[u8],
 ) -> Result<(), AllocError>
-    ensures text { OnOk result (text.new.items ≡ text.old.items ++ text_of bytes.now) }
-    ensures stands { OnOk result (StandsFor (text_of bytes.now) bytes.now) }
+    ensures text { OnOk result (text.new.items ≡ text.old.items ++ bytes_word bytes.now) }
+    ensures stands { OnOk result (WordMeans (bytes_word bytes.now) bytes.now) }
 {
     if bytes.is_empty() {
         text.extend_from_slice(b"-")
@@ -55,7 +55,7 @@ fn push_codes<A: Allocator>(text: &mut Vec<u8, A>, bytes: &[u8]) -> Result<(), A
 
 // A byte as itself where it may stand so, else escaped.
 fn push_code<A: Allocator>(text: &mut Vec<u8, A>, byte: u8) -> Result<(), AllocError>
-    ensures { OnOk result (text.new.items ≡ text.old.items ++ code_of byte) }
+    ensures { OnOk result (text.new.items ≡ text.old.items ++ byte_code byte) }
 {
     if is_plain(byte) {
         text.extend_from_slice(&[byte])
@@ -92,9 +92,9 @@ fn is_plain(byte: u8) -> bool
 /// The bytes that a word stands for, as [`append_bytes`] writes them; a visible byte may be escaped
 /// too. Refused [`LineError::Key`] where it stands for none, and [`LineError::OutOfMemory`].
 pub fn parse_bytes<A: Allocator>(alloc: A, word: &[u8]) -> Result<Vec<u8, A>, LineError>
-    ensures bytes { IfOk result (λ bytes. StandsFor word.now bytes.items) }
-    ensures refused { IfErr result (λ e. is_memory e ≡ false →
-        (e ≡ Key) × ((bytes : List ℕ) → ¬ StandsFor word.now bytes)) }
+    ensures bytes { IfOk result (λ bytes. WordMeans word.now bytes.items) }
+    ensures refused { IfErr result (λ e. lacks_memory e ≡ false →
+        (e ≡ Key) × ((bytes : List ℕ) → ¬ WordMeans word.now bytes)) }
 {
     parse_word(alloc, word, LineError::Key)
 }
@@ -106,9 +106,9 @@ pub(crate) fn parse_word<A: Allocator>(
     word: &[u8],
     fault: LineError,
 ) -> Result<Vec<u8, A>, LineError>
-    ensures bytes { IfOk result (λ bytes. StandsFor word.now bytes.items) }
-    ensures refused { IfErr result (λ e. is_memory e ≡ false →
-        (e ≡ fault) × ((bytes : List ℕ) → ¬ StandsFor word.now bytes)) }
+    ensures bytes { IfOk result (λ bytes. WordMeans word.now bytes.items) }
+    ensures refused { IfErr result (λ e. lacks_memory e ≡ false →
+        (e ≡ fault) × ((bytes : List ℕ) → ¬ WordMeans word.now bytes)) }
 {
     if word.is_empty() {
         return Err(fault);
@@ -126,7 +126,7 @@ fn parse_codes<A: Allocator>(
     fault: LineError,
 ) -> Result<Vec<u8, A>, LineError>
     ensures bytes { IfOk result (λ bytes. AreCodes word.now bytes.items) }
-    ensures refused { IfErr result (λ e. is_memory e ≡ false →
+    ensures refused { IfErr result (λ e. lacks_memory e ≡ false →
         (e ≡ fault) × ((bytes : List ℕ) → ¬ AreCodes word.now bytes)) }
 {
     let mut bytes = Vec::new(alloc);

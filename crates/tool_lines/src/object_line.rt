@@ -1,4 +1,16 @@
 //! Entries as objects of JSON.
+ghost use Rattle.std.specs.Prelude.{◌≡◌, ◌++◌, ℕ, IfOk, IfSome, List, Ok, OnOk, length};
+ghost use Rattle.hex.specs.Hex.{decode_of};
+ghost use Rattle.json.specs.Json.{Members, object, string};
+ghost use Rattle.json.specs.Strict.{keys};
+ghost use Rattle.json.specs.Print.{print};
+ghost use Rattle.json.specs.Token.{Token};
+ghost use Rattle.json.specs.Value.{value_view};
+ghost use Rattle.sst_entries.specs.Lending.{entry_of_ref};
+ghost use Rattle.tool_lines.specs.ObjectLine.{IsEntryObject, MeansBytes};
+ghost use Rattle.tool_lines.specs.ObjectLine.{MeansNumber, SpellsObject, kind_name};
+ghost use Rattle.tool_lines.specs.ObjectLine.{HasMore, WritesBytes, WritesEntry, digits_tokens};
+
 use crate::LineError;
 use crate::word_line::{parse_number, slice_of};
 use json::{Error, Scratch, Value, Writer};
@@ -10,7 +22,10 @@ pub(crate) fn push_object<A: Allocator + Copy>(
     alloc: A,
     text: Vec<u8, A>,
     entry: &EntryRef<'_>,
-) -> Result<Vec<u8, A>, AllocError> {
+) -> Result<Vec<u8, A>, AllocError>
+    ensures { IfOk result (λ t. (ts : List Token) × WritesEntry (entry_of_ref entry.now) ts
+        × (t.items ≡ text.items ++ print ts)) }
+{
     let mut writer = Writer::new(text);
     write_members(alloc, &mut writer, entry)?;
     Ok(writer.into_inner())
@@ -20,7 +35,10 @@ fn write_members<A: Allocator + Copy>(
     alloc: A,
     writer: &mut Writer<A>,
     entry: &EntryRef<'_>,
-) -> Result<(), AllocError> {
+) -> Result<(), AllocError>
+    ensures { OnOk result ((ts : List Token) × WritesEntry (entry_of_ref entry.now) ts
+        × HasMore writer.old writer.new ts) }
+{
     writer.begin_object()?;
     writer.key("key")?;
     write_bytes(alloc, writer, entry.user_key)?;
@@ -38,7 +56,10 @@ fn write_bytes<A: Allocator + Copy>(
     alloc: A,
     writer: &mut Writer<A>,
     bytes: &[u8],
-) -> Result<(), AllocError> {
+) -> Result<(), AllocError>
+    ensures { OnOk result ((ts : List Token) × WritesBytes bytes.now ts
+        × HasMore writer.old writer.new ts) }
+{
     match str::from_utf8(bytes) {
         Ok(text) => writer.string(text),
         Err(_) => write_digits(alloc, writer, bytes),
@@ -49,7 +70,9 @@ fn write_digits<A: Allocator + Copy>(
     alloc: A,
     writer: &mut Writer<A>,
     bytes: &[u8],
-) -> Result<(), AllocError> {
+) -> Result<(), AllocError>
+    ensures { OnOk result (HasMore writer.old writer.new (digits_tokens bytes.now)) }
+{
     let digits = hex::encode(alloc, bytes)?;
     writer.begin_object()?;
     writer.key("hex")?;
@@ -58,7 +81,9 @@ fn write_digits<A: Allocator + Copy>(
 }
 
 // A kind's name.
-fn name_of(kind: ValueType) -> &'static str {
+fn name_of(kind: ValueType) -> &'static str
+    ensures { result.now ≡ kind_name kind }
+{
     match kind {
         ValueType::Value => "value",
         ValueType::Tombstone => "tombstone",
@@ -71,7 +96,9 @@ fn name_of(kind: ValueType) -> &'static str {
 pub(crate) fn parse_object<A: Allocator + Copy>(
     alloc: A,
     line: &[u8],
-) -> Result<InternalValue<A>, LineError> {
+) -> Result<InternalValue<A>, LineError>
+    ensures { IfOk result (λ e. SpellsObject line.now e) }
+{
     let Ok(text) = str::from_utf8(line) else {
         return Err(LineError::Json);
     };
@@ -86,43 +113,54 @@ pub(crate) fn parse_object<A: Allocator + Copy>(
 fn read_object<A: Allocator + Copy>(
     alloc: A,
     object: &Value<'_, A>,
-) -> Result<InternalValue<A>, LineError> {
+) -> Result<InternalValue<A>, LineError>
+    ensures { IfOk result (λ e. IsEntryObject (value_view object.now) e) }
+{
     test_members(object)?;
     let seqno = read_number(object.get("seqno").ok_or(LineError::Members)?)?;
     let kind = read_kind(object.get("kind").ok_or(LineError::Members)?)?;
     let key = object.get("key").ok_or(LineError::Members)?;
     let value = object.get("value").ok_or(LineError::Members)?;
-    let key = read_bytes(alloc, key, LineError::Key)?;
-    match read_bytes(alloc, value, LineError::Value) {
+    let key = read_bytes(alloc, key, LineError::KeyMember)?;
+    match read_bytes(alloc, value, LineError::ValueMember) {
         Ok(value) => Ok(InternalValue::from_components(key, value, seqno, kind)),
         Err(error) => Err(error),
     }
 }
 
 // Tests that a value is an object of four members.
-fn test_members<A: Allocator>(object: &Value<'_, A>) -> Result<(), LineError> {
-    match object {
+fn test_members<A: Allocator>(value: &Value<'_, A>) -> Result<(), LineError>
+    ensures { OnOk result ((members : Members) × (value_view value.now ≡ object members)
+        × (length (keys members) ≡ 4)) }
+{
+    match value {
         Value::Object(members) if members.len() == 4 => Ok(()),
         Value::Object(_) => Err(LineError::Members),
         _ => Err(LineError::Json),
     }
 }
 
-fn read_number<A: Allocator>(value: &Value<'_, A>) -> Result<u64, LineError> {
+fn read_number<A: Allocator>(value: &Value<'_, A>) -> Result<u64, LineError>
+    ensures { IfOk result (λ n. MeansNumber (value_view value.now) n) }
+{
     match value {
-        Value::Number(text) => parse_number(text.as_bytes()).ok_or(LineError::Number),
-        _ => Err(LineError::Number),
+        Value::Number(text) => parse_number(text.as_bytes()).ok_or(LineError::NumberMember),
+        _ => Err(LineError::NumberMember),
     }
 }
 
-fn read_kind<A: Allocator>(value: &Value<'_, A>) -> Result<ValueType, LineError> {
+fn read_kind<A: Allocator>(value: &Value<'_, A>) -> Result<ValueType, LineError>
+    ensures { IfOk result (λ kind. value_view value.now ≡ string (kind_name kind)) }
+{
     match value {
-        Value::String(text) => kind_named(text).ok_or(LineError::Kind),
-        _ => Err(LineError::Kind),
+        Value::String(text) => kind_named(text).ok_or(LineError::KindMember),
+        _ => Err(LineError::KindMember),
     }
 }
 
-fn kind_named(name: &str) -> Option<ValueType> {
+fn kind_named(name: &str) -> Option<ValueType>
+    ensures { IfSome result (λ kind. name.now ≡ kind_name kind) }
+{
     match name {
         "value" => Some(ValueType::Value),
         "tombstone" => Some(ValueType::Tombstone),
@@ -137,22 +175,29 @@ fn read_bytes<A: Allocator + Copy>(
     alloc: A,
     value: &Value<'_, A>,
     fault: LineError,
-) -> Result<Slice<A>, LineError> {
+) -> Result<Slice<A>, LineError>
+    ensures { IfOk result (λ bytes. MeansBytes (value_view value.now) bytes) }
+{
     match value {
         Value::String(text) => slice_of(Vec::from_slice(alloc, text.as_bytes())?),
-        Value::Object(members) if members.len() == 1 => {
-            read_digits(alloc, value.get("hex"), fault)
-        }
+        Value::Object(members) if members.len() == 1 => match value.get("hex") {
+            Some(digits) => read_digits(alloc, digits, fault),
+            None => Err(fault),
+        },
         _ => Err(fault),
     }
 }
 
+// The bytes of their digits.
 fn read_digits<A: Allocator + Copy>(
     alloc: A,
-    value: Option<&Value<'_, A>>,
+    value: &Value<'_, A>,
     fault: LineError,
-) -> Result<Slice<A>, LineError> {
-    let Some(Value::String(digits)) = value else {
+) -> Result<Slice<A>, LineError>
+    ensures { IfOk result (λ bytes. (digits : List ℕ) × (value_view value.now ≡ string digits)
+        × (decode_of digits ≡ Ok bytes)) }
+{
+    let Value::String(digits) = value else {
         return Err(fault);
     };
     match hex::decode(alloc, *digits) {

@@ -124,11 +124,11 @@ const BAD_OBJECTS: [(&[u8], LineError); 7] = [
     ),
     (
         b"{\"key\":\"\",\"seqno\":7.0,\"kind\":\"value\",\"value\":\"\"}",
-        LineError::Number,
+        LineError::NumberMember,
     ),
     (
         b"{\"key\":{\"hex\":\"f\"},\"seqno\":7,\"kind\":\"value\",\"value\":\"\"}",
-        LineError::Key,
+        LineError::KeyMember,
     ),
 ];
 

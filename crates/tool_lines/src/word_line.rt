@@ -6,10 +6,10 @@ ghost use Rattle.std.specs.List.{position};
 ghost use Rattle.std.specs.Str.Parse.{digits_value};
 ghost use Rattle.sst_entries.specs.Lending.{entry_of_ref};
 ghost use Rattle.sst_entries.specs.declared.value_type.ValueType.{ValueType};
-ghost use Rattle.tool_lines.specs.Escapes.{StandsFor};
-ghost use Rattle.tool_lines.specs.Faults.{is_memory};
-ghost use Rattle.tool_lines.specs.WordLine.{IsNumber, IsWordFault, Spells, letter_of, word_line};
-ghost use Rattle.tool_lines.specs.WordLine.{words_behind, words_of};
+ghost use Rattle.tool_lines.specs.Escapes.{WordMeans};
+ghost use Rattle.tool_lines.specs.Faults.{lacks_memory};
+ghost use Rattle.tool_lines.specs.WordLine.{IsNumberWord, IsWordFault, SpellsEntry, kind_letter};
+ghost use Rattle.tool_lines.specs.WordLine.{line_words, line_words_behind, word_line};
 ghost use Rattle.tool_lines.specs.declared.entry_line.LineError.TheVariants.{OutOfMemory};
 
 use crate::LineError;
@@ -35,7 +35,7 @@ pub(crate) fn push_words<A: Allocator>(
     ensures text { OnOk result
         (text.new.items ≡ text.old.items ++ word_line (entry_of_ref entry.now)) }
     ensures spells { OnOk result
-        (Spells (word_line (entry_of_ref entry.now)) (entry_of_ref entry.now)) }
+        (SpellsEntry (word_line (entry_of_ref entry.now)) (entry_of_ref entry.now)) }
 {
     push_bytes(text, entry.user_key)?;
     text.extend_from_slice(b" ")?;
@@ -46,7 +46,7 @@ pub(crate) fn push_words<A: Allocator>(
 
 // A kind's letter.
 fn letter_of(kind: ValueType) -> u8
-    ensures { result ≡ letter_of kind }
+    ensures { result ≡ kind_letter kind }
 {
     match kind {
         ValueType::Value => b'V',
@@ -61,7 +61,7 @@ pub(crate) fn parse_words<A: Allocator + Copy>(
     alloc: A,
     line: &[u8],
 ) -> Result<InternalValue<A>, LineError>
-    ensures spells { IfOk result (λ e. Spells line.now e) }
+    ensures spells { IfOk result (λ e. SpellsEntry line.now e) }
     ensures refused { IfErr result (λ e. IsWordFault line.now e) }
 {
     let Some(words) = split_line(line) else {
@@ -86,9 +86,9 @@ fn parse_slice<A: Allocator + Clone>(
     word: &[u8],
     fault: LineError,
 ) -> Result<Slice<A>, LineError>
-    ensures bytes { IfOk result (λ bytes. StandsFor word.now bytes) }
-    ensures refused { IfErr result (λ e. is_memory e ≡ false →
-        (e ≡ fault) × ((bytes : List ℕ) → ¬ StandsFor word.now bytes)) }
+    ensures bytes { IfOk result (λ bytes. WordMeans word.now bytes) }
+    ensures refused { IfErr result (λ e. lacks_memory e ≡ false →
+        (e ≡ fault) × ((bytes : List ℕ) → ¬ WordMeans word.now bytes)) }
 {
     slice_of(parse_word(alloc, word, fault)?)
 }
@@ -106,9 +106,9 @@ pub(crate) fn slice_of<A: Allocator + Clone>(bytes: Vec<u8, A>) -> Result<Slice<
 
 // The four words of a line.
 fn split_line(line: &[u8]) -> Option<Words<'_>>
-    ensures some { IfSome result (λ w. words_of line.now ≡
+    ensures some { IfSome result (λ w. line_words line.now ≡
         w.key.now ∷ w.seqno.now ∷ w.kind.now ∷ w.value.now ∷ []) }
-    ensures none { IfNone result (length (words_of line.now) ≢ 4) }
+    ensures none { IfNone result (length (line_words line.now) ≢ 4) }
 {
     let (key, rest) = split_word(line);
     let (seqno, rest) = split_word(rest?);
@@ -127,7 +127,7 @@ fn split_line(line: &[u8]) -> Option<Words<'_>>
 
 // The first word, and what follows the space behind it.
 fn split_word(line: &[u8]) -> (&[u8], Option<&[u8]>)
-    ensures { words_of line.now ≡ result.0.now ∷ words_behind (option_copied result.1) }
+    ensures { line_words line.now ≡ result.0.now ∷ line_words_behind (option_copied result.1) }
 {
     match find_space(line) {
         Some(at) => (&line[..at], Some(&line[at + 1..])),
@@ -144,7 +144,7 @@ fn find_space(line: &[u8]) -> Option<usize>
 
 /// A decimal number without leading zeros.
 pub(crate) fn parse_number(word: &[u8]) -> Option<u64>
-    ensures { SomeIff result (IsNumber word.now) (digits_value 10 word.now) }
+    ensures { SomeIff result (IsNumberWord word.now) (digits_value 10 word.now) }
 {
     if let [b'+', ..] | [b'0', _, ..] = word {
         return None;
@@ -157,8 +157,8 @@ pub(crate) fn parse_number(word: &[u8]) -> Option<u64>
 
 // The kind of a letter.
 fn parse_kind(word: &[u8]) -> Option<ValueType>
-    ensures letter { IfSome result (λ kind. word.now ≡ letter_of kind ∷ []) }
-    ensures all { (kind : ValueType) → word.now ≡ letter_of kind ∷ [] → result ≡ Some kind }
+    ensures letter { IfSome result (λ kind. word.now ≡ kind_letter kind ∷ []) }
+    ensures all { (kind : ValueType) → word.now ≡ kind_letter kind ∷ [] → result ≡ Some kind }
 {
     match word {
         b"V" => Some(ValueType::Value),

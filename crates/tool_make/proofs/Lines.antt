@@ -21,8 +21,8 @@ use Rattle.tool_make.specs.Faults.{IsOfInput, TellsLine, TellsSpelling}
 use Rattle.std.specs.Prelude.{Result, Ok, Err, IfErr}
 use Rattle.std.specs.Result.{IsErrAnd}
 use Rattle.std.proofs.Common.{length-append}
-use Rattle.tool_make.specs.Entries.{HasEntries, LosesLine, Reads, ReadsLine, Spell, entries_in}
-use Rattle.tool_make.specs.Entries.{lines_of}
+use Rattle.tool_make.specs.Entries.{HasEntries, LosesInputLine, LineSpells, ReadsInputLine, Spell, row_entries}
+use Rattle.tool_make.specs.Entries.{input_lines}
 
 -- ---- the first line of some bytes
 
@@ -72,23 +72,23 @@ some_by b bs false = omega arith
 
 -- the first line, and those behind it
 lines_by : (b : ℕ) (bs : List ℕ) (e : Bool) → (b == 10) ≡ e
-    → lines_of (b ∷ bs) ≡ first_piece 10 (b ∷ bs) ∷ lines_of (drop_through 10 (b ∷ bs))
+    → input_lines (b ∷ bs) ≡ first_piece 10 (b ∷ bs) ∷ input_lines (drop_through 10 (b ∷ bs))
 lines_by b bs true h =
     let cut : strip_last 10 (b ∷ []) ≡ [] = ap (λ (t : Bool). cond t [] (b ∷ [])) h in
-    rw h (ap (λ (l : List ℕ). l ∷ lines_of bs) (sym cut))
+    rw h (ap (λ (l : List ℕ). l ∷ input_lines bs) (sym cut))
 lines_by b [] false h =
     let kept : strip_last 10 (b ∷ []) ≡ b ∷ [] = ap (λ (t : Bool). cond t [] (b ∷ [])) h in
     rw h (ap (λ (l : List ℕ). l ∷ []) (sym kept))
 lines_by b (c ∷ cs) false h =
-    let again : lines_of (c ∷ cs) ≡ first_piece 10 (c ∷ cs) ∷ lines_of (drop_through 10 (c ∷ cs)) =
+    let again : input_lines (c ∷ cs) ≡ first_piece 10 (c ∷ cs) ∷ input_lines (drop_through 10 (c ∷ cs)) =
     lines_by c cs _ refl in
     let first : strip_last 10 (b ∷ take_through 10 (c ∷ cs)) ≡ b ∷ first_piece 10 (c ∷ cs) =
     strip_cons b (take_through 10 (c ∷ cs)) (some_by c (take_through 10 cs) _) in
-    rw h (ap (onto_first b) again ∙ ap (λ (l : List ℕ). l ∷ lines_of (drop_through 10 (c ∷ cs)))
+    rw h (ap (onto_first b) again ∙ ap (λ (l : List ℕ). l ∷ input_lines (drop_through 10 (c ∷ cs)))
     (sym first))
 
 lines_first : (bs : List ℕ) → 0 < length bs
-    → lines_of bs ≡ first_piece 10 bs ∷ lines_of (drop_through 10 bs)
+    → input_lines bs ≡ first_piece 10 bs ∷ input_lines (drop_through 10 bs)
 lines_first [] h = absurd (omega arith)
 lines_first (b ∷ bs) h = lines_by b bs _ refl
 
@@ -98,7 +98,7 @@ lines_first (b ∷ bs) h = lines_by b bs _ refl
 pub record Passed (format : Format) (bytes rest : List ℕ) (es : List Entry) (count : ℕ) : Type 0
   where
     pub before : List (List ℕ)
-    pub are : lines_of bytes ≡ before ++ lines_of rest
+    pub are : input_lines bytes ≡ before ++ input_lines rest
     pub spelled : Spell format before es
     pub counted : length before ≡ count
 
@@ -126,11 +126,11 @@ spell_behind format ((b ∷ l) ∷ before) line (e ∷ es) ds h more =
 
 goes_on : (format : Format) (bytes rest line : List ℕ) (new : Option (List ℕ))
     (es ds : List Entry) (count : ℕ) → Passed format bytes rest es count
-    → LosesLine (Some rest) new line → Spell format (line ∷ []) ds
+    → LosesInputLine (Some rest) new line → Spell format (line ∷ []) ds
     → Goes format (Some bytes) new (es ++ ds) (count + 1)
 goes_on format bytes rest line new es ds count h loses more =
-    let behind : List (List ℕ) = lines_of (drop_through 10 rest) in
-    let first : lines_of rest ≡ line ∷ behind =
+    let behind : List (List ℕ) = input_lines (drop_through 10 rest) in
+    let first : input_lines rest ≡ line ∷ behind =
     lines_first rest loses.0 ∙ ap (λ (l : List ℕ). l ∷ behind) (sym loses.1) in
     subst (λ (n : Option (List ℕ)). Goes format (Some bytes) n (es ++ ds) (count + 1))
     (sym loses.2) (let p : Passed format bytes (drop_through 10 rest) (es ++ ds) (count + 1) =
@@ -144,7 +144,7 @@ goes_on format bytes rest line new es ds count h loses more =
 
 -- an empty line is passed over
 pub goes_empty : (format : Format) (input left new : Option (List ℕ)) (line : List ℕ)
-    (es : List Entry) (count : ℕ) → Goes format input left es count → LosesLine left new line
+    (es : List Entry) (count : ℕ) → Goes format input left es count → LosesInputLine left new line
     → line ≡ [] → Goes format input new es (count + 1)
 goes_empty format None left new line es count h loses empty = tt
 goes_empty format (Some bytes) None new line es count h loses empty = absurd h
@@ -154,14 +154,14 @@ goes_empty format (Some bytes) (Some rest) new line es count h loses empty =
     (subst (λ (l : List ℕ). Spell format (l ∷ []) []) (sym empty) refl))
 
 spell_one : (format : Format) (line : List ℕ) (e : Entry) → (line ≡ [] → ⊥)
-    → Reads format line e → Spell format (line ∷ []) (e ∷ [])
+    → LineSpells format line e → Spell format (line ∷ []) (e ∷ [])
 spell_one format [] e some reads = absurd (some refl)
 spell_one format (b ∷ line) e some reads = (reads, refl)
 
 -- a line spells the next entry
 pub goes_more : (format : Format) (input left new : Option (List ℕ)) (line : List ℕ)
     (es : List Entry) (count : ℕ) (e : Entry) → Goes format input left es count
-    → LosesLine left new line → (line ≡ [] → ⊥) → Reads format line e
+    → LosesInputLine left new line → (line ≡ [] → ⊥) → LineSpells format line e
     → Goes format input new (es ++ e ∷ []) (count + 1)
 goes_more format None left new line es count e h loses some reads = tt
 goes_more format (Some bytes) None new line es count e h loses some reads = absurd h
@@ -175,20 +175,20 @@ pub goes_end : (format : Format) (input left : Option (List ℕ)) (es : List Ent
 goes_end format None left es count h end = tt
 goes_end format (Some bytes) None es count h end = absurd h
 goes_end format (Some bytes) (Some rest) es count h end =
-    let all : lines_of bytes ≡ h.before =
-    h.are ∙ ap (λ (r : List ℕ). h.before ++ lines_of r) end ∙ append-nil h.before in
+    let all : input_lines bytes ≡ h.before =
+    h.are ∙ ap (λ (r : List ℕ). h.before ++ input_lines r) end ∙ append-nil h.before in
     subst (λ (ls : List (List ℕ)). Spell format ls es) (sym all) h.spelled
 
 -- a line is refused
 goes_stops : (format : Format) (input left new : Option (List ℕ)) (line : List ℕ)
     (ws es : List Entry) (count n : ℕ) (wrong : LineFault) → Goes format input left es count
-    → LosesLine left new line → TellsLine (count + 1) format (ws ++ es) line (Line n wrong)
+    → LosesInputLine left new line → TellsLine (count + 1) format (ws ++ es) line (Line n wrong)
     → StopsIn format input ws (Line n wrong)
 goes_stops format None left new line ws es count n wrong h loses told = tt
 goes_stops format (Some bytes) None new line ws es count n wrong h loses told = absurd h
 goes_stops format (Some bytes) (Some rest) new line ws es count n wrong h loses told =
-    let behind : List (List ℕ) = lines_of (drop_through 10 rest) in
-    let first : lines_of rest ≡ line ∷ behind =
+    let behind : List (List ℕ) = input_lines (drop_through 10 rest) in
+    let first : input_lines rest ≡ line ∷ behind =
     lines_first rest loses.0 ∙ ap (λ (l : List ℕ). l ∷ behind) (sym loses.1) in
     record {
       before = h.before;
@@ -202,7 +202,7 @@ goes_stops format (Some bytes) (Some rest) new line ws es count n wrong h loses 
 
 pub stops : (format : Format) (input left new : Option (List ℕ)) (line : List ℕ)
     (ws es : List Entry) (count : ℕ) (error : MakeError) → Goes format input left es count
-    → LosesLine left new line → TellsLine (count + 1) format (ws ++ es) line error
+    → LosesInputLine left new line → TellsLine (count + 1) format (ws ++ es) line error
     → StopsIn format input ws error
 stops format input left new line ws es count (Line n wrong) h loses told =
     goes_stops format input left new line ws es count n wrong h loses told
@@ -231,10 +231,10 @@ tells_spelling number format es line (File error) h = absurd h
 tells_spelling number format es line (Input error) h = absurd h
 tells_spelling number format es line NoEntries h = absurd h
 tells_spelling number format es line SizeTooLarge h = absurd h
-tells_spelling number format es line (Refused error) h = absurd h
+tells_spelling number format es line (Refused error) h = h
 
 wrong_so : (format : Format) (es : List Entry) (line : List ℕ) (e : Entry) (wrong : LineFault)
-    → Reads format line e → IsWrongEntry false es e wrong → IsWrongLine format es line wrong
+    → LineSpells format line e → IsWrongEntry false es e wrong → IsWrongLine format es line wrong
 wrong_so format es line e (fault.Spelling error) reads h = absurd h
 wrong_so format es line e fault.TooHigh reads h = (e, reads, h)
 wrong_so format es line e fault.OutOfOrder reads h = (e, reads, h)
@@ -242,7 +242,7 @@ wrong_so format es line e fault.Repeated reads h = (e, reads, h)
 wrong_so format es line e (fault.Refused error) reads h = (e, reads, h)
 
 tells_entry : (number : ℕ) (format : Format) (es : List Entry) (line : List ℕ) (e : Entry)
-    (error : MakeError) → Reads format line e → TellsEntry number false es e error
+    (error : MakeError) → LineSpells format line e → TellsEntry number false es e error
     → TellsLine number format es line error
 tells_entry number format es line e (Line n wrong) reads h =
     (h.0, wrong_so format es line e wrong reads h.1)
@@ -250,10 +250,10 @@ tells_entry number format es line e (File error) reads h = absurd h
 tells_entry number format es line e (Input error) reads h = absurd h
 tells_entry number format es line e NoEntries reads h = absurd h
 tells_entry number format es line e SizeTooLarge reads h = absurd h
-tells_entry number format es line e (Refused error) reads h = absurd h
+tells_entry number format es line e (Refused error) reads h = h
 
 pub told_entry : {R : Type 0} (number : ℕ) (format : Format) (es : List Entry) (line : List ℕ)
-    (e : Entry) (told : Result R MakeError) → Reads format line e
+    (e : Entry) (told : Result R MakeError) → LineSpells format line e
     → IfErr told (λ error. TellsEntry number false es e error)
     → IfErr told (λ error. TellsLine number format es line error)
 told_entry number format es line e (Ok r) reads h = tt
@@ -263,31 +263,31 @@ told_entry number format es line e (Err error) reads h =
 -- ---- what reading a line tells
 
 pub at_end : (more : Bool) (old new : Option (List ℕ)) (line : List ℕ)
-    → ReadsLine old new line more → more ≡ false → IsAtEnd old
+    → ReadsInputLine old new line more → more ≡ false → IsAtEnd old
 at_end more old new line reads over =
-    subst (λ (b : Bool). ReadsLine old new line b) over reads
+    subst (λ (b : Bool). ReadsInputLine old new line b) over reads
 
 pub lost : (more : Bool) (old new : Option (List ℕ)) (line : List ℕ)
-    → ReadsLine old new line more → more ≡ true → LosesLine old new line
+    → ReadsInputLine old new line more → more ≡ true → LosesInputLine old new line
 lost more old new line reads goes =
-    subst (λ (b : Bool). ReadsLine old new line b) goes reads
+    subst (λ (b : Bool). ReadsInputLine old new line b) goes reads
 
 -- what a line spells, by whatever name the line goes
 pub reads_at : (format : Format) (line named : List ℕ) (e : Entry) → named ≡ line
-    → Reads format named e → Reads format line e
+    → LineSpells format named e → LineSpells format line e
 reads_at format line named e same reads =
-    subst (λ (l : List ℕ). Reads format l e) same reads
+    subst (λ (l : List ℕ). LineSpells format l e) same reads
 
 -- a row more
 pub goes_row : {A : Type 0} (format : Format) (input left new : Option (List ℕ)) (line : List ℕ)
     (rows : List (Numbered A)) (count : ℕ) (row : Numbered A)
-    → Goes format input left (entries_in rows) count → LosesLine left new line
-    → (line ≡ [] → ⊥) → Reads format line row.entry
-    → Goes format input new (entries_in (rows ++ row ∷ [])) (count + 1)
+    → Goes format input left (row_entries rows) count → LosesInputLine left new line
+    → (line ≡ [] → ⊥) → LineSpells format line row.entry
+    → Goes format input new (row_entries (rows ++ row ∷ [])) (count + 1)
 goes_row {A} format input left new line rows count row h loses some reads =
     subst (λ (es : List Entry). Goes format input new es (count + 1))
     (sym (map-append (λ (r : Numbered A). r.entry) rows (row ∷ [])))
-    (goes_more format input left new line (entries_in rows) count row.entry h loses some reads)
+    (goes_more format input left new line (row_entries rows) count row.entry h loses some reads)
 
 -- a line that is told to be empty
 pub no_bytes : (line : List ℕ) (len : ℕ) (empty : Bool) → len ≡ length line

@@ -16,7 +16,7 @@ use Rattle.tool_lines.specs.declared.entry_line.Format.{Format}
 use Rattle.tool_make.proofs.Lines.{Goes, goes_empty, goes_end, goes_more, goes_none, stops}
 use Rattle.tool_make.specs.declared.make_error.MakeError.{MakeError}
 use Rattle.tool_make.specs.Faults.{StopsIn, TellsLine}
-use Rattle.tool_make.specs.Entries.{HasEntries, LosesLine, Reads, entries_in}
+use Rattle.tool_make.specs.Entries.{HasEntries, LosesInputLine, LineSpells, row_entries}
 use Rattle.tool_make.specs.declared.entries.Numbered.{Numbered}
 use Rattle.tool_make.specs.declared.options.WriteOptions.{WriteOptions}
 use Rattle.tool_make.specs.Written.{AreOfLines, AreTablesOf, TookAll, TookLine, TookLines}
@@ -57,7 +57,7 @@ lines_none format input w = record {
 
 pub lines_empty : (format : Format) (input left new : Option (List ℕ)) (line : List ℕ)
     (w m : TablesWriting) (count passed : ℕ) → Took format input left w m count passed
-    → LosesLine left new line → line ≡ [] → Took format input new w m count (passed + 1)
+    → LosesInputLine left new line → line ≡ [] → Took format input new w m count (passed + 1)
 lines_empty format input left new line w m count passed h loses empty = record {
   entries = h.entries;
   goes = goes_empty format input left new line h.entries passed h.goes loses empty;
@@ -67,7 +67,7 @@ lines_empty format input left new line w m count passed h loses empty = record {
 
 pub lines_more : (format : Format) (input left new : Option (List ℕ)) (line : List ℕ)
     (w m n : TablesWriting) (count passed : ℕ) → Took format input left w m count passed
-    → LosesLine left new line → (line ≡ [] → ⊥) → TookLine format line m n
+    → LosesInputLine left new line → (line ≡ [] → ⊥) → TookLine format line m n
     → Took format input new w n (count + 1) (passed + 1)
 lines_more format input left new line w m n count passed h loses some t = record {
   entries = h.entries ++ t.entry ∷ [];
@@ -79,7 +79,7 @@ lines_more format input left new line w m n count passed h loses some t = record
 
 -- a line whose entry a writer took
 pub line_taken : (format : Format) (line : List ℕ) (w m : TablesWriting) (e : Entry)
-    → Reads format line e → took_fault w e ≡ None → all_written m ≡ all_written w ++ e ∷ []
+    → LineSpells format line e → took_fault w e ≡ None → all_written m ≡ all_written w ++ e ∷ []
     → m ≡ took w e → TookLine format line w m
 line_taken format line w m e reads fine listed is = record {
   entry = e;
@@ -105,7 +105,7 @@ took_list w m (e ∷ es) h =
 -- a line is refused
 pub lines_stop : (format : Format) (input left new : Option (List ℕ)) (line : List ℕ)
     (w m : TablesWriting) (count passed : ℕ) (error : MakeError)
-    → Took format input left w m count passed → LosesLine left new line
+    → Took format input left w m count passed → LosesInputLine left new line
     → TellsLine (passed + 1) format (all_written m) line error
     → StopsIn format input (all_written w) error
 lines_stop format input left new line w m count passed error h loses told =
@@ -118,32 +118,32 @@ lines_stop format input left new line w m count passed error h loses told =
 -- one more row
 pub rows_more : {A : Type 0} (w m n : TablesWriting) (rows : List (Numbered A)) (i : ℕ)
     (row : Numbered A) → i < length rows → row ≡ get_or rows i row
-    → TookAll w (entries_in (take i rows)) m → took_fault m row.entry ≡ None
+    → TookAll w (row_entries (take i rows)) m → took_fault m row.entry ≡ None
     → all_written n ≡ all_written m ++ row.entry ∷ [] → n ≡ took m row.entry
-    → TookAll w (entries_in (take (i + 1) rows)) n
+    → TookAll w (row_entries (take (i + 1) rows)) n
 rows_more {A} w m n rows i row less here h fine listed is =
     let more : take (i + 1) rows ≡ take i rows ++ row ∷ [] =
     take_more rows i row less
     ∙ ap (λ (r : Numbered A). take i rows ++ r ∷ []) (sym here) in
     subst (λ (es : List Entry). TookAll w es n)
-    (sym (ap (λ (rs : List (Numbered A)). entries_in rs) more
+    (sym (ap (λ (rs : List (Numbered A)). row_entries rs) more
     ∙ map-append (λ (r : Numbered A). r.entry) (take i rows) (row ∷ [])))
-    (took_more w m n (entries_in (take i rows)) row.entry h fine listed is)
+    (took_more w m n (row_entries (take i rows)) row.entry h fine listed is)
 
 -- rows that were put in order, and then taken
 pub sorted_taken : {A E : Type 0} (format : Format) (input : Option (List ℕ))
     (rows sorted : List (Numbered A)) (w m : TablesWriting) (told : Result ℕ E)
-    → HasEntries format input (entries_in rows) → IsPermutation rows sorted
-    → IfOk told (λ n. (n ≡ length sorted) × TookAll w (entries_in sorted) m)
+    → HasEntries format input (row_entries rows) → IsPermutation rows sorted
+    → IfOk told (λ n. (n ≡ length sorted) × TookAll w (row_entries sorted) m)
     → IfOk told (λ n. (es : List Entry) × HasEntries format input es × (n ≡ length es)
     × ((order : List Entry) × IsPermutation es order × TookAll w order m))
 sorted_taken {A} format input rows sorted w m (Ok n) reads permuted all = (
-  entries_in rows,
+  row_entries rows,
   reads,
   all.0 ∙ length_permutation rows sorted permuted
       ∙ sym (length-map rows (λ (r : Numbered A). r.entry)),
   (
-    entries_in sorted,
+    row_entries sorted,
     IsPermutation-map (λ (r : Numbered A). r.entry) rows sorted permuted,
     all.1,
   ),

@@ -5,41 +5,43 @@ use Rattle.std.specs.List.{onto_first}
 use Rattle.std.specs.Io.KnownBytes.{IsAtEnd}
 use Rattle.std.specs.Io.BufRead.{drop_through, first_piece}
 use Rattle.sst_entries.specs.Entry.{Entry}
-use Rattle.tool_lines.specs.WordLine.{Spells}
+use Rattle.tool_lines.specs.ObjectLine.{SpellsObject}
+use Rattle.tool_lines.specs.WordLine.{SpellsEntry}
 use Rattle.tool_lines.specs.declared.entry_line.Format.{Format}
-use Rattle.tool_lines.specs.declared.entry_line.Format.TheVariants.{Lines}
+use Rattle.tool_lines.specs.declared.entry_line.Format.TheVariants.{Json, Lines}
 use Rattle.tool_make.specs.declared.entries.Numbered.{Numbered}
 
 -- the lines of some bytes, each without its end; the last one may have none
-abbrev pub lines_of : List ℕ → List (List ℕ)
-lines_of [] = []
-lines_of (b ∷ bs) = if b == 10 then [] ∷ lines_of bs else onto_first b (lines_of bs)
+abbrev pub input_lines : List ℕ → List (List ℕ)
+input_lines [] = []
+input_lines (b ∷ bs) = if b == 10 then [] ∷ input_lines bs else onto_first b (input_lines bs)
 
 -- known bytes begin with a line, and lose it and its end
-abbrev pub LosesLine : Option (List ℕ) → Option (List ℕ) → List ℕ → Type 0
-LosesLine old new line = IfSome old (λ bytes.
+abbrev pub LosesInputLine : Option (List ℕ) → Option (List ℕ) → List ℕ → Type 0
+LosesInputLine old new line = IfSome old (λ bytes.
     (0 < length bytes) × (line ≡ first_piece 10 bytes) × (new ≡ Some (drop_through 10 bytes)))
 
 -- a line was read of known bytes, or there was none left
-abbrev pub ReadsLine : Option (List ℕ) → Option (List ℕ) → List ℕ → Bool → Type 0
-ReadsLine old new line true = LosesLine old new line
-ReadsLine old new line false = IsAtEnd old
+abbrev pub ReadsInputLine : Option (List ℕ) → Option (List ℕ) → List ℕ → Bool → Type 0
+ReadsInputLine old new line true = LosesInputLine old new line
+ReadsInputLine old new line false = IsAtEnd old
 
--- a line spells an entry by its words; of an object nothing is said
-abbrev pub Reads : Format → List ℕ → Entry → Type 0
-Reads format line e = format ≡ Lines → Spells line e
+-- a line spells an entry, by its words or as an object
+abbrev pub LineSpells : Format → List ℕ → Entry → Type 0
+LineSpells format line e =
+    (format ≡ Lines → SpellsEntry line e) × (format ≡ Json → SpellsObject line e)
 
 -- lines spell entries, each but an empty one the next of them
 abbrev pub Spell : Format → List (List ℕ) → List Entry → Type 0
 Spell format [] es = es ≡ []
 Spell format ([] ∷ lines) es = Spell format lines es
 Spell format ((b ∷ line) ∷ lines) [] = ⊥
-Spell format ((b ∷ line) ∷ lines) (e ∷ es) = Reads format (b ∷ line) e × Spell format lines es
+Spell format ((b ∷ line) ∷ lines) (e ∷ es) = LineSpells format (b ∷ line) e × Spell format lines es
 
 -- the lines of known bytes spell these entries
 abbrev pub HasEntries : Format → Option (List ℕ) → List Entry → Type 0
-HasEntries format input es = IfSome input (λ bytes. Spell format (lines_of bytes) es)
+HasEntries format input es = IfSome input (λ bytes. Spell format (input_lines bytes) es)
 
 -- the entries of rows
-abbrev pub entries_in : {A : Type 0} → List (Numbered A) → List Entry
-entries_in rows = map (λ row. row.entry) rows
+abbrev pub row_entries : {A : Type 0} → List (Numbered A) → List Entry
+row_entries rows = map (λ row. row.entry) rows

@@ -14,13 +14,13 @@ use Rattle.lsm_writers.specs.Writing.{IsSmallIndex}
 use Rattle.lsm_compactions.specs.Compacted.{AreWrittenBy}
 use Rattle.logpurple.specs.Words.{default_options}
 use Rattle.tool_lines.specs.declared.entry_line.Format.{Format}
-use Rattle.tool_make.specs.Entries.{HasEntries, Reads}
+use Rattle.tool_make.specs.Entries.{HasEntries, LineSpells}
 use Rattle.tool_make.specs.declared.options.WriteOptions.{WriteOptions}
 
 -- how long a table becomes before the next one begins: no table becomes so long that is the only
 -- one
-abbrev pub target_of : Option ℕ → ℕ
-target_of target = unwrap_or target (2 ^ 64 - 1)
+abbrev pub largest_table : Option ℕ → ℕ
+largest_table target = unwrap_or target (2 ^ 64 - 1)
 
 -- what tables are written with
 abbrev pub options_of : WriteOptions → Options
@@ -36,7 +36,7 @@ HasSmallSizes o = (o.block_size ≤ 4194304) × IsSmallIndex o.index
 
 -- the writer that is asked for
 abbrev pub writer_by : WriteOptions → TablesWriting
-writer_by o = with_options (new_tables (Some 1) (target_of o.target) o.level o.created_at)
+writer_by o = with_options (new_tables (Some 1) (largest_table o.target) o.level o.created_at)
     (options_of o)
 
 -- a writer took entries one after another, and refused none
@@ -49,7 +49,7 @@ TookAll w (e ∷ es) m =
 -- a writer took the entry that a line spells
 pub record TookLine (format : Format) (line : List ℕ) (w m : TablesWriting) : Type 0 where
   pub entry : Entry
-  pub spelled : Reads format line entry
+  pub spelled : LineSpells format line entry
   pub taken : TookAll w (entry ∷ []) m
 
 -- a writer took entries as they stand, or put in order

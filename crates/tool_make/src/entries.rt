@@ -9,15 +9,15 @@ ghost use Rattle.tool_make.specs.declared.make_error.LineFault.TheVariants.{OutO
 ghost use Rattle.tool_make.specs.Faults.{IsOfInput, StopsIn, TellsEntry, TellsLine};
 ghost use Rattle.tool_make.specs.Faults.{TellsSpelling};
 ghost use Rattle.tool_make.specs.Written.{TookAll, TookLine};
-ghost use Rattle.tool_make.specs.Entries.{HasEntries, Reads, ReadsLine, entries_in};
+ghost use Rattle.tool_make.specs.Entries.{HasEntries, LineSpells, ReadsInputLine, row_entries};
 
 use crate::{LineFault, MakeError};
-use logpurple::{InternalValue, MultiWriter, SeqNo};
+use logpurple::{Error, InternalValue, MultiWriter, SeqNo};
 use std::alloc::{AllocError, Allocator};
 use std::cmp::Ordering;
 use std::io;
 use std::io::{BufRead, ErrorKind};
-use tool_lines::{Format, parse_entry};
+use tool_lines::{Format, LineError, parse_entry};
 
 /// An entry, and the number of its line.
 #[derive(Drop)]
@@ -31,7 +31,7 @@ fn read_line<I: BufRead, A: Allocator>(
     input: &mut I,
     line: &mut Vec<u8, A>,
 ) -> Result<bool, MakeError<'static>>
-    ensures ok { IfOk result (ReadsLine
+    ensures ok { IfOk result (ReadsInputLine
         (I.remaining input.old) (I.remaining input.new) line.new.items) }
     ensures refused { IfErr result IsOfInput }
 {
@@ -64,11 +64,13 @@ fn parse_line<A: Allocator + Copy>(
     line: &[u8],
     format: Format,
 ) -> Result<InternalValue<A>, MakeError<'static>>
-    ensures ok { IfOk result (λ entry. Reads format line.now entry) }
+    ensures ok { IfOk result (λ entry. LineSpells format line.now entry) }
     ensures refused { IfErr result (λ error. TellsSpelling number format line.now error) }
 {
     match parse_entry(alloc, line, format) {
         Ok(entry) => Ok(entry),
+        // That says nothing of the line.
+        Err(LineError::OutOfMemory) => Err(MakeError::Refused(Error::OutOfMemory)),
         Err(error) => Err(MakeError::Line {
             number,
             fault: LineFault::Spelling(error),
@@ -113,6 +115,7 @@ fn write_entry<A: Allocator + Copy>(
     }
     match writer.write_ref(&entry) {
         Ok(()) => Ok(()),
+        Err(Error::OutOfMemory) => Err(MakeError::Refused(Error::OutOfMemory)),
         Err(error) => {
             let fault = LineFault::Refused(error);
             Err(MakeError::Line { number, fault })
@@ -176,7 +179,7 @@ pub(crate) fn collect_lines<I: BufRead, A: Allocator + Copy>(
     format: Format,
 ) -> Result<Vec<Numbered<A>, A>, MakeError<'static>>
     ensures { IfOk result (λ rows.
-        HasEntries format (I.remaining input.old) (entries_in rows.items)) }
+        HasEntries format (I.remaining input.old) (row_entries rows.items)) }
 {
     let mut rows = Vec::new(alloc);
     let mut line = Vec::new(alloc);
@@ -216,7 +219,7 @@ pub(crate) fn write_rows<A: Allocator + Copy>(
     writer: &mut MultiWriter<A>,
 ) -> Result<u64, MakeError<'static>>
     ensures { IfOk result (λ n.
-        (n ≡ length rows.now) × TookAll writer.old (entries_in rows.now) writer.new) }
+        (n ≡ length rows.now) × TookAll writer.old (row_entries rows.now) writer.new) }
 {
     for row in rows {
         write_entry(writer, row.line, &row.entry, true)?;

@@ -1,7 +1,7 @@
 //! What is asked for.
 ghost use Rattle.std.specs.Prelude.{◌≡◌, ◌≤◌, IfOk, OnOk};
 ghost use Rattle.lsm_writers.specs.Writing.{IsSmallIndex};
-ghost use Rattle.tool_make.specs.Written.{HasSmallSizes, options_of, target_of, writer_by};
+ghost use Rattle.tool_make.specs.Written.{HasSmallSizes, options_of, largest_table, writer_by};
 
 use crate::MakeError;
 use logpurple::{BloomConstructionPolicy, IndexKind, MultiWriter, Options, TableIds, Timestamp};
@@ -34,7 +34,7 @@ pub struct WriteOptions {
 
 // A target that no table has.
 fn target_or_none(target: Option<u64>) -> u64
-    ensures { result ≡ target_of target }
+    ensures { result ≡ largest_table target }
 {
     target.unwrap_or(u64::MAX)
 }

@@ -1,10 +1,13 @@
 //! Tables that are written of lines.
-ghost use Rattle.std.specs.Prelude.{◌≡◌, ◌<◌, IfOk, IsPermutation, List, OnOk, length, map};
+ghost use Rattle.std.specs.Prelude.{◌≡◌, ◌<◌, IfErr, IfOk, IsPermutation, List, OnOk, length, map};
 ghost use Rattle.sst_entries.specs.Entry.{Entry};
 ghost use Rattle.lsm_writers.specs.declared.writer.FinishedTable.{FinishedTable};
 ghost use Rattle.tool_make.specs.Entries.{HasEntries};
 ghost use Rattle.tool_files.specs.Files.{path_text};
-ghost use Rattle.tool_make.specs.TableFiles.{file_told, files_from, name_of};
+ghost use Rattle.logpurple.specs.Words.{OutOfMemory};
+ghost use Rattle.tool_make.specs.declared.make_error.MakeError.TheVariants.{Refused};
+ghost use Rattle.tool_make.specs.TableFiles.{TellsEarlier, TellsTableFile, files_from, named_bytes};
+ghost use Rattle.tool_make.specs.TableFiles.{table_file_name};
 ghost use Rattle.tool_make.specs.Written.{AreOfLines, AreTablesOf, HasSmallSizes, TookAll};
 ghost use Rattle.tool_make.specs.Written.{TookLines};
 
@@ -14,7 +17,7 @@ use logpurple::{FinishedTable, MultiWriter};
 use std::alloc::Allocator;
 use std::io::{BufRead, BufReader, Read};
 use std::rt::Files;
-use tool_files::{FileName, NewFile, write_files};
+use tool_files::{FileName, NewFile, write_files, write_series};
 use tool_lines::Format;
 
 // Writes the entries of lines that are put in order first, and answers how many there are.
@@ -87,7 +90,7 @@ fn tables_of<I: BufRead, A: Allocator + Copy>(
 
 // The name of a table's file: the path, or with a target one of several, which are numbered.
 fn name_of<'a>(path: &'a str, target: Option<u64>, number: u64) -> FileName<'a>
-    ensures { path_text result ≡ name_of path.now target number }
+    ensures { path_text result ≡ table_file_name path.now target number }
 {
     match target {
         None => FileName::Plain(path),
@@ -102,8 +105,9 @@ fn files_of<'a, 'b, A: Allocator + Copy>(
     target: Option<u64>,
     tables: &'b [FinishedTable<A>],
 ) -> Result<Vec<NewFile<'a, 'b>, A>, MakeError<'a>>
-    ensures { IfOk result (λ wanted.
-        map file_told wanted.items ≡ files_from path.now target 1 tables.now) }
+    ensures files { IfOk result (λ wanted.
+        map named_bytes wanted.items ≡ files_from path.now target 1 tables.now) }
+    ensures refused { IfErr result (λ e. e ≡ Refused OutOfMemory) }
 {
     let mut wanted = Vec::new(alloc);
     for table in tables {
@@ -116,16 +120,29 @@ fn files_of<'a, 'b, A: Allocator + Copy>(
     Ok(wanted)
 }
 
-// Writes tables into their files.
+// Writes tables into their files. Of several, what has the name behind the last is not taken for
+// one of them.
 fn put_tables<'a, R: Files, A: Allocator + Copy>(
     files: &R,
     alloc: A,
     path: &'a str,
     options: &WriteOptions,
     tables: &[FinishedTable<A>],
-) -> Result<(), MakeError<'a>> {
-    let wanted = files_of(alloc, path, options.target, tables)?;
-    write_files(files, alloc, &wanted)?;
+) -> Result<(), MakeError<'a>>
+    ensures named { IfErr result
+        (TellsTableFile path.now options.now.target (length tables.now)) }
+    ensures left { IfErr result
+        (TellsEarlier path.now options.now.target (length tables.now)) }
+{
+    let target = options.target;
+    let wanted = files_of(alloc, path, target, tables)?;
+    match target {
+        None => write_files(files, alloc, &wanted)?,
+        Some(_) => {
+            let next = (tables.len() as u64).saturating_add(1);
+            write_series(files, alloc, &wanted, name_of(path, target, next))?;
+        }
+    }
     Ok(())
 }
 

@@ -1,5 +1,5 @@
 use Rattle.std.proofs.Common.{rules}
-use Rattle.tool_lines.specs.WordLine.{FourWords, IsNumber}
+use Rattle.tool_lines.specs.WordLine.{FourWords, IsNumberWord}
 use Rattle.tool_lines.specs.declared.entry_line.LineError.TheVariants as fault
 use Rattle.tool_lines.proofs.WordLemmas.{fault_by, fault_of, no_kind}
 use Rattle.tool_lines.proofs.word_line.parse_words.Goals as goal
@@ -8,7 +8,7 @@ pub returns-in_default-parse_number-clause-refused :
     goal.returns-in_default-parse_number-clause-refused
 returns-in_default-parse_number-clause-refused g c =
     let w = c.in-Some.words in
-    let none : IsNumber w.seqno.now → ⊥ = search rules in (
+    let none : IsNumberWord w.seqno.now → ⊥ = search rules in (
       record {
         key = w.key.now;
         number = w.seqno.now;

@@ -1,8 +1,8 @@
 use Rattle.std.proofs.Common.{◌≡◌, ◌∙◌, ◌++◌, ◌∷◌, ◌<◌, ◌^◌, [], rules}
 use Rattle.std.specs.Fmt.{decimal}
 use Rattle.sst_entries.specs.Lending.{entry_of_ref}
-use Rattle.tool_lines.specs.Escapes.{StandsFor, text_of}
-use Rattle.tool_lines.specs.WordLine.{Spells, letter_of, word_line}
+use Rattle.tool_lines.specs.Escapes.{WordMeans, bytes_word}
+use Rattle.tool_lines.specs.WordLine.{SpellsEntry, kind_letter, word_line}
 use Rattle.tool_lines.proofs.WordLemmas.{line_parts, on_ok, spells_all, text_last}
 use Rattle.tool_lines.proofs.word_line.push_words.Goals as goal
 
@@ -10,10 +10,10 @@ pub returns-clause-text : goal.returns-clause-text
 returns-clause-text g c =
     let e = entry_of_ref c.args.entry.now in
     let before = c.args.text.now.items in
-    let key = text_of e.user_key in
+    let key = bytes_word e.user_key in
     let number = decimal e.seqno in
-    let letter = letter_of e.kind in
-    let value = text_of e.value in
+    let letter = kind_letter e.kind in
+    let value = bytes_word e.value in
     let t1 = c.push_bytes.new.text.items in
     let t2 = c.extend_from_slice.new.self.items in
     let t3 = c.extend_from_slice-2.new.self.items in
@@ -32,6 +32,6 @@ pub returns-clause-spells : goal.returns-clause-spells
 returns-clause-spells g c =
     let e = entry_of_ref c.args.entry.now in
     let fits : e.seqno < 2 ^ 64 = search rules in
-    on_ok (StandsFor (text_of e.value) e.value) (Spells (word_line e) e) c.push_bytes-2.result
+    on_ok (WordMeans (bytes_word e.value) e.value) (SpellsEntry (word_line e) e) c.push_bytes-2.result
     c.push_bytes-2.ensures.stands
     (λ value. spells_all e c.in_ok-push_bytes.ensures.stands value fits)

@@ -1,5 +1,5 @@
 use Rattle.std.proofs.Common.{rules}
-use Rattle.tool_make.specs.Entries.{entries_in}
+use Rattle.tool_make.specs.Entries.{row_entries}
 use Rattle.tool_make.proofs.Lines.{at_end, goes_empty, goes_end, goes_row, lost, no_bytes, reads_at}
 use Rattle.tool_make.proofs.entries.collect_lines.Goals as goal
 use Rattle.tool_make.proofs.entries.collect_lines.Goals.{then-not-is_empty+in_ok-entry+in_ok-push, else-not-is_empty}
@@ -7,7 +7,7 @@ use Rattle.tool_make.proofs.entries.collect_lines.Goals.{then-not-is_empty+in_ok
 pub returns-then-not-branch : goal.returns-then-not-branch
 returns-then-not-branch g c =
     let left = g.I.Read.remaining in
-    goes_end c.args.format (left c.args.input.now) (left c.loop-before.input) (entries_in c.loop-before.rows.items) c.loop-before.before c.loop-before.invariant
+    goes_end c.args.format (left c.args.input.now) (left c.loop-before.input) (row_entries c.loop-before.rows.items) c.loop-before.before c.loop-before.invariant
     (at_end c.in_ok-read_line.field-0 _ _ _ c.in_ok-read_line.ensures.ok c.if-not-branch.true)
 
 pub loop-before-preserved : goal.loop-before-preserved
@@ -23,5 +23,5 @@ loop-before-preserved g c =
           (goes_row c.args.format input (left c.loop-before.input) (left c.read_line.new.input) line rows c.loop-before.before _ c.loop-before.invariant loses (search rules) (reads_at c.args.format line w.deref.result.now _ (search rules) w.in_ok-entry.ensures.ok))
       | else-not-is_empty w ↦
           rw w.rows-is
-          (goes_empty c.args.format input (left c.loop-before.input) (left c.read_line.new.input) line (entries_in rows) c.loop-before.before c.loop-before.invariant loses (no_bytes line c.read_line.new.line.len c.is_empty.result (search rules) (search rules) (search rules)))
+          (goes_empty c.args.format input (left c.loop-before.input) (left c.read_line.new.input) line (row_entries rows) c.loop-before.before c.loop-before.invariant loses (no_bytes line c.read_line.new.line.len c.is_empty.result (search rules) (search rules) (search rules)))
     ]

@@ -1,8 +1,8 @@
 use Rattle.tool_make.proofs.Lines.{Goes}
-use Rattle.tool_make.specs.Entries.{entries_in}
+use Rattle.tool_make.specs.Entries.{row_entries}
 use Rattle.tool_make.proofs.entries.collect_lines.Given as goal
 
 abbrev pub invariant-loop-before : goal.invariant-loop-before
 invariant-loop-before g l =
     Goes l.fn.format (g.I.Read.remaining l.fn.input) (g.I.Read.remaining l.input)
-    (entries_in l.rows.items) l.before
+    (row_entries l.rows.items) l.before

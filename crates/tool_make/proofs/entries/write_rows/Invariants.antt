@@ -1,7 +1,7 @@
 use Rattle.std.proofs.Common.{take}
-use Rattle.tool_make.specs.Entries.{entries_in}
+use Rattle.tool_make.specs.Entries.{row_entries}
 use Rattle.tool_make.specs.Written.{TookAll}
 use Rattle.tool_make.proofs.entries.write_rows.Given as goal
 
 abbrev pub invariant-loop-row : goal.invariant-loop-row
-invariant-loop-row g l = TookAll l.fn.writer (entries_in (take l.row-index l.rows)) l.writer
+invariant-loop-row g l = TookAll l.fn.writer (row_entries (take l.row-index l.rows)) l.writer

@@ -1,0 +1,20 @@
+-- What is done to files, one step after another.
+use Rattle.std.specs.Prelude.{ℕ, Bool, true, false, List, [], ◌∷◌, ◌++◌, Option}
+use Rattle.std.specs.Option.{option_map}
+
+-- a new file was written whole and synced; a file was renamed; one was asked to be removed; the
+-- folder of one was synced
+pub data Step : Type 0 where
+  Wrote : (path bytes : List ℕ) → Step
+  Renamed : (from to : List ℕ) → Step
+  Removed : (path : List ℕ) → Step
+  Synced : (path : List ℕ) → Step
+
+-- what was done, where it is known, and these steps behind it
+abbrev pub then_done : Option (List Step) → List Step → Option (List Step)
+then_done known steps = option_map (λ done. done ++ steps) known
+
+-- the step that writes a new file, if its name was free
+abbrev pub written_if : Bool → List ℕ → List ℕ → List Step
+written_if true path bytes = Wrote path bytes ∷ []
+written_if false path bytes = []

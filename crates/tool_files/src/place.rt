@@ -1,0 +1,147 @@
+//! What is done to files, one step after another.
+ghost use Rattle.std.specs.Prelude.{◌≡◌, ◌∷◌, [], ℕ, Bool, IfOk, IfSome, List, None, OnErr, OnOk};
+ghost use Rattle.std.specs.Prelude.{Option, is_some};
+ghost use Rattle.std.specs.Io.KnownBytes.{Appends};
+ghost use Rattle.tool_files.specs.Folders.{folder_of, or_here};
+ghost use Rattle.tool_files.specs.Steps.{Step, then_done, written_if};
+ghost use Rattle.tool_files.specs.Steps.Step.{Removed, Renamed, Synced};
+
+use crate::FileFault;
+use std::fs::{Metadata, OpenFile, OpenOptions, Permissions};
+use std::io::{ErrorKind, Write};
+use std::path::Path;
+use std::rt::Files;
+use std::{fs, io};
+
+/// Where files are written, with what is done there, one step after another. [`Disk`] is that of a
+/// system; a contract can say what was done where it is known.
+pub trait Place {
+    // What was done, in order, where it is known.
+    ghost done: { Self → Option (List Step) };
+
+    // Whether anything has a path, where it is known.
+    ghost there: { Self → List ℕ → Option Bool };
+
+    /// What has a path, if anything has; of a link that of itself.
+    fn look(&self, path: &str) -> io::Result<Option<Metadata>>
+        ensures { IfOk result (λ m.
+            IfSome (there self.now path.now) (λ known. is_some m ≡ known)) };
+
+    /// Writes a new file whole, with these permissions if they are given, and syncs it. Answers
+    /// `false` where something has the path. Where it is refused no file is left, as far as the
+    /// system removes what was written of it.
+    fn write_new(
+        &mut self,
+        path: &str,
+        bytes: &[u8],
+        permissions: Option<&Permissions>,
+    ) -> io::Result<bool>
+        ensures written { IfOk result (λ free. done self.new
+            ≡ then_done (done self.old) (written_if free path.now bytes.now)) }
+        ensures refused { OnErr result (done self.new ≡ done self.old) };
+
+    /// Renames a file, which takes the place of the one that has the name. Refused as the system
+    /// refuses: then nothing is changed.
+    fn rename(&mut self, from: &str, to: &str) -> io::Result<()>
+        ensures renamed { OnOk result
+            (done self.new ≡ then_done (done self.old) (Renamed from.now to.now ∷ [])) }
+        ensures refused { OnErr result (done self.new ≡ done self.old) };
+
+    /// Removes a file, as far as the system does it.
+    fn remove(&mut self, path: &str)
+        ensures { done self.new ≡ then_done (done self.old) (Removed path.now ∷ []) };
+
+    /// Syncs the folder in which a file lies, so that its name lasts.
+    fn sync_folder(&mut self, path: &str) -> io::Result<()>
+        ensures synced { OnOk result
+            (done self.new ≡ then_done (done self.old) (Synced path.now ∷ [])) }
+        ensures refused { OnErr result (done self.new ≡ done self.old) };
+}
+
+/// The files of a system. What was done there no contract knows.
+#[derive(Clone, Copy)]
+pub struct Disk<'r, R: Files> {
+    /// The system.
+    pub files: &'r R,
+}
+
+impl<'r, R: Files> Place for Disk<'r, R> {
+    ghost done = { λ _. None };
+
+    ghost there = { λ _ _. None };
+
+    fn look(&self, path: &str) -> io::Result<Option<Metadata>> {
+        match fs::symlink_metadata(self.files, path) {
+            Ok(metadata) => Ok(Some(metadata)),
+            Err(error) if error.kind() == ErrorKind::NotFound => Ok(None),
+            Err(error) => Err(error),
+        }
+    }
+
+    fn write_new(
+        &mut self,
+        path: &str,
+        bytes: &[u8],
+        permissions: Option<&Permissions>,
+    ) -> io::Result<bool> {
+        let opened = OpenOptions::new()
+            .write(true)
+            .create_new(true)
+            .open(self.files, path);
+        let filled = match opened {
+            Ok(mut file) => fill(&mut file, bytes, permissions),
+            Err(error) if error.kind() == ErrorKind::AlreadyExists => return Ok(false),
+            Err(error) => return Err(error),
+        };
+        if let Err(error) = filled {
+            let _ = fs::remove_file(self.files, path);
+            return Err(error);
+        }
+        Ok(true)
+    }
+
+    fn rename(&mut self, from: &str, to: &str) -> io::Result<()> {
+        fs::rename(self.files, from, to)
+    }
+
+    fn remove(&mut self, path: &str) {
+        let _ = fs::remove_file(self.files, path);
+    }
+
+    fn sync_folder(&mut self, path: &str) -> io::Result<()> {
+        fs::open(self.files, folder_of(path))?.sync_all()
+    }
+}
+
+// Gives a new file its permissions, before anything can be read in it, writes all its bytes and
+// syncs it.
+fn fill<F: Write + OpenFile>(
+    file: &mut F,
+    bytes: &[u8],
+    permissions: Option<&Permissions>,
+) -> io::Result<()>
+    ensures { OnOk result (Appends (F.contents file.old) (F.contents file.new) bytes.now) }
+{
+    if let Some(permissions) = permissions {
+        file.set_permissions(permissions.clone()?)?;
+    }
+    file.write_all(bytes)?;
+    file.sync_all()
+}
+
+// The folder in which a file lies: that of the process where the path names none.
+fn folder_of(path: &str) -> &str
+    ensures { result.now ≡ folder_of path.now }
+{
+    match Path::new(path).parent() {
+        Some(folder) => or_here(folder.as_os_str()),
+        None => or_here(""),
+    }
+}
+
+// The folder of the process in the place of none.
+fn or_here(folder: &str) -> &str
+    ensures { result.now ≡ or_here folder.now }
+{
+    if folder.is_empty() { "." } else { folder }
+}
