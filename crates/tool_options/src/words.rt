@@ -1,6 +1,6 @@
 //! The words of the command line, parsed.
 ghost use Rattle.std.specs.Prelude.{◌≡◌, IfOk, map, true};
-ghost use Rattle.clap.specs.Words.{found_of, is_simple, rows_of, subcommand_of, subcommand_rows_of};
+ghost use Rattle.clap.specs.Words.{App, is_simple, subcommand_of, subcommand_rows_of};
 ghost use Rattle.tool_options.specs.Program.{program_of};
 ghost use Rattle.tool_options.specs.Asks.{AsksBy, IsText};
 
@@ -31,7 +31,9 @@ pub enum Parsed<'a> {
 /// Parses the words of the command line, of which the first is the program's name.
 ///
 /// Refused for want of memory alone.
-pub fn parse<'a, S: AsStr>(alloc: Global, words: &'a [S]) -> Result<Parsed<'a>, AllocError> {
+pub fn parse<'a, S: AsStr>(alloc: Global, words: &'a [S]) -> Result<Parsed<'a>, AllocError>
+    ensures { IfOk result (λ p. (a : App) × AsksBy (subcommand_of a (map S.text words.now)) p) }
+{
     parse_by(alloc, COMMANDS.as_slice(), words)
 }
 
