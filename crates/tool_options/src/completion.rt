@@ -81,8 +81,8 @@ fn push_values(text: &mut String, command: &CommandText) -> Result<(), AllocErro
     Ok(())
 }
 
-// What may stand behind one word: some words, nothing that is known, or, where nothing is said here,
-// the name of a file.
+// What may stand behind one word: some words, nothing that is known, or, where nothing is said, the
+// name of a file.
 fn push_value(
     text: &mut String,
     command: &str,
