@@ -263,6 +263,17 @@ fn the_key_of_a_place_is_that_of_its_entry(rt: HostRuntime) {
     assert!(rt; holds(asked(block_of_five(rt.alloc()), has_their_keys)));
 }
 
+// Whether a share is an entry.
+fn is_shared_as(
+    shared: Result<InternalValue, Error>,
+    entry: EntryRef<'_>,
+) -> Result<bool, Error> {
+    let shared = shared?;
+    let is_entry = shared.as_entry_ref() == entry;
+    drop(shared);
+    Ok(is_entry)
+}
+
 // Whether a cursor goes on to an entry, lends it and shares it.
 fn lends_next(cursor: &mut DataBlockCursor, entry: EntryRef<'_>) -> Result<bool, Error> {
     if !cursor.advance() {
@@ -270,31 +281,48 @@ fn lends_next(cursor: &mut DataBlockCursor, entry: EntryRef<'_>) -> Result<bool,
     }
     match cursor.entry() {
         Some(lent) => {
-            let shared = cursor.share()?;
-            Ok(lent == entry && shared.as_entry_ref() == entry)
+            let is_lent = lent == entry;
+            Ok(is_shared_as(cursor.share(), entry)? && is_lent)
         }
         None => Ok(false),
     }
 }
 
+// A cursor over a block.
+fn cursor_of(block: &DataBlock) -> Result<DataBlockCursor, Error> {
+    Ok(block.clone()?.into_cursor())
+}
+
 // Whether a cursor lends the entries of a block, each as its place does, and then nothing.
-fn lends_each(block: &DataBlock) -> Result<bool, Error> {
-    let mut cursor = block.clone()?.into_cursor();
+fn lends_all(cursor: &mut DataBlockCursor, block: &DataBlock) -> Result<bool, Error> {
     let begins = cursor.entry().is_none();
     for place in 0..block.len() {
-        if !lends_next(&mut cursor, block.entry_ref(place))? {
+        if !lends_next(cursor, block.entry_ref(place))? {
             return Ok(false);
         }
     }
     Ok(begins && !cursor.advance() && cursor.entry().is_none())
 }
 
+fn lends_each(block: &DataBlock) -> Result<bool, Error> {
+    let mut cursor = cursor_of(block)?;
+    let lends = lends_all(&mut cursor, block);
+    drop(cursor);
+    lends
+}
+
 // Whether a cursor that is ended behind the first entry lends nothing more.
-fn lends_none_behind_its_end(block: &DataBlock) -> Result<bool, Error> {
-    let mut cursor = block.clone()?.into_cursor();
+fn lends_none(cursor: &mut DataBlockCursor) -> bool {
     let begins = cursor.advance();
     cursor.end();
-    Ok(begins && cursor.entry().is_none() && !cursor.advance())
+    begins && cursor.entry().is_none() && !cursor.advance()
+}
+
+fn lends_none_behind_its_end(block: &DataBlock) -> Result<bool, Error> {
+    let mut cursor = cursor_of(block)?;
+    let lends_none = lends_none(&mut cursor);
+    drop(cursor);
+    Ok(lends_none)
 }
 
 #[test]

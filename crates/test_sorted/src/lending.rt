@@ -35,11 +35,28 @@ fn list_of(alloc: Global, mut seed: u64, count: u8) -> Result<Vec<IterItem>, Err
     Ok(list)
 }
 
+// Two values, or the refusal of the first that is refused. It is generic in them, so that none of
+// their parts is looked at.
+fn both<T: Drop>(one: Result<T, Error>, other: Result<T, Error>) -> Result<(T, T), Error> {
+    let one = one?;
+    let other = other?;
+    Ok((one, other))
+}
+
+// A list, twice.
+fn two_lists(alloc: Global, seed: u64, count: u8) -> Result<(Vec<IterItem>, Vec<IterItem>), Error> {
+    both(list_of(alloc, seed, count), list_of(alloc, seed, count))
+}
+
 // Whether the newest versions of a list are the same.
 fn newest_agree(alloc: Global, seed: u64, count: u8) -> Result<bool, Error> {
-    let by_value = MvccStream::new(list_of(alloc, seed, count)?.into_iter());
-    let lending = LendingNewest::new(alloc, lent_list(list_of(alloc, seed, count)?));
-    agree(by_value, lending, usize::from(count) + 2)
+    let (list, lent) = two_lists(alloc, seed, count)?;
+    let lending = LendingNewest::new(alloc, lent_list(lent));
+    agree(
+        MvccStream::new(list.into_iter()),
+        lending,
+        usize::from(count) + 2,
+    )
 }
 
 #[test]
@@ -56,10 +73,11 @@ fn newest_versions_that_lend_are_those_by_value(rt: HostRuntime) {
 
 // Whether a compaction of a list keeps the same.
 fn compactions_agree(alloc: Global, seed: u64, count: u8, rules: Rules) -> Result<bool, Error> {
-    let by_value = CompactionStream::new(list_of(alloc, seed, count)?.into_iter(), rules.watermark)
+    let (list, lent) = two_lists(alloc, seed, count)?;
+    let lending = LendingCompaction::new(alloc, lent_list(lent), rules)?;
+    let by_value = CompactionStream::new(list.into_iter(), rules.watermark)
         .evict_tombstones(rules.evict)
         .zero_seqnos(rules.zeroing);
-    let lending = LendingCompaction::new(alloc, lent_list(list_of(alloc, seed, count)?), rules)?;
     agree(by_value, lending, usize::from(count) + 2)
 }
 

@@ -1,3 +1,4 @@
 pub mod Asks
+pub mod Commands
 pub mod Program
 pub mod Tasks

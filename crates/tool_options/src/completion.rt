@@ -17,6 +17,8 @@ const VALUES: &str = "help --help --version\"
     case \"${COMP_WORDS[1]} $before\" in
 ";
 
+const NO_FILES: &str = "') compopt +o default; return ;;\n";
+
 const OPTIONS: &str = "    esac
     if [[ -z $words && $word == -* ]]; then
         case ${COMP_WORDS[1]} in
@@ -32,21 +34,40 @@ complete -o bashdefault -o default -F _sst sst
 /// A script for bash that completes the commands, their options and what these take. Refused for
 /// want of memory alone.
 pub(crate) fn completion(alloc: Global) -> Result<String, AllocError> {
-    let mut text = String::from_str(alloc, HEAD)?;
-    for command in COMMANDS.as_slice() {
-        text.push_str(command.name)?;
-        text.push_str(" ")?;
+    let mut text = String::new(alloc);
+    push_script(&mut text, COMMANDS.as_slice())?;
+    Ok(text)
+}
+
+/// Some texts, one behind the other.
+pub(crate) fn push_all(text: &mut String, parts: &[&str]) -> Result<(), AllocError> {
+    for part in parts {
+        text.push_str(part)?;
     }
+    Ok(())
+}
+
+// The whole script.
+fn push_script(text: &mut String, commands: &[CommandText]) -> Result<(), AllocError> {
+    text.push_str(HEAD)?;
+    for command in commands {
+        push_all(text, &[command.name, " "])?;
+    }
+    push_cases(text, commands)?;
+    text.push_str(TAIL)
+}
+
+// What may stand behind each word, and the options of each command.
+fn push_cases(text: &mut String, commands: &[CommandText]) -> Result<(), AllocError> {
     text.push_str(VALUES)?;
-    for command in COMMANDS.as_slice() {
-        push_values(&mut text, command)?;
+    for command in commands {
+        push_values(text, command)?;
     }
     text.push_str(OPTIONS)?;
-    for command in COMMANDS.as_slice() {
-        push_options(&mut text, command)?;
+    for command in commands {
+        push_options(text, command)?;
     }
-    text.push_str(TAIL)?;
-    Ok(text)
+    Ok(())
 }
 
 // What may stand behind the command and behind each of its options.
@@ -60,8 +81,8 @@ fn push_values(text: &mut String, command: &CommandText) -> Result<(), AllocErro
     Ok(())
 }
 
-// What may stand behind one word: some words, nothing that is known, or, where nothing is said here,
-// the name of a file.
+// What may stand behind one word: some words, nothing that is known, or, where nothing is said, the
+// name of a file.
 fn push_value(
     text: &mut String,
     command: &str,
@@ -75,15 +96,13 @@ fn push_value(
     };
     match argument.takes {
         Takes::Names(names) => {
-            write!(text, "    '{command} {dashes}{word}') words='")?;
+            push_all(text, &["    '", command, " ", dashes, word, "') words='"])?;
             push_names(text, names)?;
             text.push_str("' ;;\n")
         }
         Takes::Text | Takes::Number(_, _) => {
-            write!(
-                text,
-                "    '{command} {dashes}{word}') compopt +o default; return ;;\n"
-            )
+            let parts = ["    '", command, " ", dashes, word, NO_FILES];
+            push_all(text, &parts)
         }
         Takes::Nothing | Takes::File | Takes::Files | Takes::FilesAndKey(_) => Ok(()),
     }
@@ -92,17 +111,16 @@ fn push_value(
 // Names, each with a space behind it.
 fn push_names(text: &mut String, names: &[&str]) -> Result<(), AllocError> {
     for name in names {
-        text.push_str(name)?;
-        text.push_str(" ")?;
+        push_all(text, &[name, " "])?;
     }
     Ok(())
 }
 
 // The options of a command.
 fn push_options(text: &mut String, command: &CommandText) -> Result<(), AllocError> {
-    write!(text, "        {}) words='", command.name)?;
+    push_all(text, &["        ", command.name, ") words='"])?;
     for option in command.options {
-        write!(text, "--{} ", option.name)?;
+        push_all(text, &["--", option.name, " "])?;
     }
     text.push_str("--help' ;;\n")
 }

@@ -12,6 +12,3 @@ mod words;
 
 pub use tasks::{CompactTask, DumpTask, GetTask, PackTask, StatTask, Task, VerifyTask, WriteTask};
 pub use words::{Parsed, parse};
-
-#[cfg(test)]
-mod tests;

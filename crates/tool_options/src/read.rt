@@ -2,8 +2,7 @@
 ghost use Rattle.std.specs.Prelude.{◌≡◌, ◌↔◌, IfOk, IfSome, IfNone, IsTrue, Some, option_map};
 ghost use Rattle.std.specs.Prelude.{codes};
 ghost use Rattle.clap.specs.Words.{first_of, found_of, one_of, rows_of};
-ghost use Rattle.tool_options.specs.Tasks.{AsksFor, AsksForStat, AsksToCompact, AsksToDump};
-ghost use Rattle.tool_options.specs.Tasks.{AsksToGet, AsksToWrite, Has, Spells, SpellsBits};
+ghost use Rattle.tool_options.specs.Tasks.{AsksFor, Has, Spells, SpellsBits};
 ghost use Rattle.tool_options.specs.Tasks.{placed, text_in, texts_of};
 
 use crate::tasks::{
@@ -43,21 +42,21 @@ pub(crate) fn read_task<'a>(
     ensures { IfOk result (λ t. AsksFor name.now (rows_of (found_of matches.now)) t) }
 {
     match name {
-        "write" => Ok(Task::Write(read_write(matches)?)),
-        "dump" => Ok(Task::Dump(read_dump(alloc, matches)?)),
-        "get" => Ok(Task::Get(read_get(alloc, matches)?)),
-        "stat" => Ok(Task::Stat(read_stat(alloc, matches)?)),
-        "verify" => Ok(Task::Verify(read_verify(alloc, matches)?)),
-        "compact" => Ok(Task::Compact(read_compact(alloc, matches)?)),
-        "pack" => Ok(Task::Pack(read_pack(alloc, matches)?)),
+        "write" => read_write(matches),
+        "dump" => read_dump(alloc, matches),
+        "get" => read_get(alloc, matches),
+        "stat" => read_stat(alloc, matches),
+        "verify" => read_verify(alloc, matches),
+        "compact" => read_compact(alloc, matches),
+        "pack" => read_pack(alloc, matches),
         _ => Err(Misread::Absent),
     }
 }
 
-fn read_write<'a>(matches: &ArgMatches<'a>) -> Result<WriteTask<'a>, Misread>
-    ensures { IfOk result (λ t. AsksToWrite (rows_of (found_of matches.now)) t) }
+fn read_write<'a>(matches: &ArgMatches<'a>) -> Result<Task<'a>, Misread>
+    ensures { IfOk result (λ t. AsksFor (codes "write") (rows_of (found_of matches.now)) t) }
 {
-    Ok(WriteTask {
+    Ok(Task::Write(WriteTask {
         file: text(matches, "file").ok_or(Misread::Absent)?,
         partitioned: says(matches, "index", "partitioned"),
         filter_bits: text(matches, "filter")
@@ -69,75 +68,75 @@ fn read_write<'a>(matches: &ArgMatches<'a>) -> Result<WriteTask<'a>, Misread>
         target: number(matches, "target"),
         sort: flag(matches, "sort"),
         json: flag(matches, "json"),
-    })
+    }))
 }
 
-fn read_dump<'a>(alloc: Global, matches: &ArgMatches<'a>) -> Result<DumpTask<'a>, AllocError>
-    ensures { IfOk result (λ t. AsksToDump (rows_of (found_of matches.now)) t) }
+fn read_dump<'a>(alloc: Global, matches: &ArgMatches<'a>) -> Result<Task<'a>, Misread>
+    ensures { IfOk result (λ t. AsksFor (codes "dump") (rows_of (found_of matches.now)) t) }
 {
-    Ok(DumpTask {
+    Ok(Task::Dump(DumpTask {
         files: files(alloc, matches)?,
         from: text(matches, "from"),
         to: text(matches, "to"),
         reverse: flag(matches, "reverse"),
         limit: number(matches, "limit"),
         json: flag(matches, "json"),
-    })
+    }))
 }
 
 // The last word is the key.
-fn read_get<'a>(alloc: Global, matches: &ArgMatches<'a>) -> Result<GetTask<'a>, Misread>
-    ensures { IfOk result (λ t. AsksToGet (rows_of (found_of matches.now)) t) }
+fn read_get<'a>(alloc: Global, matches: &ArgMatches<'a>) -> Result<Task<'a>, Misread>
+    ensures { IfOk result (λ t. AsksFor (codes "get") (rows_of (found_of matches.now)) t) }
 {
     let mut files = files(alloc, matches)?;
     let key = files.pop().ok_or(Misread::Absent)?;
-    Ok(GetTask {
+    Ok(Task::Get(GetTask {
         files,
         key,
         at: number(matches, "at"),
         loads: flag(matches, "loads"),
         json: flag(matches, "json"),
-    })
+    }))
 }
 
-fn read_stat<'a>(alloc: Global, matches: &ArgMatches<'a>) -> Result<StatTask<'a>, AllocError>
-    ensures { IfOk result (λ t. AsksForStat (rows_of (found_of matches.now)) t) }
+fn read_stat<'a>(alloc: Global, matches: &ArgMatches<'a>) -> Result<Task<'a>, Misread>
+    ensures { IfOk result (λ t. AsksFor (codes "stat") (rows_of (found_of matches.now)) t) }
 {
-    Ok(StatTask {
+    Ok(Task::Stat(StatTask {
         files: files(alloc, matches)?,
         json: flag(matches, "json"),
-    })
+    }))
 }
 
-fn read_verify<'a>(alloc: Global, matches: &ArgMatches<'a>) -> Result<VerifyTask<'a>, AllocError>
-    ensures { IfOk result (λ t. texts_of t.files.items ≡ placed (rows_of (found_of matches.now))) }
+fn read_verify<'a>(alloc: Global, matches: &ArgMatches<'a>) -> Result<Task<'a>, Misread>
+    ensures { IfOk result (λ t. AsksFor (codes "verify") (rows_of (found_of matches.now)) t) }
 {
-    Ok(VerifyTask {
+    Ok(Task::Verify(VerifyTask {
         files: files(alloc, matches)?,
-    })
+    }))
 }
 
-fn read_compact<'a>(alloc: Global, matches: &ArgMatches<'a>) -> Result<CompactTask<'a>, Misread>
-    ensures { IfOk result (λ t. AsksToCompact (rows_of (found_of matches.now)) t) }
+fn read_compact<'a>(alloc: Global, matches: &ArgMatches<'a>) -> Result<Task<'a>, Misread>
+    ensures { IfOk result (λ t. AsksFor (codes "compact") (rows_of (found_of matches.now)) t) }
 {
     let folder = text(matches, "to").ok_or(Misread::Absent)?;
     let watermark = number(matches, "watermark").ok_or(Misread::Absent)?;
-    Ok(CompactTask {
+    Ok(Task::Compact(CompactTask {
         files: files(alloc, matches)?,
         folder,
         watermark,
         evict: flag(matches, "evict"),
         zero: flag(matches, "zero"),
         target: number(matches, "target"),
-    })
+    }))
 }
 
-fn read_pack<'a>(alloc: Global, matches: &ArgMatches<'a>) -> Result<PackTask<'a>, AllocError>
-    ensures { IfOk result (λ t. texts_of t.files.items ≡ placed (rows_of (found_of matches.now))) }
+fn read_pack<'a>(alloc: Global, matches: &ArgMatches<'a>) -> Result<Task<'a>, Misread>
+    ensures { IfOk result (λ t. AsksFor (codes "pack") (rows_of (found_of matches.now)) t) }
 {
-    Ok(PackTask {
+    Ok(Task::Pack(PackTask {
         files: files(alloc, matches)?,
-    })
+    }))
 }
 
 // The text behind an argument.

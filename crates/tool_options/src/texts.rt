@@ -243,7 +243,7 @@ const COMPACT_OPTIONS: [ArgumentText; 5] = [
         takes: Takes::File,
         required: true,
         standard: None,
-        help: "The folder that gets the new tables",
+        help: "A new folder, made for the new tables",
     },
     ArgumentText {
         name: "watermark",

@@ -1,8 +1,9 @@
 //! The words of the command line, parsed.
 ghost use Rattle.std.specs.Prelude.{◌≡◌, IfOk, map, true};
-ghost use Rattle.clap.specs.Words.{found_of, is_simple, rows_of, subcommand_of, subcommand_rows_of};
+ghost use Rattle.clap.specs.Words.{App, is_simple, subcommand_of, subcommand_rows_of};
 ghost use Rattle.tool_options.specs.Program.{program_of};
 ghost use Rattle.tool_options.specs.Asks.{AsksBy, IsText};
+ghost use Rattle.tool_options.specs.Commands.{commands, commands_in};
 
 use crate::command::program;
 use crate::completion::completion;
@@ -28,10 +29,14 @@ pub enum Parsed<'a> {
     Mistaken(String),
 }
 
-/// Parses the words of the command line, of which the first is the program's name.
+/// Parses the words of the command line, of which the first is the program's name. What a task says
+/// is what the words say of the arguments of its names, or what stands for those that are left out.
 ///
 /// Refused for want of memory alone.
-pub fn parse<'a, S: AsStr>(alloc: Global, words: &'a [S]) -> Result<Parsed<'a>, AllocError> {
+pub fn parse<'a, S: AsStr>(alloc: Global, words: &'a [S]) -> Result<Parsed<'a>, AllocError>
+    ensures { IfOk result (λ p. (a : App) × (commands_in a ≡ commands)
+        × AsksBy (subcommand_of a (map S.text words.now)) p) }
+{
     parse_by(alloc, COMMANDS.as_slice(), words)
 }
 

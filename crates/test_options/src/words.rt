@@ -1,7 +1,7 @@
 //! What words come to.
-use crate::{Parsed, parse};
 use std::alloc::{AllocError, Global};
 use std::test::Fail;
+use tool_options::{Parsed, parse};
 
 /// Lines of words, and how what they come to begins.
 const LINES: [(&str, &str); 20] = [
