@@ -433,7 +433,7 @@ def pack(tables: Iterable[Table]) -> Packed:
     >>> len(packed.chain), packed.chain[-1] is third
     (2, True)
     """
-    tables = list(tables)
+    tables = listed(tables)
     places = max(1, len(tables))
     run_of, chain = array.array("Q", bytes(8 * places)), array.array("Q", bytes(8 * places))
     count = _calls.c_uint64()
@@ -444,6 +444,13 @@ def pack(tables: Iterable[Table]) -> Packed:
     for table, run in zip(tables, run_of):
         packed[run].append(table)
     return Packed(packed, [tables[place] for place in chain[:count.value]])
+
+
+def listed(tables: Iterable[Table]) -> List[Table]:
+    """Some tables. One alone, which deals its keys, is none of these."""
+    if isinstance(tables, Table):
+        raise TypeError("several tables are wanted, and not one")
+    return list(tables)
 
 
 def _require_table(table: object) -> None:

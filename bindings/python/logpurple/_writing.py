@@ -7,7 +7,7 @@ from . import _calls
 from ._calls import byref
 from ._errors import test
 from ._held import Held, number, plain
-from ._tables import BytesLike, Runs, Table
+from ._tables import BytesLike, Runs, Table, listed
 from ._told import NEWEST, Kind
 
 _OPTIONS = {name: 8 * ctypes.sizeof(kind) for name, kind in _calls.Options._fields_
@@ -112,10 +112,11 @@ def compact(tables: Union[Runs, Iterable[Table]], *, watermark: int = 0, evict: 
     """Writes what is kept of all entries of some tables, the newest first, into new ones, and
     answers their bytes, in order of their keys; none where nothing is kept. The tables stay.
 
-    No reader stands below `watermark`: of each key the versions that only such a reader sees go.
-    With `evict` a deletion below it goes too where no older version of its key follows: only for
-    tables behind which no older one stands. With `zero` numbers below the watermark become 0. A new
-    table begins at the next key once the data blocks of the present one have `target` bytes. The
+    No reader stands below `watermark`: of each key the versions down to the newest one below it are
+    kept, and older ones go; a weak tombstone below it goes with the value directly behind it. With
+    `evict` the last version of a key that is kept goes too where it is a deletion: only for tables
+    behind which no older one stands. With `zero` numbers below the watermark become 0. A new table
+    begins at the next key once the data blocks of the present one have `target` bytes. The
     tables are written with `options`, which a `Writer` takes too, and their ids run on from `id`.
 
     Refused with `OutOfOrder` where a table does not hold what a writer makes, or two of them have
@@ -132,7 +133,7 @@ def compact(tables: Union[Runs, Iterable[Table]], *, watermark: int = 0, evict: 
     (8, [(b'b', b'more')])
     """
     watermark, target, chosen = number(watermark), number(target), _chosen(options)
-    runs = tables if isinstance(tables, Runs) else Runs(*tables)
+    runs = tables if isinstance(tables, Runs) else Runs(*listed(tables))
     files, next_id = Held(), _calls.c_uint64()
     with files:
         with runs._turn:

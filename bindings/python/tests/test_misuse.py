@@ -204,7 +204,7 @@ class Misuse(unittest.TestCase):
         writer._get = Table._get
         for call in (lambda: Table.get(writer, b"a"), lambda: Table.facts(writer),
                      lambda: Table.entries(writer), lambda: Table.verify(writer),
-                     lambda: Table.get_many(writer, [b"a"]), lambda: Writer.add(table, b"a", b"")):
+                     lambda: Table._ask(writer, [b"a"], 1), lambda: Writer.add(table, b"a", b"")):
             with self.assertRaises(logpurple.OtherKind):
                 call()
 

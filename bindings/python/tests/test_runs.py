@@ -110,7 +110,7 @@ class Several(unittest.TestCase):
         for wrong in ({"unused": 1}, {"watermarks": 1}, {"watermark": 1.5}, {"id": "1"}):
             with self.assertRaises(TypeError):
                 compact(self.tables, **wrong)
-        for wrong in (5, [5], [None], [self.runs], b"abc", [Writer()]):
+        for wrong in (5, [5], [None], [self.runs], b"abc", [Writer()], self.tables[0]):
             with self.assertRaises(TypeError):
                 compact(wrong)
         self.tables[1].close()

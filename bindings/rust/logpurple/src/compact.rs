@@ -20,8 +20,8 @@ use logpurple_sys as sys;
 pub struct Compaction {
     /// No reader stands below it.
     pub watermark: SeqNo,
-    /// Whether a deletion goes too that is the last version of its key that is kept, and would hide
-    /// only what goes: only for runs behind which no older table stands.
+    /// Whether the last version of a key that is kept goes too where it is a deletion: only for runs
+    /// behind which no older table stands.
     pub evict_tombstones: bool,
     /// Whether numbers below the watermark become 0.
     pub zero_seqnos: bool,
