@@ -6,6 +6,7 @@ use logpurple_sys as sys;
 use std::cell::UnsafeCell;
 use std::ops::Bound;
 use std::slice;
+use std::sync::Once;
 
 /// What a call fills, and what is closed when it is dropped.
 ///
@@ -24,6 +25,7 @@ pub(crate) struct Handle(UnsafeCell<sys::sst_handle>);
 impl Handle {
     /// A handle that holds nothing.
     pub(crate) fn closed() -> Handle {
+        require_version();
         Handle(UnsafeCell::new(sys::sst_handle::default()))
     }
 
@@ -51,6 +53,15 @@ impl Drop for Handle {
         // SAFETY: the handle is this one's own, and nothing that it lent is in use.
         unsafe { sys::sst_close(self.words()) }
     }
+}
+
+/// Ends the program where a library was linked or loaded whose calls are others than those that are
+/// declared.
+pub(crate) fn require_version() {
+    static TESTED: Once = Once::new();
+    TESTED.call_once(|| {
+        assert_eq!(crate::version(), sys::SST_VERSION, "the library has other calls");
+    });
 }
 
 /// What a call lends of an entry that was told; nothing where there is none.

@@ -1,7 +1,7 @@
 //! Writing a table.
 
 use crate::error::test;
-use crate::handle::{room, Handle};
+use crate::handle::{require_version, room, Handle};
 use crate::{Error, InternalValue, SeqNo, ValueType};
 use logpurple_sys as sys;
 
@@ -32,6 +32,7 @@ impl Default for Options {
     /// Blocks of 4,096 bytes, an index and a filter in one block each, ten bits a key; id, moment
     /// and level are 0.
     fn default() -> Options {
+        require_version();
         let mut told = sys::sst_options::default();
         // SAFETY: it is a reference of this call.
         unsafe { sys::sst_options_default(&mut told) };

@@ -10,8 +10,21 @@ use logpurple::{
 use std::ops::Bound;
 
 #[test]
-fn the_version_is_that_of_the_declarations() {
+fn the_declarations_are_those_of_the_header() {
     assert_eq!(logpurple::version(), logpurple_sys::SST_VERSION);
+    let header = include_str!("../../../../include/sst.h");
+    assert!(header.contains(&format!("#define SST_VERSION {}\n", logpurple_sys::SST_VERSION)));
+    let declared = include_str!("../../logpurple-sys/src/lib.rs");
+    let calls = header.lines().filter_map(|line| {
+        let call = line.strip_prefix("uint32_t ").or(line.strip_prefix("void "));
+        call.or(line.strip_prefix("uint64_t "))?.split('(').next()
+    });
+    let mut count = 0;
+    for call in calls {
+        assert!(declared.contains(&format!("pub fn {call}(")), "{call}");
+        count += 1;
+    }
+    assert!(count > 25);
 }
 
 #[test]
