@@ -2,7 +2,7 @@
 
 import array
 import os
-from typing import Iterable, Iterator, List, NamedTuple, Optional, Tuple, Type, TypeVar, Union
+from typing import Iterable, Iterator, List, Optional, Tuple, Type, TypeVar, Union
 
 from . import _calls
 from ._calls import byref, copied
@@ -407,43 +407,6 @@ class Runs(_Read):
         ([(b'b', b'more')], [(b'b', b'more'), (b'a', b'old')])
         """
         return _shown(self.entries(lower, upper, reverse, at), NEWEST, reverse)
-
-
-class Packed(NamedTuple):
-    """Tables in runs, and tables that show that fewer runs will not do."""
-
-    runs: List[List[Table]]
-    chain: List[Table]
-
-
-def pack(tables: Iterable[Table]) -> Packed:
-    """Puts tables, the newest first, into as few runs as can be, so that in each run their keys lie
-    apart, and of each key the tables that have it in their range keep their order. The chain has as
-    many tables as there are runs, each of which overlaps the next: so fewer runs will not do.
-
-    >>> def table_of(*keys):
-    ...     writer = Writer()
-    ...     for key in keys:
-    ...         writer.add(key, b"")
-    ...     return Table.open(writer.finish())
-    >>> first, second, third = table_of(b"a", b"c"), table_of(b"d"), table_of(b"b", b"e")
-    >>> packed = pack([first, second, third])
-    >>> packed.runs == [[first, second], [third]]
-    True
-    >>> len(packed.chain), packed.chain[-1] is third
-    (2, True)
-    """
-    tables = listed(tables)
-    places = max(1, len(tables))
-    run_of, chain = array.array("Q", bytes(8 * places)), array.array("Q", bytes(8 * places))
-    count = _calls.c_uint64()
-    with Runs(*tables) as runs:
-        test(_calls.pack(runs._ref, run_of.buffer_info()[0], places, chain.buffer_info()[0], places,
-                         byref(count)))
-    packed: List[List[Table]] = [[] for _ in range(count.value)]
-    for table, run in zip(tables, run_of):
-        packed[run].append(table)
-    return Packed(packed, [tables[place] for place in chain[:count.value]])
 
 
 def listed(tables: Iterable[Table]) -> List[Table]:

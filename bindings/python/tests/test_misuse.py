@@ -15,7 +15,7 @@ from common import entries_of, file_of, small, table_of
 
 import logpurple
 from logpurple import (NEWEST, Entry, Fault, Kind, Runs, Section, Table, TableError, Writer, _calls,
-                       compact, pack)
+                       compact)
 
 
 class Damage(unittest.TestCase):
@@ -38,8 +38,7 @@ class Damage(unittest.TestCase):
         keys = [entry.key for entry in written] + [b"zz"]
         for read in (lambda: list(table.entries()), lambda: list(table.entries(reverse=True))[::-1],
                      lambda: list(Runs(table).entries()), lambda: table.entry_many(keys),
-                     lambda: [table.entry(key) for key in keys], lambda: compact([table]),
-                     lambda: pack([table])):
+                     lambda: [table.entry(key) for key in keys], lambda: compact([table])):
             try:
                 answer = read()
             except TableError as error:
@@ -81,7 +80,7 @@ class Misuse(unittest.TestCase):
                      lambda: table.entry_many([b"a"]), lambda: writer.add(b"a", b""),
                      lambda: writer.delete(b"a"), writer.finish, lambda: runs.get(b"a"),
                      runs.entries, runs.range, lambda: compact(runs), lambda: compact([table]),
-                     lambda: pack([table]), lambda: Runs(table), lambda: Runs().add(table),
+                     lambda: Runs(table), lambda: Runs().add(table),
                      lambda: next(entries), entries.take):
             with self.assertRaises(logpurple.Closed) as refused:
                 call()
@@ -169,7 +168,7 @@ class Misuse(unittest.TestCase):
                      lambda: Table.open(5), lambda: Table.open(None), lambda: Table.open([1]),
                      lambda: Table.open(b"", global_seqno=None), lambda: Runs(writer),
                      lambda: Runs([table]), lambda: runs.add(runs), lambda: runs.add(b"a"),
-                     lambda: pack(table), lambda: pack([runs]), lambda: pack(5)):
+                     lambda: compact(table), lambda: compact([runs]), lambda: compact(5)):
             with self.assertRaises(TypeError):
                 call()
         with self.assertRaises(FileNotFoundError):

@@ -1,4 +1,4 @@
-"""Several tables: read as one, compacted and packed."""
+"""Several tables: read as one, and compacted."""
 
 import itertools
 import random
@@ -8,7 +8,7 @@ from common import (entries_of, file_of, kept, keys_of, newest, seen, shown, sma
                     table_of, within)
 
 import logpurple
-from logpurple import NEWEST, Entry, Kind, Runs, Table, Writer, compact, pack
+from logpurple import NEWEST, Entry, Kind, Runs, Table, Writer, compact
 
 
 class Several(unittest.TestCase):
@@ -66,7 +66,7 @@ class Several(unittest.TestCase):
         with Runs() as runs:
             self.assertEqual((list(runs.entries()), runs.get(b"a")), ([], None))
             self.assertEqual(compact(runs), [])
-        self.assertEqual((compact([]), pack([])), ([], ([], [])))
+        self.assertEqual(compact([]), [])
 
     def test_compaction(self):
         for evict, zero, watermark in itertools.product([False, True], [False, True],
@@ -93,7 +93,6 @@ class Several(unittest.TestCase):
             wanted = kept(self.all, NEWEST, False, False)
             self.assertEqual([e for table in tables for e in table.entries()], wanted)
             self.assertEqual(list(Runs(*tables).entries()), seen(wanted))
-            self.assertEqual((len(pack(tables).runs), len(pack(tables).chain)), (1, 1))
 
     def test_what_compaction_refuses(self):
         both = [table_of(self.lists[0]), table_of(self.lists[0])]
@@ -129,41 +128,11 @@ class Several(unittest.TestCase):
             yield self.tables[0]
             raise ZeroDivisionError
 
-        for call in (compact, pack):
-            with self.assertRaises(ZeroDivisionError):
-                call(dealt())
-
-    def test_packing(self):
-        for seed in range(30):
-            dice, tables, bounds = random.Random(seed), [], []
-            for _ in range(dice.randint(1, 12)):
-                low = dice.randint(0, 30)
-                high = low + dice.choice([0, 1, 5])
-                ends = sorted({b"%02d" % low, b"%02d" % high})
-                tables.append(table_of([Entry(key, 1, Kind.VALUE, b"") for key in ends]))
-                bounds.append((low, high))
-            self.check_packed(tables, bounds, pack(tables))
-
-    def check_packed(self, tables, bounds, packed):
-        def overlap(one, other):
-            return one[0] <= other[1] and other[0] <= one[1]
-
-        place = {id(table): i for i, table in enumerate(tables)}
-        runs = [[place[id(table)] for table in run] for run in packed.runs]
-        self.assertEqual(sorted(sum(runs, [])), list(range(len(tables))))
-        run_of = {table: i for i, run in enumerate(runs) for table in run}
-        for one, other in itertools.combinations(range(len(tables)), 2):
-            if overlap(bounds[one], bounds[other]):
-                self.assertLess(run_of[one], run_of[other])
-        chain = [place[id(table)] for table in packed.chain]
-        self.assertEqual(len(chain), len(runs))
-        for one, other in zip(chain, chain[1:]):
-            self.assertTrue(one < other and overlap(bounds[one], bounds[other]))
+        with self.assertRaises(ZeroDivisionError):
+            compact(dealt())
 
     def test_one_table_twice(self):
         table = self.tables[0]
-        packed = pack([table, table])
-        self.assertEqual((len(packed.runs), packed.chain), (2, [table, table]))
         self.assertEqual(list(Runs(table, table).entries()), seen(self.lists[0]))
 
 

@@ -6,7 +6,7 @@ import unittest
 
 from common import HERE, file_of, kept, newest, seen, shown
 
-from logpurple import NEWEST, Entry, Kind, Runs, Table, TableError, compact, pack
+from logpurple import NEWEST, Entry, Kind, Runs, Table, TableError, compact
 
 STORED = os.path.join(HERE, "..", "..", "..", "crates", "test_vectors", "stdin")
 KINDS = [Kind.VALUE, Kind.TOMBSTONE, Kind.WEAK_TOMBSTONE, None, Kind.INDIRECTION]
@@ -93,12 +93,6 @@ class StoredTables(unittest.TestCase):
                 wanted = kept(entries, watermark, evict, zero)
                 files = compact([table], watermark=watermark, evict=evict, zero=zero)
                 self.assertEqual([e for file in files for e in Table.open(file).entries()], wanted)
-
-    def test_packed(self):
-        tables = [Table.open(each.file) for each in stored()]
-        packed = pack(tables)
-        self.assertEqual(len(packed.runs), len(packed.chain))
-        self.assertEqual(sum(map(len, packed.runs)), len(tables))
 
     def test_damaged(self):
         count = 0

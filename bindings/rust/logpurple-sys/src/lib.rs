@@ -195,14 +195,6 @@ extern "C" {
         seqno: u64,
         range: *mut sst_handle,
     ) -> u32;
-    pub fn sst_pack(
-        runs: *mut sst_handle,
-        run_of: *mut u64,
-        run_of_room: usize,
-        chain: *mut u64,
-        chain_room: usize,
-        run_count: *mut u64,
-    ) -> u32;
 
     pub fn sst_options_default(options: *mut sst_options);
     pub fn sst_writer_open(options: *const sst_options, writer: *mut sst_handle) -> u32;

@@ -49,7 +49,7 @@ pub use entry::{
 };
 pub use error::Error;
 pub use range::Range;
-pub use runs::{Packed, Runs};
+pub use runs::Runs;
 pub use table::{Metadata, OpenOptions, Table};
 pub use verify::{Fault, Finding, SectionName, Verified, VerifyError};
 pub use writer::{FinishedTable, Options, Writer};

@@ -1,7 +1,7 @@
 //! Several tables as one.
 
 use crate::error::test;
-use crate::handle::{get, room, Handle};
+use crate::handle::{get, Handle};
 use crate::{Compacted, Compaction, Error, InternalValue, LentValue, Range, SeqNo, Table};
 use logpurple_sys as sys;
 use std::ops::RangeBounds;
@@ -11,16 +11,6 @@ use std::ops::RangeBounds;
 pub struct Runs {
     pub(crate) handle: Handle,
     tables: Vec<Table>,
-}
-
-/// Tables in as few runs as can be, by their places in [`Runs::tables`].
-#[derive(Clone, Debug, PartialEq, Eq)]
-pub struct Packed {
-    /// The tables of each run, whose keys lie apart.
-    pub runs: Vec<Vec<usize>>,
-    /// As many tables as there are runs, each of which overlaps the next one, which stands behind
-    /// it: so fewer runs will not do.
-    pub chain: Vec<usize>,
 }
 
 impl Runs {
@@ -111,53 +101,6 @@ impl Runs {
     /// As `range`, without bounds.
     pub fn iter(&self, seqno: SeqNo) -> Result<Range, Error> {
         self.range::<&[u8], _>(.., seqno)
-    }
-
-    /// Tells into how few runs the tables can go, so that in each run their keys lie apart, and of
-    /// each key the tables that have it in their range keep their order. Refused for want of
-    /// memory.
-    ///
-    /// ```
-    /// # use logpurple::{Runs, Table, ValueType, Writer};
-    /// # fn main() -> Result<(), Box<dyn std::error::Error>> {
-    /// # let table = |keys: [&[u8]; 2]| -> Result<Table, Box<dyn std::error::Error>> {
-    /// #     let mut writer = Writer::new(1)?;
-    /// #     for key in keys {
-    /// #         writer.write(key, 1, ValueType::Value, b"")?;
-    /// #     }
-    /// #     Ok(Table::open(writer.finish()?.unwrap())?)
-    /// # };
-    /// // Tables from a to c, from d to e, and from b to d.
-    /// let tables = [table([b"a", b"c"])?, table([b"d", b"e"])?, table([b"b", b"d"])?];
-    /// let packed = Runs::from_tables(tables)?.pack()?;
-    /// assert_eq!(packed.runs, [vec![0, 1], vec![2]]);
-    /// assert_eq!(packed.chain.len(), 2);
-    /// # Ok(())
-    /// # }
-    /// ```
-    pub fn pack(&self) -> Result<Packed, Error> {
-        let len = self.tables.len();
-        let (mut run_of, mut chain) = (room(len)?, room(len)?);
-        run_of.resize(len, 0_u64);
-        chain.resize(len, 0_u64);
-        let mut count = 0;
-        // SAFETY: there are so many places for both, and all are references of this call.
-        test(unsafe {
-            sys::sst_pack(
-                self.handle.words(),
-                run_of.as_mut_ptr(),
-                len,
-                chain.as_mut_ptr(),
-                len,
-                &mut count,
-            )
-        })?;
-        chain.truncate(count as usize);
-        let mut runs = vec![Vec::new(); count as usize];
-        for (table, run) in run_of.into_iter().enumerate() {
-            runs[run as usize].push(table);
-        }
-        Ok(Packed { runs, chain: chain.into_iter().map(|place| place as usize).collect() })
     }
 
     /// Writes what is kept of all entries into new tables, as [`Compaction`] says. These tables

@@ -1,4 +1,4 @@
-//! Several tables: read as one, compacted and packed.
+//! Several tables: read as one, and compacted.
 
 mod common;
 
@@ -6,7 +6,7 @@ use common::{
     collect, items, kept, keys, newest, random_entries, seen, small, spaced_entries, write, Dice,
     Entries,
 };
-use logpurple::{Compaction, Error, Options, Packed, Runs, Table, ValueType, Writer, NEWEST};
+use logpurple::{Compaction, Error, Options, Runs, Table, NEWEST};
 use std::cmp::Reverse;
 use std::ops::Bound;
 
@@ -140,8 +140,6 @@ fn a_compaction_begins_new_tables() {
             compacted.tables.iter().map(|table| Table::open(table).unwrap()).collect();
         let read: Vec<_> = tables.iter().flat_map(|table| collect(table.iter().unwrap())).collect();
         assert_eq!(read, kept(&all, &by));
-        let packed = Runs::from_tables(tables).unwrap().pack().unwrap();
-        assert_eq!((packed.runs.len(), packed.chain.len()), (1, 1));
     }
 }
 
@@ -159,9 +157,7 @@ fn a_compaction_that_is_refused() {
     let table = &runs.tables()[0];
     let twice = Runs::from_tables([table.clone(), table.clone()]).unwrap();
     assert_eq!(twice.compact(&Compaction::default()), Err(Error::OutOfOrder));
-    assert_eq!(twice.pack().unwrap(), Packed { runs: vec![vec![0], vec![1]], chain: vec![0, 1] });
     let none = Runs::new().unwrap();
-    assert_eq!(none.pack().unwrap(), Packed { runs: vec![], chain: vec![] });
     assert!(none.compact(&Compaction::default()).unwrap().tables.is_empty());
     assert!(none.iter(NEWEST).unwrap().next().is_none());
     assert_eq!(none.get(b"", NEWEST), Ok(None));
@@ -176,46 +172,4 @@ fn a_damaged_table_is_not_compacted() {
     let mut range = runs.iter(NEWEST).unwrap();
     assert!(range.by_ref().any(|item| item.is_err()));
     assert!(range.next().is_none() && range.next_back().is_none());
-}
-
-#[test]
-fn packing_keeps_the_order_of_what_overlaps() {
-    for seed in 0..30 {
-        let mut dice = Dice::new(seed + 1);
-        let bounds: Vec<_> = (0..1 + dice.below(12))
-            .map(|_| {
-                let low = dice.below(30);
-                (low, low + [0, 1, 5][dice.below(3) as usize])
-            })
-            .collect();
-        let tables = bounds.iter().map(|&(low, high)| table_between(low, high));
-        let packed = Runs::from_tables(tables).unwrap().pack().unwrap();
-        check_packed(&bounds, &packed);
-    }
-}
-
-fn table_between(low: u64, high: u64) -> Table {
-    let mut writer = Writer::new(1).unwrap();
-    let ends = if low == high { vec![low] } else { vec![low, high] };
-    for end in ends {
-        writer.write(format!("{end:02}").as_bytes(), 1, ValueType::Value, b"").unwrap();
-    }
-    Table::open(writer.finish().unwrap().unwrap()).unwrap()
-}
-
-fn check_packed(bounds: &[(u64, u64)], packed: &Packed) {
-    let overlap = |a: usize, b: usize| bounds[a].0 <= bounds[b].1 && bounds[b].0 <= bounds[a].1;
-    let mut run_of = vec![None; bounds.len()];
-    for (run, tables) in packed.runs.iter().enumerate() {
-        for &table in tables {
-            assert!(run_of[table].replace(run).is_none());
-        }
-    }
-    for newer in 0..bounds.len() {
-        for older in newer + 1..bounds.len() {
-            assert!(!overlap(newer, older) || run_of[newer].unwrap() < run_of[older].unwrap());
-        }
-    }
-    assert_eq!(packed.chain.len(), packed.runs.len());
-    assert!(packed.chain.windows(2).all(|pair| pair[0] < pair[1] && overlap(pair[0], pair[1])));
 }

@@ -258,7 +258,6 @@ fn damage_is_refused_or_found() {
         let many = table.get_many(&keys, NEWEST);
         let singly: Result<Vec<_>, _> = keys.iter().map(|key| table.get(key, NEWEST)).collect();
         let several = Runs::from_tables([table.clone()]).and_then(|runs| {
-            runs.pack()?;
             runs.compact(&Compaction::default())?;
             runs.iter(NEWEST)?.collect::<Result<Vec<_>, _>>()
         });
