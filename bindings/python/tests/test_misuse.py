@@ -123,9 +123,9 @@ class Misuse(unittest.TestCase):
 
     def test_a_key_that_is_too_long(self):
         writer = Writer()
-        writer.add(b"a" * 65535, b"")
+        writer.add(b"a" * (1 << 20), b"")
         with self.assertRaises(logpurple.KeyTooLong):
-            writer.add(b"b" * 65536, b"")
+            writer.add(b"b" * ((1 << 20) + 1), b"")
         with self.assertRaises(logpurple.WriterFailed):
             writer.add(b"c", b"")
         with self.assertRaises(logpurple.WriterFailed):
