@@ -18,8 +18,8 @@ False
 [(b'apple', 2, 'VALUE'), (b'apple', 1, 'VALUE'), (b'pear', 3, 'TOMBSTONE')]
 
 Any number of threads may use what they share: those that use one object take turns, and those that
-have a share of a table each, made by `Table.share`, read at the same time. A process that was forked
-may use what no thread was at work on. What is opened is neither copied nor pickled.
+have a share of a table each, made by `Table.share`, read at the same time. A process that was
+forked may use what no thread was at work on. What is opened is neither copied nor pickled.
 
 It needs CPython 3.8 or a later one, and no compiler.
 """

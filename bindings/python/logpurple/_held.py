@@ -5,7 +5,7 @@ import threading
 from typing import Any, Optional
 
 from . import _calls
-from ._calls import byref, copied
+from ._calls import addressof, copied
 from ._errors import test
 from ._told import Entry, Kind
 
@@ -58,10 +58,10 @@ class Held:
     def __init__(self) -> None:
         self._turn = _Turn()
         self._handle = _calls.Handle()
-        self._ref = byref(self._handle)
+        self._ref = addressof(self._handle)
         # What a read tells and lends, used within a turn alone.
         self._told, self._lent = _calls.EntryTold(), _calls.Lent()
-        self._told_ref, self._lent_ref = byref(self._told), byref(self._lent)
+        self._told_ref, self._lent_ref = addressof(self._told), addressof(self._lent)
 
     def close(self) -> None:
         """Lets go what is held. It may be closed twice."""

@@ -29,7 +29,8 @@ def small(seed):
     """Options for small blocks, with and without partitions, buckets and a filter."""
     return {"id": seed, "data_block_size": 64, "data_block_hash_ratio": 500 * (seed % 3),
             "index_partition_size": 100 * (seed % 2), "filter_partition_size": 50 * (seed // 2 % 2),
-            "data_block_restart_interval": 1 + seed % 4, "filter_bits_per_key": 100 * (seed % 5 > 0)}
+            "data_block_restart_interval": 1 + seed % 4,
+            "filter_bits_per_key": 100 * (seed % 5 > 0)}
 
 
 def file_of(entries, **options):
