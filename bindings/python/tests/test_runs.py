@@ -99,7 +99,7 @@ class Several(unittest.TestCase):
         with self.assertRaises(logpurple.OutOfOrder):
             compact(both)
         with self.assertRaises(logpurple.TableIdsSpent):
-            compact(self.tables, id=2**64 - 1, target=1)
+            compact(self.tables, id=2**64 - 1, target=1, data_block_size=64)
         with self.assertRaises(logpurple.NoSuch):
             compact(self.tables, data_block_restart_interval=0)
         self.assertEqual(len(compact(self.tables, id=2**64 - 1)), 1)

@@ -146,7 +146,7 @@ fn a_compaction_begins_new_tables() {
 #[test]
 fn a_compaction_that_is_refused() {
     let (runs, _) = several();
-    let spent = Options { id: u64::MAX, ..Options::default() };
+    let spent = Options { id: u64::MAX, data_block_size: 64, ..Options::default() };
     let by = Compaction { target_size: 1, options: spent, ..Compaction::default() };
     assert_eq!(runs.compact(&by), Err(Error::TableIdsSpent));
     let one = runs.compact(&Compaction { target_size: NEWEST, ..by }).unwrap();
