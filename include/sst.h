@@ -254,18 +254,6 @@ uint32_t sst_runs_range_open(sst_handle *runs, uint32_t lower_kind, const uint8_
                              size_t lower_len, uint32_t upper_kind, const uint8_t *upper,
                              size_t upper_len, uint64_t seqno, sst_handle *range);
 
-/* Tells into how few runs the tables of a list can go, so that in each run their keys lie apart,
- * and of each key the tables that have it in their range keep their order. The list stays.
- *
- * `run_of` is told the run of each table, from 0 on, in the order in which they were added.
- * `chain` is told the places of as many tables as there are runs, from 0 on, each of which overlaps
- * the next one, which was added later: so fewer runs will not do. What is behind either stays.
- * SST_NO_ROOM where `run_of` has fewer places than the list has tables, or `chain` than there are
- * runs; nothing is told then. So as many places as tables are enough for both.
- */
-uint32_t sst_pack(sst_handle *runs, uint64_t *run_of, size_t run_of_room, uint64_t *chain,
-                  size_t chain_room, uint64_t *run_count);
-
 /* Writing a table. */
 
 /* What a table is written with. */
