@@ -6,6 +6,7 @@
 #include <string>
 #include <vector>
 
+#include "calls.h"
 #include "chart.h"
 #include "entries.h"
 #include "hashing.h"
@@ -227,6 +228,9 @@ class TableBench {
       CheckTable("back", tool_bench_iter_back, passes, back_);
       CheckKeys("batch", table_, tool_bench_get_many, batch_, passes, batch_found_);
       CheckKeys("singly", table_, tool_bench_get, batch_, passes, batch_found_);
+      CheckKeys("calls", table_, CallGet, present_, passes, found_);
+      CheckKeys("calls absent", table_, CallGet, absent_, passes, Digest{});
+      CheckKeys("calls batch", table_, CallGetMany, batch_, passes, batch_found_);
       CheckFiles("runs", tool_bench_range_runs, passes);
       CheckFiles("runs_lent", tool_bench_range_runs_lent, passes);
       CheckFiles("merge", tool_bench_merge, passes);
@@ -419,6 +423,17 @@ class TableBench {
                           0, keys, again));
   }
 
+  // Point reads through the calls for C, of the table whose index and filter are in one block each.
+  void CallRows(const Parts& parts, std::vector<Row>* rows) const {
+    double keys = present_.each.size(), again = again_;
+    double first = Sum(parts.Data()) / parts.Data().size() * keys;
+    rows->push_back(RowOf("get from C, first pass", "present", First("calls"), first * kCompared,
+                          keys, again));
+    rows->push_back(RowOf("get from C, second pass", "present", Second("calls"), 0, keys, again));
+    rows->push_back(RowOf("get of an absent key from C", "absent", Second("calls absent"), 0, keys,
+                          again));
+  }
+
   // A workload's two passes. What was compared in the first is not compared again.
   void PassRows(const std::string& title, const std::string& unit, const std::string& name,
                 const std::string& theirs, double cycles, double count, double passes,
@@ -443,7 +458,10 @@ class TableBench {
                          parts.table() * kMade, entries, 1));
     PointRows("", parts, &rows);
     PointRows(", partitions", Parts(partitioned_), &rows);
+    CallRows(Parts(table_), &rows);
     PassRows("1,000 keys at once", a_key, "batch", "batch", touched * kBeside, batch, again, &rows);
+    PassRows("1,000 keys at once, from C", a_key, "calls batch", "batch", touched * kBeside, batch,
+             again, &rows);
     PassRows("the same one by one", a_key, "singly", "singly", touched * kCompared, batch, again,
              &rows);
     PassRows("scan", an_entry, "scan", "scan", data * kBeside, entries, 1, &rows);

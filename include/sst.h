@@ -13,17 +13,23 @@
  * What a caller holds is a handle: two words in memory of its own, which begin as zeros
  * (`sst_handle table = {0};`). A call fills it; `sst_close` empties it, and may be called twice.
  * What was opened from what a handle holds has shares of its own, so handles may be closed in any
- * order. A handle may be moved, and no copy of it may be used beside it. One thread uses a handle
- * at a time; a handle and what was opened from what it holds are used by one thread at a time
- * together, with what orders memory between two, as a lock does.
+ * order. A handle may be moved, and no copy of it may be used beside it.
+ *
+ * Threads: one thread uses a handle at a time. Threads that use different handles at once need
+ * nothing between them, whatever the handles share: a table's bytes and blocks are never written,
+ * shares are counted by atomic steps, and so is noted which blocks were compared. So several
+ * threads read one table at once by a handle each, which `sst_table_share` makes, or by ranges and
+ * lists of runs of it. A handle that goes from one thread to another, as one that is made for it,
+ * needs what orders memory between the two, as a lock, a thread's start or its join.
  *
  * Each call answers 0, or the number of what refused it. 1 to 24 are the library's refusals; 23 is
  * a writer that has refused before, 5 a block that was damaged. From 100 on they are those of the
  * calls below. `sst_strerror` has a sentence for each.
  *
- * Pointers: none may be NULL. Bytes are a pointer and how many there are, in this order; where
- * there are none, any pointer that is not NULL will do. What a call is given is read until it
- * returns, and never kept. What a call writes to may not overlap what else it is given.
+ * Pointers: none may be NULL, and each is aligned as what it points to. Bytes, and other arrays,
+ * are a pointer and how many there are, in this order; where there are none, any such pointer that
+ * is not NULL will do. What a call is given is read until it returns, and never kept. What a call
+ * writes to may not overlap what else it is given.
  *
  * What each call answers, tells and leaves is proved, by the library's own contracts; docs/C.md has
  * what of it is not. Relied on, and not proved: that pointers are as said above, that a handle's
@@ -42,7 +48,7 @@ extern "C" {
 #endif
 
 /* The version of these calls; `sst_version` answers that of the library. */
-#define SST_VERSION 1
+#define SST_VERSION 2
 
 /* What a call answers beside 0 and the library's refusals. */
 enum {
@@ -51,7 +57,7 @@ enum {
   SST_OPEN = 101,         /* the handle that is to be filled holds something */
   SST_OTHER_KIND = 102,   /* the handle holds something of another kind */
   SST_NO_ROOM = 103,      /* there is less room than what is to be copied needs */
-  SST_OUT_OF_ORDER = 104, /* the entry does not follow the one before it */
+  SST_OUT_OF_ORDER = 104, /* an entry does not follow the one before it, or a key */
   SST_NO_SUCH = 105,      /* a number names none of what it may name */
   SST_NOTHING = 106,      /* the last read by the handle found nothing */
   SST_FAULTY = 107        /* a verification found something wrong */
@@ -149,6 +155,40 @@ typedef struct sst_facts {
 
 uint32_t sst_table_facts(sst_handle *table, sst_facts *facts);
 
+/* Makes a further handle of the table that a handle holds, in one that holds nothing. Both read the
+ * same bytes, and neither knows what the other has found: so one may go to another thread. No bytes
+ * are copied.
+ */
+uint32_t sst_table_share(sst_handle *table, sst_handle *other);
+
+/* Many reads at once. */
+
+/* Finds of each of some keys what `sst_table_get` finds, and keeps all of it in a handle that holds
+ * nothing, until that is closed. The keys stand one behind another in `keys`; `key_lens` has how
+ * many bytes each has, and they have `keys_len` together: SST_NO_SUCH where they do not. The keys
+ * may stand in any order and repeat; a block in which several stand is loaded once for them.
+ *
+ * `entries` is told of each what a read would tell, in the order of the keys; what is behind them
+ * stays. SST_NO_ROOM where it has fewer places than there are keys. Refused as the read of the
+ * first key is that is refused, or for want of memory: `entries` stays then, and nothing is kept.
+ */
+uint32_t sst_table_get_many(sst_handle *table, const uint8_t *keys, size_t keys_len,
+                            const uint64_t *key_lens, size_t key_count, uint64_t seqno,
+                            sst_entry *entries, size_t entry_room, sst_handle *answers);
+
+/* Lends what was found of the key at a place, from 0 on, as `sst_found_lend` does: it lies there
+ * until the answers are closed. SST_NO_SUCH where there is no key at that place, SST_NOTHING where
+ * nothing was found of it.
+ */
+uint32_t sst_answers_lend(sst_handle *answers, uint64_t index, sst_lent *lent);
+
+/* Copies what was found of the key at a place, as `sst_found_copy` does. SST_NO_SUCH and
+ * SST_NOTHING as above; SST_NO_ROOM where one of the two has more bytes than its room, and nothing
+ * is copied then.
+ */
+uint32_t sst_answers_copy(sst_handle *answers, uint64_t index, uint8_t *key, size_t key_room,
+                          uint8_t *value, size_t value_room);
+
 /* What a verification found: the first two where the table is sound, else the rest. */
 typedef struct sst_verified {
   uint64_t item_count;
@@ -160,7 +200,8 @@ typedef struct sst_verified {
                        before it ended, 4 an entry has the largest number, 5 an entry does not
                        follow, 6 the filter denies a key, 7 a block of the filter does not load,
                        8 a handle names another key, 9 another number, 10 the entries do not bear
-                       out an item of the meta block, 11 no handle names a data block */
+                       out an item of the meta block, 11 no handle names a data block; 12,
+                       another checksum of the file, is not told by `sst_table_verify` */
   uint32_t detail;  /* of faults 1 and 7 the load's refusal */
   uint32_t unused;
 } sst_verified;
@@ -181,8 +222,9 @@ uint32_t sst_range_open(sst_handle *table, uint32_t lower_kind, const uint8_t *l
                         size_t upper_len, sst_handle *range);
 
 /* Takes the next entry of a range from the front, or from the back, and keeps it: by key up, and of
- * one key by number down, every version. At the end it answers 0, and the kind is SST_NO_ENTRY.
- * Where it is refused nothing more comes, from either end.
+ * one key by number down, every version; of a range of a list of runs one version of each key. At
+ * the end it answers 0, and the kind is SST_NO_ENTRY. Where it is refused nothing more comes, from
+ * either end.
  */
 uint32_t sst_range_next(sst_handle *range, bool back, sst_entry *entry);
 
@@ -192,7 +234,8 @@ uint32_t sst_range_next(sst_handle *range, bool back, sst_entry *entry);
 uint32_t sst_runs_open(sst_handle *runs);
 
 /* Adds a table to a list of runs, behind those that are there: the newest comes first. The list has
- * a share of the table.
+ * a share of the table. SST_OUT_OF_ORDER where the table says of itself that its least key is above
+ * its greatest, as only damaged bytes do.
  */
 uint32_t sst_runs_add(sst_handle *runs, sst_handle *table);
 
@@ -201,6 +244,15 @@ uint32_t sst_runs_add(sst_handle *runs, sst_handle *table);
  */
 uint32_t sst_runs_get(sst_handle *runs, const uint8_t *key, size_t key_len, uint64_t seqno,
                       sst_entry *entry);
+
+/* Begins to read what all tables of a list of runs have together within two bounds, into a handle
+ * that holds nothing: of each key the newest version that is numbered below `seqno`, a deletion
+ * too. Nothing is loaded yet. `sst_range_next` takes the entries, from both ends. The range has
+ * shares of the tables: tables that are added to the list later are not in it.
+ */
+uint32_t sst_runs_range_open(sst_handle *runs, uint32_t lower_kind, const uint8_t *lower,
+                             size_t lower_len, uint32_t upper_kind, const uint8_t *upper,
+                             size_t upper_len, uint64_t seqno, sst_handle *range);
 
 /* Writing a table. */
 
@@ -241,6 +293,29 @@ uint32_t sst_writer_add(sst_handle *writer, const uint8_t *key, size_t key_len, 
  */
 uint32_t sst_writer_finish(sst_handle *writer);
 
+/* Compaction. */
+
+/* Writes what is kept of all entries of a list of runs into new tables, which a handle that holds
+ * nothing gets, all finished; none where nothing is kept. The list and its tables stay.
+ *
+ * No reader stands below `watermark`: of each key the versions that only such a reader sees go.
+ * Where `evict_tombstones` is set, a deletion below it goes too where no older version of its key
+ * follows: only for a list behind which no older table stands. Where `zero_seqnos` is set, numbers
+ * below the watermark become 0. A new table begins at the next key once the data blocks of the
+ * present one have `target_size` bytes; with UINT64_MAX there is one. The tables are written with
+ * `options`, and their ids run on from `options->id`; `next_id` is told the first that is left, 0
+ * where none is.
+ *
+ * SST_NO_SUCH where an option is out of its range; SST_OUT_OF_ORDER where an entry comes that does
+ * not follow the one before it, or whose number is UINT64_MAX: a table does not hold what a writer
+ * makes, or two tables have one key under one number. Else refused with the first fault of the
+ * blocks, as a writer is, with 22 where no id is left, and for want of memory. No table is kept
+ * then, and `next_id` stays.
+ */
+uint32_t sst_compact(sst_handle *runs, const sst_options *options, uint64_t watermark,
+                     bool evict_tombstones, bool zero_seqnos, uint64_t target_size,
+                     sst_handle *files, uint64_t *next_id);
+
 /* Finished tables, by their places from 0 on. */
 
 typedef struct sst_file {
@@ -249,7 +324,9 @@ typedef struct sst_file {
   uint64_t len;
 } sst_file;
 
-/* Tells how many tables are finished: none of a writer that is not finished, or wrote nothing. */
+/* Tells how many tables are finished: none of a writer that is not finished, or wrote nothing. A
+ * writer finishes one, a compaction any number.
+ */
 uint32_t sst_files_count(sst_handle *files, uint64_t *count);
 
 /* Tells what a finished table is called and how long it is. SST_NO_SUCH where there is none at that
@@ -263,6 +340,11 @@ uint32_t sst_files_tell(sst_handle *files, uint64_t index, sst_file *file);
 uint32_t sst_files_copy(sst_handle *files, uint64_t index, uint64_t offset, uint8_t *room,
                         size_t room_len, uint64_t *count);
 
+/* Copies a sentence for what a call answers, the one that `sst_strerror` has, as many bytes as there
+ * is room for and no zero behind it, and answers how many it has.
+ */
+uint64_t sst_strerror_copy(uint32_t code, uint8_t *room, size_t room_len);
+
 /* A sentence for what a call answers. It stays for good. */
 static inline const char *sst_strerror(uint32_t code) {
   static const char *const library[] = {
@@ -275,7 +357,7 @@ static inline const char *sst_strerror(uint32_t code) {
       "table ids spent", "the writer has failed", "source error"};
   static const char *const own[] = {
       "the handle is closed", "the handle is open", "the handle holds another kind",
-      "the room is too small", "the entry is out of order", "there is no such number",
+      "the room is too small", "an entry is out of order", "there is no such number",
       "nothing was found", "the table is not sound"};
   if (code < sizeof library / sizeof *library) return library[code];
   if (code >= 100 && code - 100 < sizeof own / sizeof *own) return own[code - 100];

@@ -1,5 +1,6 @@
-/* Writes a table, opens it, reads a key and walks a range, in C99 and in C++. docs/C.md shows it
- * whole, and `bindings/test` builds and runs it as both.
+/* Writes two tables, opens them, reads keys and walks a range, of one table and of both together;
+ * compacts them into one, and verifies it. In C99 and in C++: docs/C.md shows it whole, and
+ * `bindings/test` builds and runs it as both.
  */
 #include "sst.h"
 
@@ -21,12 +22,22 @@ static void add(sst_handle *writer, const char *key, uint64_t seqno, uint32_t ki
   test(sst_writer_add(writer, bytes(key), strlen(key), seqno, kind, bytes(value), strlen(value)));
 }
 
-/* The bytes of a table, which the caller frees. */
-static uint8_t *write_table(size_t *len) {
-  sst_options options;
-  sst_handle writer = {0};
+/* Opens the first finished table of a handle, which is closed. */
+static void open_first(sst_handle *files, sst_handle *table) {
   sst_file told;
   uint64_t count;
+  test(sst_files_tell(files, 0, &told));
+  uint8_t *bytes = (uint8_t *)malloc(told.len);
+  if (bytes == NULL) test(SST_NO_MEMORY);
+  test(sst_files_copy(files, 0, 0, bytes, told.len, &count)); /* or into a file, piece by piece */
+  test(sst_table_open(bytes, told.len, 0, true, true, table));
+  free(bytes); /* the table has a copy */
+  sst_close(files);
+}
+
+static void write_older(sst_handle *table) {
+  sst_options options;
+  sst_handle writer = {0};
   sst_options_default(&options);
   options.id = 1;
   test(sst_writer_open(&options, &writer));
@@ -35,13 +46,19 @@ static uint8_t *write_table(size_t *len) {
   add(&writer, "pear", 5, SST_VALUE, "yellow");
   add(&writer, "plum", 6, SST_TOMBSTONE, "");
   test(sst_writer_finish(&writer));
-  test(sst_files_tell(&writer, 0, &told));
-  uint8_t *file = (uint8_t *)malloc(told.len);
-  if (file == NULL) test(SST_NO_MEMORY);
-  test(sst_files_copy(&writer, 0, 0, file, told.len, &count));
-  sst_close(&writer);
-  *len = told.len;
-  return file;
+  open_first(&writer, table);
+}
+
+static void write_newer(sst_handle *table) {
+  sst_options options;
+  sst_handle writer = {0};
+  sst_options_default(&options);
+  options.id = 2;
+  test(sst_writer_open(&options, &writer));
+  add(&writer, "fig", 9, SST_VALUE, "violet");
+  add(&writer, "pear", 8, SST_TOMBSTONE, "");
+  test(sst_writer_finish(&writer));
+  open_first(&writer, table);
 }
 
 static void print(const char *what, const sst_entry *entry, const sst_lent *lent) {
@@ -63,32 +80,50 @@ static void read_key(sst_handle *table, const char *key, uint64_t seqno) {
   print("found", &entry, &lent);
 }
 
-/* The entries from `pear` on, from the back. */
-static void walk(sst_handle *table) {
-  sst_handle range = {0};
+/* What a range has, from the front or from the back; it is closed then. */
+static void walk(sst_handle *range, bool back) {
   sst_entry entry;
   sst_lent lent;
-  test(sst_range_open(table, SST_INCLUDED, bytes("pear"), 4, SST_UNBOUNDED, bytes(""), 0, &range));
   for (;;) {
-    test(sst_range_next(&range, true, &entry));
+    test(sst_range_next(range, back, &entry));
     if (entry.kind == SST_NO_ENTRY) break;
-    test(sst_found_lend(&range, &lent));
+    test(sst_found_lend(range, &lent));
     print("walked", &entry, &lent);
   }
-  sst_close(&range);
+  sst_close(range);
+}
+
+/* What is left of all tables of a list where nobody reads older versions, as one new table. */
+static void compact(sst_handle *runs, sst_handle *table) {
+  sst_options options;
+  sst_handle files = {0};
+  uint64_t next_id;
+  sst_options_default(&options);
+  options.id = 3;
+  test(sst_compact(runs, &options, SST_NEWEST, true, false, UINT64_MAX, &files, &next_id));
+  open_first(&files, table);
 }
 
 int main(void) {
-  size_t len;
-  uint8_t *file = write_table(&len);
-  sst_handle table = {0};
+  sst_handle older = {0}, newer = {0}, runs = {0}, range = {0}, table = {0};
   sst_verified verified;
-  test(sst_table_open(file, len, 0, true, true, &table));
-  free(file); /* the table has a copy */
-  read_key(&table, "apple", SST_NEWEST);
-  read_key(&table, "apple", 5); /* sees what is numbered below 5 */
-  read_key(&table, "fig", SST_NEWEST);
-  walk(&table);
+  write_older(&older);
+  write_newer(&newer);
+  read_key(&older, "apple", SST_NEWEST);
+  read_key(&older, "apple", 5); /* sees what is numbered below 5 */
+  read_key(&older, "fig", SST_NEWEST);
+  test(sst_range_open(&older, SST_INCLUDED, bytes("pear"), 4, SST_UNBOUNDED, bytes(""), 0, &range));
+  walk(&range, true);
+  test(sst_runs_open(&runs));
+  test(sst_runs_add(&runs, &newer)); /* the newest first */
+  test(sst_runs_add(&runs, &older));
+  sst_close(&newer); /* the list has shares */
+  sst_close(&older);
+  test(sst_runs_range_open(&runs, SST_UNBOUNDED, bytes(""), 0, SST_UNBOUNDED, bytes(""), 0,
+                           SST_NEWEST, &range));
+  walk(&range, false);
+  compact(&runs, &table);
+  sst_close(&runs);
   test(sst_table_verify(&table, &verified));
   printf("verified %u\n", (unsigned)verified.item_count);
   sst_close(&table);

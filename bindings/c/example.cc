@@ -45,23 +45,46 @@ static void add(Handle &writer, const std::string &key, uint64_t seqno, uint32_t
                       value.size()));
 }
 
-static std::vector<uint8_t> write_table() {
-  sst_options options;
-  Handle writer;
+// Opens the first finished table of a handle.
+static Handle open_first(Handle files) {
+  Handle table;
   sst_file told;
   uint64_t count;
+  test(sst_files_tell(files.words(), 0, &told));
+  std::vector<uint8_t> file(told.len);
+  test(sst_files_copy(files.words(), 0, 0, file.data(), file.size(), &count));
+  test(sst_table_open(file.data(), file.size(), 0, true, true, table.words()));
+  return table;
+}
+
+static Handle begin(uint64_t id) {
+  sst_options options;
+  Handle writer;
   sst_options_default(&options);
-  options.id = 1;
+  options.id = id;
   test(sst_writer_open(&options, writer.words()));
+  return writer;
+}
+
+static Handle finish(Handle writer) {
+  test(sst_writer_finish(writer.words()));
+  return open_first(std::move(writer));
+}
+
+static Handle write_older() {
+  Handle writer = begin(1);
   add(writer, "apple", 7, SST_VALUE, "red");
   add(writer, "apple", 3, SST_VALUE, "green");
   add(writer, "pear", 5, SST_VALUE, "yellow");
   add(writer, "plum", 6, SST_TOMBSTONE, "");
-  test(sst_writer_finish(writer.words()));
-  test(sst_files_tell(writer.words(), 0, &told));
-  std::vector<uint8_t> file(told.len);
-  test(sst_files_copy(writer.words(), 0, 0, file.data(), file.size(), &count));
-  return file;
+  return finish(std::move(writer));
+}
+
+static Handle write_newer() {
+  Handle writer = begin(2);
+  add(writer, "fig", 9, SST_VALUE, "violet");
+  add(writer, "pear", 8, SST_TOMBSTONE, "");
+  return finish(std::move(writer));
 }
 
 // What the last read by a handle found, copied into strings.
@@ -83,31 +106,52 @@ static void read_key(Handle &table, const std::string &key, uint64_t seqno) {
   }
 }
 
-static void walk(Handle &table, const std::string &from) {
-  Handle range;
+static void walk(Handle range, bool back) {
   sst_entry entry;
-  test(sst_range_open(table.words(), SST_INCLUDED, bytes(from), from.size(), SST_UNBOUNDED,
-                      bytes(""), 0, range.words()));
   for (;;) {
-    test(sst_range_next(range.words(), true, &entry));
+    test(sst_range_next(range.words(), back, &entry));
     if (entry.kind == SST_NO_ENTRY) return;
     print("walked", range, entry);
   }
 }
 
-static Handle open(const std::vector<uint8_t> &file) {
-  Handle table;
-  test(sst_table_open(file.data(), file.size(), 0, true, true, table.words()));
-  return table;
+static Handle range_from(Handle &table, const std::string &from) {
+  Handle range;
+  test(sst_range_open(table.words(), SST_INCLUDED, bytes(from), from.size(), SST_UNBOUNDED,
+                      bytes(""), 0, range.words()));
+  return range;
+}
+
+static Handle range_of_all(Handle &runs) {
+  Handle range;
+  test(sst_runs_range_open(runs.words(), SST_UNBOUNDED, bytes(""), 0, SST_UNBOUNDED, bytes(""), 0,
+                           SST_NEWEST, range.words()));
+  return range;
+}
+
+static Handle compact(Handle &runs) {
+  sst_options options;
+  Handle files;
+  uint64_t next_id;
+  sst_options_default(&options);
+  options.id = 3;
+  test(sst_compact(runs.words(), &options, SST_NEWEST, true, false, UINT64_MAX, files.words(),
+                   &next_id));
+  return open_first(std::move(files));
 }
 
 int main() {
   sst_verified verified;
-  Handle table = open(write_table());
-  read_key(table, "apple", SST_NEWEST);
-  read_key(table, "apple", 5);
-  read_key(table, "fig", SST_NEWEST);
-  walk(table, "pear");
+  Handle older = write_older(), newer = write_newer(), runs;
+  read_key(older, "apple", SST_NEWEST);
+  read_key(older, "apple", 5);
+  read_key(older, "fig", SST_NEWEST);
+  walk(range_from(older, "pear"), true);
+  test(sst_runs_open(runs.words()));
+  test(sst_runs_add(runs.words(), newer.words()));
+  test(sst_runs_add(runs.words(), older.words()));
+  walk(range_of_all(runs), false);
+  Handle table = compact(runs);
   test(sst_table_verify(table.words(), &verified));
   std::printf("verified %u\n", unsigned(verified.item_count));
 }

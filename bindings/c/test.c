@@ -157,6 +157,173 @@ static void test_bounds(sst_handle *table) {
   sst_close(&range);
 }
 
+/* Two handles of one table: each reads for itself, and may be closed before the other. */
+static void test_shares(const uint8_t *file, size_t len) {
+  sst_handle table = {0}, other = {0}, range = {0}, closed = {0};
+  sst_entry entry;
+  CHECK(sst_table_open(file, len, 0, true, true, &table) == 0);
+  CHECK(sst_table_share(&closed, &other) == SST_CLOSED);
+  CHECK(sst_table_share(&table, &table) == SST_OPEN);
+  CHECK(sst_table_share(&table, &other) == 0 && sst_table_share(&table, &other) == SST_OPEN);
+  CHECK(sst_table_get(&table, bytes("key000001"), 9, SST_NEWEST, &entry) == 0);
+  CHECK(sst_table_get(&other, bytes("key000002"), 9, SST_NEWEST, &entry) == 0);
+  CHECK(has_found(&other, &entry, "key000002", "value 2 of 2"));
+  CHECK(sst_table_get(&table, bytes("key000001"), 9, SST_NEWEST, &entry) == 0);
+  CHECK(has_found(&table, &entry, "key000001", "value 2 of 1"));
+  sst_close(&table);
+  CHECK(sst_table_get(&other, bytes("key000003"), 9, SST_NEWEST, &entry) == 0);
+  CHECK(has_found(&other, &entry, "key000003", "value 2 of 3"));
+  CHECK(sst_range_open(&other, 0, file, 0, 0, file, 0, &range) == 0);
+  CHECK(sst_table_share(&range, &table) == SST_OTHER_KIND);
+  sst_close(&other);
+  sst_close(&range);
+}
+
+/* Many reads at once: keys that are there, deleted, absent, repeated and empty. */
+static void test_many(const uint8_t *file, size_t len) {
+  sst_handle table = {0}, answers = {0}, closed = {0}, writer = {0};
+  const char *keys = "key000004nothingkey000000key000004";
+  uint64_t lens[] = {9, 7, 9, 0, 9}, wrong[] = {9, 7, 9, 0, 8}, large[] = {9, UINT64_MAX};
+  sst_entry entries[6], one;
+  sst_lent lent;
+  sst_options options;
+  uint8_t key[9], value[12], none = 0;
+  memset(entries, 7, sizeof entries);
+  CHECK(sst_table_open(file, len, 0, false, false, &table) == 0);
+  CHECK(sst_table_get_many(&closed, bytes(keys), 34, lens, 5, SST_NEWEST, entries, 6, &answers) ==
+        SST_CLOSED);
+  CHECK(sst_table_get_many(&table, bytes(keys), 34, lens, 5, SST_NEWEST, entries, 6, &table) ==
+        SST_OPEN);
+  CHECK(sst_table_get_many(&table, bytes(keys), 34, wrong, 5, SST_NEWEST, entries, 6, &answers) ==
+        SST_NO_SUCH);
+  CHECK(sst_table_get_many(&table, bytes(keys), 34, lens, 4, SST_NEWEST, entries, 6, &answers) ==
+        SST_NO_SUCH);
+  CHECK(sst_table_get_many(&table, bytes(keys), 8, large, 2, SST_NEWEST, entries, 6, &answers) ==
+        SST_NO_SUCH);
+  CHECK(sst_table_get_many(&table, bytes(keys), 34, lens, 5, SST_NEWEST, entries, 4, &answers) ==
+        SST_NO_ROOM);
+  CHECK(entries[0].kind == 0x0707070707070707);
+  CHECK(sst_table_get_many(&table, bytes(keys), 34, lens, 5, SST_NEWEST, entries, 6, &answers) ==
+        0);
+  CHECK(entries[0].kind == SST_VALUE && entries[0].seqno == 2 && entries[0].value_len == 12);
+  CHECK(entries[1].kind == SST_NO_ENTRY && entries[3].kind == SST_NO_ENTRY);
+  CHECK(entries[2].kind == SST_TOMBSTONE && entries[2].seqno == 9 && entries[2].key_len == 9);
+  CHECK(memcmp(&entries[4], &entries[0], sizeof entries[0]) == 0);
+  CHECK(entries[5].kind == 0x0707070707070707);
+  sst_close(&table); /* the answers stay */
+  CHECK(sst_answers_lend(&answers, 4, &lent) == 0 && lent.key_len == 9 && lent.value_len == 12);
+  CHECK(memcmp(lent.key, "key000004", 9) == 0 && memcmp(lent.value, "value 2 of 4", 12) == 0);
+  CHECK(sst_answers_lend(&answers, 1, &lent) == SST_NOTHING);
+  CHECK(sst_answers_lend(&answers, 5, &lent) == SST_NO_SUCH);
+  CHECK(sst_answers_lend(&answers, UINT64_MAX, &lent) == SST_NO_SUCH);
+  CHECK(sst_answers_copy(&answers, 0, key, 9, value, 11) == SST_NO_ROOM);
+  CHECK(sst_answers_copy(&answers, 0, key, 9, value, 12) == 0);
+  CHECK(memcmp(key, "key000004", 9) == 0 && memcmp(value, "value 2 of 4", 12) == 0);
+  CHECK(sst_answers_copy(&answers, 2, key, 9, value, 0) == 0);
+  CHECK(memcmp(key, "key000000", 9) == 0);
+  CHECK(sst_answers_copy(&answers, 3, key, 9, value, 12) == SST_NOTHING);
+  CHECK(sst_answers_copy(&answers, 5, key, 9, value, 12) == SST_NO_SUCH);
+  CHECK(sst_found_lend(&answers, &lent) == SST_NOTHING);
+  CHECK(sst_table_get(&answers, &none, 0, 1, &one) == SST_OTHER_KIND);
+  sst_close(&answers);
+  CHECK(sst_answers_lend(&answers, 0, &lent) == SST_CLOSED);
+  CHECK(sst_answers_copy(&answers, 0, key, 9, value, 12) == SST_CLOSED);
+  CHECK(sst_table_open(file, len, 0, false, false, &table) == 0);
+  CHECK(sst_answers_lend(&table, 0, &lent) == SST_OTHER_KIND);
+  CHECK(sst_answers_copy(&table, 0, key, 9, value, 12) == SST_OTHER_KIND);
+  CHECK(sst_table_get_many(&table, &none, 0, lens, 0, SST_NEWEST, entries, 0, &answers) == 0);
+  CHECK(sst_answers_lend(&answers, 0, &lent) == SST_NO_SUCH);
+  sst_options_default(&options);
+  CHECK(sst_writer_open(&options, &writer) == 0);
+  CHECK(sst_table_get_many(&writer, &none, 0, lens, 0, 1, entries, 0, &closed) == SST_OTHER_KIND);
+  sst_close(&writer);
+  sst_close(&answers);
+  sst_close(&table);
+}
+
+/* Takes the next entry of a range, which is this one. */
+static bool is_next(sst_handle *range, bool back, const char *key, const char *value,
+                    uint64_t seqno) {
+  sst_entry entry;
+  return sst_range_next(range, back, &entry) == 0 && entry.seqno == seqno &&
+         has_found(range, &entry, key, value);
+}
+
+/* A list of two runs, as one range and as what it is compacted to. */
+static void test_merged(sst_handle *runs, const sst_options *options) {
+  sst_handle range = {0}, files = {0}, table = {0}, closed = {0};
+  sst_entry entry;
+  sst_file told;
+  sst_verified verified;
+  uint64_t count = 7, next_id = 7;
+  sst_options wrong = *options;
+  uint8_t none = 0;
+  wrong.level = 256;
+  CHECK(sst_runs_range_open(&closed, 0, &none, 0, 0, &none, 0, 1, &range) == SST_CLOSED);
+  CHECK(sst_runs_range_open(runs, 0, &none, 0, 3, &none, 0, 1, &range) == SST_NO_SUCH);
+  CHECK(sst_runs_range_open(runs, 0, &none, 0, 0, &none, 0, 1, runs) == SST_OPEN);
+  CHECK(sst_runs_range_open(runs, SST_EXCLUDED, bytes("key000000"), 9, SST_UNBOUNDED, &none, 0,
+                            SST_NEWEST, &range) == 0);
+  CHECK(is_next(&range, false, "key000001", "new", 20));
+  CHECK(is_next(&range, true, "other", "more", 21));
+  CHECK(is_next(&range, true, "key000004", "value 2 of 4", 2));
+  CHECK(is_next(&range, false, "key000002", "value 2 of 2", 2));
+  CHECK(is_next(&range, false, "key000003", "value 2 of 3", 2));
+  CHECK(sst_range_next(&range, false, &entry) == 0 && entry.kind == SST_NO_ENTRY);
+  CHECK(sst_range_next(&range, true, &entry) == 0 && entry.kind == SST_NO_ENTRY);
+  CHECK(sst_runs_get(&range, &none, 0, 1, &entry) == SST_OTHER_KIND);
+  sst_close(&range);
+  CHECK(sst_runs_range_open(runs, 0, &none, 0, SST_EXCLUDED, bytes("key000002"), 9, 9, &range) ==
+        0);
+  CHECK(is_next(&range, false, "key000000", "value 2 of 0", 2));
+  CHECK(is_next(&range, false, "key000001", "value 2 of 1", 2));
+  CHECK(sst_range_next(&range, false, &entry) == 0 && entry.kind == SST_NO_ENTRY);
+  CHECK(sst_runs_range_open(&range, 0, &none, 0, 0, &none, 0, 1, &closed) == SST_OTHER_KIND);
+  CHECK(sst_compact(&closed, options, 0, false, false, 0, &files, &next_id) == SST_CLOSED);
+  CHECK(sst_compact(&range, options, 0, false, false, 0, &files, &next_id) == SST_OTHER_KIND);
+  CHECK(sst_compact(runs, options, 0, false, false, 0, &range, &next_id) == SST_OPEN);
+  CHECK(sst_compact(runs, &wrong, 0, false, false, 0, &files, &next_id) == SST_NO_SUCH);
+  CHECK(next_id == 7);
+  sst_close(&range);
+  CHECK(sst_compact(runs, options, SST_NEWEST, true, false, UINT64_MAX, &files, &next_id) == 0);
+  CHECK(next_id == options->id + 1);
+  CHECK(sst_files_count(&files, &count) == 0 && count == 1);
+  CHECK(sst_files_tell(&files, 0, &told) == 0 && told.id == options->id);
+  CHECK(sst_writer_add(&files, &none, 0, 1, SST_VALUE, &none, 0) == SST_OTHER_KIND);
+  size_t len;
+  uint8_t *file = file_of(&files, SIZE_MAX, &len);
+  CHECK(sst_table_open(file, len, 0, true, true, &table) == 0);
+  CHECK(sst_table_verify(&table, &verified) == 0 && verified.item_count == 5);
+  CHECK(sst_table_get(&table, bytes("key000000"), 9, SST_NEWEST, &entry) == 0 && entry.kind == 0);
+  CHECK(sst_table_get(&table, bytes("key000001"), 9, SST_NEWEST, &entry) == 0);
+  CHECK(entry.seqno == 20 && has_found(&table, &entry, "key000001", "new"));
+  sst_close(&table);
+  sst_close(&files);
+  free(file);
+  /* a table for each key, their ids run on */
+  CHECK(sst_compact(runs, options, SST_NEWEST, true, true, 0, &files, &next_id) == 0);
+  CHECK(sst_files_count(&files, &count) == 0 && count == 5);
+  CHECK(sst_files_tell(&files, 4, &told) == 0 && told.id + 1 == next_id);
+  sst_close(&files);
+}
+
+/* A table twice in a list has each key twice under one number: it is not compacted. */
+static void test_out_of_order(const sst_options *options, const uint8_t *file, size_t len) {
+  sst_handle table = {0}, runs = {0}, files = {0};
+  uint64_t next_id = 7, count;
+  CHECK(sst_table_open(file, len, 0, true, true, &table) == 0);
+  CHECK(sst_runs_open(&runs) == 0);
+  CHECK(sst_compact(&runs, options, 0, false, false, 1, &files, &next_id) == 0);
+  CHECK(sst_files_count(&files, &count) == 0 && count == 0);
+  sst_close(&files);
+  CHECK(sst_runs_add(&runs, &table) == 0 && sst_runs_add(&runs, &table) == 0);
+  next_id = 7;
+  CHECK(sst_compact(&runs, options, 0, false, false, 1, &files, &next_id) == SST_OUT_OF_ORDER);
+  CHECK(next_id == 7 && sst_files_count(&files, &count) == SST_CLOSED);
+  sst_close(&runs);
+  sst_close(&table);
+}
+
 /* Two tables with the same keys: the newer version is found, wherever its table stands. */
 static void test_runs(const sst_options *options, const uint8_t *file, size_t len) {
   sst_handle writer = {0}, older = {0}, newer = {0}, runs = {0};
@@ -185,6 +352,7 @@ static void test_runs(const sst_options *options, const uint8_t *file, size_t le
   CHECK(has_found(&runs, &entry, "other", "more"));
   CHECK(sst_table_get(&runs, bytes("other"), 5, SST_NEWEST, &entry) == SST_OTHER_KIND);
   CHECK(sst_runs_get(&writer, bytes("other"), 5, SST_NEWEST, &entry) == SST_OTHER_KIND);
+  test_merged(&runs, options);
   free(newer_file);
   sst_close(&runs);
   sst_close(&writer);
@@ -306,12 +474,28 @@ static void test_table(const sst_options *options, int n, size_t piece, bool pin
   test_bounds(&table);
   if (n < 10) {
     test_misuse(options, file, len);
+    test_shares(file, len);
+    test_many(file, len);
     test_runs(options, file, len);
+    test_out_of_order(options, file, len);
     test_damage(file, len, 2 * n + (n + 6) / 7);
   }
   free(file); /* the table has a copy of its own */
   test_range(&table, n);
   sst_close(&table);
+}
+
+/* The sentences that are copied are those of the header. */
+static void test_sentences(void) {
+  char room[64];
+  for (uint32_t code = 0; code < 200; code++) {
+    const char *text = sst_strerror(code);
+    memset(room, '.', sizeof room);
+    CHECK(sst_strerror_copy(code, (uint8_t *)room, sizeof room) == strlen(text));
+    CHECK(memcmp(room, text, strlen(text)) == 0 && room[strlen(text)] == '.');
+    CHECK(sst_strerror_copy(code, (uint8_t *)room + 1, 2) == strlen(text));
+    CHECK(memcmp(room + 1, text, 2) == 0 && room[3] == text[3]);
+  }
 }
 
 int main(void) {
@@ -328,6 +512,7 @@ int main(void) {
   options.data_block_hash_ratio = 1000;
   test_table(&options, 1000, SIZE_MAX, true);
   test_table(&options, 5, SIZE_MAX, false);
+  test_sentences();
   CHECK(strcmp(sst_strerror(5), "checksum mismatch") == 0);
   CHECK(strcmp(sst_strerror(SST_FAULTY), "the table is not sound") == 0);
   CHECK(strcmp(sst_strerror(99), "unknown refusal") == 0);

@@ -2,7 +2,8 @@
 
 import ctypes
 import os
-from ctypes import POINTER, Structure, byref, c_bool, c_size_t, c_uint32, c_uint64, c_void_p
+from ctypes import (POINTER, Structure, addressof, byref, c_bool, c_char_p, c_int, c_size_t,
+                    c_ssize_t, c_uint32, c_uint64, c_void_p)
 
 
 class Handle(Structure):
@@ -30,7 +31,7 @@ class Lent(Structure):
                 ("value_len", c_uint64)]
 
 
-class Facts(Structure):
+class FactsTold(Structure):
     """What a table says of itself."""
 
     _fields_ = [(name, c_uint64) for name in (
@@ -39,7 +40,7 @@ class Facts(Structure):
         "data_size")]
 
 
-class Verified(Structure):
+class VerifiedTold(Structure):
     """What a verification found."""
 
     _fields_ = [("item_count", c_uint64), ("data_block_count", c_uint64), ("offset", c_uint64),
@@ -79,29 +80,105 @@ def _call(name, *types, answers=c_uint32):
     return call
 
 
-_handle = POINTER(Handle)
+# Handles, and what each read tells and lends, are named by their addresses, which takes less time.
+_handle = _told = _lent = c_void_p
 # Bytes that are only read go in as they are, and their length with them.
-_bytes = (ctypes.c_char_p, c_size_t)
+_bytes = (c_char_p, c_size_t)
+# An array: where it lies, and how many it has.
+_array = (c_void_p, c_size_t)
+_bounds = (c_uint32, *_bytes, c_uint32, *_bytes)
+
+#: The version of the calls that are declared below.
+VERSION = 2
 
 version = _call("sst_version")
-if version() != 1:
-    raise ImportError(f"the library has version {version()} of its calls, and not 1")
+if version() != VERSION:
+    raise ImportError(f"the library has version {version()} of its calls, and not {VERSION}")
 close = _call("sst_close", _handle, answers=None)
-found_lend = _call("sst_found_lend", _handle, POINTER(Lent))
+strerror_copy = _call("sst_strerror_copy", c_uint32, *_array, answers=c_uint64)
+found_lend = _call("sst_found_lend", _handle, _lent)
 table_open = _call("sst_table_open", *_bytes, c_uint64, c_bool, c_bool, _handle)
-table_get = _call("sst_table_get", _handle, *_bytes, c_uint64, POINTER(EntryTold))
-table_facts = _call("sst_table_facts", _handle, POINTER(Facts))
-table_verify = _call("sst_table_verify", _handle, POINTER(Verified))
-range_open = _call("sst_range_open", _handle, c_uint32, *_bytes, c_uint32, *_bytes, _handle)
-range_next = _call("sst_range_next", _handle, c_bool, POINTER(EntryTold))
+table_get = _call("sst_table_get", _handle, *_bytes, c_uint64, _told)
+table_get_many = _call("sst_table_get_many", _handle, *_bytes, *_array, c_uint64, *_array, _handle)
+table_facts = _call("sst_table_facts", _handle, POINTER(FactsTold))
+table_share = _call("sst_table_share", _handle, _handle)
+table_verify = _call("sst_table_verify", _handle, POINTER(VerifiedTold))
+answers_lend = _call("sst_answers_lend", _handle, c_uint64, POINTER(Lent))
+range_open = _call("sst_range_open", _handle, *_bounds, _handle)
+range_next = _call("sst_range_next", _handle, c_bool, _told)
 runs_open = _call("sst_runs_open", _handle)
 runs_add = _call("sst_runs_add", _handle, _handle)
-runs_get = _call("sst_runs_get", _handle, *_bytes, c_uint64, POINTER(EntryTold))
+runs_get = _call("sst_runs_get", _handle, *_bytes, c_uint64, _told)
+runs_range_open = _call("sst_runs_range_open", _handle, *_bounds, c_uint64, _handle)
 options_default = _call("sst_options_default", POINTER(Options), answers=None)
 writer_open = _call("sst_writer_open", POINTER(Options), _handle)
 writer_add = _call("sst_writer_add", _handle, *_bytes, c_uint64, c_uint32, *_bytes)
 writer_finish = _call("sst_writer_finish", _handle)
+compact = _call("sst_compact", _handle, POINTER(Options), c_uint64, c_bool, c_bool, c_uint64,
+                _handle, POINTER(c_uint64))
 files_count = _call("sst_files_count", _handle, POINTER(c_uint64))
 files_tell = _call("sst_files_tell", _handle, c_uint64, POINTER(FileTold))
-files_copy = _call("sst_files_copy", _handle, c_uint64, c_uint64, c_void_p, c_size_t,
+files_copy = _call("sst_files_copy", _handle, c_uint64, c_uint64, c_char_p, c_size_t,
                    POINTER(c_uint64))
+
+
+# What of CPython itself lends a buffer's bytes and makes bytes that are not filled yet.
+
+
+class _Buffer(Structure):
+    """A `Py_buffer`."""
+
+    _fields_ = [("buf", c_void_p), ("obj", c_void_p), ("len", c_ssize_t), ("itemsize", c_ssize_t),
+                ("readonly", c_int), ("ndim", c_int), ("format", c_void_p), ("shape", c_void_p),
+                ("strides", c_void_p), ("suboffsets", c_void_p), ("internal", c_void_p)]
+
+
+_get_buffer = ctypes.pythonapi.PyObject_GetBuffer
+_get_buffer.argtypes = (ctypes.py_object, POINTER(_Buffer), c_int)
+_release_buffer = ctypes.pythonapi.PyBuffer_Release
+_release_buffer.argtypes = (POINTER(_Buffer),)
+_release_buffer.restype = None
+_new_bytes = ctypes.pythonapi.PyBytes_FromStringAndSize
+_new_bytes.argtypes = (c_void_p, c_ssize_t)
+_new_bytes.restype = ctypes.py_object
+
+
+class Lending:
+    """Lends the bytes of what has a buffer for as long as a `with` lasts: where they lie, and how
+    many there are. The buffer keeps its size until then. Where they lie apart they are copied."""
+
+    def __init__(self, source):
+        self._source = source
+        self._buffer = None
+
+    def __enter__(self):
+        if isinstance(self._source, bytes):
+            return c_char_p(self._source), bytes.__len__(self._source)
+        buffer = _Buffer()
+        try:
+            _get_buffer(self._source, byref(buffer), 0)
+        except BufferError:
+            copy = bytes(memoryview(self._source))
+            return copy, len(copy)
+        self._buffer = buffer
+        return c_char_p(buffer.buf) if buffer.len else b"", buffer.len
+
+    def __exit__(self, *_):
+        if self._buffer is not None:
+            _release_buffer(byref(self._buffer))
+
+
+def filled(length, fill):
+    """New bytes of a length, which a call fills. Nothing else sees them before they are filled."""
+    if length == 0:
+        return b""
+    made = _new_bytes(None, length)
+    fill(made)
+    return made
+
+
+def copied(address, length):
+    """A copy of the bytes at an address."""
+    if length >= 1 << 31:
+        return bytes((ctypes.c_char * length).from_address(address))
+    return ctypes.string_at(address, length) if length else b""

@@ -27,9 +27,11 @@ use Rattle.sst_entries.specs.declared.error.Error.TheVariants.{TableIdsSpent}
 use Rattle.sst_entries.specs.declared.error.Error.TheVariants.{WriterFailed}
 use Rattle.sst_entries.specs.declared.error.Error.TheVariants.{Source}
 use Rattle.sst_entries.specs.Error.{Fails, Gives, is_memory, number_of}
-use Rattle.sst_c.specs.Codes.{Tells, code_of, fault_code}
+use Rattle.sst_entries.specs.Error.{FaultsFirst, Refuses}
+use Rattle.std.specs.Prelude.{IsOk}
+use Rattle.sst_c.specs.Codes.{TellsCode, TellsFirst, result_code, fault_code}
 use Rattle.sst_c.specs.Writing.{FaultTold}
-use Rattle.sst_c.specs.Told.{Answers, found_of}
+use Rattle.sst_c.specs.Told.{AnswersRead, found_of}
 
 -- a refusal wants memory, whose number is 1, or does not
 pub is_one_or_not : (e : Error) → (number_of e ≡ 1) ⊎ (is_memory e ≡ false)
@@ -59,27 +61,47 @@ is_one_or_not WriterFailed = inr refl
 is_one_or_not (Source n) = inr refl
 
 -- the number of a refusal is the code of what is told
-pub tells : {X : Type 0} (e : Error) (told : Result X Error) → Fails e told → Tells (number_of e) told
-tells e told fails = elim (is_one_or_not e) [ inl one ↦ inl one | inr other ↦ inr (sym (ap code_of (fails other))) ]
+pub tells : {X : Type 0} (e : Error) (told : Result X Error) → Fails e told → TellsCode (number_of e) told
+tells e told fails = elim (is_one_or_not e) [ inl one ↦ inl one | inr other ↦ inr (sym (ap result_code (fails other))) ]
 
-pub tells_ok : {X : Type 0} (x : X) (told : Result X Error) → told ≡ Ok x → Tells 0 told
-tells_ok x told same = inr (sym (ap code_of same))
+pub tells_ok : {X : Type 0} (x : X) (told : Result X Error) → told ≡ Ok x → TellsCode 0 told
+tells_ok x told same = inr (sym (ap result_code same))
 
-answers_err : (e : Error) (told : Result (Option Entry) Error) → told ≡ Err e → Answers (number_of e) None told
-answers_err e told same = let P : Result (Option Entry) Error → Type 0 = λ t. Answers (number_of e) None t in subst P (sym same) (inl refl, refl)
+answers_err : (e : Error) (told : Result (Option Entry) Error) → told ≡ Err e → AnswersRead (number_of e) None told
+answers_err e told same = let P : Result (Option Entry) Error → Type 0 = λ t. AnswersRead (number_of e) None t in subst P (sym same) (inl refl, refl)
 
-answers_one : (told : Result (Option Entry) Error) → Answers 1 None told
+answers_one : (told : Result (Option Entry) Error) → AnswersRead 1 None told
 answers_one (Ok x) = inr (refl, refl)
 answers_one (Err e) = (inr refl, refl)
 
 -- a read's code and entry answer what is told
 pub answers : (r : Result (Option Entry) Error) (told : Result (Option Entry) Error)
-    → Gives (λ (x : Option Entry). x) r told → Answers (code_of r) (found_of r) told
-answers (Ok x) told gives = let P : Result (Option Entry) Error → Type 0 = λ t. Answers 0 x t in subst P (sym gives) (inl (refl, refl))
+    → Gives (λ (x : Option Entry). x) r told → AnswersRead (result_code r) (found_of r) told
+answers (Ok x) told gives = let P : Result (Option Entry) Error → Type 0 = λ t. AnswersRead 0 x t in subst P (sym gives) (inl (refl, refl))
 answers (Err e) told fails = elim (is_one_or_not e) [
-  | inl one ↦ (let P : ℕ → Type 0 = λ n. Answers n None told in subst P (sym one) (answers_one told))
+  | inl one ↦ (let P : ℕ → Type 0 = λ n. AnswersRead n None told in subst P (sym one) (answers_one told))
   | inr other ↦ answers_err e told (fails other)
 ]
+
+-- the refusal is the fault that is told
+refuses_first : {X : Type 0} (r : Result X Error) (e : Error) → Refuses r (Some e) → result_code r ≡ number_of e
+refuses_first (Ok x) e none = absurd (some_is_not_none e none)
+  where
+    some_is_not_none : (e : Error) → Some e ≡ None → ⊥
+    some_is_not_none e same = cc
+refuses_first (Err f) e same = ap fault_code (sym same)
+
+-- so a fault that comes first is what a call answers
+pub first_tells : {X : Type 0} (r : Result X Error) (f : Option Error) → FaultsFirst r f
+    → TellsFirst (result_code r) f
+first_tells r f first e is = refuses_first r e (first e is)
+
+-- what is not refused is answered 0
+pub ok_tells : {X : Type 0} (r : Result X Error) → IsOk r → result_code r ≡ 0
+ok_tells (Ok x) fine = refl
+ok_tells (Err e) fine = absurd (let no : ⊥ = cc in no)
+
+pub ruleset reads = (answers, first_tells, ok_tells)
 
 -- no refusal has the number 0
 pub not_zero : (e : Error) → number_of e ≡ 0 → ⊥

@@ -2,7 +2,7 @@
 use Rattle.std.proofs.Common.{◌≡◌, Option, Some, None, Result, Ok, Err, refl, sym, ap, ◌∙◌, inl, inr, subst}
 use Rattle.lsm_readers.specs.declared.verify.Finding.{Finding}
 use Rattle.lsm_readers.specs.declared.verify.Verified.{Verified}
-use Rattle.sst_c.specs.Verify.{VerifyAnswers, finding_told, verified_told}
+use Rattle.sst_c.specs.Verify.{VerifyAnswers, finding_told, no_finding, verified_told}
 use Rattle.lsm_readers.specs.Table.{OpenTable}
 use Rattle.lsm_readers.specs.declared.verify.VerifyError.TheVariants.{Found, OutOfMemory}
 use Rattle.sst_c.specs.declared.held.Held.{Held}
@@ -22,10 +22,11 @@ unfolding VerifyAnswers
 answers_err f told same = let P : Result Verified Finding → Type 0 = λ t. VerifyAnswers 107 (finding_told f) t in
     subst P (sym same) (inl (refl, refl))
 
-pub answers_memory : (told : Result Verified Finding) (v : VerifyTold) → VerifyAnswers 1 v told
+pub answers_memory : (told : Result Verified Finding) (v : VerifyTold) → v ≡ no_finding
+    → VerifyAnswers 1 v told
 unfolding VerifyAnswers
-answers_memory (Ok x) v = inr refl
-answers_memory (Err f) v = inr refl
+answers_memory (Ok x) v none = inr (refl, none)
+answers_memory (Err f) v none = inr (refl, none)
 
 -- what is found wrong is no want of memory
 pub found_is_no_memory : (f : Finding) → Found f ≡ OutOfMemory → ⊥

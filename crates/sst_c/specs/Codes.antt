@@ -4,9 +4,9 @@ use Rattle.sst_entries.specs.declared.error.Error.{Error}
 use Rattle.sst_entries.specs.Error.{number_of}
 
 -- 0, or the refusal's number
-abbrev pub code_of : {X : Type 0} → Result X Error → ℕ
-code_of (Ok x) = 0
-code_of (Err e) = number_of e
+abbrev pub result_code : {X : Type 0} → Result X Error → ℕ
+result_code (Ok x) = 0
+result_code (Err e) = number_of e
 
 -- 0, or the number of the fault
 abbrev pub fault_code : Option Error → ℕ
@@ -14,5 +14,10 @@ fault_code None = 0
 fault_code (Some e) = number_of e
 
 -- want of memory aside, whose number is 1, a call answers the code of what is told
-abbrev pub Tells : {X : Type 0} → ℕ → Result X Error → Type 0
-Tells code told = (code ≡ 1) ⊎ (code ≡ code_of told)
+abbrev pub TellsCode : {X : Type 0} → ℕ → Result X Error → Type 0
+TellsCode code told = (code ≡ 1) ⊎ (code ≡ result_code told)
+
+-- a fault that takes no memory to be found comes before any want of memory: where there is one, it
+-- is what the call answers
+abbrev pub TellsFirst : ℕ → Option Error → Type 0
+TellsFirst code fault = (e : Error) → fault ≡ Some e → code ≡ number_of e

@@ -3,9 +3,9 @@ use Rattle.std.specs.Prelude.{ℕ, List, length, drop, ◌++◌, Option, Some, N
 use Rattle.std.specs.Prelude.{Bool, ◌||◌, nat_lt, if◌then◌else◌}
 use Rattle.sst_entries.specs.Entry.{Entry}
 
--- a room with bytes laid over its front
-abbrev pub laid : List ℕ → List ℕ → List ℕ
-laid bytes room = bytes ++ drop (length bytes) room
+-- a room with bytes, or other elements, laid over its front
+abbrev pub laid_over : {X : Type 0} → List X → List X → List X
+laid_over xs room = xs ++ drop (length xs) room
 
 -- whether a room is too small for bytes
 abbrev pub is_short : List ℕ → List ℕ → Bool

@@ -2,8 +2,8 @@
 use Rattle.lsm_readers.specs.Table.{OpenTable}
 use Rattle.sst_c.specs.declared.facts.TableFacts.{TableFacts}
 
-abbrev pub facts_told : OpenTable → TableFacts
-facts_told t = record {
+abbrev pub table_facts : OpenTable → TableFacts
+table_facts t = record {
   id = t.parts.facts.id;
   version = t.parts.facts.table_version;
   global_seqno = t.global_seqno;

@@ -2,10 +2,14 @@ pub mod Owned
 pub mod Codes
 pub mod Copies
 pub mod Told
+pub mod Runs
 pub mod What
 pub mod Options
 pub mod Writing
 pub mod Steps
 pub mod Facts
+pub mod Many
 pub mod Files
 pub mod Verify
+pub mod Compact
+pub mod Sentences

@@ -37,11 +37,11 @@ are_usable o = nat_lt o.level 256 && nat_le o.data_block_size 4194304
     && nat_le o.index_partition_size 4194304 && nat_le o.filter_partition_size 4194304
 
 -- partitions of a size; one block where it is 0
-abbrev pub index_told : ℕ → IndexKind
-index_told size = if size == 0 then FullIndex else PartitionedIndex size
+abbrev pub index_kind_told : ℕ → IndexKind
+index_kind_told size = if size == 0 then FullIndex else PartitionedIndex size
 
-abbrev pub filter_told : ℕ → FilterKind
-filter_told size = if size == 0 then FullFilter else PartitionedFilter size
+abbrev pub filter_kind_told : ℕ → FilterKind
+filter_kind_told size = if size == 0 then FullFilter else PartitionedFilter size
 
 abbrev pub options_told : TableOptions → Options
 options_told o = record {
@@ -49,8 +49,8 @@ options_told o = record {
   index_block_restart_interval = 1;
   data_block_hash_ratio = o.data_block_hash_ratio;
   data_block_size = o.data_block_size;
-  index_kind = index_told o.index_partition_size;
-  filter_kind = filter_told o.filter_partition_size;
+  index_kind = index_kind_told o.index_partition_size;
+  filter_kind = filter_kind_told o.filter_partition_size;
   bloom_policy = BitsPerKey o.filter_bits_per_key;
 }
 

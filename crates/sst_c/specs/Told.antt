@@ -8,9 +8,9 @@ use Rattle.sst_c.specs.declared.entries.EntryTold.{EntryTold}
 use Rattle.sst_c.specs.declared.held.Held.{Held}
 
 -- an entry's kind, number and lengths, or zeros where there is none
-abbrev pub told_of : Option Entry → EntryTold
-told_of None = record { kind = 0; seqno = 0; key_len = 0; value_len = 0 }
-told_of (Some e) = record {
+abbrev pub entry_facts : Option Entry → EntryTold
+entry_facts None = record { kind = 0; seqno = 0; key_len = 0; value_len = 0 }
+entry_facts (Some e) = record {
   kind = 1 + tag_of e.kind;
   seqno = e.seqno;
   key_len = length e.user_key;
@@ -29,9 +29,9 @@ found_of (Err e) = None
 
 -- want of memory aside, a read answered what is told: the entry or that there is none, with 0, or
 -- the refusal's number and no entry
-abbrev pub Answers : ℕ → Option Entry → Result (Option Entry) Error → Type 0
-Answers code found (Ok x) = ((code ≡ 0) × (found ≡ x)) ⊎ ((code ≡ 1) × (found ≡ None))
-Answers code found (Err e) = ((code ≡ number_of e) ⊎ (code ≡ 1)) × (found ≡ None)
+abbrev pub AnswersRead : ℕ → Option Entry → Result (Option Entry) Error → Type 0
+AnswersRead code found (Ok x) = ((code ≡ 0) × (found ≡ x)) ⊎ ((code ≡ 1) × (found ≡ None))
+AnswersRead code found (Err e) = ((code ≡ number_of e) ⊎ (code ≡ 1)) × (found ≡ None)
 
 -- what a step of a range answers: an entry, none at the end, or a refusal
 abbrev pub outcome_of : Option (Result Entry Error) → Result (Option Entry) Error

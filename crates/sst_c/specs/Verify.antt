@@ -1,5 +1,5 @@
 -- What C is told of a verification.
-use Rattle.std.specs.Prelude.{◌≡◌, ℕ, ◌+◌, ◌⊎◌, Result, Ok, Err}
+use Rattle.std.specs.Prelude.{◌≡◌, ℕ, ◌+◌, ◌⊎◌, Option, Some, Result, Ok, Err}
 use Rattle.sst_entries.specs.Error.{number_of}
 use Rattle.sst_sections.specs.Sections.{slot_index}
 use Rattle.lsm_readers.specs.declared.verify.Fault.{Fault}
@@ -22,19 +22,19 @@ no_finding = record {
   unused = 0;
 }
 
-abbrev pub fault_of : Fault → ℕ
-fault_of (Unloaded e) = 1
-fault_of Hollow = 2
-fault_of Misplaced = 3
-fault_of TooHigh = 4
-fault_of Unordered = 5
-fault_of Denied = 6
-fault_of (Unfiltered e) = 7
-fault_of OtherKey = 8
-fault_of OtherNumber = 9
-fault_of (Unborne item) = 10
-fault_of Unnamed = 11
-fault_of OtherChecksum = 12
+abbrev pub fault_number : Fault → ℕ
+fault_number (Unloaded e) = 1
+fault_number Hollow = 2
+fault_number Misplaced = 3
+fault_number TooHigh = 4
+fault_number Unordered = 5
+fault_number Denied = 6
+fault_number (Unfiltered e) = 7
+fault_number OtherKey = 8
+fault_number OtherNumber = 9
+fault_number (Unborne item) = 10
+fault_number Unnamed = 11
+fault_number OtherChecksum = 12
 
 -- of a block that does not load the refusal
 abbrev pub detail_of : Fault → ℕ
@@ -48,7 +48,7 @@ finding_told f = record {
   data_block_count = 0;
   offset = f.offset;
   section = 1 + slot_index f.section;
-  fault = fault_of f.fault;
+  fault = fault_number f.fault;
   detail = detail_of f.fault;
   unused = 0;
 }
@@ -64,7 +64,20 @@ verified_told v = record {
   unused = 0;
 }
 
--- want of memory aside, whose number is 1, what is found is told with 107, else what there is
+-- want of memory aside, whose number is 1, what is found is told with 107, else what there is; of
+-- want of memory nothing
 unfoldable pub VerifyAnswers : ℕ → VerifyTold → Result Verified Finding → Type 0
-VerifyAnswers code told (Ok v) = ((code ≡ 0) × (told ≡ verified_told v)) ⊎ (code ≡ 1)
-VerifyAnswers code told (Err f) = ((code ≡ 107) × (told ≡ finding_told f)) ⊎ (code ≡ 1)
+VerifyAnswers code told (Ok v) =
+    ((code ≡ 0) × (told ≡ verified_told v)) ⊎ ((code ≡ 1) × (told ≡ no_finding))
+VerifyAnswers code told (Err f) =
+    ((code ≡ 107) × (told ≡ finding_told f)) ⊎ ((code ≡ 1) × (told ≡ no_finding))
+
+-- what takes no memory to be found is told, whatever memory there is
+abbrev pub TellsFinding : ℕ → VerifyTold → Option Finding → Type 0
+TellsFinding code told early =
+    (f : Finding) → early ≡ Some f → (code ≡ 107) × (told ≡ finding_told f)
+
+-- what is told is wrong there, and all that is read before it is sound
+abbrev pub TellsWrong : (Finding → Type 0) → ℕ → VerifyTold → Type 0
+TellsWrong is_first code told =
+    code ≡ 107 → (f : Finding) × (told ≡ finding_told f) × is_first f

@@ -1,11 +1,11 @@
 -- What is behind a handle.
-use Rattle.std.specs.Prelude.{◌≡◌, ℕ, ◌==◌, Bool, true, false, List, [], Option, None}
-use Rattle.std.specs.Prelude.{Ok, if◌then◌else◌, map}
-use Rattle.std.specs.Arc.{arc_value}
+use Rattle.std.specs.Prelude.{◌≡◌, ℕ, ◌==◌, Bool, true, false, List, [], Option, None, Some}
+use Rattle.std.specs.Prelude.{Result, Ok, if◌then◌else◌}
 use Rattle.std.specs.Global.{Global}
 use Rattle.std.specs.declared.ops.Bound.{Bound}
 use Rattle.std.specs.declared.ops.Bound.TheVariants.{Unbounded, Included, Excluded}
 use Rattle.sst_entries.specs.Entry.{Entry}
+use Rattle.sst_entries.specs.declared.error.Error.{Error}
 use Rattle.lsm_iters.specs.Range.{Range, RangeGives, back_next, front_next}
 use Rattle.lsm_iters.specs.Words.{back_of, front_of}
 use Rattle.lsm_readers.specs.Parts.{recovered_told}
@@ -16,7 +16,11 @@ use Rattle.lsm_writers.specs.Writing.{Writing}
 use Rattle.sst_c.specs.declared.held.Held.{Held}
 use Rattle.sst_c.specs.declared.held.What.{What}
 use Rattle.sst_c.specs.declared.held.What.TheVariants.{Table, Files as FilesOf, Runs}
-use Rattle.sst_c.specs.declared.held.What.TheVariants.{Range as RangeOf}
+use Rattle.sst_c.specs.declared.held.What.TheVariants.{Range as RangeOf, Merged as MergedOf}
+use Rattle.sst_c.specs.declared.held.What.TheVariants.{Answers as AnswersOf}
+use Rattle.sst_c.specs.Codes.{result_code}
+use Rattle.sst_c.specs.Steps.{NewestAt, StepsUntil}
+use Rattle.sst_c.specs.Told.{found_of}
 
 -- it is a table of which this holds
 abbrev pub IsTableWhere : (OpenTable → Type 0) → What → Type 0
@@ -32,9 +36,30 @@ abbrev pub is_table : What → Bool
 is_table (Table t) = true
 is_table _ = false
 
+-- it is a range of several runs that was not refused yet, of which this holds
+abbrev pub IsMergedWhere : (NewestAt → Type 0) → What → Type 0
+IsMergedWhere holds (MergedOf (Some s)) = holds s
+IsMergedWhere holds _ = ⊥
+
+-- a step of a range of several runs led to it, with a code and an entry: to the range behind the
+-- step, or to one that was given up where it was refused
+abbrev pub MergedStepsBy : (NewestAt → Option (Result Entry Error) → NewestAt → Type 0)
+    → NewestAt → ℕ → Option Entry → What → Type 0
+MergedStepsBy gives s code found (MergedOf left) =
+    (outcome : Result (Option Entry) Error) × StepsUntil gives s outcome left
+    × (code ≡ result_code outcome) × (found ≡ found_of outcome)
+MergedStepsBy gives s code found _ = ⊥
+
+-- it is a range of a table, or of several runs
 abbrev pub is_range : What → Bool
 is_range (RangeOf s) = true
+is_range (MergedOf s) = true
 is_range _ = false
+
+-- what was found of each of some keys, where it is that
+abbrev pub many_in : What → Option (List (Option Entry))
+many_in (AnswersOf found) = Some found.items
+many_in _ = None
 
 abbrev pub are_files : What → Bool
 are_files (FilesOf fs) = true
@@ -46,18 +71,23 @@ writer_in (FilesOf fs) = fs.writer
 writer_in _ = None
 
 -- the finished tables
-abbrev pub tables_in : What → List (FinishedTable Global)
-tables_in (FilesOf fs) = fs.tables.items
-tables_in _ = []
+abbrev pub files_held : What → List (FinishedTable Global)
+files_held (FilesOf fs) = fs.tables.items
+files_held _ = []
+
+-- it has these finished tables, and no writer
+abbrev pub HoldsFiles : List (FinishedTable Global) → What → Type 0
+HoldsFiles tables (FilesOf fs) = (fs.writer ≡ None) × (fs.tables.items ≡ tables)
+HoldsFiles tables _ = ⊥
 
 abbrev pub are_runs : What → Bool
 are_runs (Runs rs) = true
 are_runs _ = false
 
 -- the tables of each run
-abbrev pub runs_in : What → List (List OpenTable)
-runs_in (Runs rs) = map arc_value rs.items
-runs_in _ = []
+abbrev pub runs_held : What → List (List OpenTable)
+runs_held (Runs rs) = rs
+runs_held _ = []
 
 -- a table that was opened from these bytes, with this global number and these pins, of which
 -- nothing was read yet
@@ -67,11 +97,11 @@ IsOpenedAs bytes g pin_filter pin_index h =
     × (recovered_told bytes g pin_filter pin_index ≡ Ok t.parts)) h.what
 
 -- a bound of a kind: 0 for none, 1 with the key, 2 without it
-abbrev pub bound_of : ℕ → List ℕ → Bound (List ℕ)
-bound_of kind key =
+abbrev pub bound_told : ℕ → List ℕ → Bound (List ℕ)
+bound_told kind key =
     if kind == 0 then Unbounded else (if kind == 1 then Included key else Excluded key)
 
 -- both ends of a range deal the entries of a list within the bounds, their numbers lifted
-unfoldable pub DealsList : Bound (List ℕ) → Bound (List ℕ) → List Entry → ℕ → Range Global → Type 0
-DealsList low high es g s =
+unfoldable pub DealsTable : Bound (List ℕ) → Bound (List ℕ) → List Entry → ℕ → Range Global → Type 0
+DealsTable low high es g s =
     DealsWithin (RangeGives front_of front_next) (RangeGives back_of back_next) low high es g s

@@ -16,7 +16,7 @@ pub(crate) const OTHER_KIND: u32 = 102;
 /// There is less room than what is to be copied needs.
 pub(crate) const NO_ROOM: u32 = 103;
 
-/// The entry does not follow the one before it.
+/// An entry does not follow the one before it, or a key.
 pub(crate) const OUT_OF_ORDER: u32 = 104;
 
 /// A number that says which of several things is meant names none of them.
@@ -28,13 +28,13 @@ pub(crate) const NOTHING: u32 = 106;
 /// A verification found something wrong.
 pub(crate) const FAULTY: u32 = 107;
 
-/// The version of the calls: what a header of another first number names may differ.
-const VERSION: u32 = 1;
+/// The version of the calls: what a header of another number names may differ.
+const VERSION: u32 = 2;
 
 /// The version of the calls.
 #[unsafe(no_mangle)]
 pub extern "C" fn sst_version() -> u32
-    ensures { result ≡ 1 }
+    ensures { result ≡ 2 }
 {
     VERSION
 }

@@ -1,6 +1,6 @@
 //! What C is told of an entry.
 ghost use Rattle.std.specs.Prelude.{◌≡◌};
-ghost use Rattle.sst_c.specs.Told.{told_of};
+ghost use Rattle.sst_c.specs.Told.{entry_facts};
 
 use sst_blocks::InternalValue;
 
@@ -20,7 +20,7 @@ pub struct EntryTold {
 
 /// What is told of an entry, or that there is none.
 pub(crate) fn tell(found: &Option<InternalValue>) -> EntryTold
-    ensures { result ≡ told_of found.now }
+    ensures { result ≡ entry_facts found.now }
 {
     match found {
         None => EntryTold {

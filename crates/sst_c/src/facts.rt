@@ -1,7 +1,7 @@
 //! What a table says of itself.
 ghost use Rattle.std.specs.Prelude.{◌≡◌, ◌≢◌, false, None, Some};
 ghost use Rattle.lsm_readers.specs.Words.{OpenTable};
-ghost use Rattle.sst_c.specs.Facts.{facts_told};
+ghost use Rattle.sst_c.specs.Facts.{table_facts};
 ghost use Rattle.sst_c.specs.What.{is_table};
 ghost use Rattle.sst_c.specs.declared.held.Held.{Held as HeldValue};
 ghost use Rattle.sst_c.specs.declared.held.What.TheVariants.{Table as TableOf};
@@ -41,7 +41,7 @@ pub struct TableFacts {
 }
 
 fn facts_of(table: &Table) -> TableFacts
-    ensures { result ≡ facts_told table.now }
+    ensures { result ≡ table_facts table.now }
 {
     let said = &table.metadata;
     TableFacts {
@@ -62,7 +62,7 @@ fn facts_of(table: &Table) -> TableFacts
 fn tell_facts(held: &Held, facts: &mut TableFacts) -> u32
     ensures other { is_table held.now.what ≡ false → result ≡ 102 }
     ensures told { (t : OpenTable) → held.now.what ≡ TableOf t →
-        (result ≡ 0) × (facts.new ≡ facts_told t) }
+        (result ≡ 0) × (facts.new ≡ table_facts t) }
     ensures left { result ≢ 0 → facts.new ≡ facts.old }
 {
     match &held.what {
@@ -74,7 +74,7 @@ fn tell_facts(held: &Held, facts: &mut TableFacts) -> u32
     }
 }
 
-/// Tells what a table says of itself. Refused 100 where the handle is closed and 102 where it holds
+/// TellsCode what a table says of itself. Refused 100 where the handle is closed and 102 where it holds
 /// no table; what `facts` says stays then.
 #[unsafe(no_mangle)]
 pub extern "C" fn sst_table_facts(alloc: Global, table: &mut Handle, facts: &mut TableFacts) -> u32
@@ -83,7 +83,7 @@ pub extern "C" fn sst_table_facts(alloc: Global, table: &mut Handle, facts: &mut
     ensures other { (h : HeldValue) → table.old.boxed.value ≡ Some h → is_table h.what ≡ false →
         result ≡ 102 }
     ensures told { (h : HeldValue) (t : OpenTable) → table.old.boxed.value ≡ Some h →
-        h.what ≡ TableOf t → (result ≡ 0) × (facts.new ≡ facts_told t) }
+        h.what ≡ TableOf t → (result ≡ 0) × (facts.new ≡ table_facts t) }
     ensures left { result ≢ 0 → facts.new ≡ facts.old }
 {
     let Some(held) = table.take(alloc) else {

@@ -3,9 +3,9 @@ ghost use Rattle.std.specs.Prelude.{◌≡◌, ◌≢◌, ◌<◌, ◌≤◌, No
 ghost use Rattle.std.specs.Prelude.{true};
 ghost use Rattle.std.specs.Global.{Global as Heap};
 ghost use Rattle.lsm_writers.specs.declared.writer.FinishedTable.{FinishedTable as Finished};
-ghost use Rattle.sst_c.specs.Copies.{laid};
-ghost use Rattle.sst_c.specs.Files.{file_at, file_told};
-ghost use Rattle.sst_c.specs.What.{are_files, tables_in};
+ghost use Rattle.sst_c.specs.Copies.{laid_over};
+ghost use Rattle.sst_c.specs.Files.{file_at, file_facts};
+ghost use Rattle.sst_c.specs.What.{are_files, files_held};
 ghost use Rattle.sst_c.specs.declared.held.Held.{Held as HeldValue};
 
 use crate::codes::{CLOSED, NO_SUCH, OTHER_KIND};
@@ -28,9 +28,9 @@ pub struct FileTold {
 }
 
 // What is told of a finished table.
-#[tactic(auto, unfolding(crate::specs::Files::file_told))]
-fn told_of(file: &FinishedTable) -> FileTold
-    ensures { result ≡ file_told file.now }
+#[tactic(auto, unfolding(crate::specs::Files::file_facts))]
+fn describe(file: &FinishedTable) -> FileTold
+    ensures { result ≡ file_facts file.now }
 {
     FileTold {
         id: file.id,
@@ -42,7 +42,7 @@ fn told_of(file: &FinishedTable) -> FileTold
 fn tell_file(held: &Held, index: u64, told: &mut FileTold) -> u32
     ensures some { (f : Finished Heap) → file_at held.now.what index ≡ Some f → result ≡ 0 }
     ensures told { (f : Finished Heap) → file_at held.now.what index ≡ Some f →
-        told.new ≡ file_told f }
+        told.new ≡ file_facts f }
     ensures none { file_at held.now.what index ≡ None → are_files held.now.what ≡ true →
         result ≡ 105 }
     ensures other { are_files held.now.what ≡ false → result ≡ 102 }
@@ -51,7 +51,7 @@ fn tell_file(held: &Held, index: u64, told: &mut FileTold) -> u32
     match &held.what {
         What::Files(files) => match files.tables.get(index as usize) {
             Some(file) => {
-                *told = told_of(file);
+                *told = describe(file);
                 0
             }
             None => NO_SUCH,
@@ -60,7 +60,7 @@ fn tell_file(held: &Held, index: u64, told: &mut FileTold) -> u32
     }
 }
 
-/// Tells what a finished table is called and how long it is: the one at a place, from 0 on. Refused
+/// TellsCode what a finished table is called and how long it is: the one at a place, from 0 on. Refused
 /// 100 where the handle is closed, 102 where it holds no finished tables, and 105 where there is
 /// none at that place; what `told` says stays then.
 #[unsafe(no_mangle)]
@@ -79,7 +79,7 @@ pub extern "C" fn sst_files_tell(
     ensures some { (h : HeldValue) (f : Finished Heap) → files.old.boxed.value ≡ Some h →
         file_at h.what index ≡ Some f → result ≡ 0 }
     ensures told { (h : HeldValue) (f : Finished Heap) → files.old.boxed.value ≡ Some h →
-        file_at h.what index ≡ Some f → told.new ≡ file_told f }
+        file_at h.what index ≡ Some f → told.new ≡ file_facts f }
     ensures left { result ≢ 0 → told.new ≡ told.old }
 {
     let Some(held) = files.take(alloc) else {
@@ -95,7 +95,7 @@ fn copy_part(bytes: &[u8], offset: u64, room: &mut [u8], count: &mut u64) -> u32
     ensures past { length bytes.now < offset → result ≡ 105 }
     ensures copied { offset ≤ length bytes.now →
         let part = take (length room.old) (drop offset bytes.now) in
-        (result ≡ 0) × (count.new ≡ length part) × (room.new ≡ laid part room.old) }
+        (result ≡ 0) × (count.new ≡ length part) × (room.new ≡ laid_over part room.old) }
     ensures left { result ≢ 0 → (room.new ≡ room.old) × (count.new ≡ count.old) }
 {
     if offset > bytes.len() as u64 {
@@ -116,7 +116,7 @@ fn copy_file(held: &Held, index: u64, offset: u64, room: &mut [u8], count: &mut 
         length f.bytes < offset → result ≡ 105 }
     ensures copied { (f : Finished Heap) → file_at held.now.what index ≡ Some f →
         offset ≤ length f.bytes → let part = take (length room.old) (drop offset f.bytes) in
-        (result ≡ 0) × (count.new ≡ length part) × (room.new ≡ laid part room.old) }
+        (result ≡ 0) × (count.new ≡ length part) × (room.new ≡ laid_over part room.old) }
     ensures left { result ≢ 0 → (room.new ≡ room.old) × (count.new ≡ count.old) }
 {
     match &held.what {
@@ -152,7 +152,7 @@ pub extern "C" fn sst_files_copy(
     ensures copied { (h : HeldValue) (f : Finished Heap) → files.old.boxed.value ≡ Some h →
         file_at h.what index ≡ Some f → offset ≤ length f.bytes →
         let part = take (length room.old) (drop offset f.bytes) in
-        (result ≡ 0) × (count.new ≡ length part) × (room.new ≡ laid part room.old) }
+        (result ≡ 0) × (count.new ≡ length part) × (room.new ≡ laid_over part room.old) }
     ensures left { result ≢ 0 → (room.new ≡ room.old) × (count.new ≡ count.old) }
 {
     let Some(held) = files.take(alloc) else {
@@ -167,7 +167,7 @@ fn count_files(held: &Held, count: &mut u64) -> u32
     ensures other { are_files held.now.what ≡ false → result ≡ 102 }
     ensures some { are_files held.now.what ≡ true → result ≡ 0 }
     ensures count { are_files held.now.what ≡ true →
-        count.new ≡ length (tables_in held.now.what) }
+        count.new ≡ length (files_held held.now.what) }
     ensures left { result ≢ 0 → count.new ≡ count.old }
 {
     match &held.what {
@@ -179,7 +179,7 @@ fn count_files(held: &Held, count: &mut u64) -> u32
     }
 }
 
-/// Tells how many finished tables there are. Refused 100 where the handle is closed and 102 where
+/// TellsCode how many finished tables there are. Refused 100 where the handle is closed and 102 where
 /// it holds no finished tables; what `count` says stays then.
 #[unsafe(no_mangle)]
 pub extern "C" fn sst_files_count(alloc: Global, files: &mut Handle, count: &mut u64) -> u32
@@ -190,7 +190,7 @@ pub extern "C" fn sst_files_count(alloc: Global, files: &mut Handle, count: &mut
     ensures some { (h : HeldValue) → files.old.boxed.value ≡ Some h → are_files h.what ≡ true →
         result ≡ 0 }
     ensures count { (h : HeldValue) → files.old.boxed.value ≡ Some h → are_files h.what ≡ true →
-        count.new ≡ length (tables_in h.what) }
+        count.new ≡ length (files_held h.what) }
     ensures left { result ≢ 0 → count.new ≡ count.old }
 {
     let Some(held) = files.take(alloc) else {

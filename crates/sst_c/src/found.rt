@@ -1,7 +1,7 @@
 //! What the last read found, copied or lent.
 ghost use Rattle.std.specs.Prelude.{◌≡◌, ◌≢◌, ◌≤◌, length, IsSome, None, Some};
 ghost use Rattle.sst_entries.specs.Entry.{Entry};
-ghost use Rattle.sst_c.specs.Copies.{copy_code, laid, lend_code};
+ghost use Rattle.sst_c.specs.Copies.{copy_code, laid_over, lend_code};
 ghost use Rattle.sst_c.specs.Told.{found_in};
 
 use crate::address::address_of;
@@ -14,16 +14,16 @@ use std::alloc::Global;
 /// Copies bytes to the front of a room that has room for them.
 pub(crate) fn copy_out(bytes: &[u8], room: &mut [u8])
     requires { length bytes.now ≤ length room.old }
-    ensures { room.new ≡ laid bytes.now room.old }
+    ensures { room.new ≡ laid_over bytes.now room.old }
 {
     room[..bytes.len()].copy_from_slice(bytes);
 }
 
 // Copies the key and the value of an entry, or nothing where one of them has no room.
-fn copy_item(item: &InternalValue, key: &mut [u8], value: &mut [u8]) -> u32
+pub(crate) fn copy_item(item: &InternalValue, key: &mut [u8], value: &mut [u8]) -> u32
     ensures code { result ≡ copy_code (Some item.now) key.old value.old }
-    ensures key { result ≡ 0 → key.new ≡ laid item.now.user_key key.old }
-    ensures value { result ≡ 0 → value.new ≡ laid item.now.value value.old }
+    ensures key { result ≡ 0 → key.new ≡ laid_over item.now.user_key key.old }
+    ensures value { result ≡ 0 → value.new ≡ laid_over item.now.value value.old }
     ensures left { result ≢ 0 → (key.new ≡ key.old) × (value.new ≡ value.old) }
 {
     let (from_key, from_value) = (item.key.user_key.as_slice(), item.value.as_slice());
@@ -38,7 +38,7 @@ fn copy_item(item: &InternalValue, key: &mut [u8], value: &mut [u8]) -> u32
 fn copy_found(held: &Held, key: &mut [u8], value: &mut [u8]) -> u32
     ensures code { result ≡ copy_code held.now.found key.old value.old }
     ensures copied { (e : Entry) → held.now.found ≡ Some e → result ≡ 0 →
-        (key.new ≡ laid e.user_key key.old) × (value.new ≡ laid e.value value.old) }
+        (key.new ≡ laid_over e.user_key key.old) × (value.new ≡ laid_over e.value value.old) }
     ensures left { result ≢ 0 → (key.new ≡ key.old) × (value.new ≡ value.old) }
 {
     match &held.found {
@@ -62,7 +62,7 @@ pub extern "C" fn sst_found_copy(
     ensures code { IsSome handle.old.boxed.value →
         result ≡ copy_code (found_in handle.old.boxed.value) key.old value.old }
     ensures copied { (e : Entry) → found_in handle.old.boxed.value ≡ Some e → result ≡ 0 →
-        (key.new ≡ laid e.user_key key.old) × (value.new ≡ laid e.value value.old) }
+        (key.new ≡ laid_over e.user_key key.old) × (value.new ≡ laid_over e.value value.old) }
     ensures left { result ≢ 0 → (key.new ≡ key.old) × (value.new ≡ value.old) }
 {
     let Some(held) = handle.take(alloc) else {
@@ -86,7 +86,7 @@ pub struct Lent {
     pub value_len: u64,
 }
 
-fn lend_item(item: &InternalValue, lent: &mut Lent)
+pub(crate) fn lend_item(item: &InternalValue, lent: &mut Lent)
     ensures key { lent.new.key_len ≡ length item.now.user_key }
     ensures value { lent.new.value_len ≡ length item.now.value }
 {

@@ -16,6 +16,9 @@ pub struct Handle {
     ghost ok: { is_some boxed.value ≡ nat_lt 0 is_open },
 }
 
+// What is behind a handle may go to another thread with it: each of its parts may.
+fn crosses<T: Send>(_held: &T) {}
+
 impl Handle {
     /// A handle that holds nothing, as one of zeros.
     pub(crate) fn closed(alloc: Global) -> Handle
@@ -32,6 +35,7 @@ impl Handle {
         requires { self.old.boxed.value ≡ None }
         ensures { self.new.boxed.value ≡ Some held.value }
     {
+        crosses(&held);
         discard(mem::replace(&mut self.boxed, hold(Loose::of(held))));
         self.is_open = 1;
     }

@@ -1,10 +1,12 @@
 //! What is behind a handle.
+use crate::asked::Asked;
+use crate::run_list::RunList;
 use lsm_iters::Iter;
-use lsm_ranges::Run;
 use lsm_readers::Table;
+use lsm_runs::NewestOfRunsAt;
 use lsm_writers::{FinishedTable, Writer};
 use sst_blocks::InternalValue;
-use std::sync::Arc;
+use std::alloc::Global;
 
 /// What is behind a handle.
 #[derive(Drop)]
@@ -22,10 +24,15 @@ pub enum What {
     Table(Table),
     /// A range of a table, which is read from both ends.
     Range(Iter),
+    /// What runs of tables have together within bounds, read from both ends; nothing once a read was
+    /// refused.
+    Merged(Option<Asked<NewestOfRunsAt<Global>>>),
     /// Tables that are written: those that are finished, and the one that is not.
     Files(Files),
     /// Runs of tables, the newest first.
-    Runs(Vec<Arc<Run<Table>>>),
+    Runs(RunList),
+    /// What was found of each of some keys.
+    Answers(Vec<Option<InternalValue>>),
 }
 
 /// Tables that are written.

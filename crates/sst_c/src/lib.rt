@@ -7,31 +7,45 @@
 #![tactic(auto)]
 
 mod address;
+mod asked;
 mod boxed;
 mod codes;
+mod compactions;
 mod entries;
 mod facts;
 mod files;
 mod found;
 mod handle;
 mod held;
+mod many;
+mod merged;
 mod options;
 mod ranges;
+mod run_list;
 mod runs;
+mod sentences;
+mod shares;
 mod tables;
 mod verify;
 mod writers;
 
 pub use codes::sst_version;
+pub use compactions::sst_compact;
 pub use entries::EntryTold;
 pub use facts::{TableFacts, sst_table_facts};
 pub use files::{FileTold, sst_files_copy, sst_files_count, sst_files_tell};
 pub use found::{Lent, sst_found_copy, sst_found_lend};
+pub use asked::Asked;
 pub use handle::{Handle, sst_close};
 pub use held::{Files, Held, What};
+pub use many::{sst_answers_copy, sst_answers_lend, sst_table_get_many};
+pub use merged::sst_runs_range_open;
 pub use options::{TableOptions, sst_options_default};
 pub use ranges::{sst_range_next, sst_range_open};
+pub use run_list::RunList;
 pub use runs::{sst_runs_add, sst_runs_get, sst_runs_open};
+pub use sentences::sst_strerror_copy;
+pub use shares::sst_table_share;
 pub use tables::{sst_table_get, sst_table_open};
 pub use verify::{VerifyTold, sst_table_verify};
 pub use writers::{sst_writer_add, sst_writer_finish, sst_writer_open};

@@ -1,7 +1,7 @@
 //! What a table is written with.
 ghost use Rattle.std.specs.Prelude.{◌≡◌, ◌<◌, ◌≤◌, None, Some};
 ghost use Rattle.lsm_writers.specs.Words.{IsSmallFilter, IsSmallIndex};
-ghost use Rattle.sst_c.specs.Options.{are_usable, default_told, filter_told, index_told};
+ghost use Rattle.sst_c.specs.Options.{are_usable, default_told, filter_kind_told, index_kind_told};
 ghost use Rattle.sst_c.specs.Options.{options_told};
 
 use lsm_writers::{BloomConstructionPolicy, FilterKind, IndexKind, Options};
@@ -35,7 +35,7 @@ pub struct TableOptions {
 // The largest block or partition.
 const LARGEST: u32 = 4_194_304;
 
-/// Tells what a table is written with where nothing else is asked for.
+/// TellsCode what a table is written with where nothing else is asked for.
 #[unsafe(no_mangle)]
 pub extern "C" fn sst_options_default(options: &mut TableOptions)
     ensures { options.new ≡ default_told }
@@ -68,7 +68,7 @@ pub(crate) fn are_usable(options: &TableOptions) -> bool
 
 fn index_kind(size: u32) -> IndexKind
     requires { size ≤ 4194304 }
-    ensures is { result ≡ index_told size }
+    ensures is { result ≡ index_kind_told size }
     ensures small { IsSmallIndex result }
 {
     if size == 0 {
@@ -80,7 +80,7 @@ fn index_kind(size: u32) -> IndexKind
 
 fn filter_kind(size: u32) -> FilterKind
     requires { size ≤ 4194304 }
-    ensures is { result ≡ filter_told size }
+    ensures is { result ≡ filter_kind_told size }
     ensures small { IsSmallFilter result }
 {
     if size == 0 {

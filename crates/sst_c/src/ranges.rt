@@ -1,33 +1,36 @@
-//! Ranges of a table, read from both ends.
+//! Ranges, read from both ends; beginning those of a table.
 ghost use Rattle.std.specs.Prelude.{◌≡◌, ◌≢◌, ◌<◌, ◌⊎◌, ◌||◌, false, IfErr, IfOk, IsSomeAnd, List};
 ghost use Rattle.std.specs.Prelude.{None, Option, Result, Some, is_some, nat_lt, true};
 ghost use Rattle.std.specs.Global.{Global as Heap};
 ghost use Rattle.sst_entries.specs.declared.error.Error.TheVariants.{OutOfMemory};
 ghost use Rattle.lsm_iters.specs.Range.{Range as RangeValue};
 ghost use Rattle.lsm_readers.specs.Words.{Entry, IsRangeOf, OpenTable, StoresList};
-ghost use Rattle.sst_c.specs.Codes.{code_of};
-ghost use Rattle.sst_c.specs.Steps.{StepsBy};
-ghost use Rattle.sst_c.specs.Told.{found_in, outcome_of, told_of};
-ghost use Rattle.sst_c.specs.What.{DealsList, IsRangeWhere, bound_of, is_range, is_table};
+ghost use Rattle.sst_c.specs.Codes.{result_code};
+ghost use Rattle.sst_c.specs.Steps.{NewestAt, StepsBy};
+ghost use Rattle.sst_c.specs.Told.{found_in, outcome_of, entry_facts};
+ghost use Rattle.sst_c.specs.What.{DealsTable, IsRangeWhere, MergedStepsBy, bound_told, is_range};
+ghost use Rattle.sst_c.specs.What.{is_table};
 ghost use Rattle.sst_c.specs.declared.held.Held.{Held as HeldValue};
-ghost use Rattle.sst_c.specs.declared.held.What.TheVariants.{Range as RangeOf};
+ghost use Rattle.sst_c.specs.declared.held.What.TheVariants.{Merged as MergedOf, Range as RangeOf};
 ghost use Rattle.sst_c.specs.declared.held.What.TheVariants.{Table as TableOf};
 
 use crate::codes::{CLOSED, NO_SUCH, OPEN, OTHER_KIND};
 use crate::entries::{EntryTold, tell};
 use crate::handle::Handle;
 use crate::held::{Held, What};
+use crate::merged::step_merged;
 use crate::tables::keep;
 use lsm_iters::Iter;
 use lsm_readers::Table;
+use lsm_runs::NewestOfRunsAt;
 use sst_blocks::{Error, InternalValue, IterItem, Slice};
 use std::alloc::Global;
 use std::ops::Bound;
 
 // A bound of a kind: 0 for none, 1 with the key, 2 without it.
-fn bound(alloc: Global, kind: u32, key: &[u8]) -> Result<Bound<Slice>, Error>
+pub(crate) fn bound(alloc: Global, kind: u32, key: &[u8]) -> Result<Bound<Slice>, Error>
     requires { kind < 3 }
-    ensures ok { IfOk result (λ b. b ≡ bound_of kind key.now) }
+    ensures ok { IfOk result (λ b. b ≡ bound_told kind key.now) }
     ensures err { IfErr result (λ e. e ≡ OutOfMemory) }
 {
     match kind {
@@ -38,11 +41,11 @@ fn bound(alloc: Global, kind: u32, key: &[u8]) -> Result<Bound<Slice>, Error>
 }
 
 // A range of a table.
-#[tactic(auto, unfolding(crate::specs::What::DealsList))]
+#[tactic(auto, unfolding(crate::specs::What::DealsTable))]
 fn table_range(table: &Table, lower: Bound<Slice>, upper: Bound<Slice>) -> Result<Iter, Error>
     ensures range { IfOk result (IsRangeOf table.now lower upper) }
     ensures list { (es : List Entry) → StoresList table.now.bytes es →
-        let g = table.now.global_seqno in IfOk result (DealsList lower upper es g) }
+        let g = table.now.global_seqno in IfOk result (DealsTable lower upper es g) }
     ensures err { IfErr result (λ e. e ≡ OutOfMemory) }
 {
     table.range(lower, upper)
@@ -60,7 +63,7 @@ fn range_of(
         IsRangeWhere (IsRangeOf table.now lower upper) held.value.what) }
     ensures list { (es : List Entry) → StoresList table.now.bytes es →
         let g = table.now.global_seqno in IfOk result (λ held.
-        IsRangeWhere (DealsList lower upper es g) held.value.what) }
+        IsRangeWhere (DealsTable lower upper es g) held.value.what) }
     ensures err { IfErr result (λ e. e ≡ OutOfMemory) }
 {
     let held = Held {
@@ -82,13 +85,13 @@ fn range_within(
     requires lower { lower_kind < 3 }
     requires upper { upper_kind < 3 }
     ensures new { IfOk result (λ held. held.value.found ≡ None) }
-    ensures range { let low = bound_of lower_kind lower.now in
-        let high = bound_of upper_kind upper.now in IfOk result (λ held.
+    ensures range { let low = bound_told lower_kind lower.now in
+        let high = bound_told upper_kind upper.now in IfOk result (λ held.
         IsRangeWhere (IsRangeOf table.now low high) held.value.what) }
-    ensures list { let low = bound_of lower_kind lower.now in
-        let high = bound_of upper_kind upper.now in
+    ensures list { let low = bound_told lower_kind lower.now in
+        let high = bound_told upper_kind upper.now in
         (es : List Entry) → StoresList table.now.bytes es → let g = table.now.global_seqno in
-        IfOk result (λ held. IsRangeWhere (DealsList low high es g) held.value.what) }
+        IfOk result (λ held. IsRangeWhere (DealsTable low high es g) held.value.what) }
     ensures err { IfErr result (λ e. e ≡ OutOfMemory) }
 {
     let lower = bound(alloc, lower_kind, lower)?;
@@ -112,12 +115,12 @@ fn begin_within(
     ensures memory { (result ≡ 0) ⊎ (result ≡ 1) }
     ensures new { result ≡ 0 → IsSomeAnd range.new.boxed.value (λ r. r.found ≡ None) }
     ensures range { result ≡ 0 →
-        let low = bound_of lower_kind lower.now in let high = bound_of upper_kind upper.now in
+        let low = bound_told lower_kind lower.now in let high = bound_told upper_kind upper.now in
         IsSomeAnd range.new.boxed.value (λ r. IsRangeWhere (IsRangeOf table.now low high) r.what) }
     ensures list { (es : List Entry) → StoresList table.now.bytes es → result ≡ 0 →
-        let low = bound_of lower_kind lower.now in let high = bound_of upper_kind upper.now in
+        let low = bound_told lower_kind lower.now in let high = bound_told upper_kind upper.now in
         let g = table.now.global_seqno in
-        IsSomeAnd range.new.boxed.value (λ r. IsRangeWhere (DealsList low high es g) r.what) }
+        IsSomeAnd range.new.boxed.value (λ r. IsRangeWhere (DealsTable low high es g) r.what) }
     ensures left { result ≢ 0 → range.new.boxed.value ≡ None }
 {
     match range_within(alloc, table, lower_kind, lower, upper_kind, upper) {
@@ -146,13 +149,13 @@ fn begin(
         nat_lt 2 lower_kind || nat_lt 2 upper_kind ≡ false → (result ≡ 0) ⊎ (result ≡ 1) }
     ensures new { result ≡ 0 → IsSomeAnd range.new.boxed.value (λ r. r.found ≡ None) }
     ensures range { (t : OpenTable) → held.now.what ≡ TableOf t → result ≡ 0 →
-        let low = bound_of lower_kind lower.now in let high = bound_of upper_kind upper.now in
+        let low = bound_told lower_kind lower.now in let high = bound_told upper_kind upper.now in
         IsSomeAnd range.new.boxed.value (λ r. IsRangeWhere (IsRangeOf t low high) r.what) }
     ensures list { (t : OpenTable) (es : List Entry) → held.now.what ≡ TableOf t → result ≡ 0 →
         StoresList t.bytes es →
-        let low = bound_of lower_kind lower.now in let high = bound_of upper_kind upper.now in
+        let low = bound_told lower_kind lower.now in let high = bound_told upper_kind upper.now in
         IsSomeAnd range.new.boxed.value (λ r.
-        IsRangeWhere (DealsList low high es t.global_seqno) r.what) }
+        IsRangeWhere (DealsTable low high es t.global_seqno) r.what) }
     ensures left { result ≢ 0 → range.new.boxed.value ≡ None }
 {
     let What::Table(table) = &held.what else {
@@ -195,14 +198,14 @@ pub extern "C" fn sst_range_open(
     // It reads the table within the bounds, and has made no step;
     ensures range { (h : HeldValue) (t : OpenTable) → table.old.boxed.value ≡ Some h →
         h.what ≡ TableOf t → result ≡ 0 →
-        let low = bound_of lower_kind lower.now in let high = bound_of upper_kind upper.now in
+        let low = bound_told lower_kind lower.now in let high = bound_told upper_kind upper.now in
         IsSomeAnd range.new.boxed.value (λ r. IsRangeWhere (IsRangeOf t low high) r.what) }
     // on bytes that store a list it deals the list's entries within them, their numbers lifted.
     ensures list { (h : HeldValue) (t : OpenTable) (es : List Entry) →
         table.old.boxed.value ≡ Some h → h.what ≡ TableOf t → result ≡ 0 → StoresList t.bytes es →
-        let low = bound_of lower_kind lower.now in let high = bound_of upper_kind upper.now in
+        let low = bound_told lower_kind lower.now in let high = bound_told upper_kind upper.now in
         IsSomeAnd range.new.boxed.value (λ r.
-        IsRangeWhere (DealsList low high es t.global_seqno) r.what) }
+        IsRangeWhere (DealsTable low high es t.global_seqno) r.what) }
 {
     if range.is_open() {
         return OPEN;
@@ -226,6 +229,15 @@ pub(crate) fn outcome_of(answer: Option<IterItem<Global>>) -> Result<Option<Inte
     }
 }
 
+// A step of a range of a table.
+fn step_of(iter: &mut Iter, back: bool) -> Option<IterItem<Global>>
+    ensures front { back ≡ false → ⟦<Iter<Global> as Iterator>⟧.next_gives iter.old result iter.new }
+    ensures back { back ≡ true →
+        ⟦<Iter<Global> as DoubleEndedIterator>⟧.next_back_gives iter.old result iter.new }
+{
+    if back { iter.next_back() } else { iter.next() }
+}
+
 fn step(held: &mut Held, back: bool) -> u32
     ensures other { is_range held.old.what ≡ false →
         (result ≡ 102) × (held.new.found ≡ None) × (held.new.what ≡ held.old.what) }
@@ -235,21 +247,27 @@ fn step(held: &mut Held, back: bool) -> u32
     ensures back { (s : RangeValue Heap) → held.old.what ≡ RangeOf s → back ≡ true →
         let gives = ⟦<Iter<Global> as DoubleEndedIterator>⟧.next_back_gives in
         IsRangeWhere (StepsBy gives s result held.new.found) held.new.what }
+    ensures merged_front { (s : NewestAt) → held.old.what ≡ MergedOf (Some s) →
+        back ≡ false → let gives = ⟦<NewestOfRunsAt<Global> as Iterator>⟧.next_gives in
+        MergedStepsBy gives s result held.new.found held.new.what }
+    ensures merged_back { (s : NewestAt) → held.old.what ≡ MergedOf (Some s) →
+        back ≡ true → let gives = ⟦<NewestOfRunsAt<Global> as DoubleEndedIterator>⟧.next_back_gives in
+        MergedStepsBy gives s result held.new.found held.new.what }
+    ensures over { held.old.what ≡ MergedOf None →
+        (result ≡ 0) × (held.new.found ≡ None) × (held.new.what ≡ MergedOf None) }
 {
     held.found = None;
     match &mut held.what {
-        What::Range(iter) => {
-            let answer = if back { iter.next_back() } else { iter.next() };
-            keep(&mut held.found, outcome_of(answer))
-        }
+        What::Range(iter) => keep(&mut held.found, outcome_of(step_of(iter, back))),
+        What::Merged(merged) => keep(&mut held.found, step_merged(merged, back)),
         _ => OTHER_KIND,
     }
 }
 
 /// Takes the next entry of a range, from the back where `back` says so, else from the front, keeps
 /// it, and tells its kind, number and lengths; zeros at the end. Refused 100 where the handle is
-/// closed, 102 where it holds no range, and as a step of a table's range, after which nothing comes
-/// from either end; nothing is kept then, and zeros are told.
+/// closed, 102 where it holds no range, and as a step of a table's range, or of `range_runs_at`,
+/// after which nothing comes from either end; nothing is kept then, and zeros are told.
 #[unsafe(no_mangle)]
 pub extern "C" fn sst_range_next(
     alloc: Global,
@@ -260,8 +278,9 @@ pub extern "C" fn sst_range_next(
     ensures shut { range.old.boxed.value ≡ None →
         (result ≡ 100) × (range.new.boxed.value ≡ None) }
     ensures other { (h : HeldValue) → range.old.boxed.value ≡ Some h → is_range h.what ≡ false →
-        (result ≡ 102) × IsSomeAnd range.new.boxed.value (λ k. k.what ≡ h.what) }
-    ensures entry { entry.new ≡ told_of (found_in range.new.boxed.value) }
+        (result ≡ 102) × IsSomeAnd range.new.boxed.value (λ k.
+        (k.found ≡ None) × (k.what ≡ h.what)) }
+    ensures entry { entry.new ≡ entry_facts (found_in range.new.boxed.value) }
     // It is one step of the range, from that end.
     ensures front { (h : HeldValue) (s : RangeValue Heap) → range.old.boxed.value ≡ Some h →
         h.what ≡ RangeOf s → back ≡ false → let gives = ⟦<Iter<Global> as Iterator>⟧.next_gives in
@@ -272,6 +291,19 @@ pub extern "C" fn sst_range_next(
         let gives = ⟦<Iter<Global> as DoubleEndedIterator>⟧.next_back_gives in
         IsSomeAnd range.new.boxed.value (λ k.
         IsRangeWhere (StepsBy gives s result k.found) k.what) }
+    // So it is of a range of several runs, which is given up where it is refused;
+    ensures merged_front { (h : HeldValue) (s : NewestAt) →
+        range.old.boxed.value ≡ Some h → h.what ≡ MergedOf (Some s) → back ≡ false →
+        let gives = ⟦<NewestOfRunsAt<Global> as Iterator>⟧.next_gives in
+        IsSomeAnd range.new.boxed.value (λ k. MergedStepsBy gives s result k.found k.what) }
+    ensures merged_back { (h : HeldValue) (s : NewestAt) →
+        range.old.boxed.value ≡ Some h → h.what ≡ MergedOf (Some s) → back ≡ true →
+        let gives = ⟦<NewestOfRunsAt<Global> as DoubleEndedIterator>⟧.next_back_gives in
+        IsSomeAnd range.new.boxed.value (λ k. MergedStepsBy gives s result k.found k.what) }
+    // from then on it is at its end.
+    ensures over { (h : HeldValue) → range.old.boxed.value ≡ Some h → h.what ≡ MergedOf None →
+        (result ≡ 0) × IsSomeAnd range.new.boxed.value (λ k.
+        (k.found ≡ None) × (k.what ≡ MergedOf None)) }
 {
     *entry = tell(&None);
     let Some(mut held) = range.take(alloc) else {

@@ -1,37 +1,37 @@
 //! Several tables as one: a list of runs, each of one table, the newest first.
-ghost use Rattle.std.specs.Prelude.{◌≡◌, ◌≢◌, ◌∷◌, ◌++◌, [], false, IfErr, IfOk, IsSomeAnd, List};
-ghost use Rattle.std.specs.Prelude.{None, Ok, Some, is_some, length, map, true};
-ghost use Rattle.std.specs.Arc.{arc_value};
-ghost use Rattle.std.specs.List.{AllByRecursion};
+ghost use Rattle.std.specs.Prelude.{◌≡◌, ◌≢◌, ◌∷◌, ◌⊎◌, ◌++◌, [], false, IfErr, IfOk, IsSomeAnd};
+ghost use Rattle.std.specs.Prelude.{List, None, Ok, Some, is_some, true};
 ghost use Rattle.sst_entries.specs.declared.error.Error.TheVariants.{OutOfMemory};
 ghost use Rattle.lsm_readers.specs.Words.{Entry, OpenTable, point};
-ghost use Rattle.lsm_runs.specs.Words.{IsInOrder, RunsHoldLists, range_of, runs_told, union_in};
-ghost use Rattle.sst_c.specs.Told.{Answers, found_in, told_of};
-ghost use Rattle.sst_c.specs.What.{are_runs, is_table, runs_in};
+ghost use Rattle.lsm_ranges.specs.KeyRange.{is_well_formed};
+ghost use Rattle.lsm_runs.specs.Words.{RunsHoldLists, range_of, runs_read, runs_told, union_in};
+ghost use Rattle.sst_c.specs.Codes.{TellsFirst};
+ghost use Rattle.sst_c.specs.Told.{AnswersRead, found_in, entry_facts};
+ghost use Rattle.sst_c.specs.What.{are_runs, is_table, runs_held};
 ghost use Rattle.sst_c.specs.declared.held.Held.{Held as HeldValue};
 ghost use Rattle.sst_c.specs.declared.held.What.TheVariants.{Table as TableOf};
 
-use crate::codes::{CLOSED, NO_MEMORY, OPEN, OTHER_KIND};
+use crate::codes::{CLOSED, OPEN, OTHER_KIND, OUT_OF_ORDER};
 use crate::entries::{EntryTold, tell};
 use crate::handle::Handle;
 use crate::held::{Held, What};
+use crate::run_list::RunList;
 use crate::tables::keep;
-use lsm_ranges::Run;
+use lsm_ranges::Ranged;
 use lsm_readers::Table;
 use lsm_runs::get_runs;
-use sst_blocks::{Error, SeqNo};
+use sst_blocks::{Error, InternalValue, SeqNo};
 use std::alloc::Global;
-use std::sync::Arc;
 
 fn no_runs(alloc: Global) -> Result<Box<Held>, Error>
     ensures new { IfOk result (λ held. held.value.found ≡ None) }
     ensures kind { IfOk result (λ held. are_runs held.value.what ≡ true) }
-    ensures none { IfOk result (λ held. runs_in held.value.what ≡ []) }
+    ensures none { IfOk result (λ held. runs_held held.value.what ≡ []) }
     ensures err { IfErr result (λ e. e ≡ OutOfMemory) }
 {
     let held = Held {
         found: None,
-        what: What::Runs(Vec::new(alloc)),
+        what: What::Runs(RunList::new(alloc)),
     };
     Ok(Box::new(alloc, held)?)
 }
@@ -44,7 +44,7 @@ pub extern "C" fn sst_runs_open(alloc: Global, runs: &mut Handle) -> u32
     ensures memory { runs.old.boxed.value ≡ None → result ≢ 0 → result ≡ 1 }
     ensures new { result ≡ 0 → IsSomeAnd runs.new.boxed.value (λ h. h.found ≡ None) }
     ensures kind { result ≡ 0 → IsSomeAnd runs.new.boxed.value (λ h. are_runs h.what ≡ true) }
-    ensures none { result ≡ 0 → IsSomeAnd runs.new.boxed.value (λ h. runs_in h.what ≡ []) }
+    ensures none { result ≡ 0 → IsSomeAnd runs.new.boxed.value (λ h. runs_held h.what ≡ []) }
     ensures left { result ≢ 0 → runs.new.boxed.value ≡ runs.old.boxed.value }
 {
     if runs.is_open() {
@@ -59,50 +59,35 @@ pub extern "C" fn sst_runs_open(alloc: Global, runs: &mut Handle) -> u32
     }
 }
 
-// A run of one table, which it shares.
-fn run_of(alloc: Global, table: &Table) -> Result<Arc<Run<Table>>, Error>
-    ensures run { IfOk result (λ run. arc_value run ≡ table.now ∷ []) }
-    ensures err { IfErr result (λ e. e ≡ OutOfMemory) }
+// Puts a table behind the runs of a list, where its least key is not above its greatest.
+fn add_table_to(alloc: Global, runs: &mut RunList, table: &Table) -> u32
+    ensures turned { is_well_formed (range_of table.now) ≡ false → result ≡ 104 }
+    ensures memory { is_well_formed (range_of table.now) ≡ true → (result ≡ 0) ⊎ (result ≡ 1) }
+    ensures added { result ≡ 0 → runs.new ≡ runs.old ++ (table.now ∷ []) ∷ [] }
+    ensures left { result ≢ 0 → runs.new ≡ runs.old }
 {
-    let mut tables = Vec::new(alloc);
-    tables.push(table.clone()?)?;
-    match Run::new(tables) {
-        Some(run) => Ok(Arc::new(alloc, run)?),
-        None => Err(Error::OutOfMemory),
+    if !table.key_range().is_well_formed() {
+        return OUT_OF_ORDER;
     }
-}
-
-#[tactic(auto, using(crate::proofs::Behind::map_behind))]
-fn push_run(alloc: Global, runs: &mut Vec<Arc<Run<Table>>>, table: &Table) -> u32
-    ensures memory { result ≢ 0 → result ≡ 1 }
-    ensures added { result ≡ 0 → map arc_value runs.new.items
-        ≡ map arc_value runs.old.items ++ (table.now ∷ []) ∷ [] }
-    ensures left { result ≢ 0 → runs.new.items ≡ runs.old.items }
-{
-    match run_of(alloc, table) {
-        Ok(run) => match runs.push(run) {
-            Ok(()) => 0,
-            Err(refused) => {
-                drop(refused);
-                NO_MEMORY
-            }
-        },
-        Err(error) => u32::from(error.number()),
-    }
+    runs.push(alloc, table)
 }
 
 // Adds a table to runs that are held.
 fn add_table(alloc: Global, held: &mut Held, table: &Table) -> u32
     ensures other { are_runs held.old.what ≡ false →
         (result ≡ 102) × (held.new.what ≡ held.old.what) }
-    ensures memory { are_runs held.old.what ≡ true → result ≢ 0 → result ≡ 1 }
+    ensures turned { are_runs held.old.what ≡ true → is_well_formed (range_of table.now) ≡ false →
+        result ≡ 104 }
+    ensures memory { are_runs held.old.what ≡ true → is_well_formed (range_of table.now) ≡ true →
+        (result ≡ 0) ⊎ (result ≡ 1) }
     ensures kind { are_runs held.new.what ≡ are_runs held.old.what }
+    ensures found { held.new.found ≡ held.old.found }
     ensures added { result ≡ 0 →
-        runs_in held.new.what ≡ runs_in held.old.what ++ (table.now ∷ []) ∷ [] }
-    ensures left { result ≢ 0 → runs_in held.new.what ≡ runs_in held.old.what }
+        runs_held held.new.what ≡ runs_held held.old.what ++ (table.now ∷ []) ∷ [] }
+    ensures left { result ≢ 0 → runs_held held.new.what ≡ runs_held held.old.what }
 {
     match &mut held.what {
-        What::Runs(runs) => push_run(alloc, runs, table),
+        What::Runs(runs) => add_table_to(alloc, runs, table),
         _ => OTHER_KIND,
     }
 }
@@ -112,12 +97,15 @@ fn add_held(alloc: Global, held: &mut Held, table: &Held) -> u32
         (result ≡ 102) × (held.new.what ≡ held.old.what) }
     ensures no_runs { are_runs held.old.what ≡ false →
         (result ≡ 102) × (held.new.what ≡ held.old.what) }
-    ensures memory { is_table table.now.what ≡ true → are_runs held.old.what ≡ true →
-        result ≢ 0 → result ≡ 1 }
+    ensures turned { (t : OpenTable) → table.now.what ≡ TableOf t → are_runs held.old.what ≡ true →
+        is_well_formed (range_of t) ≡ false → result ≡ 104 }
+    ensures memory { (t : OpenTable) → table.now.what ≡ TableOf t → are_runs held.old.what ≡ true →
+        is_well_formed (range_of t) ≡ true → (result ≡ 0) ⊎ (result ≡ 1) }
     ensures kind { are_runs held.new.what ≡ are_runs held.old.what }
+    ensures found { held.new.found ≡ held.old.found }
     ensures added { (t : OpenTable) → table.now.what ≡ TableOf t → result ≡ 0 →
-        runs_in held.new.what ≡ runs_in held.old.what ++ (t ∷ []) ∷ [] }
-    ensures left { result ≢ 0 → runs_in held.new.what ≡ runs_in held.old.what }
+        runs_held held.new.what ≡ runs_held held.old.what ++ (t ∷ []) ∷ [] }
+    ensures left { result ≢ 0 → runs_held held.new.what ≡ runs_held held.old.what }
 {
     match &table.what {
         What::Table(table) => add_table(alloc, held, table),
@@ -129,18 +117,25 @@ fn add_to(alloc: Global, runs: &mut Handle, table: &Held) -> u32
     ensures shut { runs.old.boxed.value ≡ None →
         (result ≡ 100) × (runs.new.boxed.value ≡ None) }
     ensures other { (h : HeldValue) → runs.old.boxed.value ≡ Some h →
-        is_table table.now.what ≡ false → result ≡ 102 }
+        is_table table.now.what ≡ false →
+        (result ≡ 102) × IsSomeAnd runs.new.boxed.value (λ k. k.what ≡ h.what) }
     ensures no_runs { (h : HeldValue) → runs.old.boxed.value ≡ Some h → are_runs h.what ≡ false →
         (result ≡ 102) × IsSomeAnd runs.new.boxed.value (λ k. k.what ≡ h.what) }
-    ensures memory { (h : HeldValue) → runs.old.boxed.value ≡ Some h →
-        is_table table.now.what ≡ true → are_runs h.what ≡ true → result ≢ 0 → result ≡ 1 }
+    ensures turned { (h : HeldValue) (t : OpenTable) → runs.old.boxed.value ≡ Some h →
+        table.now.what ≡ TableOf t → are_runs h.what ≡ true →
+        is_well_formed (range_of t) ≡ false → result ≡ 104 }
+    ensures memory { (h : HeldValue) (t : OpenTable) → runs.old.boxed.value ≡ Some h →
+        table.now.what ≡ TableOf t → are_runs h.what ≡ true →
+        is_well_formed (range_of t) ≡ true → (result ≡ 0) ⊎ (result ≡ 1) }
     ensures kind { (h : HeldValue) → runs.old.boxed.value ≡ Some h →
         IsSomeAnd runs.new.boxed.value (λ k. are_runs k.what ≡ are_runs h.what) }
+    ensures found { (h : HeldValue) → runs.old.boxed.value ≡ Some h →
+        IsSomeAnd runs.new.boxed.value (λ k. k.found ≡ h.found) }
     ensures added { (h : HeldValue) (t : OpenTable) → runs.old.boxed.value ≡ Some h →
         table.now.what ≡ TableOf t → result ≡ 0 → IsSomeAnd runs.new.boxed.value (λ k.
-        runs_in k.what ≡ runs_in h.what ++ (t ∷ []) ∷ []) }
+        runs_held k.what ≡ runs_held h.what ++ (t ∷ []) ∷ []) }
     ensures left { (h : HeldValue) → runs.old.boxed.value ≡ Some h → result ≢ 0 →
-        IsSomeAnd runs.new.boxed.value (λ k. runs_in k.what ≡ runs_in h.what) }
+        IsSomeAnd runs.new.boxed.value (λ k. runs_held k.what ≡ runs_held h.what) }
 {
     let Some(mut held) = runs.take(alloc) else {
         return CLOSED;
@@ -152,7 +147,8 @@ fn add_to(alloc: Global, runs: &mut Handle, table: &Held) -> u32
 
 /// Adds a table to a list of runs, behind those that are there, so as an older one. The list has a
 /// share of the table, which may be closed before it. Refused 100 where a handle is closed, 102
-/// where one holds something of another kind, and for want of memory; the list stays as it is then.
+/// where one holds something of another kind, 104 where the table says of itself that its least key
+/// is above its greatest, and for want of memory; the list stays as it is then.
 #[unsafe(no_mangle)]
 pub extern "C" fn sst_runs_add(alloc: Global, runs: &mut Handle, table: &mut Handle) -> u32
     ensures kept { table.new.boxed.value ≡ table.old.boxed.value }
@@ -161,19 +157,28 @@ pub extern "C" fn sst_runs_add(alloc: Global, runs: &mut Handle, table: &mut Han
     ensures table_shut { table.old.boxed.value ≡ None →
         (result ≡ 100) × (runs.new.boxed.value ≡ runs.old.boxed.value) }
     ensures other { (h t : HeldValue) → runs.old.boxed.value ≡ Some h →
-        table.old.boxed.value ≡ Some t → is_table t.what ≡ false → result ≡ 102 }
+        table.old.boxed.value ≡ Some t → is_table t.what ≡ false →
+        (result ≡ 102) × IsSomeAnd runs.new.boxed.value (λ k. k.what ≡ h.what) }
     ensures no_runs { (h t : HeldValue) → runs.old.boxed.value ≡ Some h →
         table.old.boxed.value ≡ Some t → are_runs h.what ≡ false →
         (result ≡ 102) × IsSomeAnd runs.new.boxed.value (λ k. k.what ≡ h.what) }
-    ensures memory { (h t : HeldValue) → runs.old.boxed.value ≡ Some h →
-        table.old.boxed.value ≡ Some t → is_table t.what ≡ true → are_runs h.what ≡ true →
-        result ≢ 0 → result ≡ 1 }
+    ensures turned { (h t : HeldValue) (of : OpenTable) → runs.old.boxed.value ≡ Some h →
+        table.old.boxed.value ≡ Some t → t.what ≡ TableOf of → are_runs h.what ≡ true →
+        is_well_formed (range_of of) ≡ false → result ≡ 104 }
+    ensures memory { (h t : HeldValue) (of : OpenTable) → runs.old.boxed.value ≡ Some h →
+        table.old.boxed.value ≡ Some t → t.what ≡ TableOf of → are_runs h.what ≡ true →
+        is_well_formed (range_of of) ≡ true → (result ≡ 0) ⊎ (result ≡ 1) }
+    // It stays a list of runs, and what its last read found stays.
+    ensures kind { (h : HeldValue) → runs.old.boxed.value ≡ Some h →
+        IsSomeAnd runs.new.boxed.value (λ k. are_runs k.what ≡ are_runs h.what) }
+    ensures found { (h : HeldValue) → runs.old.boxed.value ≡ Some h →
+        IsSomeAnd runs.new.boxed.value (λ k. k.found ≡ h.found) }
     ensures added { (h t : HeldValue) (of : OpenTable) → runs.old.boxed.value ≡ Some h →
         table.old.boxed.value ≡ Some t → t.what ≡ TableOf of → result ≡ 0 →
         IsSomeAnd runs.new.boxed.value (λ k.
-        runs_in k.what ≡ runs_in h.what ++ (of ∷ []) ∷ []) }
+        runs_held k.what ≡ runs_held h.what ++ (of ∷ []) ∷ []) }
     ensures left { (h : HeldValue) → runs.old.boxed.value ≡ Some h → result ≢ 0 →
-        IsSomeAnd runs.new.boxed.value (λ k. runs_in k.what ≡ runs_in h.what) }
+        IsSomeAnd runs.new.boxed.value (λ k. runs_held k.what ≡ runs_held h.what) }
 {
     let Some(held) = table.take(alloc) else {
         return CLOSED;
@@ -183,20 +188,35 @@ pub extern "C" fn sst_runs_add(alloc: Global, runs: &mut Handle, table: &mut Han
     code
 }
 
-#[tactic(auto, using(crate::proofs::Answering::answers))]
+// Reads a list of runs.
+#[tactic(auto, using(crate::proofs::Answering::reads, crate::proofs::LoneRuns::lone_order))]
+fn get_in(runs: &RunList, key: &[u8], seqno: SeqNo, found: &mut Option<InternalValue>) -> u32
+    ensures told { AnswersRead result found.new (runs_told key.now seqno None runs.now) }
+    ensures early { TellsFirst result (runs_read key.now seqno None runs.now).early }
+    ensures calm { (runs_read key.now seqno None runs.now).loads ≡ [] → result ≡ 0 }
+    ensures list { (lists : List (List (List Entry))) →
+        RunsHoldLists runs.now lists →
+        AnswersRead result found.new (Ok (point (union_in lists) key.now seqno)) }
+{
+    keep(found, get_runs(runs.as_slice(), key, seqno))
+}
+
 fn get(held: &mut Held, key: &[u8], seqno: SeqNo) -> u32
     ensures kept { held.new.what ≡ held.old.what }
     ensures other { are_runs held.old.what ≡ false → (result ≡ 102) × (held.new.found ≡ None) }
     ensures told { are_runs held.old.what ≡ true →
-        AllByRecursion (IsInOrder range_of) (runs_in held.old.what) →
-        Answers result held.new.found (runs_told key.now seqno None (runs_in held.old.what)) }
+        AnswersRead result held.new.found (runs_told key.now seqno None (runs_held held.old.what)) }
+    ensures early { are_runs held.old.what ≡ true →
+        TellsFirst result (runs_read key.now seqno None (runs_held held.old.what)).early }
+    ensures calm { are_runs held.old.what ≡ true →
+        (runs_read key.now seqno None (runs_held held.old.what)).loads ≡ [] → result ≡ 0 }
     ensures list { (lists : List (List (List Entry))) → are_runs held.old.what ≡ true →
-        RunsHoldLists (runs_in held.old.what) lists →
-        Answers result held.new.found (Ok (point (union_in lists) key.now seqno)) }
+        RunsHoldLists (runs_held held.old.what) lists →
+        AnswersRead result held.new.found (Ok (point (union_in lists) key.now seqno)) }
 {
     held.found = None;
     match &held.what {
-        What::Runs(runs) => keep(&mut held.found, get_runs(runs, key, seqno)),
+        What::Runs(runs) => get_in(runs, key, seqno, &mut held.found),
         _ => OTHER_KIND,
     }
 }
@@ -219,17 +239,22 @@ pub extern "C" fn sst_runs_get(
         IsSomeAnd runs.new.boxed.value (λ k. k.what ≡ h.what) }
     ensures other { (h : HeldValue) → runs.old.boxed.value ≡ Some h → are_runs h.what ≡ false →
         (result ≡ 102) × (found_in runs.new.boxed.value ≡ None) }
-    ensures entry { entry.new ≡ told_of (found_in runs.new.boxed.value) }
-    // On runs in order it is what their tables tell, whatever the bytes,
+    ensures entry { entry.new ≡ entry_facts (found_in runs.new.boxed.value) }
+    // It is what the tables tell, whatever the bytes,
     ensures told { (h : HeldValue) → runs.old.boxed.value ≡ Some h → are_runs h.what ≡ true →
-        AllByRecursion (IsInOrder range_of) (runs_in h.what) →
         let found = found_in runs.new.boxed.value in
-        Answers result found (runs_told key.now seqno None (runs_in h.what)) }
-    // and of tables of lists the first match in all entries together, their numbers lifted.
+        AnswersRead result found (runs_told key.now seqno None (runs_held h.what)) }
+    // a fault of the first block that is loaded which takes no memory to be found first,
+    ensures early { (h : HeldValue) → runs.old.boxed.value ≡ Some h → are_runs h.what ≡ true →
+        TellsFirst result (runs_read key.now seqno None (runs_held h.what)).early }
+    // and where no block is loaded nothing is refused;
+    ensures calm { (h : HeldValue) → runs.old.boxed.value ≡ Some h → are_runs h.what ≡ true →
+        (runs_read key.now seqno None (runs_held h.what)).loads ≡ [] → result ≡ 0 }
+    // of tables of lists it is the first match in all entries together, their numbers lifted.
     ensures list { (h : HeldValue) (lists : List (List (List Entry))) →
         runs.old.boxed.value ≡ Some h → are_runs h.what ≡ true →
-        RunsHoldLists (runs_in h.what) lists → let found = found_in runs.new.boxed.value in
-        Answers result found (Ok (point (union_in lists) key.now seqno)) }
+        RunsHoldLists (runs_held h.what) lists → let found = found_in runs.new.boxed.value in
+        AnswersRead result found (Ok (point (union_in lists) key.now seqno)) }
 {
     *entry = tell(&None);
     let Some(mut held) = runs.take(alloc) else {

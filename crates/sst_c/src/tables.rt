@@ -1,11 +1,11 @@
 //! Tables: opening and point reads.
-ghost use Rattle.std.specs.Prelude.{◌≡◌, ◌≢◌, false, IfErr, IfOk, IsSome, IsSomeAnd, List, None};
+ghost use Rattle.std.specs.Prelude.{◌≡◌, ◌≢◌, [], false, IfErr, IfOk, IsSome, IsSomeAnd, List, None};
 ghost use Rattle.std.specs.Prelude.{Ok, Result, Some, is_some, true};
 ghost use Rattle.sst_entries.specs.Error.{Fails, Gives};
 ghost use Rattle.lsm_readers.specs.Words.{Entry, OpenTable, StoresList, fits_told, lift, point};
 ghost use Rattle.lsm_readers.specs.Words.{recovered_told, table_answer};
-ghost use Rattle.sst_c.specs.Codes.{Tells, code_of};
-ghost use Rattle.sst_c.specs.Told.{Answers, found_in, found_of, told_of};
+ghost use Rattle.sst_c.specs.Codes.{TellsCode, TellsFirst, result_code};
+ghost use Rattle.sst_c.specs.Told.{AnswersRead, found_in, found_of, entry_facts};
 ghost use Rattle.sst_c.specs.What.{IsOpenedAs, is_table};
 ghost use Rattle.sst_c.specs.declared.held.Held.{Held as HeldValue};
 ghost use Rattle.sst_c.specs.declared.held.What.TheVariants.{Table as TableOf};
@@ -67,10 +67,10 @@ pub extern "C" fn sst_table_open(
     ensures opened { result ≡ 0 → IsSomeAnd table.new.boxed.value
         (IsOpenedAs file.now global_seqno pin_filter pin_index) }
     ensures told { table.old.boxed.value ≡ None →
-        Tells result (recovered_told file.now global_seqno pin_filter pin_index) }
+        TellsCode result (recovered_told file.now global_seqno pin_filter pin_index) }
     // Bytes that store a list are opened where the highest number fits.
     ensures list { table.old.boxed.value ≡ None → (es : List Entry) → StoresList file.now es →
-        Tells result (fits_told es global_seqno) }
+        TellsCode result (fits_told es global_seqno) }
     ensures left { result ≢ 0 → table.new.boxed.value ≡ table.old.boxed.value }
 {
     if table.is_open() {
@@ -90,7 +90,7 @@ pub(crate) fn keep(
     found: &mut Option<InternalValue>,
     outcome: Result<Option<InternalValue>, Error>,
 ) -> u32
-    ensures code { result ≡ code_of outcome }
+    ensures code { result ≡ result_code outcome }
     ensures found { found.new ≡ found_of outcome }
 {
     match outcome {
@@ -105,15 +105,19 @@ pub(crate) fn keep(
     }
 }
 
-#[tactic(auto, using(crate::proofs::Answering::answers))]
+#[tactic(auto, using(crate::proofs::Answering::reads))]
 fn get(held: &mut Held, key: &[u8], seqno: SeqNo) -> u32
     ensures kept { held.new.what ≡ held.old.what }
     ensures other { is_table held.old.what ≡ false → (result ≡ 102) × (held.new.found ≡ None) }
     ensures told { (t : OpenTable) → held.old.what ≡ TableOf t →
-        Answers result held.new.found (table_answer t key.now seqno).told }
+        AnswersRead result held.new.found (table_answer t key.now seqno).told }
+    ensures early { (t : OpenTable) → held.old.what ≡ TableOf t →
+        TellsFirst result (table_answer t key.now seqno).early }
+    ensures calm { (t : OpenTable) → held.old.what ≡ TableOf t →
+        (table_answer t key.now seqno).loads ≡ [] → result ≡ 0 }
     ensures list { (t : OpenTable) (es : List Entry) → held.old.what ≡ TableOf t →
         StoresList t.bytes es →
-        Answers result held.new.found (Ok (point (lift es t.global_seqno) key.now seqno)) }
+        AnswersRead result held.new.found (Ok (point (lift es t.global_seqno) key.now seqno)) }
 {
     held.found = None;
     match &held.what {
@@ -142,16 +146,22 @@ pub extern "C" fn sst_table_get(
         IsSomeAnd table.new.boxed.value (λ k. k.what ≡ h.what) }
     ensures other { (h : HeldValue) → table.old.boxed.value ≡ Some h → is_table h.what ≡ false →
         (result ≡ 102) × (found_in table.new.boxed.value ≡ None) }
-    ensures entry { entry.new ≡ told_of (found_in table.new.boxed.value) }
+    ensures entry { entry.new ≡ entry_facts (found_in table.new.boxed.value) }
     // Whatever the bytes, it is what the table tells,
     ensures told { (h : HeldValue) (t : OpenTable) → table.old.boxed.value ≡ Some h →
         h.what ≡ TableOf t → let found = found_in table.new.boxed.value in
-        Answers result found (table_answer t key.now seqno).told }
-    // and on bytes that store a list the first match in the list, its numbers lifted.
+        AnswersRead result found (table_answer t key.now seqno).told }
+    // a fault of the first block that is loaded which takes no memory to be found first,
+    ensures early { (h : HeldValue) (t : OpenTable) → table.old.boxed.value ≡ Some h →
+        h.what ≡ TableOf t → TellsFirst result (table_answer t key.now seqno).early }
+    // and where no block is loaded nothing is refused;
+    ensures calm { (h : HeldValue) (t : OpenTable) → table.old.boxed.value ≡ Some h →
+        h.what ≡ TableOf t → (table_answer t key.now seqno).loads ≡ [] → result ≡ 0 }
+    // on bytes that store a list it is the first match in the list, its numbers lifted.
     ensures list { (h : HeldValue) (t : OpenTable) (es : List Entry) →
         table.old.boxed.value ≡ Some h → h.what ≡ TableOf t → StoresList t.bytes es →
         let found = found_in table.new.boxed.value in
-        Answers result found (Ok (point (lift es t.global_seqno) key.now seqno)) }
+        AnswersRead result found (Ok (point (lift es t.global_seqno) key.now seqno)) }
 {
     *entry = tell(&None);
     let Some(mut held) = table.take(alloc) else {

@@ -1,11 +1,12 @@
 //! Verifying a table.
 ghost use Rattle.std.specs.Prelude.{◌≡◌, ◌≢◌, List, None, Some, false, length};
 ghost use Rattle.sst_sections.specs.Sections.{body_of};
-ghost use Rattle.lsm_readers.specs.Verify.{table_found};
+ghost use Rattle.lsm_readers.specs.Findings.{IsFirstFinding};
+ghost use Rattle.lsm_readers.specs.Verify.{table_early, table_found};
 ghost use Rattle.lsm_readers.specs.Words.{Entry, OpenTable, StoresList};
 ghost use Rattle.lsm_readers.specs.declared.verify.Finding.{Finding as FindingValue};
-ghost use Rattle.sst_c.specs.Verify.{VerifyAnswers, detail_of, fault_of, finding_told};
-ghost use Rattle.sst_c.specs.Verify.{no_finding, verified_told};
+ghost use Rattle.sst_c.specs.Verify.{TellsFinding, TellsWrong, VerifyAnswers, detail_of};
+ghost use Rattle.sst_c.specs.Verify.{fault_number, finding_told, no_finding, verified_told};
 ghost use Rattle.sst_c.specs.What.{is_table};
 ghost use Rattle.sst_c.specs.declared.held.Held.{Held as HeldValue};
 ghost use Rattle.sst_c.specs.declared.held.What.TheVariants.{Table as TableOf};
@@ -56,7 +57,7 @@ fn nothing() -> VerifyTold
 }
 
 fn number_of(fault: &Fault) -> u32
-    ensures { result ≡ fault_of fault.now }
+    ensures { result ≡ fault_number fault.now }
 {
     match fault {
         Fault::Unloaded(_) => 1,
@@ -117,6 +118,10 @@ fn verify(table: &Table, told: &mut VerifyTold) -> u32
     requires { told.old ≡ no_finding }
     ensures told { VerifyAnswers result told.new
         (table_found (body_of table.now.bytes) table.now.parts) }
+    ensures early { let body = body_of table.now.bytes in
+        TellsFinding result told.new (table_early body table.now.parts) }
+    ensures first { let body = body_of table.now.bytes in
+        TellsWrong (IsFirstFinding body table.now.parts) result told.new }
     ensures sound { result ≡ 0 → (es : List Entry) × StoresList table.now.bytes es ×
         (told.new.item_count ≡ length es) }
     ensures complete { (es : List Entry) → StoresList table.now.bytes es → result ≢ 107 }
@@ -139,6 +144,10 @@ fn verify_held(held: &Held, told: &mut VerifyTold) -> u32
     ensures other { is_table held.now.what ≡ false → (result ≡ 102) × (told.new ≡ no_finding) }
     ensures told { (t : OpenTable) → held.now.what ≡ TableOf t →
         VerifyAnswers result told.new (table_found (body_of t.bytes) t.parts) }
+    ensures early { (t : OpenTable) → held.now.what ≡ TableOf t →
+        TellsFinding result told.new (table_early (body_of t.bytes) t.parts) }
+    ensures first { (t : OpenTable) → held.now.what ≡ TableOf t →
+        TellsWrong (IsFirstFinding (body_of t.bytes) t.parts) result told.new }
     ensures sound { (t : OpenTable) → held.now.what ≡ TableOf t → result ≡ 0 →
         (es : List Entry) × StoresList t.bytes es × (told.new.item_count ≡ length es) }
     ensures complete { (t : OpenTable) (es : List Entry) → held.now.what ≡ TableOf t →
@@ -164,6 +173,14 @@ pub extern "C" fn sst_table_verify(alloc: Global, table: &mut Handle, told: &mut
     ensures told { (h : HeldValue) (t : OpenTable) → table.old.boxed.value ≡ Some h →
         h.what ≡ TableOf t →
         VerifyAnswers result told.new (table_found (body_of t.bytes) t.parts) }
+    // A fault of the first block that is loaded which takes no memory to be found is told, whatever
+    // memory there is,
+    ensures early { (h : HeldValue) (t : OpenTable) → table.old.boxed.value ≡ Some h →
+        h.what ≡ TableOf t → TellsFinding result told.new (table_early (body_of t.bytes) t.parts) }
+    // and what is told is wrong there, and all that is read before it is sound.
+    ensures first { (h : HeldValue) (t : OpenTable) → table.old.boxed.value ≡ Some h →
+        h.what ≡ TableOf t →
+        TellsWrong (IsFirstFinding (body_of t.bytes) t.parts) result told.new }
     // A table that is verified stores a list, which has as many entries;
     ensures sound { (h : HeldValue) (t : OpenTable) → table.old.boxed.value ≡ Some h →
         h.what ≡ TableOf t → result ≡ 0 →

@@ -7,7 +7,7 @@ ghost use Rattle.sst_entries.specs.declared.value_type.ValueType.{ValueType as K
 ghost use Rattle.lsm_writers.specs.Writing.{Writing as WritingValue, finish_fault, may_be_written};
 ghost use Rattle.lsm_writers.specs.Writing.{written};
 ghost use Rattle.sst_c.specs.Options.{are_usable, writing_told};
-ghost use Rattle.sst_c.specs.What.{are_files, tables_in, writer_in};
+ghost use Rattle.sst_c.specs.What.{are_files, files_held, writer_in};
 ghost use Rattle.sst_c.specs.Writing.{AddsFileOf, FaultTold, TookEntry, kind_told};
 ghost use Rattle.sst_c.specs.declared.held.Held.{Held as HeldValue};
 
@@ -34,7 +34,7 @@ fn new_box(alloc: Global, options: &TableOptions) -> Result<Box<Held>, Error>
     ensures new { IfOk result (λ held. held.value.found ≡ None) }
     ensures writer { IfOk result (λ held.
         (writer_in held.value.what ≡ Some (writing_told options.now))
-        × (tables_in held.value.what ≡ [])) }
+        × (files_held held.value.what ≡ [])) }
     ensures err { IfErr result (λ e. e ≡ OutOfMemory) }
 {
     let held = Held {
@@ -58,7 +58,7 @@ pub extern "C" fn sst_writer_open(alloc: Global, options: &TableOptions, writer:
     ensures memory { writer.old.boxed.value ≡ None → are_usable options.now ≡ true →
         (result ≡ 0) ⊎ (result ≡ 1) }
     ensures opened { result ≡ 0 → IsSomeAnd writer.new.boxed.value (λ h. (h.found ≡ None)
-        × (writer_in h.what ≡ Some (writing_told options.now)) × (tables_in h.what ≡ [])) }
+        × (writer_in h.what ≡ Some (writing_told options.now)) × (files_held h.what ≡ [])) }
     ensures left { result ≢ 0 → writer.new.boxed.value ≡ writer.old.boxed.value }
 {
     if writer.is_open() {
@@ -154,7 +154,7 @@ fn add(held: &mut Held, key: &[u8], seqno: SeqNo, kind: u32, value: &[u8]) -> u3
         kind_told kind ≡ Some k → may_be_written (written w) key.now seqno ≡ true →
         let e = entry key.now value.now seqno k in
         IsSomeAnd (writer_in held.new.what) (TookEntry w e result) }
-    ensures tables { tables_in held.new.what ≡ tables_in held.old.what }
+    ensures tables { files_held held.new.what ≡ files_held held.old.what }
 {
     match &mut held.what {
         What::Files(files) => match &mut files.writer {
@@ -198,7 +198,7 @@ pub extern "C" fn sst_writer_add(
         IsSomeAnd writer.new.boxed.value (λ k.
         IsSomeAnd (writer_in k.what) (TookEntry w e result)) }
     ensures tables { (h : HeldValue) → writer.old.boxed.value ≡ Some h →
-        IsSomeAnd writer.new.boxed.value (λ k. tables_in k.what ≡ tables_in h.what) }
+        IsSomeAnd writer.new.boxed.value (λ k. files_held k.what ≡ files_held h.what) }
 {
     let Some(mut held) = writer.take(alloc) else {
         return CLOSED;
@@ -254,9 +254,9 @@ fn finish(held: &mut Held) -> u32
         writer_in held.new.what ≡ None }
     ensures kind { are_files held.new.what ≡ are_files held.old.what }
     ensures finished { (w : WritingValue) → writer_in held.old.what ≡ Some w → result ≡ 0 →
-        AddsFileOf w (tables_in held.old.what) (tables_in held.new.what) }
+        AddsFileOf w (files_held held.old.what) (files_held held.new.what) }
     ensures refused { (w : WritingValue) → writer_in held.old.what ≡ Some w → result ≢ 0 →
-        tables_in held.new.what ≡ tables_in held.old.what }
+        files_held held.new.what ≡ files_held held.old.what }
 {
     match &mut held.what {
         What::Files(files) => finish_files(files),
@@ -283,10 +283,10 @@ pub extern "C" fn sst_writer_finish(alloc: Global, writer: &mut Handle) -> u32
     // The table is that of all that was written.
     ensures finished { (h : HeldValue) (w : WritingValue) → writer.old.boxed.value ≡ Some h →
         writer_in h.what ≡ Some w → result ≡ 0 → IsSomeAnd writer.new.boxed.value (λ k.
-        AddsFileOf w (tables_in h.what) (tables_in k.what)) }
+        AddsFileOf w (files_held h.what) (files_held k.what)) }
     ensures refused { (h : HeldValue) (w : WritingValue) → writer.old.boxed.value ≡ Some h →
         writer_in h.what ≡ Some w → result ≢ 0 → IsSomeAnd writer.new.boxed.value (λ k.
-        tables_in k.what ≡ tables_in h.what) }
+        files_held k.what ≡ files_held h.what) }
 {
     let Some(mut held) = writer.take(alloc) else {
         return CLOSED;

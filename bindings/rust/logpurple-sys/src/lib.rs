@@ -5,7 +5,7 @@
 #![allow(non_camel_case_types)]
 
 /// The version of the calls that these declarations name.
-pub const SST_VERSION: u32 = 1;
+pub const SST_VERSION: u32 = 2;
 
 pub const SST_NO_MEMORY: u32 = 1;
 pub const SST_CLOSED: u32 = 100;
@@ -140,6 +140,27 @@ extern "C" {
         entry: *mut sst_entry,
     ) -> u32;
     pub fn sst_table_facts(table: *mut sst_handle, facts: *mut sst_facts) -> u32;
+    pub fn sst_table_share(table: *mut sst_handle, other: *mut sst_handle) -> u32;
+    pub fn sst_table_get_many(
+        table: *mut sst_handle,
+        keys: *const u8,
+        keys_len: usize,
+        key_lens: *const u64,
+        key_count: usize,
+        seqno: u64,
+        entries: *mut sst_entry,
+        entry_room: usize,
+        answers: *mut sst_handle,
+    ) -> u32;
+    pub fn sst_answers_lend(answers: *mut sst_handle, index: u64, lent: *mut sst_lent) -> u32;
+    pub fn sst_answers_copy(
+        answers: *mut sst_handle,
+        index: u64,
+        key: *mut u8,
+        key_room: usize,
+        value: *mut u8,
+        value_room: usize,
+    ) -> u32;
     pub fn sst_table_verify(table: *mut sst_handle, verified: *mut sst_verified) -> u32;
 
     pub fn sst_range_open(
@@ -163,6 +184,17 @@ extern "C" {
         seqno: u64,
         entry: *mut sst_entry,
     ) -> u32;
+    pub fn sst_runs_range_open(
+        runs: *mut sst_handle,
+        lower_kind: u32,
+        lower: *const u8,
+        lower_len: usize,
+        upper_kind: u32,
+        upper: *const u8,
+        upper_len: usize,
+        seqno: u64,
+        range: *mut sst_handle,
+    ) -> u32;
 
     pub fn sst_options_default(options: *mut sst_options);
     pub fn sst_writer_open(options: *const sst_options, writer: *mut sst_handle) -> u32;
@@ -177,6 +209,17 @@ extern "C" {
     ) -> u32;
     pub fn sst_writer_finish(writer: *mut sst_handle) -> u32;
 
+    pub fn sst_compact(
+        runs: *mut sst_handle,
+        options: *const sst_options,
+        watermark: u64,
+        evict_tombstones: bool,
+        zero_seqnos: bool,
+        target_size: u64,
+        files: *mut sst_handle,
+        next_id: *mut u64,
+    ) -> u32;
+
     pub fn sst_files_count(files: *mut sst_handle, count: *mut u64) -> u32;
     pub fn sst_files_tell(files: *mut sst_handle, index: u64, told: *mut sst_file) -> u32;
     pub fn sst_files_copy(
@@ -187,4 +230,6 @@ extern "C" {
         room_len: usize,
         count: *mut u64,
     ) -> u32;
+
+    pub fn sst_strerror_copy(code: u32, room: *mut u8, room_len: usize) -> u64;
 }

@@ -98,8 +98,8 @@ refusals! {
     102 OtherKind "the handle holds another kind",
     /// There is less room than a copy needs. No safe call is refused so.
     103 NoRoom "the room is too small",
-    /// The entry does not follow the one before it.
-    104 OutOfOrder "the entry is out of order",
+    /// An entry does not follow the one before it, or a table's greatest key its least.
+    104 OutOfOrder "an entry is out of order",
     /// An option is out of its range.
     105 NoSuch "there is no such number",
     /// Nothing was found. No safe call is refused so: it answers `None`.

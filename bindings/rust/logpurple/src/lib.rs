@@ -1,4 +1,4 @@
-//! Sorted tables of a log-structured store: written, read from both ends, and verified.
+//! Sorted tables of a log-structured store: written, read from both ends, compacted and verified.
 //!
 //! A table is bytes, and each entry has a key, a number, a kind and a value:
 //!
@@ -31,6 +31,8 @@
 #![warn(missing_docs)]
 #![deny(unsafe_op_in_unsafe_fn)]
 
+mod answers;
+mod compact;
 mod entry;
 mod error;
 mod handle;
@@ -40,6 +42,8 @@ mod table;
 mod verify;
 mod writer;
 
+pub use answers::Answers;
+pub use compact::{Compacted, Compaction};
 pub use entry::{
     InternalKey, InternalValue, LentValue, SeqNo, UserKey, UserValue, ValueType, NEWEST,
 };

@@ -1,37 +1,43 @@
-//! Ranges of a table.
+//! Ranges of a table, and of several.
 
 use crate::error::test;
-use crate::handle::Handle;
-use crate::{Error, InternalValue, LentValue, Table};
+use crate::handle::{bound, Handle};
+use crate::{Error, InternalValue, LentValue, Runs, SeqNo, Table};
 use logpurple_sys as sys;
 use std::iter::FusedIterator;
-use std::marker::PhantomData;
 use std::ops::Bound;
 
-/// Reads the entries of a table within bounds, from both ends: by key up, and of one key by number
-/// down, each version. After a refusal nothing more comes, from either end.
+/// Reads entries within bounds, from both ends: by key up, and of one key by number down. Of a
+/// table it reads every version, of runs one of each key. After a refusal nothing more comes, from
+/// either end.
 ///
 /// As an iterator it copies each entry; `next_lent` and `next_back_lent` lend it instead.
 ///
-/// It shares blocks with its table, so it stays on the table's thread:
+/// It has shares of the tables that it reads: these may be closed, and it may go to another thread.
 ///
-/// ```compile_fail,E0277
-/// fn is_send<T: Send>() {}
-/// is_send::<logpurple::Range<'static>>();
 /// ```
-pub struct Range<'t> {
+/// # fn main() -> Result<(), Box<dyn std::error::Error>> {
+/// # let mut writer = logpurple::Writer::new(1)?;
+/// # writer.write(b"a", 2, logpurple::ValueType::Value, b"1")?;
+/// # let table = logpurple::Table::open(writer.finish()?.unwrap())?;
+/// let range = table.iter()?;
+/// drop(table);
+/// assert_eq!(std::thread::spawn(move || range.count()).join().unwrap(), 1);
+/// # Ok(())
+/// # }
+/// ```
+#[derive(Debug)]
+pub struct Range {
     handle: Handle,
     is_over: bool,
-    // A reference to what is not `Sync` is not `Send`, and neither is this.
-    table: PhantomData<&'t Table>,
 }
 
-impl<'t> Range<'t> {
-    pub(crate) fn open<K: AsRef<[u8]>>(
-        table: &'t Table,
+impl Range {
+    pub(crate) fn of_table<K: AsRef<[u8]>>(
+        table: &Table,
         lower: Bound<&K>,
         upper: Bound<&K>,
-    ) -> Result<Range<'t>, Error> {
+    ) -> Result<Range, Error> {
         let handle = Handle::closed();
         let ((lower_kind, lower), (upper_kind, upper)) = (bound(lower), bound(upper));
         // SAFETY: the keys are read during the call alone, and the handle holds nothing.
@@ -47,13 +53,38 @@ impl<'t> Range<'t> {
                 handle.words(),
             )
         })?;
-        Ok(Range { handle, is_over: false, table: PhantomData })
+        Ok(Range { handle, is_over: false })
+    }
+
+    pub(crate) fn of_runs<K: AsRef<[u8]>>(
+        runs: &Runs,
+        lower: Bound<&K>,
+        upper: Bound<&K>,
+        seqno: SeqNo,
+    ) -> Result<Range, Error> {
+        let handle = Handle::closed();
+        let ((lower_kind, lower), (upper_kind, upper)) = (bound(lower), bound(upper));
+        // SAFETY: the keys are read during the call alone, and the handle holds nothing.
+        test(unsafe {
+            sys::sst_runs_range_open(
+                runs.handle.words(),
+                lower_kind,
+                lower.as_ptr(),
+                lower.len(),
+                upper_kind,
+                upper.as_ptr(),
+                upper.len(),
+                seqno,
+                handle.words(),
+            )
+        })?;
+        Ok(Range { handle, is_over: false })
     }
 
     /// The next entry from the front, lent until the range reads again.
     ///
     /// ```compile_fail,E0499
-    /// fn keep(mut range: logpurple::Range<'_>) {
+    /// fn keep(mut range: logpurple::Range) {
     ///     let first = range.next_lent().unwrap();
     ///     let second = range.next_lent().unwrap();
     ///     drop((first, second));
@@ -64,6 +95,14 @@ impl<'t> Range<'t> {
     }
 
     /// The next entry from the back, lent until the range reads again.
+    ///
+    /// ```compile_fail,E0505
+    /// fn keep(mut range: logpurple::Range) {
+    ///     let last = range.next_back_lent().unwrap();
+    ///     drop(range);
+    ///     drop(last);
+    /// }
+    /// ```
     pub fn next_back_lent(&mut self) -> Result<Option<LentValue<'_>>, Error> {
         self.step(true)
     }
@@ -94,7 +133,7 @@ impl<'t> Range<'t> {
     }
 }
 
-impl Iterator for Range<'_> {
+impl Iterator for Range {
     type Item = Result<InternalValue, Error>;
 
     fn next(&mut self) -> Option<Self::Item> {
@@ -102,18 +141,10 @@ impl Iterator for Range<'_> {
     }
 }
 
-impl DoubleEndedIterator for Range<'_> {
+impl DoubleEndedIterator for Range {
     fn next_back(&mut self) -> Option<Self::Item> {
         self.step_copied(true)
     }
 }
 
-impl FusedIterator for Range<'_> {}
-
-fn bound<K: AsRef<[u8]>>(bound: Bound<&K>) -> (u32, &[u8]) {
-    match bound {
-        Bound::Unbounded => (sys::SST_UNBOUNDED, &[]),
-        Bound::Included(key) => (sys::SST_INCLUDED, key.as_ref()),
-        Bound::Excluded(key) => (sys::SST_EXCLUDED, key.as_ref()),
-    }
-}
+impl FusedIterator for Range {}

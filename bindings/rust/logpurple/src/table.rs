@@ -2,30 +2,39 @@
 
 use crate::error::test;
 use crate::handle::{get, Handle};
-use crate::{Error, InternalValue, LentValue, Range, SeqNo, Verified, VerifyError};
+use crate::{Answers, Error, InternalValue, LentValue, Range, SeqNo, Verified, VerifyError};
 use logpurple_sys as sys;
+use std::alloc::{handle_alloc_error, Layout};
 use std::ops::RangeBounds;
 
 /// An opened table.
 ///
-/// It has a copy of its bytes, and shares them with its ranges alone. These borrow it, so it can go
-/// to another thread only once none is left, and nothing that it shares stays behind: it is `Send`.
-/// Reads keep in it what they found, so two threads cannot read by one table: it is not `Sync`.
+/// It has a copy of its bytes, and shares them with its clones, its ranges and the runs that it was
+/// pushed to. Threads that use different ones of these at once need nothing between them, as the
+/// header says: a table's bytes and blocks are never written, shares are counted by atomic steps,
+/// and so is noted which blocks were compared. So it is `Send`, and each thread reads by a clone:
+///
+/// ```
+/// use logpurple::{Table, ValueType, Writer, NEWEST};
+///
+/// # fn main() -> Result<(), Box<dyn std::error::Error>> {
+/// let mut writer = Writer::new(1)?;
+/// writer.write(b"apple", 2, ValueType::Value, b"red")?;
+/// let table = Table::open(writer.finish()?.unwrap())?;
+/// let other = table.clone();
+/// let reader = std::thread::spawn(move || other.get(b"apple", NEWEST));
+/// assert_eq!(table.get(b"apple", NEWEST)?, reader.join().unwrap()?);
+/// # Ok(())
+/// # }
+/// ```
+///
+/// Reads keep in it what they found, so two threads cannot read by one: it is not `Sync`.
 ///
 /// ```compile_fail,E0277
 /// fn is_sync<T: Sync>() {}
 /// is_sync::<logpurple::Table>();
 /// ```
-///
-/// A table cannot leave a thread while a range of it stays there:
-///
-/// ```compile_fail,E0505
-/// fn leave(table: logpurple::Table) {
-///     let range = table.iter().unwrap();
-///     std::thread::spawn(move || drop(table));
-///     drop(range);
-/// }
-/// ```
+#[derive(Debug)]
 pub struct Table {
     pub(crate) handle: Handle,
 }
@@ -122,18 +131,52 @@ impl Table {
         unsafe { self.handle.lend(told) }
     }
 
+    /// Finds of each of some keys what `get` finds, in their order, and copies it. The keys may stand
+    /// in any order and repeat; a block in which several stand is loaded once for them. Refused as
+    /// the read of the first key is that is refused, and for want of memory.
+    ///
+    /// ```
+    /// # use logpurple::{Table, ValueType, Writer, NEWEST};
+    /// # fn main() -> Result<(), Box<dyn std::error::Error>> {
+    /// # let mut writer = Writer::new(1)?;
+    /// # writer.write(b"apple", 2, ValueType::Value, b"red")?;
+    /// # let table = Table::open(writer.finish()?.unwrap())?;
+    /// let found = table.get_many(&["pear", "apple"], NEWEST)?;
+    /// assert!(found[0].is_none());
+    /// assert_eq!(found[1].as_ref().unwrap().value, b"red");
+    /// # Ok(())
+    /// # }
+    /// ```
+    pub fn get_many<K: AsRef<[u8]>>(
+        &self,
+        keys: &[K],
+        seqno: SeqNo,
+    ) -> Result<Vec<Option<InternalValue>>, Error> {
+        self.get_many_lent(keys, seqno)?.to_owned()
+    }
+
+    /// As `get_many`, and lends what it found, for as long as the answers are there. The table may
+    /// be used again meanwhile.
+    pub fn get_many_lent<K: AsRef<[u8]>>(
+        &self,
+        keys: &[K],
+        seqno: SeqNo,
+    ) -> Result<Answers, Error> {
+        Answers::of(self, keys, seqno)
+    }
+
     /// The entries whose keys lie within bounds, each version of a key, from both ends. Nothing is
     /// loaded yet.
-    pub fn range<K, R>(&self, bounds: R) -> Result<Range<'_>, Error>
+    pub fn range<K, R>(&self, bounds: R) -> Result<Range, Error>
     where
         K: AsRef<[u8]>,
         R: RangeBounds<K>,
     {
-        Range::open(self, bounds.start_bound(), bounds.end_bound())
+        Range::of_table(self, bounds.start_bound(), bounds.end_bound())
     }
 
     /// All entries, from both ends.
-    pub fn iter(&self) -> Result<Range<'_>, Error> {
+    pub fn iter(&self) -> Result<Range, Error> {
         self.range::<&[u8], _>(..)
     }
 
@@ -158,6 +201,15 @@ impl Table {
         self.facts().global_seqno
     }
 
+    /// The same table once more, as `clone` makes it: no bytes are copied. Refused for want of
+    /// memory.
+    pub fn share(&self) -> Result<Table, Error> {
+        let handle = Handle::closed();
+        // SAFETY: both are references of this call, and the handle holds nothing.
+        test(unsafe { sys::sst_table_share(self.handle.words(), handle.words()) })?;
+        Ok(Table { handle })
+    }
+
     fn facts(&self) -> sys::sst_facts {
         let mut facts = sys::sst_facts::default();
         // SAFETY: both are references of this call.
@@ -174,5 +226,17 @@ impl Table {
         // SAFETY: both are references of this call.
         let code = unsafe { sys::sst_table_verify(self.handle.words(), &mut told) };
         Verified::of(code, &told)
+    }
+}
+
+impl Clone for Table {
+    /// A share of the same bytes, of which none are copied. Where there is no memory for it the
+    /// program ends, as with any clone; [`Table::share`] is refused instead.
+    fn clone(&self) -> Table {
+        match self.share() {
+            Ok(table) => table,
+            Err(Error::OutOfMemory) => handle_alloc_error(Layout::new::<sys::sst_handle>()),
+            Err(error) => panic!("a table that is open is shared: {error}"),
+        }
     }
 }

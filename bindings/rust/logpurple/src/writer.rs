@@ -1,7 +1,7 @@
 //! Writing a table.
 
 use crate::error::test;
-use crate::handle::Handle;
+use crate::handle::{require_version, room, Handle};
 use crate::{Error, InternalValue, SeqNo, ValueType};
 use logpurple_sys as sys;
 
@@ -32,6 +32,7 @@ impl Default for Options {
     /// Blocks of 4,096 bytes, an index and a filter in one block each, ten bits a key; id, moment
     /// and level are 0.
     fn default() -> Options {
+        require_version();
         let mut told = sys::sst_options::default();
         // SAFETY: it is a reference of this call.
         unsafe { sys::sst_options_default(&mut told) };
@@ -53,7 +54,15 @@ impl Options {
     /// Begins to write a table. Refused with `NoSuch` where an option is out of its range, and for
     /// want of memory.
     pub fn open(&self) -> Result<Writer, Error> {
-        let asked = sys::sst_options {
+        let asked = self.told();
+        let handle = Handle::closed();
+        // SAFETY: the options are read during the call alone, and the handle holds nothing.
+        test(unsafe { sys::sst_writer_open(&asked, handle.words()) })?;
+        Ok(Writer { handle })
+    }
+
+    pub(crate) fn told(&self) -> sys::sst_options {
+        sys::sst_options {
             id: self.id,
             created_at: self.created_at,
             level: self.level.into(),
@@ -64,15 +73,12 @@ impl Options {
             filter_partition_size: self.filter_partition_size,
             filter_bits_per_key: self.filter_bits_per_key,
             unused: 0,
-        };
-        let handle = Handle::closed();
-        // SAFETY: the options are read during the call alone, and the handle holds nothing.
-        test(unsafe { sys::sst_writer_open(&asked, handle.words()) })?;
-        Ok(Writer { handle })
+        }
     }
 }
 
 /// Writes a table. Entries come by key up, and of one key by number down.
+#[derive(Debug)]
 pub struct Writer {
     handle: Handle,
 }
@@ -134,32 +140,37 @@ impl Writer {
     /// Finishes the table; `None` where nothing was written. Where it is refused, what was written
     /// is given up.
     pub fn finish(self) -> Result<Option<FinishedTable>, Error> {
-        let mut count = 0;
-        // SAFETY: both are references of this call.
+        // SAFETY: it is a reference of this call.
         test(unsafe { sys::sst_writer_finish(self.handle.words()) })?;
-        test(unsafe { sys::sst_files_count(self.handle.words(), &mut count) })?;
-        if count == 0 {
-            return Ok(None);
-        }
-        let mut told = sys::sst_file::default();
-        // SAFETY: as above.
-        test(unsafe { sys::sst_files_tell(self.handle.words(), 0, &mut told) })?;
-        let bytes = self.bytes_of(told.len)?;
-        Ok(Some(FinishedTable { id: told.id, checksum: told.checksum, bytes }))
+        Ok(finished_tables(&self.handle)?.pop())
     }
+}
 
-    // The bytes of the finished table, which has so many.
-    fn bytes_of(&self, len: u64) -> Result<Vec<u8>, Error> {
-        let len = usize::try_from(len).map_err(|_| Error::OutOfMemory)?;
-        let mut bytes = Vec::new();
-        bytes.try_reserve_exact(len).map_err(|_| Error::OutOfMemory)?;
-        bytes.resize(len, 0);
-        let mut count = 0;
-        // SAFETY: the room is so long, and all are references of this call.
-        test(unsafe {
-            sys::sst_files_copy(self.handle.words(), 0, 0, bytes.as_mut_ptr(), len, &mut count)
-        })?;
-        bytes.truncate(count as usize);
-        Ok(bytes)
+/// Copies of all finished tables that a handle holds.
+pub(crate) fn finished_tables(files: &Handle) -> Result<Vec<FinishedTable>, Error> {
+    let mut count = 0;
+    // SAFETY: both are references of this call.
+    test(unsafe { sys::sst_files_count(files.words(), &mut count) })?;
+    let mut tables = Vec::new();
+    for place in 0..count {
+        tables.try_reserve(1).map_err(|_| Error::OutOfMemory)?;
+        tables.push(finished_table(files, place)?);
     }
+    Ok(tables)
+}
+
+fn finished_table(files: &Handle, place: u64) -> Result<FinishedTable, Error> {
+    let mut told = sys::sst_file::default();
+    // SAFETY: both are references of this call.
+    test(unsafe { sys::sst_files_tell(files.words(), place, &mut told) })?;
+    let len = usize::try_from(told.len).map_err(|_| Error::OutOfMemory)?;
+    let mut bytes: Vec<u8> = room(len)?;
+    let mut count = 0;
+    // SAFETY: there is so much room, and all are references of this call.
+    test(unsafe {
+        sys::sst_files_copy(files.words(), place, 0, bytes.as_mut_ptr(), len, &mut count)
+    })?;
+    // SAFETY: so many bytes were copied, and no more than there is room for.
+    unsafe { bytes.set_len(count as usize) };
+    Ok(FinishedTable { id: told.id, checksum: told.checksum, bytes })
 }

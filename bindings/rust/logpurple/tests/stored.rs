@@ -3,8 +3,9 @@
 
 mod common;
 
-use common::write;
-use logpurple::{InternalValue, Options, Table, ValueType};
+use common::{collect, kept, seen, write, Entries};
+use logpurple::{Compaction, InternalValue, Options, Runs, Table, ValueType, NEWEST};
+use std::cmp::Reverse;
 use std::fs;
 
 /// A stored table: its bytes, and where they are told its entries and what it was written with.
@@ -72,6 +73,28 @@ fn stored() -> Vec<Stored> {
     tables
 }
 
+fn entries_of(items: &[InternalValue]) -> Entries {
+    let key_of = |item: &InternalValue| (item.key.user_key.clone(), Reverse(item.key.seqno));
+    let entry_of = |item: &InternalValue| (item.key.value_type, item.value.clone());
+    items.iter().map(|item| (key_of(item), entry_of(item))).collect()
+}
+
+/// What runs of some entries read, and what is kept of them.
+fn several_are_read(runs: Runs, entries: &Entries) {
+    for seqno in [1, 5, NEWEST] {
+        assert_eq!(collect(runs.iter(seqno).unwrap()), seen(entries, seqno));
+    }
+    for (watermark, evict_tombstones, zero_seqnos) in
+        [(0, false, false), (7, true, false), (NEWEST, true, true)]
+    {
+        let by = Compaction { watermark, evict_tombstones, zero_seqnos, ..Compaction::default() };
+        let tables = runs.compact(&by).unwrap().tables.into_iter();
+        let written: Vec<_> =
+            tables.flat_map(|table| collect(Table::open(table).unwrap().iter().unwrap())).collect();
+        assert_eq!(written, kept(entries, &by));
+    }
+}
+
 #[test]
 fn stored_tables_are_read() {
     let tables = stored();
@@ -87,6 +110,12 @@ fn stored_tables_are_read() {
             let found = table.get(&item.key.user_key, item.key.seqno + 1).unwrap();
             assert_eq!(found.as_ref(), Some(item));
         }
+        let keys: Vec<_> = read.iter().map(|item| item.key.user_key.clone()).collect();
+        for seqno in [1, 5, NEWEST] {
+            let singly = keys.iter().map(|key| table.get(key, seqno).unwrap());
+            assert!(table.get_many(&keys, seqno).unwrap().into_iter().eq(singly));
+        }
+        several_are_read(Runs::from_tables([table]).unwrap(), &entries_of(&read));
         if stored.options.is_some() {
             assert_eq!(read, stored.items);
         }

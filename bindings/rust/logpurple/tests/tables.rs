@@ -2,36 +2,29 @@
 
 mod common;
 
-use common::{items, keys, newest, random_entries, write, Entries};
+use common::{collect, items, keys, newest, random_entries, small, write};
 use logpurple::{
-    Error, InternalValue, OpenOptions, Options, Runs, Table, ValueType, VerifyError, Writer, NEWEST,
+    Compaction, Error, InternalValue, OpenOptions, Options, Runs, Table, ValueType, VerifyError,
+    Writer, NEWEST,
 };
-use std::cmp::Reverse;
 use std::ops::Bound;
-use std::thread;
-
-fn collect<I>(range: I) -> Vec<InternalValue>
-where
-    I: Iterator<Item = Result<InternalValue, Error>>,
-{
-    range.map(Result::unwrap).collect()
-}
-
-/// Small blocks, with and without partitions.
-fn small(seed: u64) -> Options {
-    Options {
-        id: seed,
-        data_block_size: 64,
-        data_block_hash_ratio: 500 * (seed as u32 % 3),
-        index_partition_size: 100 * (seed as u32 % 2),
-        filter_partition_size: 50 * (seed as u32 / 2 % 2),
-        ..Options::default()
-    }
-}
 
 #[test]
-fn the_version_is_that_of_the_declarations() {
+fn the_declarations_are_those_of_the_header() {
     assert_eq!(logpurple::version(), logpurple_sys::SST_VERSION);
+    let header = include_str!("../../../../include/sst.h");
+    assert!(header.contains(&format!("#define SST_VERSION {}\n", logpurple_sys::SST_VERSION)));
+    let declared = include_str!("../../logpurple-sys/src/lib.rs");
+    let calls = header.lines().filter_map(|line| {
+        let call = line.strip_prefix("uint32_t ").or(line.strip_prefix("void "));
+        call.or(line.strip_prefix("uint64_t "))?.split('(').next()
+    });
+    let mut count = 0;
+    for call in calls {
+        assert!(declared.contains(&format!("pub fn {call}(")), "{call}");
+        count += 1;
+    }
+    assert!(count > 25);
 }
 
 #[test]
@@ -49,6 +42,50 @@ fn random_tables_answer_as_a_map_does() {
             }
         }
     }
+}
+
+#[test]
+fn many_keys_are_read_as_each_is() {
+    for seed in 0..6 {
+        let entries = random_entries(seed, 300);
+        let table = Table::open(write(&small(seed), &items(&entries))).unwrap();
+        let mut keys = keys(&entries);
+        keys.reverse();
+        keys.extend_from_within(3..9);
+        for seqno in (0..11).chain([NEWEST]) {
+            let expected: Vec<_> = keys.iter().map(|key| newest(&entries, key, seqno)).collect();
+            assert_eq!(table.get_many(&keys, seqno).unwrap(), expected);
+            let answers = table.get_many_lent(&keys, seqno).unwrap();
+            drop(table.get(b"a", seqno).unwrap());
+            let lent: Vec<_> = answers.iter().collect();
+            assert_eq!((lent.len(), answers.len()), (keys.len(), keys.len()));
+            for (lent, expected) in lent.into_iter().zip(expected) {
+                assert_eq!(lent.map(|lent| lent.to_owned().unwrap()), expected);
+            }
+            assert!(answers.get(keys.len()).is_none() && answers.get(usize::MAX).is_none());
+        }
+        assert_eq!(table.get_many::<&[u8]>(&[], NEWEST).unwrap(), []);
+        assert!(table.get_many_lent::<&[u8]>(&[], NEWEST).unwrap().is_empty());
+    }
+}
+
+#[test]
+fn keys_and_values_may_be_long_or_empty() {
+    let (longest, value) = (vec![b'k'; 65535], vec![b'v'; 1 << 20]);
+    let mut writer = Writer::new(1).unwrap();
+    writer.write(b"", 2, ValueType::Value, b"").unwrap();
+    writer.write(b"", 1, ValueType::Value, b"empty").unwrap();
+    writer.write(b"\0", 1, ValueType::Value, b"\0\0").unwrap();
+    writer.write(&longest, 0, ValueType::Value, &value).unwrap();
+    let table = Table::open(writer.finish().unwrap().unwrap()).unwrap();
+    let get = |key: &[u8], seqno| table.get(key, seqno).unwrap().map(|item| item.value);
+    assert_eq!(get(b"", NEWEST), Some(vec![]));
+    assert_eq!(get(b"", 2), Some(b"empty".to_vec()));
+    assert_eq!(get(b"\0", NEWEST), Some(b"\0\0".to_vec()));
+    assert_eq!(get(&longest, NEWEST), Some(value));
+    assert_eq!(get(&[b'k'; 65536], NEWEST), None);
+    assert_eq!(table.range::<&[u8], _>(..=&longest[..]).unwrap().count(), 4);
+    assert_eq!(table.verify().unwrap().item_count, 4);
 }
 
 #[test]
@@ -118,30 +155,6 @@ fn is_within(key: &[u8], lower: Bound<&[u8]>, upper: Bound<&[u8]>) -> bool {
 }
 
 #[test]
-fn the_newest_of_several_tables_is_found() {
-    let older = random_entries(9, 200);
-    let newer: Entries = random_entries(10, 200)
-        .into_iter()
-        .map(|((key, Reverse(seqno)), entry)| ((key, Reverse(seqno + 10)), entry))
-        .collect();
-    let tables =
-        [&newer, &older].map(|entries| Table::open(write(&small(2), &items(entries))).unwrap());
-    let mut runs = Runs::from_tables(tables).unwrap();
-    let both: Entries = newer.iter().chain(&older).map(|(k, e)| (k.clone(), e.clone())).collect();
-    for key in keys(&both) {
-        for seqno in (0..21).chain([NEWEST]) {
-            let expected = newest(&both, &key, seqno);
-            assert_eq!(runs.get(&key, seqno).unwrap(), expected);
-            let lent = runs.get_lent(&key, seqno).unwrap();
-            assert_eq!(lent.map(|lent| lent.to_owned().unwrap()), expected);
-        }
-    }
-    assert_eq!(collect(runs.tables()[1].iter().unwrap()), items(&older));
-    let tables = runs.into_tables();
-    assert_eq!(collect(tables[0].iter().unwrap()), items(&newer));
-}
-
-#[test]
 fn a_table_says_of_itself_what_was_written() {
     let options = Options { id: 42, level: 3, ..Options::default() };
     let written = write(&options, &items(&random_entries(11, 100)));
@@ -154,6 +167,55 @@ fn a_table_says_of_itself_what_was_written() {
     assert_eq!(table.global_seqno(), 100);
     assert!(table.iter().unwrap().all(|item| item.unwrap().key.seqno > 100));
 }
+
+/// The library has a sentence for each refusal, and this crate the same.
+#[test]
+fn each_refusal_has_the_sentence_of_the_library() {
+    for error in KNOWN {
+        let mut text = [0; 100];
+        // SAFETY: there is so much room.
+        let len =
+            unsafe { logpurple_sys::sst_strerror_copy(error.number(), text.as_mut_ptr(), 100) };
+        assert_eq!(error.to_string().as_bytes(), &text[..len as usize]);
+    }
+    let numbers: Vec<_> = KNOWN.iter().map(Error::number).collect();
+    assert_eq!(numbers, (1..=24).chain(100..=107).collect::<Vec<_>>());
+}
+
+const KNOWN: [Error; 32] = [
+    Error::OutOfMemory,
+    Error::Truncated,
+    Error::InvalidHeader,
+    Error::InvalidTag,
+    Error::ChecksumMismatch,
+    Error::InvalidBlock,
+    Error::KeyTooLong,
+    Error::ValueTooLong,
+    Error::BlockTooLarge,
+    Error::SectionTooLarge,
+    Error::InvalidTrailer,
+    Error::MissingSection,
+    Error::MetaKeyMissing,
+    Error::InvalidMetaValue,
+    Error::UnsupportedTableVersion,
+    Error::UnsupportedHashType,
+    Error::UnsupportedChecksumType,
+    Error::UnsupportedIndexInterval,
+    Error::UnsupportedCompression,
+    Error::GlobalSeqNoTooLarge,
+    Error::SeqNoOverflow,
+    Error::TableIdsSpent,
+    Error::WriterFailed,
+    Error::Source,
+    Error::Closed,
+    Error::AlreadyOpen,
+    Error::OtherKind,
+    Error::NoRoom,
+    Error::OutOfOrder,
+    Error::NoSuch,
+    Error::Nothing,
+    Error::Faulty,
+];
 
 #[test]
 fn each_refusal_is_told() {
@@ -192,10 +254,18 @@ fn damage_is_refused_or_found() {
                 continue;
             }
         };
+        let keys: Vec<_> = written.iter().map(|item| item.key.user_key.clone()).collect();
+        let many = table.get_many(&keys, NEWEST);
+        let singly: Result<Vec<_>, _> = keys.iter().map(|key| table.get(key, NEWEST)).collect();
+        let several = Runs::from_tables([table.clone()]).and_then(|runs| {
+            runs.compact(&Compaction::default())?;
+            runs.iter(NEWEST)?.collect::<Result<Vec<_>, _>>()
+        });
         let read: Result<Vec<_>, _> = table.iter().unwrap().collect();
         let back: Result<Vec<_>, _> = table.iter().unwrap().rev().collect();
         match table.verify() {
             Ok(_) => {
+                assert!(several.is_ok() && many == singly);
                 assert_eq!((read, back.map(|b| b.len())), (Ok(written.clone()), Ok(written.len())))
             }
             Err(VerifyError::Found(_)) => found += 1,
@@ -215,28 +285,4 @@ fn a_range_ends_at_damage_from_both_ends() {
     assert!(range.next_back().unwrap().is_ok());
     assert_eq!(range.next().unwrap(), Err(Error::ChecksumMismatch));
     assert!(range.next().is_none() && range.next_back().is_none());
-}
-
-/// Tables, writers and runs go from thread to thread, each with all that it shares something with.
-#[test]
-fn tables_go_to_other_threads() {
-    let entries = random_entries(14, 200);
-    let file = write(&small(3), &items(&entries));
-    let opened: Vec<_> = (0..4).map(|_| Table::open(&file).unwrap()).collect();
-    let readers: Vec<_> = opened
-        .into_iter()
-        .map(|table| {
-            assert!(table.iter().unwrap().next().unwrap().is_ok());
-            let expected = items(&entries);
-            thread::spawn(move || {
-                assert_eq!(collect(table.iter().unwrap()), expected);
-                Runs::from_tables([table]).unwrap()
-            })
-        })
-        .collect();
-    for reader in readers {
-        let runs = reader.join().unwrap();
-        let key = b"a".as_slice();
-        assert_eq!(runs.get(key, NEWEST).unwrap(), newest(&entries, key, NEWEST));
-    }
 }

@@ -1,7 +1,7 @@
 //! What the tests share: lists of entries, and tables of them.
 #![allow(dead_code)]
 
-use logpurple::{FinishedTable, InternalValue, Options, SeqNo, ValueType};
+use logpurple::{Compaction, Error, FinishedTable, InternalValue, Options, SeqNo, ValueType};
 use std::cmp::Reverse;
 use std::collections::BTreeMap;
 
@@ -30,16 +30,22 @@ pub type Entries = BTreeMap<(Vec<u8>, Reverse<SeqNo>), (ValueType, Vec<u8>)>;
 
 /// Random versions of few keys, in the order of a table.
 pub fn random_entries(seed: u64, count: usize) -> Entries {
+    spaced_entries(seed, count, 0, 1)
+}
+
+/// The same with numbers above one, that are so far apart.
+pub fn spaced_entries(seed: u64, count: usize, above: SeqNo, step: SeqNo) -> Entries {
     let mut dice = Dice::new(seed);
     let mut entries = Entries::new();
     for _ in 0..count {
         let key = dice.bytes(b"abc\0", 5);
-        let entry = match dice.below(4) {
+        let entry = match dice.below(6) {
             0 => (ValueType::Tombstone, Vec::new()),
-            1 => (ValueType::Indirection, dice.bytes(b"xyz\0", 4)),
+            1 => (ValueType::WeakTombstone, Vec::new()),
+            2 => (ValueType::Indirection, dice.bytes(b"xyz\0", 4)),
             _ => (ValueType::Value, dice.bytes(b"xyz\0", 4)),
         };
-        entries.insert((key, Reverse(1 + dice.below(9))), entry);
+        entries.insert((key, Reverse(above + step * (1 + dice.below(9)))), entry);
     }
     entries
 }
@@ -60,6 +66,65 @@ pub fn newest(entries: &Entries, key: &[u8], seqno: SeqNo) -> Option<InternalVal
     let (found, entry) = entries.range(from..).next()?;
     (found.0 == key)
         .then(|| InternalValue::from_components(key, entry.1.clone(), found.1 .0, entry.0))
+}
+
+/// Small blocks, with and without partitions.
+pub fn small(seed: u64) -> Options {
+    Options {
+        id: seed,
+        data_block_size: 64,
+        data_block_hash_ratio: 500 * (seed as u32 % 3),
+        index_partition_size: 100 * (seed as u32 % 2),
+        filter_partition_size: 50 * (seed as u32 / 2 % 2),
+        ..Options::default()
+    }
+}
+
+pub fn collect<I>(range: I) -> Vec<InternalValue>
+where
+    I: Iterator<Item = Result<InternalValue, Error>>,
+{
+    range.map(Result::unwrap).collect()
+}
+
+/// Of each key the newest version below a number, in order.
+pub fn seen(entries: &Entries, seqno: SeqNo) -> Vec<InternalValue> {
+    let mut found = Entries::new();
+    let mut last = None;
+    for ((key, number), entry) in entries {
+        if number.0 < seqno && last != Some(key) {
+            found.insert((key.clone(), *number), entry.clone());
+            last = Some(key);
+        }
+    }
+    items(&found)
+}
+
+/// What a compaction keeps of entries.
+pub fn kept(entries: &Entries, by: &Compaction) -> Vec<InternalValue> {
+    let mut of_keys: BTreeMap<Vec<u8>, Vec<InternalValue>> = BTreeMap::new();
+    for item in items(entries) {
+        of_keys.entry(item.key.user_key.clone()).or_default().push(item);
+    }
+    of_keys.values().flat_map(|versions| kept_of_key(versions, by)).collect()
+}
+
+fn kept_of_key(versions: &[InternalValue], by: &Compaction) -> Vec<InternalValue> {
+    let cut = versions.iter().position(|item| item.key.seqno < by.watermark);
+    let count = cut.map_or(versions.len(), |cut| cut + 1);
+    let (heads, older) = versions.split_at(count);
+    let last = heads[count - 1].key.value_type;
+    let goes = match (last, older.first()) {
+        (ValueType::WeakTombstone, Some(hidden)) => hidden.key.value_type == ValueType::Value,
+        _ => by.evict_tombstones && last.is_tombstone(),
+    };
+    let mut kept = heads[..count - usize::from(goes)].to_vec();
+    for item in &mut kept {
+        if by.zero_seqnos && item.key.seqno < by.watermark {
+            item.key.seqno = 0;
+        }
+    }
+    kept
 }
 
 pub fn write(options: &Options, items: &[InternalValue]) -> FinishedTable {

@@ -8,3 +8,9 @@ returns-clause-complete c h t es same is stores =
     let one = same_held c.args.table.now.boxed.value c.in-Some.held.value h c.in-Some.ensures.taken same in
     let lent = ap (λ (x : Held). x.what) (c.deref.ensures ∙ one) in
     c.verify_held-code.ensures.complete t es (lent ∙ is) stores
+
+pub returns-clause-early : goal.returns-clause-early
+returns-clause-early c h t same is =
+    let one = same_held c.args.table.now.boxed.value c.in-Some.held.value h c.in-Some.ensures.taken same in
+    let lent = ap (λ (x : Held). x.what) (c.deref.ensures ∙ one) in
+    c.verify_held-code.ensures.early t (lent ∙ is)

@@ -6,3 +6,9 @@ pub returns-in-Err-Found-clause-complete : goal.returns-in-Err-Found-clause-comp
 returns-in-Err-Found-clause-complete c es stores same =
     let found = c.in-Err-Found in
     found_is_no_memory found.finding (sym found.field-0-is ∙ found.ensures.complete es stores)
+
+-- what is found is the first that is wrong
+pub returns-in-Err-Found-clause-first : goal.returns-in-Err-Found-clause-first
+returns-in-Err-Found-clause-first c code =
+    let found = c.in-Err-Found in
+    (found.finding, c.tell_finding.ensures, found.ensures.first found.finding found.field-0-is)

@@ -1,0 +1,421 @@
+"""Tables, and what is read of one and of several."""
+
+import array
+import os
+from typing import Iterable, Iterator, List, Optional, Tuple, Type, TypeVar, Union
+
+from . import _calls
+from ._calls import byref, copied
+from ._errors import Closed, Faulty, of, test
+from ._held import Held, entry_of, number, plain
+from ._told import (NEWEST, Entry, Facts, Fault, Finding, Kind, Section, Verified)
+
+#: What has bytes.
+BytesLike = Union[bytes, bytearray, memoryview]
+
+_Default = TypeVar("_Default")
+_SomeTable = TypeVar("_SomeTable", bound="Table")
+_DELETIONS = (int(Kind.TOMBSTONE), int(Kind.WEAK_TOMBSTONE))
+
+
+class Entries(Held):
+    """Reads entries one by one. It has a share of what it reads, which may be closed meanwhile.
+    Where it is refused nothing more comes.
+
+    >>> writer = Writer()
+    >>> for key in (b"a", b"b", b"c"):
+    ...     writer.add(key, b"")
+    >>> entries = Table.open(writer.finish()).entries()
+    >>> next(entries).key
+    b'a'
+    >>> entries.take(reverse=True).key
+    b'c'
+    >>> [entry.key for entry in entries]
+    [b'b']
+    """
+
+    def __init__(self, reverse: bool = False) -> None:
+        super().__init__()
+        self._reverse = bool(reverse)
+        self._is_over = False
+
+    def take(self, reverse: bool = False) -> Optional[Entry]:
+        """The next entry from the front or, in reverse, from the back; `None` at the end."""
+        reverse = bool(reverse)
+        with self._turn:
+            if self._is_over:
+                return None
+            # Where this is left by an exception, what was taken is lost: so nothing more comes.
+            self._is_over = True
+            code = _calls.range_next(self._ref, reverse, self._told_ref)
+            self._is_over = code != Closed.code
+            test(code)
+            found = self._found()
+            if found is None:
+                _calls.close(self._ref)
+            else:
+                self._is_over = False
+            return found
+
+    def __iter__(self) -> "Entries":
+        return self
+
+    def __next__(self) -> Entry:
+        found = self.take(self._reverse)
+        if found is None:
+            raise StopIteration
+        return found
+
+
+# The bounds of a range as a call takes them: from the lower one on, and below the upper one.
+def _bounds(lower: Optional[BytesLike], upper: Optional[BytesLike]):
+    low = b"" if lower is None else plain(lower)
+    high = b"" if upper is None else plain(upper)
+    return (0 if lower is None else 1, low, len(low), 0 if upper is None else 2, high, len(high))
+
+
+# Keys and values of what a reader at a number sees, of entries in order.
+def _shown(entries: Entries, at: int, reverse: bool) -> Iterator[Tuple[bytes, bytes]]:
+    newest: Optional[Entry] = None
+    with entries:
+        for entry in entries:
+            if entry.seqno >= at:
+                continue
+            if newest is not None and entry.key != newest.key:
+                if not newest.kind.is_deletion:
+                    yield newest.key, newest.value
+                newest = None
+            if newest is None or reverse:
+                newest = entry
+    if newest is not None and not newest.kind.is_deletion:
+        yield newest.key, newest.value
+
+
+class _Read(Held):
+    """What is read by keys."""
+
+    _get = None
+
+    def entry(self, key: BytesLike, at: int = NEWEST) -> Optional[Entry]:
+        """The newest version of a key that is numbered below `at`, a deletion too.
+
+        >>> writer = Writer()
+        >>> writer.delete(b"a", seqno=7)
+        >>> table = Table.open(writer.finish())
+        >>> table.entry(b"a").kind.name, table.entry(b"a", at=7), Runs(table).entry(b"b")
+        ('TOMBSTONE', None, None)
+        """
+        key, at = plain(key), number(at)
+        with self._turn:
+            test(self._get(self._ref, key, len(key), at, self._told_ref))
+            return self._found()
+
+    def get(self, key: BytesLike, default: Optional[_Default] = None,
+            at: int = NEWEST) -> Union[bytes, Optional[_Default]]:
+        """The value of a key as a reader at a number sees it; `default` where it has none.
+
+        >>> writer = Writer()
+        >>> writer.add(b"a", b"1", seqno=4)
+        >>> table = Table.open(writer.finish())
+        >>> table.get(b"a"), table.get(b"a", at=4), Runs(table).get(b"b", b"none")
+        (b'1', None, b'none')
+        """
+        key, at = plain(key), number(at)
+        told, lent = self._told, self._lent
+        with self._turn:
+            test(self._get(self._ref, key, len(key), at, self._told_ref))
+            kind = told.kind
+            if kind == 0 or kind in _DELETIONS:
+                return default
+            test(_calls.found_lend(self._ref, self._lent_ref))
+            return copied(lent.value, lent.value_len)
+
+    def entries(self, lower: Optional[BytesLike] = None, upper: Optional[BytesLike] = None,
+                reverse: bool = False) -> Entries:
+        raise NotImplementedError
+
+    def range(self, lower: Optional[BytesLike] = None, upper: Optional[BytesLike] = None,
+              reverse: bool = False, at: int = NEWEST) -> Iterator[Tuple[bytes, bytes]]:
+        raise NotImplementedError
+
+    def __getitem__(self, key: BytesLike) -> bytes:
+        found = self.get(key)
+        if found is None:
+            raise KeyError(key)
+        return found
+
+    def __contains__(self, key: BytesLike) -> bool:
+        return self.get(key) is not None
+
+    def __iter__(self) -> Iterator[bytes]:
+        return (key for key, _ in self.range())
+
+
+class Table(_Read):
+    """An opened table.
+
+    >>> writer = Writer()
+    >>> writer.add(b"a", b"1")
+    >>> with Table.open(writer.finish()) as table:
+    ...     len(table), list(table), dict(table.range())
+    (1, [b'a'], {b'a': b'1'})
+    """
+
+    _get = staticmethod(_calls.table_get)
+
+    @classmethod
+    def open(cls: Type[_SomeTable], source: Union[BytesLike, str, "os.PathLike[str]"],
+             global_seqno: int = 0, pin_filter: bool = True, pin_index: bool = True) -> _SomeTable:
+        """Opens a table from a copy of its bytes, or the file at a path. `global_seqno` is added to
+        every stored number. A filter and an index in one block stay loaded where they are pinned,
+        else each read loads them.
+
+        >>> writer = Writer()
+        >>> writer.add(b"a", b"1", seqno=2)
+        >>> table = Table.open(bytearray(writer.finish()), global_seqno=10)
+        >>> table.entry(b"a").seqno
+        12
+        """
+        global_seqno = number(global_seqno)
+        if isinstance(source, (str, os.PathLike)):
+            with open(source, "rb") as file:
+                source = file.read()
+        table = cls()
+        with _calls.Lending(source) as (at, length):
+            test(_calls.table_open(at, length, global_seqno, bool(pin_filter), bool(pin_index),
+                                   table._ref))
+        return table
+
+    def share(self: _SomeTable) -> _SomeTable:
+        """The same table once more, for another thread: both read the same bytes, of which none are
+        copied, and either may be closed. Threads that read by one table take turns; those that
+        have a share each read at the same time.
+
+        >>> writer = Writer()
+        >>> writer.add(b"a", b"1")
+        >>> table = Table.open(writer.finish())
+        >>> other = table.share()
+        >>> table.close()
+        >>> other[b"a"]
+        b'1'
+        """
+        other = type(self)()
+        with self._turn:
+            test(_calls.table_share(self._ref, other._ref))
+        return other
+
+    def get_many(self, keys: Iterable[BytesLike], default: Optional[_Default] = None,
+                 at: int = NEWEST) -> List[Union[bytes, Optional[_Default]]]:
+        """What `get` answers to each of some keys, in their order. A block in which several stand
+        is loaded once for them.
+
+        >>> writer = Writer()
+        >>> writer.add(b"a", b"1")
+        >>> writer.add(b"b", b"2")
+        >>> Table.open(writer.finish()).get_many([b"b", b"c", b"a", b"b"])
+        [b'2', None, b'1', b'2']
+        """
+        lent = _calls.Lent()
+        values: List[Union[bytes, Optional[_Default]]] = []
+        told, answers = self._ask(keys, at)
+        with answers:
+            for place in range(len(told) // 4):
+                if told[4 * place] == 0 or told[4 * place] in _DELETIONS:
+                    values.append(default)
+                else:
+                    test(_calls.answers_lend(answers._ref, place, byref(lent)))
+                    values.append(copied(lent.value, lent.value_len))
+        return values
+
+    def entry_many(self, keys: Iterable[BytesLike], at: int = NEWEST) -> List[Optional[Entry]]:
+        """What `entry` answers to each of some keys, in their order.
+
+        >>> writer = Writer()
+        >>> writer.add(b"a", b"1", seqno=5)
+        >>> Table.open(writer.finish()).entry_many([b"b", b"a"])
+        [None, Entry(key=b'a', seqno=5, kind=<Kind.VALUE: 1>, value=b'1')]
+        """
+        lent = _calls.Lent()
+        found: List[Optional[Entry]] = []
+        told, answers = self._ask(keys, at)
+        with answers:
+            for place in range(len(told) // 4):
+                kind, seqno = told[4 * place], told[4 * place + 1]
+                if kind == 0:
+                    found.append(None)
+                else:
+                    test(_calls.answers_lend(answers._ref, place, byref(lent)))
+                    found.append(entry_of(kind, seqno, lent))
+        return found
+
+    # What a call tells of many keys, four numbers of each, and what keeps what was found.
+    def _ask(self, keys: Iterable[BytesLike], at: int) -> Tuple["array.array[int]", Held]:
+        if isinstance(keys, (bytes, bytearray, memoryview, str)):
+            raise TypeError("several keys are asked for, and not one")
+        at, each = number(at), [plain(key) for key in keys]
+        joined, lengths = b"".join(each), array.array("Q", map(len, each)) or _NUMBER
+        told = array.array("Q", bytes(32 * len(each)))
+        answers = Held()
+        with self._turn:
+            test(_calls.table_get_many(self._ref, joined, len(joined), lengths.buffer_info()[0],
+                                       len(each), at, (told or _NUMBER).buffer_info()[0],
+                                       len(each), answers._ref))
+        return told, answers
+
+    def __len__(self) -> int:
+        """How many entries there are: versions, not keys."""
+        return self.facts().item_count
+
+    def entries(self, lower: Optional[BytesLike] = None, upper: Optional[BytesLike] = None,
+                reverse: bool = False) -> Entries:
+        """Every version of each key from `lower` on and below `upper`, in order.
+
+        >>> writer = Writer()
+        >>> for key, seqno in ((b"a", 2), (b"a", 1), (b"b", 3)):
+        ...     writer.add(key, b"", seqno)
+        >>> table = Table.open(writer.finish())
+        >>> [(entry.key, entry.seqno) for entry in table.entries(b"a", b"b", reverse=True)]
+        [(b'a', 1), (b'a', 2)]
+        """
+        bounds, entries = _bounds(lower, upper), Entries(reverse)
+        with self._turn:
+            test(_calls.range_open(self._ref, *bounds, entries._ref))
+        return entries
+
+    def range(self, lower: Optional[BytesLike] = None, upper: Optional[BytesLike] = None,
+              reverse: bool = False, at: int = NEWEST) -> Iterator[Tuple[bytes, bytes]]:
+        """Keys from `lower` on and below `upper`, and their values: of each key the newest version
+        that is numbered below `at`, and none where that is a deletion.
+
+        >>> writer = Writer()
+        >>> for key, seqno in ((b"a", 2), (b"a", 1), (b"b", 3)):
+        ...     writer.add(key, b"%d" % seqno, seqno)
+        >>> table = Table.open(writer.finish())
+        >>> list(table.range(reverse=True)), list(table.range(at=2))
+        ([(b'b', b'3'), (b'a', b'2')], [(b'a', b'1')])
+        """
+        at = number(at)
+        return _shown(self.entries(lower, upper, reverse), at, reverse)
+
+    def facts(self) -> Facts:
+        """What the table says of itself.
+
+        >>> writer = Writer(id=3)
+        >>> writer.add(b"a", b"1", seqno=8)
+        >>> facts = Table.open(writer.finish()).facts()
+        >>> facts.id, facts.item_count, facts.highest_seqno
+        (3, 1, 8)
+        """
+        told = _calls.FactsTold()
+        with self._turn:
+            test(_calls.table_facts(self._ref, byref(told)))
+        return Facts(*(getattr(told, name) for name in Facts._fields))
+
+    def verify(self) -> Verified:
+        """Reads all of the table, and raises `Faulty` where its bytes store no list of entries in
+        order, whoever wrote them; its `finding` says what is wrong first, and where.
+
+        >>> writer = Writer()
+        >>> writer.add(b"a", b"1")
+        >>> file = bytearray(writer.finish())
+        >>> Table.open(file).verify().item_count
+        1
+        """
+        told = _calls.VerifiedTold()
+        try:
+            with self._turn:
+                test(_calls.table_verify(self._ref, byref(told)))
+        except Faulty as faulty:
+            faulty.finding = _finding_of(told)
+            raise faulty from (of(told.detail) if told.detail else None)
+        return Verified(told.item_count, told.data_block_count)
+
+
+# Where nothing is to lie: a pointer is never NULL.
+_NUMBER = array.array("Q", [0])
+
+
+def _finding_of(told: _calls.VerifiedTold) -> Finding:
+    return Finding(Section(told.section), told.offset, Fault(told.fault), told.detail)
+
+
+class Runs(_Read):
+    """Several tables as one, the newest first.
+
+    >>> newer, older = Writer(), Writer()
+    >>> newer.add(b"a", b"new", seqno=2)
+    >>> older.add(b"a", b"old", seqno=1)
+    >>> older.add(b"b", b"more", seqno=1)
+    >>> runs = Runs(Table.open(newer.finish()), Table.open(older.finish()))
+    >>> runs[b"a"], runs.get(b"a", at=2), runs[b"b"]
+    (b'new', b'old', b'more')
+    """
+
+    _get = staticmethod(_calls.runs_get)
+
+    def __init__(self, *tables: Table) -> None:
+        super().__init__()
+        test(_calls.runs_open(self._ref))
+        for table in tables:
+            self.add(table)
+
+    def add(self, table: Table) -> None:
+        """Adds a table behind those that are there. It may be closed then.
+
+        >>> writer = Writer()
+        >>> writer.add(b"a", b"1")
+        >>> runs = Runs()
+        >>> with Table.open(writer.finish()) as table:
+        ...     runs.add(table)
+        >>> runs[b"a"]
+        b'1'
+        """
+        _require_table(table)
+        with self._turn, table._turn:
+            test(_calls.runs_add(self._ref, table._ref))
+
+    def entries(self, lower: Optional[BytesLike] = None, upper: Optional[BytesLike] = None,
+                reverse: bool = False, at: int = NEWEST) -> Entries:
+        """Of each key from `lower` on and below `upper` the newest version that is numbered below
+        `at`, a deletion too, in order. A table that is added later is not in it.
+
+        >>> newer, older = Writer(), Writer()
+        >>> newer.delete(b"a", seqno=2)
+        >>> older.add(b"a", b"old", seqno=1)
+        >>> runs = Runs(Table.open(newer.finish()), Table.open(older.finish()))
+        >>> [entry.kind.name for entry in runs.entries()]
+        ['TOMBSTONE']
+        >>> [entry.kind.name for entry in runs.entries(at=2)]
+        ['VALUE']
+        """
+        bounds, at, entries = _bounds(lower, upper), number(at), Entries(reverse)
+        with self._turn:
+            test(_calls.runs_range_open(self._ref, *bounds, at, entries._ref))
+        return entries
+
+    def range(self, lower: Optional[BytesLike] = None, upper: Optional[BytesLike] = None,
+              reverse: bool = False, at: int = NEWEST) -> Iterator[Tuple[bytes, bytes]]:
+        """Keys from `lower` on and below `upper`, and their values, as a reader at a number sees
+        them in all tables together.
+
+        >>> newer, older = Writer(), Writer()
+        >>> newer.delete(b"a", seqno=2)
+        >>> older.add(b"a", b"old", seqno=1)
+        >>> older.add(b"b", b"more", seqno=1)
+        >>> runs = Runs(Table.open(newer.finish()), Table.open(older.finish()))
+        >>> list(runs.range()), list(runs.range(reverse=True, at=2))
+        ([(b'b', b'more')], [(b'b', b'more'), (b'a', b'old')])
+        """
+        return _shown(self.entries(lower, upper, reverse, at), NEWEST, reverse)
+
+
+def listed(tables: Iterable[Table]) -> List[Table]:
+    """Some tables. One alone, which deals its keys, is none of these."""
+    if isinstance(tables, Table):
+        raise TypeError("several tables are wanted, and not one")
+    return list(tables)
+
+
+def _require_table(table: object) -> None:
+    if not isinstance(table, Table):
+        raise TypeError(f"a Table is wanted, and not a {type(table).__name__}")

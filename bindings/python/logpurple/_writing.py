@@ -1,0 +1,142 @@
+"""Writing tables: of entries, and of the entries of other tables."""
+
+import ctypes
+from typing import Dict, Iterable, List, Optional, Union
+
+from . import _calls
+from ._calls import byref
+from ._errors import test
+from ._held import Held, number, plain
+from ._tables import BytesLike, Runs, Table, listed
+from ._told import NEWEST, Kind
+
+_OPTIONS = {name: 8 * ctypes.sizeof(kind) for name, kind in _calls.Options._fields_
+            if name != "unused"}
+
+
+# What a table is written with: the defaults, and what else is asked for.
+def _chosen(options: Dict[str, int]) -> _calls.Options:
+    chosen = _calls.Options()
+    _calls.options_default(byref(chosen))
+    for name, value in options.items():
+        if name not in _OPTIONS:
+            raise TypeError(f"no option {name!r}")
+        setattr(chosen, name, number(value, _OPTIONS[name]))
+    return chosen
+
+
+# The bytes of finished tables.
+def _files(files: Held) -> List[bytes]:
+    count = _calls.c_uint64()
+    test(_calls.files_count(files._ref, byref(count)))
+    return [_file(files, place) for place in range(count.value)]
+
+
+def _file(files: Held, place: int) -> bytes:
+    told, count = _calls.FileTold(), _calls.c_uint64()
+    test(_calls.files_tell(files._ref, place, byref(told)))
+
+    def fill(room: bytes) -> None:
+        test(_calls.files_copy(files._ref, place, 0, room, told.len, byref(count)))
+
+    return _calls.filled(told.len, fill)
+
+
+class Writer(Held):
+    """Writes a table. Keys ascend, and the numbers of one key descend.
+
+    What it is written with: `id`; `created_at`, in nanoseconds since 1970; `level`, at most 255;
+    `data_block_size`, in bytes of keys and values, at most 4 MiB; `data_block_restart_interval`, in
+    entries, 1 to 255; `data_block_hash_ratio`, buckets an entry, in thousandths;
+    `index_partition_size` and `filter_partition_size`, in bytes, at most 4 MiB, 0 for one block;
+    `filter_bits_per_key`, in tenths of a bit, 0 for no filter. Where nothing else is said, blocks
+    have 4,096 bytes, index and filter one block each, a key ten bits, and the rest is 0.
+
+    >>> writer = Writer(id=7, filter_bits_per_key=0)
+    >>> writer.add(b"b", b"")
+    >>> writer.add(b"a", b"")
+    Traceback (most recent call last):
+    ..
+    logpurple.OutOfOrder: an entry is out of order (104)
+    >>> Table.open(writer.finish()).facts().id
+    7
+    """
+
+    def __init__(self, **options: int) -> None:
+        super().__init__()
+        test(_calls.writer_open(byref(_chosen(options)), self._ref))
+
+    def add(self, key: BytesLike, value: BytesLike, seqno: int = 0,
+            kind: Kind = Kind.VALUE) -> None:
+        """Writes an entry, whose key and value are copied. Refused with `OutOfOrder` where it does
+        not follow the one before it, or is numbered `NEWEST`; the writer stays as it is then. After
+        any other refusal an entry that may follow is refused with `WriterFailed`.
+
+        >>> writer = Writer()
+        >>> writer.add(b"a", b"1", seqno=2)
+        >>> writer.add(b"a", b"", seqno=1, kind=Kind.WEAK_TOMBSTONE)
+        >>> len(Table.open(writer.finish()))
+        2
+        """
+        key, seqno, kind = plain(key), number(seqno), number(kind, 32)
+        with _calls.Lending(value) as (at, length), self._turn:
+            test(_calls.writer_add(self._ref, key, len(key), seqno, kind, at, length))
+
+    def delete(self, key: BytesLike, seqno: int = 0) -> None:
+        """Writes a deletion of every older version of a key.
+
+        >>> writer = Writer()
+        >>> writer.delete(b"a")
+        >>> b"a" in Table.open(writer.finish())
+        False
+        """
+        self.add(key, b"", seqno, Kind.TOMBSTONE)
+
+    def finish(self) -> Optional[bytes]:
+        """The bytes of the table; `None` where nothing was written. The writer is closed then.
+
+        >>> Writer().finish() is None
+        True
+        """
+        with self._turn:
+            try:
+                test(_calls.writer_finish(self._ref))
+                files = _files(self)
+            finally:
+                _calls.close(self._ref)
+        return files[0] if files else None
+
+
+def compact(tables: Union[Runs, Iterable[Table]], *, watermark: int = 0, evict: bool = False,
+            zero: bool = False, target: int = NEWEST, **options: int) -> List[bytes]:
+    """Writes what is kept of all entries of some tables, the newest first, into new ones, and
+    answers their bytes, in order of their keys; none where nothing is kept. The tables stay.
+
+    No reader stands below `watermark`: of each key the versions down to the newest one below it are
+    kept, and older ones go; a weak tombstone below it goes with the value directly behind it. With
+    `evict` the last version of a key that is kept goes too where it is a deletion: only for tables
+    behind which no older one stands. With `zero` numbers below the watermark become 0. A new table
+    begins at the next key once the data blocks of the present one have `target` bytes. The
+    tables are written with `options`, which a `Writer` takes too, and their ids run on from `id`.
+
+    Refused with `OutOfOrder` where a table does not hold what a writer makes, or two of them have
+    one key under one number.
+
+    >>> newer, older = Writer(), Writer()
+    >>> newer.delete(b"a", seqno=9)
+    >>> older.add(b"a", b"old", seqno=1)
+    >>> older.add(b"b", b"more", seqno=2)
+    >>> tables = [Table.open(writer.finish()) for writer in (newer, older)]
+    >>> for file in compact(tables, watermark=10, evict=True, id=8):
+    ...     compacted = Table.open(file)
+    ...     compacted.facts().id, list(compacted.range())
+    (8, [(b'b', b'more')])
+    """
+    watermark, target, chosen = number(watermark), number(target), _chosen(options)
+    runs = tables if isinstance(tables, Runs) else Runs(*listed(tables))
+    files, next_id = Held(), _calls.c_uint64()
+    with files:
+        with runs._turn:
+            test(_calls.compact(runs._ref, byref(chosen), watermark, bool(evict), bool(zero),
+                                target, files._ref, byref(next_id)))
+        return _files(files)

@@ -1,0 +1,65 @@
+"""The declarations are those of the header."""
+
+import ctypes
+import os
+import re
+import unittest
+
+from common import HERE
+
+from logpurple import _calls
+
+HEADER = os.path.join(HERE, "..", "..", "..", "include", "sst.h")
+# What a word of the header is in ctypes; a pointer to another struct stands by its name.
+PLAIN = {"size_t": ctypes.c_size_t, "uint64_t": ctypes.c_uint64, "uint32_t": ctypes.c_uint32,
+         "bool": ctypes.c_bool, "void": None}
+STRUCTS = {"sst_handle": _calls.Handle, "sst_entry": _calls.EntryTold, "sst_lent": _calls.Lent,
+           "sst_facts": _calls.FactsTold, "sst_verified": _calls.VerifiedTold,
+           "sst_options": _calls.Options, "sst_file": _calls.FileTold}
+POINTERS = (ctypes.c_char_p, ctypes.c_void_p)
+
+
+def is_pointer(kind):
+    return kind in POINTERS or hasattr(kind, "contents")
+
+
+class Calls(unittest.TestCase):
+    def setUp(self):
+        with open(HEADER, encoding="utf-8") as file:
+            self.header = re.sub(r"/\*.*?\*/", "", file.read(), flags=re.S)
+
+    def test_structs(self):
+        for name, kind in STRUCTS.items():
+            body = re.search(r"typedef struct %s \{(.*?)\} %s;" % (name, name), self.header, re.S)
+            fields = re.findall(r"(const uint8_t \*|uint64_t |uint32_t )(\w+)(?:\[(\d)\])?;",
+                                body.group(1))
+            self.assertEqual([field for _, field, _ in fields],
+                             [field[0] for field in kind._fields_])
+            size = sum((4 if word == "uint32_t " else 8) * int(count or 1)
+                       for word, _, count in fields)
+            self.assertEqual(ctypes.sizeof(kind), size)
+
+    def test_calls(self):
+        declared = re.findall(r"^(uint32_t|uint64_t|void) (sst_\w+)\((.*?)\);", self.header,
+                              re.S | re.M)
+        self.assertGreater(len(declared), 25)
+        for answer, name, parts in declared:
+            call = getattr(_calls, name[4:], None)
+            if call is None:  # what this package has no use for
+                self.assertIn(name, ("sst_found_copy", "sst_answers_copy"))
+                continue
+            self.assertEqual(call.restype, PLAIN[answer], name)
+            parts = [] if parts == "void" else [part.split() for part in parts.split(",")]
+            self.assertEqual(len(call.argtypes), len(parts), name)
+            for words, kind in zip(parts, call.argtypes):
+                word = words[1] if words[0] == "const" else words[0]
+                if not words[-1].startswith("*"):
+                    self.assertEqual(kind, PLAIN[word], name)
+                elif word in STRUCTS and kind != ctypes.c_void_p:
+                    self.assertEqual(kind._type_, STRUCTS[word], name)
+                else:
+                    self.assertTrue(is_pointer(kind), name)
+
+
+if __name__ == "__main__":
+    unittest.main()

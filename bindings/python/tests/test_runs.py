@@ -1,0 +1,140 @@
+"""Several tables: read as one, and compacted."""
+
+import itertools
+import random
+import unittest
+
+from common import (entries_of, file_of, kept, keys_of, newest, seen, shown, small, sorted_entries,
+                    table_of, within)
+
+import logpurple
+from logpurple import NEWEST, Entry, Kind, Runs, Table, Writer, compact
+
+
+class Several(unittest.TestCase):
+    def setUp(self):
+        # No two entries have one key under one number; the newest table is the first.
+        self.lists = [entries_of(seed, 150, above, 4)
+                      for seed, above in ((1, 20), (2, 11), (3, 2), (4, 1))]
+        self.all = sorted_entries(*self.lists)
+        self.tables = [table_of(entries, **small(i)) for i, entries in enumerate(self.lists)]
+        self.runs = Runs(*self.tables)
+
+    def test_gets(self):
+        for at in list(range(0, 60, 3)) + [NEWEST]:
+            values = dict(shown(self.all, at))
+            for key in keys_of(self.all):
+                self.assertEqual(self.runs.entry(key, at), newest(self.all, key, at))
+                self.assertEqual(self.runs.get(key, b"-", at), values.get(key, b"-"))
+
+    def test_ranges(self):
+        for at in list(range(0, 60, 7)) + [NEWEST]:
+            for lower, upper in itertools.product([None, b"", b"ab", b"c"], [None, b"b", b"ca\0"]):
+                wanted = within(seen(self.all, at), lower, upper)
+                self.assertEqual(list(self.runs.entries(lower, upper, at=at)), wanted)
+                self.assertEqual(list(self.runs.entries(lower, upper, True, at)), wanted[::-1])
+                wanted = within(shown(self.all, at), lower, upper)
+                self.assertEqual(list(self.runs.range(lower, upper, at=at)), wanted)
+                self.assertEqual(list(self.runs.range(lower, upper, True, at)), wanted[::-1])
+        self.assertEqual(list(self.runs), [key for key, _ in shown(self.all)])
+
+    def test_a_range_from_both_ends(self):
+        wanted, dice = seen(self.all), random.Random(5)
+        for _ in range(5):
+            entries, front, back = self.runs.entries(), [], []
+            for _ in wanted:
+                from_back = dice.random() < 0.5
+                (back if from_back else front).append(entries.take(from_back))
+            self.assertEqual(front + back[::-1], wanted)
+            self.assertEqual([entries.take(), entries.take(True)], [None, None])
+
+    def test_order_of_closing_and_adding(self):
+        entries = self.runs.entries()
+        first = next(entries)
+        for table in self.tables:
+            table.close()
+        self.runs.add(table_of([Entry(b"new", 1, Kind.VALUE, b"")]))
+        self.assertEqual(self.runs[b"new"], b"")
+        self.runs.close()
+        self.assertEqual([first] + list(entries), seen(self.all))
+        for closed in (self.runs.entries, self.runs.range, lambda: self.runs.get(b"a"),
+                       lambda: self.runs.add(self.tables[0])):
+            with self.assertRaises(logpurple.Closed):
+                closed()
+
+    def test_none(self):
+        with Runs() as runs:
+            self.assertEqual((list(runs.entries()), runs.get(b"a")), ([], None))
+            self.assertEqual(compact(runs), [])
+        self.assertEqual(compact([]), [])
+
+    def test_compaction(self):
+        for evict, zero, watermark in itertools.product([False, True], [False, True],
+                                                        [0, 1, 15, 30, 100, NEWEST]):
+            files = compact(self.tables, watermark=watermark, evict=evict, zero=zero, id=5)
+            wanted = kept(self.all, watermark, evict, zero)
+            self.assertEqual(len(files), 1 if wanted else 0)
+            table = Table.open(files[0])
+            self.assertEqual((list(table.entries()), table.facts().id), (wanted, 5))
+            self.assertEqual(table.verify().item_count, len(wanted))
+            # Readers at the watermark or above see the same, of all tables that there are.
+            for at in (watermark, watermark + 1, 40, NEWEST):
+                if at >= max(watermark, 1) and at <= NEWEST:
+                    self.assertEqual(list(table.range(at=at)), shown(self.all, at))
+        self.assertEqual(list(self.runs.entries()), seen(self.all))
+
+    def test_compaction_into_many_tables(self):
+        for target in (0, 1, 100, 500):
+            files = compact(self.runs, watermark=NEWEST, target=target, id=9, data_block_size=64)
+            tables = [Table.open(file) for file in files]
+            self.assertGreater(len(tables), 2)
+            self.assertEqual([table.facts().id for table in tables],
+                             list(range(9, 9 + len(tables))))
+            wanted = kept(self.all, NEWEST, False, False)
+            self.assertEqual([e for table in tables for e in table.entries()], wanted)
+            self.assertEqual(list(Runs(*tables).entries()), seen(wanted))
+
+    def test_what_compaction_refuses(self):
+        both = [table_of(self.lists[0]), table_of(self.lists[0])]
+        with self.assertRaises(logpurple.OutOfOrder):
+            compact(both)
+        with self.assertRaises(logpurple.TableIdsSpent):
+            compact(self.tables, id=2**64 - 1, target=1, data_block_size=64)
+        with self.assertRaises(logpurple.NoSuch):
+            compact(self.tables, data_block_restart_interval=0)
+        self.assertEqual(len(compact(self.tables, id=2**64 - 1)), 1)
+        for options in ({"watermark": -1}, {"target": 2**64}, {"id": 2**64}):
+            with self.assertRaises(OverflowError):
+                compact(self.tables, **options)
+        for wrong in ({"unused": 1}, {"watermarks": 1}, {"watermark": 1.5}, {"id": "1"}):
+            with self.assertRaises(TypeError):
+                compact(self.tables, **wrong)
+        for wrong in (5, [5], [None], [self.runs], b"abc", [Writer()], self.tables[0]):
+            with self.assertRaises(TypeError):
+                compact(wrong)
+        self.tables[1].close()
+        with self.assertRaises(logpurple.Closed):
+            compact(self.tables)
+
+    def test_a_damaged_table_is_not_compacted(self):
+        file = bytearray(file_of(self.lists[1], data_block_size=64))
+        file[40] ^= 0xff
+        with self.assertRaises(logpurple.TableError) as refused:
+            compact([Table.open(file), self.tables[0]])
+        self.assertLessEqual(refused.exception.code, 24)
+
+    def test_an_exception_in_what_deals_tables(self):
+        def dealt():
+            yield self.tables[0]
+            raise ZeroDivisionError
+
+        with self.assertRaises(ZeroDivisionError):
+            compact(dealt())
+
+    def test_one_table_twice(self):
+        table = self.tables[0]
+        self.assertEqual(list(Runs(table, table).entries()), seen(self.lists[0]))
+
+
+if __name__ == "__main__":
+    unittest.main()

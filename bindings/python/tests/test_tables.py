@@ -1,0 +1,140 @@
+"""A table, compared with the list of its entries."""
+
+import array
+import mmap
+import os
+import pathlib
+import tempfile
+import unittest
+
+from common import entries_of, file_of, keys_of, newest, shown, small, table_of, within
+
+import logpurple
+from logpurple import Entry, Kind, Table, Writer
+
+BOUNDS = [None, b"", b"\0", b"a", b"ab", b"b\0", b"ca", b"\xff", b"\xff" * 9]
+
+
+class Tables(unittest.TestCase):
+    def test_gets(self):
+        for seed in range(10):
+            entries = entries_of(seed, 300)
+            file, keys = file_of(entries, **small(seed)), keys_of(entries)
+            table = Table.open(file, 0, seed % 2 == 0, seed % 3 == 0)
+            self.assertEqual((len(table), table.verify().item_count), (len(entries),) * 2)
+            for at in list(range(11)) + [logpurple.NEWEST]:
+                expected = [newest(entries, key, at) for key in keys]
+                self.assertEqual([table.entry(key, at) for key in keys], expected)
+                self.assertEqual(table.entry_many(keys, at), expected)
+                values = dict(shown(entries, at))
+                self.assertEqual([table.get(key, b"-", at) for key in keys],
+                                 [values.get(key, b"-") for key in keys])
+                self.assertEqual(table.get_many(reversed(keys), b"-", at),
+                                 [values.get(key, b"-") for key in reversed(keys)])
+
+    def test_many_keys_repeat_and_may_be_none(self):
+        entries = entries_of(11, 50)
+        table = table_of(entries)
+        key = entries[0].key
+        self.assertEqual(table.entry_many([key] * 9), [newest(entries, key)] * 9)
+        self.assertEqual((table.get_many([]), table.entry_many(iter([]))), ([], []))
+        self.assertEqual(table.entry_many([b"", bytearray(key), memoryview(key)]),
+                         [newest(entries, b""), newest(entries, key), newest(entries, key)])
+        for wrong in (b"abc", "abc", bytearray(b"a"), 5, ["a"], [5], [None]):
+            with self.assertRaises(TypeError):
+                table.get_many(wrong)
+
+    def test_ranges(self):
+        for seed in range(6):
+            entries = entries_of(seed, 200)
+            table = table_of(entries, **small(seed))
+            for lower in BOUNDS:
+                for upper in BOUNDS:
+                    wanted = within(entries, lower, upper)
+                    self.assertEqual(list(table.entries(lower, upper)), wanted)
+                    self.assertEqual(list(table.entries(lower, upper, True)), wanted[::-1])
+            for at in range(11):
+                for lower, upper in ((None, None), (b"ab", b"ca"), (b"c", b"a")):
+                    wanted = within(shown(entries, at), lower, upper)
+                    self.assertEqual(list(table.range(lower, upper, at=at)), wanted)
+                    self.assertEqual(list(table.range(lower, upper, True, at)), wanted[::-1])
+            self.assertEqual(list(table), [key for key, _ in shown(entries)])
+            self.assertEqual([key in table for key in keys_of(entries)],
+                             [key in dict(shown(entries)) for key in keys_of(entries)])
+
+    def test_a_range_from_both_ends(self):
+        wanted = entries_of(3, 200)
+        table = table_of(wanted, data_block_size=64)
+        for turn in range(2, 6):
+            entries, front, back = table.entries(), [], []
+            for step in range(len(wanted)):
+                (back if step % turn == 0 else front).append(entries.take(step % turn == 0))
+            self.assertEqual(front + back[::-1], wanted)
+            self.assertEqual([entries.take(), entries.take(True), list(entries)], [None, None, []])
+
+    def test_long_and_empty(self):
+        longest, value = b"k" * 65535, os.urandom(1 << 20)
+        writer = Writer()
+        writer.add(b"", b"", seqno=2)
+        writer.add(b"", b"empty key", seqno=1)
+        writer.add(b"\0", b"\0\0")
+        writer.add(longest, value)
+        table = Table.open(writer.finish())
+        self.assertEqual([table[b""], table.get(b"", at=2), table[b"\0"], table[longest]],
+                         [b"", b"empty key", b"\0\0", value])
+        self.assertEqual(table.get_many([longest, b"\0\0", b""]), [value, None, b""])
+        self.assertEqual(next(table.range(reverse=True)), (longest, value))
+        self.assertIsNone(table.get(longest + b"k"))
+        self.assertEqual(table.verify().item_count, 4)
+
+    def test_what_has_bytes(self):
+        writer = Writer()
+        writer.add(bytearray(b"a"), memoryview(b"1.2")[::2])
+        writer.add(memoryview(b"b"), bytearray(b"2"))
+        writer.add(array.array("B", b"c"), array.array("I", [1]))
+        file = writer.finish()
+        with tempfile.TemporaryDirectory() as folder:
+            path = pathlib.Path(folder, "table")
+            path.write_bytes(file)
+            with open(path, "rb") as opened:
+                mapped = mmap.mmap(opened.fileno(), 0, access=mmap.ACCESS_READ)
+            with mapped:
+                sources = [file, bytearray(file), memoryview(file), path, str(path), mapped,
+                           array.array("B", file), memoryview(b"-" + file + b"-")[1:-1]]
+                tables = [Table.open(source) for source in sources]
+        for table in tables:
+            self.assertEqual(dict(table.range()), {b"a": b"12", b"b": b"2", b"c": b"\1\0\0\0"})
+            self.assertEqual(table[bytearray(b"a")], b"12")
+
+    def test_what_is_lent_is_given_back(self):
+        file = bytearray(file_of(entries_of(2, 9)))
+        table = Table.open(file)
+        file.append(0)  # a buffer that is lent cannot grow
+        file[:] = bytes(len(file))
+        with self.assertRaises(logpurple.InvalidTrailer):
+            Table.open(file)
+        file.append(0)
+        self.assertEqual(list(table.entries()), entries_of(2, 9))
+
+    def test_a_global_number(self):
+        table = Table.open(file_of(entries_of(3, 20)), global_seqno=100)
+        self.assertEqual([e._replace(seqno=e.seqno - 100) for e in table.entries()],
+                         entries_of(3, 20))
+        self.assertEqual(table.facts().global_seqno, 100)
+        with self.assertRaises(logpurple.GlobalSeqNoTooLarge):
+            Table.open(file_of(entries_of(3, 20)), global_seqno=2**64 - 5)
+
+    def test_facts(self):
+        entries = entries_of(4, 100)
+        facts = table_of(entries, id=2**64 - 1, level=255, created_at=5).facts()
+        numbers = [entry.seqno for entry in entries]
+        self.assertEqual((facts.id, facts.version, facts.item_count), (2**64 - 1, 4, len(entries)))
+        self.assertEqual((facts.lowest_seqno, facts.highest_seqno), (min(numbers), max(numbers)))
+        self.assertEqual(facts.tombstone_count, sum(e.kind.is_deletion for e in entries))
+        self.assertEqual(facts.weak_tombstone_count,
+                         sum(e.kind == Kind.WEAK_TOMBSTONE for e in entries))
+        self.assertIsInstance(next(table_of(entries).entries()), Entry)
+
+
+if __name__ == "__main__":
+    unittest.main()

@@ -1,0 +1,100 @@
+//! What many reads at once found.
+
+use crate::error::test;
+use crate::handle::{lent_by, room, Handle};
+use crate::{Error, InternalValue, LentValue, SeqNo, Table};
+use logpurple_sys as sys;
+
+/// What [`Table::get_many_lent`] found of each key, in the keys' order. It lends all of it, for as
+/// long as it is there:
+///
+/// ```compile_fail,E0505
+/// fn keep(answers: logpurple::Answers) {
+///     let first = answers.get(0).unwrap();
+///     drop(answers);
+///     drop(first);
+/// }
+/// ```
+#[derive(Debug)]
+pub struct Answers {
+    handle: Handle,
+    told: Vec<sys::sst_entry>,
+}
+
+impl Answers {
+    pub(crate) fn of<K: AsRef<[u8]>>(
+        table: &Table,
+        keys: &[K],
+        seqno: SeqNo,
+    ) -> Result<Answers, Error> {
+        let handle = Handle::closed();
+        let (joined, lens) = joined(keys)?;
+        let mut told = room(keys.len())?;
+        told.resize(keys.len(), sys::sst_entry::default());
+        // SAFETY: keys and lengths are read during the call alone, there is a place for each key,
+        // and the handle holds nothing.
+        test(unsafe {
+            sys::sst_table_get_many(
+                table.handle.words(),
+                joined.as_ptr(),
+                joined.len(),
+                lens.as_ptr(),
+                lens.len(),
+                seqno,
+                told.as_mut_ptr(),
+                told.len(),
+                handle.words(),
+            )
+        })?;
+        Ok(Answers { handle, told })
+    }
+
+    /// How many keys were asked for.
+    pub fn len(&self) -> usize {
+        self.told.len()
+    }
+
+    /// Whether no key was asked for.
+    pub fn is_empty(&self) -> bool {
+        self.told.is_empty()
+    }
+
+    /// What was found of the key at a place, from 0 on: nothing where no version is below the
+    /// number, or where there is no such place.
+    pub fn get(&self, place: usize) -> Option<LentValue<'_>> {
+        let told = *self.told.get(place)?;
+        // SAFETY: both are references of the call, and what is lent lies there until the answers
+        // are closed, which are borrowed for so long.
+        let lent = unsafe {
+            lent_by(told, |lent| sys::sst_answers_lend(self.handle.words(), place as u64, lent))
+        };
+        lent.expect("what was told to be found is lent")
+    }
+
+    /// What was found of each key, in their order.
+    pub fn iter(&self) -> impl ExactSizeIterator<Item = Option<LentValue<'_>>> + '_ {
+        (0..self.len()).map(move |place| self.get(place))
+    }
+
+    /// Copies of all that was found. Refused for want of memory.
+    pub fn to_owned(&self) -> Result<Vec<Option<InternalValue>>, Error> {
+        let mut copied = room(self.len())?;
+        for lent in self.iter() {
+            copied.push(lent.map(|lent| lent.to_owned()).transpose()?);
+        }
+        Ok(copied)
+    }
+}
+
+// The keys behind one another, and how long each is.
+fn joined<K: AsRef<[u8]>>(keys: &[K]) -> Result<(Vec<u8>, Vec<u64>), Error> {
+    let mut bytes = Vec::new();
+    let mut lens = room(keys.len())?;
+    for key in keys {
+        let key = key.as_ref();
+        bytes.try_reserve(key.len()).map_err(|_| Error::OutOfMemory)?;
+        bytes.extend_from_slice(key);
+        lens.push(key.len() as u64);
+    }
+    Ok((bytes, lens))
+}

@@ -1,0 +1,79 @@
+//! Compaction.
+
+use crate::error::test;
+use crate::handle::Handle;
+use crate::writer::finished_tables;
+use crate::{Error, FinishedTable, Options, SeqNo};
+use logpurple_sys as sys;
+
+/// What [`Runs::compact`](crate::Runs::compact) keeps, and what it writes.
+///
+/// Of each key the versions down to the newest one below the watermark are kept, and the older
+/// ones, which no reader sees, go. A weak tombstone below the watermark goes with the value directly
+/// behind it.
+///
+/// Refused with `NoSuch` where an option is out of its range, with `OutOfOrder` where a table does
+/// not hold what a writer makes or two tables have one key under one number; else with the first
+/// fault of the blocks, as a writer is, with `TableIdsSpent` where no id is left, and for want of
+/// memory. Nothing is written then.
+#[derive(Clone, Copy, Debug, PartialEq, Eq)]
+pub struct Compaction {
+    /// No reader stands below it.
+    pub watermark: SeqNo,
+    /// Whether the last version of a key that is kept goes too where it is a deletion: only for runs
+    /// behind which no older table stands.
+    pub evict_tombstones: bool,
+    /// Whether numbers below the watermark become 0.
+    pub zero_seqnos: bool,
+    /// A new table begins at the next key once the data blocks of the present one have so many
+    /// bytes; with `u64::MAX` there is one.
+    pub target_size: u64,
+    /// What the tables are written with. Their ids run on from `options.id`.
+    pub options: Options,
+}
+
+impl Default for Compaction {
+    /// All entries are kept as they are, and written into one table.
+    fn default() -> Compaction {
+        Compaction {
+            watermark: 0,
+            evict_tombstones: false,
+            zero_seqnos: false,
+            target_size: u64::MAX,
+            options: Options::default(),
+        }
+    }
+}
+
+/// What a compaction wrote.
+#[derive(Clone, Debug, PartialEq, Eq)]
+pub struct Compacted {
+    /// The tables, in order of their keys; none where nothing was kept.
+    pub tables: Vec<FinishedTable>,
+    /// The first id that is left.
+    pub next_id: Option<u64>,
+}
+
+impl Compacted {
+    pub(crate) fn of(runs: &Handle, compaction: &Compaction) -> Result<Compacted, Error> {
+        let (files, asked) = (Handle::closed(), compaction.options.told());
+        let mut next_id = 0;
+        // SAFETY: the options are read during the call alone, and `files` holds nothing.
+        test(unsafe {
+            sys::sst_compact(
+                runs.words(),
+                &asked,
+                compaction.watermark,
+                compaction.evict_tombstones,
+                compaction.zero_seqnos,
+                compaction.target_size,
+                files.words(),
+                &mut next_id,
+            )
+        })?;
+        let tables = finished_tables(&files)?;
+        // Where none was written, the first is left, whatever it is.
+        let is_left = next_id > 0 || tables.is_empty();
+        Ok(Compacted { tables, next_id: is_left.then_some(next_id) })
+    }
+}

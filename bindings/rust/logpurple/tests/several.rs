@@ -1,0 +1,175 @@
+//! Several tables: read as one, and compacted.
+
+mod common;
+
+use common::{
+    collect, items, kept, keys, newest, random_entries, seen, small, spaced_entries, write, Dice,
+    Entries,
+};
+use logpurple::{Compaction, Error, Options, Runs, Table, NEWEST};
+use std::cmp::Reverse;
+use std::ops::Bound;
+
+/// Tables of random entries, the newest first, and all entries together.
+fn several() -> (Runs, Entries) {
+    let mut all = Entries::new();
+    let mut tables = Vec::new();
+    for (seed, above) in [(1, 20), (2, 11), (3, 2), (4, 1)] {
+        let entries = spaced_entries(seed, 150, above, 4);
+        tables.push(Table::open(write(&small(seed), &items(&entries))).unwrap());
+        all.extend(entries);
+    }
+    (Runs::from_tables(tables).unwrap(), all)
+}
+
+#[test]
+fn the_newest_of_several_tables_is_found() {
+    let older = random_entries(9, 200);
+    let newer: Entries = random_entries(10, 200)
+        .into_iter()
+        .map(|((key, Reverse(seqno)), entry)| ((key, Reverse(seqno + 10)), entry))
+        .collect();
+    let tables =
+        [&newer, &older].map(|entries| Table::open(write(&small(2), &items(entries))).unwrap());
+    let mut runs = Runs::from_tables(tables).unwrap();
+    let both: Entries = newer.iter().chain(&older).map(|(k, e)| (k.clone(), e.clone())).collect();
+    for key in keys(&both) {
+        for seqno in (0..21).chain([NEWEST]) {
+            let expected = newest(&both, &key, seqno);
+            assert_eq!(runs.get(&key, seqno).unwrap(), expected);
+            let lent = runs.get_lent(&key, seqno).unwrap();
+            assert_eq!(lent.map(|lent| lent.to_owned().unwrap()), expected);
+        }
+    }
+    assert_eq!(collect(runs.tables()[1].iter().unwrap()), items(&older));
+    let tables = runs.into_tables();
+    assert_eq!(collect(tables[0].iter().unwrap()), items(&newer));
+}
+
+#[test]
+fn ranges_over_several_tables_are_those_of_a_map() {
+    let (runs, all) = several();
+    for seqno in (0..60).step_by(7).chain([NEWEST]) {
+        let seen = seen(&all, seqno);
+        assert_eq!(collect(runs.iter(seqno).unwrap()), seen);
+        for (lower, upper) in [("", "b"), ("a", "c\0"), ("ab", "ab"), ("c", "a"), ("b", "zz")] {
+            let (lower, upper) = (lower.as_bytes(), upper.as_bytes());
+            let expected: Vec<_> = seen
+                .iter()
+                .filter(|item| (lower..upper).contains(&&*item.key.user_key))
+                .cloned()
+                .collect();
+            assert_eq!(collect(runs.range(lower..upper, seqno).unwrap()), expected);
+            let back = collect(runs.range(lower..upper, seqno).unwrap().rev());
+            assert!(back.iter().eq(expected.iter().rev()));
+        }
+        let (lower, upper) = (b"a".as_slice(), b"c".as_slice());
+        let expected = seen.iter().filter(|item| {
+            item.key.user_key.as_slice() > lower && item.key.user_key.as_slice() <= upper
+        });
+        let bounds = (Bound::Excluded(lower), Bound::Included(upper));
+        let range = runs.range::<&[u8], _>(bounds, seqno).unwrap();
+        assert!(collect(range).iter().eq(expected));
+    }
+}
+
+#[test]
+fn a_range_is_read_from_both_ends() {
+    let (mut runs, all) = several();
+    let expected = seen(&all, NEWEST);
+    let mut dice = Dice::new(5);
+    for _ in 0..5 {
+        let mut range = runs.iter(NEWEST).unwrap();
+        let (mut front, mut back) = (Vec::new(), Vec::new());
+        for _ in 0..expected.len() {
+            match dice.below(2) {
+                0 => front.push(range.next_lent().unwrap().unwrap().to_owned().unwrap()),
+                _ => back.push(range.next_back_lent().unwrap().unwrap().to_owned().unwrap()),
+            }
+        }
+        assert!(range.next().is_none() && range.next_back().is_none());
+        front.extend(back.into_iter().rev());
+        assert_eq!(front, expected);
+    }
+    // A range has shares of its own: what is pushed later is not in it.
+    let mut range = runs.iter(NEWEST).unwrap();
+    let first = range.next().unwrap().unwrap();
+    runs.push(Table::open(write(&small(1), &items(&all)[..1])).unwrap()).unwrap();
+    drop(runs);
+    assert_eq!([vec![first], collect(range)].concat(), expected);
+}
+
+#[test]
+fn a_compaction_keeps_what_readers_see() {
+    let (runs, all) = several();
+    for watermark in [0, 1, 15, 30, 100, NEWEST] {
+        for (evict_tombstones, zero_seqnos) in
+            [(false, false), (false, true), (true, false), (true, true)]
+        {
+            let options = Options { id: 5, ..Options::default() };
+            let by = Compaction {
+                watermark,
+                evict_tombstones,
+                zero_seqnos,
+                options,
+                ..Compaction::default()
+            };
+            let compacted = runs.compact(&by).unwrap();
+            assert_eq!((compacted.tables.len(), compacted.next_id), (1, Some(6)));
+            let table = Table::open(&compacted.tables[0]).unwrap();
+            assert_eq!(collect(table.iter().unwrap()), kept(&all, &by));
+            assert_eq!((table.metadata().id, compacted.tables[0].id), (5, 5));
+            table.verify().unwrap();
+        }
+    }
+    assert_eq!(collect(runs.iter(NEWEST).unwrap()), seen(&all, NEWEST));
+}
+
+#[test]
+fn a_compaction_begins_new_tables() {
+    let (runs, all) = several();
+    for target_size in [0, 1, 100, 500] {
+        let options = Options { id: 9, data_block_size: 64, ..Options::default() };
+        let by = Compaction { watermark: NEWEST, target_size, options, ..Compaction::default() };
+        let compacted = runs.compact(&by).unwrap();
+        let count = compacted.tables.len() as u64;
+        assert!(count > 2 && compacted.next_id == Some(9 + count));
+        let ids: Vec<_> = compacted.tables.iter().map(|table| table.id).collect();
+        assert_eq!(ids, (9..9 + count).collect::<Vec<_>>());
+        let tables: Vec<_> =
+            compacted.tables.iter().map(|table| Table::open(table).unwrap()).collect();
+        let read: Vec<_> = tables.iter().flat_map(|table| collect(table.iter().unwrap())).collect();
+        assert_eq!(read, kept(&all, &by));
+    }
+}
+
+#[test]
+fn a_compaction_that_is_refused() {
+    let (runs, _) = several();
+    let spent = Options { id: u64::MAX, data_block_size: 64, ..Options::default() };
+    let by = Compaction { target_size: 1, options: spent, ..Compaction::default() };
+    assert_eq!(runs.compact(&by), Err(Error::TableIdsSpent));
+    let one = runs.compact(&Compaction { target_size: NEWEST, ..by }).unwrap();
+    assert_eq!((one.tables.len(), one.next_id), (1, None));
+    let unusable = Options { data_block_restart_interval: 0, ..Options::default() };
+    let by = Compaction { options: unusable, ..Compaction::default() };
+    assert_eq!(runs.compact(&by), Err(Error::NoSuch));
+    let table = &runs.tables()[0];
+    let twice = Runs::from_tables([table.clone(), table.clone()]).unwrap();
+    assert_eq!(twice.compact(&Compaction::default()), Err(Error::OutOfOrder));
+    let none = Runs::new().unwrap();
+    assert!(none.compact(&Compaction::default()).unwrap().tables.is_empty());
+    assert!(none.iter(NEWEST).unwrap().next().is_none());
+    assert_eq!(none.get(b"", NEWEST), Ok(None));
+}
+
+#[test]
+fn a_damaged_table_is_not_compacted() {
+    let mut file = write(&small(2), &items(&random_entries(13, 100))).bytes;
+    file[50] ^= 0xff;
+    let runs = Runs::from_tables([Table::open(&file).unwrap()]).unwrap();
+    assert_eq!(runs.compact(&Compaction::default()), Err(Error::ChecksumMismatch));
+    let mut range = runs.iter(NEWEST).unwrap();
+    assert!(range.by_ref().any(|item| item.is_err()));
+    assert!(range.next().is_none() && range.next_back().is_none());
+}

@@ -1,0 +1,77 @@
+-- What is told of a compaction. Assumes `Logic`.
+use Rattle.std.proofs.Common.{◌≡◌, ℕ, ◌⊎◌, false, List, [], Option, Some, None, Result, Ok, Err, refl, sym, ap, inl, inr, subst}
+use Rattle.std.specs.Prelude.{IsSomeAnd, unwrap_or}
+use Rattle.std.specs.Global.{Global}
+use Rattle.sst_entries.specs.Error.{number_of}
+use Rattle.sst_entries.specs.declared.error.Error.{Error}
+use Rattle.sst_entries.specs.declared.error.Error.TheVariants.{OutOfMemory}
+use Rattle.lsm_compactions.specs.declared.any_runs.CompactionOutcome.{CompactionOutcome}
+use Rattle.lsm_compactions.specs.declared.any_runs.CompactionOutcome.TheVariants.{OutOfOrder}
+use Rattle.lsm_compactions.specs.declared.any_runs.CompactionOutcome.TheVariants.{Stopped, Tables}
+use Rattle.lsm_readers.specs.Table.{OpenTable}
+use Rattle.lsm_sorted.specs.declared.compaction.Rules.{Rules}
+use Rattle.lsm_writers.specs.Tables.{TablesWriting}
+use Rattle.lsm_writers.specs.declared.writer.FinishedTable.{FinishedTable}
+use Rattle.sst_c.specs.Compact.{IsCompactionOf, TellsOutcome}
+use Rattle.sst_c.specs.What.{HoldsFiles}
+use Rattle.sst_c.specs.declared.held.Held.{Held}
+
+pub outcome_err : (e : Error) (held : Option Held) (next : ℕ)
+    → TellsOutcome (number_of e) held next (Err e)
+unfolding TellsOutcome
+outcome_err e held next = refl
+
+pub outcome_order : (held : Option Held) (next : ℕ) → TellsOutcome 104 held next (Ok OutOfOrder)
+unfolding TellsOutcome
+outcome_order held next = refl
+
+pub both_some : {X : Type 0} (o : Option X) (P Q : X → Type 0) → IsSomeAnd o P → IsSomeAnd o Q
+    → IsSomeAnd o (λ x. P x × Q x)
+both_some (Some x) P Q p q = (p, q)
+both_some None P Q p q = p
+
+-- want of memory comes of any compaction
+pub wants_memory : (runs : List (List OpenTable)) (rules : Rules) (w : TablesWriting)
+    → IsCompactionOf runs rules w (Err OutOfMemory)
+wants_memory runs rules w = record {
+  tables = λ able lists hold. tt;
+  refused = λ able lists hold other. absurd (let no : ⊥ = cc in no);
+  taken = λ able lists hold fits. refl;
+  merged = λ lists hold some. tt;
+  faulted = λ lists hold some other. absurd (let no : ⊥ = cc in no);
+  any = λ ascend. inl (λ other. absurd (let no : ⊥ = cc in no));
+  made = tt;
+  through = tt;
+}
+
+abbrev finished_in : CompactionOutcome Global → List (FinishedTable Global)
+finished_in (Tables tables left) = tables.items
+finished_in OutOfOrder = []
+finished_in Stopped = []
+
+abbrev left_in : CompactionOutcome Global → Option ℕ
+left_in (Tables tables left) = left
+left_in OutOfOrder = None
+left_in Stopped = None
+
+abbrev has_tables : CompactionOutcome Global → Type 0
+has_tables (Tables tables left) = Unit {0}
+has_tables OutOfOrder = ⊥
+has_tables Stopped = ⊥
+
+-- finished tables are held and told, or memory is wanted
+pub outcome_tables : (o : CompactionOutcome Global) → has_tables o → (code next : ℕ)
+    (held : Option Held) → (code ≡ 0) ⊎ (code ≡ 1)
+    → (code ≡ 0 → IsSomeAnd held (λ h. h.found ≡ None))
+    → (code ≡ 0 → IsSomeAnd held (λ h. HoldsFiles (finished_in o) h.what))
+    → (code ≡ 0 → next ≡ unwrap_or (left_in o) 0)
+    → TellsOutcome code held next (Ok o)
+unfolding TellsOutcome
+outcome_tables (Tables tables left) has code next held codes new files ids = elim codes [
+  | inl zero ↦ inr (zero, both_some held (λ h. h.found ≡ None) (λ h. HoldsFiles tables.items h.what) (new zero) (files zero), ids zero)
+  | inr one ↦ inl one
+]
+outcome_tables OutOfOrder has code next held codes new files ids = absurd has
+outcome_tables Stopped has code next held codes new files ids = absurd has
+
+pub ruleset told_outcomes = (outcome_err, outcome_order)

@@ -1,0 +1,18 @@
+use Rattle.std.proofs.Common.{◌∙◌}
+use Rattle.lsm_readers.specs.Many.{found_told}
+use Rattle.lsm_readers.specs.Words.{lift}
+use Rattle.sst_c.specs.Many.{keys_cut}
+use Rattle.sst_c.proofs.ManyFound.{counted, list_given}
+use Rattle.sst_c.proofs.many.found_of.Goals as goal
+
+pub returns-clause-list : goal.returns-clause-list
+returns-clause-list c es stores =
+    list_given (λ found. found.items) c.get_many.result (lift es c.args.table.now.global_seqno)
+    c.args.seqno (keys_cut c.args.lens.now c.args.keys.now) c.deref.result.now
+    (c.deref.ensures.value ∙ c.in_ok-queries.ensures.ok) (c.get_many.ensures.list es stores)
+
+pub returns-clause-count : goal.returns-clause-count
+returns-clause-count c =
+    counted (λ found. found.items) c.get_many.result (found_told c.args.table.now) c.args.keys.now
+    c.args.lens.now c.args.seqno c.deref.result.now
+    (c.deref.ensures.value ∙ c.in_ok-queries.ensures.ok) c.get_many.ensures.told

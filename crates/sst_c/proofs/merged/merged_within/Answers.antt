@@ -1,0 +1,20 @@
+use Rattle.std.proofs.Common.{List, ap, ◌∙◌, ℕ}
+use Rattle.std.specs.declared.ops.Bound.{Bound}
+use Rattle.lsm_runs.specs.Words.{newest, numbered_below, union_in, within}
+use Rattle.sst_c.specs.What.{bound_told}
+use Rattle.sst_c.proofs.MergedLists.{list_same}
+use Rattle.sst_c.proofs.merged.merged_within.Goals as goal
+
+-- it lies within the bounds that were made
+pub returns-clause-list : goal.returns-clause-list
+returns-clause-list c lists hold =
+    let low = bound_told c.args.lower_kind c.args.lower.now in
+    let high = bound_told c.args.upper_kind c.args.upper.now in
+    let from = c.in_ok-range.range.0 in
+    let to = c.in_ok-range.range.1 in
+    list_same _ _ c.merged_of.result (λ held. held.value.what)
+    (newest (numbered_below c.args.seqno (within from to (union_in lists))))
+    (newest (numbered_below c.args.seqno (within low high (union_in lists))))
+    (ap (λ (b : Bound (List ℕ)). newest (numbered_below c.args.seqno (within b to (union_in lists)))) c.in_ok-range.ensures.lower
+    ∙ ap (λ (b : Bound (List ℕ)). newest (numbered_below c.args.seqno (within low b (union_in lists)))) c.in_ok-range.ensures.upper)
+    (c.merged_of.ensures.list lists hold)

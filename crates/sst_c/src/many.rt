@@ -1,0 +1,369 @@
+//! Many reads of a table at once, and what they found.
+ghost use Rattle.std.specs.Prelude.{◌≡◌, ◌≢◌, ◌<◌, ◌≤◌, ◌==◌, ◌⊎◌, false, true, IfErr, IfOk, List};
+ghost use Rattle.std.specs.Prelude.{IsSomeAnd, None, Ok, Some, is_some, length, map};
+ghost use Rattle.std.specs.List.{sum};
+ghost use Rattle.sst_entries.specs.Error.{Gives};
+ghost use Rattle.sst_entries.specs.declared.error.Error.TheVariants.{OutOfMemory};
+ghost use Rattle.lsm_readers.specs.Many.{many_told};
+ghost use Rattle.lsm_readers.specs.Words.{Entry, OpenTable, StoresList, lift, point};
+ghost use Rattle.sst_c.specs.Copies.{laid_over};
+ghost use Rattle.sst_c.specs.Many.{AnswersMany, answer_at, copy_at_code, keys_cut, lend_at_code};
+ghost use Rattle.sst_c.specs.Many.{many_kept, queries_for};
+ghost use Rattle.sst_c.specs.Told.{entry_facts};
+ghost use Rattle.sst_c.specs.What.{is_table, many_in};
+ghost use Rattle.sst_c.specs.declared.held.Held.{Held as HeldValue};
+ghost use Rattle.sst_c.specs.declared.held.What.TheVariants.{Table as TableOf};
+
+use crate::codes::{CLOSED, NO_ROOM, NO_SUCH, NOTHING, OPEN, OTHER_KIND};
+use crate::entries::{EntryTold, tell};
+use crate::found::{Lent, copy_item, lend_item};
+use crate::handle::Handle;
+use crate::held::{Held, What};
+use lsm_readers::{Query, Table, get_many};
+use sst_blocks::{Error, InternalValue, SeqNo, Slice};
+use std::alloc::Global;
+
+// Whether lengths add up to a count of bytes.
+fn add_up(lens: &[u64], count: u64) -> bool
+    ensures { result ≡ (sum lens.now == count) }
+{
+    let mut left = count;
+    for len in lens {
+        if *len > left {
+            return false;
+        }
+        left -= *len;
+    }
+    left == 0
+}
+
+// The queries for keys of these lengths that stand one behind another.
+fn queries_of(
+    alloc: Global,
+    keys: &[u8],
+    lens: &[u64],
+    seqno: SeqNo,
+) -> Result<Vec<Query>, Error>
+    requires { sum lens.now ≡ length keys.now }
+    ensures ok { IfOk result (λ qs. qs.items ≡ queries_for keys.now lens.now seqno) }
+    ensures err { IfErr result (λ e. e ≡ OutOfMemory) }
+{
+    let whole = Slice::from(alloc, keys)?;
+    let mut queries = Vec::with_capacity(alloc, lens.len())?;
+    let mut at = 0;
+    for len in lens {
+        let end = at + *len as usize;
+        let key = whole.slice(at, end)?;
+        queries.push(Query { key, seqno })?;
+        at = end;
+    }
+    Ok(queries)
+}
+
+// What was found of each of these keys.
+fn found_of(
+    alloc: Global,
+    table: &Table,
+    keys: &[u8],
+    lens: &[u64],
+    seqno: SeqNo,
+) -> Result<Vec<Option<InternalValue>>, Error>
+    requires { sum lens.now ≡ length keys.now }
+    ensures told { let told = many_told table.now (queries_for keys.now lens.now seqno) in
+        Gives (λ found. found.items) result told }
+    ensures list { (es : List Entry) → StoresList table.now.bytes es →
+        let all = lift es table.now.global_seqno in
+        let each = map (λ k. point all k seqno) (keys_cut lens.now keys.now) in
+        Gives (λ found. found.items) result (Ok each) }
+    ensures count { IfOk result (λ found. length found.items ≡ length lens.now) }
+{
+    let queries = queries_of(alloc, keys, lens, seqno)?;
+    get_many(table, &queries)
+}
+
+// Tells of each entry, or that there is none.
+fn tell_each(found: &[Option<InternalValue>], entries: &mut [EntryTold])
+    requires { length found.now ≤ length entries.old }
+    ensures { entries.new ≡ laid_over (map entry_facts found.now) entries.old }
+{
+    for at in 0..found.len() {
+        entries[at] = tell(&found[at]);
+    }
+}
+
+// Tells of what is held.
+fn tell_held(held: &Held, entries: &mut [EntryTold])
+    requires { IsSomeAnd (many_in held.now.what) (λ found. length found ≤ length entries.old) }
+    ensures { IsSomeAnd (many_in held.now.what) (λ found.
+        entries.new ≡ laid_over (map entry_facts found) entries.old) }
+{
+    if let What::Answers(found) = &held.what {
+        tell_each(found, entries);
+    }
+}
+
+// The box of what was found.
+fn box_of(alloc: Global, found: Vec<Option<InternalValue>>) -> Result<Box<Held>, Error>
+    ensures new { IfOk result (λ held. held.value.found ≡ None) }
+    ensures many { IfOk result (λ held. many_in held.value.what ≡ Some found.items) }
+    ensures err { IfErr result (λ e. e ≡ OutOfMemory) }
+{
+    let held = Held {
+        found: None,
+        what: What::Answers(found),
+    };
+    Ok(Box::new(alloc, held)?)
+}
+
+// Keeps what was found in a handle that holds nothing, and tells it.
+fn keep_each(
+    alloc: Global,
+    found: Vec<Option<InternalValue>>,
+    entries: &mut [EntryTold],
+    answers: &mut Handle,
+) -> u32
+    requires empty { answers.old.boxed.value ≡ None }
+    requires room { length found.items ≤ length entries.old }
+    ensures memory { (result ≡ 0) ⊎ (result ≡ 1) }
+    ensures new { result ≡ 0 → IsSomeAnd answers.new.boxed.value (λ k. k.found ≡ None) }
+    ensures many { result ≡ 0 → IsSomeAnd answers.new.boxed.value (λ k.
+        many_in k.what ≡ Some found.items) }
+    ensures told { result ≡ 0 →
+        entries.new ≡ laid_over (map entry_facts found.items) entries.old }
+    ensures left { result ≢ 0 →
+        (entries.new ≡ entries.old) × (answers.new.boxed.value ≡ None) }
+{
+    match box_of(alloc, found) {
+        Ok(held) => {
+            tell_held(&held, entries);
+            answers.put(held);
+            0
+        }
+        Err(error) => u32::from(error.number()),
+    }
+}
+
+// Reads for these keys.
+#[tactic(auto, using(crate::proofs::ManyAnswers::answers_many))]
+fn read_each(
+    alloc: Global,
+    table: &Table,
+    keys: &[u8],
+    lens: &[u64],
+    seqno: SeqNo,
+    entries: &mut [EntryTold],
+    answers: &mut Handle,
+) -> u32
+    requires empty { answers.old.boxed.value ≡ None }
+    requires sum { sum lens.now ≡ length keys.now }
+    requires room { length lens.now ≤ length entries.old }
+    ensures told { let told = many_told table.now (queries_for keys.now lens.now seqno) in
+        let kept = many_kept answers.new.boxed.value in
+        AnswersMany result kept entries.old entries.new told }
+    ensures list { (es : List Entry) → StoresList table.now.bytes es →
+        let all = lift es table.now.global_seqno in
+        let each = map (λ k. point all k seqno) (keys_cut lens.now keys.now) in
+        let kept = many_kept answers.new.boxed.value in
+        AnswersMany result kept entries.old entries.new (Ok each) }
+    ensures new { result ≡ 0 → IsSomeAnd answers.new.boxed.value (λ k. k.found ≡ None) }
+    ensures left { result ≢ 0 →
+        (entries.new ≡ entries.old) × (answers.new.boxed.value ≡ None) }
+{
+    match found_of(alloc, table, keys, lens, seqno) {
+        Ok(found) => keep_each(alloc, found, entries, answers),
+        Err(error) => u32::from(error.number()),
+    }
+}
+
+fn get_each(
+    alloc: Global,
+    held: &Held,
+    keys: &[u8],
+    lens: &[u64],
+    seqno: SeqNo,
+    entries: &mut [EntryTold],
+    answers: &mut Handle,
+) -> u32
+    requires { answers.old.boxed.value ≡ None }
+    ensures kind { is_table held.now.what ≡ false → result ≡ 102 }
+    ensures lengths { is_table held.now.what ≡ true → sum lens.now ≢ length keys.now →
+        result ≡ 105 }
+    ensures room { is_table held.now.what ≡ true → sum lens.now ≡ length keys.now →
+        length entries.old < length lens.now → result ≡ 103 }
+    ensures told { (t : OpenTable) → held.now.what ≡ TableOf t → sum lens.now ≡ length keys.now →
+        length lens.now ≤ length entries.old →
+        let told = many_told t (queries_for keys.now lens.now seqno) in
+        let kept = many_kept answers.new.boxed.value in
+        AnswersMany result kept entries.old entries.new told }
+    ensures list { (t : OpenTable) (es : List Entry) → held.now.what ≡ TableOf t →
+        sum lens.now ≡ length keys.now → length lens.now ≤ length entries.old →
+        StoresList t.bytes es → let all = lift es t.global_seqno in
+        let each = map (λ k. point all k seqno) (keys_cut lens.now keys.now) in
+        let kept = many_kept answers.new.boxed.value in
+        AnswersMany result kept entries.old entries.new (Ok each) }
+    ensures new { result ≡ 0 → IsSomeAnd answers.new.boxed.value (λ k. k.found ≡ None) }
+    ensures left { result ≢ 0 →
+        (entries.new ≡ entries.old) × (answers.new.boxed.value ≡ None) }
+{
+    let What::Table(table) = &held.what else {
+        return OTHER_KIND;
+    };
+    if !add_up(lens, keys.len() as u64) {
+        return NO_SUCH;
+    }
+    if entries.len() < lens.len() {
+        return NO_ROOM;
+    }
+    read_each(alloc, table, keys, lens, seqno, entries, answers)
+}
+
+/// Finds of each of some keys what `sst_table_get` finds, keeps all of it in a handle that holds
+/// nothing, and tells of each its kind, number and lengths, in the order of the keys. The keys
+/// stand one behind another in `keys`, and have these lengths. Refused 101 where the answers'
+/// handle holds something, 100 where the table's is closed, 102 where it holds no table, 105 where
+/// the lengths do not add up to how many bytes there are, 103 where there are fewer entries than
+/// keys, and as `get_many`; nothing is kept or told then.
+#[unsafe(no_mangle)]
+pub extern "C" fn sst_table_get_many(
+    alloc: Global,
+    table: &mut Handle,
+    keys: &[u8],
+    key_lens: &[u64],
+    seqno: u64,
+    entries: &mut [EntryTold],
+    answers: &mut Handle,
+) -> u32
+    ensures kept { table.new.boxed.value ≡ table.old.boxed.value }
+    ensures open { is_some answers.old.boxed.value ≡ true → result ≡ 101 }
+    ensures shut { answers.old.boxed.value ≡ None → table.old.boxed.value ≡ None → result ≡ 100 }
+    ensures kind { (h : HeldValue) → answers.old.boxed.value ≡ None →
+        table.old.boxed.value ≡ Some h → is_table h.what ≡ false → result ≡ 102 }
+    ensures lengths { (h : HeldValue) → answers.old.boxed.value ≡ None →
+        table.old.boxed.value ≡ Some h → is_table h.what ≡ true →
+        sum key_lens.now ≢ length keys.now → result ≡ 105 }
+    ensures room { (h : HeldValue) → answers.old.boxed.value ≡ None →
+        table.old.boxed.value ≡ Some h → is_table h.what ≡ true →
+        sum key_lens.now ≡ length keys.now → length entries.old < length key_lens.now →
+        result ≡ 103 }
+    // Whatever the bytes, it is what the table tells of each key, or of the first that is refused,
+    ensures told { (h : HeldValue) (t : OpenTable) → answers.old.boxed.value ≡ None →
+        table.old.boxed.value ≡ Some h → h.what ≡ TableOf t →
+        sum key_lens.now ≡ length keys.now → length key_lens.now ≤ length entries.old →
+        let told = many_told t (queries_for keys.now key_lens.now seqno) in
+        let kept = many_kept answers.new.boxed.value in
+        AnswersMany result kept entries.old entries.new told }
+    // and on bytes that store a list each key's first match in the list, its numbers lifted.
+    ensures list { (h : HeldValue) (t : OpenTable) (es : List Entry) →
+        answers.old.boxed.value ≡ None → table.old.boxed.value ≡ Some h → h.what ≡ TableOf t →
+        sum key_lens.now ≡ length keys.now → length key_lens.now ≤ length entries.old →
+        StoresList t.bytes es → let all = lift es t.global_seqno in
+        let each = map (λ k. point all k seqno) (keys_cut key_lens.now keys.now) in
+        let kept = many_kept answers.new.boxed.value in
+        AnswersMany result kept entries.old entries.new (Ok each) }
+    ensures new { result ≡ 0 → IsSomeAnd answers.new.boxed.value (λ k. k.found ≡ None) }
+    ensures left { result ≢ 0 →
+        (entries.new ≡ entries.old) × (answers.new.boxed.value ≡ answers.old.boxed.value) }
+{
+    if answers.is_open() {
+        return OPEN;
+    }
+    let Some(held) = table.take(alloc) else {
+        return CLOSED;
+    };
+    let code = get_each(alloc, &held, keys, key_lens, seqno, entries, answers);
+    table.put(held);
+    code
+}
+
+fn lend_at(held: &Held, index: u64, lent: &mut Lent) -> u32
+    ensures code { result ≡ lend_at_code (many_in held.now.what) index }
+    ensures lent { (e : Entry) → answer_at (many_in held.now.what) index ≡ Some e →
+        (lent.new.key_len ≡ length e.user_key) × (lent.new.value_len ≡ length e.value) }
+    ensures left { result ≢ 0 → lent.new ≡ lent.old }
+{
+    let What::Answers(found) = &held.what else {
+        return OTHER_KIND;
+    };
+    match found.get(index as usize) {
+        Some(Some(item)) => {
+            lend_item(item, lent);
+            0
+        }
+        Some(None) => NOTHING,
+        None => NO_SUCH,
+    }
+}
+
+/// Lends the key and the value of what was found of the key at a place, from 0 on: they lie there
+/// until the answers are closed. Refused 100 where the handle is closed, 102 where it holds no
+/// answers, 105 where there is no key at that place, and 106 where nothing was found of it; what
+/// `lent` says stays then.
+#[unsafe(no_mangle)]
+pub extern "C" fn sst_answers_lend(
+    alloc: Global,
+    answers: &mut Handle,
+    index: u64,
+    lent: &mut Lent,
+) -> u32
+    ensures kept { answers.new.boxed.value ≡ answers.old.boxed.value }
+    ensures shut { answers.old.boxed.value ≡ None → result ≡ 100 }
+    ensures code { (h : HeldValue) → answers.old.boxed.value ≡ Some h →
+        result ≡ lend_at_code (many_in h.what) index }
+    ensures lent { (h : HeldValue) (e : Entry) → answers.old.boxed.value ≡ Some h →
+        answer_at (many_in h.what) index ≡ Some e →
+        (lent.new.key_len ≡ length e.user_key) × (lent.new.value_len ≡ length e.value) }
+    ensures left { result ≢ 0 → lent.new ≡ lent.old }
+{
+    let Some(held) = answers.take(alloc) else {
+        return CLOSED;
+    };
+    let code = lend_at(&held, index, lent);
+    answers.put(held);
+    code
+}
+
+fn copy_at(held: &Held, index: u64, key: &mut [u8], value: &mut [u8]) -> u32
+    ensures code { result ≡ copy_at_code (many_in held.now.what) index key.old value.old }
+    ensures copied { (e : Entry) → answer_at (many_in held.now.what) index ≡ Some e →
+        result ≡ 0 →
+        (key.new ≡ laid_over e.user_key key.old) × (value.new ≡ laid_over e.value value.old) }
+    ensures left { result ≢ 0 → (key.new ≡ key.old) × (value.new ≡ value.old) }
+{
+    let What::Answers(found) = &held.what else {
+        return OTHER_KIND;
+    };
+    match found.get(index as usize) {
+        Some(Some(item)) => copy_item(item, key, value),
+        Some(None) => NOTHING,
+        None => NO_SUCH,
+    }
+}
+
+/// Copies the key and the value of what was found of the key at a place, from 0 on, to the fronts
+/// of two rooms. Refused 100 where the handle is closed, 102 where it holds no answers, 105 where
+/// there is no key at that place, 106 where nothing was found of it, and 103 where a room is too
+/// small: nothing is copied then, and nothing is lost.
+#[unsafe(no_mangle)]
+pub extern "C" fn sst_answers_copy(
+    alloc: Global,
+    answers: &mut Handle,
+    index: u64,
+    key: &mut [u8],
+    value: &mut [u8],
+) -> u32
+    ensures kept { answers.new.boxed.value ≡ answers.old.boxed.value }
+    ensures shut { answers.old.boxed.value ≡ None → result ≡ 100 }
+    ensures code { (h : HeldValue) → answers.old.boxed.value ≡ Some h →
+        result ≡ copy_at_code (many_in h.what) index key.old value.old }
+    ensures copied { (h : HeldValue) (e : Entry) → answers.old.boxed.value ≡ Some h →
+        answer_at (many_in h.what) index ≡ Some e → result ≡ 0 →
+        (key.new ≡ laid_over e.user_key key.old) × (value.new ≡ laid_over e.value value.old) }
+    ensures left { result ≢ 0 → (key.new ≡ key.old) × (value.new ≡ value.old) }
+{
+    let Some(held) = answers.take(alloc) else {
+        return CLOSED;
+    };
+    let code = copy_at(&held, index, key, value);
+    answers.put(held);
+    code
+}

@@ -1,0 +1,279 @@
+//! Ranges of several runs, read from both ends.
+ghost use Rattle.std.specs.Prelude.{◌≡◌, ◌≢◌, ◌<◌, ◌⊎◌, ◌||◌, false, IfErr, IfOk, IsSomeAnd, List};
+ghost use Rattle.std.specs.Prelude.{None, Ok, Some, is_some, nat_lt, true};
+ghost use Rattle.sst_entries.specs.declared.error.Error.TheVariants.{OutOfMemory};
+ghost use Rattle.lsm_runs.specs.Words.{DealsList, Entry, IsOverSpansBelow, RunsHoldLists, newest};
+ghost use Rattle.lsm_runs.specs.Words.{numbered_below, union_in, within};
+ghost use Rattle.sst_c.specs.Steps.{NewestAt, StepsUntil};
+ghost use Rattle.sst_c.specs.What.{IsMergedWhere, are_runs, bound_told, runs_held};
+ghost use Rattle.sst_c.specs.declared.held.Held.{Held as HeldValue};
+
+use crate::asked::Asked;
+use crate::codes::{CLOSED, NO_SUCH, OPEN, OTHER_KIND};
+use crate::handle::Handle;
+use crate::held::{Held, What};
+use crate::ranges::{bound, outcome_of};
+use crate::run_list::RunList;
+use lsm_runs::{NewestOfRunsAt, RunReader, range_runs_at};
+use lsm_sorted::Below;
+use sst_blocks::{Error, InternalValue, IterItem, SeqNo, Slice};
+use std::alloc::Global;
+use std::ops::Bound;
+
+// The newest versions below a number of what runs have together within two bounds.
+fn newest_within(
+    alloc: Global,
+    runs: &RunList,
+    range: (Bound<Slice>, Bound<Slice>),
+    seqno: SeqNo,
+) -> Result<Asked<NewestOfRunsAt<Global>>, Error>
+    ensures steps { IfOk result (λ s.
+        IsOverSpansBelow ⟦<Below<RunReader<Global>> as Iterator>⟧.next_gives
+        ⟦<Below<RunReader<Global>> as DoubleEndedIterator>⟧.next_back_gives
+        ⟦<NewestOfRunsAt<Global> as Iterator>⟧.next_gives
+        ⟦<NewestOfRunsAt<Global> as DoubleEndedIterator>⟧.next_back_gives
+        range.0 range.1 seqno runs.now s) }
+    ensures list { let gives = ⟦<NewestOfRunsAt<Global> as Iterator>⟧.next_gives in
+        let back_gives = ⟦<NewestOfRunsAt<Global> as DoubleEndedIterator>⟧.next_back_gives in
+        (lists : List (List (List Entry))) →
+        RunsHoldLists runs.now lists →
+        let found = newest (numbered_below seqno (within range.0 range.1 (union_in lists))) in
+        IfOk result (λ s. DealsList gives back_gives found s) }
+    ensures err { IfErr result (λ e. e ≡ OutOfMemory) }
+{
+    Ok(Asked::new(range_runs_at(alloc, runs.as_slice(), range, seqno)?))
+}
+
+// The box of these.
+fn merged_of(
+    alloc: Global,
+    runs: &RunList,
+    range: (Bound<Slice>, Bound<Slice>),
+    seqno: SeqNo,
+) -> Result<Box<Held>, Error>
+    ensures new { IfOk result (λ held. held.value.found ≡ None) }
+    ensures steps { IfOk result (λ held. IsMergedWhere
+        (IsOverSpansBelow ⟦<Below<RunReader<Global>> as Iterator>⟧.next_gives
+        ⟦<Below<RunReader<Global>> as DoubleEndedIterator>⟧.next_back_gives
+        ⟦<NewestOfRunsAt<Global> as Iterator>⟧.next_gives
+        ⟦<NewestOfRunsAt<Global> as DoubleEndedIterator>⟧.next_back_gives
+        range.0 range.1 seqno runs.now) held.value.what) }
+    ensures list { let gives = ⟦<NewestOfRunsAt<Global> as Iterator>⟧.next_gives in
+        let back_gives = ⟦<NewestOfRunsAt<Global> as DoubleEndedIterator>⟧.next_back_gives in
+        (lists : List (List (List Entry))) →
+        RunsHoldLists runs.now lists →
+        let found = newest (numbered_below seqno (within range.0 range.1 (union_in lists))) in
+        IfOk result (λ held. IsMergedWhere (DealsList gives back_gives found) held.value.what) }
+    ensures err { IfErr result (λ e. e ≡ OutOfMemory) }
+{
+    let held = Held {
+        found: None,
+        what: What::Merged(Some(newest_within(alloc, runs, range, seqno)?)),
+    };
+    Ok(Box::new(alloc, held)?)
+}
+
+// The two bounds of these kinds.
+fn bounds(
+    alloc: Global,
+    lower_kind: u32,
+    lower: &[u8],
+    upper_kind: u32,
+    upper: &[u8],
+) -> Result<(Bound<Slice>, Bound<Slice>), Error>
+    requires lower { lower_kind < 3 }
+    requires upper { upper_kind < 3 }
+    ensures lower { IfOk result (λ b. b.0 ≡ bound_told lower_kind lower.now) }
+    ensures upper { IfOk result (λ b. b.1 ≡ bound_told upper_kind upper.now) }
+    ensures err { IfErr result (λ e. e ≡ OutOfMemory) }
+{
+    let low = bound(alloc, lower_kind, lower)?;
+    let high = bound(alloc, upper_kind, upper)?;
+    Ok((low, high))
+}
+
+// The box of what runs have together within bounds of these kinds.
+fn merged_within(
+    alloc: Global,
+    runs: &RunList,
+    lower_kind: u32,
+    lower: &[u8],
+    upper_kind: u32,
+    upper: &[u8],
+    seqno: SeqNo,
+) -> Result<Box<Held>, Error>
+    requires lower { lower_kind < 3 }
+    requires upper { upper_kind < 3 }
+    ensures new { IfOk result (λ held. held.value.found ≡ None) }
+    ensures steps { let low = bound_told lower_kind lower.now in
+        let high = bound_told upper_kind upper.now in IfOk result (λ held. IsMergedWhere
+        (IsOverSpansBelow ⟦<Below<RunReader<Global>> as Iterator>⟧.next_gives
+        ⟦<Below<RunReader<Global>> as DoubleEndedIterator>⟧.next_back_gives
+        ⟦<NewestOfRunsAt<Global> as Iterator>⟧.next_gives
+        ⟦<NewestOfRunsAt<Global> as DoubleEndedIterator>⟧.next_back_gives
+        low high seqno runs.now) held.value.what) }
+    ensures list { let gives = ⟦<NewestOfRunsAt<Global> as Iterator>⟧.next_gives in
+        let back_gives = ⟦<NewestOfRunsAt<Global> as DoubleEndedIterator>⟧.next_back_gives in
+        let low = bound_told lower_kind lower.now in let high = bound_told upper_kind upper.now in
+        (lists : List (List (List Entry))) →
+        RunsHoldLists runs.now lists →
+        let found = newest (numbered_below seqno (within low high (union_in lists))) in
+        IfOk result (λ held. IsMergedWhere (DealsList gives back_gives found) held.value.what) }
+    ensures err { IfErr result (λ e. e ≡ OutOfMemory) }
+{
+    let range = bounds(alloc, lower_kind, lower, upper_kind, upper)?;
+    merged_of(alloc, runs, range, seqno)
+}
+
+// Puts a range of runs into a handle that holds nothing.
+fn begin_merged(
+    alloc: Global,
+    held: &Held,
+    lower_kind: u32,
+    lower: &[u8],
+    upper_kind: u32,
+    upper: &[u8],
+    seqno: SeqNo,
+    range: &mut Handle,
+) -> u32
+    requires { range.old.boxed.value ≡ None }
+    ensures other { are_runs held.now.what ≡ false → result ≡ 102 }
+    ensures kinds { are_runs held.now.what ≡ true →
+        nat_lt 2 lower_kind || nat_lt 2 upper_kind ≡ true → result ≡ 105 }
+    ensures memory { are_runs held.now.what ≡ true →
+        nat_lt 2 lower_kind || nat_lt 2 upper_kind ≡ false → (result ≡ 0) ⊎ (result ≡ 1) }
+    ensures new { result ≡ 0 → IsSomeAnd range.new.boxed.value (λ r. r.found ≡ None) }
+    ensures steps { result ≡ 0 →
+        let low = bound_told lower_kind lower.now in let high = bound_told upper_kind upper.now in
+        IsSomeAnd range.new.boxed.value (λ r. IsMergedWhere
+        (IsOverSpansBelow ⟦<Below<RunReader<Global>> as Iterator>⟧.next_gives
+        ⟦<Below<RunReader<Global>> as DoubleEndedIterator>⟧.next_back_gives
+        ⟦<NewestOfRunsAt<Global> as Iterator>⟧.next_gives
+        ⟦<NewestOfRunsAt<Global> as DoubleEndedIterator>⟧.next_back_gives
+        low high seqno (runs_held held.now.what)) r.what) }
+    ensures list { let gives = ⟦<NewestOfRunsAt<Global> as Iterator>⟧.next_gives in
+        let back_gives = ⟦<NewestOfRunsAt<Global> as DoubleEndedIterator>⟧.next_back_gives in
+        let low = bound_told lower_kind lower.now in let high = bound_told upper_kind upper.now in
+        (lists : List (List (List Entry))) → result ≡ 0 →
+        RunsHoldLists (runs_held held.now.what) lists →
+        let found = newest (numbered_below seqno (within low high (union_in lists))) in
+        IsSomeAnd range.new.boxed.value (λ r.
+        IsMergedWhere (DealsList gives back_gives found) r.what) }
+    ensures left { result ≢ 0 → range.new.boxed.value ≡ None }
+{
+    let What::Runs(runs) = &held.what else {
+        return OTHER_KIND;
+    };
+    if lower_kind > 2 || upper_kind > 2 {
+        return NO_SUCH;
+    }
+    match merged_within(alloc, runs, lower_kind, lower, upper_kind, upper, seqno) {
+        Ok(held) => {
+            range.put(held);
+            0
+        }
+        Err(error) => u32::from(error.number()),
+    }
+}
+
+/// Begins to read what the tables of a list of runs have together within two bounds, into a handle
+/// that holds nothing: of each key the newest version that is numbered below `seqno`. A bound is of
+/// kind 0 where there is none, 1 with its key and 2 without it. Nothing is loaded yet. The range
+/// has shares of the tables, which may be closed before it, as the list may.
+///
+/// Refused 101 where the range's handle holds something, 100 where the list's is closed, 102 where
+/// it holds no runs, 105 where a bound has another kind, and for want of memory; the handles stay
+/// as they are then.
+#[unsafe(no_mangle)]
+pub extern "C" fn sst_runs_range_open(
+    alloc: Global,
+    runs: &mut Handle,
+    lower_kind: u32,
+    lower: &[u8],
+    upper_kind: u32,
+    upper: &[u8],
+    seqno: u64,
+    range: &mut Handle,
+) -> u32
+    ensures kept { runs.new.boxed.value ≡ runs.old.boxed.value }
+    ensures left { result ≢ 0 → range.new.boxed.value ≡ range.old.boxed.value }
+    ensures open { is_some range.old.boxed.value ≡ true → result ≡ 101 }
+    ensures shut { range.old.boxed.value ≡ None → runs.old.boxed.value ≡ None → result ≡ 100 }
+    ensures other { (h : HeldValue) → range.old.boxed.value ≡ None →
+        runs.old.boxed.value ≡ Some h → are_runs h.what ≡ false → result ≡ 102 }
+    ensures kinds { (h : HeldValue) → range.old.boxed.value ≡ None →
+        runs.old.boxed.value ≡ Some h → are_runs h.what ≡ true →
+        nat_lt 2 lower_kind || nat_lt 2 upper_kind ≡ true → result ≡ 105 }
+    ensures memory { (h : HeldValue) → range.old.boxed.value ≡ None →
+        runs.old.boxed.value ≡ Some h → are_runs h.what ≡ true →
+        nat_lt 2 lower_kind || nat_lt 2 upper_kind ≡ false → (result ≡ 0) ⊎ (result ≡ 1) }
+    ensures new { result ≡ 0 → IsSomeAnd range.new.boxed.value (λ r. r.found ≡ None) }
+    // Whatever the bytes, it is over the readers of those tables whose ranges reach past the
+    // bounds, each below the number: an error of one stands in its place;
+    ensures steps { (h : HeldValue) → runs.old.boxed.value ≡ Some h → result ≡ 0 →
+        let low = bound_told lower_kind lower.now in let high = bound_told upper_kind upper.now in
+        IsSomeAnd range.new.boxed.value (λ r. IsMergedWhere
+        (IsOverSpansBelow ⟦<Below<RunReader<Global>> as Iterator>⟧.next_gives
+        ⟦<Below<RunReader<Global>> as DoubleEndedIterator>⟧.next_back_gives
+        ⟦<NewestOfRunsAt<Global> as Iterator>⟧.next_gives
+        ⟦<NewestOfRunsAt<Global> as DoubleEndedIterator>⟧.next_back_gives
+        low high seqno (runs_held h.what)) r.what) }
+    // of tables of lists it deals, to whatever ends, what is newest of all entries together, their
+    // numbers lifted, that lie within the bounds and are numbered below `seqno`.
+    ensures list { let gives = ⟦<NewestOfRunsAt<Global> as Iterator>⟧.next_gives in
+        let back_gives = ⟦<NewestOfRunsAt<Global> as DoubleEndedIterator>⟧.next_back_gives in
+        let low = bound_told lower_kind lower.now in let high = bound_told upper_kind upper.now in
+        (h : HeldValue) (lists : List (List (List Entry))) → runs.old.boxed.value ≡ Some h →
+        result ≡ 0 → RunsHoldLists (runs_held h.what) lists →
+        let found = newest (numbered_below seqno (within low high (union_in lists))) in
+        IsSomeAnd range.new.boxed.value (λ r.
+        IsMergedWhere (DealsList gives back_gives found) r.what) }
+{
+    if range.is_open() {
+        return OPEN;
+    }
+    let Some(held) = runs.take(alloc) else {
+        return CLOSED;
+    };
+    let code = begin_merged(
+        alloc, &held, lower_kind, lower, upper_kind, upper, seqno, range,
+    );
+    runs.put(held);
+    code
+}
+
+// The next entry of a source, where a read was not refused before.
+fn next_of<I: DoubleEndedIterator<Item = IterItem<Global>>>(
+    merged: &mut Option<Asked<I>>,
+    back: bool,
+) -> Result<Option<InternalValue>, Error>
+    ensures over { merged.old ≡ None → (result ≡ Ok None) × (merged.new ≡ None) }
+    ensures front { (s : I) → merged.old ≡ Some s → back ≡ false →
+        StepsUntil I.next_gives s result merged.new }
+    ensures back { (s : I) → merged.old ≡ Some s → back ≡ true →
+        StepsUntil I.next_back_gives s result merged.new }
+{
+    let Some(asked) = merged else {
+        return Ok(None);
+    };
+    let outcome = outcome_of(asked.step(back));
+    if outcome.is_err() {
+        *merged = None;
+    }
+    outcome
+}
+
+/// A step of what runs have together, where a read was not refused before.
+pub(crate) fn step_merged(
+    merged: &mut Option<Asked<NewestOfRunsAt<Global>>>,
+    back: bool,
+) -> Result<Option<InternalValue>, Error>
+    ensures over { merged.old ≡ None → (result ≡ Ok None) × (merged.new ≡ None) }
+    ensures front { (s : NewestAt) → merged.old ≡ Some s → back ≡ false →
+        StepsUntil ⟦<NewestOfRunsAt<Global> as Iterator>⟧.next_gives s result merged.new }
+    ensures back { (s : NewestAt) → merged.old ≡ Some s → back ≡ true →
+        StepsUntil ⟦<NewestOfRunsAt<Global> as DoubleEndedIterator>⟧.next_back_gives
+        s result merged.new }
+{
+    next_of(merged, back)
+}

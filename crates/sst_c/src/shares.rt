@@ -1,0 +1,78 @@
+//! Further handles of one table.
+ghost use Rattle.std.specs.Prelude.{◌≡◌, ◌≢◌, ◌⊎◌, false, IfErr, IfOk, IsSomeAnd, None, Some};
+ghost use Rattle.std.specs.Prelude.{is_some, true};
+ghost use Rattle.sst_entries.specs.declared.error.Error.TheVariants.{OutOfMemory};
+ghost use Rattle.lsm_readers.specs.Words.{OpenTable};
+ghost use Rattle.sst_c.specs.What.{is_table};
+ghost use Rattle.sst_c.specs.declared.held.Held.{Held as HeldValue};
+ghost use Rattle.sst_c.specs.declared.held.What.TheVariants.{Table as TableOf};
+
+use crate::codes::{CLOSED, OPEN, OTHER_KIND};
+use crate::handle::Handle;
+use crate::held::{Held, What};
+use lsm_readers::Table;
+use sst_blocks::Error;
+use std::alloc::Global;
+
+// The box of a share of a table.
+fn share_of(alloc: Global, table: &Table) -> Result<Box<Held>, Error>
+    ensures new { IfOk result (λ held. held.value.found ≡ None) }
+    ensures shared { IfOk result (λ held. held.value.what ≡ TableOf table.now) }
+    ensures err { IfErr result (λ e. e ≡ OutOfMemory) }
+{
+    let held = Held {
+        found: None,
+        what: What::Table(table.clone()?),
+    };
+    Ok(Box::new(alloc, held)?)
+}
+
+fn share(alloc: Global, held: &Held, other: &mut Handle) -> u32
+    requires { other.old.boxed.value ≡ None }
+    ensures kind { is_table held.now.what ≡ false → result ≡ 102 }
+    ensures memory { is_table held.now.what ≡ true → (result ≡ 0) ⊎ (result ≡ 1) }
+    ensures new { result ≡ 0 → IsSomeAnd other.new.boxed.value (λ k. k.found ≡ None) }
+    ensures shared { result ≡ 0 → IsSomeAnd other.new.boxed.value (λ k. k.what ≡ held.now.what) }
+    ensures left { result ≢ 0 → other.new.boxed.value ≡ None }
+{
+    let What::Table(table) = &held.what else {
+        return OTHER_KIND;
+    };
+    match share_of(alloc, table) {
+        Ok(held) => {
+            other.put(held);
+            0
+        }
+        Err(error) => u32::from(error.number()),
+    }
+}
+
+/// Makes a further handle of the table that a handle holds, in one that holds nothing. Neither
+/// knows what the other has found. Refused 101 where the other handle holds something, 100 where
+/// the table's is closed, 102 where it holds no table, and for want of memory; both stay as they
+/// are then.
+#[unsafe(no_mangle)]
+pub extern "C" fn sst_table_share(alloc: Global, table: &mut Handle, other: &mut Handle) -> u32
+    ensures kept { table.new.boxed.value ≡ table.old.boxed.value }
+    ensures left { result ≢ 0 → other.new.boxed.value ≡ other.old.boxed.value }
+    ensures open { is_some other.old.boxed.value ≡ true → result ≡ 101 }
+    ensures shut { other.old.boxed.value ≡ None → table.old.boxed.value ≡ None → result ≡ 100 }
+    ensures kind { (h : HeldValue) → other.old.boxed.value ≡ None → table.old.boxed.value ≡ Some h →
+        is_table h.what ≡ false → result ≡ 102 }
+    ensures memory { (h : HeldValue) → other.old.boxed.value ≡ None →
+        table.old.boxed.value ≡ Some h → is_table h.what ≡ true → (result ≡ 0) ⊎ (result ≡ 1) }
+    ensures new { result ≡ 0 → IsSomeAnd other.new.boxed.value (λ k. k.found ≡ None) }
+    // It holds the same table.
+    ensures shared { (h : HeldValue) → table.old.boxed.value ≡ Some h → result ≡ 0 →
+        IsSomeAnd other.new.boxed.value (λ k. k.what ≡ h.what) }
+{
+    if other.is_open() {
+        return OPEN;
+    }
+    let Some(held) = table.take(alloc) else {
+        return CLOSED;
+    };
+    let code = share(alloc, &held, other);
+    table.put(held);
+    code
+}
