@@ -264,10 +264,7 @@ fn the_key_of_a_place_is_that_of_its_entry(rt: HostRuntime) {
 }
 
 // Whether a share is an entry.
-fn is_shared_as(
-    shared: Result<InternalValue, Error>,
-    entry: EntryRef<'_>,
-) -> Result<bool, Error> {
+fn is_shared_as(shared: Result<InternalValue, Error>, entry: EntryRef<'_>) -> Result<bool, Error> {
     let shared = shared?;
     let is_entry = shared.as_entry_ref() == entry;
     drop(shared);
