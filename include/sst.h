@@ -340,8 +340,8 @@ uint32_t sst_files_tell(sst_handle *files, uint64_t index, sst_file *file);
 uint32_t sst_files_copy(sst_handle *files, uint64_t index, uint64_t offset, uint8_t *room,
                         size_t room_len, uint64_t *count);
 
-/* Copies a sentence for what a call answers, the one that `sst_strerror` has, as many bytes as there
- * is room for and no zero behind it, and answers how many it has.
+/* Copies a sentence for what a call answers, the one that `sst_strerror` has, as many bytes as
+ * there is room for and no zero behind it, and answers how many it has.
  */
 uint64_t sst_strerror_copy(uint32_t code, uint8_t *room, size_t room_len);
 

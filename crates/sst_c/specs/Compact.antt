@@ -41,8 +41,8 @@ pub record IsCompactionOf (runs : List (List OpenTable)) (rules : Rules) (w : Ta
   -- the refusal is the writer's first one, and where the tables fit, it is for want of memory
   pub tables : AreCompactable runs → (lists : List (List (List Entry))) → RunsHoldLists runs lists →
       IfOk came (AreTablesBy w (kept_in rules lists))
-  pub refused : AreCompactable runs → (lists : List (List (List Entry))) → RunsHoldLists runs lists →
-      Faults came (writes_fault w (kept_in rules lists))
+  pub refused : AreCompactable runs → (lists : List (List (List Entry))) →
+      RunsHoldLists runs lists → Faults came (writes_fault w (kept_in rules lists))
   pub taken : AreCompactable runs → (lists : List (List (List Entry))) → RunsHoldLists runs lists →
       FitsBy w (kept_in rules lists) → IfErr came (λ e. e ≡ OutOfMemory)
   -- of tables of lists that have entries, whatever their numbers, it ends out of order at the first

@@ -74,7 +74,7 @@ fn tell_facts(held: &Held, facts: &mut TableFacts) -> u32
     }
 }
 
-/// TellsCode what a table says of itself. Refused 100 where the handle is closed and 102 where it holds
+/// Tells what a table says of itself. Refused 100 where the handle is closed and 102 where it holds
 /// no table; what `facts` says stays then.
 #[unsafe(no_mangle)]
 pub extern "C" fn sst_table_facts(alloc: Global, table: &mut Handle, facts: &mut TableFacts) -> u32

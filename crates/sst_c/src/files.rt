@@ -60,7 +60,7 @@ fn tell_file(held: &Held, index: u64, told: &mut FileTold) -> u32
     }
 }
 
-/// TellsCode what a finished table is called and how long it is: the one at a place, from 0 on. Refused
+/// Tells what a finished table is called and how long it is: the one at a place, from 0 on. Refused
 /// 100 where the handle is closed, 102 where it holds no finished tables, and 105 where there is
 /// none at that place; what `told` says stays then.
 #[unsafe(no_mangle)]
@@ -179,7 +179,7 @@ fn count_files(held: &Held, count: &mut u64) -> u32
     }
 }
 
-/// TellsCode how many finished tables there are. Refused 100 where the handle is closed and 102 where
+/// Tells how many finished tables there are. Refused 100 where the handle is closed and 102 where
 /// it holds no finished tables; what `count` says stays then.
 #[unsafe(no_mangle)]
 pub extern "C" fn sst_files_count(alloc: Global, files: &mut Handle, count: &mut u64) -> u32

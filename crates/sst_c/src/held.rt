@@ -24,8 +24,8 @@ pub enum What {
     Table(Table),
     /// A range of a table, which is read from both ends.
     Range(Iter),
-    /// What runs of tables have together within bounds, read from both ends; nothing once a read was
-    /// refused.
+    /// What runs of tables have together within bounds, read from both ends; nothing once a read
+    /// was refused.
     Merged(Option<Asked<NewestOfRunsAt<Global>>>),
     /// Tables that are written: those that are finished, and the one that is not.
     Files(Files),

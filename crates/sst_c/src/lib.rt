@@ -29,13 +29,13 @@ mod tables;
 mod verify;
 mod writers;
 
+pub use asked::Asked;
 pub use codes::sst_version;
 pub use compactions::sst_compact;
 pub use entries::EntryTold;
 pub use facts::{TableFacts, sst_table_facts};
 pub use files::{FileTold, sst_files_copy, sst_files_count, sst_files_tell};
 pub use found::{Lent, sst_found_copy, sst_found_lend};
-pub use asked::Asked;
 pub use handle::{Handle, sst_close};
 pub use held::{Files, Held, What};
 pub use many::{sst_answers_copy, sst_answers_lend, sst_table_get_many};

@@ -38,12 +38,7 @@ fn add_up(lens: &[u64], count: u64) -> bool
 }
 
 // The queries for keys of these lengths that stand one behind another.
-fn queries_of(
-    alloc: Global,
-    keys: &[u8],
-    lens: &[u64],
-    seqno: SeqNo,
-) -> Result<Vec<Query>, Error>
+fn queries_of(alloc: Global, keys: &[u8], lens: &[u64], seqno: SeqNo) -> Result<Vec<Query>, Error>
     requires { sum lens.now ≡ length keys.now }
     ensures ok { IfOk result (λ qs. qs.items ≡ queries_for keys.now lens.now seqno) }
     ensures err { IfErr result (λ e. e ≡ OutOfMemory) }

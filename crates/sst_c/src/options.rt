@@ -35,7 +35,7 @@ pub struct TableOptions {
 // The largest block or partition.
 const LARGEST: u32 = 4_194_304;
 
-/// TellsCode what a table is written with where nothing else is asked for.
+/// Tells what a table is written with where nothing else is asked for.
 #[unsafe(no_mangle)]
 pub extern "C" fn sst_options_default(options: &mut TableOptions)
     ensures { options.new ≡ default_told }

@@ -231,7 +231,8 @@ pub(crate) fn outcome_of(answer: Option<IterItem<Global>>) -> Result<Option<Inte
 
 // A step of a range of a table.
 fn step_of(iter: &mut Iter, back: bool) -> Option<IterItem<Global>>
-    ensures front { back ≡ false → ⟦<Iter<Global> as Iterator>⟧.next_gives iter.old result iter.new }
+    ensures front { back ≡ false →
+        ⟦<Iter<Global> as Iterator>⟧.next_gives iter.old result iter.new }
     ensures back { back ≡ true →
         ⟦<Iter<Global> as DoubleEndedIterator>⟧.next_back_gives iter.old result iter.new }
 {
@@ -251,7 +252,8 @@ fn step(held: &mut Held, back: bool) -> u32
         back ≡ false → let gives = ⟦<NewestOfRunsAt<Global> as Iterator>⟧.next_gives in
         MergedStepsBy gives s result held.new.found held.new.what }
     ensures merged_back { (s : NewestAt) → held.old.what ≡ MergedOf (Some s) →
-        back ≡ true → let gives = ⟦<NewestOfRunsAt<Global> as DoubleEndedIterator>⟧.next_back_gives in
+        back ≡ true →
+        let gives = ⟦<NewestOfRunsAt<Global> as DoubleEndedIterator>⟧.next_back_gives in
         MergedStepsBy gives s result held.new.found held.new.what }
     ensures over { held.old.what ≡ MergedOf None →
         (result ≡ 0) × (held.new.found ≡ None) × (held.new.what ≡ MergedOf None) }

@@ -1,6 +1,6 @@
 //! Tables: opening and point reads.
-ghost use Rattle.std.specs.Prelude.{◌≡◌, ◌≢◌, [], false, IfErr, IfOk, IsSome, IsSomeAnd, List, None};
-ghost use Rattle.std.specs.Prelude.{Ok, Result, Some, is_some, true};
+ghost use Rattle.std.specs.Prelude.{◌≡◌, ◌≢◌, [], false, IfErr, IfOk, IsSome, IsSomeAnd, List};
+ghost use Rattle.std.specs.Prelude.{None, Ok, Result, Some, is_some, true};
 ghost use Rattle.sst_entries.specs.Error.{Fails, Gives};
 ghost use Rattle.lsm_readers.specs.Words.{Entry, OpenTable, StoresList, fits_told, lift, point};
 ghost use Rattle.lsm_readers.specs.Words.{recovered_told, table_answer};

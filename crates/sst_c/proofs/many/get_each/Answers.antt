@@ -16,5 +16,5 @@ returns-clause-list c t es same sum room stores =
     let old = c.args.entries.now in
     let new = c.read_each.new.entries in
     let Q : OpenTable → Type 0 = λ u. AnswersMany code kept old new
-        (Ok (map (λ k. point (lift es u.global_seqno) k c.args.seqno) keys)) in
+    (Ok (map (λ k. point (lift es u.global_seqno) k c.args.seqno) keys)) in
     subst Q one (c.read_each.ensures.list es (subst P (sym one) stores))
