@@ -88,8 +88,10 @@ class Several(unittest.TestCase):
             files = compact(self.runs, watermark=NEWEST, target=target, id=9, data_block_size=64)
             tables = [Table.open(file) for file in files]
             self.assertGreater(len(tables), 2)
+            # At a target of 0 a table ends before its first key, and its id is passed over.
+            first = 10 if target == 0 else 9
             self.assertEqual([table.facts().id for table in tables],
-                             list(range(9, 9 + len(tables))))
+                             list(range(first, first + len(tables))))
             wanted = kept(self.all, NEWEST, False, False)
             self.assertEqual([e for table in tables for e in table.entries()], wanted)
             self.assertEqual(list(Runs(*tables).entries()), seen(wanted))
