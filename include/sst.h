@@ -299,12 +299,13 @@ uint32_t sst_writer_finish(sst_handle *writer);
  * nothing gets, all finished; none where nothing is kept. The list and its tables stay.
  *
  * No reader stands below `watermark`: of each key the versions that only such a reader sees go.
- * Where `evict_tombstones` is set, a deletion below it goes too where no older version of its key
- * follows: only for a list behind which no older table stands. Where `zero_seqnos` is set, numbers
- * below the watermark become 0. A new table begins at the next key once the data blocks of the
- * present one have `target_size` bytes; with UINT64_MAX there is one. The tables are written with
- * `options`, and their ids run on from `options->id`; `next_id` is told the first that is left, 0
- * where none is.
+ * A weak tombstone below it goes with the value directly behind it. Where `evict_tombstones` is
+ * set, the last version that is kept of a key goes where it is a deletion: only for a list behind
+ * which no older table stands. Where `zero_seqnos` is set, numbers below the watermark become 0. A
+ * new table begins at the next key once the data blocks of the present one have `target_size`
+ * bytes; with UINT64_MAX there is one. The tables are written with `options`, and their ids run on
+ * from `options->id`, or from the one behind it where `target_size` is 0; `next_id` is told the
+ * first that is left, 0 where none is.
  *
  * SST_NO_SUCH where an option is out of its range; SST_OUT_OF_ORDER where an entry comes that does
  * not follow the one before it, or whose number is UINT64_MAX: a table does not hold what a writer
