@@ -18,6 +18,14 @@ impl Clock for StillClock {
     }
 }
 
+// A word without the single quotes around it.
+fn unquoted(word: &str) -> &str {
+    match word.strip_prefix('\'') {
+        Some(rest) => rest.strip_suffix('\'').unwrap_or(word),
+        None => word,
+    }
+}
+
 /// A shell, and the status of its last command.
 #[derive(Drop)]
 pub(crate) struct Session<'r> {
@@ -36,7 +44,7 @@ impl<'r> Session<'r> {
         let alloc = self.rt.alloc();
         let mut words = Vec::new(alloc);
         for word in line.split(' ') {
-            words.push(word)?;
+            words.push(unquoted(word))?;
         }
         match words.as_slice() {
             [words @ .., "|", "head", count] => {

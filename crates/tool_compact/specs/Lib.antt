@@ -1,3 +1,4 @@
+pub mod Blamed
 pub mod Compacted
 pub mod Packed
 pub mod Printed

@@ -9,6 +9,7 @@ use Rattle.tool_compact.specs.declared.pack.Placed.{Placed}
 use Rattle.logpurple.specs.Words.{OpenTable, OutOfMemory, range_of}
 use Rattle.tool_compact.specs.declared.compact_error.CompactError.{CompactError}
 use Rattle.tool_compact.specs.declared.compact_error.CompactError.TheVariants as error
+use Rattle.tool_compact.specs.Blamed.{is_memory_fault}
 use Rattle.tool_compact.specs.Printed.{path_or_mark}
 
 -- a table and its place
@@ -41,10 +42,10 @@ abbrev pub NamesTurned : {T : Type 0} → (T → Interval) → List (Bor (List �
 NamesTurned {T} range paths tables e = (place : ℕ) × (t : T) × (slice_get tables place ≡ Some t)
     × (is_well_formed (range t) ≡ false) × IsTurned (path_or_mark (slice_get paths place)) e
 
--- why files are not packed: one cannot be opened, the first key of one is above its last, or memory
--- is refused
+-- why files are not packed: one cannot be opened, and not for want of memory; the first key of one
+-- is above its last; or memory is refused, and no file is named
 abbrev pub RefusesToPack : List (Bor (List ℕ)) → CompactError → Type 0
-RefusesToPack paths (error.File e) = Unit {0}
+RefusesToPack paths (error.File e) = is_memory_fault e.fault ≡ false
 RefusesToPack paths (error.Refused e) = e ≡ OutOfMemory
 RefusesToPack paths (error.Range name) = (tables : List OpenTable)
     × (length tables ≡ length paths) × NamesTurned range_of paths tables (error.Range name)

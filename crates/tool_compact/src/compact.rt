@@ -1,16 +1,20 @@
 //! Files that are compacted.
-ghost use Rattle.std.specs.Prelude.{◌≡◌, ◌∷◌, [], IfErr, IfNone, IfOk, IfSome, List, Option, length, map, ℕ};
+ghost use Rattle.std.specs.Prelude.{◌≡◌, ◌∷◌, [], IfErr, IfNone, IfOk, IfSome, List, Option, false};
+ghost use Rattle.std.specs.Prelude.{length, map, ℕ};
 ghost use Rattle.std.specs.Arc.{arc_value};
 ghost use Rattle.std.specs.Iterator.{IsFinite};
 ghost use Rattle.std.specs.List.{AllByRecursion};
+ghost use Rattle.sst_entries.specs.Error.{is_memory};
 ghost use Rattle.logpurple.specs.Words.{CameInOrder, Entry, GoesThrough, HasMade, HaveEntries};
 ghost use Rattle.logpurple.specs.Words.{OpenTable, OutOfMemory, RunsHoldLists, kept_in};
 ghost use Rattle.tool_compact.specs.declared.compact_error.CompactError.TheVariants.{Refused};
+ghost use Rattle.tool_compact.specs.Blamed.{BlamesNone, BlamesNoneForMemory, IsBlame, NamesBlame};
 ghost use Rattle.tool_compact.specs.Compacted.{AreMadeOf, AreMadeOfFiles, HasNoTables, IfOutOfOrder};
 ghost use Rattle.tool_compact.specs.Compacted.{HasCount, TellCount, TellsOrder, compactor_by, counted};
 ghost use Rattle.tool_compact.specs.Compacted.{each_alone};
 ghost use Rattle.lsm_compactions.specs.declared.any_runs.CompactionOutcome.TheVariants.{Tables};
 
+use crate::print::path_at;
 use crate::{CompactError, CompactOptions};
 use logpurple::{
     CompactionOutcome, Error, FinishedTable, InternalValue, IterItem, OpenOptions, Run, Table,
@@ -21,6 +25,7 @@ use std::fs;
 use std::rt::Files;
 use std::sync::Arc;
 use tool_files::{FileError, FileFault, FileName, NewFile, open_tables, write_files};
+use tool_show::place_of_refusal;
 
 /// How many tables were made, and how many entries these have.
 #[derive(Clone, Copy, Debug, PartialEq, Eq)]
@@ -128,26 +133,53 @@ fn blame<'a, A: Allocator + Copy>(
 ) -> CompactError<'a>
     ensures memory { error ≡ OutOfMemory → result ≡ Refused OutOfMemory }
     ensures order { IfOutOfOrder result ⊥ }
+    ensures blames { IsBlame paths.now tables.now result }
+    ensures named { BlamesNoneForMemory result }
 {
     if error == Error::OutOfMemory {
         return CompactError::Refused(error);
     }
-    for (path, table) in paths.iter().zip(tables) {
-        if let Some(error) = refusal_of(table) {
-            return CompactError::File(FileError {
-                name: FileName::Plain(path),
-                fault: FileFault::Refused(error),
-            });
+    for (place, table) in tables.iter().enumerate() {
+        match refusal_of(table) {
+            None => {}
+            // Which file it is stays unknown.
+            Some(Error::OutOfMemory) => return CompactError::Refused(error),
+            Some(error) => return blame_file(path_at(paths, place), table, error),
         }
     }
     CompactError::Refused(error)
 }
 
+// A file and its refusal, with the block, if verifying the file finds that first. It is no want of
+// memory.
+fn blame_file<'a, A: Allocator + Copy>(
+    path: &'a str,
+    table: &Table<A>,
+    error: Error,
+) -> CompactError<'a>
+    requires { is_memory error ≡ false }
+    ensures names { NamesBlame path.now table.now result }
+    ensures order { IfOutOfOrder result ⊥ }
+    ensures memory { BlamesNoneForMemory result }
+{
+    match place_of_refusal(table, &error) {
+        Some(place) => CompactError::Block {
+            name: path,
+            place,
+            error,
+        },
+        None => CompactError::File(FileError {
+            name: FileName::Plain(path),
+            fault: FileFault::Refused(error),
+        }),
+    }
+}
+
 // Which file has entries out of order; where none has, a key has one number twice.
-fn blame_order<'a, A: Allocator + Copy>(
-    paths: &[&'a str],
-    tables: &[Table<A>],
-) -> CompactError<'a> {
+fn blame_order<'a, A: Allocator + Copy>(paths: &[&'a str], tables: &[Table<A>]) -> CompactError<'a>
+    ensures none { BlamesNone result }
+    ensures memory { BlamesNoneForMemory result }
+{
     for (path, table) in paths.iter().zip(tables) {
         if !has_order(table) {
             return CompactError::OutOfOrder(path);
@@ -215,6 +247,8 @@ fn compact_opened<'a, A: Allocator + Copy>(
     ensures made { IfOk result (λ made. AreMadeOf options.now tables.now made.tables.items) }
     ensures count { IfOk result (λ made. TellCount made.tables.items made.entries) }
     ensures order { IfErr result (TellsOrder options.now tables.now) }
+    ensures blames { IfErr result (IsBlame paths.now tables.now) }
+    ensures memory { IfErr result BlamesNoneForMemory }
 {
     let (outcome, entries) = match compact_tables(alloc, tables, options) {
         Ok(outcome) => outcome,
@@ -227,6 +261,7 @@ fn compact_opened<'a, A: Allocator + Copy>(
 }
 
 // Opens files and compacts their tables.
+#[tactic(auto, using(crate::proofs::Blaming::blamed_memory, crate::proofs::Blaming::blamed_order))]
 fn open_and_compact<'a, R: Files, A: Allocator + Copy>(
     files: &R,
     alloc: A,
@@ -238,6 +273,7 @@ fn open_and_compact<'a, R: Files, A: Allocator + Copy>(
     ensures count { IfOk result (λ made. TellCount made.tables.items made.entries) }
     ensures order { IfErr result (λ e. IfOutOfOrder e ((opened : List OpenTable)
         × (length opened ≡ length paths.now) × TellsOrder options.now opened e)) }
+    ensures memory { IfErr result BlamesNoneForMemory }
 {
     let tables = open_tables(files, alloc, paths)?;
     compact_opened(alloc, paths, &tables, options)
@@ -245,7 +281,8 @@ fn open_and_compact<'a, R: Files, A: Allocator + Copy>(
 
 // Makes a folder, which must not be there yet, so that nothing in it is replaced or taken for new.
 fn make_folder<'a, R: Files>(files: &R, folder: &'a str) -> Result<(), CompactError<'a>>
-    ensures { IfErr result (λ e. IfOutOfOrder e ⊥) }
+    ensures order { IfErr result (λ e. IfOutOfOrder e ⊥) }
+    ensures memory { IfErr result BlamesNoneForMemory }
 {
     match fs::create_dir(files, folder) {
         Ok(()) => Ok(()),
@@ -257,13 +294,15 @@ fn make_folder<'a, R: Files>(files: &R, folder: &'a str) -> Result<(), CompactEr
 }
 
 // Writes tables into a folder.
+#[tactic(auto, using(crate::proofs::Blaming::blamed_memory, crate::proofs::Blaming::blamed_order))]
 fn fill_folder<'a, R: Files, A: Allocator + Copy>(
     files: &R,
     alloc: A,
     folder: &'a str,
     tables: &[FinishedTable<A>],
 ) -> Result<(), CompactError<'a>>
-    ensures { IfErr result (λ e. IfOutOfOrder e ⊥) }
+    ensures order { IfErr result (λ e. IfOutOfOrder e ⊥) }
+    ensures memory { IfErr result BlamesNoneForMemory }
 {
     let mut wanted = Vec::new(alloc);
     for (at, table) in tables.iter().enumerate() {
@@ -283,7 +322,8 @@ fn write_tables<'a, R: Files, A: Allocator + Copy>(
     folder: &'a str,
     tables: &[FinishedTable<A>],
 ) -> Result<(), CompactError<'a>>
-    ensures { IfErr result (λ e. IfOutOfOrder e ⊥) }
+    ensures order { IfErr result (λ e. IfOutOfOrder e ⊥) }
+    ensures memory { IfErr result BlamesNoneForMemory }
 {
     make_folder(files, folder)?;
     let filled = fill_folder(files, alloc, folder, tables);
@@ -317,6 +357,8 @@ pub fn compact_files<'a, R: Files, A: Allocator + Copy>(
     // all entries together that may not follow those before it.
     ensures order { IfErr result (λ e. IfOutOfOrder e ((opened : List OpenTable)
         × (length opened ≡ length paths.now) × TellsOrder options.now opened e)) }
+    // Where memory is wanted no file is named.
+    ensures memory { IfErr result BlamesNoneForMemory }
 {
     let made = open_and_compact(files, alloc, paths, options)?;
     write_tables(files, alloc, folder, &made.tables)?;

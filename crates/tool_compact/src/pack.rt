@@ -122,6 +122,7 @@ fn check_ranges<'a, T: Ranged>(paths: &[&'a str], tables: &[T]) -> Result<(), Co
 ///
 /// Refused as [`open_tables`], where the first key of a file is above its last one, and for want of
 /// memory.
+#[tactic(auto, using(crate::proofs::Blaming::blamed_packs))]
 pub fn pack_files<'a, R: Files, A: Allocator + Copy>(
     files: &R,
     alloc: A,

@@ -1,11 +1,19 @@
 -- Files, one after another.
-use Rattle.std.proofs.Common.{◌≡◌, refl, sym, ◌∙◌, ap, subst, ℕ, zero, suc, ◌+◌, ◌<◌, List, [], ◌∷◌}
-use Rattle.std.proofs.Common.{◌++◌, length, get_or, map, take, arith, true, false, below_more}
-use Rattle.std.specs.Prelude.{Result, Ok, Err, IfOk, IfErr, is_ok}
+use Rattle.std.proofs.Common.{◌≡◌, refl, sym, ◌∙◌, ap, ℕ, ◌+◌, ◌<◌, List, [], ◌∷◌, ◌++◌, length, get_or}
+use Rattle.std.proofs.Common.{map, subst, take, true, false}
+use Rattle.std.specs.Prelude.{Bool, Option}
 use Rattle.std.proofs.lemmas.List.{map-append, take_more}
+use Rattle.sst_entries.specs.Error.{is_memory}
+use Rattle.sst_entries.specs.declared.error.Error.{Error}
 use Rattle.lsm_readers.specs.Table.{OpenTable}
-use Rattle.tool_show.specs.Files.{AreSound, IsSound, runs_in}
+use Rattle.tool_show.specs.Failures.{IsPlaceIn, NamesOne, TellsFailure, TellsRefusal}
+use Rattle.tool_show.specs.Files.{runs_in}
+use Rattle.tool_show.specs.declared.error.Failure.{Failure}
+use Rattle.tool_show.specs.declared.error.Failure.TheVariants as failure
+use Rattle.tool_show.specs.declared.error.ShowError.{ShowError}
+use Rattle.tool_show.specs.declared.error.ShowError.TheVariants as show
 use Rattle.tool_show.specs.declared.named.NamedTable.{NamedTable}
+use Rattle.tool_show.specs.declared.places.BlockPlace.{BlockPlace}
 
 -- the run of one more file
 pub runs_more : {A X : Type 0} (value : X → List OpenTable) (fs : List (NamedTable A)) (i : ℕ)
@@ -19,43 +27,37 @@ runs_more {A} value fs i f rs r h is before one =
     ∙ ap (λ (t : List OpenTable). runs_in (take i fs) ++ t ∷ []) (one ∙ ap table is)
     ∙ sym (ap runs_in (take_more fs i f h) ∙ map-append table (take i fs) (get_or fs i f ∷ []))
 
--- of the files so far none is wrong where no fault is counted, and none is counted where all are
--- sound
-pub record Counted {A : Type 0} (fs : List (NamedTable A)) (i faults : ℕ) : Type 0 where
-  pub sound : faults ≡ 0 → (k : ℕ) → k < i → (d : NamedTable A) → IsSound (get_or fs k d)
-  pub complete : AreSound fs → faults ≡ 0
+-- a refusal of a file names one of the files
+refusal_named : {A : Type 0} (fs : List (NamedTable A)) (i : ℕ) (f : NamedTable A) → i < length fs
+    → f ≡ get_or fs i f → (r : Error) (e : ShowError) → TellsRefusal f r e → NamesOne fs e
+refusal_named fs i f h is r (show.Refused name place error) told = (
+  i,
+  f,
+  h,
+  sym is,
+  (told.0, subst (λ (x : Error). IsPlaceIn f.table x place) (sym told.1) told.2),
+)
+refusal_named fs i f h is r (show.Output error) told = tt
+refusal_named fs i f h is r show.OutOfMemory told = tt
 
-same_get : {A : Type 0} (fs : List (NamedTable A)) (i : ℕ) (d f : NamedTable A) → i < length fs
-    → get_or fs i d ≡ get_or fs i f
-same_get [] i d f h = absurd (omega (arith, h))
-same_get (x ∷ fs) zero d f h = refl
-same_get (x ∷ fs) (suc i) d f h = same_get fs i d f (omega (arith, h))
+memory_named : {A : Type 0} (fs : List (NamedTable A)) (e : ShowError) → e ≡ show.OutOfMemory
+    → NamesOne fs e
+memory_named fs (show.Refused name place error) is = absurd cc
+memory_named fs (show.Output error) is = tt
+memory_named fs show.OutOfMemory is = tt
 
--- one more that is sound
-pub sound_counted : {A : Type 0} (fs : List (NamedTable A)) (i faults : ℕ) (f : NamedTable A)
-    → i < length fs → f ≡ get_or fs i f → IsSound f → Counted fs i faults
-    → Counted fs (i + 1) faults
-sound_counted {A} fs i faults f h is sound before = record {
-  sound = λ none. below_more (λ (k : ℕ). (d : NamedTable A) → IsSound (get_or fs k d)) i
-      (before.sound none) (λ d. subst IsSound (is ∙ sym (same_get fs i d f h)) sound);
-  complete = before.complete;
-}
+by_memory : {A : Type 0} (fs : List (NamedTable A)) (i : ℕ) (f : NamedTable A) → i < length fs
+    → f ≡ get_or fs i f → (r : Error) (e : ShowError) (b : Bool) → is_memory r ≡ b
+    → TellsFailure (failure.Refused r) f e → NamesOne fs e
+by_memory fs i f h is r e true so told = memory_named fs e (told.0 so)
+by_memory fs i f h is r e false so told = refusal_named fs i f h is r e (told.1 so)
 
--- one more that is not
-pub fault_counted : {A : Type 0} (fs : List (NamedTable A)) (i faults after : ℕ)
-    (f : NamedTable A) → i < length fs → f ≡ get_or fs i f → (IsSound f → ⊥) → 0 < after
-    → Counted fs (i + 1) after
-fault_counted fs i faults after f h is wrong some = record {
-  sound = λ none. absurd (omega (arith, some, none));
-  complete = λ all. absurd (wrong (subst IsSound (sym is) (all i f h)));
-}
-
--- what a verdict says that is sound, and one that is not
-pub ok_sound : {V E : Type 0} (P : Type 0) (r : Result V E) → is_ok r ≡ true → IfOk r (λ _. P) → P
-ok_sound P (Ok v) is h = h
-ok_sound P (Err e) is h = absurd cc
-
-pub err_wrong : {V E : Type 0} (P : Type 0) (r : Result V E) (m : E) → is_ok r ≡ false
-    → (r ≡ Err m → ⊥) → (P → IfErr r (λ e. e ≡ m)) → P → ⊥
-err_wrong P (Ok v) m is other h p = absurd cc
-err_wrong P (Err e) m is other h p = other (ap (λ x. Err x) (h p))
+-- a failure of a file names one of the files
+pub failure_named : {A : Type 0} (fs : List (NamedTable A)) (i : ℕ) (f : NamedTable A)
+    → i < length fs → f ≡ get_or fs i f → (x : Failure) (e : ShowError) → TellsFailure x f e
+    → NamesOne fs e
+failure_named fs i f h is (failure.Output error) (show.Refused name place r) told = absurd cc
+failure_named fs i f h is (failure.Output error) (show.Output r) told = tt
+failure_named fs i f h is (failure.Output error) show.OutOfMemory told = tt
+failure_named fs i f h is (failure.Refused error) e told =
+    by_memory fs i f h is error e (is_memory error) refl told

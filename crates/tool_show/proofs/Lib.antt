@@ -1,1 +1,4 @@
+mod BlockLemmas
+mod DumpLemmas
 mod FileLemmas
+mod Findings

@@ -1,20 +1,26 @@
-//! What is wrong of files.
-ghost use Rattle.std.specs.Prelude.{◌≡◌, List, IfOk, IfErr, Err, is_ok};
+//! What is wrong of a file.
+ghost use Rattle.std.specs.Prelude.{◌≡◌, ◌-◌, ◌^◌, List, IfOk, IfErr, count_by, min};
 ghost use Rattle.sst_entries.specs.Entry.{Entry};
+ghost use Rattle.sst_sections.specs.Sections.{body_of};
 ghost use Rattle.lsm_readers.specs.Stored.{StoresList};
+ghost use Rattle.lsm_readers.specs.Verify.{Finds, table_found};
+ghost use Rattle.lsm_readers.specs.declared.verify.Verified.{Verified as Verification};
 ghost use Rattle.lsm_readers.specs.declared.verify.VerifyError.TheVariants.{OutOfMemory};
-ghost use Rattle.tool_show.specs.Files.{AreSound};
+ghost use Rattle.tool_show.specs.Failures.{NamesNone};
+ghost use Rattle.tool_show.specs.Faults.{fault_count, further_count, is_further};
+ghost use Rattle.tool_show.specs.Files.{IsSound};
 
-use crate::{NamedTable, ShowError};
+use crate::blocks::{NamedBlock, is_first, named_blocks, refusal_of, source_of};
+use crate::{BlockPlace, NamedTable, ShowError};
 use lsm_formats::ItemName;
-use lsm_readers::{Fault, Finding, Table, Verified, VerifyError};
-use sst_blocks::SectionName;
+use lsm_readers::{Fault, Finding, Table, TableInner, Verified, VerifyError};
+use sst_blocks::{BlockSource, SectionName};
 use std::alloc::Allocator;
 use std::io::{self, Write};
 
 /// Is told how far a verification has come.
 pub trait Progress {
-    /// So many bytes of data blocks were read, of so many in all files.
+    /// So many bytes of the file's data blocks were read, of so many in all.
     fn moved(&mut self, done: u64, all: u64);
 }
 
@@ -34,60 +40,57 @@ struct Looked {
     verdict: Result<Verified, VerifyError>,
 }
 
-/// Reads files whole, block after block, and writes a line for each: what it has, or the first
-/// fault that is found, with its section and offset, and the number of the refusal where a block
-/// does not load. Answers how many files have a fault. Refused with the first failure to write, and
-/// for want of memory; what was written stays.
+/// Reads a file whole, block after block, and writes a line: what it has, or the first fault that is
+/// found, with its section and offset, and the number of the refusal where a block does not load.
+/// Behind a fault comes a line for each further block of the filter, of the index and of data that
+/// does not load. Answers how many faults were written. Refused with the first failure to write,
+/// and for want of memory; what was written stays.
 pub fn verify<'a, A: Allocator + Copy, W: Write, P: Progress>(
+    alloc: A,
     output: &mut W,
-    files: &[NamedTable<'a, A>],
+    file: &NamedTable<'a, A>,
     progress: &mut P,
 ) -> Result<u64, ShowError<'a>>
-    // No fault is counted exactly where the bytes of every file store a list.
-    ensures sound { IfOk result (λ faults. faults ≡ 0 → AreSound files.now) }
-    ensures complete { AreSound files.now → IfOk result (λ faults. faults ≡ 0) }
+    // No fault is counted exactly where the file's bytes store a list;
+    ensures sound { IfOk result (λ faults. faults ≡ 0 → IsSound file.now) }
+    ensures complete { IsSound file.now → IfOk result (λ faults. faults ≡ 0) }
+    // else the one that is found first, and each further block that does not load.
+    ensures count { IfOk result (λ faults. faults ≡ fault_count file.now.table) }
+    // What is wrong of the file is no error: no error names it.
+    ensures unnamed { IfErr result NamesNone }
 {
-    let all = size_of_all(files);
-    let mut done = 0u64;
-    let mut faults = 0u64;
-    for file in files {
-        let looked = look_at(&file.table, done, all, progress);
-        done = done.saturating_add(file.table.metadata.file_size);
-        if !print_looked(output, file.name, looked)? {
-            faults = faults.saturating_add(1);
+    let looked = look_at(&file.table, progress);
+    match looked.verdict {
+        Ok(verified) => {
+            print_sound(output, file.name, &verified, looked.blocks)?;
+            Ok(0)
+        }
+        Err(VerifyError::OutOfMemory) => Err(ShowError::OutOfMemory),
+        Err(VerifyError::Found(finding)) => {
+            print_first(output, file.name, &finding, looked.blocks)?;
+            let further = print_further(alloc, output, file, &finding)?;
+            Ok(further.saturating_add(1))
         }
     }
-    Ok(faults)
 }
 
-// How many bytes the data blocks of all files have.
-fn size_of_all<A: Allocator>(files: &[NamedTable<'_, A>]) -> u64 {
-    let mut size = 0u64;
-    for file in files {
-        size = size.saturating_add(file.table.metadata.file_size);
-    }
-    size
-}
-
-// Reads a table's blocks, behind so many bytes of other tables.
-fn look_at<A: Allocator + Clone, P: Progress>(
-    table: &Table<A>,
-    before: u64,
-    all: u64,
-    progress: &mut P,
-) -> Looked
+// Reads a table's blocks.
+fn look_at<A: Allocator + Clone, P: Progress>(table: &Table<A>, progress: &mut P) -> Looked
+    ensures told { let t = table.now in
+        Finds (λ (v : Verification). v) result.verdict (table_found (body_of t.bytes) t.parts) }
     ensures sound { IfOk result.verdict (λ _.
         (es : List Entry) × StoresList table.now.bytes es) }
     ensures complete { (es : List Entry) → StoresList table.now.bytes es →
         IfErr result.verdict (λ e. e ≡ OutOfMemory) }
 {
+    let all = table.metadata.file_size;
     let mut verification = table.verification();
     let mut blocks = 0u64;
     loop {
         match verification.step() {
             Ok(None) => {
                 blocks = blocks.saturating_add(1);
-                progress.moved(before.saturating_add(verification.bytes_read()), all);
+                progress.moved(verification.bytes_read(), all);
             }
             Ok(Some(verified)) => {
                 return Looked {
@@ -105,38 +108,123 @@ fn look_at<A: Allocator + Clone, P: Progress>(
     }
 }
 
-// Answers whether nothing is wrong.
-fn print_looked<'a, W: Write>(
+fn print_sound<W: Write>(
     output: &mut W,
     name: &str,
-    looked: Looked,
-) -> Result<bool, ShowError<'a>>
-    ensures told { IfOk result (λ sound. sound ≡ is_ok looked.verdict) }
-    ensures memory { IfOk result (λ _. ¬ (looked.verdict ≡ Err OutOfMemory)) }
+    verified: &Verified,
+    blocks: u64,
+) -> io::Result<()> {
+    let (entries, data) = (verified.item_count, verified.data_block_count);
+    writeln!(
+        output,
+        "{name}: sound, {entries} entries in {data} data blocks, {blocks} blocks read"
+    )
+}
+
+fn print_first<W: Write>(
+    output: &mut W,
+    name: &str,
+    finding: &Finding,
+    blocks: u64,
+) -> io::Result<()> {
+    print_finding(output, name, finding)?;
+    writeln!(output, ", {blocks} blocks before it are sound")
+}
+
+// Writes a line for each block that does not load but one of which the finding says it already.
+// Answers how many lines there are.
+fn print_further<'a, A: Allocator + Copy, W: Write>(
+    alloc: A,
+    output: &mut W,
+    file: &NamedTable<'a, A>,
+    finding: &Finding,
+) -> Result<u64, ShowError<'a>>
+    ensures count { IfOk result (λ count. count ≡ further_count file.now.table finding.now) }
+    ensures unnamed { IfErr result NamesNone }
 {
-    let blocks = looked.blocks;
-    match looked.verdict {
-        Ok(verified) => {
-            let (entries, data) = (verified.item_count, verified.data_block_count);
-            writeln!(
-                output,
-                "{name}: sound, {entries} entries in {data} data blocks, {blocks} blocks read"
-            )?;
+    match source_of(alloc, &file.table) {
+        Ok(source) => print_named(alloc, output, file, finding, &source),
+        Err(_) => Err(ShowError::OutOfMemory),
+    }
+}
+
+// The same, of the blocks that the file's bytes name.
+fn print_named<'a, A: Allocator + Copy, W: Write>(
+    alloc: A,
+    output: &mut W,
+    file: &NamedTable<'a, A>,
+    finding: &Finding,
+    source: &BlockSource<A>,
+) -> Result<u64, ShowError<'a>>
+    requires { source.now ≡ file.now.table.bytes }
+    ensures count { IfOk result (λ count. count ≡ further_count file.now.table finding.now) }
+    ensures unnamed { IfErr result NamesNone }
+{
+    let inner: &TableInner<A> = &file.table;
+    match named_blocks(alloc, source, inner) {
+        Ok(blocks) => print_unloaded(output, file.name, finding, source, &blocks),
+        Err(_) => Err(ShowError::OutOfMemory),
+    }
+}
+
+// The same of some blocks.
+fn print_unloaded<'a, A: Allocator + Copy, W: Write>(
+    output: &mut W,
+    name: &str,
+    finding: &Finding,
+    source: &BlockSource<A>,
+    blocks: &[NamedBlock],
+) -> Result<u64, ShowError<'a>>
+    ensures count { IfOk result (λ count. count ≡
+        min (count_by (is_further (body_of source.now) finding.now) blocks.now) (2 ^ 64 - 1)) }
+    ensures unnamed { IfErr result NamesNone }
+{
+    let mut count = 0u64;
+    for block in blocks {
+        if print_block(output, name, finding, source, block)? {
+            count = count.saturating_add(1);
+        }
+    }
+    Ok(count)
+}
+
+// Writes a line for a block that does not load, if the finding does not say it already. Answers
+// whether there is a line.
+fn print_block<'a, A: Allocator + Clone, W: Write>(
+    output: &mut W,
+    name: &str,
+    finding: &Finding,
+    source: &BlockSource<A>,
+    block: &NamedBlock,
+) -> Result<bool, ShowError<'a>>
+    ensures told { IfOk result (λ told. told ≡
+        is_further (body_of source.now) finding.now block.now) }
+    ensures unnamed { IfErr result NamesNone }
+{
+    match refusal_of(source, block) {
+        Ok(None) => Ok(false),
+        Ok(Some(error)) => {
+            if is_first(finding, block) {
+                return Ok(false);
+            }
+            let place = BlockPlace {
+                section: block.section,
+                offset: block.place.offset().0,
+            };
+            let number = error.number();
+            writeln!(output, "{name}: {place}: {error} ({number})")?;
             Ok(true)
         }
-        Err(VerifyError::OutOfMemory) => Err(ShowError::OutOfMemory),
-        Err(VerifyError::Found(finding)) => {
-            print_finding(output, name, &finding)?;
-            writeln!(output, ", {blocks} blocks before it are sound")?;
-            Ok(false)
-        }
+        Err(_) => Err(ShowError::OutOfMemory),
     }
 }
 
 fn print_finding<W: Write>(output: &mut W, name: &str, finding: &Finding) -> io::Result<()> {
-    let section = section_name(finding.section);
-    let offset = finding.offset;
-    write!(output, "{name}: {section} block at {offset}: ")?;
+    let place = BlockPlace {
+        section: finding.section,
+        offset: finding.offset,
+    };
+    write!(output, "{name}: {place}: ")?;
     match &finding.fault {
         Fault::Unloaded(error) => {
             let number = error.number();

@@ -1,10 +1,19 @@
 //! The entries of files, a line each.
-ghost use Rattle.std.specs.Iterator.{IsFinite};
+ghost use Rattle.std.specs.Prelude.{◌≡◌, List, IfErr, OnOk, false, true};
+ghost use Rattle.std.specs.Io.KnownBytes.{Appends};
+ghost use Rattle.sst_entries.specs.Entry.{Entry};
+ghost use Rattle.sst_entries.specs.Point.{within};
+ghost use Rattle.sst_entries.specs.Stream.{CanDeal};
+ghost use Rattle.lsm_readers.specs.Stored.{StoresList};
+ghost use Rattle.lsm_readers.specs.Words.{lift};
+ghost use Rattle.tool_lines.specs.declared.entry_line.Format.TheVariants.{Lines as Words};
+ghost use Rattle.tool_show.specs.Failures.{NamesOne};
+ghost use Rattle.tool_show.specs.Printed.{DealsAllOf, chosen, dumped, ended_line};
 
 use crate::error::Failure;
 use crate::{NamedTable, ShowError};
 use lsm_readers::Table;
-use sst_blocks::{IterItem, Slice, UserKey};
+use sst_blocks::{InternalValue, IterItem, Slice, UserKey};
 use std::alloc::Allocator;
 use std::io::Write;
 use std::ops::Bound;
@@ -32,12 +41,18 @@ pub fn dump<'a, A: Allocator + Copy, W: Write>(
     output: &mut W,
     files: &[NamedTable<'a, A>],
     options: &DumpOptions<'_>,
-) -> Result<(), ShowError<'a>> {
+) -> Result<(), ShowError<'a>>
+    // Where a file is named, it is one of these, and so is the block that is named.
+    ensures named { IfErr result (NamesOne files.now) }
+{
     let mut left = options.limit.unwrap_or(u64::MAX);
     for file in files {
+        if left == 0 {
+            return Ok(());
+        }
         match dump_table(alloc, output, &file.table, options, left) {
             Ok(rest) => left = rest,
-            Err(failure) => return Err(failure.of_file(file.name)),
+            Err(failure) => return Err(failure.of_file(file)),
         }
     }
     Ok(())
@@ -50,7 +65,13 @@ fn dump_table<A: Allocator + Copy, W: Write>(
     table: &Table<A>,
     options: &DumpOptions<'_>,
     left: u64,
-) -> Result<u64, Failure> {
+) -> Result<u64, Failure>
+    // As words its entries between the keys are printed, as many as may be.
+    ensures printed { let t = table.now in options.now.format ≡ Words →
+        (es : List Entry) → StoresList t.bytes es →
+        OnOk result (Appends (W.contents output.old) (W.contents output.new)
+        (dumped options.now.reverse left (chosen options.now t es))) }
+{
     let lower = match options.from {
         None => Bound::Unbounded,
         Some(key) => Bound::Included(Slice::from(alloc, key)?),
@@ -81,48 +102,69 @@ fn dump_range<A: Allocator + Copy, W: Write>(
     bounds: (Bound<UserKey<A>>, Bound<UserKey<A>>),
     reverse: bool,
     lines: Lines<A>,
-) -> Result<u64, Failure> {
+) -> Result<u64, Failure>
+    ensures printed { let t = table.now in lines.format ≡ Words →
+        (es : List Entry) → StoresList t.bytes es →
+        OnOk result (Appends (W.contents output.old) (W.contents output.new)
+        (dumped reverse lines.left (within bounds.0 bounds.1 (lift es t.global_seqno)))) }
+{
     let items = table.range(bounds.0, bounds.1)?;
-    dump_from(output, items, reverse, lines)
+    dump_items(output, items, reverse, lines)
 }
 
-// Generic in what has the entries, so that its parts are looked at once for both ends.
-fn dump_from<I: DoubleEndedIterator<Item = IterItem<A>> + Drop, A: Allocator + Copy, W: Write>(
+// Generic in what has the entries, so that its parts are looked at once.
+fn dump_items<I: DoubleEndedIterator<Item = IterItem<A>> + Drop, A: Allocator + Copy, W: Write>(
     output: &mut W,
-    items: I,
+    mut items: I,
     reverse: bool,
     lines: Lines<A>,
 ) -> Result<u64, Failure>
-    requires can { I.can_next items }
-    requires can_back { I.can_next_back items }
-    requires finite { IsFinite (I.remaining items) }
+    requires can { CanDeal I.next_gives I.next_back_gives I.can_next I.can_next_back items }
+    // As words the first of the entries are printed, or the last of them from the end on.
+    ensures printed { lines.format ≡ Words → (es : List Entry) →
+        DealsAllOf I.next_gives I.next_back_gives items es →
+        OnOk result (Appends (W.contents output.old) (W.contents output.new)
+        (dumped reverse lines.left es)) }
+{
+    let mut left = lines.left;
+    // What stands behind the last of them is not read.
+    while left > 0 {
+        match take_item(&mut items, reverse) {
+            None => return Ok(left),
+            Some(item) => print_entry(output, &item?, lines)?,
+        }
+        left -= 1;
+    }
+    Ok(0)
+}
+
+// The next of what is left, or the last of it.
+fn take_item<I: DoubleEndedIterator<Item = IterItem<A>>, A: Allocator>(
+    items: &mut I,
+    reverse: bool,
+) -> Option<IterItem<A>>
+    requires can { I.can_next items.old }
+    requires can_back { I.can_next_back items.old }
+    ensures front { reverse ≡ false → I.next_gives items.old result items.new }
+    ensures back { reverse ≡ true → I.next_back_gives items.old result items.new }
 {
     if reverse {
-        dump_items(output, items.rev(), lines)
+        items.next_back()
     } else {
-        dump_items(output, items, lines)
+        items.next()
     }
 }
 
-fn dump_items<I: Iterator<Item = IterItem<A>> + Drop, A: Allocator + Copy, W: Write>(
+fn print_entry<A: Allocator + Copy, W: Write>(
     output: &mut W,
-    items: I,
+    item: &InternalValue<A>,
     lines: Lines<A>,
-) -> Result<u64, Failure>
-    requires can { I.can_next items }
-    requires finite { IsFinite (I.remaining items) }
+) -> Result<(), Failure>
+    ensures printed { lines.format ≡ Words → OnOk result
+        (Appends (W.contents output.old) (W.contents output.new) (ended_line item.now)) }
 {
-    let mut text = Vec::new(lines.alloc);
-    let mut left = lines.left;
-    for item in items {
-        if left == 0 {
-            return Ok(0);
-        }
-        let item = item?;
-        text.clear();
-        text = append_entry(lines.alloc, text, &item.as_entry_ref(), lines.format)?;
-        output.write_all(&text)?;
-        left -= 1;
-    }
-    Ok(left)
+    let entry = item.as_entry_ref();
+    let text = append_entry(lines.alloc, Vec::new(lines.alloc), &entry, lines.format)?;
+    output.write_all(&text)?;
+    Ok(())
 }

@@ -1,30 +1,47 @@
 //! Why something was not shown.
-use sst_blocks::Error;
-use std::alloc::{AllocError, AllocFailed};
-use std::io;
+ghost use Rattle.tool_show.specs.Failures.{TellsFailure};
 
-/// Why something was not shown.
-#[derive(Debug, Drop, thiserror::Error)]
+use crate::places::place_of_refusal;
+use crate::{BlockPlace, NamedTable};
+use sst_blocks::Error;
+use std::alloc::{AllocError, AllocFailed, Allocator};
+use std::{fmt, io};
+
+/// Why something was not shown: shown as a sentence.
+#[derive(Debug, Drop)]
 pub enum ShowError<'a> {
     /// What was to be shown could not be written.
-    #[error("output: {0}")]
     Output(io::Error),
-
     /// A growth of memory was refused.
-    #[error("out of memory")]
     OutOfMemory,
-
-    /// A table cannot be read: its file's name, and why.
-    #[error("{name}: {error} ({number})")]
+    /// A table cannot be read.
     Refused {
         /// The name of the file.
         name: &'a str,
+        /// The block that is refused, where verifying the table finds this refusal first.
+        place: Option<BlockPlace>,
         /// The refusal.
         error: Error,
-        /// Its number, from 1 to 24.
-        number: u8,
     },
 }
+
+impl<'a> fmt::Display for ShowError<'a> {
+    fn fmt<W: fmt::Write>(&self, f: &mut fmt::Formatter<W>) -> fmt::Result {
+        match self {
+            ShowError::Output(error) => write!(f, "standard output: {error}"),
+            ShowError::OutOfMemory => write!(f, "out of memory"),
+            ShowError::Refused { name, place, error } => {
+                let number = error.number();
+                match place {
+                    Some(place) => write!(f, "{name}: {place}: {error} ({number})"),
+                    None => write!(f, "{name}: {error} ({number})"),
+                }
+            }
+        }
+    }
+}
+
+impl<'a> std::error::Error for ShowError<'a> {}
 
 /// What went wrong while one file was shown.
 #[derive(Debug, Drop)]
@@ -36,17 +53,19 @@ pub(crate) enum Failure {
 }
 
 impl Failure {
-    /// The failure of a file with a name.
-    pub(crate) fn of_file(self, name: &str) -> ShowError<'_> {
+    /// The failure of a file.
+    pub(crate) fn of_file<'a, A: Allocator + Clone>(self, file: &NamedTable<'a, A>) -> ShowError<'a>
+        ensures { TellsFailure self file.now result }
+    {
         match self {
             Failure::Output(error) => ShowError::Output(error),
             Failure::Refused(Error::OutOfMemory) => ShowError::OutOfMemory,
             Failure::Refused(error) => {
-                let number = error.number();
+                let place = place_of_refusal(&file.table, &error);
                 ShowError::Refused {
-                    name,
+                    name: file.name,
+                    place,
                     error,
-                    number,
                 }
             }
         }
@@ -54,42 +73,79 @@ impl Failure {
 }
 
 impl From<Error> for Failure {
+    ghost use Rattle.std.specs.Prelude.{◌≡◌};
+    ghost use Rattle.tool_show.specs.declared.error.Failure.TheVariants.{Refused};
+
+    ghost from_gives = { λ error failure. failure ≡ Refused error };
+
     fn from(error: Error) -> Failure {
         Failure::Refused(error)
     }
 }
 
 impl From<AllocError> for Failure {
+    ghost use Rattle.std.specs.Prelude.{◌≡◌};
+    ghost use Rattle.sst_entries.specs.declared.error.Error.TheVariants.{OutOfMemory};
+    ghost use Rattle.tool_show.specs.declared.error.Failure.TheVariants.{Refused};
+
+    ghost from_gives = { λ _ failure. failure ≡ Refused OutOfMemory };
+
     fn from(_: AllocError) -> Failure {
         Failure::Refused(Error::OutOfMemory)
     }
 }
 
 impl<T: Drop> From<AllocFailed<T>> for Failure {
+    ghost use Rattle.std.specs.Prelude.{◌≡◌};
+    ghost use Rattle.sst_entries.specs.declared.error.Error.TheVariants.{OutOfMemory};
+    ghost use Rattle.tool_show.specs.declared.error.Failure.TheVariants.{Refused};
+
+    ghost from_gives = { λ _ failure. failure ≡ Refused OutOfMemory };
+
     fn from(_: AllocFailed<T>) -> Failure {
         Failure::Refused(Error::OutOfMemory)
     }
 }
 
 impl From<io::Error> for Failure {
+    ghost use Rattle.std.specs.Prelude.{◌≡◌};
+    ghost use Rattle.tool_show.specs.declared.error.Failure.TheVariants.{Output};
+
+    ghost from_gives = { λ error failure. failure ≡ Output error };
+
     fn from(error: io::Error) -> Failure {
         Failure::Output(error)
     }
 }
 
 impl From<AllocError> for ShowError<'_> {
+    ghost use Rattle.std.specs.Prelude.{◌≡◌};
+    ghost use Rattle.tool_show.specs.declared.error.ShowError.TheVariants.{OutOfMemory};
+
+    ghost from_gives = { λ _ e. e ≡ OutOfMemory };
+
     fn from(_: AllocError) -> Self {
         ShowError::OutOfMemory
     }
 }
 
 impl<T: Drop> From<AllocFailed<T>> for ShowError<'_> {
+    ghost use Rattle.std.specs.Prelude.{◌≡◌};
+    ghost use Rattle.tool_show.specs.declared.error.ShowError.TheVariants.{OutOfMemory};
+
+    ghost from_gives = { λ _ e. e ≡ OutOfMemory };
+
     fn from(_: AllocFailed<T>) -> Self {
         ShowError::OutOfMemory
     }
 }
 
 impl From<io::Error> for ShowError<'_> {
+    ghost use Rattle.std.specs.Prelude.{◌≡◌};
+    ghost use Rattle.tool_show.specs.declared.error.ShowError.TheVariants.{Output};
+
+    ghost from_gives = { λ error e. e ≡ Output error };
+
     fn from(error: io::Error) -> Self {
         ShowError::Output(error)
     }

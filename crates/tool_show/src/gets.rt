@@ -1,12 +1,17 @@
 //! The version of a key that a reader sees.
-ghost use Rattle.std.specs.Prelude.{◌≡◌, ◌-◌, ◌^◌, ◌∷◌, [], List, IfOk, is_some, map};
+ghost use Rattle.std.specs.Prelude.{◌≡◌, ◌-◌, ◌^◌, ◌∷◌, [], List, IfErr, IfOk, OnOk, false};
+ghost use Rattle.std.specs.Prelude.{is_some, map};
+ghost use Rattle.std.specs.Io.KnownBytes.{Appends};
 ghost use Rattle.std.specs.Option.{option_map_or};
 ghost use Rattle.std.specs.Arc.{arc_value};
 ghost use Rattle.lsm_runs.specs.RunLists.{RunsHoldLists};
 ghost use Rattle.lsm_runs.specs.SeveralRuns.{union_in};
 ghost use Rattle.sst_entries.specs.Entry.{Entry};
 ghost use Rattle.sst_entries.specs.Point.{point};
+ghost use Rattle.tool_lines.specs.declared.entry_line.Format.TheVariants.{Lines};
+ghost use Rattle.tool_show.specs.Failures.{NamesNone, NamesOne};
 ghost use Rattle.tool_show.specs.Files.{runs_in};
+ghost use Rattle.tool_show.specs.Printed.{found_line};
 
 use crate::error::Failure;
 use crate::{NamedTable, ShowError};
@@ -51,6 +56,14 @@ pub fn get<'a, A: Allocator + Copy, W: Write>(
         let seqno = option_map_or (λ n. n) options.now.at (2 ^ 64 - 1) in
         IfOk result (λ there.
         there ≡ is_some (point (union_in lists) options.now.key.now seqno)) }
+    // As words it is printed, or that there is none.
+    ensures printed { options.now.format ≡ Lines → options.now.loads ≡ false →
+        (lists : List (List (List Entry))) → RunsHoldLists (runs_in files.now) lists →
+        let seqno = option_map_or (λ n. n) options.now.at (2 ^ 64 - 1) in
+        OnOk result (Appends (W.contents output.old) (W.contents output.new)
+        (found_line (point (union_in lists) options.now.key.now seqno))) }
+    // Where a file is named, it is one of these, and so is the block that is named.
+    ensures named { IfErr result (NamesOne files.now) }
 {
     let runs = runs_of(alloc, files)?;
     let seqno = options.at.unwrap_or(SeqNo::MAX);
@@ -71,7 +84,8 @@ fn runs_of<'a, A: Allocator + Copy>(
     alloc: A,
     files: &[NamedTable<'a, A>],
 ) -> Result<Runs<A>, ShowError<'a>>
-    ensures { IfOk result (λ runs. map arc_value runs.items ≡ runs_in files.now) }
+    ensures ok { IfOk result (λ runs. map arc_value runs.items ≡ runs_in files.now) }
+    ensures unnamed { IfErr result NamesNone }
 {
     let mut runs = Vec::new(alloc);
     for file in files {
@@ -85,7 +99,8 @@ fn run_of<'a, A: Allocator + Copy>(
     alloc: A,
     table: Table<A>,
 ) -> Result<Run<Table<A>, A>, ShowError<'a>>
-    ensures { IfOk result (λ run. run ≡ table ∷ []) }
+    ensures ok { IfOk result (λ run. run ≡ table ∷ []) }
+    ensures unnamed { IfErr result NamesNone }
 {
     let mut tables = Vec::new(alloc);
     tables.push(table)?;
@@ -95,6 +110,11 @@ fn run_of<'a, A: Allocator + Copy>(
     }
 }
 
+// The run at a place alone.
+fn one_run<R>(runs: &[R], at: usize) -> &[R] {
+    runs.get(at..at.saturating_add(1)).unwrap_or(&[])
+}
+
 // A refusal, with the first file whose table refuses the read.
 fn refused_in<'a, A: Allocator + Copy>(
     error: Error,
@@ -102,10 +122,15 @@ fn refused_in<'a, A: Allocator + Copy>(
     files: &[NamedTable<'a, A>],
     key: &[u8],
     seqno: SeqNo,
-) -> ShowError<'a> {
-    for (run, file) in runs.chunks(1).zip(files) {
+) -> ShowError<'a>
+    ensures { NamesOne files.now result }
+{
+    let mut at = 0usize;
+    for file in files {
+        let run = one_run(runs, at);
+        at = at.saturating_add(1);
         if get_runs_counted(run, key, seqno).0.is_err() {
-            return Failure::Refused(error).of_file(file.name);
+            return Failure::Refused(error).of_file(file);
         }
     }
     ShowError::OutOfMemory
@@ -116,12 +141,20 @@ fn print_found<'a, A: Allocator + Copy, W: Write>(
     output: &mut W,
     found: Option<InternalValue<A>>,
     format: Format,
-) -> Result<(), ShowError<'a>> {
+) -> Result<(), ShowError<'a>>
+    ensures printed { format ≡ Lines → OnOk result
+        (Appends (W.contents output.old) (W.contents output.new) (found_line found)) }
+    ensures unnamed { IfErr result NamesNone }
+{
     match found {
-        None => Ok(output.write_all(b"none\n")?),
+        None => {
+            output.write_all(b"none\n")?;
+            Ok(())
+        }
         Some(item) => {
             let text = append_entry(alloc, Vec::new(alloc), &item.as_entry_ref(), format)?;
-            Ok(output.write_all(&text)?)
+            output.write_all(&text)?;
+            Ok(())
         }
     }
 }
@@ -133,20 +166,34 @@ fn print_loads<'a, A: Allocator + Copy, W: Write>(
     files: &[NamedTable<'a, A>],
     key: &[u8],
     seqno: SeqNo,
-) -> Result<(), ShowError<'a>> {
-    for (run, file) in runs.chunks(1).zip(files) {
+) -> Result<(), ShowError<'a>>
+    ensures { IfErr result (NamesOne files.now) }
+{
+    let mut at = 0usize;
+    for file in files {
+        let run = one_run(runs, at);
+        at = at.saturating_add(1);
         let opened = get_runs_counted(run, key, seqno).1;
-        let place = if opened.data_loads == 0 {
-            None
-        } else {
-            match block_of_key(&file.table, key, seqno) {
-                Ok(place) => place,
-                Err(error) => return Err(Failure::Refused(error).of_file(file.name)),
-            }
+        let place = match place_loaded(&file.table, key, seqno, opened) {
+            Ok(place) => place,
+            Err(error) => return Err(Failure::Refused(error).of_file(file)),
         };
         print_opened(output, file.name, opened, place)?;
     }
     Ok(())
+}
+
+// Where the data block begins that was loaded, if one was.
+fn place_loaded<A: Allocator + Copy>(
+    table: &Table<A>,
+    key: &[u8],
+    seqno: SeqNo,
+    opened: Opened,
+) -> Result<Option<u64>, Error> {
+    if opened.data_loads == 0 {
+        return Ok(None);
+    }
+    block_of_key(table, key, seqno)
 }
 
 fn print_opened<W: Write>(

@@ -2,6 +2,7 @@
 //! says of itself, and what is wrong of it.
 #![tactic(auto)]
 
+mod blocks;
 mod checks;
 mod dumps;
 mod error;
@@ -9,6 +10,7 @@ mod facts;
 mod gets;
 mod named;
 mod picture;
+mod places;
 mod stats;
 
 pub use checks::{NoProgress, Progress, verify};
@@ -16,4 +18,5 @@ pub use dumps::{DumpOptions, dump};
 pub use error::ShowError;
 pub use gets::{GetOptions, get};
 pub use named::NamedTable;
+pub use places::{BlockPlace, place_of_refusal};
 pub use stats::stat;

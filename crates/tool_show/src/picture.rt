@@ -19,7 +19,7 @@ pub(crate) fn print_sections<W: Write>(
 /// Writes a line for each data block, or, where there are more than 32, for each of 32 parts of
 /// them at most: the first of its blocks, where it begins, its length, share and bar.
 pub(crate) fn print_blocks<W: Write>(output: &mut W, blocks: &[Place], all: u64) -> io::Result<()> {
-    let each = blocks.len() / 32 + 1;
+    let each = blocks.len().div_ceil(32).max(1);
     let mut first = 0usize;
     for part in blocks.chunks(each) {
         write!(output, "  {first:<12}")?;

@@ -1,4 +1,7 @@
 //! What tables say of themselves.
+ghost use Rattle.std.specs.Prelude.{IfErr};
+ghost use Rattle.tool_show.specs.Failures.{NamesOne};
+
 use crate::error::Failure;
 use crate::facts::{
     ITEMS, NamedPlace, Place, Shown, Spread, blocks_of, little_endian, name_of_item, sections_of,
@@ -24,10 +27,13 @@ pub fn stat<'a, A: Allocator + Copy, W: Write>(
     output: &mut W,
     files: &[NamedTable<'a, A>],
     format: Format,
-) -> Result<(), ShowError<'a>> {
+) -> Result<(), ShowError<'a>>
+    // Where a file is named, it is one of these, and so is the block that is named.
+    ensures named { IfErr result (NamesOne files.now) }
+{
     for file in files {
         if let Err(failure) = stat_file(alloc, output, file, format) {
-            return Err(failure.of_file(file.name));
+            return Err(failure.of_file(file));
         }
     }
     Ok(())

@@ -1,3 +1,5 @@
 pub mod Bars
+pub mod Endings
 pub mod Options
 pub mod Statuses
+pub mod Verified

@@ -1,11 +1,13 @@
 //! Why a command did not succeed.
 ghost use Rattle.std.specs.Prelude.{◌≡◌};
+ghost use Rattle.tool_compact.specs.Blamed.{is_memory_fault};
 ghost use Rattle.tool_tasks.specs.Statuses.{status_of_failure};
 
+use logpurple::Error;
 use std::alloc::{AllocError, AllocFailed};
 use std::{fmt, io};
 use tool_compact::CompactError;
-use tool_files::FileError;
+use tool_files::{FileError, FileFault};
 use tool_lines::LineError;
 use tool_make::MakeError;
 use tool_show::ShowError;
@@ -27,6 +29,13 @@ pub(crate) enum Failure<'a> {
     Make(MakeError<'a>),
     /// Files were not compacted or packed.
     Compact(CompactError<'a>),
+}
+
+/// Whether memory is wanted, which is no file's fault.
+pub(crate) fn is_memory_fault(fault: &FileFault) -> bool
+    ensures { result ≡ is_memory_fault fault.now }
+{
+    matches!(fault, FileFault::Refused(Error::OutOfMemory))
 }
 
 impl<'a> Failure<'a> {
@@ -57,30 +66,55 @@ impl<'a> fmt::Display for Failure<'a> {
 }
 
 impl<'a> From<AllocError> for Failure<'a> {
+    ghost use Rattle.std.specs.Prelude.{◌≡◌};
+    ghost use Rattle.tool_tasks.specs.declared.failure.Failure.TheVariants.{OutOfMemory};
+
+    ghost from_gives = { λ _ failure. failure ≡ OutOfMemory };
+
     fn from(_error: AllocError) -> Failure<'a> {
         Failure::OutOfMemory
     }
 }
 
 impl<'a, T: Drop> From<AllocFailed<T>> for Failure<'a> {
+    ghost use Rattle.std.specs.Prelude.{◌≡◌};
+    ghost use Rattle.tool_tasks.specs.declared.failure.Failure.TheVariants.{OutOfMemory};
+
+    ghost from_gives = { λ _ failure. failure ≡ OutOfMemory };
+
     fn from(_error: AllocFailed<T>) -> Failure<'a> {
         Failure::OutOfMemory
     }
 }
 
 impl<'a> From<io::Error> for Failure<'a> {
+    ghost use Rattle.std.specs.Prelude.{◌≡◌};
+    ghost use Rattle.tool_tasks.specs.declared.failure.Failure.TheVariants.{Output};
+
+    ghost from_gives = { λ error failure. failure ≡ Output error };
+
     fn from(error: io::Error) -> Failure<'a> {
         Failure::Output(error)
     }
 }
 
 impl<'a> From<FileError<'a>> for Failure<'a> {
+    // Want of memory is no file's fault.
     fn from(error: FileError<'a>) -> Failure<'a> {
-        Failure::File(error)
+        if is_memory_fault(&error.fault) {
+            Failure::OutOfMemory
+        } else {
+            Failure::File(error)
+        }
     }
 }
 
 impl<'a> From<ShowError<'a>> for Failure<'a> {
+    ghost use Rattle.std.specs.Prelude.{◌≡◌};
+    ghost use Rattle.tool_tasks.specs.declared.failure.Failure.TheVariants.{Show};
+
+    ghost from_gives = { λ error failure. failure ≡ Show error };
+
     fn from(error: ShowError<'a>) -> Failure<'a> {
         Failure::Show(error)
     }

@@ -1,12 +1,20 @@
 //! Tables that are shown.
+ghost use Rattle.std.specs.Prelude.{◌≡◌, IfErr, IfOk, List, false, length, true};
+ghost use Rattle.logpurple.specs.Words.{OpenTable};
+ghost use Rattle.tool_show.specs.Faults.{fault_count};
+ghost use Rattle.tool_show.specs.Files.{IsSoundTable};
+ghost use Rattle.tool_compact.specs.Blamed.{is_memory_fault};
+ghost use Rattle.tool_tasks.specs.Endings.{EndsVerify};
+ghost use Rattle.tool_tasks.specs.Verified.{AreSoundTables};
+
 use crate::System;
-use crate::bar::Bar;
-use crate::failure::Failure;
+use crate::bar::{Bar, Work, behind};
+use crate::failure::{Failure, is_memory_fault};
 use crate::make::format_of;
 use std::alloc::Global;
 use std::io::Write;
 use std::rt::{Clock, Files};
-use tool_files::open_table;
+use tool_files::{FileError, open_table};
 use tool_lines::parse_bytes;
 use tool_options::{DumpTask, GetTask, StatTask, VerifyTask};
 use tool_show::{DumpOptions, GetOptions, NamedTable, NoProgress};
@@ -98,24 +106,91 @@ pub(crate) fn stat<'a, R: Files, C: Clock, W: Write>(
     Ok(())
 }
 
-/// Reads all of tables and prints each fault, with a bar on `errors` meanwhile if that is wanted.
-/// Answers whether there is none.
+/// Reads files whole, one after another, and prints what is wrong of each, with a bar on `errors`
+/// meanwhile if that is wanted. A file that does not open as a table is at fault, too. Answers
+/// whether nothing is wrong. Refused for want of memory, and where the output takes no more.
 pub(crate) fn verify<'a, R: Files, C: Clock, W: Write, E: Write>(
     system: System<'_, R, C>,
     task: &VerifyTask<'a>,
     output: &mut W,
     errors: &mut E,
     shows_bar: bool,
-) -> Result<bool, Failure<'a>> {
-    let tables = open_named(system, task.files.as_slice())?;
-    let tables = tables.as_slice();
-    let faults = if shows_bar {
-        let mut bar = Bar::new(errors, system.clock);
-        let faults = tool_show::verify(output, tables, &mut bar);
-        bar.clear();
-        faults?
+) -> Result<bool, Failure<'a>>
+    // Nothing is wrong where as many files were opened as there are, and each stores a list.
+    ensures sound { IfOk result (λ sound. sound ≡ true →
+        AreSoundTables (length task.now.files.items)) }
+    // What is wrong of a file does not end it.
+    ensures goes_on { IfErr result EndsVerify }
+{
+    let names = task.files.as_slice();
+    let mut work = if shows_bar {
+        Some(Work::of(system, names))
     } else {
-        tool_show::verify(output, tables, &mut NoProgress)?
+        None
     };
+    let mut faults = 0u64;
+    for name in names {
+        let found = verify_file(system, name, output, errors, work)?;
+        faults = faults.saturating_add(found);
+        work = behind(work, system.files, name);
+    }
     Ok(faults == 0)
+}
+
+// Opens a file and reads it. Answers how many faults there are.
+fn verify_file<'a, R: Files, C: Clock, W: Write, E: Write>(
+    system: System<'_, R, C>,
+    name: &'a str,
+    output: &mut W,
+    errors: &mut E,
+    work: Option<Work>,
+) -> Result<u64, Failure<'a>>
+    ensures sound { IfOk result (λ faults. faults ≡ 0 → (t : OpenTable) × IsSoundTable t) }
+    ensures goes_on { IfErr result EndsVerify }
+{
+    match open_table(system.files, system.alloc, name) {
+        Ok(table) => {
+            let file = NamedTable { name, table };
+            verify_opened(system, &file, output, errors, work)
+        }
+        Err(error) => print_unopened(output, error),
+    }
+}
+
+// Prints why a file did not open, which is a fault unless memory is wanted. Answers how many faults
+// there are.
+fn print_unopened<'a, W: Write>(output: &mut W, error: FileError<'a>) -> Result<u64, Failure<'a>>
+    ensures fault { IfOk result (λ faults. faults ≡ 1) }
+    ensures memory { IfOk result (λ _. is_memory_fault error.entry.fault ≡ false) }
+    ensures goes_on { IfErr result EndsVerify }
+{
+    if is_memory_fault(&error.fault) {
+        return Err(Failure::OutOfMemory);
+    }
+    writeln!(output, "{error}")?;
+    Ok(1)
+}
+
+// Reads an opened file. Answers how many faults there are.
+fn verify_opened<'a, R: Files, C: Clock, W: Write, E: Write>(
+    system: System<'_, R, C>,
+    file: &NamedTable<'a, Global>,
+    output: &mut W,
+    errors: &mut E,
+    work: Option<Work>,
+) -> Result<u64, Failure<'a>>
+    ensures count { IfOk result (λ faults. faults ≡ fault_count file.now.table) }
+    ensures sound { IfOk result (λ faults. faults ≡ 0 → IsSoundTable file.now.table) }
+    ensures goes_on { IfErr result EndsVerify }
+{
+    match work {
+        Some(work) => {
+            let size = file.table.file_len() as u64;
+            let mut bar = Bar::new(errors, system.clock, work, size);
+            let faults = tool_show::verify(system.alloc, output, file, &mut bar);
+            bar.clear();
+            Ok(faults?)
+        }
+        None => Ok(tool_show::verify(system.alloc, output, file, &mut NoProgress)?),
+    }
 }

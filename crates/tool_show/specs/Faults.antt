@@ -1,0 +1,98 @@
+-- What is wrong of a table: what its verification finds first, and which further blocks do not load.
+use Rattle.std.specs.Prelude.{◌+◌, ◌-◌, ◌^◌, ◌==◌, ◌&&◌, ◌++◌, ◌∷◌, [], ℕ, Bool, true, false, not}
+use Rattle.std.specs.Prelude.{List, Option, Result, Ok, Err, count_by, is_some, map, min}
+use Rattle.std.specs.Prelude.{if◌then◌else◌}
+use Rattle.std.specs.List.{flat_map}
+use Rattle.sst_blocks.specs.Block.{load_told}
+use Rattle.sst_blocks.specs.Handle.{Handle}
+use Rattle.sst_blocks.specs.Place.{Place, place_of}
+use Rattle.sst_blocks.specs.declared.block_type.BlockType.{BlockType}
+use Rattle.sst_blocks.specs.declared.block_type.BlockType.TheVariants as block
+use Rattle.sst_entries.specs.declared.error.Error.{Error}
+use Rattle.sst_sections.specs.Sections.{body_of, slot_index}
+use Rattle.sst_sections.specs.declared.section.SectionName.{SectionName}
+use Rattle.sst_sections.specs.declared.section.SectionName.TheVariants as section
+use Rattle.lsm_readers.specs.declared.verify.Fault.{Fault}
+use Rattle.lsm_readers.specs.declared.verify.Fault.TheVariants.{Unloaded}
+use Rattle.lsm_readers.specs.declared.verify.Finding.{Finding}
+use Rattle.lsm_readers.specs.declared.verify.Verified.{Verified}
+use Rattle.lsm_readers.specs.IndexKinds.{handles_told}
+use Rattle.lsm_readers.specs.Parts.{Parts}
+use Rattle.lsm_readers.specs.Scan.{fault_of}
+use Rattle.lsm_readers.specs.Table.{OpenTable}
+use Rattle.lsm_readers.specs.Verify.{filter_places, finding, table_found}
+use Rattle.tool_show.specs.declared.blocks.NamedBlock.{NamedBlock}
+use Rattle.tool_show.specs.declared.places.BlockPlace.{BlockPlace}
+
+-- a block of a section, which has to be of a kind and lies at a place
+abbrev pub named_at : SectionName → BlockType → Place → NamedBlock
+named_at section kind place = record { section = section; kind = kind; place = place }
+
+abbrev pub filter_at : Place → NamedBlock
+filter_at = named_at section.Filter block.Filter
+
+abbrev pub data_at : Place → NamedBlock
+data_at = named_at section.Data block.Data
+
+-- the handles that a block tells, none where it does not load
+abbrev pub handles_if_told : Result (List Handle) Error → List Handle
+handles_if_told (Ok handles) = handles
+handles_if_told (Err e) = []
+
+abbrev pub told_handles : List ℕ → Place → List Handle
+told_handles body place = handles_if_told (handles_told body place)
+
+-- a partition of the index at a place, and the data blocks that it names
+abbrev pub partition : List ℕ → Place → List NamedBlock
+partition body place =
+    named_at section.Index block.Index place ∷ map data_at (map place_of (told_handles body place))
+
+-- what the handles of the index lead to: partitions, or the data blocks themselves
+abbrev pub blocks_below : List ℕ → Bool → List Place → List NamedBlock
+blocks_below body true places = flat_map (partition body) places
+blocks_below body false places = map data_at places
+
+-- the blocks of a table in the order of a verification: those of the filter, the index's block or
+-- its top level, and what its handles lead to
+abbrev pub named_blocks : List ℕ → Parts → List NamedBlock
+named_blocks body parts =
+    map filter_at (filter_places parts.pinned.filter_tops parts.regions.filter)
+    ++ named_at section.Tli block.Index parts.regions.tli
+    ∷ blocks_below body (is_some parts.regions.index)
+    (map place_of (told_handles body parts.regions.tli))
+
+-- why a block does not load, if it does not
+abbrev pub block_fault : List ℕ → NamedBlock → Option Error
+block_fault body b = fault_of (load_told body b.place.offset b.place.size b.kind)
+
+abbrev pub is_unloaded : Fault → Bool
+is_unloaded (Unloaded e) = true
+is_unloaded fault = false
+
+-- a finding says of a block that it does not load
+abbrev pub is_first : Finding → NamedBlock → Bool
+is_first f b = is_unloaded f.fault
+    && (slot_index f.section == slot_index b.section && f.offset == b.place.offset)
+
+-- a block does not load, and a finding says it of none or of another one
+abbrev pub is_further : List ℕ → Finding → NamedBlock → Bool
+is_further body f b = is_some (block_fault body b) && not (is_first f b)
+
+-- how many further blocks do not load, as far as that can be counted
+abbrev pub further_count : OpenTable → Finding → ℕ
+further_count t f =
+    min (count_by (is_further (body_of t.bytes) f) (named_blocks (body_of t.bytes) t.parts))
+    (2 ^ 64 - 1)
+
+-- how many faults a table has, as far as that can be counted: what is found first, and each further
+-- block that does not load
+abbrev pub count_found : OpenTable → Result Verified Finding → ℕ
+count_found t (Ok verified) = 0
+count_found t (Err f) = min (1 + further_count t f) (2 ^ 64 - 1)
+
+abbrev pub fault_count : OpenTable → ℕ
+fault_count t = count_found t (table_found (body_of t.bytes) t.parts)
+
+-- the finding that the block at a place does not load
+abbrev pub unloaded_at : BlockPlace → Error → Finding
+unloaded_at place e = finding place.section place.offset (Unloaded e)
