@@ -1,6 +1,6 @@
-//! A page of text with commands in it, printed with what each command prints. The commands are those
-//! of the program `sst` and a few of a shell's; each stands on a line of its own, behind four spaces
-//! and `$ `. The page `docs/SST.md` is made so, and is this program's output.
+//! A page of text with commands in it, printed with what each command prints. The commands are
+//! those of the program `sst` and a few of a shell's; each stands on a line of its own, behind four
+//! spaces and `$ `. The page `docs/SST.md` is made so, and is this program's output.
 #![tactic(auto)]
 
 mod shell;

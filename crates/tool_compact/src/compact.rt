@@ -9,9 +9,9 @@ ghost use Rattle.logpurple.specs.Words.{CameInOrder, Entry, GoesThrough, HasMade
 ghost use Rattle.logpurple.specs.Words.{OpenTable, OutOfMemory, RunsHoldLists, kept_in};
 ghost use Rattle.tool_compact.specs.declared.compact_error.CompactError.TheVariants.{Refused};
 ghost use Rattle.tool_compact.specs.Blamed.{BlamesNone, BlamesNoneForMemory, IsBlame, NamesBlame};
-ghost use Rattle.tool_compact.specs.Compacted.{AreMadeOf, AreMadeOfFiles, HasNoTables, IfOutOfOrder};
-ghost use Rattle.tool_compact.specs.Compacted.{HasCount, TellCount, TellsOrder, compactor_by, counted};
-ghost use Rattle.tool_compact.specs.Compacted.{each_alone};
+ghost use Rattle.tool_compact.specs.Compacted.{AreMadeOf, AreMadeOfFiles, HasCount, HasNoTables};
+ghost use Rattle.tool_compact.specs.Compacted.{IfOutOfOrder, TellCount, TellsOrder, compactor_by};
+ghost use Rattle.tool_compact.specs.Compacted.{counted, each_alone};
 ghost use Rattle.lsm_compactions.specs.declared.any_runs.CompactionOutcome.TheVariants.{Tables};
 
 use crate::print::path_at;
@@ -268,7 +268,8 @@ fn open_and_compact<'a, R: Files, A: Allocator + Copy>(
     paths: &[&'a str],
     options: &CompactOptions,
 ) -> Result<NewTables<A>, CompactError<'a>>
-    ensures made { IfOk result (λ made. (opened : List OpenTable) × (length opened ≡ length paths.now)
+    ensures made { IfOk result (λ made. (opened : List OpenTable)
+        × (length opened ≡ length paths.now)
         × AreMadeOf options.now opened made.tables.items) }
     ensures count { IfOk result (λ made. TellCount made.tables.items made.entries) }
     ensures order { IfErr result (λ e. IfOutOfOrder e ((opened : List OpenTable)
@@ -334,13 +335,13 @@ fn write_tables<'a, R: Files, A: Allocator + Copy>(
 }
 
 /// Compacts files of tables, each a run of its own, as
-/// [`compact_any_runs`](logpurple::compact_any_runs), and writes the new tables into a folder, which
+/// [`compact_any_runs`](logpurple::compact_any_runs), and writes the new tables into a folder that
 /// it makes: the files `1.sst`, `2.sst` and so on.
 ///
 /// Refused as [`open_tables`], where a block of a file cannot be read, where the entries of a file
-/// are out of order, where a key has one number twice in what is kept of the files, as the writer of
-/// the tables, [`write_files`] and the system are, where the folder is there already, and for want
-/// of memory. No file that was there is changed.
+/// are out of order, where a key has one number twice in what is kept of the files, as the writer
+/// of the tables, [`write_files`] and the system are, where the folder is there already, and for
+/// want of memory. No file that was there is changed.
 pub fn compact_files<'a, R: Files, A: Allocator + Copy>(
     files: &R,
     alloc: A,
@@ -349,8 +350,8 @@ pub fn compact_files<'a, R: Files, A: Allocator + Copy>(
     options: &CompactOptions,
 ) -> Result<Made, CompactError<'a>>
     // So many tables of a list that can be written were made of the tables of these files; of
-    // tables of lists, those of what is kept of all entries together. As many entries are answered as
-    // these tables tell.
+    // tables of lists, those of what is kept of all entries together. As many entries are answered
+    // as these tables tell.
     ensures made { IfOk result (λ made.
         AreMadeOfFiles A options.now (length paths.now) made) }
     // Where it says that entries came out of order, tables of lists have one among what is kept of

@@ -1,5 +1,6 @@
 //! Files that are packed in runs.
-ghost use Rattle.std.specs.Prelude.{◌≡◌, ◌+◌, ◌∷◌, [], IfErr, IfOk, IfSome, IfNone, List, OnOk, length, not};
+ghost use Rattle.std.specs.Prelude.{◌≡◌, ◌+◌, ◌∷◌, [], IfErr, IfOk, IfSome, IfNone, List, OnOk};
+ghost use Rattle.std.specs.Prelude.{length, not};
 ghost use Rattle.lsm_ranges.specs.Packing.{AreTablesWellFormed};
 ghost use Rattle.logpurple.specs.Words.{OpenTable, OutOfMemory, range_of};
 ghost use Rattle.tool_compact.specs.Packed.{IsPackedOf, NamesTurned, RefusesToPack, alone, placed};
