@@ -24,7 +24,7 @@ use std::alloc::Allocator;
 use std::fs;
 use std::rt::Files;
 use std::sync::Arc;
-use tool_files::{FileError, FileFault, FileName, NewFile, open_tables, write_files};
+use tool_files::{Disk, FileError, FileFault, FileName, NewFile, Place, open_tables, write_files};
 use tool_show::place_of_refusal;
 
 /// How many tables were made, and how many entries these have.
@@ -316,6 +316,20 @@ fn fill_folder<'a, R: Files, A: Allocator + Copy>(
     Ok(())
 }
 
+// Syncs the folder in which a new one lies, and with it the new one's name.
+fn sync_parent<'a, R: Files>(files: &R, folder: &'a str) -> Result<(), CompactError<'a>>
+    ensures order { IfErr result (λ e. IfOutOfOrder e ⊥) }
+    ensures memory { IfErr result BlamesNoneForMemory }
+{
+    match (Disk { files }).sync_folder(folder) {
+        Ok(()) => Ok(()),
+        Err(error) => Err(CompactError::File(FileError {
+            name: FileName::Plain(folder),
+            fault: FileFault::NotSynced(error),
+        })),
+    }
+}
+
 // Writes tables into a new folder. Where that is refused, the folder goes too, if nothing is in it.
 fn write_tables<'a, R: Files, A: Allocator + Copy>(
     files: &R,
@@ -327,11 +341,13 @@ fn write_tables<'a, R: Files, A: Allocator + Copy>(
     ensures memory { IfErr result BlamesNoneForMemory }
 {
     make_folder(files, folder)?;
-    let filled = fill_folder(files, alloc, folder, tables);
-    if filled.is_err() {
-        let _ = fs::remove_dir(files, folder);
+    match fill_folder(files, alloc, folder, tables) {
+        Ok(()) => sync_parent(files, folder),
+        Err(error) => {
+            let _ = fs::remove_dir(files, folder);
+            Err(error)
+        }
     }
-    filled
 }
 
 /// Compacts files of tables, each a run of its own, as

@@ -264,13 +264,17 @@ fn write_kinds<A: Allocator>(writer: &mut Writer<A>, parts: &Parts<A>) -> Result
     writer.string(parts.index)?;
     writer.key("filter")?;
     writer.string(parts.filter)?;
-    if let Some(spread) = parts.spread {
-        writer.key("filter_bits_per_key_tenths")?;
-        writer.u64(spread.tenths)?;
-        writer.key("false_answers_per_million")?;
-        writer.u64(spread.passed)?;
+    match parts.spread {
+        Some(spread) if parts.filter != "none" => write_spread(writer, spread),
+        _ => Ok(()),
     }
-    Ok(())
+}
+
+fn write_spread<A: Allocator>(writer: &mut Writer<A>, spread: Spread) -> Result<(), AllocError> {
+    writer.key("filter_bits_per_key_tenths")?;
+    writer.u64(spread.tenths)?;
+    writer.key("false_answers_per_million")?;
+    writer.u64(spread.passed)
 }
 
 fn write_sections<A: Allocator>(

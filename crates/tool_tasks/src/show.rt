@@ -131,6 +131,8 @@ pub(crate) fn verify<'a, R: Files, C: Clock, W: Write, E: Write>(
     let mut faults = 0u64;
     for name in names {
         let found = verify_file(system, name, output, errors, work)?;
+        // What is known of a file is not kept back while the next is read.
+        output.flush()?;
         faults = faults.saturating_add(found);
         work = behind(work, system.files, name);
     }
