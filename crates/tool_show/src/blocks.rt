@@ -89,7 +89,7 @@ fn places_of<A: Allocator + Copy>(
     Ok(places)
 }
 
-// The same of the handles in a block, and nothing where it does not load.
+// Where the blocks lie that the handles in a block name: nowhere, where it does not load.
 fn places_in<A: Allocator + Copy>(
     alloc: A,
     source: &BlockSource<A>,

@@ -40,11 +40,11 @@ struct Looked {
     verdict: Result<Verified, VerifyError>,
 }
 
-/// Reads a file whole, block after block, and writes a line: what it has, or the first fault that is
-/// found, with its section and offset, and the number of the refusal where a block does not load.
-/// Behind a fault comes a line for each further block of the filter, of the index and of data that
-/// does not load. Answers how many faults were written. Refused with the first failure to write,
-/// and for want of memory; what was written stays.
+/// Reads a file whole, block after block, and writes a line: what it has, or the first fault that
+/// is found, with its section and offset, and the number of the refusal where a block does not
+/// load. Behind a fault comes a line for each further block of the filter, of the index and of data
+/// that does not load. Answers how many faults were written. Refused with the first failure to
+/// write, and for want of memory; what was written stays.
 pub fn verify<'a, A: Allocator + Copy, W: Write, P: Progress>(
     alloc: A,
     output: &mut W,
@@ -148,7 +148,8 @@ fn print_further<'a, A: Allocator + Copy, W: Write>(
     }
 }
 
-// The same, of the blocks that the file's bytes name.
+// Writes a line for each block that the file's bytes name and that does not load, but one of which
+// the finding says it already. Answers how many lines there are.
 fn print_named<'a, A: Allocator + Copy, W: Write>(
     alloc: A,
     output: &mut W,
@@ -167,7 +168,8 @@ fn print_named<'a, A: Allocator + Copy, W: Write>(
     }
 }
 
-// The same of some blocks.
+// Writes a line for each of these blocks that does not load, but one of which the finding says it
+// already. Answers how many lines there are.
 fn print_unloaded<'a, A: Allocator + Copy, W: Write>(
     output: &mut W,
     name: &str,
