@@ -3,6 +3,7 @@ use Rattle.std.specs.Prelude.{Bool, true, false, cond, List, [], ◌∷◌, ◌+
 use Rattle.std.specs.Prelude.{Ok, Err}
 use Rattle.std.specs.Ordering.{is_gt}
 use Rattle.sst_entries.specs.Entry.{Entry}
+pub use Rattle.sst_entries.specs.Stream.{up_to_error}
 use Rattle.lsm_merge.specs.Ends.{R}
 use Rattle.lsm_merge.specs.Union.{item_cmp}
 
@@ -37,12 +38,6 @@ sort_places (p ∷ ps) = put_in_place p (sort_places ps)
 abbrev pub all_placed : List (List R) → List Placed
 all_placed [] = []
 all_placed (rs ∷ lists) = places_of None rs ++ all_placed lists
-
--- up to the first error and with it
-abbrev pub up_to_error : List R → List R
-up_to_error [] = []
-up_to_error (Ok x ∷ rs) = Ok x ∷ up_to_error rs
-up_to_error (Err e ∷ rs) = Err e ∷ []
 
 -- the entries of all lists sorted, those that tie list by list, up to the first error, which stands
 -- right behind the entry before it in its list

@@ -117,8 +117,8 @@ impl<L: Lending, A: Allocator> LendingMerger<L, A> {
             return 0;
         };
         match self.queue.last() {
-            // One comparison where a source stays ahead for long. Where sources take turns, it would
-            // be in vain most times.
+            // One comparison where a source stays ahead for long. Where sources take turns, it
+            // would be in vain most times.
             Some(&next) if self.stayed_ahead && self.comes_before(&entry, source, next) => {
                 self.queue.len()
             }

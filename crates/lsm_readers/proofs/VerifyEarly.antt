@@ -31,7 +31,7 @@ use Rattle.lsm_readers.specs.declared.verify.VerifyError.TheVariants.{Found, Out
 use Rattle.lsm_readers.specs.Verify.{FindsFirst, early_at, early_filters, early_from}
 use Rattle.lsm_readers.specs.Parts.{Parts}
 use Rattle.lsm_readers.specs.Verify.{Finds, Misses, Unread, finding, is_found, load_refusal}
-use Rattle.lsm_readers.specs.Verification.{StepsCalmly, block_early, found_or, in_index}
+use Rattle.lsm_readers.specs.Verification.{StepsCalmly, chunk_early, found_or, in_index}
 use Rattle.lsm_readers.specs.Verification.{step_early}
 
 -- ---- what a load finds before memory is taken is no want of memory
@@ -247,7 +247,7 @@ module _ (body : List ℕ) (parts : Parts) (left : Unread) where
   pub early_block : {X : Type 0} (hs tops : List Handle) (r : Result X VerifyError)
       → (hs ≡ [] → false ≡ true)
       → ((h : Handle) (rest : List Handle) → hs ≡ h ∷ rest
-      → FindsFirst r (block_early body parts left.counts (place_of h)))
+      → FindsFirst r (chunk_early body parts left.counts (place_of h)))
       → FindsFirst r (step_early body parts (in_index hs tops) left)
   early_block [] tops r some first = absurd (let no : false ≡ true = some refl in cc)
   early_block (h ∷ hs) tops r some first = first h hs refl

@@ -17,7 +17,7 @@ use Rattle.lsm_readers.specs.Parts.{Parts}
 use Rattle.lsm_readers.specs.Verify.{◌>>=◌, Misses, Unread, block_found, chunk_found}
 use Rattle.lsm_readers.specs.Verify.{contents_found, counted_found, early_at, handles_found}
 use Rattle.lsm_readers.specs.Verify.{is_found, top_named}
-use Rattle.lsm_readers.specs.Verification.{block_early, partition_found}
+use Rattle.lsm_readers.specs.Verification.{chunk_early, partition_found}
 use Rattle.lsm_readers.proofs.VerifyEarly.{or_behind, or_first}
 use Rattle.lsm_readers.proofs.VerifyLoops.{misses_here, misses_later}
 use Rattle.lsm_readers.proofs.VerifySteps.{answer, then_goes}
@@ -99,7 +99,7 @@ module _ (body : List ℕ) (parts : Parts) (left : Unread) (h : Handle) where
 
 module _ (body : List ℕ) (parts : Parts) (counts : Counts) (place : Place) where
   pub counted_first : (e : VerifyError) → Misses e (counted_found parts counts place)
-      → is_found e ≡ true → (f : Finding) → block_early body parts counts place ≡ Some f
+      → is_found e ≡ true → (f : Finding) → chunk_early body parts counts place ≡ Some f
       → e ≡ Found f
   counted_first e misses calm =
       or_first (counted_found parts counts place) (early_at body section.Data place Data) e misses
@@ -108,7 +108,7 @@ module _ (body : List ℕ) (parts : Parts) (counts : Counts) (place : Place) whe
   pub chunk_first : (spent : Counts) → counted_found parts counts place ≡ Ok spent
       → (P : Finding → Type 0)
       → ((f : Finding) → early_at body section.Data place Data ≡ Some f → P f)
-      → (f : Finding) → block_early body parts counts place ≡ Some f → P f
+      → (f : Finding) → chunk_early body parts counts place ≡ Some f → P f
   chunk_first spent is P first f h =
       first f (sym (or_behind (counted_found parts counts place)
       (early_at body section.Data place Data) spent is) ∙ h)

@@ -12,6 +12,7 @@ use Rattle.sst_entries.specs.Entry.{Entry}
 use Rattle.sst_entries.specs.Error.{is_memory}
 use Rattle.sst_blocks.specs.Opened.{with_load}
 use Rattle.sst_entries.specs.Stream.{Answers, Deals, ok_results, front_of, nowhere, answer_stops}
+pub use Rattle.sst_entries.specs.Stream.{up_to_error}
 pub use Rattle.lsm_iters.specs.Lift.{lifted_told}
 use Rattle.lsm_iters.specs.Lift.{lift}
 use Rattle.lsm_readers.specs.Read.{◌>>=◌}
@@ -37,12 +38,6 @@ blocks_told body position (suc n) =
 abbrev pub entries_told : ℕ → Result Loaded Error → List (Result Entry Error)
 entries_told g (Ok b) = map (lifted_told g) (entries_of b)
 entries_told g (Err e) = Err e ∷ []
-
--- a list of results up to its first error
-abbrev pub up_to_error : {X : Type 0} → List (Result X Error) → List (Result X Error)
-up_to_error [] = []
-up_to_error (Ok x ∷ rs) = Ok x ∷ up_to_error rs
-up_to_error (Err e ∷ rs) = Err e ∷ []
 
 -- the entries of so many blocks from a position on, behind those that are left of the block before
 unfoldable pub entries_from : List ℕ → ℕ → List Entry → ℕ → ℕ → List (Result Entry Error)

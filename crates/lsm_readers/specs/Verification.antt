@@ -152,8 +152,8 @@ end_early parts left = found_or (counts_found parts left.counts) (last_early par
 
 -- what is found so at the data block at a place: that it does not begin where the block before it
 -- ended, that the meta block says of fewer blocks or bytes, or what its load finds
-abbrev pub block_early : List ℕ → Parts → Counts → Place → Option Finding
-block_early body parts counts place =
+abbrev pub chunk_early : List ℕ → Parts → Counts → Place → Option Finding
+chunk_early body parts counts place =
     found_or (counted_found parts counts place) (early_at body section.Data place Data)
 
 -- what is found so at the next block, or at the end
@@ -163,7 +163,7 @@ step_early body parts (before_index (place ∷ places)) left =
 step_early body parts (before_index []) left =
     early_at body section.Tli parts.regions.tli Index
 step_early body parts (in_index (h ∷ handles) tops) left =
-    block_early body parts left.counts (place_of h)
+    chunk_early body parts left.counts (place_of h)
 step_early body parts (in_index [] (top ∷ tops)) left =
     early_at body section.Index (place_of top) Index
 step_early body parts (in_index [] []) left = end_early parts left

@@ -6,7 +6,7 @@ use Rattle.std.proofs.lemmas.List.{drop-append-le, take-append-le, take_all}
 use Rattle.std.proofs.Math.Seq.{drop-append_seam}
 use Rattle.sst_entries.proofs.Lists.{all_append, all_more}
 use Rattle.sst_blocks.specs.Handle.{Handle}
-use Rattle.lsm_section_writers.specs.Kept.{AreAmong, IsAmong, handle_among, handle_with}
+use Rattle.lsm_section_writers.specs.Kept.{AreAmong, LiesAmong, handle_among, handle_with}
 use Rattle.lsm_section_writers.specs.Kept.{handles_among}
 use Rattle.lsm_section_writers.specs.declared.kept.HandlePlace.{HandlePlace}
 
@@ -26,7 +26,7 @@ range_end keys key a b start end =
     ∙ ap (λ (xs : List ℕ). take (b - a) xs) (drop-append_seam keys key)
     ∙ take_all (b - a) key n
 
-still_among : (keys more : List ℕ) (p : HandlePlace) → IsAmong keys p → IsAmong (keys ++ more) p
+still_among : (keys more : List ℕ) (p : HandlePlace) → LiesAmong keys p → LiesAmong (keys ++ more) p
 still_among keys more p h = record {
   ordered = h.ordered;
   within = omega (arith, h.within, length-append keys more);
@@ -53,7 +53,7 @@ module _ (keys longer key : List ℕ) (ps : List HandlePlace) (h : AreAmong keys
     (more : longer ≡ keys ++ key) where
   pub among_more : AreAmong longer ps
   among_more = subst (λ (ks : List ℕ). AreAmong ks ps) (sym more)
-      (all_more (IsAmong keys) (IsAmong (keys ++ key)) (still_among keys key) ps h)
+      (all_more (LiesAmong keys) (LiesAmong (keys ++ key)) (still_among keys key) ps h)
 
   pub among_same : handles_among longer ps ≡ handles_among keys ps
   among_same = ap (λ (ks : List ℕ). handles_among ks ps) more ∙ same_among keys key ps h
@@ -65,9 +65,9 @@ module _ (keys longer key : List ℕ) (ps : List HandlePlace) (h : AreAmong keys
         let le : p.start ≤ p.end =
         omega (arith, start, end, ap length more, length-append keys key) in
         let within : p.end ≤ length longer = omega (arith, end) in
-        let is : IsAmong longer p = record { ordered = le; within = within } in
+        let is : LiesAmong longer p = record { ordered = le; within = within } in
         subst (λ (xs : List HandlePlace). AreAmong longer xs) (sym pushed)
-        (all_append (IsAmong longer) ps (p ∷ []) among_more (is, tt))
+        (all_append (LiesAmong longer) ps (p ∷ []) among_more (is, tt))
 
     pub among_one_more : handles_among longer qs
         ≡ handles_among keys ps ++ handle_with key p.seqno p.block ∷ []

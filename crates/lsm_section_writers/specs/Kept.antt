@@ -22,9 +22,9 @@ abbrev pub handles_among : List ℕ → List HandlePlace → List Handle
 handles_among keys ps = map (handle_among keys) ps
 
 -- the place of an end key lies among the keys
-pub record IsAmong (keys : List ℕ) (p : HandlePlace) : Type 0 where
+pub record LiesAmong (keys : List ℕ) (p : HandlePlace) : Type 0 where
   pub ordered : p.start ≤ p.end
   pub within : p.end ≤ length keys
 
 abbrev pub AreAmong : List ℕ → List HandlePlace → Type 0
-AreAmong keys ps = AllByRecursion (IsAmong keys) ps
+AreAmong keys ps = AllByRecursion (LiesAmong keys) ps

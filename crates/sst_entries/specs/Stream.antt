@@ -23,6 +23,12 @@ last xs = first (reverse xs)
 abbrev pub but_last : {A : Type 0} → List A → List A
 but_last xs = reverse (but_first (reverse xs))
 
+-- results up to the first error and with it
+abbrev pub up_to_error : {X : Type 0} → List (Result X Error) → List (Result X Error)
+up_to_error [] = []
+up_to_error (Ok x ∷ rs) = Ok x ∷ up_to_error rs
+up_to_error (Err e ∷ rs) = Err e ∷ []
+
 -- the answers to a list of ends: the first or the last of what is left, and `None` where nothing is
 -- left
 abbrev pub deal : {A : Type 0} → List A → List Direction → List (Option A)

@@ -64,6 +64,15 @@ impl<A: Allocator> Slice<A> {
         }
     }
 
+    /// Some bytes that stay for good, which are not copied: no memory is taken.
+    pub fn from_static(bytes: &'static [u8]) -> Slice<A>
+        ensures { result ≡ bytes.now }
+    {
+        Slice {
+            bytes: Bytes::from_static(bytes),
+        }
+    }
+
     /// The bytes.
     #[inline]
     pub fn as_slice(&self) -> &[u8]

@@ -7,49 +7,55 @@ ghost use Rattle.lsm_readers.specs.Verification.{GoesOne, IsThrough, ReadsNext, 
 ghost use Rattle.lsm_readers.specs.Verification.{bytes_read, next_size, rest_found, step_early};
 ghost use Rattle.lsm_readers.specs.Verification.{StepsCalmly, steps_of, verifying};
 ghost use Rattle.lsm_readers.specs.Words.{Entry, IsOpen, StoresList, body_of};
+ghost use Rattle.sst_entries.specs.declared.error.Error.TheVariants as refusal;
 ghost use Rattle.lsm_readers.specs.declared.verify.Finding.{Finding};
 ghost use Rattle.lsm_readers.specs.declared.verify.VerifyError.TheVariants.{Found, OutOfMemory};
 
 use crate::verify::{Stage, Unread, step_stage, unread_table};
 use crate::{Inner, Table, Verified, VerifyError};
+use sst_blocks::Error;
 use std::alloc::{Allocator, Global};
 use std::marker::Model;
 
 /// A verification of a table that is made by steps, each of which reads one further block: see
-/// [`Table::verification`]. A contract sees the table, and what is left to read of it.
+/// [`Table::verification`]. It has a share of the table, which may be let go of before it. A
+/// contract sees the table, and what is left to read of it.
 #[derive(Drop)]
-pub struct Verification<'a, A: Allocator = Global> {
-    table: &'a Table<A>,
+pub struct Verification<A: Allocator = Global> {
+    table: Table<A>,
     stage: Stage<A>,
     left: Unread<A>,
 }
 
-impl<'a, A: Allocator> Model for Verification<'a, A> {
+impl<A: Allocator> Model for Verification<A> {
     ghost use Rattle.lsm_readers.specs.Verification.{IsOfTable, Verifying, ahead_of};
 
     ghost Value = { Verifying };
 
     ghost view = { λ v. record {
-      table = v.table.now;
-      ahead = ahead_of v.table.now.parts v.stage;
+      table = v.table;
+      ahead = ahead_of v.table.parts v.stage;
       left = v.left;
     } };
 
     // What is found first in what is left is what is found first in the whole.
-    ghost invariant = { λ v. IsOfTable v.table.now (ahead_of v.table.now.parts v.stage) v.left };
+    ghost invariant = { λ v. IsOfTable v.table (ahead_of v.table.parts v.stage) v.left };
 }
 
 impl<A: Allocator + Clone> Table<A> {
     /// A verification of the table that is made by steps, so that progress can be shown, and so
-    /// that it can be stopped. Nothing is read yet.
-    pub fn verification(&self) -> Verification<'_, A>
-        ensures { result ≡ verifying self.now }
+    /// that it can be stopped. Nothing is read yet. Refused with [`Error::OutOfMemory`] alone.
+    pub fn verification(&self) -> Result<Verification<A>, Error>
+        ensures ok { IfOk result (λ v. v ≡ verifying self.now) }
+        ensures err { IfErr result (λ e. e ≡ refusal.OutOfMemory) }
     {
-        Verification {
-            table: self,
+        let left = self.unread();
+        let table = self.clone()?;
+        Ok(Verification {
+            table,
             stage: Stage::start(),
-            left: self.unread(),
-        }
+            left,
+        })
     }
 
     /// What is still to be read of the counts before anything was.
@@ -103,7 +109,7 @@ impl<A: Allocator + Clone> Table<A> {
     }
 }
 
-impl<A: Allocator + Clone> Verification<'_, A> {
+impl<A: Allocator + Clone> Verification<A> {
     /// Reads one further block, and all that it holds: a block of the filter, of the index, or a
     /// data block; `None` says that more is to be read. Where no block is left it reads no further
     /// one, but for a data block that no handle names, and answers what [`Table::verify`] does.

@@ -10,7 +10,7 @@ ghost use Rattle.lsm_readers.specs.Handles.{handles_ahead};
 ghost use Rattle.lsm_readers.specs.Parts.{Parts};
 ghost use Rattle.lsm_readers.specs.Verification.{GoesOne, IsThrough, ahead_of, before_index};
 ghost use Rattle.lsm_readers.specs.Verification.{in_index, partition_found, places_in, rest_found};
-ghost use Rattle.lsm_readers.specs.Verification.{StepsCalmly, block_early, step_early};
+ghost use Rattle.lsm_readers.specs.Verification.{StepsCalmly, chunk_early, step_early};
 ghost use Rattle.sst_blocks.specs.declared.block_type.BlockType.TheVariants as block;
 ghost use Rattle.sst_sections.specs.declared.section.SectionName.TheVariants as section;
 
@@ -157,7 +157,7 @@ fn read_at<A: Allocator + Clone>(
     ensures early { (h : Handle) → slice_get handles.now index ≡ Some h →
         let counts = left.now.counts in
         FindsFirst result
-        (block_early (body_of source.now) (parts_of inner.now) counts (place_of h)) }
+        (chunk_early (body_of source.now) (parts_of inner.now) counts (place_of h)) }
 {
     let place = handles.place_at(index);
     let counts = count_at(inner, left.counts, &place)?;
@@ -187,7 +187,7 @@ fn step_block<A: Allocator + Clone>(
     ensures early { (h : Handle) (rest : List Handle) → handles.old ≡ h ∷ rest →
         let counts = left.old.counts in
         FindsFirst result
-        (block_early (body_of source.now) (parts_of inner.now) counts (place_of h)) }
+        (chunk_early (body_of source.now) (parts_of inner.now) counts (place_of h)) }
     ensures calm { handles.old ≡ [] → IsOk result }
     ensures unchanged { IfErr result (λ _.
         (handles.new ≡ handles.old) × (left.new ≡ left.old)) }

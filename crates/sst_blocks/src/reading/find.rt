@@ -43,8 +43,8 @@ pub(crate) fn find_item<'a, R: ItemRef<'a>>(
     }
 }
 
-// The same of a payload that spells a strict list of items. No item is kept on the way: copying
-// each to where the next can be compared with it took a third of a read.
+// The first match in a payload that spells a strict list of items. No item is kept on the way:
+// copying each to where the next can be compared with it took a third of a read.
 fn find_tested<'a, R: ItemRef<'a>>(
     version: TableVersion,
     payload: &'a [u8],
@@ -77,7 +77,7 @@ fn find_tested<'a, R: ItemRef<'a>>(
     None
 }
 
-// The same of any payload, whose items are all tested.
+// The first match in any payload, whose items are all tested.
 fn find_and_test<'a, R: ItemRef<'a>>(
     version: TableVersion,
     payload: &'a [u8],

@@ -2,18 +2,18 @@
 use Rattle.std.proofs.Common.{◌+◌, ◌∙◌, ◌++◌, ◌∷◌, [], ap, sym, take, List, ℕ, arith}
 use Rattle.std.proofs.lemmas.List.{take_all, take_more}
 use Rattle.sst_blocks.proofs.Faults.{all_here}
-use Rattle.lsm_section_writers.specs.Kept.{IsAmong, handle_with, handles_among}
+use Rattle.lsm_section_writers.specs.Kept.{LiesAmong, handle_with, handles_among}
 use Rattle.lsm_section_writers.specs.declared.kept.HandlePlace.{HandlePlace}
 use Rattle.lsm_section_writers.proofs.Keeping.{shared_more}
 use Rattle.lsm_section_writers.proofs.kept.shared_handles.Goals as goal
 
 pub slice-requires-clause-ordered : goal.slice-requires-clause-ordered
 slice-requires-clause-ordered g c =
-    (all_here (IsAmong c.args.keys.now) c.args.places.now c.loop-place.place-index c.place-item.result c.requires c.loop-place-test.true c.place-item.is).ordered
+    (all_here (LiesAmong c.args.keys.now) c.args.places.now c.loop-place.place-index c.place-item.result c.requires c.loop-place-test.true c.place-item.is).ordered
 
 pub slice-requires-clause-within : goal.slice-requires-clause-within
 slice-requires-clause-within g c =
-    (all_here (IsAmong c.args.keys.now) c.args.places.now c.loop-place.place-index c.place-item.result c.requires c.loop-place-test.true c.place-item.is).within
+    (all_here (LiesAmong c.args.keys.now) c.args.places.now c.loop-place.place-index c.place-item.result c.requires c.loop-place-test.true c.place-item.is).within
 
 pub loop-place-preserved : goal.loop-place-preserved
 loop-place-preserved g c =
