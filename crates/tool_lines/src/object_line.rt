@@ -51,8 +51,9 @@ fn write_members<A: Allocator + Copy>(
     writer.end_object()
 }
 
-// Bytes as a string, or by their digits where they are no UTF-8.
-fn write_bytes<A: Allocator + Copy>(
+/// Writes bytes as a string, or, where they are no UTF-8, as an object `{"hex":"ff00"}`. Refused for
+/// want of memory alone.
+pub fn write_bytes<A: Allocator + Copy>(
     alloc: A,
     writer: &mut Writer<A>,
     bytes: &[u8],

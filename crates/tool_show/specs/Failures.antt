@@ -6,6 +6,7 @@ use Rattle.sst_sections.specs.Sections.{body_of}
 use Rattle.lsm_readers.specs.Table.{OpenTable}
 use Rattle.lsm_readers.specs.Verify.{table_found}
 use Rattle.tool_show.specs.Faults.{unloaded_at}
+use Rattle.tool_show.specs.Files.{IsSoundTable}
 use Rattle.tool_show.specs.declared.error.Failure.{Failure}
 use Rattle.tool_show.specs.declared.error.Failure.TheVariants as failure
 use Rattle.tool_show.specs.declared.error.ShowError.{ShowError}
@@ -30,11 +31,28 @@ TellsFailure (failure.Output error) f e = e ≡ show.Output error
 TellsFailure (failure.Refused error) f e = (is_memory error ≡ true → e ≡ show.OutOfMemory)
     × (is_memory error ≡ false → TellsRefusal f error e)
 
--- where an error names a file, it is one of these, and so is the block that it names
-abbrev pub NamesOne : {A : Type 0} → List (NamedTable A) → ShowError → Type 0
-NamesOne fs (show.Refused name place error) =
-    Any (λ f. (name ≡ f.name) × IsPlaceIn f.table error place) fs
-NamesOne fs _ = Unit {0}
+-- a failure to write, or want of memory: no fault of a file
+abbrev pub BlamesNoFile : Failure → Type 0
+BlamesNoFile (failure.Output error) = Unit {0}
+BlamesNoFile (failure.Refused error) = is_memory error ≡ true
+
+-- where an error names a file, it is this one, and so is the block that it names
+abbrev pub NamesOnly : {A : Type 0} → NamedTable A → ShowError → Type 0
+NamesOnly f (show.Refused name place error) = (name ≡ f.name) × IsPlaceIn f.table error place
+NamesOnly f _ = Unit {0}
+
+-- and its bytes store no list
+abbrev pub BlamesFaulty : {A : Type 0} → NamedTable A → ShowError → Type 0
+BlamesFaulty f (show.Refused name place error) =
+    (name ≡ f.name) × IsPlaceIn f.table error place × (IsSoundTable f.table → ⊥)
+BlamesFaulty f _ = Unit {0}
+
+-- where an error names a file, it is one of these, whose bytes store no list, and so is the block
+-- that it names
+abbrev pub NamesFaulty : {A : Type 0} → List (NamedTable A) → ShowError → Type 0
+NamesFaulty fs (show.Refused name place error) =
+    Any (λ f. BlamesFaulty f (show.Refused name place error)) fs
+NamesFaulty fs _ = Unit {0}
 
 -- no file is named
 abbrev pub NamesNone : ShowError → Type 0

@@ -1,6 +1,6 @@
 -- What is wrong of a table: what its verification finds first, and which further blocks do not load.
 use Rattle.std.specs.Prelude.{◌+◌, ◌-◌, ◌^◌, ◌==◌, ◌&&◌, ◌++◌, ◌∷◌, [], ℕ, Bool, true, false, not}
-use Rattle.std.specs.Prelude.{List, Option, Result, Ok, Err, count_by, is_some, map, min}
+use Rattle.std.specs.Prelude.{List, Option, None, Some, Result, Ok, Err, count_by, is_some, map, min}
 use Rattle.std.specs.Prelude.{if◌then◌else◌}
 use Rattle.std.specs.List.{flat_map}
 use Rattle.sst_blocks.specs.Block.{load_told}
@@ -9,7 +9,7 @@ use Rattle.sst_blocks.specs.Place.{Place, place_of}
 use Rattle.sst_blocks.specs.declared.block_type.BlockType.{BlockType}
 use Rattle.sst_blocks.specs.declared.block_type.BlockType.TheVariants as block
 use Rattle.sst_entries.specs.declared.error.Error.{Error}
-use Rattle.sst_sections.specs.Sections.{body_of, slot_index}
+use Rattle.sst_sections.specs.Sections.{body_of, slot_index, trailer_fault}
 use Rattle.sst_sections.specs.declared.section.SectionName.{SectionName}
 use Rattle.sst_sections.specs.declared.section.SectionName.TheVariants as section
 use Rattle.lsm_readers.specs.declared.verify.Fault.{Fault}
@@ -17,7 +17,8 @@ use Rattle.lsm_readers.specs.declared.verify.Fault.TheVariants.{Unloaded}
 use Rattle.lsm_readers.specs.declared.verify.Finding.{Finding}
 use Rattle.lsm_readers.specs.declared.verify.Verified.{Verified}
 use Rattle.lsm_readers.specs.IndexKinds.{handles_told}
-use Rattle.lsm_readers.specs.Parts.{Parts}
+use Rattle.lsm_readers.specs.Parts.{Parts, places_told}
+use Rattle.lsm_readers.specs.declared.regions.ParsedRegions.{ParsedRegions}
 use Rattle.lsm_readers.specs.Scan.{fault_of}
 use Rattle.lsm_readers.specs.Table.{OpenTable}
 use Rattle.lsm_readers.specs.Verify.{filter_places, finding, table_found}
@@ -52,14 +53,34 @@ abbrev pub blocks_below : List ℕ → Bool → List Place → List NamedBlock
 blocks_below body true places = flat_map (partition body) places
 blocks_below body false places = map data_at places
 
--- the blocks of a table in the order of a verification: those of the filter, the index's block or
--- its top level, and what its handles lead to
+-- blocks in the order of a verification: those of the filter, the index's block or its top level, and
+-- what its handles lead to
+abbrev pub blocks_at : List ℕ → List Place → ParsedRegions → List NamedBlock
+blocks_at body filters regions =
+    map filter_at filters ++ named_at section.Tli block.Index regions.tli
+    ∷ blocks_below body (is_some regions.index) (map place_of (told_handles body regions.tli))
+
+-- the blocks of a table
 abbrev pub named_blocks : List ℕ → Parts → List NamedBlock
 named_blocks body parts =
-    map filter_at (filter_places parts.pinned.filter_tops parts.regions.filter)
-    ++ named_at section.Tli block.Index parts.regions.tli
-    ∷ blocks_below body (is_some parts.regions.index)
-    (map place_of (told_handles body parts.regions.tli))
+    blocks_at body (filter_places parts.pinned.filter_tops parts.regions.filter) parts.regions
+
+-- the top level of a filter, where it has one
+abbrev pub top_blocks : Option Place → List NamedBlock
+top_blocks None = []
+top_blocks (Some place) = named_at section.FilterTli block.Index place ∷ []
+
+-- the handles that it tells
+abbrev pub told_tops : List ℕ → Option Place → Option (List Handle)
+told_tops body None = None
+told_tops body (Some place) = Some (told_handles body place)
+
+-- the blocks of bytes whose trailer names these regions: the meta block, the top level of the filter,
+-- and the others
+abbrev pub region_blocks : List ℕ → ParsedRegions → List NamedBlock
+region_blocks body regions =
+    named_at section.Meta block.Meta regions.metadata ∷ (top_blocks regions.filter_tli
+    ++ blocks_at body (filter_places (told_tops body regions.filter_tli) regions.filter) regions)
 
 -- why a block does not load, if it does not
 abbrev pub block_fault : List ℕ → NamedBlock → Option Error
@@ -74,15 +95,30 @@ abbrev pub is_first : Finding → NamedBlock → Bool
 is_first f b = is_unloaded f.fault
     && (slot_index f.section == slot_index b.section && f.offset == b.place.offset)
 
--- a block does not load, and a finding says it of none or of another one
-abbrev pub is_further : List ℕ → Finding → NamedBlock → Bool
-is_further body f b = is_some (block_fault body b) && not (is_first f b)
+-- it says so, if there is one
+abbrev pub is_told : Option Finding → NamedBlock → Bool
+is_told None b = false
+is_told (Some f) b = is_first f b
 
--- how many further blocks do not load, as far as that can be counted
+-- a block does not load, and what was found does not say it
+abbrev pub is_further : List ℕ → Option Finding → NamedBlock → Bool
+is_further body told b = is_some (block_fault body b) && not (is_told told b)
+
+-- how many of some blocks are so, as far as that can be counted
+abbrev pub further_of : List ℕ → Option Finding → List NamedBlock → ℕ
+further_of body told bs = min (count_by (is_further body told) bs) (2 ^ 64 - 1)
+
 abbrev pub further_count : OpenTable → Finding → ℕ
-further_count t f =
-    min (count_by (is_further (body_of t.bytes) f) (named_blocks (body_of t.bytes) t.parts))
-    (2 ^ 64 - 1)
+further_count t f = further_of (body_of t.bytes) (Some f) (named_blocks (body_of t.bytes) t.parts)
+
+-- how many blocks do not load of a file's bytes, as far as these tell where blocks lie
+abbrev pub unloaded_in : List ℕ → Result ParsedRegions Error → ℕ
+unloaded_in body (Ok regions) = further_of body None (region_blocks body regions)
+unloaded_in body (Err e) = 0
+
+abbrev pub unloaded_count : List ℕ → ℕ
+unloaded_count bytes = if is_some (trailer_fault bytes) then 0
+    else unloaded_in (body_of bytes) (places_told bytes)
 
 -- how many faults a table has, as far as that can be counted: what is found first, and each further
 -- block that does not load

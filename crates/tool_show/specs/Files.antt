@@ -9,9 +9,6 @@ use Rattle.tool_show.specs.declared.named.NamedTable.{NamedTable}
 abbrev pub IsSoundTable : OpenTable → Type 0
 IsSoundTable t = (es : List Entry) × StoresList t.bytes es
 
-abbrev pub IsSound : {A : Type 0} → NamedTable A → Type 0
-IsSound f = IsSoundTable f.table
-
 -- each file's table is a run of its own
 abbrev pub runs_in : {A : Type 0} → List (NamedTable A) → List (List OpenTable)
 runs_in fs = map (λ f. f.table ∷ []) fs

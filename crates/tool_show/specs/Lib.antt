@@ -1,4 +1,5 @@
 pub mod Failures
 pub mod Faults
 pub mod Files
+pub mod Loads
 pub mod Printed

@@ -1,36 +1,62 @@
 -- What is printed.
 use denote.Ref.{Bor}
-use Rattle.std.specs.Prelude.{List, [], ◌∷◌, ◌++◌, codes, ℕ, Bool, false, true, reverse, take}
-use Rattle.std.specs.Prelude.{Option, None, Some, Result}
-use Rattle.std.specs.List.{flat_map}
+use Rattle.std.specs.Prelude.{◌≡◌, List, [], ◌∷◌, ◌++◌, codes, ℕ, Bool, false, true, reverse, take}
+use Rattle.std.specs.Prelude.{Option, None, Some}
+use Rattle.std.specs.Io.KnownBytes.{Appends}
 use Rattle.std.specs.declared.ops.Bound.{Bound}
 use Rattle.std.specs.declared.ops.Bound.TheVariants.{Excluded, Included, Unbounded}
-use Rattle.sst_entries.specs.declared.error.Error.{Error}
+use Rattle.json.specs.Print.{print}
+use Rattle.json.specs.Token.{Token}
 use Rattle.sst_entries.specs.Entry.{Entry}
-use Rattle.sst_entries.specs.Stream.{Deals, answer_stops, ok_results}
 use Rattle.sst_entries.specs.Point.{within}
 use Rattle.lsm_readers.specs.Table.{OpenTable}
 use Rattle.lsm_readers.specs.Words.{lift}
+use Rattle.tool_lines.specs.ObjectLine.{WritesEntry}
 use Rattle.tool_lines.specs.WordLine.{word_line}
+use Rattle.tool_lines.specs.declared.entry_line.Format.{Format}
+use Rattle.tool_lines.specs.declared.entry_line.Format.TheVariants.{Json, Lines}
 use Rattle.tool_show.specs.declared.dumps.DumpOptions.{DumpOptions}
 
--- an entry's line, with its end
-abbrev pub ended_line : Entry → List ℕ
-ended_line e = word_line e ++ 10 ∷ []
+-- an entry's line with its end: its words, or an object that is the entry's
+abbrev pub IsLineOf : Format → Entry → List ℕ → Type 0
+IsLineOf Lines e line = line ≡ word_line e ++ 10 ∷ []
+IsLineOf Json e line = (ts : List Token) × WritesEntry e ts × (line ≡ print ts ++ 10 ∷ [])
 
--- the version of a key that a reader sees, or that there is none
-abbrev pub found_line : Option Entry → List ℕ
-found_line None = codes "none\n"
-found_line (Some e) = ended_line e
+abbrev pub PrintsLine : Format → Entry → (old new : Option (List ℕ)) → Type 0
+PrintsLine format e old new = (line : List ℕ) × IsLineOf format e line × Appends old new line
+
+-- the lines of entries, one behind another
+abbrev pub AreLinesOf : Format → List Entry → List ℕ → Type 0
+AreLinesOf format [] text = text ≡ []
+AreLinesOf format (e ∷ es) text = (line : List ℕ) × (rest : List ℕ) × IsLineOf format e line
+    × AreLinesOf format es rest × (text ≡ line ++ rest)
+
+-- the lines of entries are printed
+abbrev pub PrintsLines : Format → List Entry → (old new : Option (List ℕ)) → Type 0
+PrintsLines format es old new = (text : List ℕ) × AreLinesOf format es text × Appends old new text
+
+-- what says that there is no entry
+abbrev pub none_line : Format → List ℕ
+none_line Lines = codes "none\n"
+none_line Json = codes "null\n"
+
+-- the line of the version that a reader sees, or that there is none
+abbrev pub IsFoundLine : Format → Option Entry → List ℕ → Type 0
+IsFoundLine format None line = line ≡ none_line format
+IsFoundLine format (Some e) line = IsLineOf format e line
+
+abbrev pub PrintsFound : Format → Option Entry → (old new : Option (List ℕ)) → Type 0
+PrintsFound format found old new =
+    (line : List ℕ) × IsFoundLine format found line × Appends old new line
 
 -- entries in their order, or from the last to the first
 abbrev pub in_turn : Bool → List Entry → List Entry
 in_turn false es = es
 in_turn true es = reverse es
 
--- the lines of so many of them at most
-abbrev pub dumped : Bool → ℕ → List Entry → List ℕ
-dumped back n es = flat_map ended_line (take n (in_turn back es))
+-- so many of them at most
+abbrev pub shown : Bool → ℕ → List Entry → List Entry
+shown back n es = take n (in_turn back es)
 
 -- from a first key on, and up to a key that is left out
 abbrev pub from_key : Option (Bor (List ℕ)) → Bound (List ℕ)
@@ -44,8 +70,3 @@ up_to_key (Some key) = Excluded key.now
 -- the entries of a table's list that are asked for
 abbrev pub chosen : DumpOptions → OpenTable → List Entry → List Entry
 chosen o t es = within (from_key o.from) (up_to_key o.to) (lift es t.global_seqno)
-
--- up to its first error a source deals these entries
-abbrev pub DealsAllOf : {S : Type 0} (front back : S → Option (Result Entry Error) → S → Type 0)
-    → S → List Entry → Type 0
-DealsAllOf front back s es = Deals (answer_stops (λ _. true)) front back s (ok_results es)

@@ -1,5 +1,5 @@
 //! The blocks of a table that a verification reads, and those that do not load.
-ghost use Rattle.std.specs.Prelude.{◌≡◌, ◌++◌, IfErr, IfOk, List, OnOk, Some, map, unwrap_or};
+ghost use Rattle.std.specs.Prelude.{◌≡◌, ◌++◌, ◌∷◌, [], IfErr, IfOk, List, OnOk, Some, map, unwrap_or};
 ghost use Rattle.std.specs.List.{flat_map};
 ghost use Rattle.std.specs.Option.{option_map};
 ghost use Rattle.sst_blocks.specs.Block.{load_told};
@@ -13,9 +13,12 @@ ghost use Rattle.lsm_readers.specs.Scan.{fault_of};
 ghost use Rattle.lsm_readers.specs.Table.{parts_of};
 ghost use Rattle.lsm_readers.specs.Verify.{filter_places};
 ghost use Rattle.tool_show.specs.Faults.{block_fault, blocks_below, data_at, filter_at};
-ghost use Rattle.tool_show.specs.Faults.{is_first, named_at, named_blocks, partition, told_handles};
+ghost use Rattle.tool_show.specs.Faults.{blocks_at, is_first, is_told, named_at, named_blocks};
+ghost use Rattle.tool_show.specs.Faults.{partition, region_blocks, told_handles};
+ghost use Rattle.lsm_readers.specs.declared.verify.Finding.{Finding as FindingValue};
+ghost use denote.Ref.{Bor};
 
-use lsm_readers::{Fault, Finding, Table, TableInner};
+use lsm_readers::{Fault, Finding, ParsedRegions, Table, TableInner};
 use sst_blocks::{BlockHandle, BlockSource, BlockType, Error, IndexBlock, Opened, SectionName};
 use std::alloc::Allocator;
 
@@ -66,13 +69,62 @@ pub(crate) fn named_blocks<A: Allocator + Copy>(
         blocks.items ≡ named_blocks (body_of source.now) (parts_of inner.now)) }
 {
     let mut blocks = Vec::new(alloc);
-    add_filters(alloc, &mut blocks, inner)?;
-    let tli = inner.regions.tli;
+    let tops = inner.pinned_filter_index.as_ref();
+    add_filters(alloc, &mut blocks, tops, inner.regions.filter)?;
+    add_index(alloc, &mut blocks, source, &inner.regions)?;
+    Ok(blocks)
+}
+
+/// The blocks of a file whose trailer names some regions: its meta block, the top level of its
+/// filter, and then those of [`named_blocks`]. Refused for want of memory alone.
+pub(crate) fn region_blocks<A: Allocator + Copy>(
+    alloc: A,
+    source: &BlockSource<A>,
+    regions: &ParsedRegions,
+) -> Result<Vec<NamedBlock, A>, Error>
+    ensures { IfOk result (λ blocks.
+        blocks.items ≡ region_blocks (body_of source.now) regions.now) }
+{
+    let mut blocks = Vec::new(alloc);
+    blocks.push(named_at(SectionName::Meta, BlockType::Meta, regions.metadata))?;
+    match &regions.filter_tli {
+        None => add_filters(alloc, &mut blocks, None, regions.filter)?,
+        Some(tops) => add_tops(alloc, &mut blocks, source, tops)?,
+    }
+    add_index(alloc, &mut blocks, source, regions)?;
+    Ok(blocks)
+}
+
+// Adds the top level of a filter and the partitions that it names.
+fn add_tops<A: Allocator + Copy>(
+    alloc: A,
+    blocks: &mut Vec<NamedBlock, A>,
+    source: &BlockSource<A>,
+    tops: &BlockHandle,
+) -> Result<(), Error>
+    ensures { let handles = told_handles (body_of source.now) tops.now in
+        OnOk result (blocks.new.items ≡ blocks.old.items ++ (named_at section.FilterTli block.Index tops.now
+        ∷ map filter_at (map place_of handles))) }
+{
+    blocks.push(named_at(SectionName::FilterTli, BlockType::Index, *tops))?;
+    let places = places_in(alloc, source, tops)?;
+    add_each(blocks, SectionName::Filter, BlockType::Filter, &places)
+}
+
+// Adds the blocks of the index, and the data blocks.
+fn add_index<A: Allocator + Copy>(
+    alloc: A,
+    blocks: &mut Vec<NamedBlock, A>,
+    source: &BlockSource<A>,
+    regions: &ParsedRegions,
+) -> Result<(), Error>
+    ensures { OnOk result (blocks.new.items ≡ blocks.old.items
+        ++ blocks_at (body_of source.now) [] regions.now) }
+{
+    let tli = regions.tli;
     blocks.push(named_at(SectionName::Tli, BlockType::Index, tli))?;
     let handles = places_in(alloc, source, &tli)?;
-    let has_partitions = inner.regions.index.is_some();
-    add_below(alloc, &mut blocks, source, has_partitions, &handles)?;
-    Ok(blocks)
+    add_below(alloc, blocks, source, regions.index.is_some(), &handles)
 }
 
 // Where the blocks lie that some handles name.
@@ -106,20 +158,23 @@ fn places_in<A: Allocator + Copy>(
     }
 }
 
-// Adds the blocks of the filter.
+// Adds the blocks of the filter: those that its top level names, else its one block, if there is
+// one.
 fn add_filters<A: Allocator + Copy>(
     alloc: A,
     blocks: &mut Vec<NamedBlock, A>,
-    inner: &TableInner<A>,
+    tops: Option<&IndexBlock<A>>,
+    filter: Option<BlockHandle>,
 ) -> Result<(), Error>
-    ensures { let parts = parts_of inner.now in OnOk result (blocks.new.items ≡ blocks.old.items
-        ++ map filter_at (filter_places parts.pinned.filter_tops parts.regions.filter)) }
+    ensures { OnOk result (blocks.new.items ≡ blocks.old.items
+        ++ map filter_at (filter_places (option_map (λ (t : Bor (List Handle)). t.now) tops)
+        filter)) }
 {
-    if let Some(tops) = &inner.pinned_filter_index {
+    if let Some(tops) = tops {
         let places = places_of(alloc, tops)?;
         return add_each(blocks, SectionName::Filter, BlockType::Filter, &places);
     }
-    if let Some(place) = inner.regions.filter {
+    if let Some(place) = filter {
         blocks.push(named_at(SectionName::Filter, BlockType::Filter, place))?;
     }
     Ok(())
@@ -192,8 +247,18 @@ pub(crate) fn refusal_of<A: Allocator + Clone>(
     }
 }
 
-/// Whether a finding says of a block that it does not load.
-pub(crate) fn is_first(finding: &Finding, block: &NamedBlock) -> bool
+/// Whether a finding, if there is one, says of a block that it does not load.
+pub(crate) fn is_told(finding: Option<&Finding>, block: &NamedBlock) -> bool
+    ensures { result ≡ is_told (option_map (λ (f : Bor FindingValue). f.now) finding) block.now }
+{
+    match finding {
+        None => false,
+        Some(finding) => is_first(finding, block),
+    }
+}
+
+// Whether a finding says of a block that it does not load.
+fn is_first(finding: &Finding, block: &NamedBlock) -> bool
     ensures { result ≡ is_first finding.now block.now }
 {
     matches!(finding.fault, Fault::Unloaded(_))

@@ -1,22 +1,30 @@
 //! What is wrong of a file.
-ghost use Rattle.std.specs.Prelude.{◌≡◌, ◌-◌, ◌^◌, List, IfOk, IfErr, count_by, min};
+ghost use denote.Ref.{Bor};
+ghost use Rattle.std.specs.Prelude.{◌≡◌, List, IfOk, IfErr};
+ghost use Rattle.std.specs.Option.{option_map};
 ghost use Rattle.sst_entries.specs.Entry.{Entry};
 ghost use Rattle.sst_sections.specs.Sections.{body_of};
+ghost use Rattle.lsm_readers.specs.Parts.{places_told};
 ghost use Rattle.lsm_readers.specs.Stored.{StoresList};
 ghost use Rattle.lsm_readers.specs.Verify.{Finds, table_found};
+ghost use Rattle.lsm_readers.specs.declared.verify.Finding.{Finding as FindingValue};
 ghost use Rattle.lsm_readers.specs.declared.verify.Verified.{Verified as Verification};
 ghost use Rattle.lsm_readers.specs.declared.verify.VerifyError.TheVariants.{OutOfMemory};
 ghost use Rattle.tool_show.specs.Failures.{NamesNone};
-ghost use Rattle.tool_show.specs.Faults.{fault_count, further_count, is_further};
-ghost use Rattle.tool_show.specs.Files.{IsSound};
+ghost use Rattle.tool_show.specs.Faults.{fault_count, further_count, further_of, is_further};
+ghost use Rattle.tool_show.specs.Faults.{unloaded_count, unloaded_in};
+ghost use Rattle.tool_show.specs.Files.{IsSoundTable};
 
-use crate::blocks::{NamedBlock, is_first, named_blocks, refusal_of, source_of};
+use crate::blocks::{NamedBlock, is_told, named_blocks, refusal_of, region_blocks, source_of};
 use crate::{BlockPlace, NamedTable, ShowError};
 use lsm_formats::ItemName;
-use lsm_readers::{Fault, Finding, Table, TableInner, Verified, VerifyError};
-use sst_blocks::{BlockSource, SectionName};
+use lsm_readers::{
+    Fault, Finding, ParsedRegions, Table, TableInner, Verification as Steps, Verified, VerifyError,
+};
+use sst_blocks::{BlockSource, SectionName, Slice};
 use std::alloc::Allocator;
 use std::io::{self, Write};
+use tool_lines::word_for;
 
 /// Is told how far a verification has come.
 pub trait Progress {
@@ -52,8 +60,8 @@ pub fn verify<'a, A: Allocator + Copy, W: Write, P: Progress>(
     progress: &mut P,
 ) -> Result<u64, ShowError<'a>>
     // No fault is counted exactly where the file's bytes store a list;
-    ensures sound { IfOk result (λ faults. faults ≡ 0 → IsSound file.now) }
-    ensures complete { IsSound file.now → IfOk result (λ faults. faults ≡ 0) }
+    ensures sound { IfOk result (λ faults. faults ≡ 0 → IsSoundTable file.now.table) }
+    ensures complete { IsSoundTable file.now.table → IfOk result (λ faults. faults ≡ 0) }
     // else the one that is found first, and each further block that does not load.
     ensures count { IfOk result (λ faults. faults ≡ fault_count file.now.table) }
     // What is wrong of the file is no error: no error names it.
@@ -83,8 +91,28 @@ fn look_at<A: Allocator + Clone, P: Progress>(table: &Table<A>, progress: &mut P
     ensures complete { (es : List Entry) → StoresList table.now.bytes es →
         IfErr result.verdict (λ e. e ≡ OutOfMemory) }
 {
-    let all = table.metadata.file_size;
-    let mut verification = table.verification();
+    match table.verification() {
+        Ok(verification) => look_on(verification, table.metadata.file_size, progress),
+        Err(_) => Looked {
+            blocks: 0,
+            verdict: Err(VerifyError::OutOfMemory),
+        },
+    }
+}
+
+// Reads what a verification has before it. The data blocks have so many bytes in all.
+fn look_on<A: Allocator + Clone, P: Progress>(
+    mut verification: Steps<A>,
+    all: u64,
+    progress: &mut P,
+) -> Looked
+    ensures told { let t = verification.table in
+        Finds (λ (v : Verification). v) result.verdict (table_found (body_of t.bytes) t.parts) }
+    ensures sound { IfOk result.verdict (λ _.
+        (es : List Entry) × StoresList verification.table.bytes es) }
+    ensures complete { (es : List Entry) → StoresList verification.table.bytes es →
+        IfErr result.verdict (λ e. e ≡ OutOfMemory) }
+{
     let mut blocks = 0u64;
     loop {
         match verification.step() {
@@ -115,9 +143,12 @@ fn print_sound<W: Write>(
     blocks: u64,
 ) -> io::Result<()> {
     let (entries, data) = (verified.item_count, verified.data_block_count);
+    let entry_word = word_for(entries, "entry", "entries");
+    let data_word = word_for(data, "data block", "data blocks");
+    let block_word = word_for(blocks, "block", "blocks");
     writeln!(
         output,
-        "{name}: sound, {entries} entries in {data} data blocks, {blocks} blocks read"
+        "{name}: sound, {entries} {entry_word} in {data} {data_word}, {blocks} {block_word} read"
     )
 }
 
@@ -128,7 +159,8 @@ fn print_first<W: Write>(
     blocks: u64,
 ) -> io::Result<()> {
     print_finding(output, name, finding)?;
-    writeln!(output, ", {blocks} blocks before it are sound")
+    let word = word_for(blocks, "block before it is", "blocks before it are");
+    writeln!(output, ", {blocks} {word} sound")
 }
 
 // Writes a line for each block that does not load but one of which the finding says it already.
@@ -163,22 +195,63 @@ fn print_named<'a, A: Allocator + Copy, W: Write>(
 {
     let inner: &TableInner<A> = &file.table;
     match named_blocks(alloc, source, inner) {
-        Ok(blocks) => print_unloaded(output, file.name, finding, source, &blocks),
+        Ok(blocks) => print_unloaded(output, file.name, Some(finding), source, &blocks),
         Err(_) => Err(ShowError::OutOfMemory),
     }
 }
 
-// Writes a line for each of these blocks that does not load, but one of which the finding says it
+/// Writes a line for each block that does not load of a file that does not open as a table: of its
+/// meta block, its filter, its index and its data, as far as its bytes tell where these lie. Answers
+/// how many lines there are. Refused with the first failure to write, and for want of memory; what
+/// was written stays.
+pub fn verify_unopened<'a, A: Allocator + Copy, W: Write>(
+    alloc: A,
+    output: &mut W,
+    name: &str,
+    bytes: Slice<A>,
+) -> Result<u64, ShowError<'a>>
+    ensures count { IfOk result (λ count. count ≡ unloaded_count bytes) }
+    ensures unnamed { IfErr result NamesNone }
+{
+    match BlockSource::new(alloc, bytes) {
+        Ok(source) => print_regions(alloc, output, name, &source),
+        // Without a trailer no block is known.
+        Err(_) => Ok(0),
+    }
+}
+
+// Writes a line for each block that does not load, as far as the trailer tells where blocks lie.
+// Answers how many lines there are.
+fn print_regions<'a, A: Allocator + Copy, W: Write>(
+    alloc: A,
+    output: &mut W,
+    name: &str,
+    source: &BlockSource<A>,
+) -> Result<u64, ShowError<'a>>
+    ensures count { IfOk result (λ count. count ≡
+        unloaded_in (body_of source.now) (places_told source.now)) }
+    ensures unnamed { IfErr result NamesNone }
+{
+    let Ok(regions) = ParsedRegions::parse_from_toc(&source.toc()) else {
+        return Ok(0);
+    };
+    match region_blocks(alloc, source, &regions) {
+        Ok(blocks) => print_unloaded(output, name, None, source, &blocks),
+        Err(_) => Err(ShowError::OutOfMemory),
+    }
+}
+
+// Writes a line for each of these blocks that does not load, but one of which a finding says it
 // already. Answers how many lines there are.
 fn print_unloaded<'a, A: Allocator + Copy, W: Write>(
     output: &mut W,
     name: &str,
-    finding: &Finding,
+    finding: Option<&Finding>,
     source: &BlockSource<A>,
     blocks: &[NamedBlock],
 ) -> Result<u64, ShowError<'a>>
-    ensures count { IfOk result (λ count. count ≡
-        min (count_by (is_further (body_of source.now) finding.now) blocks.now) (2 ^ 64 - 1)) }
+    ensures count { IfOk result (λ count. count ≡ further_of (body_of source.now)
+        (option_map (λ (f : Bor FindingValue). f.now) finding) blocks.now) }
     ensures unnamed { IfErr result NamesNone }
 {
     let mut count = 0u64;
@@ -190,23 +263,23 @@ fn print_unloaded<'a, A: Allocator + Copy, W: Write>(
     Ok(count)
 }
 
-// Writes a line for a block that does not load, if the finding does not say it already. Answers
-// whether there is a line.
+// Writes a line for a block that does not load, if no finding says it already. Answers whether there
+// is a line.
 fn print_block<'a, A: Allocator + Clone, W: Write>(
     output: &mut W,
     name: &str,
-    finding: &Finding,
+    finding: Option<&Finding>,
     source: &BlockSource<A>,
     block: &NamedBlock,
 ) -> Result<bool, ShowError<'a>>
-    ensures told { IfOk result (λ told. told ≡
-        is_further (body_of source.now) finding.now block.now) }
+    ensures told { IfOk result (λ told. told ≡ is_further (body_of source.now)
+        (option_map (λ (f : Bor FindingValue). f.now) finding) block.now) }
     ensures unnamed { IfErr result NamesNone }
 {
     match refusal_of(source, block) {
         Ok(None) => Ok(false),
         Ok(Some(error)) => {
-            if is_first(finding, block) {
+            if is_told(finding, block) {
                 return Ok(false);
             }
             let place = BlockPlace {

@@ -1,14 +1,13 @@
 //! The entries of files, a line each.
-ghost use Rattle.std.specs.Prelude.{◌≡◌, List, IfErr, OnOk, false, true};
-ghost use Rattle.std.specs.Io.KnownBytes.{Appends};
+ghost use Rattle.std.specs.Prelude.{◌≡◌, ◌-◌, IfErr, IfOk, List, OnOk, false, length, true};
 ghost use Rattle.sst_entries.specs.Entry.{Entry};
 ghost use Rattle.sst_entries.specs.Point.{within};
 ghost use Rattle.sst_entries.specs.Stream.{CanDeal};
 ghost use Rattle.lsm_readers.specs.Stored.{StoresList};
 ghost use Rattle.lsm_readers.specs.Words.{lift};
-ghost use Rattle.tool_lines.specs.declared.entry_line.Format.TheVariants.{Lines as Words};
-ghost use Rattle.tool_show.specs.Failures.{NamesOne};
-ghost use Rattle.tool_show.specs.Printed.{DealsAllOf, chosen, dumped, ended_line};
+ghost use Rattle.lsm_runs.specs.RunLists.{DealsList};
+ghost use Rattle.tool_show.specs.Failures.{BlamesNoFile, NamesNone, NamesOnly};
+ghost use Rattle.tool_show.specs.Printed.{PrintsLine, PrintsLines, chosen, shown};
 
 use crate::error::Failure;
 use crate::{NamedTable, ShowError};
@@ -19,43 +18,47 @@ use std::io::Write;
 use std::ops::Bound;
 use tool_lines::{Format, append_entry};
 
-/// Which entries are dumped, and how.
+/// Which entries of a file are dumped, and how.
 #[derive(Clone, Copy, Debug)]
 pub struct DumpOptions<'a> {
     /// The first key, if there is one: keys below it are passed over.
     pub from: Option<&'a [u8]>,
     /// The key before which it ends, if there is one.
     pub to: Option<&'a [u8]>,
-    /// Whether each file is read from its last entry to its first.
+    /// Whether the file is read from its last entry to its first.
     pub reverse: bool,
-    /// How many entries of all files together are dumped at most.
-    pub limit: Option<u64>,
     /// How an entry stands on its line.
     pub format: Format,
 }
 
-/// Writes the entries of files, file after file, each entry on a line. Refused with the first
-/// failure; what was written stays.
+/// Writes the entries of a file, each on a line, `left` of them at most. Answers how many more
+/// might have been written. Refused with the first failure; what was written stays.
 pub fn dump<'a, A: Allocator + Copy, W: Write>(
     alloc: A,
     output: &mut W,
-    files: &[NamedTable<'a, A>],
+    file: &NamedTable<'a, A>,
     options: &DumpOptions<'_>,
-) -> Result<(), ShowError<'a>>
-    // Where a file is named, it is one of these, and so is the block that is named.
-    ensures named { IfErr result (NamesOne files.now) }
+    left: u64,
+) -> Result<u64, ShowError<'a>>
+    // The entries between the keys are printed, in their order or from the last on, as many as may
+    // be.
+    ensures printed { let t = file.now.table in (es : List Entry) → StoresList t.bytes es →
+        OnOk result (PrintsLines options.now.format
+        (shown options.now.reverse left (chosen options.now t es))
+        (W.contents output.old) (W.contents output.new)) }
+    ensures left { let t = file.now.table in (es : List Entry) → StoresList t.bytes es →
+        IfOk result (λ rest. rest ≡
+        left - length (shown options.now.reverse left (chosen options.now t es))) }
+    // Where a file is named, it is this one, and so is the block that is named; and its bytes store
+    // no list.
+    ensures named { IfErr result (NamesOnly file.now) }
+    ensures sound { (es : List Entry) → StoresList file.now.table.bytes es →
+        IfErr result NamesNone }
 {
-    let mut left = options.limit.unwrap_or(u64::MAX);
-    for file in files {
-        if left == 0 {
-            return Ok(());
-        }
-        match dump_table(alloc, output, &file.table, options, left) {
-            Ok(rest) => left = rest,
-            Err(failure) => return Err(failure.of_file(file)),
-        }
+    match dump_table(alloc, output, &file.table, options, left) {
+        Ok(rest) => Ok(rest),
+        Err(failure) => Err(failure.of_file(file)),
     }
-    Ok(())
 }
 
 // The entries of one table. Answers how many more may be written.
@@ -66,11 +69,15 @@ fn dump_table<A: Allocator + Copy, W: Write>(
     options: &DumpOptions<'_>,
     left: u64,
 ) -> Result<u64, Failure>
-    // As words its entries between the keys are printed, as many as may be.
-    ensures printed { let t = table.now in options.now.format ≡ Words →
-        (es : List Entry) → StoresList t.bytes es →
-        OnOk result (Appends (W.contents output.old) (W.contents output.new)
-        (dumped options.now.reverse left (chosen options.now t es))) }
+    ensures printed { let t = table.now in (es : List Entry) → StoresList t.bytes es →
+        OnOk result (PrintsLines options.now.format
+        (shown options.now.reverse left (chosen options.now t es))
+        (W.contents output.old) (W.contents output.new)) }
+    ensures left { let t = table.now in (es : List Entry) → StoresList t.bytes es →
+        IfOk result (λ rest. rest ≡
+        left - length (shown options.now.reverse left (chosen options.now t es))) }
+    ensures sound { (es : List Entry) → StoresList table.now.bytes es →
+        IfErr result BlamesNoFile }
 {
     let lower = match options.from {
         None => Bound::Unbounded,
@@ -103,10 +110,15 @@ fn dump_range<A: Allocator + Copy, W: Write>(
     reverse: bool,
     lines: Lines<A>,
 ) -> Result<u64, Failure>
-    ensures printed { let t = table.now in lines.format ≡ Words →
-        (es : List Entry) → StoresList t.bytes es →
-        OnOk result (Appends (W.contents output.old) (W.contents output.new)
-        (dumped reverse lines.left (within bounds.0 bounds.1 (lift es t.global_seqno)))) }
+    ensures printed { let t = table.now in (es : List Entry) → StoresList t.bytes es →
+        OnOk result (PrintsLines lines.format
+        (shown reverse lines.left (within bounds.0 bounds.1 (lift es t.global_seqno)))
+        (W.contents output.old) (W.contents output.new)) }
+    ensures left { let t = table.now in (es : List Entry) → StoresList t.bytes es →
+        IfOk result (λ rest. rest ≡ lines.left
+        - length (shown reverse lines.left (within bounds.0 bounds.1 (lift es t.global_seqno)))) }
+    ensures sound { (es : List Entry) → StoresList table.now.bytes es →
+        IfErr result BlamesNoFile }
 {
     let items = table.range(bounds.0, bounds.1)?;
     dump_items(output, items, reverse, lines)
@@ -120,11 +132,14 @@ fn dump_items<I: DoubleEndedIterator<Item = IterItem<A>> + Drop, A: Allocator + 
     lines: Lines<A>,
 ) -> Result<u64, Failure>
     requires can { CanDeal I.next_gives I.next_back_gives I.can_next I.can_next_back items }
-    // As words the first of the entries are printed, or the last of them from the end on.
-    ensures printed { lines.format ≡ Words → (es : List Entry) →
-        DealsAllOf I.next_gives I.next_back_gives items es →
-        OnOk result (Appends (W.contents output.old) (W.contents output.new)
-        (dumped reverse lines.left es)) }
+    // The first of the entries are printed, or the last of them from the end on.
+    ensures printed { (es : List Entry) → DealsList I.next_gives I.next_back_gives es items →
+        OnOk result (PrintsLines lines.format (shown reverse lines.left es)
+        (W.contents output.old) (W.contents output.new)) }
+    ensures left { (es : List Entry) → DealsList I.next_gives I.next_back_gives es items →
+        IfOk result (λ rest. rest ≡ lines.left - length (shown reverse lines.left es)) }
+    ensures sound { (es : List Entry) → DealsList I.next_gives I.next_back_gives es items →
+        IfErr result BlamesNoFile }
 {
     let mut left = lines.left;
     // What stands behind the last of them is not read.
@@ -160,8 +175,9 @@ fn print_entry<A: Allocator + Copy, W: Write>(
     item: &InternalValue<A>,
     lines: Lines<A>,
 ) -> Result<(), Failure>
-    ensures printed { lines.format ≡ Words → OnOk result
-        (Appends (W.contents output.old) (W.contents output.new) (ended_line item.now)) }
+    ensures printed { OnOk result (PrintsLine lines.format item.now
+        (W.contents output.old) (W.contents output.new)) }
+    ensures sound { IfErr result BlamesNoFile }
 {
     let entry = item.as_entry_ref();
     let text = append_entry(lines.alloc, Vec::new(lines.alloc), &entry, lines.format)?;

@@ -1,11 +1,13 @@
 //! What a table says of itself, as plain values.
 ghost use Rattle.std.specs.Iterator.{IsFinite};
 
-use crate::checks::{item_name, section_name};
+use crate::blocks::source_of;
+use crate::checks::section_name;
 use lsm_block_indexes::{BlockIndex, BlockIndexIter};
 use lsm_formats::ItemName;
 use lsm_readers::Table;
-use sst_blocks::{BlockHandle, Error, KeyedBlockHandle, SectionName};
+use sst_blocks::{Error, KeyedBlockHandle, SectionName};
+use sst_sections::TRAILER_LEN;
 use std::alloc::Allocator;
 
 /// Where something lies in a file, in bytes.
@@ -75,57 +77,49 @@ pub(crate) fn little_endian(bytes: &[u8]) -> Option<u64> {
     Some(number)
 }
 
-/// The name of an item in a file.
-pub(crate) fn name_of_item(item: ItemName) -> &'static str {
-    item_name(item)
-}
+// The sections in the order in which they lie.
+const SECTIONS: [SectionName; 7] = [
+    SectionName::Data,
+    SectionName::Index,
+    SectionName::Tli,
+    SectionName::Filter,
+    SectionName::FilterTli,
+    SectionName::TableVersion,
+    SectionName::Meta,
+];
 
-/// The sections of a table, as they lie: the data blocks come first.
+/// The sections of a table, as its trailer tells where they lie, and the trailer. Refused for want
+/// of memory alone.
 pub(crate) fn sections_of<A: Allocator + Copy>(
     alloc: A,
     table: &Table<A>,
 ) -> Result<Vec<NamedPlace, A>, Error> {
-    let regions = table.regions;
-    let data = Place {
-        offset: 0,
-        size: table.metadata.file_size,
-    };
+    let toc = source_of(alloc, table)?.toc();
     let mut sections = Vec::new(alloc);
-    add_section(&mut sections, SectionName::Data, Some(data))?;
-    add_section(&mut sections, SectionName::Index, place_of(regions.index))?;
-    add_section(&mut sections, SectionName::Tli, place_of(Some(regions.tli)))?;
-    add_section(&mut sections, SectionName::Filter, place_of(regions.filter))?;
-    add_section(
-        &mut sections,
-        SectionName::FilterTli,
-        place_of(regions.filter_tli),
-    )?;
-    add_section(
-        &mut sections,
-        SectionName::Meta,
-        place_of(Some(regions.metadata)),
-    )?;
+    for name in SECTIONS {
+        if let Some(section) = toc.section(name) {
+            sections.push(NamedPlace {
+                name: section_name(name),
+                place: Place {
+                    offset: section.position,
+                    size: section.len,
+                },
+            })?;
+        }
+    }
+    sections.push(trailer_of(table.file_len()))?;
     Ok(sections)
 }
 
-fn place_of(handle: Option<BlockHandle>) -> Option<Place> {
-    let handle = handle?;
-    Some(Place {
-        offset: handle.offset().0,
-        size: u64::from(handle.size()),
-    })
-}
-
-fn add_section<A: Allocator>(
-    sections: &mut Vec<NamedPlace, A>,
-    section: SectionName,
-    place: Option<Place>,
-) -> Result<(), Error> {
-    if let Some(place) = place {
-        let name = section_name(section);
-        sections.push(NamedPlace { name, place })?;
+// The trailer of a file that has so many bytes.
+fn trailer_of(len: usize) -> NamedPlace {
+    NamedPlace {
+        name: "trailer",
+        place: Place {
+            offset: len.saturating_sub(TRAILER_LEN) as u64,
+            size: TRAILER_LEN as u64,
+        },
     }
-    Ok(())
 }
 
 /// Where the data blocks lie, by the index. Refused as the index's blocks are.

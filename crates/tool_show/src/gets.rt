@@ -1,25 +1,24 @@
 //! The version of a key that a reader sees.
-ghost use Rattle.std.specs.Prelude.{◌≡◌, ◌-◌, ◌^◌, ◌∷◌, [], List, IfErr, IfOk, OnOk, false};
-ghost use Rattle.std.specs.Prelude.{is_some, map};
-ghost use Rattle.std.specs.Io.KnownBytes.{Appends};
+ghost use Rattle.std.specs.Prelude.{◌≡◌, ◌-◌, ◌^◌, ◌∷◌, [], List, IfErr, IfOk, IfSome, OnOk};
+ghost use Rattle.std.specs.Prelude.{false, is_some, map};
 ghost use Rattle.std.specs.Option.{option_map_or};
 ghost use Rattle.std.specs.Arc.{arc_value};
 ghost use Rattle.lsm_runs.specs.RunLists.{RunsHoldLists};
 ghost use Rattle.lsm_runs.specs.SeveralRuns.{union_in};
 ghost use Rattle.sst_entries.specs.Entry.{Entry};
 ghost use Rattle.sst_entries.specs.Point.{point};
-ghost use Rattle.tool_lines.specs.declared.entry_line.Format.TheVariants.{Lines};
-ghost use Rattle.tool_show.specs.Failures.{NamesNone, NamesOne};
+ghost use Rattle.sst_entries.specs.declared.error.Error.TheVariants.{OutOfMemory};
+ghost use Rattle.tool_show.specs.Failures.{BlamesFaulty, NamesFaulty, NamesNone};
 ghost use Rattle.tool_show.specs.Files.{runs_in};
-ghost use Rattle.tool_show.specs.Printed.{found_line};
+ghost use Rattle.tool_show.specs.Printed.{PrintsFound, none_line};
 
 use crate::error::Failure;
-use crate::{NamedTable, ShowError};
-use lsm_block_indexes::{BlockIndex, BlockIndexIter};
-use lsm_ranges::Run;
+use crate::loads::{LoadedPlaces, loaded_places};
+use crate::{BlockPlace, NamedTable, ShowError};
+use lsm_ranges::{Ranged, Run};
 use lsm_readers::Table;
 use lsm_runs::get_runs_counted;
-use sst_blocks::{Error, InternalValue, Opened, SeqNo};
+use sst_blocks::{BlockHandle, Error, InternalValue, Opened, SectionName, SeqNo};
 use std::alloc::Allocator;
 use std::io::{self, Write};
 use std::sync::Arc;
@@ -41,9 +40,9 @@ pub struct GetOptions<'k> {
 /// The runs of files, each of one table.
 type Runs<A> = Vec<Arc<Run<Table<A>, A>, A>, A>;
 
-/// Writes the version of a key that a reader sees over all files, or `none`, and answers whether
-/// there is one. Then, if asked for, a line for each file: how many blocks of which kind were
-/// loaded for it, and where the data block begins.
+/// Writes the version of a key that a reader sees over all files, or that there is none (`none`, and
+/// as JSON `null`), and answers whether there is one. Then, if asked for, a line for each file: how
+/// many blocks of which kind were loaded for it, and where these begin.
 pub fn get<'a, A: Allocator + Copy, W: Write>(
     alloc: A,
     output: &mut W,
@@ -56,25 +55,29 @@ pub fn get<'a, A: Allocator + Copy, W: Write>(
         let seqno = option_map_or (λ n. n) options.now.at (2 ^ 64 - 1) in
         IfOk result (λ there.
         there ≡ is_some (point (union_in lists) options.now.key.now seqno)) }
-    // As words it is printed, or that there is none.
-    ensures printed { options.now.format ≡ Lines → options.now.loads ≡ false →
+    // It is printed, or that there is none.
+    ensures printed { options.now.loads ≡ false →
         (lists : List (List (List Entry))) → RunsHoldLists (runs_in files.now) lists →
         let seqno = option_map_or (λ n. n) options.now.at (2 ^ 64 - 1) in
-        OnOk result (Appends (W.contents output.old) (W.contents output.new)
-        (found_line (point (union_in lists) options.now.key.now seqno))) }
-    // Where a file is named, it is one of these, and so is the block that is named.
-    ensures named { IfErr result (NamesOne files.now) }
+        OnOk result (PrintsFound options.now.format
+        (point (union_in lists) options.now.key.now seqno)
+        (W.contents output.old) (W.contents output.new)) }
+    // Where a file is named, it is one of these, whose bytes store no list, and so is the block that
+    // is named: of files of lists none is.
+    ensures named { IfErr result (NamesFaulty files.now) }
+    ensures sound { (lists : List (List (List Entry))) → RunsHoldLists (runs_in files.now) lists →
+        IfErr result NamesNone }
 {
     let runs = runs_of(alloc, files)?;
     let seqno = options.at.unwrap_or(SeqNo::MAX);
     let found = match get_runs_counted(&runs, options.key, seqno).0 {
         Ok(found) => found,
-        Err(error) => return Err(refused_in(error, &runs, files, options.key, seqno)),
+        Err(error) => return Err(refused_in(error, files, options.key, seqno)),
     };
     let is_there = found.is_some();
     print_found(alloc, output, found, options.format)?;
     if options.loads {
-        print_loads(output, &runs, files, options.key, seqno)?;
+        print_loads(alloc, output, files, options.key, seqno)?;
     }
     Ok(is_there)
 }
@@ -110,30 +113,44 @@ fn run_of<'a, A: Allocator + Copy>(
     }
 }
 
-// The run at a place alone.
-fn one_run<R>(runs: &[R], at: usize) -> &[R] {
-    runs.get(at..at.saturating_add(1)).unwrap_or(&[])
-}
-
-// A refusal, with the first file whose table refuses the read.
+// A refusal of a read, with the first file whose table refuses it.
 fn refused_in<'a, A: Allocator + Copy>(
     error: Error,
-    runs: &[Arc<Run<Table<A>, A>, A>],
     files: &[NamedTable<'a, A>],
     key: &[u8],
     seqno: SeqNo,
 ) -> ShowError<'a>
-    ensures { NamesOne files.now result }
+    ensures named { NamesFaulty files.now result }
+    ensures memory { error ≡ OutOfMemory → NamesNone result }
 {
-    let mut at = 0usize;
+    if error == Error::OutOfMemory {
+        return ShowError::OutOfMemory;
+    }
     for file in files {
-        let run = one_run(runs, at);
-        at = at.saturating_add(1);
-        if get_runs_counted(run, key, seqno).0.is_err() {
-            return Failure::Refused(error).of_file(file);
+        if let Some(refused) = refused_by(file, key, seqno) {
+            return refused;
         }
     }
+    // It was wanted on the way here.
     ShowError::OutOfMemory
+}
+
+// Why a file's table refuses a read, if it is asked and does.
+fn refused_by<'a, A: Allocator + Copy>(
+    file: &NamedTable<'a, A>,
+    key: &[u8],
+    seqno: SeqNo,
+) -> Option<ShowError<'a>>
+    ensures { IfSome result (BlamesFaulty file.now) }
+{
+    if !file.table.key_range().contains_key(key) {
+        return None;
+    }
+    match file.table.get_by_key(key, seqno) {
+        Ok(_) => None,
+        Err(Error::OutOfMemory) => Some(ShowError::OutOfMemory),
+        Err(error) => Some(Failure::Refused(error).of_file(file)),
+    }
 }
 
 fn print_found<'a, A: Allocator + Copy, W: Write>(
@@ -142,13 +159,13 @@ fn print_found<'a, A: Allocator + Copy, W: Write>(
     found: Option<InternalValue<A>>,
     format: Format,
 ) -> Result<(), ShowError<'a>>
-    ensures printed { format ≡ Lines → OnOk result
-        (Appends (W.contents output.old) (W.contents output.new) (found_line found)) }
+    ensures printed { OnOk result (PrintsFound format found
+        (W.contents output.old) (W.contents output.new)) }
     ensures unnamed { IfErr result NamesNone }
 {
     match found {
         None => {
-            output.write_all(b"none\n")?;
+            output.write_all(none_line(format))?;
             Ok(())
         }
         Some(item) => {
@@ -159,48 +176,54 @@ fn print_found<'a, A: Allocator + Copy, W: Write>(
     }
 }
 
-// How many blocks were loaded for each file, and where its data block begins.
+// What says that there is no entry.
+fn none_line(format: Format) -> &'static [u8]
+    ensures { result.now ≡ none_line format }
+{
+    match format {
+        Format::Lines => b"none\n",
+        Format::Json => b"null\n",
+    }
+}
+
+// Which blocks were loaded for each file.
 fn print_loads<'a, A: Allocator + Copy, W: Write>(
+    alloc: A,
     output: &mut W,
-    runs: &[Arc<Run<Table<A>, A>, A>],
     files: &[NamedTable<'a, A>],
     key: &[u8],
     seqno: SeqNo,
 ) -> Result<(), ShowError<'a>>
-    ensures { IfErr result (NamesOne files.now) }
+    ensures { IfErr result NamesNone }
 {
-    let mut at = 0usize;
     for file in files {
-        let run = one_run(runs, at);
-        at = at.saturating_add(1);
-        let opened = get_runs_counted(run, key, seqno).1;
-        let place = match place_loaded(&file.table, key, seqno, opened) {
-            Ok(place) => place,
-            Err(error) => return Err(Failure::Refused(error).of_file(file)),
+        let Ok(places) = loaded_places(alloc, &file.table, key, seqno) else {
+            return Err(ShowError::OutOfMemory);
         };
-        print_opened(output, file.name, opened, place)?;
+        print_opened(
+            output,
+            file.name,
+            opened_by(&file.table, key, seqno),
+            &places,
+        )?;
     }
     Ok(())
 }
 
-// Where the data block begins that was loaded, if one was.
-fn place_loaded<A: Allocator + Copy>(
-    table: &Table<A>,
-    key: &[u8],
-    seqno: SeqNo,
-    opened: Opened,
-) -> Result<Option<u64>, Error> {
-    if opened.data_loads == 0 {
-        return Ok(None);
+// How many blocks a read of a table loads, if its range has the key; else it is not asked.
+fn opened_by<A: Allocator + Copy>(table: &Table<A>, key: &[u8], seqno: SeqNo) -> Opened {
+    if table.key_range().contains_key(key) {
+        table.get_counted(key, seqno, Table::<A>::key_hash(key)).1
+    } else {
+        Opened::none()
     }
-    block_of_key(table, key, seqno)
 }
 
 fn print_opened<W: Write>(
     output: &mut W,
     name: &str,
     opened: Opened,
-    place: Option<u64>,
+    places: &LoadedPlaces,
 ) -> io::Result<()> {
     let (data, index) = (opened.data_loads, opened.index_loads);
     let (filter, meta) = (opened.filter_loads, opened.meta_loads);
@@ -208,35 +231,25 @@ fn print_opened<W: Write>(
         output,
         "{name}: loaded data {data}, index {index}, filter {filter}, meta {meta}"
     )?;
-    if let Some(offset) = place {
-        write!(output, "; the data block at {offset}")?;
-    }
+    print_place(output, SectionName::Filter, filter, places.filter)?;
+    print_place(output, SectionName::Index, index, places.index)?;
+    print_place(output, SectionName::Data, data, places.data)?;
     output.write_all(b"\n")
 }
 
-// Where the first data block begins that reaches a key and a number, by the index.
-fn block_of_key<A: Allocator + Copy>(
-    table: &Table<A>,
-    key: &[u8],
-    seqno: SeqNo,
-) -> Result<Option<u64>, Error> {
-    let index = table.block_index()?;
-    let reader = index.forward_reader(key, seqno);
-    drop(index);
-    match reader? {
-        None => Ok(None),
-        Some(handles) => first_place(handles),
-    }
-}
-
-fn first_place<I: BlockIndexIter<A> + Drop, A: Allocator>(
-    mut handles: I,
-) -> Result<Option<u64>, Error>
-    requires { I.can_next handles }
-{
-    match handles.next() {
-        None => Ok(None),
-        Some(Ok(handle)) => Ok(Some(handle.offset().0)),
-        Some(Err(error)) => Err(error),
+// Where a block begins, where it was loaded.
+fn print_place<W: Write>(
+    output: &mut W,
+    section: SectionName,
+    loads: usize,
+    place: Option<BlockHandle>,
+) -> io::Result<()> {
+    match place {
+        Some(place) if loads > 0 => {
+            let offset = place.offset().0;
+            let place = BlockPlace { section, offset };
+            write!(output, "; {place}")
+        }
+        _ => Ok(()),
     }
 }

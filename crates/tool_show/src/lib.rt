@@ -8,12 +8,13 @@ mod dumps;
 mod error;
 mod facts;
 mod gets;
+mod loads;
 mod named;
 mod picture;
 mod places;
 mod stats;
 
-pub use checks::{NoProgress, Progress, verify};
+pub use checks::{NoProgress, Progress, verify, verify_unopened};
 pub use dumps::{DumpOptions, dump};
 pub use error::ShowError;
 pub use gets::{GetOptions, get};

@@ -1,11 +1,11 @@
 //! What tables say of themselves.
 ghost use Rattle.std.specs.Prelude.{IfErr};
-ghost use Rattle.tool_show.specs.Failures.{NamesOne};
+ghost use Rattle.tool_show.specs.Failures.{NamesOnly};
 
+use crate::checks::item_name;
 use crate::error::Failure;
 use crate::facts::{
-    ITEMS, NamedPlace, Place, Shown, Spread, blocks_of, little_endian, name_of_item, sections_of,
-    spread_of,
+    ITEMS, NamedPlace, Place, Shown, Spread, blocks_of, little_endian, sections_of, spread_of,
 };
 use crate::picture::{print_blocks, print_sections};
 use crate::{NamedTable, ShowError};
@@ -15,28 +15,26 @@ use lsm_readers::Table;
 use sst_blocks::{Error, Slice};
 use std::alloc::{AllocError, Allocator};
 use std::io::{self, Write};
-use tool_lines::{Format, append_bytes};
+use tool_lines::{Format, append_bytes, write_bytes};
 
-/// Writes what each table says of itself: the items of its meta block, its sections and its data
-/// blocks with their sizes and shares of the file, entries a block, the kinds of index and filter,
-/// the filter's bits a key, and how many of the keys that are not there it is expected to let
-/// through. As text, or an object of JSON for each file on a line. Refused with the first failure;
-/// what was written stays.
+/// Writes what a table says of itself: the items of its meta block, its sections and its data blocks
+/// with their sizes and shares of the file, entries a block, the kinds of index and filter, the
+/// filter's bits a key, and how many of the keys that are not there it is expected to let through.
+/// As text, or as an object of JSON on a line. Refused with the first failure; what was written
+/// stays.
 pub fn stat<'a, A: Allocator + Copy, W: Write>(
     alloc: A,
     output: &mut W,
-    files: &[NamedTable<'a, A>],
+    file: &NamedTable<'a, A>,
     format: Format,
 ) -> Result<(), ShowError<'a>>
-    // Where a file is named, it is one of these, and so is the block that is named.
-    ensures named { IfErr result (NamesOne files.now) }
+    // Where a file is named, it is this one, and so is the block that is named.
+    ensures named { IfErr result (NamesOnly file.now) }
 {
-    for file in files {
-        if let Err(failure) = stat_file(alloc, output, file, format) {
-            return Err(failure.of_file(file));
-        }
+    match stat_file(alloc, output, file, format) {
+        Ok(()) => Ok(()),
+        Err(failure) => Err(failure.of_file(file)),
     }
-    Ok(())
 }
 
 /// What is shown of a table beside its items.
@@ -65,7 +63,7 @@ fn stat_file<A: Allocator + Copy, W: Write>(
 }
 
 fn parts_of<A: Allocator + Copy>(alloc: A, table: &Table<A>) -> Result<Parts<A>, Error> {
-    let keys = number_of(table, ItemName::KeyCount)?;
+    let keys = number_of(table, ItemName::KeyCount)?.unwrap_or(0);
     let sections = sections_of(alloc, table)?;
     let blocks = blocks_of(alloc, table)?;
     Ok(Parts {
@@ -79,10 +77,13 @@ fn parts_of<A: Allocator + Copy>(alloc: A, table: &Table<A>) -> Result<Parts<A>,
     })
 }
 
-// The number of an item, or 0 where it is none.
-fn number_of<A: Allocator + Copy>(table: &Table<A>, item: ItemName) -> Result<u64, Error> {
-    let value = table.meta_item(item)?;
-    Ok(little_endian(value.as_slice()).unwrap_or(0))
+// The number of an item, if there is one.
+fn number_of<A: Allocator + Copy>(table: &Table<A>, item: ItemName) -> Result<Option<u64>, Error> {
+    match table.meta_item(item) {
+        Ok(value) => Ok(little_endian(value.as_slice())),
+        Err(Error::MetaKeyMissing) => Ok(None),
+        Err(error) => Err(error),
+    }
 }
 
 fn kind_of(has_partitions: bool) -> &'static str {
@@ -133,7 +134,7 @@ fn print_item<A: Allocator + Copy, W: Write>(
     shown: Shown,
 ) -> Result<(), Failure> {
     match table.meta_item(item) {
-        Ok(value) => print_value(alloc, output, name_of_item(item), &value, shown),
+        Ok(value) => print_value(alloc, output, item_name(item), &value, shown),
         Err(Error::MetaKeyMissing) => Ok(()),
         Err(error) => Err(Failure::Refused(error)),
     }
@@ -190,7 +191,8 @@ fn print_pictures<A: Allocator, W: Write>(output: &mut W, parts: &Parts<A>) -> i
         .checked_div(count as u64)
         .unwrap_or(0);
     let (each, rest) = (tenths / 10, tenths % 10);
-    writeln!(output, "data blocks {count}, {each}.{rest} entries each")?;
+    let word = if tenths == 10 { "entry" } else { "entries" };
+    writeln!(output, "data blocks {count}, {each}.{rest} {word} each")?;
     print_blocks(output, &parts.blocks, parts.size)
 }
 
@@ -234,7 +236,7 @@ fn write_items<A: Allocator + Copy>(
     writer.begin_object()?;
     for (item, shown) in &ITEMS {
         match table.meta_item(*item) {
-            Ok(value) => write_value(alloc, writer, name_of_item(*item), &value, *shown)?,
+            Ok(value) => write_value(alloc, writer, item_name(*item), &value, *shown)?,
             Err(Error::MetaKeyMissing) => {}
             Err(error) => return Err(error),
         }
@@ -253,10 +255,7 @@ fn write_value<A: Allocator + Copy>(
     if let Some(number) = number_shown(value.as_slice(), shown) {
         return Ok(writer.u64(number)?);
     }
-    let text = append_bytes(Vec::new(alloc), value.as_slice())?;
-    let told = writer.string(str::from_utf8(&text).unwrap_or(""));
-    drop(text);
-    Ok(told?)
+    Ok(write_bytes(alloc, writer, value.as_slice())?)
 }
 
 fn write_kinds<A: Allocator>(writer: &mut Writer<A>, parts: &Parts<A>) -> Result<(), AllocError> {

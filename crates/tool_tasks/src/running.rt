@@ -87,7 +87,7 @@ fn execute<'a, R: Files, C: Clock, I: Read + Drop, W: Write, E: Write>(
         Task::Get(task) => show::get(system, task, output).map(status_of),
         Task::Stat(task) => show::stat(system, task, output).and(Ok(0)),
         Task::Verify(task) => {
-            show::verify(system, task, output, errors, shows_bar).map(status_of)
+            show::verify(system, &system.disk(), task, output, errors, shows_bar).map(status_of)
         }
         Task::Compact(task) => make::compact(system, task, output).and(Ok(0)),
         Task::Pack(task) => make::pack(system, task, output).and(Ok(0)),

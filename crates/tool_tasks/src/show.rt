@@ -1,33 +1,42 @@
 //! Tables that are shown.
-ghost use Rattle.std.specs.Prelude.{◌≡◌, IfErr, IfOk, List, false, length, true};
+ghost use Rattle.std.specs.Prelude.{◌≡◌, ◌+◌, ◌-◌, ◌^◌, IfErr, IfOk, false, min, true};
 ghost use Rattle.logpurple.specs.Words.{OpenTable};
-ghost use Rattle.tool_show.specs.Faults.{fault_count};
+ghost use Rattle.tool_show.specs.Faults.{fault_count, unloaded_count};
 ghost use Rattle.tool_show.specs.Files.{IsSoundTable};
-ghost use Rattle.tool_compact.specs.Blamed.{is_memory_fault};
+ghost use Rattle.tool_files.specs.Blamed.{is_memory_fault};
 ghost use Rattle.tool_tasks.specs.Endings.{EndsVerify};
-ghost use Rattle.tool_tasks.specs.Verified.{AreSoundTables};
+ghost use Rattle.tool_tasks.specs.Verified.{AreSoundFiles, IsSoundFile};
 
 use crate::System;
 use crate::bar::{Bar, Work, behind};
-use crate::failure::{Failure, is_memory_fault};
+use crate::failure::Failure;
 use crate::make::format_of;
+use logpurple::{Error, Slice};
 use std::alloc::Global;
 use std::io::Write;
 use std::rt::{Clock, Files};
-use tool_files::{FileError, open_table};
+use tool_files::{FileError, FileName, Place, open_bytes, open_table};
 use tool_lines::parse_bytes;
 use tool_options::{DumpTask, GetTask, StatTask, VerifyTask};
 use tool_show::{DumpOptions, GetOptions, NamedTable, NoProgress};
 
-// Opens files as tables, each with its name.
+// Opens a file as a table with its name. Its filter and its index stay loaded.
 fn open_named<'a, R: Files, C: Clock>(
     system: System<'_, R, C>,
-    files: &[&'a str],
+    name: &'a str,
+) -> Result<NamedTable<'a, Global>, Failure<'a>> {
+    let table = open_table(&system.disk(), system.alloc, name, true)?;
+    Ok(NamedTable { name, table })
+}
+
+// Opens files as tables, each with its name.
+fn open_each<'a, R: Files, C: Clock>(
+    system: System<'_, R, C>,
+    names: &[&'a str],
 ) -> Result<Vec<NamedTable<'a, Global>>, Failure<'a>> {
     let mut tables = Vec::new(system.alloc);
-    for name in files {
-        let table = open_table(system.files, system.alloc, name)?;
-        tables.push(NamedTable { name, table })?;
+    for name in names {
+        tables.push(open_named(system, name)?)?;
     }
     Ok(tables)
 }
@@ -64,11 +73,17 @@ pub(crate) fn dump<'a, R: Files, C: Clock, W: Write>(
         from: from.as_deref(),
         to: to.as_deref(),
         reverse: task.reverse,
-        limit: task.limit,
         format: format_of(task.json),
     };
-    let tables = open_named(system, task.files.as_slice())?;
-    tool_show::dump(system.alloc, output, tables.as_slice(), &options)?;
+    let mut left = task.limit.unwrap_or(u64::MAX);
+    for name in task.files.as_slice() {
+        if left == 0 {
+            return Ok(());
+        }
+        // One file is held at a time.
+        let file = open_named(system, name)?;
+        left = tool_show::dump(system.alloc, output, &file, &options, left)?;
+    }
     Ok(())
 }
 
@@ -85,7 +100,7 @@ pub(crate) fn get<'a, R: Files, C: Clock, W: Write>(
         loads: task.loads,
         format: format_of(task.json),
     };
-    let tables = open_named(system, task.files.as_slice())?;
+    let tables = open_each(system, task.files.as_slice())?;
     let found = tool_show::get(system.alloc, output, tables.as_slice(), &options)?;
     Ok(found)
 }
@@ -96,29 +111,28 @@ pub(crate) fn stat<'a, R: Files, C: Clock, W: Write>(
     task: &StatTask<'a>,
     output: &mut W,
 ) -> Result<(), Failure<'a>> {
-    let tables = open_named(system, task.files.as_slice())?;
-    tool_show::stat(
-        system.alloc,
-        output,
-        tables.as_slice(),
-        format_of(task.json),
-    )?;
+    for name in task.files.as_slice() {
+        let file = open_named(system, name)?;
+        tool_show::stat(system.alloc, output, &file, format_of(task.json))?;
+    }
     Ok(())
 }
 
 /// Reads files whole, one after another, and prints what is wrong of each, with a bar on `errors`
-/// meanwhile if that is wanted. A file that does not open as a table is at fault, too. Answers
-/// whether nothing is wrong. Refused for want of memory, and where the output takes no more.
-pub(crate) fn verify<'a, R: Files, C: Clock, W: Write, E: Write>(
+/// meanwhile if that is wanted. A file that does not open as a table is at fault, too, and so is
+/// each block of it that does not load, as far as its bytes tell where blocks lie. Answers whether
+/// nothing is wrong. Refused for want of memory, and where the output takes no more.
+pub(crate) fn verify<'a, R: Files, C: Clock, P: Place, W: Write, E: Write>(
     system: System<'_, R, C>,
+    place: &P,
     task: &VerifyTask<'a>,
     output: &mut W,
     errors: &mut E,
     shows_bar: bool,
 ) -> Result<bool, Failure<'a>>
-    // Nothing is wrong where as many files were opened as there are, and each stores a list.
+    // Nothing is wrong where the bytes of each file store a list.
     ensures sound { IfOk result (λ sound. sound ≡ true →
-        AreSoundTables (length task.now.files.items)) }
+        AreSoundFiles (P.content place.now) task.now.files.items) }
     // What is wrong of a file does not end it.
     ensures goes_on { IfErr result EndsVerify }
 {
@@ -130,7 +144,7 @@ pub(crate) fn verify<'a, R: Files, C: Clock, W: Write, E: Write>(
     };
     let mut faults = 0u64;
     for name in names {
-        let found = verify_file(system, name, output, errors, work)?;
+        let found = verify_file(system, place, name, output, errors, work)?;
         // What is known of a file is not kept back while the next is read.
         output.flush()?;
         faults = faults.saturating_add(found);
@@ -139,38 +153,85 @@ pub(crate) fn verify<'a, R: Files, C: Clock, W: Write, E: Write>(
     Ok(faults == 0)
 }
 
-// Opens a file and reads it. Answers how many faults there are.
-fn verify_file<'a, R: Files, C: Clock, W: Write, E: Write>(
+// Reads a file and looks at its bytes. Answers how many faults there are.
+fn verify_file<'a, R: Files, C: Clock, P: Place, W: Write, E: Write>(
     system: System<'_, R, C>,
+    place: &P,
     name: &'a str,
     output: &mut W,
     errors: &mut E,
     work: Option<Work>,
 ) -> Result<u64, Failure<'a>>
-    ensures sound { IfOk result (λ faults. faults ≡ 0 → (t : OpenTable) × IsSoundTable t) }
+    ensures sound { IfOk result (λ faults. faults ≡ 0 →
+        IsSoundFile (P.content place.now) name.now) }
     ensures goes_on { IfErr result EndsVerify }
 {
-    match open_table(system.files, system.alloc, name) {
-        Ok(table) => {
-            let file = NamedTable { name, table };
-            verify_opened(system, &file, output, errors, work)
+    match place.read(system.alloc, name) {
+        Ok(bytes) => verify_bytes(system, name, bytes, output, errors, work),
+        Err(fault) => {
+            let name = FileName::Plain(name);
+            print_unread(output, FileError { name, fault })
         }
-        Err(error) => print_unopened(output, error),
     }
 }
 
-// Prints why a file did not open, which is a fault unless memory is wanted. Answers how many faults
+// Prints why a file was not read, which is a fault unless memory is wanted. Answers how many faults
 // there are.
-fn print_unopened<'a, W: Write>(output: &mut W, error: FileError<'a>) -> Result<u64, Failure<'a>>
+fn print_unread<'a, W: Write>(output: &mut W, error: FileError<'a>) -> Result<u64, Failure<'a>>
     ensures fault { IfOk result (λ faults. faults ≡ 1) }
     ensures memory { IfOk result (λ _. is_memory_fault error.entry.fault ≡ false) }
     ensures goes_on { IfErr result EndsVerify }
 {
-    if is_memory_fault(&error.fault) {
+    if error.fault.is_memory() {
         return Err(Failure::OutOfMemory);
     }
     writeln!(output, "{error}")?;
     Ok(1)
+}
+
+// Opens bytes as a table, of which nothing but top levels stays loaded, and reads them. Answers how
+// many faults there are.
+fn verify_bytes<'a, R: Files, C: Clock, W: Write, E: Write>(
+    system: System<'_, R, C>,
+    name: &'a str,
+    bytes: Slice<Global>,
+    output: &mut W,
+    errors: &mut E,
+    work: Option<Work>,
+) -> Result<u64, Failure<'a>>
+    ensures sound { IfOk result (λ faults. faults ≡ 0 →
+        (t : OpenTable) × (t.bytes ≡ bytes) × IsSoundTable t) }
+    ensures goes_on { IfErr result EndsVerify }
+{
+    let shared = bytes.clone()?;
+    match open_bytes(system.alloc, shared, false) {
+        Ok(table) => {
+            let file = NamedTable { name, table };
+            verify_opened(system, &file, output, errors, work)
+        }
+        Err(error) => print_unopened(system.alloc, name, bytes, error, output),
+    }
+}
+
+// Prints why bytes did not open as a table, which is a fault unless memory is wanted, and each block
+// that does not load. Answers how many faults there are.
+fn print_unopened<'a, W: Write>(
+    alloc: Global,
+    name: &'a str,
+    bytes: Slice<Global>,
+    error: Error,
+    output: &mut W,
+) -> Result<u64, Failure<'a>>
+    ensures fault { IfOk result (λ faults. faults ≡ min (unloaded_count bytes + 1) (2 ^ 64 - 1)) }
+    ensures goes_on { IfErr result EndsVerify }
+{
+    if error == Error::OutOfMemory {
+        return Err(Failure::OutOfMemory);
+    }
+    let number = error.number();
+    writeln!(output, "{name}: {error} ({number})")?;
+    let blocks = tool_show::verify_unopened(alloc, output, name, bytes)?;
+    Ok(blocks.saturating_add(1))
 }
 
 // Reads an opened file. Answers how many faults there are.

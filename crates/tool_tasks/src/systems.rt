@@ -1,5 +1,7 @@
 //! What the tool works with.
 use std::alloc::Global;
+use std::rt::Files;
+use tool_files::Disk;
 
 /// The system's files and clock, and the memory.
 #[derive_where(Clone, Copy)]
@@ -10,4 +12,11 @@ pub struct System<'r, R, C> {
     pub clock: &'r C,
     /// Where memory comes from.
     pub alloc: Global,
+}
+
+impl<'r, R: Files, C> System<'r, R, C> {
+    /// The system's files as a place.
+    pub(crate) fn disk(self) -> Disk<'r, R> {
+        Disk { files: self.files }
+    }
 }

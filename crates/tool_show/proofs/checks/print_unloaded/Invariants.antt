@@ -1,11 +1,12 @@
 -- The blocks so far are counted.
-use Rattle.std.proofs.Common.{◌≡◌, ◌-◌, ◌^◌, min, take}
-use Rattle.std.specs.Prelude.{count_by}
+use denote.Ref.{Bor}
+use Rattle.std.proofs.Common.{◌≡◌, take}
+use Rattle.std.specs.Option.{option_map}
 use Rattle.sst_sections.specs.Sections.{body_of}
-use Rattle.tool_show.specs.Faults.{is_further}
+use Rattle.lsm_readers.specs.declared.verify.Finding.{Finding}
+use Rattle.tool_show.specs.Faults.{further_of}
 use Rattle.tool_show.proofs.checks.print_unloaded.Given as goal
 
 abbrev pub invariant-loop-block : goal.invariant-loop-block
-invariant-loop-block g l = l.count
-    ≡ min (count_by (is_further (body_of l.source) l.finding) (take l.block-index l.blocks))
-    (2 ^ 64 - 1)
+invariant-loop-block g l = l.count ≡ further_of (body_of l.source)
+    (option_map (λ (f : Bor Finding). f.now) l.finding) (take l.block-index l.blocks)

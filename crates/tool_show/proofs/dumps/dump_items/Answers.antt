@@ -5,7 +5,7 @@ use Rattle.tool_show.proofs.dumps.dump_items.Goals as goal
 pub loop-left-init : goal.loop-left-init
 loop-left-init g c = (
   c.requires.can,
-  λ words es deals. prints_none _ _ c.args.items c.args.reverse c.args.lines.left es _ deals,
+  λ es deals. prints_none _ _ c.args.items c.args.reverse c.args.lines.left _ es _ deals,
 )
 
 pub take_item-requires-clause-can : goal.take_item-requires-clause-can
@@ -15,19 +15,12 @@ pub take_item-requires-clause-can_back : goal.take_item-requires-clause-can_back
 take_item-requires-clause-can_back g c =
     can_now_back _ _ _ _ c.loop-left.items c.loop-left.invariant.0
 
-pub returns-in-None : goal.returns-in-None
-returns-in-None g c = record {
-  printed = λ words es deals. prints_all _ _ c.loop-left.items c.take_item.new.items c.args.reverse
-      c.loop-left.left _ _ _ (c.loop-left.invariant.1 words es deals) c.in-None.ensures.front
-      c.in-None.ensures.back;
-}
-
 pub loop-left-preserved : goal.loop-left-preserved
 loop-left-preserved g c = (
   may_go_on _ _ _ _ c.loop-left.items c.take_item.new.items c.args.reverse _ c.loop-left.invariant.0
       c.in-Some.ensures.front c.in-Some.ensures.back,
-  λ words es deals. prints_one _ _ c.loop-left.items c.take_item.new.items c.args.reverse
-      c.loop-left.left c.in-Some.item c.in_ok-item-in-Some.field-0 _ _ _ _ c.loop-left-test.true
-      c.in_ok-item-in-Some.was (c.loop-left.invariant.1 words es deals) c.in-Some.ensures.front
-      c.in-Some.ensures.back (c.in_ok-print_entry-in-Some.ensures.printed words),
+  λ es deals. prints_one _ _ c.loop-left.items c.take_item.new.items c.args.reverse
+      c.loop-left.left _ _ c.in-Some.item c.in_ok-item-in-Some.field-0 _ _ _ _
+      c.loop-left-test.true c.in_ok-item-in-Some.was (c.loop-left.invariant.1 es deals)
+      c.in-Some.ensures.front c.in-Some.ensures.back c.in_ok-print_entry-in-Some.ensures.printed,
 )

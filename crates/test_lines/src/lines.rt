@@ -1,7 +1,7 @@
 //! Lines as they are written, and what is refused.
-use crate::{Format, LineError, append_entry, parse_entry};
 use sst_entries::{EntryRef, ValueType};
 use std::alloc::Allocator;
+use tool_lines::{Format, LineError, append_entry, parse_entry};
 
 const ENTRIES: [EntryRef<'static>; 4] = [
     EntryRef {
