@@ -42,6 +42,18 @@ impl<A: Allocator> Model for Verification<A> {
     ghost invariant = { λ v. IsOfTable v.table (ahead_of v.table.parts v.stage) v.left };
 }
 
+/// A verification of a table, which has read nothing yet.
+fn begin<A: Allocator + Clone>(table: Table<A>) -> Verification<A>
+    ensures { result ≡ verifying table }
+{
+    let left = table.unread();
+    Verification {
+        table,
+        stage: Stage::start(),
+        left,
+    }
+}
+
 impl<A: Allocator + Clone> Table<A> {
     /// A verification of the table that is made by steps, so that progress can be shown, and so
     /// that it can be stopped. Nothing is read yet. Refused with [`Error::OutOfMemory`] alone.
@@ -49,13 +61,7 @@ impl<A: Allocator + Clone> Table<A> {
         ensures ok { IfOk result (λ v. v ≡ verifying self.now) }
         ensures err { IfErr result (λ e. e ≡ refusal.OutOfMemory) }
     {
-        let left = self.unread();
-        let table = self.clone()?;
-        Ok(Verification {
-            table,
-            stage: Stage::start(),
-            left,
-        })
+        Ok(begin(self.clone()?))
     }
 
     /// What is still to be read of the counts before anything was.
