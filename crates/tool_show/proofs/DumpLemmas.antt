@@ -1,6 +1,7 @@
 -- Entries that are printed one after another.
 use Rattle.std.proofs.Common.{◌≡◌, refl, sym, ◌∙◌, ap, subst, Bool, true, false, ℕ, zero, suc}
-use Rattle.std.proofs.Common.{List, [], ◌∷◌, ◌++◌, ◌+◌, ◌-◌, ◌<◌, append_assoc, append-nil, arith}
+use Rattle.std.proofs.Common.{List, [], ◌∷◌, ◌++◌, ◌+◌, ◌-◌, ◌<◌, ◌≤◌, append_assoc, append-nil}
+use Rattle.std.proofs.Common.{arith}
 use Rattle.std.proofs.Common.{length, reverse, take}
 use Rattle.std.proofs.lemmas.List.{length-append, reverse-reverse}
 use Rattle.std.specs.Prelude.{Option, None, Some, Result, Ok, Err}
@@ -154,7 +155,7 @@ module _ {S : Type 0} (front back : S → Option (Result Entry Error) → S → 
     rest = es;
     deals = deals;
     lines = ([], refl, Appends-nil known);
-    counted = refl;
+    counted = omega arith;
     whole = refl;
   }
 
@@ -167,6 +168,13 @@ module _ {S : Type 0} (front back : S → Option (Result Entry Error) → S → 
         subst (λ (es : List Entry). PrintsLines format es old new) same before.lines,
         omega (arith, before.counted, ap length same),
       )
+
+  pub prints_end : (s : S) (from_end : Bool) (n m : ℕ) (format : Format) (all : List Entry)
+      (old new : Option (List ℕ)) → n ≤ 0 → Prints s from_end n m format all old new
+      → PrintsLines format all old new × (0 ≡ m - length all)
+  prints_end s from_end zero m format all old new none before =
+      prints_full s from_end m format all old new before
+  prints_end s from_end (suc n) m format all old new none before = absurd (omega (arith, none))
 
   nothing_left : (rest : List Entry) → first (ok_results rest) ≡ None → rest ≡ []
   nothing_left [] none = refl

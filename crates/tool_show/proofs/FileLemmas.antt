@@ -1,7 +1,9 @@
 -- Files, one after another.
 use Rattle.std.proofs.Common.{◌≡◌, refl, sym, ◌∙◌, ap, ℕ, ◌+◌, ◌<◌, List, [], ◌∷◌, ◌++◌, length, get_or}
 use Rattle.std.proofs.Common.{map, subst, take, true, false}
-use Rattle.std.specs.Prelude.{Bool, Option}
+use Rattle.std.specs.Prelude.{Bool, Option, Result, Ok, Err, IfErr}
+use Rattle.std.specs.Result.{IsErrAnd}
+use Rattle.sst_entries.specs.declared.error.Error.TheVariants.{OutOfMemory}
 use Rattle.std.proofs.lemmas.List.{map-append, take_more}
 use Rattle.sst_entries.specs.Error.{is_memory}
 use Rattle.sst_entries.specs.declared.error.Error.{Error}
@@ -79,3 +81,18 @@ pub faulty_blamed : {A : Type 0} (f : NamedTable A) (e : ShowError) → NamesOnl
 faulty_blamed f (show.Refused name place error) named faulty = (named.0, named.1, faulty)
 faulty_blamed f (show.Output error) named faulty = tt
 faulty_blamed f show.OutOfMemory named faulty = tt
+
+-- want of memory is no file's fault
+pub memory_blames_none : {X : Type 0} (r : Result X Failure) (e : Error)
+    → IsErrAnd r (λ x. x ≡ failure.Refused e) → is_memory e ≡ true → IfErr r BlamesNoFile
+memory_blames_none (Ok x) e is memory = tt
+memory_blames_none (Err x) e is memory = subst BlamesNoFile (sym is) memory
+
+-- a read that is refused, and not for want of memory, is one of a file that stores no list
+pub refused_faulty : {X : Type 0} (r : Result X Error) (e : Error) → r ≡ Err e
+    → is_memory e ≡ false → IfErr r (λ x. x ≡ OutOfMemory) → ⊥
+refused_faulty (Ok x) e is other memory = absurd cc
+refused_faulty (Err x) e is other memory =
+    let same : x ≡ e = cc in
+    let both : true ≡ false = sym (ap is_memory (sym same ∙ memory)) ∙ other in
+    absurd cc

@@ -1,5 +1,6 @@
 //! The blocks of a table that a verification reads, and those that do not load.
-ghost use Rattle.std.specs.Prelude.{◌≡◌, ◌++◌, ◌∷◌, [], IfErr, IfOk, List, OnOk, Some, map, unwrap_or};
+ghost use Rattle.std.specs.Prelude.{◌≡◌, ◌++◌, ◌∷◌, [], IfErr, IfOk, List, MatchOption};
+ghost use Rattle.std.specs.Prelude.{None, OnOk, Some, map, unwrap_or};
 ghost use Rattle.std.specs.List.{flat_map};
 ghost use Rattle.std.specs.Option.{option_map};
 ghost use Rattle.sst_blocks.specs.Block.{load_told};
@@ -14,7 +15,8 @@ ghost use Rattle.lsm_readers.specs.Table.{parts_of};
 ghost use Rattle.lsm_readers.specs.Verify.{filter_places};
 ghost use Rattle.tool_show.specs.Faults.{block_fault, blocks_below, data_at, filter_at};
 ghost use Rattle.tool_show.specs.Faults.{blocks_at, is_first, is_told, named_at, named_blocks};
-ghost use Rattle.tool_show.specs.Faults.{partition, region_blocks, told_handles};
+ghost use Rattle.tool_show.specs.Faults.{partition, region_blocks, told_handles, told_tops};
+ghost use Rattle.tool_show.specs.Faults.{top_blocks};
 ghost use Rattle.lsm_readers.specs.declared.verify.Finding.{Finding as FindingValue};
 ghost use denote.Ref.{Bor};
 
@@ -69,8 +71,7 @@ pub(crate) fn named_blocks<A: Allocator + Copy>(
         blocks.items ≡ named_blocks (body_of source.now) (parts_of inner.now)) }
 {
     let mut blocks = Vec::new(alloc);
-    let tops = inner.pinned_filter_index.as_ref();
-    add_filters(alloc, &mut blocks, tops, inner.regions.filter)?;
+    add_filters(alloc, &mut blocks, inner)?;
     add_index(alloc, &mut blocks, source, &inner.regions)?;
     Ok(blocks)
 }
@@ -87,27 +88,27 @@ pub(crate) fn region_blocks<A: Allocator + Copy>(
 {
     let mut blocks = Vec::new(alloc);
     blocks.push(named_at(SectionName::Meta, BlockType::Meta, regions.metadata))?;
-    match &regions.filter_tli {
-        None => add_filters(alloc, &mut blocks, None, regions.filter)?,
-        Some(tops) => add_tops(alloc, &mut blocks, source, tops)?,
-    }
+    add_told_filters(alloc, &mut blocks, source, regions)?;
     add_index(alloc, &mut blocks, source, regions)?;
     Ok(blocks)
 }
 
-// Adds the top level of a filter and the partitions that it names.
-fn add_tops<A: Allocator + Copy>(
+// Adds the blocks of the filter, as the bytes tell where they lie, with its top level.
+fn add_told_filters<A: Allocator + Copy>(
     alloc: A,
     blocks: &mut Vec<NamedBlock, A>,
     source: &BlockSource<A>,
-    tops: &BlockHandle,
+    regions: &ParsedRegions,
 ) -> Result<(), Error>
-    ensures { let handles = told_handles (body_of source.now) tops.now in
-        OnOk result (blocks.new.items ≡ blocks.old.items ++ (named_at section.FilterTli block.Index tops.now
-        ∷ map filter_at (map place_of handles))) }
+    ensures { let body = body_of source.now in let tops = regions.now.filter_tli in
+        OnOk result (blocks.new.items ≡ blocks.old.items ++ (top_blocks tops
+        ++ map filter_at (filter_places (told_tops body tops) regions.now.filter))) }
 {
-    blocks.push(named_at(SectionName::FilterTli, BlockType::Index, *tops))?;
-    let places = places_in(alloc, source, tops)?;
+    let Some(tops) = regions.filter_tli else {
+        return add_filter(blocks, regions.filter);
+    };
+    blocks.push(named_at(SectionName::FilterTli, BlockType::Index, tops))?;
+    let places = places_in(alloc, source, &tops)?;
     add_each(blocks, SectionName::Filter, BlockType::Filter, &places)
 }
 
@@ -141,6 +142,24 @@ fn places_of<A: Allocator + Copy>(
     Ok(places)
 }
 
+/// The handles of a block, if it loads. Refused for want of memory alone.
+pub(crate) fn handles_in<A: Allocator + Clone>(
+    source: &BlockSource<A>,
+    place: &BlockHandle,
+) -> Result<Option<IndexBlock<A>>, Error>
+    ensures ok { IfOk result (λ block. MatchOption block
+        (told_handles (body_of source.now) place.now ≡ [])
+        (λ handles. told_handles (body_of source.now) place.now ≡ handles)) }
+    ensures err { IfErr result (λ e. e ≡ OutOfMemory) }
+{
+    let mut opened = Opened::none();
+    match source.load(place, BlockType::Index, &mut opened) {
+        Ok(block) => Ok(Some(IndexBlock::new(block))),
+        Err(Error::OutOfMemory) => Err(Error::OutOfMemory),
+        Err(_) => Ok(None),
+    }
+}
+
 // Where the blocks lie that the handles in a block name: nowhere, where it does not load.
 fn places_in<A: Allocator + Copy>(
     alloc: A,
@@ -150,11 +169,9 @@ fn places_in<A: Allocator + Copy>(
     ensures { IfOk result (λ places.
         places.items ≡ map place_of (told_handles (body_of source.now) place.now)) }
 {
-    let mut opened = Opened::none();
-    match source.load(place, BlockType::Index, &mut opened) {
-        Ok(block) => places_of(alloc, &IndexBlock::new(block)),
-        Err(Error::OutOfMemory) => Err(Error::OutOfMemory),
-        Err(_) => Ok(Vec::new(alloc)),
+    match handles_in(source, place)? {
+        Some(handles) => places_of(alloc, &handles),
+        None => Ok(Vec::new(alloc)),
     }
 }
 
@@ -163,17 +180,26 @@ fn places_in<A: Allocator + Copy>(
 fn add_filters<A: Allocator + Copy>(
     alloc: A,
     blocks: &mut Vec<NamedBlock, A>,
-    tops: Option<&IndexBlock<A>>,
-    filter: Option<BlockHandle>,
+    inner: &TableInner<A>,
 ) -> Result<(), Error>
-    ensures { OnOk result (blocks.new.items ≡ blocks.old.items
-        ++ map filter_at (filter_places (option_map (λ (t : Bor (List Handle)). t.now) tops)
-        filter)) }
+    ensures { let parts = parts_of inner.now in OnOk result (blocks.new.items ≡ blocks.old.items
+        ++ map filter_at (filter_places parts.pinned.filter_tops parts.regions.filter)) }
 {
-    if let Some(tops) = tops {
+    if let Some(tops) = &inner.pinned_filter_index {
         let places = places_of(alloc, tops)?;
         return add_each(blocks, SectionName::Filter, BlockType::Filter, &places);
     }
+    add_filter(blocks, inner.regions.filter)
+}
+
+// Adds the one block of a filter, if there is one.
+fn add_filter<A: Allocator>(
+    blocks: &mut Vec<NamedBlock, A>,
+    filter: Option<BlockHandle>,
+) -> Result<(), Error>
+    ensures { OnOk result (blocks.new.items ≡ blocks.old.items
+        ++ map filter_at (filter_places None filter)) }
+{
     if let Some(place) = filter {
         blocks.push(named_at(SectionName::Filter, BlockType::Filter, place))?;
     }
@@ -249,7 +275,7 @@ pub(crate) fn refusal_of<A: Allocator + Clone>(
 
 /// Whether a finding, if there is one, says of a block that it does not load.
 pub(crate) fn is_told(finding: Option<&Finding>, block: &NamedBlock) -> bool
-    ensures { result ≡ is_told (option_map (λ (f : Bor FindingValue). f.now) finding) block.now }
+    ensures { result ≡ is_told (option_map (λ (f : Bor FindingValue). f.now) finding.entry) block.now }
 {
     match finding {
         None => false,

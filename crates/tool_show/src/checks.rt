@@ -251,7 +251,7 @@ fn print_unloaded<'a, A: Allocator + Copy, W: Write>(
     blocks: &[NamedBlock],
 ) -> Result<u64, ShowError<'a>>
     ensures count { IfOk result (λ count. count ≡ further_of (body_of source.now)
-        (option_map (λ (f : Bor FindingValue). f.now) finding) blocks.now) }
+        (option_map (λ (f : Bor FindingValue). f.now) finding.entry) blocks.now) }
     ensures unnamed { IfErr result NamesNone }
 {
     let mut count = 0u64;
@@ -273,7 +273,7 @@ fn print_block<'a, A: Allocator + Clone, W: Write>(
     block: &NamedBlock,
 ) -> Result<bool, ShowError<'a>>
     ensures told { IfOk result (λ told. told ≡ is_further (body_of source.now)
-        (option_map (λ (f : Bor FindingValue). f.now) finding) block.now) }
+        (option_map (λ (f : Bor FindingValue). f.now) finding.entry) block.now) }
     ensures unnamed { IfErr result NamesNone }
 {
     match refusal_of(source, block) {

@@ -7,7 +7,8 @@ ghost use Rattle.lsm_readers.specs.Stored.{StoresList};
 ghost use Rattle.lsm_readers.specs.Words.{lift};
 ghost use Rattle.lsm_runs.specs.RunLists.{DealsList};
 ghost use Rattle.tool_show.specs.Failures.{BlamesNoFile, NamesNone, NamesOnly};
-ghost use Rattle.tool_show.specs.Printed.{PrintsLine, PrintsLines, chosen, shown};
+ghost use Rattle.tool_show.specs.Printed.{PrintsLine, PrintsLines, chosen, from_key};
+ghost use Rattle.tool_show.specs.Printed.{shown, up_to_key};
 
 use crate::error::Failure;
 use crate::{NamedTable, ShowError};
@@ -79,6 +80,24 @@ fn dump_table<A: Allocator + Copy, W: Write>(
     ensures sound { (es : List Entry) → StoresList table.now.bytes es →
         IfErr result BlamesNoFile }
 {
+    let bounds = bounds_of(alloc, options)?;
+    let lines = Lines {
+        alloc,
+        format: options.format,
+        left,
+    };
+    dump_range(output, table, bounds, options.reverse, lines)
+}
+
+// The bounds of the keys that are asked for. Refused for want of memory alone.
+fn bounds_of<A: Allocator + Copy>(
+    alloc: A,
+    options: &DumpOptions<'_>,
+) -> Result<(Bound<UserKey<A>>, Bound<UserKey<A>>), Failure>
+    ensures lower { IfOk result (λ bounds. bounds.0 ≡ from_key options.now.from) }
+    ensures upper { IfOk result (λ bounds. bounds.1 ≡ up_to_key options.now.to) }
+    ensures memory { IfErr result BlamesNoFile }
+{
     let lower = match options.from {
         None => Bound::Unbounded,
         Some(key) => Bound::Included(Slice::from(alloc, key)?),
@@ -87,12 +106,7 @@ fn dump_table<A: Allocator + Copy, W: Write>(
         None => Bound::Unbounded,
         Some(key) => Bound::Excluded(Slice::from(alloc, key)?),
     };
-    let lines = Lines {
-        alloc,
-        format: options.format,
-        left,
-    };
-    dump_range(output, table, (lower, upper), options.reverse, lines)
+    Ok((lower, upper))
 }
 
 // How lines are written, and how many more.

@@ -146,11 +146,13 @@ fn refused_by<'a, A: Allocator + Copy>(
     if !file.table.key_range().contains_key(key) {
         return None;
     }
-    match file.table.get_by_key(key, seqno) {
-        Ok(_) => None,
-        Err(Error::OutOfMemory) => Some(ShowError::OutOfMemory),
-        Err(error) => Some(Failure::Refused(error).of_file(file)),
+    let Err(error) = file.table.get_by_key(key, seqno) else {
+        return None;
+    };
+    if error == Error::OutOfMemory {
+        return Some(ShowError::OutOfMemory);
     }
+    Some(Failure::Refused(error).of_file(file))
 }
 
 fn print_found<'a, A: Allocator + Copy, W: Write>(
@@ -241,7 +243,7 @@ fn print_opened<W: Write>(
 fn print_place<W: Write>(
     output: &mut W,
     section: SectionName,
-    loads: usize,
+    loads: u64,
     place: Option<BlockHandle>,
 ) -> io::Result<()> {
     match place {

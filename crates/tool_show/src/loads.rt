@@ -1,17 +1,12 @@
 //! Which blocks a read of a key loads.
-ghost use Rattle.std.specs.Prelude.{◌≡◌, ◌-◌, ◌^◌, IfErr, IfOk, find};
-ghost use Rattle.std.specs.Option.{option_map};
-ghost use Rattle.sst_blocks.specs.Handles.{reaches};
-ghost use Rattle.sst_blocks.specs.Place.{place_of};
+ghost use Rattle.std.specs.Prelude.{◌≡◌, IfErr, IfOk};
 ghost use Rattle.sst_entries.specs.declared.error.Error.TheVariants.{OutOfMemory};
 ghost use Rattle.sst_sections.specs.Sections.{body_of};
-ghost use Rattle.lsm_readers.specs.Table.{parts_of};
-ghost use Rattle.tool_show.specs.Faults.{told_handles};
-ghost use Rattle.tool_show.specs.Loads.{data_place, filter_place, index_place, reached};
+ghost use Rattle.tool_show.specs.Loads.{data_by, data_place, filter_place, index_place, reached};
 
-use crate::blocks::source_of;
-use lsm_readers::{Table, TableInner};
-use sst_blocks::{BlockHandle, BlockSource, BlockType, Error, IndexBlock, Opened, SeqNo};
+use crate::blocks::{handles_in, source_of};
+use lsm_readers::{ParsedRegions, Table};
+use sst_blocks::{BlockHandle, BlockSource, Error, SeqNo};
 use std::alloc::Allocator;
 
 /// Where the blocks lie that a read of a key asks, if it comes to them.
@@ -41,34 +36,10 @@ pub(crate) fn loaded_places<A: Allocator + Copy>(
     ensures err { IfErr result (λ e. e ≡ OutOfMemory) }
 {
     let source = source_of(alloc, table)?;
-    let inner: &TableInner<A> = table;
-    places_by(&source, inner, key, seqno)
-}
-
-fn places_by<A: Allocator + Copy>(
-    source: &BlockSource<A>,
-    inner: &TableInner<A>,
-    key: &[u8],
-    seqno: SeqNo,
-) -> Result<LoadedPlaces, Error>
-    ensures filter { IfOk result (λ p. p.filter
-        ≡ filter_place (body_of source.now) (parts_of inner.now).regions key.now) }
-    ensures index { IfOk result (λ p. p.index
-        ≡ index_place (body_of source.now) (parts_of inner.now).regions key.now seqno) }
-    ensures data { IfOk result (λ p. p.data
-        ≡ data_place (body_of source.now) (parts_of inner.now).regions key.now seqno) }
-    ensures err { IfErr result (λ e. e ≡ OutOfMemory) }
-{
-    let regions = &inner.regions;
-    let filter = match regions.filter_tli {
-        None => regions.filter,
-        Some(tops) => reached(source, Some(tops), key, SeqNo::MAX)?,
-    };
-    let index = match regions.index {
-        None => Some(regions.tli),
-        Some(_) => reached(source, Some(regions.tli), key, seqno)?,
-    };
-    let data = reached(source, index, key, seqno)?;
+    let regions = &table.regions;
+    let filter = filter_place(&source, regions, key)?;
+    let index = index_place(&source, regions, key, seqno)?;
+    let data = data_place(&source, &index, key, seqno)?;
     Ok(LoadedPlaces {
         filter,
         index,
@@ -76,24 +47,70 @@ fn places_by<A: Allocator + Copy>(
     })
 }
 
-// Where the first block lies whose handle in a block, if there is one and it loads, reaches a key and
-// a number. Refused for want of memory alone.
-fn reached<A: Allocator + Copy>(
+// Where the block of the filter lies that is asked for a key. Refused for want of memory alone.
+fn filter_place<A: Allocator + Copy>(
     source: &BlockSource<A>,
-    place: Option<BlockHandle>,
+    regions: &ParsedRegions,
+    key: &[u8],
+) -> Result<Option<BlockHandle>, Error>
+    ensures ok { IfOk result (λ p.
+        p ≡ filter_place (body_of source.now) regions.now key.now) }
+    ensures err { IfErr result (λ e. e ≡ OutOfMemory) }
+{
+    match regions.filter_tli {
+        None => Ok(regions.filter),
+        Some(tops) => reached(source, &tops, key, SeqNo::MAX),
+    }
+}
+
+// Where the block of the index lies that names the data block. Refused for want of memory alone.
+fn index_place<A: Allocator + Copy>(
+    source: &BlockSource<A>,
+    regions: &ParsedRegions,
     key: &[u8],
     seqno: SeqNo,
 ) -> Result<Option<BlockHandle>, Error>
-    ensures ok { IfOk result (λ p. p ≡ reached (body_of source.now) place key.now seqno) }
+    ensures ok { IfOk result (λ p.
+        p ≡ index_place (body_of source.now) regions.now key.now seqno) }
     ensures err { IfErr result (λ e. e ≡ OutOfMemory) }
 {
-    let Some(place) = place else {
-        return Ok(None);
-    };
-    let mut opened = Opened::none();
-    match source.load(&place, BlockType::Index, &mut opened) {
-        Ok(block) => Ok(IndexBlock::new(block).find(key, seqno)),
-        Err(Error::OutOfMemory) => Err(Error::OutOfMemory),
-        Err(_) => Ok(None),
+    let tli = regions.tli;
+    if regions.index.is_none() {
+        return Ok(Some(tli));
+    }
+    reached(source, &tli, key, seqno)
+}
+
+// Where the data block lies that a block of the index names, if there is one. Refused for want of
+// memory alone.
+fn data_place<A: Allocator + Copy>(
+    source: &BlockSource<A>,
+    index: &Option<BlockHandle>,
+    key: &[u8],
+    seqno: SeqNo,
+) -> Result<Option<BlockHandle>, Error>
+    ensures ok { IfOk result (λ p. p ≡ data_by (body_of source.now) index.now key.now seqno) }
+    ensures err { IfErr result (λ e. e ≡ OutOfMemory) }
+{
+    match index {
+        None => Ok(None),
+        Some(place) => reached(source, place, key, seqno),
+    }
+}
+
+// Where the first block lies whose handle in a block reaches a key and a number, if that block loads.
+// Refused for want of memory alone.
+fn reached<A: Allocator + Copy>(
+    source: &BlockSource<A>,
+    place: &BlockHandle,
+    key: &[u8],
+    seqno: SeqNo,
+) -> Result<Option<BlockHandle>, Error>
+    ensures ok { IfOk result (λ p. p ≡ reached (body_of source.now) place.now key.now seqno) }
+    ensures err { IfErr result (λ e. e ≡ OutOfMemory) }
+{
+    match handles_in(source, place)? {
+        Some(handles) => Ok(handles.find(key, seqno)),
+        None => Ok(None),
     }
 }

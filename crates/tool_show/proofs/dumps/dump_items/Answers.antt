@@ -1,5 +1,7 @@
 use Rattle.sst_entries.proofs.StreamLemmas.{can_now, can_now_back}
-use Rattle.tool_show.proofs.DumpLemmas.{may_go_on, prints_all, prints_none, prints_one}
+use Rattle.tool_show.proofs.DumpLemmas.{error_is_memory, may_go_on, prints_all, prints_end}
+use Rattle.tool_show.proofs.DumpLemmas.{prints_none, prints_one}
+use Rattle.tool_show.proofs.FileLemmas.{memory_blames_none}
 use Rattle.tool_show.proofs.dumps.dump_items.Goals as goal
 
 pub loop-left-init : goal.loop-left-init
@@ -24,3 +26,32 @@ loop-left-preserved g c = (
       c.loop-left-test.true c.in_ok-item-in-Some.was (c.loop-left.invariant.1 es deals)
       c.in-Some.ensures.front c.in-Some.ensures.back c.in_ok-print_entry-in-Some.ensures.printed,
 )
+
+pub returns-in-None : goal.returns-in-None
+returns-in-None g c = record {
+  printed = λ es deals. (prints_all _ _ c.loop-left.items c.take_item.new.items c.args.reverse
+      c.loop-left.left _ _ _ _ _ (c.loop-left.invariant.1 es deals) c.in-None.ensures.front
+      c.in-None.ensures.back).0;
+  left = λ es deals. (prints_all _ _ c.loop-left.items c.take_item.new.items c.args.reverse
+      c.loop-left.left _ _ _ _ _ (c.loop-left.invariant.1 es deals) c.in-None.ensures.front
+      c.in-None.ensures.back).1;
+  sound = λ es deals. tt;
+}
+
+pub returns : goal.returns
+returns g c = record {
+  printed = λ es deals. (prints_end _ _ c.loop-left.items c.args.reverse c.loop-left.left _ _ _ _ _
+      c.loop-left-test.false (c.loop-left.invariant.1 es deals)).0;
+  left = λ es deals. (prints_end _ _ c.loop-left.items c.args.reverse c.loop-left.left _ _ _ _ _
+      c.loop-left-test.false (c.loop-left.invariant.1 es deals)).1;
+  sound = λ es deals. tt;
+}
+
+pub returns-in_err-item-in-Some-clause-sound : goal.returns-in_err-item-in-Some-clause-sound
+returns-in_err-item-in-Some-clause-sound g c = λ es deals.
+    let before = c.loop-left.invariant.1 es deals in
+    memory_blames_none c.from_residual.result c.in_err-item-in-Some.field-0.0
+    c.from_residual.ensures.1
+    (error_is_memory _ _ c.loop-left.items c.take_item.new.items c.args.reverse c.in-Some.item
+    c.in_err-item-in-Some.field-0.0 before.rest c.in_err-item-in-Some.was before.deals
+    c.in-Some.ensures.front c.in-Some.ensures.back)

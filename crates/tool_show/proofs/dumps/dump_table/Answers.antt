@@ -1,0 +1,12 @@
+use Rattle.std.proofs.Common.{sym}
+use Rattle.tool_show.proofs.dumps.dump_table.Goals as goal
+
+pub returns-clause-printed : goal.returns-clause-printed
+returns-clause-printed g c = λ es stores.
+    rw (sym c.in_ok-bounds.ensures.lower, sym c.in_ok-bounds.ensures.upper)
+    (c.dump_range.ensures.printed es stores)
+
+pub returns-clause-left : goal.returns-clause-left
+returns-clause-left g c = λ es stores.
+    rw (sym c.in_ok-bounds.ensures.lower, sym c.in_ok-bounds.ensures.upper)
+    (c.dump_range.ensures.left es stores)
