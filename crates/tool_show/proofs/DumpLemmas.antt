@@ -16,7 +16,7 @@ use Rattle.sst_entries.proofs.StreamLemmas.{can_after_back, can_front, deals_bac
 use Rattle.sst_entries.proofs.StreamLemmas.{map_reverse}
 use Rattle.lsm_runs.specs.RunLists.{DealsList}
 use Rattle.tool_lines.specs.declared.entry_line.Format.{Format}
-use Rattle.tool_show.specs.Printed.{AreLinesOf, IsLineOf, PrintsLine, PrintsLines, in_turn, shown}
+use Rattle.tool_show.specs.Printed.{AreLinesOf, IsLineOf, PrintsLine, PrintsLines, in_turn, dumped}
 
 -- a line more behind others
 lines_more : (format : Format) (es : List Entry) (e : Entry) (text line : List ℕ)
@@ -51,14 +51,14 @@ module _ {S : Type 0} (front back : S → Option (Result Entry Error) → S → 
     pub deals : DealsList front back rest s
     pub lines : PrintsLines format printed old new
     pub counted : length printed + n ≡ m
-    pub whole : printed ++ shown from_end n rest ≡ all
+    pub whole : printed ++ dumped from_end n rest ≡ all
 
   -- what one answer leaves
   pub record Leaves (t : S) (from_end : Bool) (n : ℕ) (e : Entry) (rest : List Entry)
       : Type 0 where
     pub left : List Entry
     pub deals : DealsList front back left t
-    pub taken : shown from_end (suc n) rest ≡ e ∷ shown from_end n left
+    pub taken : dumped from_end (suc n) rest ≡ e ∷ dumped from_end n left
 
   front_by : (t : S) (n : ℕ) (e : Entry) (rest : List Entry)
       → Some (Ok e) ≡ first (ok_results rest)
@@ -126,7 +126,7 @@ module _ {S : Type 0} (front back : S → Option (Result Entry Error) → S → 
           Appends-trans old mid new before.lines.0 more.0 before.lines.2 more.2,
         );
         counted = omega (arith, length-append before.printed (e ∷ []), before.counted);
-        whole = append_assoc before.printed (e ∷ []) (shown from_end n one.left)
+        whole = append_assoc before.printed (e ∷ []) (dumped from_end n one.left)
             ∙ ap (λ (es : List Entry). before.printed ++ es) (sym one.taken) ∙ before.whole;
       }
 
@@ -149,7 +149,7 @@ module _ {S : Type 0} (front back : S → Option (Result Entry Error) → S → 
   -- nothing was printed yet
   pub prints_none : (s : S) (from_end : Bool) (n : ℕ) (format : Format) (es : List Entry)
       (known : Option (List ℕ)) → DealsList front back es s
-      → Prints s from_end n n format (shown from_end n es) known known
+      → Prints s from_end n n format (dumped from_end n es) known known
   prints_none s from_end n format es known deals = record {
     printed = [];
     rest = es;
@@ -182,7 +182,7 @@ module _ {S : Type 0} (front back : S → Option (Result Entry Error) → S → 
 
   none_shown : (s t : S) (from_end : Bool) (n : ℕ) (rest : List Entry)
       → DealsList front back rest s → (from_end ≡ false → front s None t)
-      → (from_end ≡ true → back s None t) → shown from_end n rest ≡ []
+      → (from_end ≡ true → back s None t) → dumped from_end n rest ≡ []
   none_shown s t false n rest deals front_step back_step =
       let one = deals_front (answer_stops (λ _. true)) front back s (ok_results rest) None t
       (deals (λ _. true) refl) (front_step refl) refl in

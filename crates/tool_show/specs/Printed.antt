@@ -36,13 +36,13 @@ abbrev pub PrintsLines : Format → List Entry → (old new : Option (List ℕ))
 PrintsLines format es old new = (text : List ℕ) × AreLinesOf format es text × Appends old new text
 
 -- what says that there is no entry
-abbrev pub none_line : Format → List ℕ
-none_line Lines = codes "none\n"
-none_line Json = codes "null\n"
+abbrev pub absent_line : Format → List ℕ
+absent_line Lines = codes "none\n"
+absent_line Json = codes "null\n"
 
 -- the line of the version that a reader sees, or that there is none
 abbrev pub IsFoundLine : Format → Option Entry → List ℕ → Type 0
-IsFoundLine format None line = line ≡ none_line format
+IsFoundLine format None line = line ≡ absent_line format
 IsFoundLine format (Some e) line = IsLineOf format e line
 
 abbrev pub PrintsFound : Format → Option Entry → (old new : Option (List ℕ)) → Type 0
@@ -55,8 +55,8 @@ in_turn false es = es
 in_turn true es = reverse es
 
 -- so many of them at most
-abbrev pub shown : Bool → ℕ → List Entry → List Entry
-shown back n es = take n (in_turn back es)
+abbrev pub dumped : Bool → ℕ → List Entry → List Entry
+dumped back n es = take n (in_turn back es)
 
 -- from a first key on, and up to a key that is left out
 abbrev pub from_key : Option (Bor (List ℕ)) → Bound (List ℕ)

@@ -8,7 +8,7 @@ ghost use Rattle.lsm_readers.specs.Words.{lift};
 ghost use Rattle.lsm_runs.specs.RunLists.{DealsList};
 ghost use Rattle.tool_show.specs.Failures.{BlamesNoFile, NamesNone, NamesOnly};
 ghost use Rattle.tool_show.specs.Printed.{PrintsLine, PrintsLines, chosen, from_key};
-ghost use Rattle.tool_show.specs.Printed.{shown, up_to_key};
+ghost use Rattle.tool_show.specs.Printed.{dumped, up_to_key};
 
 use crate::error::Failure;
 use crate::{NamedTable, ShowError};
@@ -45,11 +45,11 @@ pub fn dump<'a, A: Allocator + Copy, W: Write>(
     // be.
     ensures printed { let t = file.now.table in (es : List Entry) → StoresList t.bytes es →
         OnOk result (PrintsLines options.now.format
-        (shown options.now.reverse left (chosen options.now t es))
+        (dumped options.now.reverse left (chosen options.now t es))
         (W.contents output.old) (W.contents output.new)) }
     ensures left { let t = file.now.table in (es : List Entry) → StoresList t.bytes es →
         IfOk result (λ rest. rest ≡
-        left - length (shown options.now.reverse left (chosen options.now t es))) }
+        left - length (dumped options.now.reverse left (chosen options.now t es))) }
     // Where a file is named, it is this one, and so is the block that is named; and its bytes store
     // no list.
     ensures named { IfErr result (NamesOnly file.now) }
@@ -72,11 +72,11 @@ fn dump_table<A: Allocator + Copy, W: Write>(
 ) -> Result<u64, Failure>
     ensures printed { let t = table.now in (es : List Entry) → StoresList t.bytes es →
         OnOk result (PrintsLines options.now.format
-        (shown options.now.reverse left (chosen options.now t es))
+        (dumped options.now.reverse left (chosen options.now t es))
         (W.contents output.old) (W.contents output.new)) }
     ensures left { let t = table.now in (es : List Entry) → StoresList t.bytes es →
         IfOk result (λ rest. rest ≡
-        left - length (shown options.now.reverse left (chosen options.now t es))) }
+        left - length (dumped options.now.reverse left (chosen options.now t es))) }
     ensures sound { (es : List Entry) → StoresList table.now.bytes es →
         IfErr result BlamesNoFile }
 {
@@ -126,11 +126,11 @@ fn dump_range<A: Allocator + Copy, W: Write>(
 ) -> Result<u64, Failure>
     ensures printed { let t = table.now in (es : List Entry) → StoresList t.bytes es →
         OnOk result (PrintsLines lines.format
-        (shown reverse lines.left (within bounds.0 bounds.1 (lift es t.global_seqno)))
+        (dumped reverse lines.left (within bounds.0 bounds.1 (lift es t.global_seqno)))
         (W.contents output.old) (W.contents output.new)) }
     ensures left { let t = table.now in (es : List Entry) → StoresList t.bytes es →
         IfOk result (λ rest. rest ≡ lines.left
-        - length (shown reverse lines.left (within bounds.0 bounds.1 (lift es t.global_seqno)))) }
+        - length (dumped reverse lines.left (within bounds.0 bounds.1 (lift es t.global_seqno)))) }
     ensures sound { (es : List Entry) → StoresList table.now.bytes es →
         IfErr result BlamesNoFile }
 {
@@ -148,10 +148,10 @@ fn dump_items<I: DoubleEndedIterator<Item = IterItem<A>> + Drop, A: Allocator + 
     requires can { CanDeal I.next_gives I.next_back_gives I.can_next I.can_next_back items }
     // The first of the entries are printed, or the last of them from the end on.
     ensures printed { (es : List Entry) → DealsList I.next_gives I.next_back_gives es items →
-        OnOk result (PrintsLines lines.format (shown reverse lines.left es)
+        OnOk result (PrintsLines lines.format (dumped reverse lines.left es)
         (W.contents output.old) (W.contents output.new)) }
     ensures left { (es : List Entry) → DealsList I.next_gives I.next_back_gives es items →
-        IfOk result (λ rest. rest ≡ lines.left - length (shown reverse lines.left es)) }
+        IfOk result (λ rest. rest ≡ lines.left - length (dumped reverse lines.left es)) }
     ensures sound { (es : List Entry) → DealsList I.next_gives I.next_back_gives es items →
         IfErr result BlamesNoFile }
 {

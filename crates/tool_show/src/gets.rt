@@ -10,7 +10,7 @@ ghost use Rattle.sst_entries.specs.Point.{point};
 ghost use Rattle.sst_entries.specs.declared.error.Error.TheVariants.{OutOfMemory};
 ghost use Rattle.tool_show.specs.Failures.{BlamesFaulty, NamesFaulty, NamesNone};
 ghost use Rattle.tool_show.specs.Files.{runs_in};
-ghost use Rattle.tool_show.specs.Printed.{PrintsFound, none_line};
+ghost use Rattle.tool_show.specs.Printed.{PrintsFound, absent_line};
 
 use crate::error::Failure;
 use crate::loads::{LoadedPlaces, loaded_places};
@@ -167,7 +167,7 @@ fn print_found<'a, A: Allocator + Copy, W: Write>(
 {
     match found {
         None => {
-            output.write_all(none_line(format))?;
+            output.write_all(absent_line(format))?;
             Ok(())
         }
         Some(item) => {
@@ -179,8 +179,8 @@ fn print_found<'a, A: Allocator + Copy, W: Write>(
 }
 
 // What says that there is no entry.
-fn none_line(format: Format) -> &'static [u8]
-    ensures { result.now ≡ none_line format }
+fn absent_line(format: Format) -> &'static [u8]
+    ensures { result.now ≡ absent_line format }
 {
     match format {
         Format::Lines => b"none\n",

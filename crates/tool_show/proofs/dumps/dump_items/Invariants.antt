@@ -4,7 +4,7 @@ use Rattle.sst_entries.specs.Entry.{Entry}
 use Rattle.sst_entries.specs.Stream.{CanDeal}
 use Rattle.lsm_runs.specs.RunLists.{DealsList}
 use Rattle.tool_show.proofs.DumpLemmas.{Prints}
-use Rattle.tool_show.specs.Printed.{shown}
+use Rattle.tool_show.specs.Printed.{dumped}
 use Rattle.tool_show.proofs.dumps.dump_items.Given as goal
 
 abbrev pub invariant-loop-left : goal.invariant-loop-left
@@ -14,7 +14,7 @@ invariant-loop-left g l =
     × ((es : List Entry)
     → DealsList g.I.Iterator.next_gives g.I.DoubleEndedIterator.next_back_gives es l.fn.items
     → Prints g.I.Iterator.next_gives g.I.DoubleEndedIterator.next_back_gives l.items l.reverse
-    l.left l.fn.lines.left l.lines.format (shown l.reverse l.fn.lines.left es)
+    l.left l.fn.lines.left l.lines.format (dumped l.reverse l.fn.lines.left es)
     (g.W.Write.contents l.fn.output) (g.W.Write.contents l.output))
 
 abbrev pub decreases-loop-left : goal.decreases-loop-left
