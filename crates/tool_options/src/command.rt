@@ -67,7 +67,8 @@ fn with_options<'a>(
     command: Command<'a>,
     options: &'static [ArgumentText],
 ) -> Result<Command<'a>, AllocError>
-    ensures app { IfOk result (λ c. app_of c ≡ fold with_option (app_of command.entry) options.now) }
+    ensures app { let app = app_of command.entry in
+        IfOk result (λ c. app_of c ≡ fold with_option app options.now) }
     ensures local { IfOk result (λ c.
         (out-Command c).has_globals ≡ (out-Command command.entry).has_globals) }
 {
@@ -94,7 +95,8 @@ fn valued<'a>(argument: Arg<'a>, text: &'static ArgumentText) -> Arg<'a>
 
 // An argument with what is taken where it is left out, if anything is.
 fn with_standard<'a>(argument: Arg<'a>, standard: Option<&'static str>) -> Arg<'a>
-    ensures rule { rule_of result ≡ with_standard (text_in standard.entry) (rule_of argument.entry) }
+    ensures rule { let rule = rule_of argument.entry in
+        rule_of result ≡ with_standard (text_in standard.entry) rule }
     ensures local { result.global ≡ argument.entry.global }
 {
     match standard {

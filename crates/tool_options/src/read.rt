@@ -165,7 +165,8 @@ fn flag(matches: &ArgMatches<'_>, name: &str) -> bool
 
 // The words that stand in places of their own.
 fn files<'a>(alloc: Global, matches: &ArgMatches<'a>) -> Result<Vec<&'a str>, AllocError>
-    ensures { IfOk result (λ files. texts_of files.items ≡ placed (rows_of (found_of matches.now))) }
+    ensures { let rows = rows_of (found_of matches.now) in
+        IfOk result (λ files. texts_of files.items ≡ placed rows) }
 {
     match matches.get_strs("files") {
         Some(files) => files.to_vec(alloc),

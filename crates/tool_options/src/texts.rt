@@ -311,8 +311,8 @@ so on.",
         place: Some(FILES_AND_KEY),
         options: &GET_OPTIONS,
         notes: "\
-Each file is a run of its own. Prints none, and exits with 1, where the key
-has no version below N.",
+Each file is a run of its own. Prints none, with --json null, and exits with 1,
+where the key has no version below N.",
     },
     CommandText {
         name: "stat",

@@ -102,7 +102,7 @@ pub(crate) fn seconds_left(done: u64, all: u64, millis: u64) -> Option<u64>
     Some(u64::try_from(seconds).unwrap_or(u64::MAX))
 }
 
-// The same part of a size as so many bytes are of all.
+// So large a part of a size as `done` is of `all`.
 fn part_of(size: u64, done: u64, all: u64) -> u64 {
     let part = u128::from(size).saturating_mul(u128::from(done));
     match part.checked_div(u128::from(all)) {
