@@ -10,7 +10,7 @@ use Rattle.tool_files.specs.declared.file_error.FileError.{FileError}
 use Rattle.tool_files.specs.declared.file_error.FileFault.{FileFault}
 use Rattle.tool_files.specs.declared.file_error.FileFault.TheVariants.{AfterOthers, CutShort, Folder}
 use Rattle.tool_files.specs.declared.file_error.FileFault.TheVariants.{Io, Left, NamesTaken, NotPlain}
-use Rattle.tool_files.specs.declared.file_error.FileFault.TheVariants.{NotSynced, Refused}
+use Rattle.tool_files.specs.declared.file_error.FileFault.TheVariants.{NotSynced, Refused, Taken}
 use Rattle.tool_files.specs.declared.write.Beside.{Beside}
 use Rattle.tool_files.specs.declared.write.NewFile.{NewFile}
 use Rattle.tool_files.specs.Placed.{AreBeside, AreNotPlaced, AreNotPut, ArePlaced, IsEarly}
@@ -354,6 +354,7 @@ put_names {A} (Err e) one new wanted bs named are same h =
 -- what holds of it, and what follows of that
 if_left : (fault : FileFault) (X Y : Type 0) → (X → Y) → IfLeft fault X → IfLeft fault Y
 if_left Folder X Y f h = tt
+if_left Taken X Y f h = tt
 if_left NotPlain X Y f h = tt
 if_left Left X Y f h = f h
 if_left (CutShort read size) X Y f h = tt
@@ -376,17 +377,19 @@ left_named (Err e) next there known new h =
 -- none is told where files are placed
 early_none : (fault : FileFault) → IsEarly fault → IfLeft fault ⊥
 early_none Folder h = tt
+early_none Taken h = absurd h
 early_none NotPlain h = tt
-early_none Left h = h
-early_none (CutShort read size) h = tt
+early_none Left h = absurd h
+early_none (CutShort read size) h = absurd h
 early_none NamesTaken h = tt
-early_none (AfterOthers renamed error) h = tt
-early_none (NotSynced error) h = tt
+early_none (AfterOthers renamed error) h = absurd h
+early_none (NotSynced error) h = absurd h
 early_none (Io error) h = tt
 early_none (Refused error) h = tt
 
 renamed_none : (fault : FileFault) (n : ℕ) → TellsRenamed fault n → IfLeft fault ⊥
 renamed_none Folder n h = tt
+renamed_none Taken n h = tt
 renamed_none NotPlain n h = tt
 renamed_none Left n h = h
 renamed_none (CutShort read size) n h = tt
@@ -398,6 +401,7 @@ renamed_none (Refused error) n h = tt
 
 synced_none : (fault : FileFault) → IsNotSynced fault → IfLeft fault ⊥
 synced_none Folder h = tt
+synced_none Taken h = tt
 synced_none NotPlain h = tt
 synced_none Left h = h
 synced_none (CutShort read size) h = tt

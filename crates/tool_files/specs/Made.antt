@@ -1,7 +1,7 @@
 -- What was made, in words.
 use Rattle.std.specs.Prelude.{ℕ, ◌==◌, List, ◌++◌, codes, if◌then◌else◌}
 use Rattle.std.specs.Fmt.{decimal}
-use Rattle.tool_make.specs.declared.made.Made.{Made}
+use Rattle.tool_files.specs.declared.made.Made.{Made}
 
 -- the word for so many
 abbrev pub word_for : ℕ → List ℕ → List ℕ → List ℕ

@@ -1,7 +1,7 @@
 //! What was made.
 ghost use Rattle.std.specs.Prelude.{◌≡◌, List, OnOk, ℕ};
 ghost use Rattle.std.specs.Io.KnownBytes.{Appends};
-ghost use Rattle.tool_make.specs.Made.{made_line, word_for};
+ghost use Rattle.tool_files.specs.Made.{made_line, word_for};
 
 use std::io;
 use std::io::Write;
