@@ -1,11 +1,11 @@
 -- Tables that are opened.
 use denote.Ref.{Bor}
-use Rattle.std.proofs.Common.{◌≡◌, refl, sym, ◌∙◌, ap, subst, ℕ, ◌+◌, ◌<◌, List, [], ◌∷◌, ◌++◌}
-use Rattle.std.proofs.Common.{Bool, true, false, true≢false, get_or, length, take, drop}
-use Rattle.std.specs.Prelude.{IfErr, IfOk, Option, Some, None, Result, Ok, Err}
+use Rattle.std.proofs.Common.{◌≡◌, sym, ◌∙◌, ap, subst, ℕ, ◌+◌, ◌<◌, List, [], ◌∷◌, ◌++◌}
+use Rattle.std.proofs.Common.{Bool, true, true≢false, get_or, length, take, drop}
+use Rattle.std.specs.Prelude.{IfErr, IfOk, IfSome, Option, Some, None, Result, Ok, Err}
 use Rattle.std.specs.Result.{IsErrAnd}
 use Rattle.std.proofs.lemmas.List.{get_or_default, take_more}
-use Rattle.logpurple.specs.Words.{Error, Gives, OpenTable, OutOfMemory, is_memory, recovered_told}
+use Rattle.logpurple.specs.Words.{Error, Gives, OpenTable, is_memory, recovered_told}
 use Rattle.tool_files.specs.declared.file_error.FileError.{FileError}
 use Rattle.tool_files.specs.declared.file_error.FileFault.{FileFault}
 use Rattle.tool_files.specs.declared.file_error.FileFault.TheVariants.{AfterOthers, CutShort, Folder}
@@ -62,6 +62,16 @@ told_read pinned known NamesTaken h = tt
 told_read pinned known (AfterOthers renamed error) h = tt
 told_read pinned known (NotSynced error) h = tt
 told_read pinned known (Io error) h = tt
+
+-- what the bytes that were read tell, the file's bytes tell
+pub refused_told : (pinned : Bool) (known : Option (List ℕ)) (bytes : List ℕ) (e : Error)
+    → IfSome known (λ k. bytes ≡ k)
+    → Gives (λ (t : OpenTable). t.parts) (Err e) (recovered_told bytes 0 pinned pinned)
+    → TellsRefused pinned known (Refused e)
+refused_told pinned None bytes e same told = tt
+refused_told pinned (Some k) bytes e same told =
+    subst (λ (bs : List ℕ). Gives (λ (t : OpenTable). t.parts) (Err e)
+    (recovered_told bs 0 pinned pinned)) same told
 
 -- ---- several files
 

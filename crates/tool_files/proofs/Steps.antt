@@ -1,7 +1,7 @@
 -- Steps, one behind another.
 use Rattle.std.proofs.Common.{◌≡◌, refl, sym, ◌∙◌, ap, subst, ℕ, ◌+◌, ◌<◌, List, [], ◌∷◌, ◌++◌}
 use Rattle.std.proofs.Common.{append-nil, append_assoc, arith, drop, get_or, inl, inr, length}
-use Rattle.std.proofs.Common.{length-append, take, ◌⊎◌}
+use Rattle.std.proofs.Common.{length-append, take}
 use Rattle.std.specs.Prelude.{Any, IfErr, IfSome, Option, Some, None, Result, Ok, Err, map, string_bytes}
 use Rattle.std.specs.List.{AllByRecursion}
 use Rattle.std.proofs.lemmas.List.{drop_more, get_or_at, get_or_default, length-map, length-take-le, map-append}
@@ -14,11 +14,11 @@ use Rattle.tool_files.specs.declared.file_error.FileFault.TheVariants.{NotSynced
 use Rattle.tool_files.specs.declared.write.Beside.{Beside}
 use Rattle.tool_files.specs.declared.write.NewFile.{NewFile}
 use Rattle.tool_files.specs.Placed.{AreBeside, AreNotPlaced, AreNotPut, ArePlaced, IsEarly}
-use Rattle.tool_files.specs.Placed.{IsNotSynced, Standing, StandsBeside, StopRenaming, StopSyncing}
-use Rattle.tool_files.specs.Placed.{StopWriting, StopPutting, StopsRenamingAt, StopsBefore, TellsRenamed}
+use Rattle.tool_files.specs.Placed.{IsNotSynced, Standing, StandsBeside, StopSyncing}
+use Rattle.tool_files.specs.Placed.{StopsRenamingAt, StopsBefore, TellsRenamed}
 use Rattle.tool_files.specs.Files.{path_text}
 use Rattle.tool_files.specs.Placed.{IfLeft, TellsLeft, removing, renaming, syncing, writing}
-use Rattle.tool_files.specs.Standing.{IsAdded, IsWritten, standing_in, standing_of}
+use Rattle.tool_files.specs.Standing.{IsAdded, standing_in, standing_of}
 use Rattle.std.proofs.Common.{Bool, true, false}
 use Rattle.tool_files.specs.Steps.{Step, then_done, written_if}
 use Rattle.tool_files.specs.Steps.Step.{Renamed, Wrote}

@@ -4,6 +4,7 @@
 mod file_error;
 mod file_name;
 mod made;
+mod numbered;
 mod open;
 mod place;
 mod read;
@@ -13,6 +14,7 @@ mod write;
 pub use file_error::{FileError, FileFault};
 pub use file_name::FileName;
 pub use made::{Made, print_made};
+pub use numbered::table_files;
 pub use open::{open_bytes, open_table, open_tables};
 pub use place::{Disk, Place};
 pub use read::{read_file, read_whole};

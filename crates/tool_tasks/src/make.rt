@@ -9,8 +9,9 @@ use logpurple::{BloomConstructionPolicy, IndexKind, Rules, Timestamp};
 use std::io::{Read, Write};
 use std::rt::{Clock, Files};
 use tool_compact::{CompactOptions, compact_files, pack_files, print_packed};
+use tool_files::{Disk, print_made};
 use tool_lines::Format;
-use tool_make::{Made, WriteOptions, print_made, write_entries};
+use tool_make::{WriteOptions, write_entries};
 use tool_options::{CompactTask, PackTask, WriteTask};
 
 /// How a line spells an entry.
@@ -80,6 +81,13 @@ fn compact_options(task: &CompactTask<'_>, created_at: Timestamp) -> CompactOpti
     }
 }
 
+// The system's files.
+fn place_of<'r, R: Files, C: Clock>(system: &System<'r, R, C>) -> Disk<'r, R> {
+    Disk {
+        files: system.files,
+    }
+}
+
 /// Writes a table of the entries that the input has, and says how many there were.
 pub(crate) fn write<'a, R: Files, C: Clock, I: Read + Drop, W: Write>(
     system: System<'_, R, C>,
@@ -88,7 +96,8 @@ pub(crate) fn write<'a, R: Files, C: Clock, I: Read + Drop, W: Write>(
     output: &mut W,
 ) -> Result<(), Failure<'a>> {
     let options = write_options(task, now(system.clock));
-    let made = write_entries(system.files, system.alloc, input, task.file, &options)?;
+    let mut place = place_of(&system);
+    let made = write_entries(&mut place, system.alloc, input, task.file, &options)?;
     print_made(output, made)?;
     Ok(())
 }
@@ -101,11 +110,8 @@ pub(crate) fn compact<'a, R: Files, C: Clock, W: Write>(
 ) -> Result<(), Failure<'a>> {
     let options = compact_options(task, now(system.clock));
     let files = task.files.as_slice();
-    let made = compact_files(system.files, system.alloc, files, task.folder, &options)?;
-    let made = Made {
-        tables: made.tables,
-        entries: made.entries,
-    };
+    let mut place = place_of(&system);
+    let made = compact_files(&mut place, system.alloc, files, task.folder, &options)?;
     print_made(output, made)?;
     Ok(())
 }
@@ -117,7 +123,7 @@ pub(crate) fn pack<'a, R: Files, C: Clock, W: Write>(
     output: &mut W,
 ) -> Result<(), Failure<'a>> {
     let files = task.files.as_slice();
-    let packed = pack_files(system.files, system.alloc, files)?;
+    let packed = pack_files(&place_of(&system), system.alloc, files)?;
     print_packed(output, files, &packed)?;
     Ok(())
 }

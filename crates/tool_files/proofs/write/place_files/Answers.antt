@@ -1,4 +1,4 @@
-use Rattle.tool_files.proofs.Steps.{none_left, put_names, put_refused}
+use Rattle.tool_files.proofs.Steps.{put_names, put_refused}
 use Rattle.tool_files.proofs.write.place_files.Goals as goal
 
 pub returns-in-Ok-clause-refused : goal.returns-in-Ok-clause-refused
