@@ -410,11 +410,11 @@ goes_row {A} format input left new line rows count row h loses some reads =
     (sym (map-append (λ (r : Numbered A). r.entry) rows (row ∷ [])))
     (goes_more format input left new line (row_entries rows) count row.entry h loses some reads)
 
--- a line that is told to be empty
-pub no_bytes : (line : List ℕ) (len : ℕ) (empty : Bool) → len ≡ length line
-    → empty ≡ (len == 0) → empty ≡ true → line ≡ []
-no_bytes line len empty long told is =
-    nil_from_length line (sym long ∙ eqb-true len 0 (sym told ∙ is))
+-- a list that is told to be empty
+pub no_items : {X : Type 0} (xs : List X) (len : ℕ) (empty : Bool) → len ≡ length xs
+    → empty ≡ (len == 0) → empty ≡ true → xs ≡ []
+no_items xs len empty long told is =
+    nil_from_length xs (sym long ∙ eqb-true len 0 (sym told ∙ is))
 
 -- the input or memory is refused, and no line
 pub stops_else : (format : Format) (input : Option (List ℕ)) (w : TablesWriting)

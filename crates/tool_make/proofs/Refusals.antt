@@ -110,27 +110,27 @@ told_end (Err e) o input w m count is taken h = end_refused o input w m count e 
 
 -- ---- no tables are those of no entries
 
-none_joined : {A : Type 0} (options : Options) (label : Label) (lists : List (List Entry))
+none_joined : (A : Type 0) (options : Options) (label : Label) (lists : List (List Entry))
     → AreFinished {A = A} options label lists [] → joined lists ≡ []
-none_joined options label [] h = refl
-none_joined options label (l ∷ lists) h = absurd h
+none_joined A options label [] h = refl
+none_joined A options label (l ∷ lists) h = absurd h
 
-none_all : {A : Type 0} (w : TablesWriting) (es : List Entry) → WritesAll {A = A} w es []
+none_all : (A : Type 0) (w : TablesWriting) (es : List Entry) → WritesAll {A = A} w es []
     → es ≡ []
-none_all {A} w es h = sym h.1.cut.whole ∙ none_joined {A} _ _ h.1.lists h.1.finished
+none_all A w es h = sym h.1.cut.whole ∙ none_joined A _ _ h.1.lists h.1.finished
 
-none_sorted : {A : Type 0} (sort : Bool) (w : TablesWriting) (es : List Entry)
+none_sorted : (A : Type 0) (sort : Bool) (w : TablesWriting) (es : List Entry)
     → WritesSorted {A = A} sort w es [] → es ≡ []
-none_sorted {A} false w es h = none_all {A} w es h
-none_sorted {A} true w es h =
+none_sorted A false w es h = none_all A w es h
+none_sorted A true w es h =
     nil_from_length es (sym (length_permutation es h.0 h.1)
-    ∙ ap (λ (xs : List Entry). length xs) (none_all {A} w h.0 h.2))
+    ∙ ap (λ (xs : List Entry). length xs) (none_all A w h.0 h.2))
 
 pub none_spelled : {A : Type 0} (o : WriteOptions) (input : Option (List ℕ))
     (fs : List (FinishedTable A)) (count : ℕ) → AreOfLines o input fs count → fs ≡ []
     → HasEntries o.format input []
 none_spelled {A} o input fs count h none =
     subst (λ (es : List Entry). HasEntries o.format input es)
-    (none_sorted {A} o.sort (writer_by o) h.entries
+    (none_sorted A o.sort (writer_by o) h.entries
     (subst (λ (xs : List (FinishedTable A)). WritesSorted o.sort (writer_by o) h.entries xs) none
     h.written)) h.spelled

@@ -3,7 +3,7 @@ use Rattle.logpurple.specs.Words.{OutOfMemory}
 use Rattle.tool_make.specs.declared.make_error.MakeError.TheVariants.{Refused}
 use Rattle.tool_make.specs.Entries.{numbered, row_entries}
 use Rattle.tool_make.specs.Faults.{StopsReading, TellsSpelling}
-use Rattle.tool_make.proofs.Lines.{at_end, goes_empty, goes_end, goes_row, handed_on, lost, no_bytes}
+use Rattle.tool_make.proofs.Lines.{at_end, goes_empty, goes_end, goes_row, handed_on, lost, no_items}
 use Rattle.tool_make.proofs.Lines.{reading_else, reads_at, rows_empty, rows_end, rows_row}
 use Rattle.tool_make.proofs.Lines.{stops_reading}
 use Rattle.tool_make.proofs.entries.collect_lines.Goals as goal
@@ -36,7 +36,7 @@ loop-before-preserved g c =
             rows = rows_row c.args.format input (left c.loop-before.input) (left c.read_line.new.input) line rows c.loop-before.before _ h.rows loses (search rules) refl (reads_at c.args.format line w.deref.result.now _ (search rules) w.in_ok-entry.ensures.ok);
           }
       | else-not-is_empty w ↦
-          let none = no_bytes line c.read_line.new.line.len c.is_empty.result (search rules) (search rules) (search rules) in
+          let none = no_items line c.read_line.new.line.len c.is_empty.result (search rules) (search rules) (search rules) in
           rw w.rows-is record {
             entries = goes_empty c.args.format input (left c.loop-before.input) (left c.read_line.new.input) line (row_entries rows) c.loop-before.before h.entries loses none;
             rows = rows_empty c.args.format input (left c.loop-before.input) (left c.read_line.new.input) line (numbered rows) c.loop-before.before h.rows loses none;

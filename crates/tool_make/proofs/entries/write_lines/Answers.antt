@@ -1,7 +1,7 @@
 use Rattle.std.proofs.Common.{rules, arith}
 use Rattle.tool_make.specs.Faults.{StopsIn, TellsLine}
 use Rattle.std.proofs.Common.{◌+◌, subst}
-use Rattle.tool_make.proofs.Lines.{at_end, handed_on, lost, no_bytes, stops_else}
+use Rattle.tool_make.proofs.Lines.{at_end, handed_on, lost, no_items, stops_else}
 use Rattle.tool_make.proofs.Taken.{lines_empty, lines_end, lines_more, lines_stop}
 use Rattle.tool_make.proofs.entries.write_lines.Goals as goal
 use Rattle.tool_make.proofs.entries.write_lines.Goals.{then-not-is_empty+in_ok-write_line, else-not-is_empty}
@@ -28,7 +28,7 @@ loop-before-preserved g c =
           }
       | else-not-is_empty v ↦
           rw (v.writer-is, v.count-is) record {
-            took = lines_empty c.args.format input (left c.loop-before.input) (left c.read_line.new.input) line w c.loop-before.writer c.loop-before.count c.loop-before.before h.took loses (no_bytes line c.read_line.new.line.len c.is_empty.result (search rules) (search rules) (search rules));
+            took = lines_empty c.args.format input (left c.loop-before.input) (left c.read_line.new.input) line w c.loop-before.writer c.loop-before.count c.loop-before.before h.took loses (no_items line c.read_line.new.line.len c.is_empty.result (search rules) (search rules) (search rules));
             few = omega (arith, h.few);
           }
     ]
