@@ -1,11 +1,15 @@
 -- What is said of a file that is at fault.
 use denote.Ref.{Bor}
-use Rattle.std.proofs.Common.{◌≡◌, refl, Bool, true, false, ℕ, List}
-use Rattle.std.specs.Prelude.{if◌then◌else◌}
+use Rattle.std.proofs.Common.{◌≡◌, refl, sym, subst, Bool, true, false, ℕ, List}
+use Rattle.std.specs.Prelude.{IfErr, Option, Result, Ok, Err, if◌then◌else◌}
+use Rattle.std.specs.Result.{IsErrAnd}
 use Rattle.tool_files.specs.declared.file_error.FileError.{FileError}
+use Rattle.tool_files.specs.Files.{is_memory_fault}
+use Rattle.tool_files.specs.Opened.{StopsOpening}
 use Rattle.logpurple.specs.Words.{OutOfMemory}
+use Rattle.tool_compact.specs.declared.compact_error.CompactError.{CompactError}
 use Rattle.tool_compact.specs.declared.compact_error.CompactError.TheVariants as error
-use Rattle.tool_compact.specs.Blamed.{BlamesNoneForMemory, blamed, is_memory_fault}
+use Rattle.tool_compact.specs.Blamed.{BlamesNoneForMemory, blamed}
 use Rattle.tool_compact.specs.Compacted.{IfOutOfOrder}
 use Rattle.tool_compact.specs.Packed.{RefusesToPack}
 
@@ -27,11 +31,14 @@ memory_by e false is = is
 pub blamed_memory : (e : FileError) → BlamesNoneForMemory (blamed e)
 blamed_memory e = memory_by e (is_memory_fault e.fault) refl
 
-packs_by : (paths : List (Bor (List ℕ))) (e : FileError) (b : Bool) → is_memory_fault e.fault ≡ b
-    → RefusesToPack paths (if b then error.Refused OutOfMemory else error.File e)
-packs_by paths e true is = refl
-packs_by paths e false is = is
+packs_by : (content : List ℕ → Option (List ℕ)) (paths : List (Bor (List ℕ))) (e : FileError)
+    (b : Bool) → StopsOpening true content paths e → is_memory_fault e.fault ≡ b
+    → RefusesToPack content paths (if b then error.Refused OutOfMemory else error.File e)
+packs_by content paths e true stops is = refl
+packs_by content paths e false stops is = (is, stops)
 
 -- it is one of those that packing is refused with
-pub blamed_packs : (paths : List (Bor (List ℕ))) (e : FileError) → RefusesToPack paths (blamed e)
-blamed_packs paths e = packs_by paths e (is_memory_fault e.fault) refl
+pub blamed_packs : (content : List ℕ → Option (List ℕ)) (paths : List (Bor (List ℕ)))
+    (e : FileError) → StopsOpening true content paths e → RefusesToPack content paths (blamed e)
+blamed_packs content paths e stops =
+    packs_by content paths e (is_memory_fault e.fault) stops refl

@@ -1,3 +1,5 @@
 mod Alone
 mod Blaming
+mod Filling
+mod Scanning
 mod Texts

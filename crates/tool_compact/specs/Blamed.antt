@@ -3,20 +3,14 @@ use denote.Ref.{Bor}
 use Rattle.std.specs.Prelude.{◌≡◌, ◌⊎◌, ℕ, Bool, List, Some, false, if◌then◌else◌}
 use Rattle.std.specs.List.{slice_get}
 use Rattle.sst_entries.specs.Error.{is_memory}
-use Rattle.tool_files.specs.Files.{path_text}
+use Rattle.tool_files.specs.Files.{is_memory_fault, path_text}
 use Rattle.tool_files.specs.declared.file_error.FileError.{FileError}
-use Rattle.tool_files.specs.declared.file_error.FileFault.{FileFault}
-use Rattle.tool_files.specs.declared.file_error.FileFault.TheVariants as fault
 use Rattle.tool_show.specs.Failures.{IsPlaceIn}
 use Rattle.tool_compact.specs.declared.compact_error.CompactError.{CompactError}
 use Rattle.tool_compact.specs.declared.compact_error.CompactError.TheVariants as error
 use Rattle.tool_compact.specs.Printed.{path_or_mark}
+use Rattle.tool_compact.specs.Scanned.{StoresNoEntries}
 use Rattle.logpurple.specs.Words.{OpenTable, OutOfMemory}
-
--- memory is wanted, which says nothing of a file
-abbrev pub is_memory_fault : FileFault → Bool
-is_memory_fault (fault.Refused e) = is_memory e
-is_memory_fault fault = false
 
 -- what is wrong with a file, and no file where memory is wanted
 abbrev pub blamed : FileError → CompactError
@@ -42,7 +36,9 @@ BlamesNone (error.File e) = ⊥
 BlamesNone (error.Block name place e) = ⊥
 BlamesNone e = Unit {0}
 
--- a file is named that has one of these tables, and a block only of its own table; or none
+-- a file is named that has one of these tables, one whose bytes store no list with an entry, and a
+-- block only of its own table; or none is named
 abbrev pub IsBlame : List (Bor (List ℕ)) → List OpenTable → CompactError → Type 0
 IsBlame paths tables e = BlamesNone e ⊎ ((place : ℕ) × (t : OpenTable)
-    × (slice_get tables place ≡ Some t) × NamesBlame (path_or_mark (slice_get paths place)) t e)
+    × (slice_get tables place ≡ Some t) × NamesBlame (path_or_mark (slice_get paths place)) t e
+    × StoresNoEntries t)

@@ -2,7 +2,6 @@
 use Rattle.std.specs.Prelude.{◌≡◌, ◌-◌, ◌^◌, ℕ, List, [], ◌∷◌, length, map}
 use Rattle.std.specs.Prelude.{Option, Some, min, sum_by}
 use Rattle.std.specs.List.{AllByRecursion}
-use Rattle.std.specs.Option.{unwrap_or}
 use Rattle.lsm_writers.specs.declared.writer.FinishedTable.{FinishedTable}
 use Rattle.lsm_writers.specs.Tables.{TablesWriting, new_tables}
 use Rattle.sst_entries.specs.Stream.{ok_results}
@@ -12,19 +11,14 @@ use Rattle.lsm_compactions.specs.OpenedBy.{AreOpenedBy, default_opening}
 use Rattle.lsm_compactions.specs.declared.any_runs.CompactionOutcome.{CompactionOutcome}
 use Rattle.lsm_compactions.specs.declared.any_runs.CompactionOutcome.TheVariants.{Tables}
 use Rattle.logpurple.specs.Words.{Entry, HaveEntries, OpenTable, RunsHoldLists, kept_in}
-use Rattle.tool_compact.specs.declared.compact.Made.{Made}
+use Rattle.tool_files.specs.Targets.{largest_table}
 use Rattle.tool_compact.specs.declared.compact_error.CompactError.{CompactError}
 use Rattle.tool_compact.specs.declared.compact_error.CompactError.TheVariants as error
 use Rattle.tool_compact.specs.declared.compact_options.CompactOptions.{CompactOptions}
 
--- how long a table becomes before the next one begins: where nothing is asked for, no table
--- becomes so long
-abbrev pub target_of : Option ℕ → ℕ
-target_of target = unwrap_or target (2 ^ 64 - 1)
-
 -- the writer that is asked for
 abbrev pub compactor_by : CompactOptions → TablesWriting
-compactor_by o = new_tables (Some 1) (target_of o.target) 0 o.created_at
+compactor_by o = new_tables (Some 1) (largest_table o.target) 0 o.created_at
 
 -- tables, each in a run of its own
 abbrev pub each_alone : List OpenTable → List (List OpenTable)
@@ -53,13 +47,6 @@ TellCount tables count = (opened : List OpenTable) × AreOpenedBy default_openin
 abbrev pub HasCount : {A : Type 0} → CompactionOutcome A → ℕ → Type 0
 HasCount (Tables tables left) count = TellCount tables.items count
 HasCount _ count = Unit {0}
-
--- so many tables with so many entries are made of so many files, each of which was opened as a
--- table
-abbrev pub AreMadeOfFiles : Type 0 → CompactOptions → ℕ → Made → Type 0
-AreMadeOfFiles A o files made = (opened : List OpenTable) × (length opened ≡ files)
-    × ((tables : List (FinishedTable A)) × (made.tables ≡ length tables) × AreMadeOf o opened tables
-    × TellCount tables made.entries)
 
 -- it came to no tables
 abbrev pub HasNoTables : {A : Type 0} → CompactionOutcome A → Type 0

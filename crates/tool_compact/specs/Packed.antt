@@ -1,6 +1,6 @@
 -- Files that are packed in runs.
 use denote.Ref.{Bor}
-use Rattle.std.specs.Prelude.{◌≡◌, ℕ, suc, List, [], ◌∷◌, length, false, Some}
+use Rattle.std.specs.Prelude.{◌≡◌, ℕ, suc, List, [], ◌∷◌, length, false, true, Option, Some}
 use Rattle.std.specs.List.{slice_get}
 use Rattle.lsm_ranges.specs.KeyRange.{Interval, is_well_formed}
 use Rattle.lsm_ranges.specs.Packing.{IsChain, IsLeastSize, SameHolders, SameTables}
@@ -9,7 +9,8 @@ use Rattle.tool_compact.specs.declared.pack.Placed.{Placed}
 use Rattle.logpurple.specs.Words.{OpenTable, OutOfMemory, range_of}
 use Rattle.tool_compact.specs.declared.compact_error.CompactError.{CompactError}
 use Rattle.tool_compact.specs.declared.compact_error.CompactError.TheVariants as error
-use Rattle.tool_compact.specs.Blamed.{is_memory_fault}
+use Rattle.tool_files.specs.Files.{is_memory_fault}
+use Rattle.tool_files.specs.Opened.{AreOpened, StopsOpening}
 use Rattle.tool_compact.specs.Printed.{path_or_mark}
 
 -- a table and its place
@@ -42,11 +43,13 @@ abbrev pub NamesTurned : {T : Type 0} → (T → Interval) → List (Bor (List �
 NamesTurned {T} range paths tables e = (place : ℕ) × (t : T) × (slice_get tables place ≡ Some t)
     × (is_well_formed (range t) ≡ false) × IsTurned (path_or_mark (slice_get paths place)) e
 
--- why files are not packed: one cannot be opened, and not for want of memory; the first key of one
--- is above its last; or memory is refused, and no file is named
-abbrev pub RefusesToPack : List (Bor (List ℕ)) → CompactError → Type 0
-RefusesToPack paths (error.File e) = is_memory_fault e.fault ≡ false
-RefusesToPack paths (error.Refused e) = e ≡ OutOfMemory
-RefusesToPack paths (error.Range name) = (tables : List OpenTable)
-    × (length tables ≡ length paths) × NamesTurned range_of paths tables (error.Range name)
-RefusesToPack paths _ = ⊥
+-- why files are not packed: one cannot be opened, the first of them, and not for want of memory; the
+-- first key of one is above its last; or memory is refused, and no file is named
+abbrev pub RefusesToPack : (List ℕ → Option (List ℕ)) → List (Bor (List ℕ)) → CompactError → Type 0
+RefusesToPack content paths (error.File e) =
+    (is_memory_fault e.fault ≡ false) × StopsOpening true content paths e
+RefusesToPack content paths (error.Refused e) = e ≡ OutOfMemory
+RefusesToPack content paths (error.Range name) = (tables : List OpenTable)
+    × (length tables ≡ length paths) × AreOpened true content paths tables
+    × NamesTurned range_of paths tables (error.Range name)
+RefusesToPack content paths _ = ⊥

@@ -1,40 +1,33 @@
 //! Files that are compacted.
-ghost use Rattle.std.specs.Prelude.{◌≡◌, ◌∷◌, [], IfErr, IfNone, IfOk, IfSome, List, Option, false};
-ghost use Rattle.std.specs.Prelude.{length, map, ℕ};
+ghost use Rattle.std.specs.Prelude.{◌≡◌, ◌∷◌, [], IfErr, IfNone, IfOk, IfSome, IsErrAnd, List, OnOk};
+ghost use Rattle.std.specs.Prelude.{Option, Some, false, length, map, true, ℕ};
 ghost use Rattle.std.specs.Arc.{arc_value};
-ghost use Rattle.std.specs.Iterator.{IsFinite};
 ghost use Rattle.std.specs.List.{AllByRecursion};
 ghost use Rattle.sst_entries.specs.Error.{is_memory};
 ghost use Rattle.logpurple.specs.Words.{CameInOrder, Entry, GoesThrough, HasMade, HaveEntries};
 ghost use Rattle.logpurple.specs.Words.{OpenTable, OutOfMemory, RunsHoldLists, kept_in};
 ghost use Rattle.tool_compact.specs.declared.compact_error.CompactError.TheVariants.{Refused};
 ghost use Rattle.tool_compact.specs.Blamed.{BlamesNone, BlamesNoneForMemory, IsBlame, NamesBlame};
-ghost use Rattle.tool_compact.specs.Compacted.{AreMadeOf, AreMadeOfFiles, HasCount, HasNoTables};
-ghost use Rattle.tool_compact.specs.Compacted.{IfOutOfOrder, TellCount, TellsOrder, compactor_by};
-ghost use Rattle.tool_compact.specs.Compacted.{counted, each_alone};
+ghost use Rattle.tool_compact.specs.Compacted.{AreMadeOf, HasCount, HasNoTables, IfOutOfOrder};
+ghost use Rattle.tool_compact.specs.Compacted.{TellCount, TellsOrder, compactor_by, counted};
+ghost use Rattle.tool_compact.specs.Compacted.{each_alone};
+ghost use Rattle.tool_compact.specs.Filled.{IsTakenFault, TellsFolder};
+ghost use Rattle.tool_compact.specs.Refusing.{AreOfFiles, CompactsTo, RefusesFiles};
+ghost use Rattle.tool_compact.specs.Refusing.{RefusesToCompact};
+ghost use Rattle.tool_compact.specs.Scanned.{NamesOrder};
 ghost use Rattle.lsm_compactions.specs.declared.any_runs.CompactionOutcome.TheVariants.{Tables};
 
+use crate::fill::{check_free, write_tables};
 use crate::print::path_at;
+use crate::scanned::{has_order, refusal_of};
 use crate::{CompactError, CompactOptions};
 use logpurple::{
-    CompactionOutcome, Error, FinishedTable, InternalValue, IterItem, OpenOptions, Run, Table,
-    compact_to_run_with,
+    CompactionOutcome, Error, FinishedTable, OpenOptions, Run, Table, compact_to_run_with,
 };
 use std::alloc::Allocator;
-use std::fs;
-use std::rt::Files;
 use std::sync::Arc;
-use tool_files::{Disk, FileError, FileFault, FileName, NewFile, Place, open_tables, write_files};
+use tool_files::{FileError, FileFault, FileName, Made, Place, open_tables};
 use tool_show::place_of_refusal;
-
-/// How many tables were made, and how many entries these have.
-#[derive(Clone, Copy, Debug, PartialEq, Eq)]
-pub struct Made {
-    /// The tables.
-    pub tables: u64,
-    /// The entries of all tables.
-    pub entries: u64,
-}
 
 // Runs of tables.
 type Runs<A> = Vec<Arc<Run<Table<A>, A>, A>, A>;
@@ -79,52 +72,6 @@ fn count_entries<A: Allocator>(tables: &[Table<A>]) -> u64
     count
 }
 
-// The first refusal among entries.
-fn first_refusal<I: Iterator<Item = IterItem<A>> + Drop, A: Allocator>(items: I) -> Option<Error>
-    requires can { I.can_next items }
-    requires finite { IsFinite (I.remaining items) }
-{
-    for item in items {
-        if let Err(error) = item {
-            return Some(error);
-        }
-    }
-    None
-}
-
-// Whether entries come in order, as far as they can be read.
-fn is_in_order<I: Iterator<Item = IterItem<A>> + Drop, A: Allocator>(items: I) -> bool
-    requires can { I.can_next items }
-    requires finite { IsFinite (I.remaining items) }
-{
-    let mut last: Option<InternalValue<A>> = None;
-    for item in items {
-        if let Ok(item) = item {
-            if !item.may_follow(last.as_ref()) {
-                return false;
-            }
-            last = Some(item);
-        }
-    }
-    true
-}
-
-// The first refusal of reading a table whole.
-fn refusal_of<A: Allocator + Copy>(table: &Table<A>) -> Option<Error> {
-    match table.scan() {
-        Ok(items) => first_refusal(items),
-        Err(error) => Some(error),
-    }
-}
-
-// Whether the entries of a table come in order.
-fn has_order<A: Allocator + Copy>(table: &Table<A>) -> bool {
-    match table.scan() {
-        Ok(items) => is_in_order(items),
-        Err(_) => true,
-    }
-}
-
 // Which file a refusal comes from, where that is known.
 fn blame<'a, A: Allocator + Copy>(
     paths: &[&'a str],
@@ -134,6 +81,7 @@ fn blame<'a, A: Allocator + Copy>(
     ensures memory { error ≡ OutOfMemory → result ≡ Refused OutOfMemory }
     ensures order { IfOutOfOrder result ⊥ }
     ensures blames { IsBlame paths.now tables.now result }
+    ensures names { NamesOrder paths.now tables.now result }
     ensures named { BlamesNoneForMemory result }
 {
     if error == Error::OutOfMemory {
@@ -179,10 +127,11 @@ fn blame_file<'a, A: Allocator + Copy>(
 fn blame_order<'a, A: Allocator + Copy>(paths: &[&'a str], tables: &[Table<A>]) -> CompactError<'a>
     ensures none { BlamesNone result }
     ensures memory { BlamesNoneForMemory result }
+    ensures names { NamesOrder paths.now tables.now result }
 {
-    for (path, table) in paths.iter().zip(tables) {
+    for (place, table) in tables.iter().enumerate() {
         if !has_order(table) {
-            return CompactError::OutOfOrder(path);
+            return CompactError::OutOfOrder(path_at(paths, place));
         }
     }
     CompactError::Repeated
@@ -248,6 +197,7 @@ fn compact_opened<'a, A: Allocator + Copy>(
     ensures count { IfOk result (λ made. TellCount made.tables.items made.entries) }
     ensures order { IfErr result (TellsOrder options.now tables.now) }
     ensures blames { IfErr result (IsBlame paths.now tables.now) }
+    ensures names { IfErr result (NamesOrder paths.now tables.now) }
     ensures memory { IfErr result BlamesNoneForMemory }
 {
     let (outcome, entries) = match compact_tables(alloc, tables, options) {
@@ -262,114 +212,56 @@ fn compact_opened<'a, A: Allocator + Copy>(
 
 // Opens files and compacts their tables.
 #[tactic(auto, using(crate::proofs::Blaming::blamed_memory, crate::proofs::Blaming::blamed_order))]
-fn open_and_compact<'a, R: Files, A: Allocator + Copy>(
-    files: &R,
+fn open_and_compact<'a, P: Place, A: Allocator + Copy>(
+    place: &P,
     alloc: A,
     paths: &[&'a str],
     options: &CompactOptions,
 ) -> Result<NewTables<A>, CompactError<'a>>
-    ensures made { IfOk result (λ made. (opened : List OpenTable)
-        × (length opened ≡ length paths.now)
-        × AreMadeOf options.now opened made.tables.items) }
+    ensures made { IfOk result (λ made.
+        AreOfFiles options.now (P.content place.now) paths.now made.tables.items) }
     ensures count { IfOk result (λ made. TellCount made.tables.items made.entries) }
     ensures order { IfErr result (λ e. IfOutOfOrder e ((opened : List OpenTable)
         × (length opened ≡ length paths.now) × TellsOrder options.now opened e)) }
     ensures memory { IfErr result BlamesNoneForMemory }
+    ensures refused { IfErr result (RefusesFiles options.now (P.content place.now) paths.now) }
 {
-    let tables = open_tables(files, alloc, paths)?;
+    let tables = open_tables(place, alloc, paths, true)?;
     compact_opened(alloc, paths, &tables, options)
-}
-
-// Makes a folder, which must not be there yet, so that nothing in it is replaced or taken for new.
-fn make_folder<'a, R: Files>(files: &R, folder: &'a str) -> Result<(), CompactError<'a>>
-    ensures order { IfErr result (λ e. IfOutOfOrder e ⊥) }
-    ensures memory { IfErr result BlamesNoneForMemory }
-{
-    match fs::create_dir(files, folder) {
-        Ok(()) => Ok(()),
-        Err(error) => Err(CompactError::File(FileError {
-            name: FileName::Plain(folder),
-            fault: FileFault::Io(error),
-        })),
-    }
-}
-
-// Writes tables into a folder.
-#[tactic(auto, using(crate::proofs::Blaming::blamed_memory, crate::proofs::Blaming::blamed_order))]
-fn fill_folder<'a, R: Files, A: Allocator + Copy>(
-    files: &R,
-    alloc: A,
-    folder: &'a str,
-    tables: &[FinishedTable<A>],
-) -> Result<(), CompactError<'a>>
-    ensures order { IfErr result (λ e. IfOutOfOrder e ⊥) }
-    ensures memory { IfErr result BlamesNoneForMemory }
-{
-    let mut wanted = Vec::new(alloc);
-    for (at, table) in tables.iter().enumerate() {
-        wanted.push(NewFile {
-            name: FileName::Within(folder, at as u64 + 1),
-            bytes: table.bytes.as_slice(),
-        })?;
-    }
-    write_files(files, alloc, &wanted)?;
-    Ok(())
-}
-
-// Syncs the folder in which a new one lies, and with it the new one's name.
-fn sync_parent<'a, R: Files>(files: &R, folder: &'a str) -> Result<(), CompactError<'a>>
-    ensures order { IfErr result (λ e. IfOutOfOrder e ⊥) }
-    ensures memory { IfErr result BlamesNoneForMemory }
-{
-    match (Disk { files }).sync_folder(folder) {
-        Ok(()) => Ok(()),
-        Err(error) => Err(CompactError::File(FileError {
-            name: FileName::Plain(folder),
-            fault: FileFault::NotSynced(error),
-        })),
-    }
-}
-
-// Writes tables into a new folder. Where that is refused, the folder goes too, if nothing is in it.
-fn write_tables<'a, R: Files, A: Allocator + Copy>(
-    files: &R,
-    alloc: A,
-    folder: &'a str,
-    tables: &[FinishedTable<A>],
-) -> Result<(), CompactError<'a>>
-    ensures order { IfErr result (λ e. IfOutOfOrder e ⊥) }
-    ensures memory { IfErr result BlamesNoneForMemory }
-{
-    make_folder(files, folder)?;
-    match fill_folder(files, alloc, folder, tables) {
-        Ok(()) => sync_parent(files, folder),
-        Err(error) => {
-            let _ = fs::remove_dir(files, folder);
-            Err(error)
-        }
-    }
 }
 
 /// Compacts files of tables, each a run of its own, as
 /// [`compact_any_runs`](logpurple::compact_any_runs), and writes the new tables into a folder that
 /// it makes: the files `1.sst`, `2.sst` and so on.
 ///
-/// Refused as [`open_tables`], where a block of a file cannot be read, where the entries of a file
-/// are out of order, where a key has one number twice in what is kept of the files, as the writer
-/// of the tables, [`write_files`] and the system are, where the folder is there already, and for
-/// want of memory. No file that was there is changed.
-pub fn compact_files<'a, R: Files, A: Allocator + Copy>(
-    files: &R,
+/// Refused where anything has the folder's path, before any file is read; as [`open_tables`]; where
+/// a block of a file cannot be read, where the entries of a file are out of order, where a key has
+/// one number twice in what is kept of the files, and as the writer of the tables,
+/// [`place_files`](tool_files::place_files) and the system are; and for want of memory. No file
+/// that was there is changed, and a folder that is not filled is removed again, as far as the
+/// system does it.
+pub fn compact_files<'a, P: Place, A: Allocator + Copy>(
+    place: &mut P,
     alloc: A,
     paths: &[&'a str],
     folder: &'a str,
     options: &CompactOptions,
 ) -> Result<Made, CompactError<'a>>
-    // So many tables of a list that can be written were made of the tables of these files; of
-    // tables of lists, those of what is kept of all entries together. As many entries are answered
-    // as these tables tell.
-    ensures made { IfOk result (λ made.
-        AreMadeOfFiles A options.now (length paths.now) made) }
+    // So many tables of a list that can be written were made of the tables of these files, opened
+    // in their order; of tables of lists, those of what is kept of all entries together. As many
+    // entries are answered as these tables tell. The folder was made, the files of just these
+    // tables placed in it, and its own name synced, and nothing else was done.
+    ensures made { IfOk result (λ made. CompactsTo A options.now (P.content place.old) paths.now
+        folder.now made (P.done place.old) (P.done place.new)) }
+    // Where anything has the folder's path, the folder is named, whatever the files are.
+    ensures taken { P.there place.old folder.now ≡ Some true → IsErrAnd result
+        (λ e. TellsFolder folder.now (IsTakenFault (P.there place.old folder.now)) e) }
+    ensures free { OnOk result
+        (IfSome (P.there place.old folder.now) (λ there. there ≡ false)) }
+    // Where it is refused, this is why, and this was done and no more.
+    ensures refused { IfErr result (λ e. RefusesToCompact A options.now (P.content place.old)
+        paths.now folder.now (P.there place.old folder.now) (P.done place.old) e
+        (P.done place.new)) }
     // Where it says that entries came out of order, tables of lists have one among what is kept of
     // all entries together that may not follow those before it.
     ensures order { IfErr result (λ e. IfOutOfOrder e ((opened : List OpenTable)
@@ -377,8 +269,9 @@ pub fn compact_files<'a, R: Files, A: Allocator + Copy>(
     // Where memory is wanted no file is named.
     ensures memory { IfErr result BlamesNoneForMemory }
 {
-    let made = open_and_compact(files, alloc, paths, options)?;
-    write_tables(files, alloc, folder, &made.tables)?;
+    check_free(place, folder)?;
+    let made = open_and_compact(place, alloc, paths, options)?;
+    write_tables(place, alloc, folder, &made.tables)?;
     Ok(Made {
         tables: made.tables.len() as u64,
         entries: made.entries,

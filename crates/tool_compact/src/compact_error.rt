@@ -1,11 +1,8 @@
 //! Why files were not compacted or packed.
-ghost use Rattle.std.specs.Prelude.{◌≡◌};
-ghost use Rattle.tool_compact.specs.Blamed.{is_memory_fault};
-
 use logpurple::Error;
 use std::alloc::{AllocError, AllocFailed};
 use std::fmt;
-use tool_files::{FileError, FileFault};
+use tool_files::FileError;
 use tool_show::BlockPlace;
 
 /// Why files were not compacted or packed: shown as a sentence.
@@ -54,13 +51,7 @@ impl<'a> fmt::Display for CompactError<'a> {
 
 impl<'a> std::error::Error for CompactError<'a> {}
 
-// Whether memory is wanted, which is no file's fault.
-fn is_memory_fault(fault: &FileFault) -> bool
-    ensures { result ≡ is_memory_fault fault.now }
-{
-    matches!(fault, FileFault::Refused(Error::OutOfMemory))
-}
-
+// Want of memory is no file's fault.
 impl<'a> From<FileError<'a>> for CompactError<'a> {
     ghost use Rattle.std.specs.Prelude.{◌≡◌};
     ghost use Rattle.tool_compact.specs.Blamed.{blamed};
@@ -68,7 +59,7 @@ impl<'a> From<FileError<'a>> for CompactError<'a> {
     ghost from_gives = { λ error e. e ≡ blamed error };
 
     fn from(error: FileError<'a>) -> CompactError<'a> {
-        if is_memory_fault(&error.fault) {
+        if error.fault.is_memory() {
             CompactError::Refused(Error::OutOfMemory)
         } else {
             CompactError::File(error)

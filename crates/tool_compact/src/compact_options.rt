@@ -1,10 +1,11 @@
 //! How files are compacted.
 ghost use Rattle.std.specs.Prelude.{◌≡◌, IfErr, IfOk};
 ghost use Rattle.logpurple.specs.Words.{OutOfMemory};
-ghost use Rattle.tool_compact.specs.Compacted.{compactor_by, target_of};
+ghost use Rattle.tool_compact.specs.Compacted.{compactor_by};
 
 use logpurple::{Error, MultiWriter, Rules, TableIds, Timestamp};
 use std::alloc::Allocator;
+use tool_files::largest_table;
 
 /// How files are compacted.
 #[derive(Clone, Copy, Debug, PartialEq, Eq)]
@@ -17,20 +18,13 @@ pub struct CompactOptions {
     pub created_at: Timestamp,
 }
 
-// The target that is asked for, or one that no table has.
-fn target_or_none(target: Option<u64>) -> u64
-    ensures { result ≡ target_of target }
-{
-    target.unwrap_or(u64::MAX)
-}
-
 impl CompactOptions {
     /// A writer of tables of the first level, with ids from 1 on. Refused for want of memory alone.
     pub(crate) fn writer<A: Allocator + Copy>(&self, alloc: A) -> Result<MultiWriter<A>, Error>
         ensures ok { IfOk result (λ w. w ≡ compactor_by self.now) }
         ensures err { IfErr result (λ e. e ≡ OutOfMemory) }
     {
-        let (ids, target) = (TableIds::new(1), target_or_none(self.target));
+        let (ids, target) = (TableIds::new(1), largest_table(self.target));
         MultiWriter::new(alloc, ids, target, 0, self.created_at)
     }
 }

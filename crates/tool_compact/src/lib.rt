@@ -4,10 +4,12 @@
 mod compact;
 mod compact_error;
 mod compact_options;
+mod fill;
 mod pack;
 mod print;
+mod scanned;
 
-pub use compact::{Made, compact_files};
+pub use compact::compact_files;
 pub use compact_error::CompactError;
 pub use compact_options::CompactOptions;
 pub use pack::{Packed, Placed, pack_files};

@@ -1,16 +1,16 @@
 //! Files that are packed in runs.
 ghost use Rattle.std.specs.Prelude.{◌≡◌, ◌+◌, ◌∷◌, [], IfErr, IfOk, IfSome, IfNone, List, OnOk};
-ghost use Rattle.std.specs.Prelude.{length, not};
+ghost use Rattle.std.specs.Prelude.{length, not, true};
 ghost use Rattle.lsm_ranges.specs.Packing.{AreTablesWellFormed};
 ghost use Rattle.logpurple.specs.Words.{OpenTable, OutOfMemory, range_of};
+ghost use Rattle.tool_files.specs.Opened.{AreOpened};
 ghost use Rattle.tool_compact.specs.Packed.{IsPackedOf, NamesTurned, RefusesToPack, alone, placed};
 
 use crate::CompactError;
 use crate::print::path_at;
 use logpurple::{Error, KeyRange, Ranged, Run, Table, optimize_runs, overlap_chain};
 use std::alloc::{AllocError, Allocator};
-use std::rt::Files;
-use tool_files::open_tables;
+use tool_files::{Place, open_tables};
 
 /// A table, and its place among the files.
 #[derive(Drop)]
@@ -124,19 +124,20 @@ fn check_ranges<'a, T: Ranged>(paths: &[&'a str], tables: &[T]) -> Result<(), Co
 /// Refused as [`open_tables`], where the first key of a file is above its last one, and for want of
 /// memory.
 #[tactic(auto, using(crate::proofs::Blaming::blamed_packs))]
-pub fn pack_files<'a, R: Files, A: Allocator + Copy>(
-    files: &R,
+pub fn pack_files<'a, P: Place, A: Allocator + Copy>(
+    place: &P,
     alloc: A,
     paths: &[&'a str],
 ) -> Result<Packed<Table<A>, A>, CompactError<'a>>
     // They are the tables of these files, packed.
     ensures ok { IfOk result (λ packed. (opened : List OpenTable)
-        × (length opened ≡ length paths.now) × IsPackedOf range_of opened packed) }
-    // A refusal names a file that is not opened, or one of tables whose first key is above the
-    // last; or it is for want of memory.
-    ensures err { IfErr result (RefusesToPack paths.now) }
+        × (length opened ≡ length paths.now) × AreOpened true (P.content place.now) paths.now opened
+        × IsPackedOf range_of opened packed) }
+    // A refusal names the first file that is not opened, or one of tables whose first key is above
+    // the last; or it is for want of memory.
+    ensures err { IfErr result (RefusesToPack (P.content place.now) paths.now) }
 {
-    let tables = open_tables(files, alloc, paths)?;
+    let tables = open_tables(place, alloc, paths, true)?;
     check_ranges(paths, &tables)?;
     Ok(pack(alloc, tables)?)
 }

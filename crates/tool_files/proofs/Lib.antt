@@ -1,2 +1,3 @@
+pub mod FilesMore
 pub mod Opened
 pub mod Steps

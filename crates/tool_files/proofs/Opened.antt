@@ -1,16 +1,118 @@
 -- Tables that are opened.
-use Rattle.std.proofs.Common.{◌≡◌, sym, subst, ℕ, List, Result, Ok, Err, IfOk, true}
-use Rattle.logpurple.specs.Words.{Error, Gives, OpenTable, recovered_told}
-use Rattle.tool_files.specs.Opened.{IsToldByBytes}
+use denote.Ref.{Bor}
+use Rattle.std.proofs.Common.{◌≡◌, sym, ◌∙◌, ap, subst, ℕ, ◌+◌, ◌<◌, List, [], ◌∷◌, ◌++◌}
+use Rattle.std.proofs.Common.{Bool, true, true≢false, get_or, length, take, drop}
+use Rattle.std.specs.Prelude.{IfErr, IfOk, IfSome, Option, Some, None, Result, Ok, Err}
+use Rattle.std.specs.Result.{IsErrAnd}
+use Rattle.std.proofs.lemmas.List.{get_or_default, take_more}
+use Rattle.logpurple.specs.Words.{Error, Gives, OpenTable, is_memory, recovered_told}
+use Rattle.tool_files.specs.declared.file_error.FileError.{FileError}
+use Rattle.tool_files.specs.declared.file_error.FileFault.{FileFault}
+use Rattle.tool_files.specs.declared.file_error.FileFault.TheVariants.{AfterOthers, CutShort, Folder}
+use Rattle.tool_files.specs.declared.file_error.FileFault.TheVariants.{Io, Left, NamesTaken, NotPlain}
+use Rattle.tool_files.specs.declared.file_error.FileFault.TheVariants.{NotSynced, Refused, Taken}
+use Rattle.tool_files.specs.Files.{IsReadFault, is_memory_fault, path_text}
+use Rattle.tool_files.specs.Opened.{AreOpened, HasContent, IsToldByBytes, StopsOpening}
+use Rattle.tool_files.specs.Opened.{TellsRefused}
+use Rattle.tool_files.proofs.Steps.{list_at}
 
 -- what is told of some bytes is told of the table's
-pub recovered_so : (told : Result OpenTable Error) (bytes : List ℕ)
-    → Gives (λ (t : OpenTable). t.parts) told (recovered_told bytes 0 true true)
+pub recovered_so : (pinned : Bool) (told : Result OpenTable Error) (bytes : List ℕ)
+    → Gives (λ (t : OpenTable). t.parts) told (recovered_told bytes 0 pinned pinned)
     → IfOk told (λ t. t.bytes ≡ bytes) → IfOk told (λ t. t.global_seqno ≡ 0)
-    → IfOk told IsToldByBytes
-recovered_so (Ok t) bytes gives same number = (
+    → IfOk told (IsToldByBytes pinned)
+recovered_so pinned (Ok t) bytes gives same number = (
   subst (λ (bs : List ℕ).
-      Gives (λ (u : OpenTable). u.parts) (Ok t) (recovered_told bs 0 true true)) (sym same) gives,
+      Gives (λ (u : OpenTable). u.parts) (Ok t) (recovered_told bs 0 pinned pinned)) (sym same) gives,
   number,
 )
-recovered_so (Err e) bytes gives same number = tt
+recovered_so pinned (Err e) bytes gives same number = tt
+
+-- ---- refusals
+
+memory_told : (pinned : Bool) (known : Option (List ℕ)) (e : Error) → is_memory e ≡ true
+    → TellsRefused pinned known (Refused e)
+memory_told pinned None e memory = tt
+memory_told pinned (Some bytes) e memory = λ other. absurd (true≢false (sym memory ∙ other))
+
+-- want of memory says nothing of the bytes
+pub told_memory : (pinned : Bool) (known : Option (List ℕ)) (fault : FileFault)
+    → is_memory_fault fault ≡ true → TellsRefused pinned known fault
+told_memory pinned known (Refused e) h = memory_told pinned known e h
+told_memory pinned known Folder h = tt
+told_memory pinned known Taken h = tt
+told_memory pinned known NotPlain h = tt
+told_memory pinned known Left h = tt
+told_memory pinned known (CutShort read size) h = tt
+told_memory pinned known NamesTaken h = tt
+told_memory pinned known (AfterOthers renamed error) h = tt
+told_memory pinned known (NotSynced error) h = tt
+told_memory pinned known (Io error) h = tt
+
+-- nor does a file that is not read
+pub told_read : (pinned : Bool) (known : Option (List ℕ)) (fault : FileFault)
+    → IsReadFault fault → TellsRefused pinned known fault
+told_read pinned known (Refused e) h = memory_told pinned known e (ap is_memory h)
+told_read pinned known Folder h = tt
+told_read pinned known Taken h = tt
+told_read pinned known NotPlain h = tt
+told_read pinned known Left h = tt
+told_read pinned known (CutShort read size) h = tt
+told_read pinned known NamesTaken h = tt
+told_read pinned known (AfterOthers renamed error) h = tt
+told_read pinned known (NotSynced error) h = tt
+told_read pinned known (Io error) h = tt
+
+-- what the bytes that were read tell, the file's bytes tell
+pub refused_told : (pinned : Bool) (known : Option (List ℕ)) (bytes : List ℕ) (e : Error)
+    → IfSome known (λ k. bytes ≡ k)
+    → Gives (λ (t : OpenTable). t.parts) (Err e) (recovered_told bytes 0 pinned pinned)
+    → TellsRefused pinned known (Refused e)
+refused_told pinned None bytes e same told = tt
+refused_told pinned (Some k) bytes e same told =
+    subst (λ (bs : List ℕ). Gives (λ (t : OpenTable). t.parts) (Err e)
+    (recovered_told bs 0 pinned pinned)) same told
+
+-- ---- several files
+
+module _ (pinned : Bool) (content : List ℕ → Option (List ℕ)) where
+  opened_behind : (paths : List (Bor (List ℕ))) (path : Bor (List ℕ)) (ts : List OpenTable)
+      (t : OpenTable) → AreOpened pinned content paths ts → IsToldByBytes pinned t
+      → HasContent (content path.now) t
+      → AreOpened pinned content (paths ++ path ∷ []) (ts ++ t ∷ [])
+  opened_behind [] path [] t h told has = ((told, has), tt)
+  opened_behind [] path (x ∷ ts) t h told has = absurd h
+  opened_behind (p ∷ paths) path [] t h told has = absurd h
+  opened_behind (p ∷ paths) path (x ∷ ts) t h told has =
+      (h.0, opened_behind paths path ts t h.1 told has)
+
+  -- one more is opened
+  pub opened_more : (paths : List (Bor (List ℕ))) (i : ℕ) (d : Bor (List ℕ))
+      (ts : List OpenTable) (t : OpenTable) → i < length paths
+      → AreOpened pinned content (take i paths) ts → IsToldByBytes pinned t
+      → HasContent (content (get_or paths i d).now) t
+      → AreOpened pinned content (take (i + 1) paths) (ts ++ t ∷ [])
+  opened_more paths i d ts t less so_far told has =
+      subst (λ (ps : List (Bor (List ℕ))). AreOpened pinned content ps (ts ++ t ∷ []))
+      (sym (take_more paths i d less))
+      (opened_behind (take i paths) (get_or paths i d) ts t so_far told has)
+
+  -- one is refused
+  pub stops_opening : {R : Type 0} (result : Result R FileError) (paths : List (Bor (List ℕ)))
+      (i : ℕ) (d : Bor (List ℕ)) (ts : List OpenTable) (e : FileError) → i < length paths
+      → AreOpened pinned content (take i paths) ts → path_text e.name ≡ (get_or paths i d).now
+      → TellsRefused pinned (content (get_or paths i d).now) e.fault
+      → IsErrAnd result (λ y. y ≡ e) → IfErr result (StopsOpening pinned content paths)
+  stops_opening (Ok r) paths i d ts e less so_far named told is = tt
+  stops_opening (Err y) paths i d ts e less so_far named told is =
+      subst (StopsOpening pinned content paths) (sym is) record {
+        before = take i paths;
+        path = get_or paths i d;
+        behind = drop (i + 1) paths;
+        split = list_at paths i (get_or paths i d) less
+            (get_or_default paths i d (get_or paths i d) less);
+        tables = ts;
+        opened = so_far;
+        named = named;
+        told = told;
+      }

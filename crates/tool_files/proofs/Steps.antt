@@ -1,7 +1,7 @@
 -- Steps, one behind another.
 use Rattle.std.proofs.Common.{◌≡◌, refl, sym, ◌∙◌, ap, subst, ℕ, ◌+◌, ◌<◌, List, [], ◌∷◌, ◌++◌}
 use Rattle.std.proofs.Common.{append-nil, append_assoc, arith, drop, get_or, inl, inr, length}
-use Rattle.std.proofs.Common.{length-append, take, ◌⊎◌}
+use Rattle.std.proofs.Common.{length-append, take}
 use Rattle.std.specs.Prelude.{Any, IfErr, IfSome, Option, Some, None, Result, Ok, Err, map, string_bytes}
 use Rattle.std.specs.List.{AllByRecursion}
 use Rattle.std.proofs.lemmas.List.{drop_more, get_or_at, get_or_default, length-map, length-take-le, map-append}
@@ -10,15 +10,15 @@ use Rattle.tool_files.specs.declared.file_error.FileError.{FileError}
 use Rattle.tool_files.specs.declared.file_error.FileFault.{FileFault}
 use Rattle.tool_files.specs.declared.file_error.FileFault.TheVariants.{AfterOthers, CutShort, Folder}
 use Rattle.tool_files.specs.declared.file_error.FileFault.TheVariants.{Io, Left, NamesTaken, NotPlain}
-use Rattle.tool_files.specs.declared.file_error.FileFault.TheVariants.{NotSynced, Refused}
+use Rattle.tool_files.specs.declared.file_error.FileFault.TheVariants.{NotSynced, Refused, Taken}
 use Rattle.tool_files.specs.declared.write.Beside.{Beside}
 use Rattle.tool_files.specs.declared.write.NewFile.{NewFile}
 use Rattle.tool_files.specs.Placed.{AreBeside, AreNotPlaced, AreNotPut, ArePlaced, IsEarly}
-use Rattle.tool_files.specs.Placed.{IsNotSynced, Standing, StandsBeside, StopRenaming, StopSyncing}
-use Rattle.tool_files.specs.Placed.{StopWriting, StopPutting, StopsRenamingAt, StopsBefore, TellsRenamed}
+use Rattle.tool_files.specs.Placed.{IsNotSynced, Standing, StandsBeside, StopSyncing}
+use Rattle.tool_files.specs.Placed.{StopsRenamingAt, StopsBefore, TellsRenamed}
 use Rattle.tool_files.specs.Files.{path_text}
 use Rattle.tool_files.specs.Placed.{IfLeft, TellsLeft, removing, renaming, syncing, writing}
-use Rattle.tool_files.specs.Standing.{IsAdded, IsWritten, standing_in, standing_of}
+use Rattle.tool_files.specs.Standing.{IsAdded, standing_in, standing_of}
 use Rattle.std.proofs.Common.{Bool, true, false}
 use Rattle.tool_files.specs.Steps.{Step, then_done, written_if}
 use Rattle.tool_files.specs.Steps.Step.{Renamed, Wrote}
@@ -354,6 +354,7 @@ put_names {A} (Err e) one new wanted bs named are same h =
 -- what holds of it, and what follows of that
 if_left : (fault : FileFault) (X Y : Type 0) → (X → Y) → IfLeft fault X → IfLeft fault Y
 if_left Folder X Y f h = tt
+if_left Taken X Y f h = tt
 if_left NotPlain X Y f h = tt
 if_left Left X Y f h = f h
 if_left (CutShort read size) X Y f h = tt
@@ -376,17 +377,19 @@ left_named (Err e) next there known new h =
 -- none is told where files are placed
 early_none : (fault : FileFault) → IsEarly fault → IfLeft fault ⊥
 early_none Folder h = tt
+early_none Taken h = absurd h
 early_none NotPlain h = tt
-early_none Left h = h
-early_none (CutShort read size) h = tt
+early_none Left h = absurd h
+early_none (CutShort read size) h = absurd h
 early_none NamesTaken h = tt
-early_none (AfterOthers renamed error) h = tt
-early_none (NotSynced error) h = tt
+early_none (AfterOthers renamed error) h = absurd h
+early_none (NotSynced error) h = absurd h
 early_none (Io error) h = tt
 early_none (Refused error) h = tt
 
 renamed_none : (fault : FileFault) (n : ℕ) → TellsRenamed fault n → IfLeft fault ⊥
 renamed_none Folder n h = tt
+renamed_none Taken n h = tt
 renamed_none NotPlain n h = tt
 renamed_none Left n h = h
 renamed_none (CutShort read size) n h = tt
@@ -398,6 +401,7 @@ renamed_none (Refused error) n h = tt
 
 synced_none : (fault : FileFault) → IsNotSynced fault → IfLeft fault ⊥
 synced_none Folder h = tt
+synced_none Taken h = tt
 synced_none NotPlain h = tt
 synced_none Left h = h
 synced_none (CutShort read size) h = tt

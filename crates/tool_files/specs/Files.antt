@@ -1,9 +1,10 @@
 -- Names of files, and what is wrong with a file.
-use Rattle.std.specs.Prelude.{◌≡◌, ◌<◌, ℕ, List, ◌++◌, Option, Some}
+use Rattle.std.specs.Prelude.{◌≡◌, ◌<◌, ℕ, List, ◌++◌, Option, Some, Bool, false}
 use Rattle.std.specs.Prelude.{codes}
 use Rattle.std.specs.Fmt.{decimal}
+use Rattle.logpurple.specs.Words.{OutOfMemory, is_memory}
 use Rattle.tool_files.specs.declared.file_error.FileFault.{FileFault}
-use Rattle.tool_files.specs.declared.file_error.FileFault.TheVariants.{CutShort}
+use Rattle.tool_files.specs.declared.file_error.FileFault.TheVariants.{CutShort, Refused}
 use Rattle.tool_files.specs.declared.file_name.FileName.{FileName}
 use Rattle.tool_files.specs.declared.file_name.FileName.TheVariants.{Part, Plain, Within}
 
@@ -22,3 +23,13 @@ IsBeside path text =
 abbrev pub IsCutShort : FileFault → Option ℕ → Type 0
 IsCutShort (CutShort read size) known = (known ≡ Some size) × (read < size)
 IsCutShort fault known = Unit {0}
+
+-- memory is wanted, which says nothing of a file
+abbrev pub is_memory_fault : FileFault → Bool
+is_memory_fault (Refused e) = is_memory e
+is_memory_fault fault = false
+
+-- of reading a file the library refuses nothing but for want of memory
+abbrev pub IsReadFault : FileFault → Type 0
+IsReadFault (Refused e) = e ≡ OutOfMemory
+IsReadFault fault = Unit {0}

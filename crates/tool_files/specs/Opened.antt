@@ -1,9 +1,48 @@
 -- Tables that are opened.
-use Rattle.std.specs.Prelude.{◌≡◌, Ok, true}
+use denote.Ref.{Bor}
+use Rattle.std.specs.Prelude.{◌≡◌, ℕ, Bool, List, [], ◌∷◌, ◌++◌, Option, IfSome, Ok, Err}
 use Rattle.logpurple.specs.Words.{Gives, OpenTable, recovered_told}
+use Rattle.tool_files.specs.declared.file_error.FileError.{FileError}
+use Rattle.tool_files.specs.declared.file_error.FileFault.{FileFault}
+use Rattle.tool_files.specs.declared.file_error.FileFault.TheVariants.{Refused}
+use Rattle.tool_files.specs.Files.{path_text}
 
--- a table is what its bytes tell, with the numbers that are stored in it
-abbrev pub IsToldByBytes : OpenTable → Type 0
-IsToldByBytes t =
-    Gives (λ (u : OpenTable). u.parts) (Ok t) (recovered_told t.bytes 0 true true)
+-- a table is what its bytes tell, with the numbers that are stored in it, its index and filter
+-- loaded or not
+abbrev pub IsToldByBytes : Bool → OpenTable → Type 0
+IsToldByBytes pinned t =
+    Gives (λ (u : OpenTable). u.parts) (Ok t) (recovered_told t.bytes 0 pinned pinned)
     × (t.global_seqno ≡ 0)
+
+-- its bytes are those of a file, where these are known
+abbrev pub HasContent : Option (List ℕ) → OpenTable → Type 0
+HasContent known t = IfSome known (λ bytes. t.bytes ≡ bytes)
+
+-- files were opened as tables in their order, each table of the bytes of its own file
+abbrev pub AreOpened : Bool → (List ℕ → Option (List ℕ)) → List (Bor (List ℕ)) → List OpenTable
+    → Type 0
+AreOpened pinned content [] [] = Unit {0}
+AreOpened pinned content [] (t ∷ ts) = ⊥
+AreOpened pinned content (path ∷ paths) [] = ⊥
+AreOpened pinned content (path ∷ paths) (t ∷ ts) =
+    (IsToldByBytes pinned t × HasContent (content path.now) t)
+    × AreOpened pinned content paths ts
+
+-- where a file is refused as a table, its bytes tell so, where these are known, or memory is wanted
+abbrev pub TellsRefused : Bool → Option (List ℕ) → FileFault → Type 0
+TellsRefused pinned known (Refused e) =
+    IfSome known (λ bytes. Gives (λ (u : OpenTable). u.parts) (Err e)
+    (recovered_told bytes 0 pinned pinned))
+TellsRefused pinned known fault = Unit {0}
+
+-- files were opened up to one that was refused, which is named
+pub record StopsOpening (pinned : Bool) (content : List ℕ → Option (List ℕ))
+    (paths : List (Bor (List ℕ))) (e : FileError) : Type 0 where
+  pub before : List (Bor (List ℕ))
+  pub path : Bor (List ℕ)
+  pub behind : List (Bor (List ℕ))
+  pub split : paths ≡ before ++ path ∷ behind
+  pub tables : List OpenTable
+  pub opened : AreOpened pinned content before tables
+  pub named : path_text e.name ≡ path.now
+  pub told : TellsRefused pinned (content path.now) e.fault

@@ -2,10 +2,12 @@
 use Rattle.std.specs.Prelude.{Bool, IfSome, true}
 use Rattle.std.specs.Prelude.{◌≡◌, ◌<◌, ◌⊎◌, ℕ, List, ◌∷◌, ◌++◌, Option, drop, length, map, take}
 use Rattle.std.specs.List.{AllByRecursion}
+use Rattle.logpurple.specs.Words.{OutOfMemory}
 use Rattle.tool_files.specs.declared.file_error.FileError.{FileError}
 use Rattle.tool_files.specs.declared.file_error.FileFault.{FileFault}
-use Rattle.tool_files.specs.declared.file_error.FileFault.TheVariants.{AfterOthers, Io, Left}
-use Rattle.tool_files.specs.declared.file_error.FileFault.TheVariants.{NotSynced}
+use Rattle.tool_files.specs.declared.file_error.FileFault.TheVariants.{AfterOthers, Folder, Io}
+use Rattle.tool_files.specs.declared.file_error.FileFault.TheVariants.{Left, NamesTaken, NotPlain}
+use Rattle.tool_files.specs.declared.file_error.FileFault.TheVariants.{NotSynced, Refused}
 use Rattle.tool_files.specs.declared.write.NewFile.{NewFile}
 use Rattle.tool_files.specs.Files.{IsBeside, path_text}
 use Rattle.tool_files.specs.Steps.{Step, then_done}
@@ -51,12 +53,14 @@ pub record ArePlaced (known : Option (List Step)) (wanted : List NewFile)
   pub are : AreBeside wanted all
   pub done : new ≡ then_done known (writing all ++ renaming all ++ syncing all)
 
--- a fault of one file, before any was renamed
+-- a fault of one file, before any was renamed: of the library's refusals want of memory alone
 abbrev pub IsEarly : FileFault → Type 0
-IsEarly Left = ⊥
-IsEarly (AfterOthers renamed error) = ⊥
-IsEarly (NotSynced error) = ⊥
-IsEarly fault = Unit {0}
+IsEarly Folder = Unit {0}
+IsEarly NotPlain = Unit {0}
+IsEarly NamesTaken = Unit {0}
+IsEarly (Io error) = Unit {0}
+IsEarly (Refused e) = e ≡ OutOfMemory
+IsEarly fault = ⊥
 
 -- files of a list were written up to one that was not
 pub record StopsBefore (wanted : List NewFile) (all : List Standing) (e : FileError) : Type 0 where
@@ -144,3 +148,18 @@ abbrev pub TellsLeft : FileError → List ℕ → Option Bool → Option (List S
     → Option (List Step) → Type 0
 TellsLeft e next there known new =
     IfLeft e.fault ((path_text e.name ≡ next) × IfSome there (λ b. b ≡ true) × (new ≡ known))
+
+-- a fault of looking whether a name is free: something has it, as far as that is known, the system
+-- refuses to tell, or memory is wanted
+abbrev pub IsLookFault : FileFault → Option Bool → Type 0
+IsLookFault Left there = IfSome there (λ b. b ≡ true)
+IsLookFault (Io error) there = Unit {0}
+IsLookFault (Refused e) there = e ≡ OutOfMemory
+IsLookFault fault there = ⊥
+
+-- a name that was to be free is not, or it was not told: this name is told, and nothing was done
+pub record StopLooking (known : Option (List Step)) (next : List ℕ) (there : Option Bool)
+    (e : FileError) (new : Option (List Step)) : Type 0 where
+  pub named : path_text e.name ≡ next
+  pub fault : IsLookFault e.fault there
+  pub done : new ≡ known

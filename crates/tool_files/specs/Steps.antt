@@ -3,12 +3,14 @@ use Rattle.std.specs.Prelude.{ℕ, Bool, true, false, List, [], ◌∷◌, ◌++
 use Rattle.std.specs.Option.{option_map}
 
 -- a new file was written whole and synced; a file was renamed; one was asked to be removed; the
--- folder of one was synced
+-- folder of one was synced; a new folder was made; one was asked to be removed if it is empty
 pub data Step : Type 0 where
   Wrote : (path bytes : List ℕ) → Step
   Renamed : (from to : List ℕ) → Step
   Removed : (path : List ℕ) → Step
   Synced : (path : List ℕ) → Step
+  MadeFolder : (path : List ℕ) → Step
+  RemovedFolder : (path : List ℕ) → Step
 
 -- what was done, where it is known, and these steps behind it
 abbrev pub then_done : Option (List Step) → List Step → Option (List Step)

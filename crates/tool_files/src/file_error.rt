@@ -1,4 +1,7 @@
 //! Why a file could not be read, opened or written.
+ghost use Rattle.std.specs.Prelude.{◌≡◌};
+ghost use Rattle.tool_files.specs.Files.{is_memory_fault};
+
 use crate::FileName;
 use logpurple::Error;
 use std::alloc::{AllocError, AllocFailed};
@@ -11,6 +14,8 @@ pub enum FileFault {
     Folder,
     /// What stands in the file's place is no plain file, and not to be replaced.
     NotPlain,
+    /// Something has the path of a folder that is to be made.
+    Taken,
     /// The file would stand behind those that are written, as if it were one of them.
     Left,
     /// The file ended earlier than it did when it was opened.
@@ -37,11 +42,21 @@ pub enum FileFault {
     Refused(Error),
 }
 
+impl FileFault {
+    /// Whether memory is wanted, which is no file's fault.
+    pub fn is_memory(&self) -> bool
+        ensures { result ≡ is_memory_fault self.now }
+    {
+        matches!(self, FileFault::Refused(Error::OutOfMemory))
+    }
+}
+
 impl fmt::Display for FileFault {
     fn fmt<W: fmt::Write>(&self, f: &mut fmt::Formatter<W>) -> fmt::Result {
         match self {
             FileFault::Folder => write!(f, "a folder, and no file"),
             FileFault::NotPlain => write!(f, "no plain file, and not replaced"),
+            FileFault::Taken => write!(f, "is there already, and not replaced"),
             FileFault::Left => write!(f, "left of an earlier write, and not replaced"),
             FileFault::CutShort { read, size } => {
                 write!(f, "cut short while it was read: {read} of {size} bytes")

@@ -1,4 +1,7 @@
 //! Names of files.
+ghost use Rattle.std.specs.Prelude.{◌≡◌};
+ghost use Rattle.tool_files.specs.Numbered.{with_number};
+
 use std::fmt;
 
 /// Which file is meant. It is shown as its path.
@@ -10,6 +13,19 @@ pub enum FileName<'a> {
     Part(&'a str, u64),
     /// A table of a folder, named by its number, as `tables/2.sst`.
     Within(&'a str, u64),
+}
+
+impl<'a> FileName<'a> {
+    /// The name with this number, if it has one.
+    pub fn with_number(self, number: u64) -> FileName<'a>
+        ensures { result ≡ with_number self.entry number }
+    {
+        match self {
+            FileName::Plain(path) => FileName::Plain(path),
+            FileName::Part(path, _) => FileName::Part(path, number),
+            FileName::Within(folder, _) => FileName::Within(folder, number),
+        }
+    }
 }
 
 impl<'a> fmt::Display for FileName<'a> {

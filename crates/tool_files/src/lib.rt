@@ -3,14 +3,20 @@
 
 mod file_error;
 mod file_name;
+mod made;
+mod numbered;
 mod open;
 mod place;
 mod read;
+mod target;
 mod write;
 
 pub use file_error::{FileError, FileFault};
 pub use file_name::FileName;
-pub use open::{open_table, open_tables};
+pub use made::{Made, print_made};
+pub use numbered::table_files;
+pub use open::{open_bytes, open_table, open_tables};
 pub use place::{Disk, Place};
 pub use read::{read_file, read_whole};
-pub use write::{NewFile, place_files, place_series, write_files, write_series};
+pub use target::largest_table;
+pub use write::{NewFile, place_files, place_series};

@@ -1,19 +1,23 @@
 //! What is done to files, one step after another.
-ghost use Rattle.std.specs.Prelude.{◌≡◌, ◌∷◌, [], ℕ, Bool, IfOk, IfSome, List, None, OnErr, OnOk};
-ghost use Rattle.std.specs.Prelude.{Option, is_some};
+ghost use Rattle.std.specs.Prelude.{◌≡◌, ◌∷◌, [], ℕ, Bool, IfErr, IfOk, IfSome, List, None, OnErr};
+ghost use Rattle.std.specs.Prelude.{OnOk, Option, is_some};
 ghost use Rattle.std.specs.Io.KnownBytes.{Appends};
+ghost use Rattle.tool_files.specs.Files.{IsReadFault};
 ghost use Rattle.tool_files.specs.Folders.{folder_of, or_here};
 ghost use Rattle.tool_files.specs.Steps.{Step, then_done, written_if};
-ghost use Rattle.tool_files.specs.Steps.Step.{Removed, Renamed, Synced};
+ghost use Rattle.tool_files.specs.Steps.Step.{MadeFolder, Removed, RemovedFolder, Renamed, Synced};
 
 use crate::FileFault;
+use crate::read::read_path;
+use logpurple::Slice;
+use std::alloc::Allocator;
 use std::fs::{Metadata, OpenFile, OpenOptions, Permissions};
 use std::io::{ErrorKind, Write};
 use std::path::Path;
 use std::rt::Files;
 use std::{fs, io};
 
-/// Where files are written, with what is done there, one step after another. [`Disk`] is that of a
+/// Where files are read and written, with what is done there, one step after another. [`Disk`] is that of a
 /// system; a contract can say what was done where it is known.
 pub trait Place {
     // What was done, in order, where it is known.
@@ -21,6 +25,15 @@ pub trait Place {
 
     // Whether anything has a path, where it is known.
     ghost there: { Self → List ℕ → Option Bool };
+
+    // What the file at a path has, where it is known.
+    ghost content: { Self → List ℕ → Option (List ℕ) };
+
+    /// All bytes of a file. Refused where it cannot be read whole, and for want of memory.
+    fn read<A: Allocator + Copy>(&self, alloc: A, path: &str) -> Result<Slice<A>, FileFault>
+        ensures bytes { IfOk result (λ bytes.
+            IfSome (content self.now path.now) (λ known. bytes ≡ known)) }
+        ensures refused { IfErr result IsReadFault };
 
     /// What has a path, if anything has; of a link that of itself.
     fn look(&self, path: &str) -> io::Result<Option<Metadata>>
@@ -51,6 +64,17 @@ pub trait Place {
     fn remove(&mut self, path: &str)
         ensures { done self.new ≡ then_done (done self.old) (Removed path.now ∷ []) };
 
+    /// Makes a folder. Refused as the system refuses, as where anything has its path: then nothing
+    /// is changed.
+    fn make_folder(&mut self, path: &str) -> io::Result<()>
+        ensures made { OnOk result
+            (done self.new ≡ then_done (done self.old) (MadeFolder path.now ∷ [])) }
+        ensures refused { OnErr result (done self.new ≡ done self.old) };
+
+    /// Removes a folder, as far as the system does it, and only where nothing is in it.
+    fn remove_folder(&mut self, path: &str)
+        ensures { done self.new ≡ then_done (done self.old) (RemovedFolder path.now ∷ []) };
+
     /// Syncs the folder in which a file lies, so that its name lasts.
     fn sync_folder(&mut self, path: &str) -> io::Result<()>
         ensures synced { OnOk result
@@ -58,7 +82,7 @@ pub trait Place {
         ensures refused { OnErr result (done self.new ≡ done self.old) };
 }
 
-/// The files of a system. What was done there no contract knows.
+/// The files of a system. What they have and what was done there no contract knows.
 #[derive(Clone, Copy)]
 pub struct Disk<'r, R: Files> {
     /// The system.
@@ -69,6 +93,12 @@ impl<'r, R: Files> Place for Disk<'r, R> {
     ghost done = { λ _. None };
 
     ghost there = { λ _ _. None };
+
+    ghost content = { λ _ _. None };
+
+    fn read<A: Allocator + Copy>(&self, alloc: A, path: &str) -> Result<Slice<A>, FileFault> {
+        read_path(self.files, alloc, path)
+    }
 
     fn look(&self, path: &str) -> io::Result<Option<Metadata>> {
         match fs::symlink_metadata(self.files, path) {
@@ -106,6 +136,14 @@ impl<'r, R: Files> Place for Disk<'r, R> {
 
     fn remove(&mut self, path: &str) {
         let _ = fs::remove_file(self.files, path);
+    }
+
+    fn make_folder(&mut self, path: &str) -> io::Result<()> {
+        fs::create_dir(self.files, path)
+    }
+
+    fn remove_folder(&mut self, path: &str) {
+        let _ = fs::remove_dir(self.files, path);
     }
 
     fn sync_folder(&mut self, path: &str) -> io::Result<()> {

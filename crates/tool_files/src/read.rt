@@ -1,9 +1,9 @@
 //! Reading whole files.
 ghost use Rattle.std.specs.Prelude.{◌≡◌, ◌≤◌, IfErr, IfOk, IfSome, OnOk, length};
 ghost use Rattle.std.specs.Io.KnownBytes.{IsAtEnd};
-ghost use Rattle.tool_files.specs.Files.{IsCutShort, path_text};
+ghost use Rattle.tool_files.specs.Files.{IsCutShort, IsReadFault, path_text};
 
-use crate::{FileError, FileFault, FileName};
+use crate::{FileError, FileFault, FileName, Place};
 use logpurple::Slice;
 use std::alloc::Allocator;
 use std::fs;
@@ -11,19 +11,20 @@ use std::fs::{Metadata, OpenFile};
 use std::io::Read;
 use std::rt::Files;
 
-/// All bytes of a file, which may be a pipe that is read to its end.
-///
-/// Refused where the system refuses, where a folder stands in the file's place, where the file ends
-/// earlier than it did when it was opened, and for want of memory.
-pub fn read_file<'a, R: Files, A: Allocator + Copy>(
-    files: &R,
+/// All bytes of a file, as [`Place::read`] reads them.
+pub fn read_file<'a, P: Place, A: Allocator + Copy>(
+    place: &P,
     alloc: A,
     path: &'a str,
 ) -> Result<Slice<A>, FileError<'a>>
+    // They are those that the file has, where that is known.
+    ensures bytes { IfOk result (λ bytes.
+        IfSome (P.content place.now path.now) (λ known. bytes ≡ known)) }
     // A refusal names the file.
-    ensures { IfErr result (λ e. path_text e.name ≡ path.now) }
+    ensures named { IfErr result (λ e. path_text e.name ≡ path.now) }
+    ensures refused { IfErr result (λ e. IsReadFault e.fault) }
 {
-    match read_path(files, alloc, path) {
+    match place.read(alloc, path) {
         Ok(bytes) => Ok(bytes),
         Err(fault) => Err(FileError {
             name: FileName::Plain(path),
@@ -32,18 +33,25 @@ pub fn read_file<'a, R: Files, A: Allocator + Copy>(
     }
 }
 
-fn read_path<R: Files, A: Allocator + Copy>(
+/// All bytes of a file of a system, which may be a pipe that is read to its end. Refused where the
+/// system refuses, where a folder stands in the file's place, where the file ends earlier than it
+/// did when it was opened, and for want of memory.
+pub(crate) fn read_path<R: Files, A: Allocator + Copy>(
     files: &R,
     alloc: A,
     path: &str,
-) -> Result<Slice<A>, FileFault> {
+) -> Result<Slice<A>, FileFault>
+    ensures { IfErr result IsReadFault }
+{
     let mut file = fs::open(files, path)?;
     let size = size_of(&file.metadata()?)?;
     read_whole(alloc, &mut file, size)
 }
 
 // How many bytes a file has; none is known of what is no plain file. A folder is refused.
-fn size_of(metadata: &Metadata) -> Result<Option<u64>, FileFault> {
+fn size_of(metadata: &Metadata) -> Result<Option<u64>, FileFault>
+    ensures { IfErr result IsReadFault }
+{
     if metadata.is_dir() {
         return Err(FileFault::Folder);
     }
@@ -67,6 +75,7 @@ pub fn read_whole<R: Read, A: Allocator + Copy>(
     // and as many as there should be, or more.
     ensures sized { IfOk result (λ s. IfSome size (λ n. n ≤ length s)) }
     ensures cut { IfErr result (λ fault. IsCutShort fault size) }
+    ensures refused { IfErr result IsReadFault }
 {
     let mut bytes = Vec::new(alloc);
     if let Some(size) = size {

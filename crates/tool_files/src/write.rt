@@ -4,18 +4,18 @@ ghost use Rattle.std.specs.Prelude.{◌⊎◌, false, length, true, string_bytes
 ghost use Rattle.std.specs.Option.{option_map};
 ghost use Rattle.std.specs.Fs.{IsFile, file_type, metadata_mode, permissions_mode};
 ghost use Rattle.tool_files.specs.Files.{IsBeside, path_text};
-ghost use Rattle.tool_files.specs.Placed.{AreBeside, AreNotPlaced, AreNotPut, ArePlaced, IsEarly};
-ghost use Rattle.tool_files.specs.Placed.{StopSyncing, StopsRenamingAt, StopsBefore, TellsRenamed};
-ghost use Rattle.tool_files.specs.Placed.{IfLeft, TellsLeft, removing, renaming, syncing, writing};
+ghost use Rattle.tool_files.specs.Placed.{AreBeside, AreNotPlaced, AreNotPut, ArePlaced, IfLeft};
+ghost use Rattle.tool_files.specs.Placed.{IsEarly, IsLookFault, StopLooking, StopSyncing};
+ghost use Rattle.tool_files.specs.Placed.{StopsBefore, StopsRenamingAt, TellsLeft, TellsRenamed};
+ghost use Rattle.tool_files.specs.Placed.{removing, renaming, syncing, writing};
 ghost use Rattle.tool_files.specs.Standing.{IsAdded, IsWritten, standing_in, standing_of};
 ghost use Rattle.tool_files.specs.Steps.{then_done};
 ghost use Rattle.tool_files.specs.Steps.Step.{Wrote};
 
-use crate::{Disk, FileError, FileFault, FileName, Place};
+use crate::{FileError, FileFault, FileName, Place};
 use std::alloc::{AllocError, Allocator};
 use std::fs::{Metadata, Permissions};
 use std::io;
-use std::rt::Files;
 
 // How many names are tried for a file that is to be renamed.
 const NAMES: u64 = 1_000;
@@ -40,36 +40,6 @@ struct Beside<'a, 'b, A: Allocator> {
     temporary: String<A>,
 }
 
-/// Writes files of a system, as [`place_files`] says: where it is refused before any of them is
-/// renamed, what had the names stays.
-pub fn write_files<'a, R: Files, A: Allocator + Copy>(
-    files: &R,
-    alloc: A,
-    wanted: &[NewFile<'a, '_>],
-) -> Result<(), FileError<'a>>
-    // A refusal names one of the files, and tells none of an earlier write.
-    ensures named { IfErr result (λ e. Any (λ file. file.name ≡ e.name) wanted.now) }
-    ensures left { IfErr result (λ e. IfLeft e.fault ⊥) }
-{
-    place_files(&mut Disk { files }, alloc, wanted)
-}
-
-/// Writes files of a system that are numbered, as [`place_series`] says.
-pub fn write_series<'a, R: Files, A: Allocator + Copy>(
-    files: &R,
-    alloc: A,
-    wanted: &[NewFile<'a, '_>],
-    next: FileName<'a>,
-) -> Result<(), FileError<'a>>
-    // A refusal names one of the files, or the one behind them.
-    ensures named { IfErr result (λ e.
-        (e.name ≡ next.entry) ⊎ Any (λ file. file.name ≡ e.name) wanted.now) }
-    ensures left { IfErr result (λ e.
-        IfLeft e.fault (path_text e.name ≡ path_text next.entry)) }
-{
-    place_series(&mut Disk { files }, alloc, wanted, next)
-}
-
 /// Writes files that are numbered, as [`place_files`] does. `next` is the name behind the last.
 ///
 /// Refused [`FileFault::Left`] where anything has that name, since what an earlier write left there
@@ -90,7 +60,10 @@ pub fn place_series<'a, P: Place, A: Allocator + Copy>(
         (P.there place.old (path_text next.entry)) (P.done place.old) (P.done place.new)) }
     ensures named { IfErr result (λ e.
         (e.name ≡ next.entry) ⊎ Any (λ file. file.name ≡ e.name) wanted.now) }
-    ensures refused { IfErr result (λ e. (P.done place.new ≡ P.done place.old)
+    // Where it is refused, this was done and no more.
+    ensures refused { IfErr result (λ e.
+        StopLooking (P.done place.old) (path_text next.entry)
+        (P.there place.old (path_text next.entry)) e (P.done place.new)
         ⊎ AreNotPlaced (P.done place.old) wanted.now e (P.done place.new)) }
 {
     match check_free(place, alloc, &next) {
@@ -107,8 +80,8 @@ fn check_free<P: Place, A: Allocator + Copy>(
 ) -> Result<(), FileFault>
     ensures free { OnOk result
         (IfSome (P.there place.now (path_text name.now)) (λ there. there ≡ false)) }
-    ensures left { IfErr result (λ fault. IfLeft fault
-        (IfSome (P.there place.now (path_text name.now)) (λ there. there ≡ true))) }
+    ensures left { IfErr result (λ fault.
+        IsLookFault fault (P.there place.now (path_text name.now))) }
 {
     let path = path_of(alloc, name)?;
     match place.look(path.as_str())? {
@@ -137,7 +110,9 @@ pub fn place_files<'a, P: Place, A: Allocator + Copy>(
     // Where it is refused, this was done and no more, and a refusal says which file it was.
     ensures refused { IfErr result (λ e.
         AreNotPlaced (P.done place.old) wanted.now e (P.done place.new)) }
+    // That names one of the files, and tells none of an earlier write.
     ensures named { IfErr result (λ e. Any (λ file. file.name ≡ e.name) wanted.now) }
+    ensures left { IfErr result (λ e. IfLeft e.fault ⊥) }
 {
     let mut written = Vec::new(alloc);
     match write_each(place, alloc, wanted, &mut written) {

@@ -1,3 +1,4 @@
 mod Lines
+mod Refusals
 mod TableFiles
 mod Taken

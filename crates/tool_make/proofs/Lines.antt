@@ -1,5 +1,5 @@
 -- Entries that were read, line by line.
-use Rattle.std.proofs.Common.{◌≡◌, refl, sym, ◌∙◌, ap, subst, ℕ, ◌+◌, ◌-◌, ◌<◌, Bool, true, false}
+use Rattle.std.proofs.Common.{◌≡◌, refl, sym, ◌∙◌, ap, subst, ℕ, suc, ◌+◌, ◌-◌, ◌<◌, Bool, true, false}
 use Rattle.std.proofs.Common.{List, [], ◌∷◌, ◌++◌, length, take, cond, arith, append_assoc}
 use Rattle.std.proofs.Common.{append-nil, lt-ltb}
 use Rattle.std.specs.Prelude.{Option, Some, None, ◌==◌, ◌&&◌, nat_lt, slice_index}
@@ -17,12 +17,14 @@ use Rattle.tool_make.specs.declared.make_error.MakeError.{MakeError}
 use Rattle.tool_make.specs.declared.make_error.MakeError.TheVariants.{File, Input, Line, NoEntries}
 use Rattle.tool_make.specs.declared.make_error.MakeError.TheVariants.{Refused, SizeTooLarge}
 use Rattle.tool_make.specs.Faults.{IsSpeltWrong, IsWrongEntry, IsWrongLine, StopsIn, TellsEntry}
-use Rattle.tool_make.specs.Faults.{IsOfInput, TellsLine, TellsSpelling}
-use Rattle.std.specs.Prelude.{Result, Ok, Err, IfErr}
+use Rattle.tool_make.specs.Faults.{IsOfInput, StopsReading, TellsLine, TellsSpelling}
+use Rattle.tool_make.specs.Taken.{TookAll}
+use Rattle.lsm_writers.specs.Tables.{TablesWriting}
+use Rattle.std.specs.Prelude.{Result, Ok, Err, IfErr, IfSome}
 use Rattle.std.specs.Result.{IsErrAnd}
 use Rattle.std.proofs.Common.{length-append}
-use Rattle.tool_make.specs.Entries.{HasEntries, LosesInputLine, LineSpells, ReadsInputLine, Spell, row_entries}
-use Rattle.tool_make.specs.Entries.{input_lines}
+use Rattle.tool_make.specs.Entries.{HasEntries, HasRows, LosesInputLine, LineSpells, ReadsInputLine}
+use Rattle.tool_make.specs.Entries.{Spell, SpellRows, input_lines, numbered, row_entries}
 
 -- ---- the first line of some bytes
 
@@ -92,27 +94,73 @@ lines_first : (bs : List ℕ) → 0 < length bs
 lines_first [] h = absurd (omega arith)
 lines_first (b ∷ bs) h = lines_by b bs _ refl
 
--- ---- the lines that were read spell entries
+-- ---- the lines that were read
 
--- so many lines of some bytes spell entries, and the others are those of the rest
-pub record Passed (format : Format) (bytes rest : List ℕ) (es : List Entry) (count : ℕ) : Type 0
-  where
-    pub before : List (List ℕ)
-    pub are : input_lines bytes ≡ before ++ input_lines rest
-    pub spelled : Spell format before es
-    pub counted : length before ≡ count
+-- so many lines of some bytes tell something, and the others are those of the rest
+pub record Passed {X : Type 0} (S : List (List ℕ) → X → Type 0) (bytes rest : List ℕ) (x : X)
+    (count : ℕ) : Type 0 where
+  pub before : List (List ℕ)
+  pub are : input_lines bytes ≡ before ++ input_lines rest
+  pub spelled : S before x
+  pub counted : length before ≡ count
+
+abbrev pub GoesBy : {X : Type 0} → (List (List ℕ) → X → Type 0) → Option (List ℕ)
+    → Option (List ℕ) → X → ℕ → Type 0
+GoesBy S None left x count = Unit {0}
+GoesBy S (Some bytes) None x count = ⊥
+GoesBy S (Some bytes) (Some rest) x count = Passed S bytes rest x count
+
+-- the first line that is left
+line_first : (rest line : List ℕ) (new : Option (List ℕ)) → LosesInputLine (Some rest) new line
+    → input_lines rest ≡ line ∷ input_lines (drop_through 10 rest)
+line_first rest line new loses =
+    lines_first rest loses.0
+    ∙ ap (λ (l : List ℕ). l ∷ input_lines (drop_through 10 rest)) (sym loses.1)
+
+module _ {X : Type 0} (S : List (List ℕ) → X → Type 0) where
+  by_none : (input : Option (List ℕ)) (x : X) → S [] x → GoesBy S input input x 0
+  by_none None x h = tt
+  by_none (Some bytes) x h =
+      record { before = []; are = refl; spelled = h; counted = refl }
+
+  -- one more line
+  by_more : (input left new : Option (List ℕ)) (line : List ℕ) (x y : X) (count : ℕ)
+      → GoesBy S input left x count → LosesInputLine left new line
+      → ((before : List (List ℕ)) → length before ≡ count → S before x
+      → S (before ++ line ∷ []) y)
+      → GoesBy S input new y (count + 1)
+  by_more None left new line x y count h loses more = tt
+  by_more (Some bytes) None new line x y count h loses more = absurd h
+  by_more (Some bytes) (Some rest) new line x y count h loses more =
+      let behind : List (List ℕ) = input_lines (drop_through 10 rest) in
+      subst (λ (n : Option (List ℕ)). GoesBy S (Some bytes) n y (count + 1)) (sym loses.2)
+      (let p : Passed S bytes (drop_through 10 rest) y (count + 1) =
+      record {
+        before = h.before ++ line ∷ [];
+        are = h.are ∙ ap (λ (ls : List (List ℕ)). h.before ++ ls) (line_first rest line new loses)
+            ∙ sym (append_assoc h.before (line ∷ []) behind);
+        spelled = more h.before h.counted h.spelled;
+        counted = length-append h.before (line ∷ []) ∙ ap (λ (n : ℕ). n + 1) h.counted;
+      } in p)
+
+  -- nothing is left
+  by_end : (input left : Option (List ℕ)) (x : X) (count : ℕ) → GoesBy S input left x count
+      → IsAtEnd left → IfSome input (λ bytes. S (input_lines bytes) x)
+  by_end None left x count h end = tt
+  by_end (Some bytes) None x count h end = absurd h
+  by_end (Some bytes) (Some rest) x count h end =
+      let all : input_lines bytes ≡ h.before =
+      h.are ∙ ap (λ (r : List ℕ). h.before ++ input_lines r) end ∙ append-nil h.before in
+      subst (λ (ls : List (List ℕ)). S ls x) (sym all) h.spelled
+
+-- ---- they spell entries
 
 abbrev pub Goes : Format → Option (List ℕ) → Option (List ℕ) → List Entry → ℕ → Type 0
-Goes format None left es count = Unit {0}
-Goes format (Some bytes) None es count = ⊥
-Goes format (Some bytes) (Some rest) es count = Passed format bytes rest es count
+Goes format input left es count = GoesBy (Spell format) input left es count
 
 pub goes_none : (format : Format) (input : Option (List ℕ)) → Goes format input input [] 0
-goes_none format None = tt
-goes_none format (Some bytes) =
-    record { before = []; are = refl; spelled = refl; counted = refl }
+goes_none format input = by_none (Spell format) input [] refl
 
--- one more line
 spell_behind : (format : Format) (before : List (List ℕ)) (line : List ℕ) (es ds : List Entry)
     → Spell format before es → Spell format (line ∷ []) ds
     → Spell format (before ++ line ∷ []) (es ++ ds)
@@ -124,34 +172,15 @@ spell_behind format ((b ∷ l) ∷ before) line [] ds h more = absurd h
 spell_behind format ((b ∷ l) ∷ before) line (e ∷ es) ds h more =
     (h.0, spell_behind format before line es ds h.1 more)
 
-goes_on : (format : Format) (bytes rest line : List ℕ) (new : Option (List ℕ))
-    (es ds : List Entry) (count : ℕ) → Passed format bytes rest es count
-    → LosesInputLine (Some rest) new line → Spell format (line ∷ []) ds
-    → Goes format (Some bytes) new (es ++ ds) (count + 1)
-goes_on format bytes rest line new es ds count h loses more =
-    let behind : List (List ℕ) = input_lines (drop_through 10 rest) in
-    let first : input_lines rest ≡ line ∷ behind =
-    lines_first rest loses.0 ∙ ap (λ (l : List ℕ). l ∷ behind) (sym loses.1) in
-    subst (λ (n : Option (List ℕ)). Goes format (Some bytes) n (es ++ ds) (count + 1))
-    (sym loses.2) (let p : Passed format bytes (drop_through 10 rest) (es ++ ds) (count + 1) =
-    record {
-      before = h.before ++ line ∷ [];
-      are = h.are ∙ ap (λ (ls : List (List ℕ)). h.before ++ ls) first
-          ∙ sym (append_assoc h.before (line ∷ []) behind);
-      spelled = spell_behind format h.before line es ds h.spelled more;
-      counted = length-append h.before (line ∷ []) ∙ ap (λ (n : ℕ). n + 1) h.counted;
-    } in p)
-
 -- an empty line is passed over
 pub goes_empty : (format : Format) (input left new : Option (List ℕ)) (line : List ℕ)
     (es : List Entry) (count : ℕ) → Goes format input left es count → LosesInputLine left new line
     → line ≡ [] → Goes format input new es (count + 1)
-goes_empty format None left new line es count h loses empty = tt
-goes_empty format (Some bytes) None new line es count h loses empty = absurd h
-goes_empty format (Some bytes) (Some rest) new line es count h loses empty =
-    subst (λ (xs : List Entry). Goes format (Some bytes) new xs (count + 1)) (append-nil es)
-    (goes_on format bytes rest line new es [] count h loses
-    (subst (λ (l : List ℕ). Spell format (l ∷ []) []) (sym empty) refl))
+goes_empty format input left new line es count h loses empty =
+    subst (λ (xs : List Entry). Goes format input new xs (count + 1)) (append-nil es)
+    (by_more (Spell format) input left new line es (es ++ []) count h loses
+    (λ before long so_far. spell_behind format before line es [] so_far
+    (subst (λ (l : List ℕ). Spell format (l ∷ []) []) (sym empty) refl)))
 
 spell_one : (format : Format) (line : List ℕ) (e : Entry) → (line ≡ [] → ⊥)
     → LineSpells format line e → Spell format (line ∷ []) (e ∷ [])
@@ -163,102 +192,194 @@ pub goes_more : (format : Format) (input left new : Option (List ℕ)) (line : L
     (es : List Entry) (count : ℕ) (e : Entry) → Goes format input left es count
     → LosesInputLine left new line → (line ≡ [] → ⊥) → LineSpells format line e
     → Goes format input new (es ++ e ∷ []) (count + 1)
-goes_more format None left new line es count e h loses some reads = tt
-goes_more format (Some bytes) None new line es count e h loses some reads = absurd h
-goes_more format (Some bytes) (Some rest) new line es count e h loses some reads =
-    goes_on format bytes rest line new es (e ∷ []) count h loses
-    (spell_one format line e some reads)
+goes_more format input left new line es count e h loses some reads =
+    by_more (Spell format) input left new line es (es ++ e ∷ []) count h loses
+    (λ before long so_far. spell_behind format before line es (e ∷ []) so_far
+    (spell_one format line e some reads))
 
--- nothing is left
 pub goes_end : (format : Format) (input left : Option (List ℕ)) (es : List Entry) (count : ℕ)
     → Goes format input left es count → IsAtEnd left → HasEntries format input es
-goes_end format None left es count h end = tt
-goes_end format (Some bytes) None es count h end = absurd h
-goes_end format (Some bytes) (Some rest) es count h end =
-    let all : input_lines bytes ≡ h.before =
-    h.are ∙ ap (λ (r : List ℕ). h.before ++ input_lines r) end ∙ append-nil h.before in
-    subst (λ (ls : List (List ℕ)). Spell format ls es) (sym all) h.spelled
+goes_end format input left es count h end = by_end (Spell format) input left es count h end
 
--- a line is refused
+-- ---- they spell entries with the numbers of their lines
+
+abbrev pub GoesRows : Format → Option (List ℕ) → Option (List ℕ) → List (ℕ × Entry) → ℕ → Type 0
+GoesRows format input left rows count = GoesBy (SpellRows format 1) input left rows count
+
+rows_behind : (format : Format) (n : ℕ) (before : List (List ℕ)) (line : List ℕ)
+    (rows more : List (ℕ × Entry)) → SpellRows format n before rows
+    → SpellRows format (n + length before) (line ∷ []) more
+    → SpellRows format n (before ++ line ∷ []) (rows ++ more)
+rows_behind format n [] line rows more h last =
+    let same : n + 0 ≡ n = omega arith in
+    subst (λ (rs : List (ℕ × Entry)). SpellRows format n (line ∷ []) (rs ++ more)) (sym h)
+    (subst (λ (k : ℕ). SpellRows format k (line ∷ []) more) same last)
+rows_behind format n ([] ∷ before) line rows more h last =
+    let next : n + length ([] ∷ before) ≡ suc n + length before = omega arith in
+    rows_behind format (suc n) before line rows more h
+    (subst (λ (k : ℕ). SpellRows format k (line ∷ []) more) next last)
+rows_behind format n ((b ∷ l) ∷ before) line [] more h last = absurd h
+rows_behind format n ((b ∷ l) ∷ before) line (r ∷ rows) more h last =
+    let next : n + length ((b ∷ l) ∷ before) ≡ suc n + length before = omega arith in
+    (h.0, h.1, rows_behind format (suc n) before line rows more h.2
+    (subst (λ (k : ℕ). SpellRows format k (line ∷ []) more) next last))
+
+pub rows_none : (format : Format) (input : Option (List ℕ)) → GoesRows format input input [] 0
+rows_none format input = by_none (SpellRows format 1) input [] refl
+
+pub rows_empty : (format : Format) (input left new : Option (List ℕ)) (line : List ℕ)
+    (rows : List (ℕ × Entry)) (count : ℕ) → GoesRows format input left rows count
+    → LosesInputLine left new line → line ≡ [] → GoesRows format input new rows (count + 1)
+rows_empty format input left new line rows count h loses empty =
+    subst (λ (rs : List (ℕ × Entry)). GoesRows format input new rs (count + 1)) (append-nil rows)
+    (by_more (SpellRows format 1) input left new line rows (rows ++ []) count h loses
+    (λ before long so_far. rows_behind format 1 before line rows [] so_far
+    (subst (λ (l : List ℕ). SpellRows format (1 + length before) (l ∷ []) []) (sym empty) refl)))
+
+row_one : (format : Format) (number : ℕ) (line : List ℕ) (row : ℕ × Entry) → (line ≡ [] → ⊥)
+    → row.0 ≡ number → LineSpells format line row.1
+    → SpellRows format number (line ∷ []) (row ∷ [])
+row_one format number [] row some is reads = absurd (some refl)
+row_one format number (b ∷ line) row some is reads = (is, reads, refl)
+
+-- a row more, by its number
+numbered_more : (format : Format) (input left new : Option (List ℕ)) (line : List ℕ)
+    (rows : List (ℕ × Entry)) (count : ℕ) (row : ℕ × Entry) → GoesRows format input left rows count
+    → LosesInputLine left new line → (line ≡ [] → ⊥) → row.0 ≡ count + 1
+    → LineSpells format line row.1 → GoesRows format input new (rows ++ row ∷ []) (count + 1)
+numbered_more format input left new line rows count row h loses some is reads =
+    by_more (SpellRows format 1) input left new line rows (rows ++ row ∷ []) count h loses
+    (λ before long so_far. rows_behind format 1 before line rows (row ∷ []) so_far
+    (row_one format (1 + length before) line row some
+    (let n : row.0 ≡ 1 + length before = omega (arith, is, long) in n) reads))
+
+pub rows_row : {A : Type 0} (format : Format) (input left new : Option (List ℕ)) (line : List ℕ)
+    (rows : List (Numbered A)) (count : ℕ) (row : Numbered A)
+    → GoesRows format input left (numbered rows) count → LosesInputLine left new line
+    → (line ≡ [] → ⊥) → row.line ≡ count + 1 → LineSpells format line row.entry
+    → GoesRows format input new (numbered (rows ++ row ∷ [])) (count + 1)
+rows_row {A} format input left new line rows count row h loses some is reads =
+    subst (λ (rs : List (ℕ × Entry)). GoesRows format input new rs (count + 1))
+    (sym (map-append (λ (r : Numbered A). (r.line, r.entry)) rows (row ∷ [])))
+    (numbered_more format input left new line (numbered rows) count (row.line, row.entry) h loses
+    some is reads)
+
+pub rows_end : (format : Format) (input left : Option (List ℕ)) (rows : List (ℕ × Entry))
+    (count : ℕ) → GoesRows format input left rows count → IsAtEnd left
+    → HasRows format input rows
+rows_end format input left rows count h end =
+    by_end (SpellRows format 1) input left rows count h end
+
+-- ---- a line is refused
+
 goes_stops : (format : Format) (input left new : Option (List ℕ)) (line : List ℕ)
-    (ws es : List Entry) (count n : ℕ) (wrong : LineFault) → Goes format input left es count
-    → LosesInputLine left new line → TellsLine (count + 1) format (ws ++ es) line (Line n wrong)
-    → StopsIn format input ws (Line n wrong)
-goes_stops format None left new line ws es count n wrong h loses told = tt
-goes_stops format (Some bytes) None new line ws es count n wrong h loses told = absurd h
-goes_stops format (Some bytes) (Some rest) new line ws es count n wrong h loses told =
-    let behind : List (List ℕ) = input_lines (drop_through 10 rest) in
-    let first : input_lines rest ≡ line ∷ behind =
-    lines_first rest loses.0 ∙ ap (λ (l : List ℕ). l ∷ behind) (sym loses.1) in
+    (w m : TablesWriting) (es : List Entry) (count n : ℕ) (wrong : LineFault)
+    → Goes format input left es count → TookAll w es m → LosesInputLine left new line
+    → TellsLine (count + 1) format m line (Line n wrong) → StopsIn format input w (Line n wrong)
+goes_stops format None left new line w m es count n wrong h taken loses told = tt
+goes_stops format (Some bytes) None new line w m es count n wrong h taken loses told = absurd h
+goes_stops format (Some bytes) (Some rest) new line w m es count n wrong h taken loses told =
     record {
       before = h.before;
       line = line;
-      behind = behind;
-      are = h.are ∙ ap (λ (ls : List (List ℕ)). h.before ++ ls) first;
+      behind = input_lines (drop_through 10 rest);
+      are = h.are ∙ ap (λ (ls : List (List ℕ)). h.before ++ ls) (line_first rest line new loses);
+      entries = es;
+      spelled = h.spelled;
+      writer = m;
+      taken = taken;
+      told = (told.0 ∙ ap (λ (k : ℕ). k + 1) (sym h.counted), told.1);
+    }
+
+pub stops : (format : Format) (input left new : Option (List ℕ)) (line : List ℕ)
+    (w m : TablesWriting) (es : List Entry) (count : ℕ) (error : MakeError)
+    → Goes format input left es count → TookAll w es m → LosesInputLine left new line
+    → TellsLine (count + 1) format m line error → StopsIn format input w error
+stops format input left new line w m es count (Line n wrong) h taken loses told =
+    goes_stops format input left new line w m es count n wrong h taken loses told
+stops format input left new line w m es count (File error) h taken loses told = absurd told
+stops format input left new line w m es count (Input error) h taken loses told = tt
+stops format input left new line w m es count NoEntries h taken loses told = absurd told
+stops format input left new line w m es count SizeTooLarge h taken loses told = absurd told
+stops format input left new line w m es count (Refused error) h taken loses told = told
+
+goes_reading : (format : Format) (input left new : Option (List ℕ)) (line : List ℕ)
+    (es : List Entry) (count n : ℕ) (wrong : LineFault) → Goes format input left es count
+    → LosesInputLine left new line → TellsSpelling (count + 1) format line (Line n wrong)
+    → StopsReading format input (Line n wrong)
+goes_reading format None left new line es count n wrong h loses told = tt
+goes_reading format (Some bytes) None new line es count n wrong h loses told = absurd h
+goes_reading format (Some bytes) (Some rest) new line es count n wrong h loses told =
+    record {
+      before = h.before;
+      line = line;
+      behind = input_lines (drop_through 10 rest);
+      are = h.are ∙ ap (λ (ls : List (List ℕ)). h.before ++ ls) (line_first rest line new loses);
       entries = es;
       spelled = h.spelled;
       told = (told.0 ∙ ap (λ (k : ℕ). k + 1) (sym h.counted), told.1);
     }
 
-pub stops : (format : Format) (input left new : Option (List ℕ)) (line : List ℕ)
-    (ws es : List Entry) (count : ℕ) (error : MakeError) → Goes format input left es count
-    → LosesInputLine left new line → TellsLine (count + 1) format (ws ++ es) line error
-    → StopsIn format input ws error
-stops format input left new line ws es count (Line n wrong) h loses told =
-    goes_stops format input left new line ws es count n wrong h loses told
-stops format input left new line ws es count (File error) h loses told = tt
-stops format input left new line ws es count (Input error) h loses told = tt
-stops format input left new line ws es count NoEntries h loses told = tt
-stops format input left new line ws es count SizeTooLarge h loses told = tt
-stops format input left new line ws es count (Refused error) h loses told = tt
+-- a line that spells no entry is refused
+pub stops_reading : (format : Format) (input left new : Option (List ℕ)) (line : List ℕ)
+    (es : List Entry) (count : ℕ) (error : MakeError) → Goes format input left es count
+    → LosesInputLine left new line → TellsSpelling (count + 1) format line error
+    → StopsReading format input error
+stops_reading format input left new line es count (Line n wrong) h loses told =
+    goes_reading format input left new line es count n wrong h loses told
+stops_reading format input left new line es count (File error) h loses told = absurd told
+stops_reading format input left new line es count (Input error) h loses told = tt
+stops_reading format input left new line es count NoEntries h loses told = absurd told
+stops_reading format input left new line es count SizeTooLarge h loses told = absurd told
+stops_reading format input left new line es count (Refused error) h loses told = told
 
 -- ---- what is wrong with a line
 
-spelt_so : (format : Format) (es : List Entry) (line : List ℕ) (wrong : LineFault)
-    → IsSpeltWrong format line wrong → IsWrongLine format es line wrong
-spelt_so format es line (fault.Spelling error) h = h
-spelt_so format es line fault.TooHigh h = absurd h
-spelt_so format es line fault.OutOfOrder h = absurd h
-spelt_so format es line fault.Repeated h = absurd h
-spelt_so format es line (fault.Refused error) h = absurd h
+spelt_so : (format : Format) (w : TablesWriting) (line : List ℕ) (wrong : LineFault)
+    → IsSpeltWrong format line wrong → IsWrongLine format w line wrong
+spelt_so format w line (fault.Spelling error) h = h
+spelt_so format w line fault.TooHigh h = absurd h
+spelt_so format w line fault.OutOfOrder h = absurd h
+spelt_so format w line fault.Repeated h = absurd h
+spelt_so format w line (fault.Refused error) h = absurd h
 
-pub tells_spelling : (number : ℕ) (format : Format) (es : List Entry) (line : List ℕ)
+pub tells_spelling : (number : ℕ) (format : Format) (w : TablesWriting) (line : List ℕ)
     (error : MakeError) → TellsSpelling number format line error
-    → TellsLine number format es line error
-tells_spelling number format es line (Line n wrong) h =
-    (h.0, spelt_so format es line wrong h.1)
-tells_spelling number format es line (File error) h = absurd h
-tells_spelling number format es line (Input error) h = absurd h
-tells_spelling number format es line NoEntries h = absurd h
-tells_spelling number format es line SizeTooLarge h = absurd h
-tells_spelling number format es line (Refused error) h = h
+    → TellsLine number format w line error
+tells_spelling number format w line (Line n wrong) h =
+    (h.0, spelt_so format w line wrong h.1)
+tells_spelling number format w line (File error) h = absurd h
+tells_spelling number format w line (Input error) h = absurd h
+tells_spelling number format w line NoEntries h = absurd h
+tells_spelling number format w line SizeTooLarge h = absurd h
+tells_spelling number format w line (Refused error) h = h
 
-wrong_so : (format : Format) (es : List Entry) (line : List ℕ) (e : Entry) (wrong : LineFault)
-    → LineSpells format line e → IsWrongEntry false es e wrong → IsWrongLine format es line wrong
-wrong_so format es line e (fault.Spelling error) reads h = absurd h
-wrong_so format es line e fault.TooHigh reads h = (e, reads, h)
-wrong_so format es line e fault.OutOfOrder reads h = (e, reads, h)
-wrong_so format es line e fault.Repeated reads h = (e, reads, h)
-wrong_so format es line e (fault.Refused error) reads h = (e, reads, h)
+wrong_so : (format : Format) (w : TablesWriting) (line : List ℕ) (e : Entry) (wrong : LineFault)
+    → LineSpells format line e → IsWrongEntry false w e wrong → IsWrongLine format w line wrong
+wrong_so format w line e (fault.Spelling error) reads h = absurd h
+wrong_so format w line e fault.TooHigh reads h = (e, reads, h)
+wrong_so format w line e fault.OutOfOrder reads h = (e, reads, h)
+wrong_so format w line e fault.Repeated reads h = (e, reads, h)
+wrong_so format w line e (fault.Refused error) reads h = (e, reads, h)
 
-tells_entry : (number : ℕ) (format : Format) (es : List Entry) (line : List ℕ) (e : Entry)
-    (error : MakeError) → LineSpells format line e → TellsEntry number false es e error
-    → TellsLine number format es line error
-tells_entry number format es line e (Line n wrong) reads h =
-    (h.0, wrong_so format es line e wrong reads h.1)
-tells_entry number format es line e (File error) reads h = absurd h
-tells_entry number format es line e (Input error) reads h = absurd h
-tells_entry number format es line e NoEntries reads h = absurd h
-tells_entry number format es line e SizeTooLarge reads h = absurd h
-tells_entry number format es line e (Refused error) reads h = h
+tells_entry : (number : ℕ) (format : Format) (w : TablesWriting) (line : List ℕ) (e : Entry)
+    (error : MakeError) → LineSpells format line e → TellsEntry number false w e error
+    → TellsLine number format w line error
+tells_entry number format w line e (Line n wrong) reads h =
+    (h.0, wrong_so format w line e wrong reads h.1)
+tells_entry number format w line e (File error) reads h = absurd h
+tells_entry number format w line e (Input error) reads h = absurd h
+tells_entry number format w line e NoEntries reads h = absurd h
+tells_entry number format w line e SizeTooLarge reads h = absurd h
+tells_entry number format w line e (Refused error) reads h = h
 
-pub told_entry : {R : Type 0} (number : ℕ) (format : Format) (es : List Entry) (line : List ℕ)
+pub told_entry : {R : Type 0} (number : ℕ) (format : Format) (w : TablesWriting) (line : List ℕ)
     (e : Entry) (told : Result R MakeError) → LineSpells format line e
-    → IfErr told (λ error. TellsEntry number false es e error)
-    → IfErr told (λ error. TellsLine number format es line error)
-told_entry number format es line e (Ok r) reads h = tt
-told_entry number format es line e (Err error) reads h =
-    tells_entry number format es line e error reads h
+    → IfErr told (λ error. TellsEntry number false w e error)
+    → IfErr told (λ error. TellsLine number format w line error)
+told_entry number format w line e (Ok r) reads h = tt
+told_entry number format w line e (Err error) reads h =
+    tells_entry number format w line e error reads h
 
 -- ---- what reading a line tells
 
@@ -289,21 +410,30 @@ goes_row {A} format input left new line rows count row h loses some reads =
     (sym (map-append (λ (r : Numbered A). r.entry) rows (row ∷ [])))
     (goes_more format input left new line (row_entries rows) count row.entry h loses some reads)
 
--- a line that is told to be empty
-pub no_bytes : (line : List ℕ) (len : ℕ) (empty : Bool) → len ≡ length line
-    → empty ≡ (len == 0) → empty ≡ true → line ≡ []
-no_bytes line len empty long told is =
-    nil_from_length line (sym long ∙ eqb-true len 0 (sym told ∙ is))
+-- a list that is told to be empty
+pub no_items : {X : Type 0} (xs : List X) (len : ℕ) (empty : Bool) → len ≡ length xs
+    → empty ≡ (len == 0) → empty ≡ true → xs ≡ []
+no_items xs len empty long told is =
+    nil_from_length xs (sym long ∙ eqb-true len 0 (sym told ∙ is))
 
--- the input is refused, and no line
-pub stops_else : (format : Format) (input : Option (List ℕ)) (es : List Entry)
-    (error : MakeError) → IsOfInput error → StopsIn format input es error
-stops_else format input es (Line n wrong) h = absurd h
-stops_else format input es (File error) h = absurd h
-stops_else format input es (Input error) h = tt
-stops_else format input es NoEntries h = absurd h
-stops_else format input es SizeTooLarge h = absurd h
-stops_else format input es (Refused error) h = tt
+-- the input or memory is refused, and no line
+pub stops_else : (format : Format) (input : Option (List ℕ)) (w : TablesWriting)
+    (error : MakeError) → IsOfInput error → StopsIn format input w error
+stops_else format input w (Line n wrong) h = absurd h
+stops_else format input w (File error) h = h
+stops_else format input w (Input error) h = h
+stops_else format input w NoEntries h = h
+stops_else format input w SizeTooLarge h = h
+stops_else format input w (Refused error) h = h
+
+pub reading_else : (format : Format) (input : Option (List ℕ)) (error : MakeError)
+    → IsOfInput error → StopsReading format input error
+reading_else format input (Line n wrong) h = absurd h
+reading_else format input (File error) h = h
+reading_else format input (Input error) h = h
+reading_else format input NoEntries h = h
+reading_else format input SizeTooLarge h = h
+reading_else format input (Refused error) h = h
 
 -- a refusal that is handed on
 pub handed_on : {R : Type 0} (told : Result R MakeError) (error : MakeError)

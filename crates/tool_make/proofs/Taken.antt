@@ -2,7 +2,7 @@
 use Rattle.std.proofs.Common.{◌≡◌, refl, sym, ◌∙◌, ap, subst, List, [], ◌∷◌, ◌++◌, append_assoc}
 use Rattle.std.proofs.Common.{append-nil, ℕ, ◌+◌, Bool, true, false, length, length-append, ◌<◌}
 use Rattle.std.proofs.Common.{get_or, take}
-use Rattle.std.specs.Prelude.{Option, None, Result, Ok, Err, IfOk, IsPermutation}
+use Rattle.std.specs.Prelude.{Option, Some, None, Result, Ok, Err, IfErr, IfOk, IsPermutation, map}
 use Rattle.std.specs.Io.KnownBytes.{IsAtEnd}
 use Rattle.std.proofs.lemmas.List.{length-map, map-append, take_more}
 use Rattle.std.proofs.lemmas.List.Sorted.{IsPermutation-map, length_permutation}
@@ -15,11 +15,20 @@ use Rattle.lsm_compactions.proofs.WrittenBy.{since_now}
 use Rattle.tool_lines.specs.declared.entry_line.Format.{Format}
 use Rattle.tool_make.proofs.Lines.{Goes, goes_empty, goes_end, goes_more, goes_none, stops}
 use Rattle.tool_make.specs.declared.make_error.MakeError.{MakeError}
-use Rattle.tool_make.specs.Faults.{StopsIn, TellsLine}
-use Rattle.tool_make.specs.Entries.{HasEntries, LosesInputLine, LineSpells, row_entries}
+use Rattle.tool_make.specs.declared.make_error.LineFault.{LineFault}
+use Rattle.tool_make.specs.declared.make_error.MakeError.TheVariants.{File, Input, Line, NoEntries}
+use Rattle.tool_make.specs.declared.make_error.MakeError.TheVariants.{Refused, SizeTooLarge}
+use Rattle.tool_make.specs.Faults.{StopsAmong, StopsIn, StopsInOrder, StopsReading, TellsEntry}
+use Rattle.tool_make.specs.Faults.{TellsLine}
+use Rattle.tool_files.proofs.Steps.{list_at}
+use Rattle.std.specs.Result.{IsErrAnd}
+use Rattle.std.proofs.Common.{inl, inr, drop}
+use Rattle.tool_make.specs.Entries.{HasEntries, HasRows, LosesInputLine, LineSpells, numbered}
+use Rattle.tool_make.specs.Entries.{row_entries}
 use Rattle.tool_make.specs.declared.entries.Numbered.{Numbered}
 use Rattle.tool_make.specs.declared.options.WriteOptions.{WriteOptions}
-use Rattle.tool_make.specs.Written.{AreOfLines, AreTablesOf, TookAll, TookLine, TookLines}
+use Rattle.tool_make.specs.Written.{AreOfLines, AreTablesOf, TookLine, TookLines}
+use Rattle.tool_make.specs.Taken.{TookAll}
 use Rattle.tool_make.specs.Written.{TookSorted}
 use Rattle.tool_make.specs.Written.{WritesAll, WritesSorted, writer_by}
 
@@ -106,12 +115,9 @@ took_list w m (e ∷ es) h =
 pub lines_stop : (format : Format) (input left new : Option (List ℕ)) (line : List ℕ)
     (w m : TablesWriting) (count passed : ℕ) (error : MakeError)
     → Took format input left w m count passed → LosesInputLine left new line
-    → TellsLine (passed + 1) format (all_written m) line error
-    → StopsIn format input (all_written w) error
+    → TellsLine (passed + 1) format m line error → StopsIn format input w error
 lines_stop format input left new line w m count passed error h loses told =
-    stops format input left new line (all_written w) h.entries passed error h.goes loses
-    (subst (λ (es : List Entry). TellsLine (passed + 1) format es line error)
-    (took_list w m h.entries h.taken) told)
+    stops format input left new line w m h.entries passed error h.goes h.taken loses told
 
 -- ---- rows that a writer takes
 
@@ -129,6 +135,84 @@ rows_more {A} w m n rows i row less here h fine listed is =
     (sym (ap (λ (rs : List (Numbered A)). row_entries rs) more
     ∙ map-append (λ (r : Numbered A). r.entry) (take i rows) (row ∷ [])))
     (took_more w m n (row_entries (take i rows)) row.entry h fine listed is)
+
+-- the entries of rows, with their numbers or without
+entries_of : {A : Type 0} (rows : List (Numbered A))
+    → map (λ (r : ℕ × Entry). r.1) (numbered rows) ≡ row_entries rows
+entries_of [] = refl
+entries_of {A} (row ∷ rows) = ap (λ (es : List Entry). row.entry ∷ es) (entries_of rows)
+
+-- a row is refused
+pub stops_among : {A R : Type 0} (told : Result R MakeError) (rows : List (Numbered A)) (i : ℕ)
+    (row : Numbered A) (w m : TablesWriting) (error : MakeError) → i < length rows
+    → row ≡ get_or rows i row → TookAll w (row_entries (take i rows)) m
+    → TellsEntry row.line true m row.entry error → IsErrAnd told (λ e. e ≡ error)
+    → IfErr told (StopsAmong (numbered rows) w)
+stops_among (Ok r) rows i row w m error less here so_far wrong is = tt
+stops_among {A} (Err e) rows i row w m error less here so_far wrong is =
+    subst (StopsAmong (numbered rows) w) (sym is) record {
+      before = numbered (take i rows);
+      row = (row.line, row.entry);
+      behind = numbered (drop (i + 1) rows);
+      are = ap (λ (rs : List (Numbered A)). numbered rs) (list_at rows i row less here)
+          ∙ map-append (λ (r : Numbered A). (r.line, r.entry)) (take i rows)
+          (row ∷ drop (i + 1) rows);
+      writer = m;
+      taken = subst (λ (es : List Entry). TookAll w es m) (sym (entries_of (take i rows))) so_far;
+      told = wrong;
+    }
+
+-- ---- lines that are put in order are refused
+
+among_line : {A : Type 0} (format : Format) (input : Option (List ℕ))
+    (rows sorted : List (Numbered A)) (w : TablesWriting) (n : ℕ) (wrong : LineFault)
+    → HasRows format input (numbered rows) → IsPermutation rows sorted
+    → StopsAmong (numbered sorted) w (Line n wrong) → StopsInOrder format input w (Line n wrong)
+among_line format None rows sorted w n wrong h permuted stops = tt
+among_line {A} format (Some bytes) rows sorted w n wrong h permuted stops =
+    inr record {
+      rows = numbered rows;
+      spelled = h;
+      sorted = numbered sorted;
+      permuted = IsPermutation-map (λ (r : Numbered A). (r.line, r.entry)) rows sorted permuted;
+      stops = stops;
+    }
+
+among_sorted : {A : Type 0} (format : Format) (input : Option (List ℕ))
+    (rows sorted : List (Numbered A)) (w : TablesWriting) (error : MakeError)
+    → HasRows format input (numbered rows) → IsPermutation rows sorted
+    → StopsAmong (numbered sorted) w error → StopsInOrder format input w error
+among_sorted format input rows sorted w (Line n wrong) h permuted stops =
+    among_line format input rows sorted w n wrong h permuted stops
+among_sorted format input rows sorted w (File error) h permuted stops = absurd stops.told
+among_sorted format input rows sorted w (Input error) h permuted stops = tt
+among_sorted format input rows sorted w NoEntries h permuted stops = absurd stops.told
+among_sorted format input rows sorted w SizeTooLarge h permuted stops = absurd stops.told
+among_sorted format input rows sorted w (Refused error) h permuted stops = stops.told
+
+pub told_among : {A R : Type 0} (told : Result R MakeError) (format : Format)
+    (input : Option (List ℕ)) (rows sorted : List (Numbered A)) (w : TablesWriting)
+    → HasRows format input (numbered rows) → IsPermutation rows sorted
+    → IfErr told (StopsAmong (numbered sorted) w) → IfErr told (StopsInOrder format input w)
+told_among (Ok r) format input rows sorted w h permuted stops = tt
+told_among (Err e) format input rows sorted w h permuted stops =
+    among_sorted format input rows sorted w e h permuted stops
+
+reading_line : (format : Format) (input : Option (List ℕ)) (w : TablesWriting) (n : ℕ)
+    (wrong : LineFault) → StopsReading format input (Line n wrong)
+    → StopsInOrder format input w (Line n wrong)
+reading_line format None w n wrong h = tt
+reading_line format (Some bytes) w n wrong h = inl h
+
+-- one of them spells no entry
+pub reading_first : (format : Format) (input : Option (List ℕ)) (w : TablesWriting)
+    (error : MakeError) → StopsReading format input error → StopsInOrder format input w error
+reading_first format input w (Line n wrong) h = reading_line format input w n wrong h
+reading_first format input w (File error) h = h
+reading_first format input w (Input error) h = h
+reading_first format input w NoEntries h = h
+reading_first format input w SizeTooLarge h = h
+reading_first format input w (Refused error) h = h
 
 -- rows that were put in order, and then taken
 pub sorted_taken : {A E : Type 0} (format : Format) (input : Option (List ℕ))

@@ -1,5 +1,5 @@
 -- Lines that spell entries.
-use Rattle.std.specs.Prelude.{◌≡◌, ◌<◌, ℕ, ◌==◌, Bool, true, false, List, [], ◌∷◌, length, map}
+use Rattle.std.specs.Prelude.{◌≡◌, ◌<◌, ℕ, suc, ◌==◌, Bool, true, false, List, [], ◌∷◌, length, map}
 use Rattle.std.specs.Prelude.{IfSome, Option, Some, if◌then◌else◌}
 use Rattle.std.specs.List.{onto_first}
 use Rattle.std.specs.Io.KnownBytes.{IsAtEnd}
@@ -38,10 +38,27 @@ Spell format ([] ∷ lines) es = Spell format lines es
 Spell format ((b ∷ line) ∷ lines) [] = ⊥
 Spell format ((b ∷ line) ∷ lines) (e ∷ es) = LineSpells format (b ∷ line) e × Spell format lines es
 
+-- lines, of which the first has this number, spell entries, each with the number of its line
+abbrev pub SpellRows : Format → ℕ → List (List ℕ) → List (ℕ × Entry) → Type 0
+SpellRows format number [] rows = rows ≡ []
+SpellRows format number ([] ∷ lines) rows = SpellRows format (suc number) lines rows
+SpellRows format number ((b ∷ line) ∷ lines) [] = ⊥
+SpellRows format number ((b ∷ line) ∷ lines) (row ∷ rows) =
+    (row.0 ≡ number) × LineSpells format (b ∷ line) row.1
+    × SpellRows format (suc number) lines rows
+
 -- the lines of known bytes spell these entries
 abbrev pub HasEntries : Format → Option (List ℕ) → List Entry → Type 0
 HasEntries format input es = IfSome input (λ bytes. Spell format (input_lines bytes) es)
 
+-- the lines of known bytes spell these entries, each with the number of its line
+abbrev pub HasRows : Format → Option (List ℕ) → List (ℕ × Entry) → Type 0
+HasRows format input rows = IfSome input (λ bytes. SpellRows format 1 (input_lines bytes) rows)
+
 -- the entries of rows
 abbrev pub row_entries : {A : Type 0} → List (Numbered A) → List Entry
 row_entries rows = map (λ row. row.entry) rows
+
+-- the entries of rows, each with the number of its line
+abbrev pub numbered : {A : Type 0} → List (Numbered A) → List (ℕ × Entry)
+numbered rows = map (λ row. (row.line, row.entry)) rows

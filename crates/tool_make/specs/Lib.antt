@@ -1,5 +1,6 @@
 pub mod Entries
 pub mod Faults
-pub mod Made
+pub mod Refusing
 pub mod TableFiles
+pub mod Taken
 pub mod Written

@@ -2,7 +2,6 @@
 use Rattle.std.specs.Prelude.{◌≡◌, ◌≤◌, ◌-◌, ◌^◌, ◌++◌, ℕ, None, Bool, true, false}
 use Rattle.std.specs.Prelude.{List, [], ◌∷◌, length}
 use Rattle.std.specs.Prelude.{IsPermutation, Option, Some}
-use Rattle.std.specs.Option.{unwrap_or}
 use Rattle.sst_entries.specs.Entry.{Entry}
 use Rattle.sst_entries.specs.Strict.{IsStrict}
 use Rattle.lsm_formats.specs.declared.options.Options.{Options}
@@ -13,14 +12,11 @@ use Rattle.lsm_writers.specs.Tables.{took_fault, with_options}
 use Rattle.lsm_writers.specs.Writing.{IsSmallIndex}
 use Rattle.lsm_compactions.specs.Compacted.{AreWrittenBy}
 use Rattle.logpurple.specs.Words.{default_options}
+use Rattle.tool_files.specs.Targets.{largest_table}
 use Rattle.tool_lines.specs.declared.entry_line.Format.{Format}
 use Rattle.tool_make.specs.Entries.{HasEntries, LineSpells}
+use Rattle.tool_make.specs.Taken.{TookAll}
 use Rattle.tool_make.specs.declared.options.WriteOptions.{WriteOptions}
-
--- how long a table becomes before the next one begins: no table becomes so long that is the only
--- one
-abbrev pub largest_table : Option ℕ → ℕ
-largest_table target = unwrap_or target (2 ^ 64 - 1)
 
 -- what tables are written with
 abbrev pub options_of : WriteOptions → Options
@@ -38,13 +34,6 @@ HasSmallSizes o = (o.block_size ≤ 4194304) × IsSmallIndex o.index
 abbrev pub writer_by : WriteOptions → TablesWriting
 writer_by o = with_options (new_tables (Some 1) (largest_table o.target) o.level o.created_at)
     (options_of o)
-
--- a writer took entries one after another, and refused none
-abbrev pub TookAll : TablesWriting → List Entry → TablesWriting → Type 0
-TookAll w [] m = m ≡ w
-TookAll w (e ∷ es) m =
-    (took_fault w e ≡ None) × (all_written (took w e) ≡ all_written w ++ e ∷ [])
-    × TookAll (took w e) es m
 
 -- a writer took the entry that a line spells
 pub record TookLine (format : Format) (line : List ℕ) (w m : TablesWriting) : Type 0 where

@@ -6,10 +6,12 @@ ghost use Rattle.sst_entries.specs.Entry.{Entry};
 ghost use Rattle.lsm_writers.specs.Tables.{all_written, took, took_fault};
 ghost use Rattle.lsm_writers.specs.Writing.{may_be_written};
 ghost use Rattle.tool_make.specs.declared.make_error.LineFault.TheVariants.{OutOfOrder, Repeated};
-ghost use Rattle.tool_make.specs.Faults.{IsOfInput, StopsIn, TellsEntry, TellsLine};
-ghost use Rattle.tool_make.specs.Faults.{TellsSpelling};
-ghost use Rattle.tool_make.specs.Written.{TookAll, TookLine};
-ghost use Rattle.tool_make.specs.Entries.{HasEntries, LineSpells, ReadsInputLine, row_entries};
+ghost use Rattle.tool_make.specs.Entries.{HasEntries, HasRows, LineSpells, ReadsInputLine};
+ghost use Rattle.tool_make.specs.Entries.{numbered, row_entries};
+ghost use Rattle.tool_make.specs.Faults.{IsOfInput, StopsAmong, StopsIn, StopsReading, TellsEntry};
+ghost use Rattle.tool_make.specs.Faults.{TellsLine, TellsSpelling};
+ghost use Rattle.tool_make.specs.Taken.{TookAll};
+ghost use Rattle.tool_make.specs.Written.{TookLine};
 
 use crate::{LineFault, MakeError};
 use logpurple::{Error, InternalValue, MultiWriter, SeqNo};
@@ -91,6 +93,7 @@ fn order_fault(sorted: bool) -> LineFault
 
 // Writes an entry behind those that were written, if it may follow. Where entries were put in
 // order, one that may not follow has the key and number of the one before it.
+#[tactic(auto, using(crate::proofs::Refusals::not_memory))]
 fn write_entry<A: Allocator + Copy>(
     writer: &mut MultiWriter<A>,
     number: u64,
@@ -102,7 +105,7 @@ fn write_entry<A: Allocator + Copy>(
         (all_written writer.new ≡ all_written writer.old ++ entry.now ∷ []) }
     ensures taken { OnOk result (took_fault writer.old entry.now ≡ None) }
     ensures refused { IfErr result (λ error.
-        TellsEntry number sorted (all_written writer.old) entry.now error) }
+        TellsEntry number sorted writer.old entry.now error) }
 {
     let entry = entry.as_entry_ref();
     if entry.seqno == SeqNo::MAX {
@@ -134,7 +137,7 @@ fn write_line<A: Allocator + Copy>(
 ) -> Result<(), MakeError<'static>>
     ensures ok { OnOk result (TookLine format line.now writer.old writer.new) }
     ensures refused { IfErr result (λ error.
-        TellsLine number format (all_written writer.old) line.now error) }
+        TellsLine number format writer.old line.now error) }
 {
     let entry = parse_line(alloc, number, line, format)?;
     write_entry(writer, number, &entry, false)
@@ -155,7 +158,7 @@ pub(crate) fn write_lines<I: BufRead, A: Allocator + Copy>(
         × (n ≡ length es) × TookAll writer.old es writer.new) }
     // Where a line is named, it is the first that is wrong, and so it is.
     ensures refused { IfErr result (λ error.
-        StopsIn format (I.remaining input.old) (all_written writer.old) error) }
+        StopsIn format (I.remaining input.old) writer.old error) }
 {
     let mut line = Vec::new(alloc);
     let mut count = 0u64;
@@ -178,8 +181,13 @@ pub(crate) fn collect_lines<I: BufRead, A: Allocator + Copy>(
     input: &mut I,
     format: Format,
 ) -> Result<Vec<Numbered<A>, A>, MakeError<'static>>
-    ensures { IfOk result (λ rows.
+    ensures entries { IfOk result (λ rows.
         HasEntries format (I.remaining input.old) (row_entries rows.items)) }
+    // Each has the number of its line.
+    ensures rows { IfOk result (λ rows.
+        HasRows format (I.remaining input.old) (numbered rows.items)) }
+    // Where a line is named, it is the first that spells no entry.
+    ensures refused { IfErr result (StopsReading format (I.remaining input.old)) }
 {
     let mut rows = Vec::new(alloc);
     let mut line = Vec::new(alloc);
@@ -218,8 +226,10 @@ pub(crate) fn write_rows<A: Allocator + Copy>(
     rows: &[Numbered<A>],
     writer: &mut MultiWriter<A>,
 ) -> Result<u64, MakeError<'static>>
-    ensures { IfOk result (λ n.
+    ensures ok { IfOk result (λ n.
         (n ≡ length rows.now) × TookAll writer.old (row_entries rows.now) writer.new) }
+    // Those before the one that is named were taken.
+    ensures refused { IfErr result (StopsAmong (numbered rows.now) writer.old) }
 {
     for row in rows {
         write_entry(writer, row.line, &row.entry, true)?;

@@ -2,12 +2,10 @@
 #![tactic(auto)]
 
 mod entries;
-mod made;
 mod make_error;
 mod options;
 mod write;
 
-pub use made::{Made, print_made};
 pub use make_error::{LineFault, MakeError};
 pub use options::WriteOptions;
 pub use write::write_entries;

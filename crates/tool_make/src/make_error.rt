@@ -41,7 +41,7 @@ impl fmt::Display for LineFault {
 /// Why files were not made: shown as a sentence.
 #[derive(Debug, Drop)]
 pub enum MakeError<'a> {
-    /// A file could not be read, opened or written.
+    /// A file could not be written, for another reason than want of memory.
     File(FileError<'a>),
     /// The lines could not be read.
     Input(io::Error),
@@ -80,14 +80,19 @@ impl<'a> fmt::Display for MakeError<'a> {
 
 impl<'a> std::error::Error for MakeError<'a> {}
 
+// Want of memory is no file's fault.
 impl<'a> From<FileError<'a>> for MakeError<'a> {
     ghost use Rattle.std.specs.Prelude.{◌≡◌};
-    ghost use Rattle.tool_make.specs.declared.make_error.MakeError.TheVariants.{File};
+    ghost use Rattle.tool_make.specs.Faults.{blamed};
 
-    ghost from_gives = { λ error made. made ≡ File error };
+    ghost from_gives = { λ error made. made ≡ blamed error };
 
     fn from(error: FileError<'a>) -> MakeError<'a> {
-        MakeError::File(error)
+        if error.fault.is_memory() {
+            MakeError::Refused(Error::OutOfMemory)
+        } else {
+            MakeError::File(error)
+        }
     }
 }
 

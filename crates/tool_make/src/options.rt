@@ -1,11 +1,14 @@
 //! What is asked for.
-ghost use Rattle.std.specs.Prelude.{◌≡◌, ◌≤◌, IfOk, OnOk};
+ghost use Rattle.std.specs.Prelude.{◌≡◌, ◌↔◌, ◌≤◌, IfErr, IfOk, OnOk};
 ghost use Rattle.lsm_writers.specs.Writing.{IsSmallIndex};
-ghost use Rattle.tool_make.specs.Written.{HasSmallSizes, options_of, largest_table, writer_by};
+ghost use Rattle.tool_make.specs.declared.make_error.MakeError.TheVariants.{SizeTooLarge};
+ghost use Rattle.tool_make.specs.Refusing.{TellsSizes};
+ghost use Rattle.tool_make.specs.Written.{HasSmallSizes, options_of, writer_by};
 
 use crate::MakeError;
 use logpurple::{BloomConstructionPolicy, IndexKind, MultiWriter, Options, TableIds, Timestamp};
 use std::alloc::Allocator;
+use tool_files::largest_table;
 use tool_lines::Format;
 
 // The largest size of a block and of a partition, in bytes.
@@ -32,16 +35,9 @@ pub struct WriteOptions {
     pub sort: bool,
 }
 
-// A target that no table has.
-fn target_or_none(target: Option<u64>) -> u64
-    ensures { result ≡ largest_table target }
-{
-    target.unwrap_or(u64::MAX)
-}
-
 // How many bytes the partitions of an index have, where it has some.
 fn partition_size(index: IndexKind) -> u32
-    ensures { result ≤ 4194304 → IsSmallIndex index }
+    ensures { result ≤ 4194304 ↔ IsSmallIndex index }
 {
     match index {
         IndexKind::Full => 0,
@@ -62,6 +58,17 @@ impl WriteOptions {
         }
     }
 
+    /// Refused where a block or a partition would be too large, and only there.
+    pub(crate) fn check_sizes(&self) -> Result<(), MakeError<'static>>
+        ensures ok { OnOk result (HasSmallSizes self.now) }
+        ensures large { IfErr result (λ e. (e ≡ SizeTooLarge) × ¬ HasSmallSizes self.now) }
+    {
+        if self.block_size > LARGEST || partition_size(self.index) > LARGEST {
+            return Err(MakeError::SizeTooLarge);
+        }
+        Ok(())
+    }
+
     /// A writer of such tables, with ids from 1 on. Refused where a block or a partition would be
     /// too large, and for want of memory.
     pub(crate) fn writer<A: Allocator + Copy>(
@@ -70,11 +77,10 @@ impl WriteOptions {
     ) -> Result<MultiWriter<A>, MakeError<'static>>
         ensures ok { IfOk result (λ w. w ≡ writer_by self.now) }
         ensures small { OnOk result (HasSmallSizes self.now) }
+        ensures refused { IfErr result (TellsSizes self.now) }
     {
-        if self.block_size > LARGEST || partition_size(self.index) > LARGEST {
-            return Err(MakeError::SizeTooLarge);
-        }
-        let (ids, target) = (TableIds::new(1), target_or_none(self.target));
+        self.check_sizes()?;
+        let (ids, target) = (TableIds::new(1), largest_table(self.target));
         let writer = MultiWriter::new(alloc, ids, target, self.level, self.created_at)?;
         Ok(writer.use_options(self.table_options()))
     }

@@ -1,23 +1,28 @@
 //! Tables that are written of lines.
-ghost use Rattle.std.specs.Prelude.{◌≡◌, ◌<◌, IfErr, IfOk, IsPermutation, List, OnOk, length, map};
+ghost use Rattle.std.specs.Prelude.{◌≡◌, ◌⊎◌, ◌+◌, ◌<◌, Any, IfErr, IfOk, IsErrAnd, IsPermutation, List};
+ghost use Rattle.std.specs.Prelude.{OnOk, length, map, ℕ};
 ghost use Rattle.sst_entries.specs.Entry.{Entry};
 ghost use Rattle.lsm_writers.specs.declared.writer.FinishedTable.{FinishedTable};
-ghost use Rattle.tool_make.specs.Entries.{HasEntries};
 ghost use Rattle.tool_files.specs.Files.{path_text};
+ghost use Rattle.tool_files.specs.Numbered.{named_bytes, numbered_path};
+ghost use Rattle.tool_files.specs.Placed.{ArePlaced, IfLeft};
 ghost use Rattle.logpurple.specs.Words.{OutOfMemory};
-ghost use Rattle.tool_make.specs.declared.make_error.MakeError.TheVariants.{Refused};
-ghost use Rattle.tool_make.specs.TableFiles.{TellsEarlier, TellsTableFile, files_from, named_bytes};
-ghost use Rattle.tool_make.specs.TableFiles.{table_file_name};
-ghost use Rattle.tool_make.specs.Written.{AreOfLines, AreTablesOf, HasSmallSizes, TookAll};
-ghost use Rattle.tool_make.specs.Written.{TookLines};
+ghost use Rattle.tool_make.specs.declared.make_error.MakeError.TheVariants.{Refused, SizeTooLarge};
+ghost use Rattle.tool_make.specs.Entries.{HasEntries};
+ghost use Rattle.tool_make.specs.Faults.{StopsInOrder, StopsLines};
+ghost use Rattle.tool_make.specs.Refusing.{RefusesLines, RefusesToWrite, TellsEnd};
+ghost use Rattle.tool_make.specs.TableFiles.{AreTablesPlaced, IsFreeBehind, RefusesTables};
+ghost use Rattle.tool_make.specs.TableFiles.{StopsPlacing, TellsEarlier, TellsTableFile};
+ghost use Rattle.tool_make.specs.TableFiles.{files_from, table_file_name};
+ghost use Rattle.tool_make.specs.Taken.{TookAll};
+ghost use Rattle.tool_make.specs.Written.{AreOfLines, AreTablesOf, HasSmallSizes, TookLines};
 
 use crate::entries::{collect_lines, sort_rows, write_lines, write_rows};
-use crate::{Made, MakeError, WriteOptions};
+use crate::{MakeError, WriteOptions};
 use logpurple::{FinishedTable, MultiWriter};
 use std::alloc::Allocator;
 use std::io::{BufRead, BufReader, Read};
-use std::rt::Files;
-use tool_files::{FileName, NewFile, write_files, write_series};
+use tool_files::{FileError, FileName, Made, NewFile, Place, place_files, place_series, table_files};
 use tool_lines::Format;
 
 // Writes the entries of lines that are put in order first, and answers how many there are.
@@ -27,10 +32,12 @@ fn write_sorted<I: BufRead, A: Allocator + Copy>(
     format: Format,
     writer: &mut MultiWriter<A>,
 ) -> Result<u64, MakeError<'static>>
-    ensures { IfOk result (λ n. (es : List Entry) × HasEntries format (I.remaining input.old) es
+    ensures ok { IfOk result (λ n. (es : List Entry) × HasEntries format (I.remaining input.old) es
         × (n ≡ length es)
         × ((sorted : List Entry) × IsPermutation es sorted
         × TookAll writer.old sorted writer.new)) }
+    ensures refused { IfErr result
+        (StopsInOrder format (I.remaining input.old) writer.old) }
 {
     let mut rows = collect_lines(alloc, input, format)?;
     sort_rows(&mut rows)?;
@@ -44,8 +51,10 @@ fn fill<I: BufRead, A: Allocator + Copy>(
     options: &WriteOptions,
     writer: &mut MultiWriter<A>,
 ) -> Result<u64, MakeError<'static>>
-    ensures { IfOk result (λ n.
+    ensures ok { IfOk result (λ n.
         TookLines options.now (I.remaining input.old) writer.old writer.new n) }
+    ensures refused { IfErr result
+        (StopsLines options.now.sort options.now.format (I.remaining input.old) writer.old) }
 {
     if options.sort {
         write_sorted(alloc, input, options.format, writer)
@@ -62,7 +71,8 @@ fn finish<A: Allocator + Copy>(
     writer: MultiWriter<A>,
     count: u64,
 ) -> Result<Tables<A>, MakeError<'static>>
-    ensures { IfOk result (λ r. (r.1 ≡ count) × AreTablesOf writer r.0.items) }
+    ensures ok { IfOk result (λ r. (r.1 ≡ count) × AreTablesOf writer r.0.items) }
+    ensures refused { IfErr result (TellsEnd writer) }
 {
     let tables = writer.finish()?;
     Ok((tables, count))
@@ -77,6 +87,7 @@ fn tables_of<I: BufRead, A: Allocator + Copy>(
     ensures lines { IfOk result (λ r.
         AreOfLines options.now (I.remaining input.old) r.0.items r.1) }
     ensures small { OnOk result (HasSmallSizes options.now) }
+    ensures refused { IfErr result (RefusesLines options.now (I.remaining input.old)) }
 {
     let mut writer = options.writer(alloc)?;
     match fill(alloc, input, options, &mut writer) {
@@ -88,9 +99,30 @@ fn tables_of<I: BufRead, A: Allocator + Copy>(
     }
 }
 
+// The tables of an input, one at least, and how many entries they have.
+fn read_tables<I: Read + Drop, A: Allocator + Copy>(
+    alloc: A,
+    input: I,
+    options: &WriteOptions,
+) -> Result<Tables<A>, MakeError<'static>>
+    ensures lines { IfOk result (λ r. AreOfLines options.now (I.remaining input) r.0.items r.1) }
+    ensures some { IfOk result (λ r. 0 < length r.0.items) }
+    ensures small { OnOk result (HasSmallSizes options.now) }
+    ensures refused { IfErr result (RefusesLines options.now (I.remaining input)) }
+{
+    let mut input = BufReader::new(alloc, input)?;
+    let (tables, entries) = tables_of(alloc, &mut input, options)?;
+    drop(input);
+    if tables.is_empty() {
+        return Err(MakeError::NoEntries);
+    }
+    Ok((tables, entries))
+}
+
 // The name of a table's file: the path, or with a target one of several, which are numbered.
 fn name_of<'a>(path: &'a str, target: Option<u64>, number: u64) -> FileName<'a>
-    ensures { path_text result ≡ table_file_name path.now target number }
+    ensures path { path_text result ≡ table_file_name path.now target number }
+    ensures paths { (n : ℕ) → numbered_path result n ≡ table_file_name path.now target n }
 {
     match target {
         None => FileName::Plain(path),
@@ -109,73 +141,97 @@ fn files_of<'a, 'b, A: Allocator + Copy>(
         map named_bytes wanted.items ≡ files_from path.now target 1 tables.now) }
     ensures refused { IfErr result (λ e. e ≡ Refused OutOfMemory) }
 {
-    let mut wanted = Vec::new(alloc);
-    for table in tables {
-        let number = (wanted.len() as u64).saturating_add(1);
-        wanted.push(NewFile {
-            name: name_of(path, target, number),
-            bytes: table.bytes.as_slice(),
-        })?;
-    }
-    Ok(wanted)
+    Ok(table_files(alloc, name_of(path, target, 1), tables)?)
 }
 
-// Writes tables into their files. Of several, what has the name behind the last is not taken for
-// one of them.
-fn put_tables<'a, R: Files, A: Allocator + Copy>(
-    files: &R,
+// Places files of tables. Of several, what has the name behind the last is not taken for one of
+// them.
+fn place_tables<'a, P: Place, A: Allocator + Copy>(
+    place: &mut P,
     alloc: A,
     path: &'a str,
-    options: &WriteOptions,
-    tables: &[FinishedTable<A>],
-) -> Result<(), MakeError<'a>>
-    ensures named { IfErr result
-        (TellsTableFile path.now options.now.target (length tables.now)) }
-    ensures left { IfErr result
-        (TellsEarlier path.now options.now.target (length tables.now)) }
+    target: Option<u64>,
+    wanted: &[NewFile<'a, '_>],
+) -> Result<(), FileError<'a>>
+    ensures placed { OnOk result (ArePlaced (P.done place.old) wanted.now (P.done place.new)) }
+    ensures free { OnOk result (IsFreeBehind target
+        (P.there place.old (table_file_name path.now target (length wanted.now + 1)))) }
+    ensures stops { IfErr result (λ e.
+        StopsPlacing target (table_file_name path.now target (length wanted.now + 1))
+        (P.there place.old) (P.done place.old) wanted.now e (P.done place.new)) }
+    // A refusal names one of the files, or the one behind them, and this one where it is left of an
+    // earlier write.
+    ensures named { IfErr result (λ e.
+        (path_text e.name ≡ table_file_name path.now target (length wanted.now + 1))
+        ⊎ Any (λ file. file.name ≡ e.name) wanted.now) }
+    ensures left { IfErr result (λ e. IfLeft e.fault
+        (path_text e.name ≡ table_file_name path.now target (length wanted.now + 1))) }
 {
-    let target = options.target;
-    let wanted = files_of(alloc, path, target, tables)?;
     match target {
-        None => write_files(files, alloc, &wanted)?,
+        None => place_files(place, alloc, wanted),
         Some(_) => {
-            let next = (tables.len() as u64).saturating_add(1);
-            write_series(files, alloc, &wanted, name_of(path, target, next))?;
+            let next = (wanted.len() as u64).saturating_add(1);
+            place_series(place, alloc, wanted, name_of(path, target, next))
         }
     }
-    Ok(())
+}
+
+// Writes tables into their files.
+fn put_tables<'a, P: Place, A: Allocator + Copy>(
+    place: &mut P,
+    alloc: A,
+    path: &'a str,
+    target: Option<u64>,
+    tables: &[FinishedTable<A>],
+) -> Result<(), MakeError<'a>>
+    ensures placed { OnOk result (AreTablesPlaced path.now target tables.now
+        (P.there place.old) (P.done place.old) (P.done place.new)) }
+    ensures refused { IfErr result (λ e. RefusesTables path.now target tables.now
+        (P.there place.old) (P.done place.old) e (P.done place.new)) }
+    ensures named { IfErr result (TellsTableFile path.now target (length tables.now)) }
+    ensures left { IfErr result (TellsEarlier path.now target (length tables.now)) }
+{
+    let wanted = files_of(alloc, path, target, tables)?;
+    Ok(place_tables(place, alloc, path, target, &wanted)?)
 }
 
 /// Writes the entries of lines into a table, or with a target into several: the files
 /// `PATH.1`, `PATH.2` and so on. Empty lines are passed over. The entries come in order, by key
 /// upward and by number downward, or are put in order first.
 ///
-/// Refused at the first line that spells no entry, is out of order or is taken by no table; of
-/// lines that are put in order where two have one key and number; where there is no entry, where a
-/// block or partition would have more than 4 MiB, as reading the input and [`write_files`] are, and
-/// for want of memory. No file was changed then but as [`write_files`] says.
-pub fn write_entries<'a, R: Files, I: Read + Drop, A: Allocator + Copy>(
-    files: &R,
+/// Refused where a block or partition would have more than 4 MiB; at the first line that spells no
+/// entry, is out of order or is taken by no table; of lines that are put in order at the first that
+/// spells no entry, then in their order where two have one key and number or one is taken by no
+/// table; where there is no entry, and as reading the input is: then nothing was done. Refused as
+/// [`place_files`] and [`place_series`] are, which say what was done then, and for want of memory.
+pub fn write_entries<'a, P: Place, I: Read + Drop, A: Allocator + Copy>(
+    place: &mut P,
     alloc: A,
     input: I,
     path: &'a str,
     options: &WriteOptions,
 ) -> Result<Made, MakeError<'a>>
-    // Where it answers, so many tables were made of so many entries, which the lines spell.
+    // Where it answers, so many tables were made of so many entries, which the lines spell, and
+    // just their files were placed, with their bytes.
     ensures lines { IfOk result (λ made. (fs : List (FinishedTable A))
         × (made.tables ≡ length fs)
-        × AreOfLines options.now (I.remaining input) fs made.entries) }
+        × AreOfLines options.now (I.remaining input) fs made.entries
+        × AreTablesPlaced path.now options.now.target fs
+        (P.there place.old) (P.done place.old) (P.done place.new)) }
     // There is an entry then, and so a table, and no block or partition is too large.
     ensures some { IfOk result (λ made. 0 < made.tables) }
     ensures small { OnOk result (HasSmallSizes options.now) }
+    // Where one would be, nothing else is told.
+    ensures large { ¬ HasSmallSizes options.now → IsErrAnd result (λ e. e ≡ SizeTooLarge) }
+    // Where it is refused, no tables came of the lines, for what is told, and nothing was done; or
+    // just their files were not placed, or not for good.
+    ensures refused { IfErr result (λ e. RefusesToWrite A options.now (I.remaining input) path.now
+        (P.there place.old) (P.done place.old) e (P.done place.new)) }
 {
-    let mut input = BufReader::new(alloc, input)?;
-    let (tables, entries) = tables_of(alloc, &mut input, options)?;
-    drop(input);
-    if tables.is_empty() {
-        return Err(MakeError::NoEntries);
-    }
-    put_tables(files, alloc, path, options, &tables)?;
+    // What is told of the sizes comes before any want of memory.
+    options.check_sizes()?;
+    let (tables, entries) = read_tables(alloc, input, options)?;
+    put_tables(place, alloc, path, options.target, &tables)?;
     Ok(Made {
         tables: tables.len() as u64,
         entries,

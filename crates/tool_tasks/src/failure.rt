@@ -1,13 +1,11 @@
 //! Why a command did not succeed.
 ghost use Rattle.std.specs.Prelude.{◌≡◌};
-ghost use Rattle.tool_compact.specs.Blamed.{is_memory_fault};
 ghost use Rattle.tool_tasks.specs.Statuses.{status_of_failure};
 
-use logpurple::Error;
 use std::alloc::{AllocError, AllocFailed};
 use std::{fmt, io};
 use tool_compact::CompactError;
-use tool_files::{FileError, FileFault};
+use tool_files::FileError;
 use tool_lines::LineError;
 use tool_make::MakeError;
 use tool_show::ShowError;
@@ -29,13 +27,6 @@ pub(crate) enum Failure<'a> {
     Make(MakeError<'a>),
     /// Files were not compacted or packed.
     Compact(CompactError<'a>),
-}
-
-/// Whether memory is wanted, which is no file's fault.
-pub(crate) fn is_memory_fault(fault: &FileFault) -> bool
-    ensures { result ≡ is_memory_fault fault.now }
-{
-    matches!(fault, FileFault::Refused(Error::OutOfMemory))
 }
 
 impl<'a> Failure<'a> {
@@ -101,7 +92,7 @@ impl<'a> From<io::Error> for Failure<'a> {
 impl<'a> From<FileError<'a>> for Failure<'a> {
     // Want of memory is no file's fault.
     fn from(error: FileError<'a>) -> Failure<'a> {
-        if is_memory_fault(&error.fault) {
+        if error.fault.is_memory() {
             Failure::OutOfMemory
         } else {
             Failure::File(error)

@@ -9,8 +9,9 @@ use logpurple::{BloomConstructionPolicy, IndexKind, Rules, Timestamp};
 use std::io::{Read, Write};
 use std::rt::{Clock, Files};
 use tool_compact::{CompactOptions, compact_files, pack_files, print_packed};
+use tool_files::{Disk, print_made};
 use tool_lines::Format;
-use tool_make::{Made, WriteOptions, print_made, write_entries};
+use tool_make::{WriteOptions, write_entries};
 use tool_options::{CompactTask, PackTask, WriteTask};
 
 /// How a line spells an entry.
@@ -88,7 +89,8 @@ pub(crate) fn write<'a, R: Files, C: Clock, I: Read + Drop, W: Write>(
     output: &mut W,
 ) -> Result<(), Failure<'a>> {
     let options = write_options(task, now(system.clock));
-    let made = write_entries(system.files, system.alloc, input, task.file, &options)?;
+    let mut place = system.disk();
+    let made = write_entries(&mut place, system.alloc, input, task.file, &options)?;
     print_made(output, made)?;
     Ok(())
 }
@@ -101,11 +103,8 @@ pub(crate) fn compact<'a, R: Files, C: Clock, W: Write>(
 ) -> Result<(), Failure<'a>> {
     let options = compact_options(task, now(system.clock));
     let files = task.files.as_slice();
-    let made = compact_files(system.files, system.alloc, files, task.folder, &options)?;
-    let made = Made {
-        tables: made.tables,
-        entries: made.entries,
-    };
+    let mut place = system.disk();
+    let made = compact_files(&mut place, system.alloc, files, task.folder, &options)?;
     print_made(output, made)?;
     Ok(())
 }
@@ -117,7 +116,7 @@ pub(crate) fn pack<'a, R: Files, C: Clock, W: Write>(
     output: &mut W,
 ) -> Result<(), Failure<'a>> {
     let files = task.files.as_slice();
-    let packed = pack_files(system.files, system.alloc, files)?;
+    let packed = pack_files(&system.disk(), system.alloc, files)?;
     print_packed(output, files, &packed)?;
     Ok(())
 }

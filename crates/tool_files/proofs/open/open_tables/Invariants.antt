@@ -1,11 +1,14 @@
-use Rattle.std.proofs.Common.{◌≡◌, length}
+use Rattle.std.proofs.Common.{◌≡◌, length, take}
 use Rattle.std.specs.List.{AllByRecursion}
 use Rattle.logpurple.specs.Words.{OpenTable}
-use Rattle.tool_files.specs.Opened.{IsToldByBytes}
+use Rattle.tool_files.specs.Opened.{AreOpened, IsToldByBytes}
 use Rattle.tool_files.proofs.open.open_tables.Given as goal
 
 abbrev pub invariant-loop-path : goal.invariant-loop-path
-invariant-loop-path g l =
-    (length l.tables.items ≡ l.path-index)
-    × AllByRecursion (λ (t : OpenTable). t.global_seqno ≡ 0) l.tables.items
-    × AllByRecursion IsToldByBytes l.tables.items
+invariant-loop-path g l = record {
+  many : length l.tables.items ≡ l.path-index;
+  numbers : AllByRecursion (λ (t : OpenTable). t.global_seqno ≡ 0) l.tables.items;
+  recovered : AllByRecursion (IsToldByBytes l.pinned) l.tables.items;
+  opened : AreOpened l.pinned (g.P.Place.content l.place) (take l.path-index l.paths)
+      l.tables.items;
+}

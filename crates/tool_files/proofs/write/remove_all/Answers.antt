@@ -1,4 +1,4 @@
-use Rattle.std.proofs.Common.{sym, ◌∙◌, ap, take, List, ℕ, ◌∷◌, []}
+use Rattle.std.proofs.Common.{sym, ◌∙◌, ap, List, ℕ, ◌∷◌, []}
 use Rattle.std.proofs.lemmas.List.{take_all}
 use Rattle.tool_files.proofs.Steps.{one_more, then_none}
 use Rattle.tool_files.specs.Placed.{removing}

@@ -1,8 +1,7 @@
 use Rattle.std.proofs.Common.{rules, arith}
-use Rattle.lsm_writers.specs.Tables.{all_written}
 use Rattle.tool_make.specs.Faults.{StopsIn, TellsLine}
 use Rattle.std.proofs.Common.{◌+◌, subst}
-use Rattle.tool_make.proofs.Lines.{at_end, handed_on, lost, no_bytes, stops_else}
+use Rattle.tool_make.proofs.Lines.{at_end, handed_on, lost, no_items, stops_else}
 use Rattle.tool_make.proofs.Taken.{lines_empty, lines_end, lines_more, lines_stop}
 use Rattle.tool_make.proofs.entries.write_lines.Goals as goal
 use Rattle.tool_make.proofs.entries.write_lines.Goals.{then-not-is_empty+in_ok-write_line, else-not-is_empty}
@@ -29,7 +28,7 @@ loop-before-preserved g c =
           }
       | else-not-is_empty v ↦
           rw (v.writer-is, v.count-is) record {
-            took = lines_empty c.args.format input (left c.loop-before.input) (left c.read_line.new.input) line w c.loop-before.writer c.loop-before.count c.loop-before.before h.took loses (no_bytes line c.read_line.new.line.len c.is_empty.result (search rules) (search rules) (search rules));
+            took = lines_empty c.args.format input (left c.loop-before.input) (left c.read_line.new.input) line w c.loop-before.writer c.loop-before.count c.loop-before.before h.took loses (no_items line c.read_line.new.line.len c.is_empty.result (search rules) (search rules) (search rules));
             few = omega (arith, h.few);
           }
     ]
@@ -37,7 +36,7 @@ loop-before-preserved g c =
 pub returns-in_err-read_line-clause-refused : goal.returns-in_err-read_line-clause-refused
 returns-in_err-read_line-clause-refused g c =
     let input = g.I.Read.remaining c.args.input.now in
-    let before = all_written c.args.writer.now in
+    let before = c.args.writer.now in
     handed_on c.from_residual.result c.in_err-read_line.field-0.0 (StopsIn c.args.format input before) c.from_residual.ensures.1
     (stops_else c.args.format input before c.in_err-read_line.field-0.0 c.in_err-read_line.ensures.refused)
 
@@ -48,11 +47,11 @@ returns-in_err-write_line-clause-refused g c =
     let line = c.read_line.new.line.items in
     let error = c.in_err-write_line.field-0.0 in
     let h = c.loop-before in
-    handed_on c.from_residual-in_err-write_line.result error (StopsIn c.args.format input (all_written c.args.writer.now)) c.from_residual-in_err-write_line.ensures.1
+    handed_on c.from_residual-in_err-write_line.result error (StopsIn c.args.format input c.args.writer.now) c.from_residual-in_err-write_line.ensures.1
     (lines_stop c.args.format input (left h.input) (left c.read_line.new.input) line c.args.writer.now h.writer h.count h.before error h.invariant.took
     (lost c.in_ok-read_line.field-0 (left h.input) (left c.read_line.new.input) line c.in_ok-read_line.ensures.ok c.if-not-branch.false)
-    (subst (λ l. TellsLine (h.before + 1) c.args.format (all_written h.writer) l error) c.deref.ensures.value c.in_err-write_line.ensures.refused))
+    (subst (λ l. TellsLine (h.before + 1) c.args.format h.writer l error) c.deref.ensures.value c.in_err-write_line.ensures.refused))
 
 pub returns-clause-refused : goal.returns-clause-refused
 returns-clause-refused g c =
-    stops_else c.args.format (g.I.Read.remaining c.args.input.now) (all_written c.args.writer.now) c.too_many.result c.too_many.ensures
+    stops_else c.args.format (g.I.Read.remaining c.args.input.now) c.args.writer.now c.too_many.result c.too_many.ensures

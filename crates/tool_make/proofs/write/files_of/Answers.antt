@@ -1,12 +1,9 @@
-use Rattle.std.proofs.Common.{◌∙◌, ap, length-append, rules, ◌+◌, [], ◌∷◌}
-use Rattle.tool_make.proofs.TableFiles.{files_more}
+use Rattle.std.proofs.Common.{◌∙◌}
+use Rattle.tool_files.specs.Numbered.{numbered_path}
+use Rattle.tool_files.proofs.FilesMore.{same_files}
+use Rattle.tool_make.specs.TableFiles.{table_file_name}
 use Rattle.tool_make.proofs.write.files_of.Goals as goal
 
-pub loop-table-preserved : goal.loop-table-preserved
-loop-table-preserved g c =
-    let at = c.loop-table.table-index in
-    let wanted = c.loop-table.wanted.items in
-    rw c.in_ok-push.ensures.items record {
-      many = length-append wanted (_ ∷ []) ∙ ap (λ n. n + 1) c.loop-table.invariant.many;
-      told = files_more c.args.path.now c.args.target c.args.tables.now at c.table-item.result wanted _ c.saturating_add-number.result c.loop-table-test.true c.table-item.is c.loop-table.invariant.told (search rules) c.name_of.ensures c.as_slice.ensures;
-    }
+pub returns-clause-files : goal.returns-clause-files
+returns-clause-files g c =
+    c.in_ok-table_files.ensures ∙ same_files (numbered_path c.name_of.result) (table_file_name c.args.path.now c.args.target) c.name_of.ensures.paths 1 _

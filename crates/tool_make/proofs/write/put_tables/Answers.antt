@@ -1,32 +1,25 @@
-use Rattle.std.proofs.Common.{rules, subst, ◌≡◌}
-use Rattle.std.specs.Prelude.{Any, length, ◌⊎◌}
-use Rattle.tool_files.specs.declared.write.NewFile.{NewFile}
-use Rattle.tool_make.specs.TableFiles.{TellsTableFile}
-use Rattle.tool_make.specs.declared.make_error.MakeError.TheVariants.{File}
-use Rattle.tool_make.proofs.Lines.{handed_on}
-use Rattle.tool_make.proofs.TableFiles.{tells_file, tells_next}
+use Rattle.std.specs.Prelude.{length}
+use Rattle.tool_make.proofs.TableFiles.{blamed_earlier, blamed_table, tables_placed, tables_stop}
+use Rattle.tool_make.proofs.TableFiles.{tells_next}
 use Rattle.tool_make.proofs.write.put_tables.Goals as goal
 
-pub returns-in_err-write_files-in-None-clause-named :
-    goal.returns-in_err-write_files-in-None-clause-named
-returns-in_err-write_files-in-None-clause-named g c =
-    let e = c.in_err-write_files-in-None.field-0.0 in
-    let path = c.args.path.now in
-    let target = c.args.options.now.target in
-    let tables = c.args.tables.now in
-    let wanted = c.in_ok-wanted.wanted.items in
-    handed_on c.from_residual-in_err-write_files-in-None.result (File e) (TellsTableFile path target (length tables)) c.from_residual-in_err-write_files-in-None.ensures.1
-    (tells_file path target tables wanted e c.in_ok-wanted.ensures.files
-    (subst (Any (λ (file : NewFile). file.name ≡ e.name)) c.deref.ensures.value c.in_err-write_files-in-None.ensures.named))
+pub returns-clause-placed : goal.returns-clause-placed
+returns-clause-placed g c =
+    let told = c.in_ok-place_tables.ensures in
+    tables_placed c.args.path.now c.args.target c.args.tables.now c.in_ok-wanted.wanted.items c.deref.result.now (g.P.Place.there c.args.place.now) (g.P.Place.done c.args.place.now) (g.P.Place.done c.place_tables.new.place) c.in_ok-wanted.ensures.files c.deref.ensures.value told.placed told.free
 
-pub returns-in_err-write_series-in-Some-clause-named :
-    goal.returns-in_err-write_series-in-Some-clause-named
-returns-in_err-write_series-in-Some-clause-named g c =
-    let e = c.in_err-write_series-in-Some.field-0.0 in
-    let path = c.args.path.now in
-    let target = c.args.options.now.target in
+pub returns-in_err-place_tables-clause-refused :
+    goal.returns-in_err-place_tables-clause-refused
+returns-in_err-place_tables-clause-refused g c =
+    tables_stop c.from_residual-in_err-place_tables.result c.args.path.now c.args.target c.args.tables.now c.in_ok-wanted.wanted.items c.deref.result.now (g.P.Place.there c.args.place.now) (g.P.Place.done c.args.place.now) (g.P.Place.done c.place_tables.new.place) c.in_err-place_tables.field-0.0 c.in_ok-wanted.ensures.files c.deref.ensures.value c.in_err-place_tables.ensures.stops c.from_residual-in_err-place_tables.ensures.1
+
+pub returns-in_err-place_tables-clause-named : goal.returns-in_err-place_tables-clause-named
+returns-in_err-place_tables-clause-named g c =
+    let e = c.in_err-place_tables.field-0.0 in
     let tables = c.args.tables.now in
-    let wanted = c.in_ok-wanted.wanted.items in
-    handed_on c.from_residual-in_err-write_series-in-Some.result (File e) (TellsTableFile path target (length tables)) c.from_residual-in_err-write_series-in-Some.ensures.1
-    (tells_next path target tables wanted e c.name_of.result c.saturating_add-next.result c.in_ok-wanted.ensures.files c.name_of.ensures (search rules)
-    (subst (λ l. (e.name ≡ c.name_of.result) ⊎ Any (λ (file : NewFile). file.name ≡ e.name) l) c.deref-in-Some.ensures.value c.in_err-write_series-in-Some.ensures.named))
+    blamed_table c.from_residual-in_err-place_tables.result c.args.path.now c.args.target (length tables) e
+    (tells_next c.args.path.now c.args.target tables c.in_ok-wanted.wanted.items c.deref.result.now e c.in_ok-wanted.ensures.files c.deref.ensures.value c.in_err-place_tables.ensures.named) c.from_residual-in_err-place_tables.ensures.1
+
+pub returns-in_err-place_tables-clause-left : goal.returns-in_err-place_tables-clause-left
+returns-in_err-place_tables-clause-left g c =
+    blamed_earlier c.from_residual-in_err-place_tables.result c.args.path.now c.args.target c.args.tables.now c.in_ok-wanted.wanted.items c.deref.result.now c.in_err-place_tables.field-0.0 c.in_ok-wanted.ensures.files c.deref.ensures.value c.in_err-place_tables.ensures.left c.from_residual-in_err-place_tables.ensures.1

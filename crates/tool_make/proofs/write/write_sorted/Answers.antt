@@ -1,6 +1,23 @@
-use Rattle.tool_make.proofs.Taken.{sorted_taken}
+use Rattle.std.specs.Prelude.{IfErr}
+use Rattle.std.proofs.Common.{refl}
+use Rattle.logpurple.specs.Words.{OutOfMemory}
+use Rattle.tool_make.specs.declared.make_error.MakeError.TheVariants.{Refused}
+use Rattle.tool_make.specs.Faults.{StopsInOrder}
+use Rattle.tool_make.proofs.Lines.{handed_on}
+use Rattle.tool_make.proofs.Taken.{reading_first, sorted_taken, told_among}
 use Rattle.tool_make.proofs.write.write_sorted.Goals as goal
 
-pub returns : goal.returns
-returns g c =
-    sorted_taken c.args.format (g.I.Read.remaining c.args.input.now) c.in_ok-rows.rows.items c.sort_rows.new.rows.items c.args.writer.now c.write_rows.new.writer c.write_rows.result c.in_ok-rows.ensures c.sort_rows.ensures (rw c.deref.ensures.value at c.write_rows.ensures)
+pub returns-clause-ok : goal.returns-clause-ok
+returns-clause-ok g c =
+    sorted_taken c.args.format (g.I.Read.remaining c.args.input.now) c.in_ok-rows.rows.items c.sort_rows.new.rows.items c.args.writer.now c.write_rows.new.writer c.write_rows.result c.in_ok-rows.ensures.entries c.sort_rows.ensures (rw c.deref.ensures.value at c.write_rows.ensures.ok)
+
+pub returns-clause-refused : goal.returns-clause-refused
+returns-clause-refused g c =
+    told_among c.write_rows.result c.args.format (g.I.Read.remaining c.args.input.now) c.in_ok-rows.rows.items c.sort_rows.new.rows.items c.args.writer.now c.in_ok-rows.ensures.rows c.sort_rows.ensures (rw c.deref.ensures.value at c.write_rows.ensures.refused)
+
+pub returns-in_err-rows-clause-refused : goal.returns-in_err-rows-clause-refused
+returns-in_err-rows-clause-refused g c =
+    let input = g.I.Read.remaining c.args.input.now in
+    let error = c.in_err-rows.field-0.0 in
+    handed_on c.from_residual.result error (StopsInOrder c.args.format input c.args.writer.now) c.from_residual.ensures.1
+    (reading_first c.args.format input c.args.writer.now error c.in_err-rows.ensures.refused)

@@ -1,11 +1,12 @@
 use Rattle.std.proofs.Common.{◌≡◌, length, take}
 use Rattle.std.specs.Prelude.{map}
-use Rattle.tool_make.specs.TableFiles.{named_bytes, files_from}
-use Rattle.tool_make.proofs.write.files_of.Given as goal
+use Rattle.tool_files.specs.Numbered.{named_bytes, numbered_files, numbered_path}
+use Rattle.tool_files.proofs.numbered.table_files.Given as goal
 
 abbrev pub invariant-loop-table : goal.invariant-loop-table
 invariant-loop-table g l = record {
   many : length l.wanted.items ≡ l.table-index;
   told : map named_bytes l.wanted.items
-      ≡ files_from l.fn.path l.fn.target 1 (take l.table-index l.tables);
+      ≡ numbered_files (numbered_path l.fn.name) 1
+      (map (λ table. table.bytes) (take l.table-index l.tables));
 }

@@ -1,10 +1,11 @@
 //! What was made.
 ghost use Rattle.std.specs.Prelude.{◌≡◌, List, OnOk, ℕ};
 ghost use Rattle.std.specs.Io.KnownBytes.{Appends};
-ghost use Rattle.tool_make.specs.Made.{made_line, word_for};
+ghost use Rattle.tool_files.specs.Made.{made_line};
 
 use std::io;
 use std::io::Write;
+use tool_lines::word_for;
 
 /// How many tables were made, and how many entries these have.
 #[derive(Clone, Copy, Debug, PartialEq, Eq)]
@@ -13,13 +14,6 @@ pub struct Made {
     pub tables: u64,
     /// The entries of all tables.
     pub entries: u64,
-}
-
-// The word for so many.
-fn word_for(count: u64, one: &'static str, many: &'static str) -> &'static str
-    ensures { result.now ≡ word_for count one.now many.now }
-{
-    if count == 1 { one } else { many }
 }
 
 /// Prints what was made, in a line.

@@ -1,11 +1,8 @@
 -- What was made, in words.
 use Rattle.std.specs.Prelude.{ℕ, ◌==◌, List, ◌++◌, codes, if◌then◌else◌}
 use Rattle.std.specs.Fmt.{decimal}
-use Rattle.tool_make.specs.declared.made.Made.{Made}
-
--- the word for so many
-abbrev pub word_for : ℕ → List ℕ → List ℕ → List ℕ
-word_for count one many = if count == 1 then one else many
+use Rattle.tool_lines.specs.Counts.{word_for}
+use Rattle.tool_files.specs.declared.made.Made.{Made}
 
 -- the line that says what was made
 abbrev pub made_line : Made → List ℕ

@@ -1,0 +1,187 @@
+//! A place in memory.
+use logpurple::Slice;
+use std::alloc::{AllocError, Allocator, Global};
+use std::fs::{Metadata, Permissions};
+use std::io;
+use std::io::ErrorKind;
+use tool_files::{FileFault, Place};
+
+/// A file, or a folder.
+#[derive(Drop)]
+struct File {
+    path: String,
+    // none of a folder
+    bytes: Option<Vec<u8>>,
+}
+
+/// Files in memory. Each step that a system might refuse is counted, and one of them is refused.
+#[derive(Drop)]
+pub(crate) struct Memory {
+    alloc: Global,
+    files: Vec<File>,
+    steps: u64,
+    refused: u64,
+}
+
+impl Memory {
+    /// No files; the step of this number will be refused.
+    pub(crate) fn new(alloc: Global, refused: u64) -> Memory {
+        Memory {
+            alloc,
+            files: Vec::new(alloc),
+            steps: 0,
+            refused,
+        }
+    }
+
+    /// Counts anew, and refuses the step of this number.
+    pub(crate) fn refuse(&mut self, refused: u64) {
+        self.steps = 0;
+        self.refused = refused;
+    }
+
+    /// How many steps were made, the refused one among them.
+    pub(crate) fn steps(&self) -> u64 {
+        self.steps
+    }
+
+    /// How many files and folders there are.
+    pub(crate) fn count(&self) -> usize {
+        self.files.len()
+    }
+
+    /// What a file has.
+    pub(crate) fn bytes_of(&self, path: &str) -> Option<&[u8]> {
+        for file in &self.files {
+            if file.path.as_str() == path {
+                return file.bytes.as_deref();
+            }
+        }
+        None
+    }
+
+    /// Puts a file there, or a folder, uncounted.
+    pub(crate) fn put(&mut self, path: &str, bytes: Option<&[u8]>) -> Result<(), AllocError> {
+        let path = String::from(self.alloc, path)?;
+        let bytes = match bytes {
+            Some(bytes) => Some(copied(self.alloc, bytes)?),
+            None => None,
+        };
+        self.files.push(File { path, bytes })?;
+        Ok(())
+    }
+
+    // Whether anything has a path.
+    fn has(&self, path: &str) -> bool {
+        for file in &self.files {
+            if file.path.as_str() == path {
+                return true;
+            }
+        }
+        false
+    }
+
+    // Whether anything lies in a folder.
+    fn has_within(&self, folder: &str) -> bool {
+        for file in &self.files {
+            if file.path.as_str().strip_prefix(folder).is_some_and(|rest| rest.starts_with("/")) {
+                return true;
+            }
+        }
+        false
+    }
+
+    // Takes what has a path away.
+    fn forget(&mut self, path: &str) {
+        self.files.retain(|file| file.path.as_str() != path);
+    }
+
+    // One step more.
+    fn step(&mut self) -> io::Result<()> {
+        let step = self.steps;
+        self.steps = step.saturating_add(1);
+        if step == self.refused {
+            return Err(io::Error::from(ErrorKind::PermissionDenied));
+        }
+        Ok(())
+    }
+}
+
+// A copy of some bytes.
+fn copied(alloc: Global, bytes: &[u8]) -> Result<Vec<u8>, AllocError> {
+    let mut copy = Vec::new(alloc);
+    copy.extend_from_slice(bytes)?;
+    Ok(copy)
+}
+
+impl Place for Memory {
+    ghost use Rattle.std.specs.Prelude.{None};
+
+    ghost done = { λ _. None };
+
+    ghost there = { λ _ _. None };
+
+    ghost content = { λ _ _. None };
+
+    fn read<A: Allocator + Copy>(&self, alloc: A, path: &str) -> Result<Slice<A>, FileFault> {
+        match self.bytes_of(path) {
+            Some(bytes) => Ok(Slice::from(alloc, bytes)?),
+            None => Err(FileFault::Io(io::Error::from(ErrorKind::NotFound))),
+        }
+    }
+
+    fn look(&self, path: &str) -> io::Result<Option<Metadata>> {
+        if !self.has(path) {
+            return Ok(None);
+        }
+        match self.bytes_of(path) {
+            Some(bytes) => Ok(Some(Metadata::of_file(bytes.len() as u64))),
+            None => Ok(Some(Metadata::of_dir())),
+        }
+    }
+
+    fn write_new(
+        &mut self,
+        path: &str,
+        bytes: &[u8],
+        _permissions: Option<&Permissions>,
+    ) -> io::Result<bool> {
+        self.step()?;
+        if self.has(path) {
+            return Ok(false);
+        }
+        self.put(path, Some(bytes))?;
+        Ok(true)
+    }
+
+    fn rename(&mut self, from: &str, to: &str) -> io::Result<()> {
+        self.step()?;
+        self.forget(to);
+        for file in &mut self.files {
+            if file.path.as_str() == from {
+                file.path = String::from(self.alloc, to)?;
+            }
+        }
+        Ok(())
+    }
+
+    fn remove(&mut self, path: &str) {
+        self.forget(path);
+    }
+
+    fn make_folder(&mut self, path: &str) -> io::Result<()> {
+        self.step()?;
+        self.put(path, None)?;
+        Ok(())
+    }
+
+    fn remove_folder(&mut self, path: &str) {
+        if !self.has_within(path) {
+            self.forget(path);
+        }
+    }
+
+    fn sync_folder(&mut self, _path: &str) -> io::Result<()> {
+        self.step()
+    }
+}

@@ -1,0 +1,136 @@
+-- Why no tables come of lines.
+use Rattle.std.proofs.Common.{◌≡◌, refl, sym, ◌∙◌, ap, subst, ℕ, Bool, true, false, true≢false}
+use Rattle.std.proofs.Common.{List, [], ◌∷◌, length}
+use Rattle.std.specs.Prelude.{◌≢◌, Option, Result, Ok, Err, IfErr, IsPermutation}
+use Rattle.std.proofs.lemmas.Bool.{false_from_ne_true}
+use Rattle.std.proofs.lemmas.List.{nil_from_length}
+use Rattle.std.proofs.lemmas.List.Sorted.{length_permutation}
+use Rattle.sst_entries.specs.Entry.{Entry}
+use Rattle.sst_entries.specs.Error.{is_memory}
+use Rattle.sst_entries.specs.declared.error.Error.{Error}
+use Rattle.sst_entries.specs.declared.error.Error.TheVariants.{OutOfMemory}
+use Rattle.lsm_formats.specs.declared.label.Label.{Label}
+use Rattle.lsm_formats.specs.declared.options.Options.{Options}
+use Rattle.lsm_formats.specs.Chunks.{joined}
+use Rattle.lsm_writers.specs.declared.writer.FinishedTable.{FinishedTable}
+use Rattle.lsm_writers.specs.Tables.{AreFinished, TablesWriting}
+use Rattle.logpurple.proofs.Laws.{memory_is}
+use Rattle.tool_lines.specs.declared.entry_line.Format.{Format}
+use Rattle.tool_files.specs.declared.file_error.FileError.{FileError}
+use Rattle.tool_make.specs.declared.make_error.MakeError.{MakeError}
+use Rattle.tool_make.specs.declared.make_error.MakeError.TheVariants.{File, Input, Line, NoEntries}
+use Rattle.tool_make.specs.declared.make_error.MakeError.TheVariants.{Refused, SizeTooLarge}
+use Rattle.tool_make.specs.declared.options.WriteOptions.{WriteOptions}
+use Rattle.tool_make.specs.Entries.{HasEntries}
+use Rattle.tool_make.specs.Faults.{StopsLines}
+use Rattle.tool_make.specs.Refusing.{RefusesLines, TellsEnd, TellsSizes}
+use Rattle.tool_make.specs.Written.{AreOfLines, TookLines, TookSorted, WritesAll, WritesSorted}
+use Rattle.tool_make.specs.Written.{writer_by}
+
+-- what is no want of memory
+pub not_memory : (e : Error) → e ≢ OutOfMemory → is_memory e ≡ false
+not_memory e other = false_from_ne_true (is_memory e) (λ memory. other (memory_is e memory))
+
+-- want of memory
+memory_told : (o : WriteOptions) (input : Option (List ℕ)) (e : Error) → e ≡ OutOfMemory
+    → RefusesLines o input (Refused e)
+memory_told o input e is = λ not. absurd (true≢false (sym (ap is_memory is) ∙ not))
+
+pub memory_refused : (o : WriteOptions) (input : Option (List ℕ))
+    → RefusesLines o input (Refused OutOfMemory)
+memory_refused o input = memory_told o input OutOfMemory refl
+
+-- sizes that are too large
+pub sizes_refused : (o : WriteOptions) (input : Option (List ℕ)) (error : MakeError)
+    → TellsSizes o error → RefusesLines o input error
+sizes_refused o input SizeTooLarge h = h
+sizes_refused o input (Refused e) h = memory_told o input e h
+sizes_refused o input (Line n wrong) h = absurd h
+sizes_refused o input (File error) h = absurd h
+sizes_refused o input (Input error) h = absurd h
+sizes_refused o input NoEntries h = absurd h
+
+-- ---- lines that are not taken
+
+no_file : (sort : Bool) (format : Format) (input : Option (List ℕ)) (w : TablesWriting)
+    (error : FileError) → StopsLines sort format input w (File error) → ⊥
+no_file true format input w error h = h
+no_file false format input w error h = h
+
+no_none : (sort : Bool) (format : Format) (input : Option (List ℕ)) (w : TablesWriting)
+    → StopsLines sort format input w NoEntries → ⊥
+no_none true format input w h = h
+no_none false format input w h = h
+
+no_size : (sort : Bool) (format : Format) (input : Option (List ℕ)) (w : TablesWriting)
+    → StopsLines sort format input w SizeTooLarge → ⊥
+no_size true format input w h = h
+no_size false format input w h = h
+
+lines_memory : (sort : Bool) (format : Format) (input : Option (List ℕ)) (w : TablesWriting)
+    (e : Error) → StopsLines sort format input w (Refused e) → e ≡ OutOfMemory
+lines_memory true format input w e h = h
+lines_memory false format input w e h = h
+
+pub lines_refused : (o : WriteOptions) (input : Option (List ℕ)) (w : TablesWriting)
+    (error : MakeError) → w ≡ writer_by o → StopsLines o.sort o.format input w error
+    → RefusesLines o input error
+lines_refused o input w (Line n wrong) is h =
+    subst (λ (x : TablesWriting). StopsLines o.sort o.format input x (Line n wrong)) is h
+lines_refused o input w (Input error) is h =
+    subst (λ (x : TablesWriting). StopsLines o.sort o.format input x (Input error)) is h
+lines_refused o input w (File error) is h = absurd (no_file o.sort o.format input w error h)
+lines_refused o input w NoEntries is h = absurd (no_none o.sort o.format input w h)
+lines_refused o input w SizeTooLarge is h = absurd (no_size o.sort o.format input w h)
+lines_refused o input w (Refused e) is h =
+    memory_told o input e (lines_memory o.sort o.format input w e h)
+
+-- ---- the writer's end
+
+end_refused : (o : WriteOptions) (input : Option (List ℕ)) (w m : TablesWriting) (count : ℕ)
+    (error : MakeError) → w ≡ writer_by o → TookLines o input w m count → TellsEnd m error
+    → RefusesLines o input error
+end_refused o input w m count (Refused e) is taken h = λ not. record {
+  writer = m;
+  count = count;
+  taken = subst (λ (x : TablesWriting). TookLines o input x m count) is taken;
+  told = h not;
+}
+end_refused o input w m count (Line n wrong) is taken h = absurd h
+end_refused o input w m count (File error) is taken h = absurd h
+end_refused o input w m count (Input error) is taken h = absurd h
+end_refused o input w m count NoEntries is taken h = absurd h
+end_refused o input w m count SizeTooLarge is taken h = absurd h
+
+pub told_end : {R : Type 0} (told : Result R MakeError) (o : WriteOptions)
+    (input : Option (List ℕ)) (w m : TablesWriting) (count : ℕ) → w ≡ writer_by o
+    → TookLines o input w m count → IfErr told (TellsEnd m) → IfErr told (RefusesLines o input)
+told_end (Ok r) o input w m count is taken h = tt
+told_end (Err e) o input w m count is taken h = end_refused o input w m count e is taken h
+
+-- ---- no tables are those of no entries
+
+none_joined : (A : Type 0) (options : Options) (label : Label) (lists : List (List Entry))
+    → AreFinished {A = A} options label lists [] → joined lists ≡ []
+none_joined A options label [] h = refl
+none_joined A options label (l ∷ lists) h = absurd h
+
+none_all : (A : Type 0) (w : TablesWriting) (es : List Entry) → WritesAll {A = A} w es []
+    → es ≡ []
+none_all A w es h = sym h.1.cut.whole ∙ none_joined A _ _ h.1.lists h.1.finished
+
+none_sorted : (A : Type 0) (sort : Bool) (w : TablesWriting) (es : List Entry)
+    → WritesSorted {A = A} sort w es [] → es ≡ []
+none_sorted A false w es h = none_all A w es h
+none_sorted A true w es h =
+    nil_from_length es (sym (length_permutation es h.0 h.1)
+    ∙ ap (λ (xs : List Entry). length xs) (none_all A w h.0 h.2))
+
+pub none_spelled : {A : Type 0} (o : WriteOptions) (input : Option (List ℕ))
+    (fs : List (FinishedTable A)) (count : ℕ) → AreOfLines o input fs count → fs ≡ []
+    → HasEntries o.format input []
+none_spelled {A} o input fs count h none =
+    subst (λ (es : List Entry). HasEntries o.format input es)
+    (none_sorted A o.sort (writer_by o) h.entries
+    (subst (λ (xs : List (FinishedTable A)). WritesSorted o.sort (writer_by o) h.entries xs) none
+    h.written)) h.spelled
