@@ -1,5 +1,5 @@
 -- What was made, in words.
-use Rattle.std.specs.Prelude.{ℕ, ◌==◌, List, ◌++◌, codes, if◌then◌else◌}
+use Rattle.std.specs.Prelude.{List, ℕ, ◌++◌, codes}
 use Rattle.std.specs.Fmt.{decimal}
 use Rattle.tool_lines.specs.Counts.{word_for}
 use Rattle.tool_files.specs.declared.made.Made.{Made}
