@@ -6,8 +6,8 @@ use std::alloc::{Allocator, Global};
 use test_refusing::{Refusing, each_refused};
 use test_tables::runs::is_right;
 
-/// What is read.
-pub enum Read {
+// What is read.
+enum Read {
     List,
     CutList,
     Runs,
@@ -30,10 +30,27 @@ fn answer<A: Allocator + Copy>(alloc: A, read: &Read) -> Result<bool, Error> {
     }
 }
 
-/// Whether what is named is read right with nothing refused, and with each request refused in turn.
-pub fn is_right_refused(alloc: Global, read: &Read) -> bool {
+// Whether what is named is read right with nothing refused, and with each request refused in turn.
+fn is_right_refused(alloc: Global, read: &Read) -> bool {
     let answers = each_refused(alloc, |heap: &Refusing, may_fail: bool| {
         is_right(answer(heap, read), may_fail)
     });
     answers.is_ok()
+}
+
+const READS: &[Read] = &[
+    Read::List,
+    Read::CutList,
+    Read::Runs,
+    Read::Entry,
+    Read::Run,
+    Read::Span,
+    Read::Scan,
+];
+
+#[test]
+fn each_read_is_right_with_each_request_refused(rt: HostRuntime) {
+    for read in READS {
+        assert!(rt; is_right_refused(rt.alloc(), read));
+    }
 }

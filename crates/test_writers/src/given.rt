@@ -37,7 +37,7 @@ fn listed<T: Drop, A: Allocator>(
     Ok(list)
 }
 
-impl<A: Allocator + Copy> Takes<A> for Writer<A> {
+impl<A: Allocator + Clone> Takes<A> for Writer<A> {
     fn take(&mut self, item: InternalValue<A>, given: Given) -> Result<(), Error> {
         if !self.can_follow(&item.key) {
             return Err(Error::Source(0));
@@ -62,7 +62,7 @@ impl<A: Allocator + Copy> Takes<A> for Writer<A> {
     }
 }
 
-impl<A: Allocator + Copy> Takes<A> for MultiWriter<A> {
+impl<A: Allocator + Clone> Takes<A> for MultiWriter<A> {
     fn take(&mut self, item: InternalValue<A>, given: Given) -> Result<(), Error> {
         if !self.can_follow(&item.key) {
             return Err(Error::Source(0));

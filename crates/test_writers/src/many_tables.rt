@@ -24,22 +24,20 @@ fn first_ids(tables: &Vec<FinishedTable>) -> Result<[Option<TableId>; 3], Error>
     Ok(ids)
 }
 
-// The ids of the first tables, and the next one.
-type Ids = ([Option<TableId>; 3], Option<TableId>);
-
-// Those of a writer of some rows.
-fn ids(alloc: Global, target: u64, rows: &[Row<'_>]) -> Result<Ids, Error> {
+// The ids of the first three tables of a writer of some rows, and the next one.
+fn ids(alloc: Global, target: u64, rows: &[Row<'_>]) -> Result<[Option<TableId>; 4], Error> {
     let writer = filled(alloc, writer_from(alloc, 5, target), rows, Given::ByValue)?;
     let next = writer.table_ids().next();
-    Ok((asked(writer.finish(), first_ids)?, next))
+    let [first, second, third] = asked(writer.finish(), first_ids)?;
+    Ok([first, second, third, next])
 }
 
 // A target, rows, and the ids from 5 on: they run on from the second at target 0, and where nothing
 // is written there is no table.
-const IDS: &[(u64, &[Row<'static>], Ids)] = &[
-    (0, TWO_KEYS, ([Some(6), Some(7), None], Some(8))),
-    (1, TWO_KEYS, ([Some(5), None, None], Some(6))),
-    (0, &[], ([None; 3], Some(6))),
+const IDS: &[(u64, &[Row<'static>], [Option<TableId>; 4])] = &[
+    (0, TWO_KEYS, [Some(6), Some(7), None, Some(8)]),
+    (1, TWO_KEYS, [Some(5), None, None, Some(6)]),
+    (0, &[], [None, None, None, Some(6)]),
 ];
 
 #[test]
