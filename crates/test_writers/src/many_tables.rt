@@ -1,10 +1,10 @@
 //! The ids of tables that are written one after another.
-use crate::given::{Given, Takes, filled};
+use crate::given::{Given, Takes, filled_tables, number, to_tables};
 use lsm_writers::{FinishedTable, MultiWriter, TableId, TableIds, Timestamp};
 use sst_blocks::{Error, ValueType};
 use std::alloc::Global;
 use test_tables::large::asked;
-use test_tables::rows::{Row, entry};
+use test_tables::rows::Row;
 
 const A1: Row<'static> = (b"a", 1, ValueType::Value, b"x");
 
@@ -26,7 +26,7 @@ fn first_ids(tables: &Vec<FinishedTable>) -> Result<[Option<TableId>; 3], Error>
 
 // The ids of the first three tables of a writer of some rows, and the next one.
 fn ids(alloc: Global, target: u64, rows: &[Row<'_>]) -> Result<[Option<TableId>; 4], Error> {
-    let writer = filled(alloc, writer_from(alloc, 5, target), rows, Given::ByValue)?;
+    let writer = filled_tables(alloc, writer_from(alloc, 5, target), rows, Given::ByValue)?;
     let next = writer.table_ids().next();
     let [first, second, third] = asked(writer.finish(), first_ids)?;
     Ok([first, second, third, next])
@@ -47,43 +47,34 @@ fn ids_run_on_from_table_to_table(rt: HostRuntime) {
     }
 }
 
-// What an entry answers, and again.
-fn put_twice(alloc: Global, writer: &mut MultiWriter) -> Result<[Result<(), Error>; 2], Error> {
-    let first = writer.take(entry(alloc, &A1)?, Given::ByValue);
-    let second = writer.take(entry(alloc, &A1)?, Given::ByValue);
-    Ok([first, second])
+// The numbers of the refusals of a row, and of a further one.
+fn put_twice<T: Takes>(taking: &mut T) -> Result<[u8; 2], Error> {
+    Ok([taking.take(&A1, Given::ByValue)?, taking.fail(&A1)?])
 }
 
-// What the first and the second entry answer where the ids are spent, and the end.
-fn spent(alloc: Global) -> Result<[Result<(), Error>; 3], Error> {
-    let mut writer = writer_from(alloc, TableId::MAX, 0)?;
-    let answers = put_twice(alloc, &mut writer);
-    let last = ended(writer.finish());
-    let [first, second] = answers?;
+// Those of both, and of the end.
+fn given_twice<T: Takes + Drop>(taking: Result<T, Error>) -> Result<[u8; 3], Error> {
+    let mut taking = taking?;
+    let put = put_twice(&mut taking);
+    let last = taking.end();
+    let [first, second] = put?;
     Ok([first, second, last])
 }
 
-// Whether a value is made, or why not. Generic in it, so that none of its parts is looked at.
-fn ended<T: Drop>(made: Result<T, Error>) -> Result<(), Error> {
-    made?;
-    Ok(())
+// They are those of spent ids, and of a writer that has failed.
+fn spent(alloc: Global) -> Result<[u8; 3], Error> {
+    given_twice(to_tables(alloc, writer_from(alloc, TableId::MAX, 0)))
 }
 
-const SPENT: [Result<(), Error>; 3] = [
-    Err(Error::TableIdsSpent),
-    Err(Error::WriterFailed),
-    Err(Error::WriterFailed),
-];
-
-// The ids that are left from the last one on, and what a new writer answers then.
-fn left(alloc: Global) -> ([Option<TableId>; 2], Result<(), Error>) {
+// The ids that are left from the last one on, and the number of the refusal of a new writer then.
+fn left(alloc: Global) -> ([Option<TableId>; 2], u8) {
     let mut ids = TableIds::new(TableId::MAX);
     let drawn = [ids.next(), ids.next()];
-    (drawn, ended(MultiWriter::new(alloc, ids, 0, 0, Timestamp::from(0))))
+    (drawn, number(MultiWriter::new(alloc, ids, 0, 0, Timestamp::from(0))))
 }
 
 #[test]
 fn no_table_begins_once_the_ids_are_spent(rt: HostRuntime) {
-    assert!(rt; spent(rt.alloc()) == Ok(SPENT));
-    assert!(rt; left(rt.alloc()) == ([Some(TableId::MAX), None], Err(Error::TableIdsSpent)));
+    assert!(rt; spent(rt.alloc()) == Ok([22, 23, 23]));
+    assert!(rt; left(rt.alloc()) == ([Some(TableId::MAX), None], 22));
 }

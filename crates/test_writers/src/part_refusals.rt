@@ -5,7 +5,8 @@ ghost use Rattle.sst_blocks.specs.Handles.{AreStrictHandles};
 ghost use Rattle.lsm_section_writers.specs.Rising.{Rises};
 ghost use Rattle.lsm_formats.specs.File.{HasNoFilter, HasNoIndex};
 
-use crate::refusals::{Answers, number};
+use crate::given::number;
+use crate::refusals::Answers;
 use lsm_writers::{
     BlockIndexWriter, BloomConstructionPolicy, FilterWriter, FullFilterWriter, FullIndexWriter,
     PartitionedFilterWriter, PartitionedIndexWriter,

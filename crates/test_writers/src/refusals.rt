@@ -1,6 +1,6 @@
 //! Writers that were refused memory, each request in turn, and have ample memory again: they refuse
 //! from then on. One function tries them all, so that its call is proved once.
-use crate::given::{Given, Takes};
+use crate::given::{Given, Takes, to_table, to_tables};
 use crate::part_refusals::{
     Outcome, empty_full_index, empty_partitioned_index, full_filter, full_index,
     partitioned_filter, partitioned_index, section_of, section_of_28,
@@ -9,15 +9,7 @@ use lsm_writers::{MultiWriter, TableIds, Timestamp, Writer};
 use sst_blocks::{Error, ValueType};
 use std::alloc::{Allocator, Global};
 use test_refusing::{Refusing, each_refused};
-use test_tables::rows::{Row, entry, new_writer};
-
-/// The number of a refusal, 0 for none.
-pub(crate) fn number<T: Drop>(answer: Result<T, Error>) -> u8 {
-    match answer {
-        Ok(_) => 0,
-        Err(error) => error.number(),
-    }
-}
+use test_tables::rows::{Row, new_writer};
 
 /// What a call answers that is refused or not, the same call after a refusal, and the end.
 pub(crate) type Answers = (u8, u8, u8);
@@ -61,30 +53,25 @@ const LONG_ROWS: &[Row<'static>] = &[
     (b"c", 1, ValueType::Value, LONG),
 ];
 
-// The number of the first refusal of some rows, and that of a further entry behind it.
-fn put_up_to<A: Allocator + Copy, W: Takes<A>>(
-    alloc: A,
-    writer: &mut W,
-    rows: &[Row<'_>],
-) -> Result<(u8, u8), Error> {
+// The number of the first refusal of some rows, and that of a further one behind it.
+fn put_up_to<T: Takes>(taking: &mut T, rows: &[Row<'_>]) -> Result<(u8, u8), Error> {
     for row in rows {
-        let first = number(writer.take(entry(alloc, row)?, Given::ByValue));
+        let first = taking.take(row, Given::ByValue)?;
         if first != 0 {
-            return Ok((first, number(writer.fail(entry(alloc, &D1)?))));
+            return Ok((first, taking.fail(&D1)?));
         }
     }
     Ok((0, 0))
 }
 
 // What a writer answers that is given some rows.
-fn answers_of<A: Allocator + Copy, W: Takes<A> + Drop>(
-    alloc: A,
-    made: Result<W, Error>,
+fn answers_of<T: Takes + Drop>(
+    taking: Result<T, Error>,
     rows: &[Row<'_>],
 ) -> Result<Answers, Error> {
-    let mut writer = made?;
-    let put = put_up_to(alloc, &mut writer, rows);
-    let last = number(writer.tables(alloc));
+    let mut taking = taking?;
+    let put = put_up_to(&mut taking, rows);
+    let last = taking.end();
     let (first, second) = put?;
     Ok((first, second, last))
 }
@@ -135,13 +122,16 @@ enum Work {
 // Whether what is named is written right.
 fn answer<A: Allocator + Copy>(alloc: A, work: Work, may_fail: bool) -> bool {
     match work {
-        Work::Table => are_right(answers_of(alloc, blocks_of_one(alloc), SHORT_ROWS), may_fail),
+        Work::Table => are_right(
+            answers_of(to_table(alloc, blocks_of_one(alloc)), SHORT_ROWS),
+            may_fail,
+        ),
         Work::Tables => are_right(
-            answers_of(alloc, tables_of_one(alloc, 0), SHORT_ROWS),
+            answers_of(to_tables(alloc, tables_of_one(alloc, 0)), SHORT_ROWS),
             may_fail,
         ),
         Work::LongTables => are_wanted(
-            answers_of(alloc, tables_of_one(alloc, 1), LONG_ROWS),
+            answers_of(to_tables(alloc, tables_of_one(alloc, 1)), LONG_ROWS),
             may_fail,
         ),
         Work::FullFilter => is_right(full_filter(alloc), may_fail),

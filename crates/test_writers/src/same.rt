@@ -3,7 +3,7 @@ ghost use Rattle.std.specs.Prelude.{IfOk};
 ghost use Rattle.lsm_writers.specs.Tables.{IsFreshRun};
 ghost use Rattle.lsm_writers.specs.Writing.{IsFresh};
 
-use crate::given::{Given, count_of_same, tables_of};
+use crate::given::{Given, count_of_same, table_of, tables_of};
 use lsm_writers::{
     BloomConstructionPolicy, FilterKind, FinishedTable, IndexKind, MultiWriter, Options, TableId,
     TableIds, Timestamp, Writer, is_writable, write_list,
@@ -82,8 +82,8 @@ fn tables_by(
     given: Given,
 ) -> Result<Vec<FinishedTable>, Error> {
     match by {
-        By::Table => tables_of(alloc, table_writer(alloc, sizes, false), ROWS, given),
-        By::Partitions => tables_of(alloc, table_writer(alloc, sizes, true), ROWS, given),
+        By::Table => table_of(alloc, table_writer(alloc, sizes, false), ROWS, given),
+        By::Partitions => table_of(alloc, table_writer(alloc, sizes, true), ROWS, given),
         By::Tables => tables_of(alloc, tables_writer(alloc, sizes), ROWS, given),
     }
 }
@@ -222,7 +222,7 @@ const TWO_KEYS: &[Row<'static>] = &[
 
 // How many tables there are of two keys, if they are those of a writer of one table.
 fn options_agree(alloc: Global) -> Result<[Option<usize>; 2], Error> {
-    let table = tables_of(alloc, table_at_once(alloc), TWO_KEYS, Given::ByValue)?;
+    let table = table_of(alloc, table_at_once(alloc), TWO_KEYS, Given::ByValue)?;
     let first = count_of_same(&table, tables_of(alloc, one_by_one(alloc), TWO_KEYS, Given::ByValue));
     let second = count_of_same(&table, tables_of(alloc, at_once(alloc), TWO_KEYS, Given::ByValue));
     drop(table);

@@ -1,17 +1,17 @@
 //! What writers count, cut, write and refuse.
 
-use crate::given::Takes;
 use crate::one_entry_v4;
-use crate::refusals::number;
+use crate::given::number;
 use lsm_writers::{
-    BlockIndexWriter, FinishedTable, FullIndexWriter, GlobalTableId, Metadata, Timestamp, Writer,
+    BlockIndexWriter, FinishedTable, FullIndexWriter, GlobalTableId, Metadata, TableId, Timestamp,
+    Writer,
 };
 use sst_blocks::{
     BlockHandle, BlockOffset, Checksum, CompressionType, Error, KeyedBlockHandle, SectionWriter,
     SeqNo, Slice, ValueType,
 };
 use std::alloc::Global;
-use test_tables::large::{asked, asked_mut, asked_with};
+use test_tables::large::{asked, asked_if_any, asked_mut, asked_with};
 use test_tables::rows::{Row, fill, filled, new_writer, put_rows};
 
 // How many entries and blocks are cut, how many keys, tombstones, weak ones and values behind those
@@ -220,20 +220,21 @@ fn with_options(alloc: Global) -> Result<Writer, Error> {
     )
 }
 
-// How many tables a writer with all its options set, and no entry, writes, and whether it is empty.
-fn written_of_nothing(alloc: Global) -> Result<(usize, bool), Error> {
+// The id of the table that a writer with all its options set writes of no entry, and whether it is
+// empty.
+fn written_of_nothing(alloc: Global) -> Result<(Option<TableId>, bool), Error> {
     let writer = with_options(alloc)?;
     let is_empty = writer.is_empty();
-    Ok((asked(writer.tables(alloc), count_of)?, is_empty))
+    Ok((asked_if_any(writer.finish(), id_of)?, is_empty))
 }
 
-fn count_of(tables: &Vec<FinishedTable>) -> Result<usize, Error> {
-    Ok(tables.len())
+fn id_of(table: &mut FinishedTable) -> Result<TableId, Error> {
+    Ok(table.id)
 }
 
 #[test]
 fn takes_options_and_gives_no_table_of_nothing(rt: HostRuntime) {
-    assert!(rt; written_of_nothing(rt.alloc()) == Ok((0, true)));
+    assert!(rt; written_of_nothing(rt.alloc()) == Ok((None, true)));
     assert!(rt; Metadata::<Global>::default().lowest_seqno == SeqNo::MAX);
 }
 
