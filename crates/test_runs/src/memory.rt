@@ -38,19 +38,20 @@ fn is_right_refused(alloc: Global, read: &Read) -> bool {
     answers.is_ok()
 }
 
-const READS: &[Read] = &[
-    Read::List,
-    Read::CutList,
-    Read::Runs,
-    Read::Entry,
-    Read::Run,
-    Read::Span,
-    Read::Scan,
-];
+const OF_LISTS: &[Read] = &[Read::List, Read::CutList, Read::Runs, Read::Entry];
 
 #[test]
-fn each_read_is_right_with_each_request_refused(rt: HostRuntime) {
-    for read in READS {
+fn lists_and_runs_are_read_with_each_request_refused(rt: HostRuntime) {
+    for read in OF_LISTS {
+        assert!(rt; is_right_refused(rt.alloc(), read));
+    }
+}
+
+const OF_ONE_RUN: &[Read] = &[Read::Run, Read::Span, Read::Scan];
+
+#[test]
+fn one_run_is_read_with_each_request_refused(rt: HostRuntime) {
+    for read in OF_ONE_RUN {
         assert!(rt; is_right_refused(rt.alloc(), read));
     }
 }
