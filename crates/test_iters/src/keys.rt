@@ -3,35 +3,37 @@ use crate::tables::{Answers, each_answers};
 use sst_blocks::{Direction, Error, IterItem, SeqNo, ValueType};
 use std::alloc::Global;
 use std::ops::Bound;
+use test_tables::large::add;
 use test_tables::lists::answers_within;
 use test_tables::pins::ALL_PINS;
 use test_tables::rows::Row;
-use test_tables::runs::{ALL, Lists, Name, name_of, runs_of};
+use test_tables::runs::{ALL, Name, Tables, from_to, name_of, run_of};
 
 // How many bytes the longest key has that a writer takes.
 const LONGEST: usize = 1_048_576;
 
-// The longest key.
-const KEY: &[u8] = &[0x61; LONGEST];
-
-const OF_THE_LONGEST: &[Row<'static>] = &[
-    (KEY, 5, ValueType::Value, b"x"),
-    (KEY, 3, ValueType::Value, b"y"),
-    (b"b", 1, ValueType::Value, b"z"),
-];
-
-const LONGEST_ANSWERS: &Answers<'static> = &Answers {
-    pins: &[(true, true), (false, false)],
-    reads: &[
-        (KEY, 6, Some(5), 1),
-        (KEY, 5, Some(3), 1),
-        (KEY, 3, None, 1),
-        (b"b", 2, Some(1), 1),
-        (b"c", 2, None, 0),
-    ],
-    bounds: (Bound::Included(KEY), Bound::Included(KEY)),
-    numbers: [Some(5), Some(3), None],
-};
+// What tables of the longest key answer.
+fn longest_answers(alloc: Global) -> Result<[bool; 3], Error> {
+    let key = vec![in alloc; 0x61u8; LONGEST]?;
+    let rows: [Row<'_>; 3] = [
+        (&key, 5, ValueType::Value, b"x"),
+        (&key, 3, ValueType::Value, b"y"),
+        (b"b", 1, ValueType::Value, b"z"),
+    ];
+    let answers = Answers {
+        pins: &[(true, true), (false, false)],
+        reads: &[
+            (&key, 6, Some(5), 1),
+            (&key, 5, Some(3), 1),
+            (&key, 3, None, 1),
+            (b"b", 2, Some(1), 1),
+            (b"c", 2, None, 0),
+        ],
+        bounds: from_to(&key, &key),
+        numbers: [Some(5), Some(3), None],
+    };
+    each_answers(alloc, &rows, &answers)
+}
 
 const OF_THE_EMPTY: &[Row<'static>] = &[(b"", 7, ValueType::Value, b"")];
 
@@ -49,18 +51,22 @@ const EMPTY_ANSWERS: &Answers<'static> = &Answers {
 #[test]
 fn the_longest_key_and_the_empty_one_under_each_index_and_filter(rt: HostRuntime) {
     let alloc = rt.alloc();
-    assert!(rt; each_answers(alloc, OF_THE_LONGEST, LONGEST_ANSWERS) == Ok([true; 3]));
+    assert!(rt; longest_answers(alloc) == Ok([true; 3]));
     assert!(rt; each_answers(alloc, OF_THE_EMPTY, EMPTY_ANSWERS) == Ok([true; 3]));
 }
 
-// Two runs of a table of the longest key each: the newer of one version, the older of two.
-const TWO_RUNS: &[Lists] = &[
-    &[&[(KEY, 9, ValueType::Value, b"x")]],
-    &[&[
-        (KEY, 5, ValueType::Value, b"y"),
-        (KEY, 3, ValueType::Value, b"z"),
-    ]],
-];
+// The runs of two tables of one key: the newer of one version, the older of two.
+fn two_runs(alloc: Global, key: &[u8]) -> Result<Vec<Tables<Global>>, Error> {
+    let newer: [Row<'_>; 1] = [(key, 9, ValueType::Value, b"x")];
+    let older: [Row<'_>; 2] = [
+        (key, 5, ValueType::Value, b"y"),
+        (key, 3, ValueType::Value, b"z"),
+    ];
+    let mut runs = Vec::new(alloc);
+    add(&mut runs, run_of(alloc, &[&newer]))?;
+    add(&mut runs, run_of(alloc, &[&older]))?;
+    Ok(runs)
+}
 
 // The names of what some answers are, and nothing where there are fewer than two.
 fn two_names(answers: Vec<Option<IterItem>>) -> Result<[Option<Name>; 2], Error> {
@@ -73,14 +79,23 @@ fn two_names(answers: Vec<Option<IterItem>>) -> Result<[Option<Name>; 2], Error>
 }
 
 // What the newest versions of both runs are, from both ends.
-fn newest(alloc: Global) -> Result<[Option<Name>; 2], Error> {
-    let runs = runs_of(alloc, TWO_RUNS)?;
-    let answers = answers_within(alloc, &runs, ALL, &[Direction::Front, Direction::Back]);
+fn newest_in(alloc: Global, runs: &[Tables<Global>]) -> Result<[Option<Name>; 2], Error> {
+    two_names(answers_within(alloc, runs, ALL, &[Direction::Front, Direction::Back])?)
+}
+
+fn newest(alloc: Global, key: &[u8]) -> Result<[Option<Name>; 2], Error> {
+    let runs = two_runs(alloc, key)?;
+    let names = newest_in(alloc, &runs);
     drop(runs);
-    two_names(answers?)
+    names
+}
+
+fn newest_of_the_longest(alloc: Global) -> Result<[Option<Name>; 2], Error> {
+    let key = vec![in alloc; 0x61u8; LONGEST]?;
+    newest(alloc, &key)
 }
 
 #[test]
 fn the_longest_key_in_two_runs(rt: HostRuntime) {
-    assert!(rt; newest(rt.alloc()) == Ok([Some((0, 9)), None]));
+    assert!(rt; newest_of_the_longest(rt.alloc()) == Ok([Some((0, 9)), None]));
 }

@@ -1,5 +1,7 @@
 //! Ranges of tables from both ends, under each kind of index.
-use crate::kinds::{A5, A7, A9, B1, Kind, ROWS, bytes_by, index_loads, open_with, pins_index};
+use crate::kinds::{
+    A5, A7, A9, B1, KINDS, Kind, ROWS, bytes_by, index_loads, open_with, pins_index,
+};
 use crate::walks::{Counted, Name, Walk};
 use lsm_tables::{Iter, Table};
 use sst_blocks::{Direction, Error, SeqNo, Slice, ValueType};
@@ -35,8 +37,10 @@ pub(crate) fn range_in<A: Allocator + Copy>(
     pin_index: bool,
     bounds: Bounds<'_>,
 ) -> Result<Iter<A>, Error> {
-    let table = open_with(alloc, bytes?, pin_index);
-    asked(table, |table| range_of(alloc, table, bounds))
+    let table = open_with(alloc, bytes?, pin_index)?;
+    let range = range_of(alloc, &table, bounds);
+    drop(table);
+    range
 }
 
 // Whether the steps of an iterator give what they should.
@@ -125,24 +129,10 @@ fn are_dealt(alloc: Global, kind: &Kind) -> bool {
 }
 
 #[test]
-fn ranges_by_an_index_that_stays_loaded(rt: HostRuntime) {
-    assert!(rt; are_dealt(rt.alloc(), &Kind::Loaded));
-}
-
-#[test]
-fn ranges_by_an_index_on_demand(rt: HostRuntime) {
-    assert!(rt; are_dealt(rt.alloc(), &Kind::OnDemand));
-}
-
-#[test]
-fn ranges_by_an_index_of_two_levels(rt: HostRuntime) {
-    assert!(rt; are_dealt(rt.alloc(), &Kind::TwoLevels));
-}
-
-// The table is as an earlier version stored it.
-#[test]
-fn ranges_of_a_table_of_the_older_version(rt: HostRuntime) {
-    assert!(rt; are_dealt(rt.alloc(), &Kind::Older));
+fn ranges_by_each_kind_of_index(rt: HostRuntime) {
+    for kind in KINDS {
+        assert!(rt; are_dealt(rt.alloc(), kind));
+    }
 }
 
 // ---- all ranges of small lists
@@ -337,8 +327,10 @@ fn wrong_range(
     pin_index: bool,
     rows: &[Row<'static>],
 ) -> Result<Option<u32>, Error> {
-    let table = open_with(alloc, bytes?, pin_index);
-    asked(table, |table| wrong_pair(alloc, table, rows))
+    let table = open_with(alloc, bytes?, pin_index)?;
+    let wrong = wrong_pair(alloc, &table, rows);
+    drop(table);
+    wrong
 }
 
 // The first wrong range of the list of a number, with blocks of some size, if the number is that of
@@ -469,7 +461,7 @@ fn each_request_of_a_range_refused_is_told(rt: HostRuntime) {
 // ---- faults
 
 fn iter_of(alloc: Global, bytes: Slice<Global>) -> Result<Iter<Global>, Error> {
-    asked(open(alloc, bytes, 0), |table| table.iter())
+    asked(open(alloc, bytes, 0), Table::iter)
 }
 
 // What the first step is refused, if it is, and whether nothing follows it.

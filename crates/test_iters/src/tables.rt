@@ -96,7 +96,11 @@ fn answers_all(table: &Table, of: (Global, &Answers<'_>)) -> Result<bool, Error>
 // Whether a table answers so under each of the pairs of pins.
 fn answers_pinned(alloc: Global, bytes: &[u8], answers: &Answers<'_>) -> Result<bool, Error> {
     for pins in answers.pins {
-        if !asked_with(open_with(alloc, bytes, *pins), (alloc, answers), answers_all)? {
+        if !asked_with(
+            open_with(alloc, bytes, *pins),
+            (alloc, answers),
+            answers_all,
+        )? {
             return Ok(false);
         }
     }

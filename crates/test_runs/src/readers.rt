@@ -399,4 +399,3 @@ fn scanner_gives_or_ends<S: Scan + Drop>(
 pub fn scan_gives_or_ends<A: Allocator + Copy>(alloc: A) -> Result<bool, Error> {
     scanner_gives_or_ends(scanner(alloc, (Some(1), None)), b"defghijkl")
 }
-

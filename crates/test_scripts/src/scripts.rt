@@ -305,7 +305,10 @@ const NO_COMMANDS: &[&[u8]] = &[
 fn a_line_of_no_such_form_ends_the_script(rt: HostRuntime) {
     let alloc = rt.alloc();
     for &line in NO_COMMANDS {
-        assert!(rt; stops(alloc, line, b"", b"sst: line 1\n") == Ok(true), "{line:?}");
+        assert!(rt;
+            stops(alloc, line, b"", b"sst: line 1\n") == Ok(true),
+            "{line:?}"
+        );
     }
 }
 

@@ -145,7 +145,10 @@ fn is_read(alloc: Global, read: &Read) -> Result<bool, Error> {
 fn what_does_not_rest_on_the_damage_is_read(rt: HostRuntime) {
     for read in READS {
         let (damaged, key, seqno, ..) = read;
-        assert!(rt; is_read(rt.alloc(), read) == Ok(true), "{damaged:?} {key:?} {seqno}");
+        assert!(rt;
+            is_read(rt.alloc(), read) == Ok(true),
+            "{damaged:?} {key:?} {seqno}"
+        );
     }
 }
 
@@ -205,6 +208,9 @@ fn is_walked(alloc: Global, walked: &Walked) -> Result<bool, Error> {
 fn a_reader_ends_at_the_damage(rt: HostRuntime) {
     for walked in WALKS {
         let (damaged, is_back, ..) = walked;
-        assert!(rt; is_walked(rt.alloc(), walked) == Ok(true), "{damaged:?} {is_back}");
+        assert!(rt;
+            is_walked(rt.alloc(), walked) == Ok(true),
+            "{damaged:?} {is_back}"
+        );
     }
 }
