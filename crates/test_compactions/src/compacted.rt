@@ -1,4 +1,5 @@
 //! Lists that are written as runs, which are compacted and read.
+use crate::memory::{Work, requests};
 use crate::runs::{EVICTING, KEEPING, ZEROING};
 use lsm_tables::{Rules, compact_run_back};
 use sst_blocks::{Error, SeqNo, ValueType};
@@ -157,4 +158,9 @@ fn a_key_that_is_too_long_is_refused(rt: HostRuntime) {
 /// Whether a@3 is found below 7 of the values of `a`.
 pub(crate) fn list_is_kept<A: Allocator + Copy>(alloc: A) -> Result<bool, Error> {
     Ok(found_at(alloc, 5, 7)? == Some((b'a', 3)))
+}
+
+#[test]
+fn a_list_is_compacted_with_each_request_refused(rt: HostRuntime) {
+    assert!(rt; requests(rt.alloc(), &Work::List).is_ok());
 }

@@ -6,8 +6,8 @@ use std::alloc::{Allocator, Global};
 use test_refusing::{Refusing, each_refused};
 use test_tables::runs::is_right;
 
-// What is done.
-enum Work {
+/// What is done.
+pub(crate) enum Work {
     List,
     Pack,
     Part,
@@ -29,28 +29,19 @@ fn answer<A: Allocator + Copy>(
     }
 }
 
-// How many requests what is named makes, where it is done right with nothing refused and with each
-// request refused in turn.
-fn requests(alloc: Global, work: &Work) -> Result<usize, usize> {
+/// How many requests what is named makes, where it is done right with nothing refused and with each
+/// request refused in turn.
+pub(crate) fn requests(alloc: Global, work: &Work) -> Result<usize, usize> {
     each_refused(alloc, |heap: &Refusing, may_fail: bool| {
         let plenty = Refusing::new(alloc, 0);
         is_right(answer(heap, &plenty, work, may_fail), may_fail)
     })
 }
 
-// Whether that is done right, and makes more than 20 requests.
-fn makes_many(alloc: Global, work: &Work) -> bool {
+/// Whether that is done right, and makes more than 20 requests.
+pub(crate) fn makes_many(alloc: Global, work: &Work) -> bool {
     match requests(alloc, work) {
         Ok(requests) => requests > 20,
         Err(_) => false,
-    }
-}
-
-const WORKS: &[Work] = &[Work::List, Work::Pack, Work::Part, Work::Runs];
-
-#[test]
-fn runs_are_compacted_and_packed_with_each_request_refused(rt: HostRuntime) {
-    for work in WORKS {
-        assert!(rt; makes_many(rt.alloc(), work));
     }
 }

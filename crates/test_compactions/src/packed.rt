@@ -1,5 +1,6 @@
 //! Runs of tables that are packed, and read before and after.
 use crate::listed::{Numbers, asked_all, numbers_in};
+use crate::memory::{Work, requests};
 use crate::runs::packed;
 use lsm_tables::packing_law;
 use sst_blocks::{Error, SeqNo, ValueType};
@@ -49,16 +50,28 @@ const OF_OVERLAPPING: Read = ([Some(9), None, Some(9)], 2, [Some(9), None, Some(
 
 const OF_NONE: Read = ([None; 3], 0, [None; 3]);
 
-// A table stays before those that it overlaps; no runs are packed as none.
 #[test]
 fn tables_that_do_not_overlap_go_into_one_run(rt: HostRuntime) {
     packing_law();
     assert!(rt; read_and_packed(rt.alloc(), &APART) == Ok(OF_APART));
+}
+
+#[test]
+fn a_table_stays_before_those_that_it_overlaps(rt: HostRuntime) {
     assert!(rt; read_and_packed(rt.alloc(), &OVERLAPPING) == Ok(OF_OVERLAPPING));
+}
+
+#[test]
+fn no_runs_are_packed_as_none(rt: HostRuntime) {
     assert!(rt; read_and_packed(rt.alloc(), &[]) == Ok(OF_NONE));
 }
 
 /// Whether the tables that overlap are packed and read so.
 pub(crate) fn are_packed<A: Allocator + Copy>(alloc: A) -> Result<bool, Error> {
     Ok(read_and_packed(alloc, &OVERLAPPING)? == OF_OVERLAPPING)
+}
+
+#[test]
+fn runs_are_packed_with_each_request_refused(rt: HostRuntime) {
+    assert!(rt; requests(rt.alloc(), &Work::Pack).is_ok());
 }

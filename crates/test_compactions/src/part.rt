@@ -5,6 +5,7 @@ ghost use Rattle.sst_entries.specs.Stream.{CanDeal};
 ghost use Rattle.lsm_compactions.specs.Compacted.{AreCompactable};
 
 use crate::listed::{Numbers, asked_all};
+use crate::memory::{Work, makes_many};
 use crate::runs::{T, V, runs_of};
 use lsm_tables::{Rules, compact_part_back};
 use lsm_writers::{TableIds, Timestamp};
@@ -158,4 +159,9 @@ pub(crate) fn zeroed_is_found<A: Allocator + Copy>(alloc: A, plenty: A) -> Resul
         Some(around) => finds_around(alloc, plenty, around),
         None => Ok(false),
     }
+}
+
+#[test]
+fn a_part_is_compacted_with_each_request_refused(rt: HostRuntime) {
+    assert!(rt; makes_many(rt.alloc(), &Work::Part));
 }

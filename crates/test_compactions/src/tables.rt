@@ -6,6 +6,7 @@ ghost use Rattle.lsm_compactions.specs.Compacted.{AreCompactable};
 use crate::listed::{
     Listed, NONE, Numbers, Version, are, asked_all, newest_in, numbers_in, scanned,
 };
+use crate::memory::{Work, makes_many};
 use crate::runs::{KEEPING, T, V, finished, finished_of, opened, run_of_tables, runs_of, spent};
 use lsm_tables::Rules;
 use lsm_writers::{FinishedTable, TableId, TableIds};
@@ -209,4 +210,9 @@ pub(crate) fn leaves_its_runs<A: Allocator + Copy>(
     let read = numbers_in(&runs, SeqNo::MAX);
     drop(runs);
     Ok(right && read? == [Some(9), None, Some(7)])
+}
+
+#[test]
+fn runs_stay_with_each_request_refused(rt: HostRuntime) {
+    assert!(rt; makes_many(rt.alloc(), &Work::Runs));
 }

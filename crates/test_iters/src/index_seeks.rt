@@ -1,8 +1,6 @@
 //! The seeks of an index's iterators of each kind: what they leave at both ends, that they load
 //! nothing, and that a refused one ends the iterator.
-use crate::kinds::{
-    A5, A7, A9, B1, KINDS, Kind, ROWS, bytes_by, index_loads, open_with, pins_index,
-};
+use crate::kinds::{A5, A7, A9, B1, Kind, ROWS, bytes_by, index_loads, open_with, pins_index};
 use crate::walks::{Name, Sought};
 use lsm_tables::{BlockIndex, BlockIndexIterImpl, Table};
 use sst_blocks::{Direction, Error, SeqNo, Slice};
@@ -106,7 +104,10 @@ fn handles_in<A: Allocator + Copy>(
     bytes: Slice<A>,
     pin_index: bool,
 ) -> Result<BlockIndexIterImpl<A>, Error> {
-    asked(open_with(alloc, bytes, pin_index), handles_of)
+    asked(
+        open_with(alloc, bytes, pin_index),
+        |table| handles_of(table),
+    )
 }
 
 // Whether a call comes out so. A seek in an index that is loaded later answers true; none loads.
@@ -159,6 +160,8 @@ fn is_dealt(alloc: Global, kind: &Kind, case: &Case) -> Result<bool, Error> {
     let came = all_answered(iter, is_loaded(kind), case.0)?;
     Ok(came == (case.0.len(), (0, index_loads(kind, case.1))))
 }
+
+const KINDS: &[Kind] = &[Kind::Loaded, Kind::OnDemand, Kind::TwoLevels, Kind::Older];
 
 fn are_dealt(alloc: Global) -> bool {
     for kind in KINDS {

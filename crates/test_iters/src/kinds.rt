@@ -36,9 +36,6 @@ pub enum Kind {
     Older,
 }
 
-/// Each of them.
-pub const KINDS: &[Kind] = &[Kind::Loaded, Kind::OnDemand, Kind::TwoLevels, Kind::Older];
-
 /// The bytes of a table of some rows by a kind of index; of the kind that was stored those of the
 /// small table.
 pub fn bytes_by(

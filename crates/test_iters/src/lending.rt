@@ -1,6 +1,6 @@
 //! Ranges that lend beside those by value: the same entries and errors in the same places, and as
 //! many loads, also over damaged bytes.
-use crate::kinds::{KINDS, Kind, ROWS, bytes_by, pins_index};
+use crate::kinds::{Kind, ROWS, bytes_by, pins_index};
 use crate::ranges::range_in;
 use lsm_tables::{Iter, LendingIter};
 use sst_blocks::{EntryRef, Error, IterItem, Lending, Opened, Slice};
@@ -93,6 +93,8 @@ fn lends_what_it_gives(
         lent(range_in(alloc, Ok(bytes.clone()?), pin_index, bounds)),
     )
 }
+
+const KINDS: &[Kind] = &[Kind::Loaded, Kind::OnDemand, Kind::TwoLevels, Kind::Older];
 
 const EDGES: &[Bound<&[u8]>] = &[
     Bound::Unbounded,

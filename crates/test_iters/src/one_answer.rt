@@ -5,6 +5,7 @@ use lsm_tables::{Iter, Scanner, Table, read_each_way};
 use sst_blocks::{Checksum, Direction, Error, InternalValue, Slice, ValueType};
 use std::alloc::Global;
 use std::ops::Bound;
+use test_tables::large::asked;
 use test_tables::rows::Row;
 
 const ROWS: &[Row<'static>] = &[
@@ -96,10 +97,8 @@ fn table_gives(alloc: Global, table: &Table<Global>) -> Result<bool, Error> {
 // Whether the reads of a table of a kind, whose global number is 10, give what they should.
 fn kind_gives(alloc: Global, kind: &Kind) -> Result<bool, Error> {
     let bytes = bytes_of(alloc, &kind.0, ROWS, kind.1, 0)?;
-    let table = Table::recover(alloc, bytes, Checksum(0), 10, 0, kind.2, kind.3)?;
-    let gives = table_gives(alloc, &table);
-    drop(table);
-    gives
+    let table = Table::recover(alloc, bytes, Checksum(0), 10, 0, kind.2, kind.3);
+    asked(table, |table| table_gives(alloc, table))
 }
 
 // Whether the reads of tables of all kinds give what they should.

@@ -1,7 +1,5 @@
 //! Ranges of tables from both ends, under each kind of index.
-use crate::kinds::{
-    A5, A7, A9, B1, KINDS, Kind, ROWS, bytes_by, index_loads, open_with, pins_index,
-};
+use crate::kinds::{A5, A7, A9, B1, Kind, ROWS, bytes_by, index_loads, open_with, pins_index};
 use crate::walks::{Counted, Name, Walk};
 use lsm_tables::{Iter, Table};
 use sst_blocks::{Direction, Error, SeqNo, Slice, ValueType};
@@ -37,10 +35,8 @@ pub(crate) fn range_in<A: Allocator + Copy>(
     pin_index: bool,
     bounds: Bounds<'_>,
 ) -> Result<Iter<A>, Error> {
-    let table = open_with(alloc, bytes?, pin_index)?;
-    let range = range_of(alloc, &table, bounds);
-    drop(table);
-    range
+    let table = open_with(alloc, bytes?, pin_index);
+    asked(table, |table| range_of(alloc, table, bounds))
 }
 
 // Whether the steps of an iterator give what they should.
@@ -129,10 +125,24 @@ fn are_dealt(alloc: Global, kind: &Kind) -> bool {
 }
 
 #[test]
-fn ranges_by_each_kind_of_index(rt: HostRuntime) {
-    for kind in KINDS {
-        assert!(rt; are_dealt(rt.alloc(), kind));
-    }
+fn ranges_by_an_index_that_stays_loaded(rt: HostRuntime) {
+    assert!(rt; are_dealt(rt.alloc(), &Kind::Loaded));
+}
+
+#[test]
+fn ranges_by_an_index_on_demand(rt: HostRuntime) {
+    assert!(rt; are_dealt(rt.alloc(), &Kind::OnDemand));
+}
+
+#[test]
+fn ranges_by_an_index_of_two_levels(rt: HostRuntime) {
+    assert!(rt; are_dealt(rt.alloc(), &Kind::TwoLevels));
+}
+
+// The table is as an earlier version stored it.
+#[test]
+fn ranges_of_a_table_of_the_older_version(rt: HostRuntime) {
+    assert!(rt; are_dealt(rt.alloc(), &Kind::Older));
 }
 
 // ---- all ranges of small lists
@@ -327,10 +337,8 @@ fn wrong_range(
     pin_index: bool,
     rows: &[Row<'static>],
 ) -> Result<Option<u32>, Error> {
-    let table = open_with(alloc, bytes?, pin_index)?;
-    let wrong = wrong_pair(alloc, &table, rows);
-    drop(table);
-    wrong
+    let table = open_with(alloc, bytes?, pin_index);
+    asked(table, |table| wrong_pair(alloc, table, rows))
 }
 
 // The first wrong range of the list of a number, with blocks of some size, if the number is that of
@@ -461,7 +469,7 @@ fn each_request_of_a_range_refused_is_told(rt: HostRuntime) {
 // ---- faults
 
 fn iter_of(alloc: Global, bytes: Slice<Global>) -> Result<Iter<Global>, Error> {
-    asked(open(alloc, bytes, 0), Table::iter)
+    asked(open(alloc, bytes, 0), |table| table.iter())
 }
 
 // What the first step is refused, if it is, and whether nothing follows it.

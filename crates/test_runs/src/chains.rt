@@ -1,9 +1,10 @@
 //! Lists that are written as tables, opened, put in a run and read.
+use crate::memory::{Read, is_right_refused};
 use lsm_ranges::Run;
 use lsm_tables::{Table, read_run_back, write_run};
 use lsm_writers::{TableIds, Timestamp};
 use sst_blocks::{Error, SeqNo, ValueType};
-use std::alloc::Allocator;
+use std::alloc::{Allocator, Global};
 use std::ops::Bound;
 use test_tables::lists::{list_of, read_names};
 use test_tables::rows::Row;
@@ -67,6 +68,11 @@ fn gives<A: Allocator + Copy>(alloc: A, case: &Case) -> Result<bool, Error> {
     Ok(are_named(&read, case.3))
 }
 
+// Whether a list gives what it should.
+fn is_read(alloc: Global, case: &Case) -> bool {
+    gives(alloc, case) == Ok(true)
+}
+
 const WHOLE: &Case = &(
     ROWS,
     0,
@@ -90,22 +96,29 @@ const ONE_KEY: &Case = &(
 
 const EMPTY: &Case = &(&[], 0, ALL, None);
 
-const CASES: &[&Case] = &[WHOLE, LIFTED, ONE_KEY, EMPTY];
+#[test]
+fn a_list_is_read_back_from_its_run(rt: HostRuntime) {
+    assert!(rt; is_read(rt.alloc(), WHOLE));
+    assert!(rt; is_read(rt.alloc(), LIFTED));
+    assert!(rt; is_read(rt.alloc(), ONE_KEY));
+    assert!(rt; is_read(rt.alloc(), EMPTY));
+}
 
 const TOO_LARGE: &Case = &(ROWS, u64::MAX - 8, ALL, None);
 
-// A number that passes the largest one refuses the run.
 #[test]
-fn a_list_is_read_back_from_its_run(rt: HostRuntime) {
-    for case in CASES {
-        assert!(rt; gives(rt.alloc(), case) == Ok(true));
-    }
+fn a_number_that_passes_the_largest_one_refuses_the_run(rt: HostRuntime) {
     assert!(rt; gives(rt.alloc(), TOO_LARGE) == Err(Error::GlobalSeqNoTooLarge));
 }
 
 // Whether the list is read back whole.
 pub fn list_is_read<A: Allocator + Copy>(alloc: A) -> Result<bool, Error> {
     gives(alloc, WHOLE)
+}
+
+#[test]
+fn a_list_is_read_back_with_each_request_refused(rt: HostRuntime) {
+    assert!(rt; is_right_refused(rt.alloc(), &Read::List));
 }
 
 // How many entries the table at a place has, 0 where there is none.
@@ -149,4 +162,9 @@ fn a_run_has_the_tables_that_the_target_cuts(rt: HostRuntime) {
 // Whether the target cuts the list.
 pub fn target_cuts<A: Allocator + Copy>(alloc: A) -> Result<bool, Error> {
     Ok(written(alloc, LONG_ROWS)? == ([3, 1, 2], Some(8)))
+}
+
+#[test]
+fn a_target_cuts_tables_with_each_request_refused(rt: HostRuntime) {
+    assert!(rt; is_right_refused(rt.alloc(), &Read::CutList));
 }

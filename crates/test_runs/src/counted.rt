@@ -76,6 +76,12 @@ fn wrong_case_of(alloc: Global) -> Result<Option<usize>, Error> {
     Ok(wrong)
 }
 
+#[test]
+fn a_read_loads_a_block_of_data_for_each_run_that_has_a_table(rt: HostRuntime) {
+    assert!(rt; wrong_case_of(rt.alloc()) == Ok(None));
+    assert!(rt; read::<Global>(&[], b"a", 10) == (Ok(None), [0, 0, 0, 0]));
+}
+
 const DAMAGED: Result<Option<SeqNo>, Error> = Err(Error::ChecksumMismatch);
 
 // What a read below 10 answers of two runs, where the first table of the one at a place is damaged.
@@ -93,9 +99,7 @@ fn is_refused_behind(alloc: Global, damaged: usize, key: &[u8], loads: u64) -> b
 
 // The load that is refused counts, and those behind it are not made.
 #[test]
-fn a_read_loads_a_block_of_data_for_each_run_that_has_a_table(rt: HostRuntime) {
-    assert!(rt; wrong_case_of(rt.alloc()) == Ok(None));
-    assert!(rt; read::<Global>(&[], b"a", 10) == (Ok(None), [0, 0, 0, 0]));
+fn a_refused_read_counts_the_loads_up_to_its_refusal(rt: HostRuntime) {
     assert!(rt; is_refused_behind(rt.alloc(), 0, b"a", 1));
     assert!(rt; is_refused_behind(rt.alloc(), 1, b"a", 2));
     assert!(rt; read_damaged(rt.alloc(), 1, b"d") == Ok((Ok(Some(1)), [1, 0, 0, 0])));

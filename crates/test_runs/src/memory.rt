@@ -6,8 +6,8 @@ use std::alloc::{Allocator, Global};
 use test_refusing::{Refusing, each_refused};
 use test_tables::runs::is_right;
 
-// What is read.
-enum Read {
+/// What is read.
+pub enum Read {
     List,
     CutList,
     Runs,
@@ -30,28 +30,10 @@ fn answer<A: Allocator + Copy>(alloc: A, read: &Read) -> Result<bool, Error> {
     }
 }
 
-// Whether what is named is read right with nothing refused, and with each request refused in turn.
-fn is_right_refused(alloc: Global, read: &Read) -> bool {
+/// Whether what is named is read right with nothing refused, and with each request refused in turn.
+pub fn is_right_refused(alloc: Global, read: &Read) -> bool {
     let answers = each_refused(alloc, |heap: &Refusing, may_fail: bool| {
         is_right(answer(heap, read), may_fail)
     });
     answers.is_ok()
-}
-
-const OF_LISTS: &[Read] = &[Read::List, Read::CutList, Read::Runs, Read::Entry];
-
-#[test]
-fn lists_and_runs_are_read_with_each_request_refused(rt: HostRuntime) {
-    for read in OF_LISTS {
-        assert!(rt; is_right_refused(rt.alloc(), read));
-    }
-}
-
-const OF_ONE_RUN: &[Read] = &[Read::Run, Read::Span, Read::Scan];
-
-#[test]
-fn one_run_is_read_with_each_request_refused(rt: HostRuntime) {
-    for read in OF_ONE_RUN {
-        assert!(rt; is_right_refused(rt.alloc(), read));
-    }
 }

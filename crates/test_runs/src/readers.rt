@@ -1,8 +1,9 @@
 //! One run, read from both ends and scanned.
+use crate::memory::{Read, is_right_refused};
 use crate::walks::{Scan, Span, WHOLE, Walk, reader_of, scanner_of, span_reader_of};
 use lsm_tables::{RunReader, RunScanner};
 use sst_blocks::{Direction, Error, ValueType};
-use std::alloc::{Allocator, Global};
+use std::alloc::Allocator;
 use std::ops::Bound;
 use test_tables::rows::Row;
 use test_tables::runs::{ALL, Bounds, Name, run_of};
@@ -99,6 +100,16 @@ fn culled<A: Allocator + Copy>(
     span_reader_of(alloc, run_of(alloc, FOUR_TABLES), bounds, span)
 }
 
+// Whether the reader of a span of the four tables gives these steps.
+fn span_reads<A: Allocator + Copy>(
+    alloc: A,
+    bounds: Bounds<'_>,
+    span: Span,
+    steps: &[Step],
+) -> bool {
+    gives(culled(alloc, bounds, span), steps) == Ok(Some(true))
+}
+
 // The reader of the four tables within bounds.
 fn reader_within<A: Allocator + Copy>(
     alloc: A,
@@ -107,16 +118,14 @@ fn reader_within<A: Allocator + Copy>(
     reader_of(alloc, run_of(alloc, FOUR_TABLES), bounds)
 }
 
-// The reader of a span of the four tables, or of all of them, within bounds.
-fn reader_by<A: Allocator + Copy>(
-    alloc: A,
-    bounds: Bounds<'_>,
-    span: Option<Span>,
-) -> Result<Option<RunReader<A>>, Error> {
-    match span {
-        Some(span) => culled(alloc, bounds, span),
-        None => reader_within(alloc, bounds),
-    }
+// Whether the reader of the four tables within bounds gives these steps.
+fn reads<A: Allocator + Copy>(alloc: A, bounds: Bounds<'_>, steps: &[Step]) -> bool {
+    gives(reader_within(alloc, bounds), steps) == Ok(Some(true))
+}
+
+// Whether the four tables have no reader within bounds.
+fn has_no_reader<A: Allocator + Copy>(alloc: A, bounds: Bounds<'_>) -> bool {
+    gives(reader_within(alloc, bounds), &[]) == Ok(None)
 }
 
 const IN_TURN: &[Step] = &[
@@ -168,6 +177,17 @@ const BACKWARD: &[Step] = &[
     (B, 0, 4),
 ];
 
+#[test]
+fn a_run_is_read_from_both_ends_in_turn(rt: HostRuntime) {
+    assert!(rt; reads(rt.alloc(), ALL, IN_TURN));
+}
+
+#[test]
+fn a_run_is_read_from_each_end_alone(rt: HostRuntime) {
+    assert!(rt; reads(rt.alloc(), ALL, FORWARD));
+    assert!(rt; reads(rt.alloc(), ALL, BACKWARD));
+}
+
 const FROM_D: &[Step] = &[
     (F, b'd', 1),
     (F, b'e', 1),
@@ -181,6 +201,11 @@ const FROM_D: &[Step] = &[
     (F, 0, 3),
 ];
 
+#[test]
+fn a_span_is_read_from_its_first_table_on(rt: HostRuntime) {
+    assert!(rt; span_reads(rt.alloc(), ALL, (Some(1), None), FROM_D));
+}
+
 const UP_TO_F: &[Step] = &[
     (B, b'f', 1),
     (B, b'e', 1),
@@ -190,6 +215,11 @@ const UP_TO_F: &[Step] = &[
     (B, b'a', 2),
     (B, 0, 2),
 ];
+
+#[test]
+fn a_span_is_read_up_to_its_last_table(rt: HostRuntime) {
+    assert!(rt; span_reads(rt.alloc(), ALL, (None, Some(1)), UP_TO_F));
+}
 
 const BETWEEN: &[Step] = &[
     (F, b'd', 2),
@@ -202,6 +232,12 @@ const BETWEEN: &[Step] = &[
     (F, 0, 4),
 ];
 
+// The two tables at the ends have no key within the bounds; those between are read whole.
+#[test]
+fn tables_between_the_ends_of_a_span_are_read_whole(rt: HostRuntime) {
+    assert!(rt; span_reads(rt.alloc(), FROM_Y, WHOLE, BETWEEN));
+}
+
 const BEFORE_B: &[Step] = &[
     (B, b'i', 2),
     (B, b'h', 2),
@@ -213,7 +249,18 @@ const BEFORE_B: &[Step] = &[
     (B, 0, 4),
 ];
 
+// Of the first table one key is within the bounds, of the last none.
+#[test]
+fn the_first_and_the_last_table_of_a_span_are_read_within_bounds(rt: HostRuntime) {
+    assert!(rt; span_reads(rt.alloc(), UNDER_B, WHOLE, BEFORE_B));
+}
+
 const G_TO_I_ONCE: &[Step] = &[(F, b'g', 1), (B, b'i', 1), (F, b'h', 1), (B, 0, 1)];
+
+#[test]
+fn a_table_that_both_ends_meet_in_is_opened_once(rt: HostRuntime) {
+    assert!(rt; span_reads(rt.alloc(), ALL, (Some(2), Some(2)), G_TO_I_ONCE));
+}
 
 const C_TO_G: &[Step] = &[
     (F, b'c', 1),
@@ -223,6 +270,11 @@ const C_TO_G: &[Step] = &[
     (F, b'e', 3),
     (F, 0, 3),
 ];
+
+#[test]
+fn bounds_in_different_tables_leave_what_lies_between(rt: HostRuntime) {
+    assert!(rt; reads(rt.alloc(), FROM_C_TO_G, C_TO_G));
+}
 
 const FORWARD_FROM_G: &[Step] = &[
     (F, b'g', 1),
@@ -244,54 +296,27 @@ const BACKWARD_TO_G: &[Step] = &[
     (B, 0, 2),
 ];
 
-const NOTHING: &[Step] = &[(F, 0, 1), (B, 0, 1)];
-
-// Bounds, a span, if it is not that of the bounds, and the steps of its reader; none where there is
-// no reader.
-type Case = (Bounds<'static>, Option<Span>, Option<&'static [Step]>);
-
-const CASES: &[Case] = &[
-    (ALL, None, Some(IN_TURN)),
-    (ALL, None, Some(FORWARD)),
-    (ALL, None, Some(BACKWARD)),
-    // A span is read from its first table on, and up to its last one.
-    (ALL, Some((Some(1), None)), Some(FROM_D)),
-    (ALL, Some((None, Some(1))), Some(UP_TO_F)),
-    // The two tables at the ends have no key within the bounds; those between are read whole.
-    (FROM_Y, Some(WHOLE), Some(BETWEEN)),
-    // Of the first table one key is within the bounds, of the last none.
-    (UNDER_B, Some(WHOLE), Some(BEFORE_B)),
-    // A table that both ends meet in is opened once.
-    (ALL, Some((Some(2), Some(2))), Some(G_TO_I_ONCE)),
-    // Bounds in different tables leave what lies between.
-    (FROM_C_TO_G, None, Some(C_TO_G)),
-    (FROM_G, None, Some(FORWARD_FROM_G)),
-    (FROM_G, None, Some(BACKWARD_TO_G)),
-    // Past the last key there is no reader.
-    (FROM_Y, None, None),
-    (FROM_Y_TO_Z, None, None),
-    // Reversed bounds give nothing: from `e` to `d` both included the table of both is in the span;
-    // where `d` is left out none starts before it.
-    (FROM_E_TO_D, None, Some(NOTHING)),
-    (FROM_E_BEFORE_D, None, None),
-    (FROM_K_TO_B, None, None),
-];
-
-// Whether a reader gives the steps of a case, or there is none where it has none.
-fn is_read(alloc: Global, case: &Case) -> bool {
-    let &(bounds, span, steps) = case;
-    let reader = reader_by(alloc, bounds, span);
-    match steps {
-        Some(steps) => gives(reader, steps) == Ok(Some(true)),
-        None => gives(reader, &[]) == Ok(None),
-    }
+#[test]
+fn a_run_is_read_from_a_key_on(rt: HostRuntime) {
+    assert!(rt; reads(rt.alloc(), FROM_G, FORWARD_FROM_G));
+    assert!(rt; reads(rt.alloc(), FROM_G, BACKWARD_TO_G));
 }
 
 #[test]
-fn a_run_and_a_span_are_read_from_both_ends_within_bounds(rt: HostRuntime) {
-    for case in CASES {
-        assert!(rt; is_read(rt.alloc(), case));
-    }
+fn past_the_last_key_of_a_run_there_is_no_reader(rt: HostRuntime) {
+    assert!(rt; has_no_reader(rt.alloc(), FROM_Y));
+    assert!(rt; has_no_reader(rt.alloc(), FROM_Y_TO_Z));
+}
+
+const NOTHING: &[Step] = &[(F, 0, 1), (B, 0, 1)];
+
+// From `e` to `d` both included the table of both is in the span; where `d` is left out none starts
+// before it.
+#[test]
+fn reversed_bounds_give_nothing(rt: HostRuntime) {
+    assert!(rt; reads(rt.alloc(), FROM_E_TO_D, NOTHING));
+    assert!(rt; has_no_reader(rt.alloc(), FROM_E_BEFORE_D));
+    assert!(rt; has_no_reader(rt.alloc(), FROM_K_TO_B));
 }
 
 // Whether a scan gives just these keys.
@@ -375,6 +400,16 @@ pub fn run_gives_or_ends<A: Allocator + Copy>(alloc: A) -> Result<bool, Error> {
     reader_gives_or_ends(reader_within(alloc, ALL), IN_TURN)
 }
 
+#[test]
+fn a_run_is_read_with_each_request_refused(rt: HostRuntime) {
+    assert!(rt; is_right_refused(rt.alloc(), &Read::Run));
+}
+
+#[test]
+fn a_span_is_read_with_each_request_refused(rt: HostRuntime) {
+    assert!(rt; is_right_refused(rt.alloc(), &Read::Span));
+}
+
 // Whether a scan gives just these keys; where a step is refused the refusal, if nothing follows it.
 fn gives_keys_or_ends<S: Scan>(scanner: &mut S, keys: &[u8]) -> Result<bool, Error> {
     let given = gives_keys(scanner, keys);
@@ -398,4 +433,9 @@ fn scanner_gives_or_ends<S: Scan + Drop>(
 // refusal.
 pub fn scan_gives_or_ends<A: Allocator + Copy>(alloc: A) -> Result<bool, Error> {
     scanner_gives_or_ends(scanner(alloc, (Some(1), None)), b"defghijkl")
+}
+
+#[test]
+fn a_run_is_scanned_with_each_request_refused(rt: HostRuntime) {
+    assert!(rt; is_right_refused(rt.alloc(), &Read::Scan));
 }

@@ -1,7 +1,8 @@
 //! Several runs, read as one.
+use crate::memory::{Read, is_right_refused};
 use lsm_tables::get_runs;
 use sst_blocks::{Direction, Error, InternalValue, IterItem, SeqNo, ValueType};
-use std::alloc::Allocator;
+use std::alloc::{Allocator, Global};
 use std::ops::Bound;
 use test_tables::lists::answers_within;
 use test_tables::rows::Row;
@@ -106,27 +107,60 @@ fn gives<A: Allocator + Copy>(alloc: A, case: &Case) -> Result<bool, Error> {
     are_named(&answers_of(alloc, case.0, case.1, case.2)?, case.3)
 }
 
+// Whether all of some cases come out so.
+fn all_give(alloc: Global, cases: &[Case]) -> bool {
+    for case in cases {
+        if gives(alloc, case) != Ok(true) {
+            return false;
+        }
+    }
+    true
+}
+
+const FROM_THE_FRONT: &[Case] = &[(TWO_RUNS, ALL, &[F, F, F, F], &[A9, B1, C2, None])];
+
+#[test]
+fn the_newest_version_of_each_key_comes_from_the_front(rt: HostRuntime) {
+    assert!(rt; all_give(rt.alloc(), FROM_THE_FRONT));
+}
+
+const FROM_BOTH_ENDS: &[Case] = &[(TWO_RUNS, ALL, &[B, F, B, F, B], &[C2, A9, B1, None, None])];
+
+#[test]
+fn the_newest_version_of_each_key_comes_from_both_ends(rt: HostRuntime) {
+    assert!(rt; all_give(rt.alloc(), FROM_BOTH_ENDS));
+}
+
 const A_AND_B: Bounds<'static> = (Bound::Included(b"a"), Bound::Excluded(b"c"));
 
 const D_TO_Z: Bounds<'static> = (Bound::Included(b"d"), Bound::Included(b"z"));
 
-// The newest version of each key from the front, from both ends, within bounds, of three runs, and
-// of none.
-const CASES: &[Case] = &[
-    (TWO_RUNS, ALL, &[F, F, F, F], &[A9, B1, C2, None]),
-    (TWO_RUNS, ALL, &[B, F, B, F, B], &[C2, A9, B1, None, None]),
+const WITHIN_BOUNDS: &[Case] = &[
     (TWO_RUNS, A_AND_B, &[B, B, B], &[B1, A9, None]),
     (TWO_RUNS, D_TO_Z, &[F, B], &[None, None]),
-    (THREE_RUNS, ALL, &[F, F, F, F, F], &[A9, B1, C4, D3, None]),
-    (THREE_RUNS, ALL, &[B, F, B, B, B], &[D3, A9, C4, B1, None]),
-    (&[], ALL, &[F, B], &[None, None]),
 ];
 
 #[test]
-fn the_newest_version_of_each_key_comes_from_both_ends(rt: HostRuntime) {
-    for case in CASES {
-        assert!(rt; gives(rt.alloc(), case) == Ok(true));
-    }
+fn several_runs_are_read_within_bounds(rt: HostRuntime) {
+    assert!(rt; all_give(rt.alloc(), WITHIN_BOUNDS));
+}
+
+const IN_THREE_RUNS: &[Case] = &[
+    (THREE_RUNS, ALL, &[F, F, F, F, F], &[A9, B1, C4, D3, None]),
+    (THREE_RUNS, ALL, &[B, F, B, B, B], &[D3, A9, C4, B1, None]),
+];
+
+#[test]
+fn the_newest_versions_in_three_runs_come_from_both_ends(rt: HostRuntime) {
+    assert!(rt; all_give(rt.alloc(), IN_THREE_RUNS));
+}
+
+const IN_NO_RUNS: &[Case] = &[(&[], ALL, &[F, B], &[None, None])];
+
+#[test]
+fn no_runs_give_nothing(rt: HostRuntime) {
+    assert!(rt; all_give(rt.alloc(), IN_NO_RUNS));
+    assert!(rt; found(rt.alloc(), &[], b"a", 9) == Ok(None));
 }
 
 /// The number of what a read finds.
@@ -161,33 +195,49 @@ fn found<A: Allocator + Copy>(
     number
 }
 
-// The older entry stands in the earlier run.
-const OLDER_FIRST: &[Lists] = &[&[OLDER], &[NEWER]];
+// A key, a bound, and the number that is found.
+type Found = (&'static [u8], SeqNo, Option<SeqNo>);
 
-// Runs, a key, a bound, and the number that is found: the greatest below the bound, also behind the
-// first run that answers.
-const FOUND: &[(&[Lists], &[u8], SeqNo, Option<SeqNo>)] = &[
-    (TWO_RUNS, b"a", 10, Some(9)),
-    (TWO_RUNS, b"a", 9, Some(5)),
-    (TWO_RUNS, b"a", 5, None),
-    (TWO_RUNS, b"b", 10, Some(1)),
-    (TWO_RUNS, b"c", 10, Some(2)),
-    (TWO_RUNS, b"d", 10, None),
-    (THREE_RUNS, b"a", 10, Some(9)),
-    (THREE_RUNS, b"a", 9, Some(7)),
-    (THREE_RUNS, b"a", 7, Some(5)),
-    (THREE_RUNS, b"c", 10, Some(4)),
-    (THREE_RUNS, b"d", 10, Some(3)),
-    (THREE_RUNS, b"e", 10, None),
-    (OLDER_FIRST, b"a", 10, Some(9)),
-    (&[], b"a", 9, None),
+const FOUND_IN_TWO: &[Found] = &[
+    (b"a", 10, Some(9)),
+    (b"a", 9, Some(5)),
+    (b"a", 5, None),
+    (b"b", 10, Some(1)),
+    (b"c", 10, Some(2)),
+    (b"d", 10, None),
 ];
+
+const FOUND_IN_THREE: &[Found] = &[
+    (b"a", 10, Some(9)),
+    (b"a", 9, Some(7)),
+    (b"a", 7, Some(5)),
+    (b"c", 10, Some(4)),
+    (b"d", 10, Some(3)),
+    (b"e", 10, None),
+];
+
+// Whether reads of some runs find these numbers.
+fn find_all(alloc: Global, lists: &[Lists], cases: &[Found]) -> bool {
+    for (key, bound, number) in cases {
+        if found(alloc, lists, key, *bound) != Ok(*number) {
+            return false;
+        }
+    }
+    true
+}
 
 #[test]
 fn a_read_finds_the_greatest_number_below_its_bound(rt: HostRuntime) {
-    for &(lists, key, bound, number) in FOUND {
-        assert!(rt; found(rt.alloc(), lists, key, bound) == Ok(number));
-    }
+    assert!(rt; find_all(rt.alloc(), TWO_RUNS, FOUND_IN_TWO));
+    assert!(rt; find_all(rt.alloc(), THREE_RUNS, FOUND_IN_THREE));
+}
+
+// The older entry stands in the earlier run.
+const OLDER_FIRST: &[Lists] = &[&[OLDER], &[NEWER]];
+
+#[test]
+fn a_read_does_not_stop_at_the_first_run_that_answers(rt: HostRuntime) {
+    assert!(rt; found(rt.alloc(), OLDER_FIRST, b"a", 10) == Ok(Some(9)));
 }
 
 const IN_TURN: &Case = &(TWO_RUNS, ALL, &[F, B, F, F], &[A9, C2, B1, None]);
@@ -197,7 +247,17 @@ pub fn runs_are_read<A: Allocator + Copy>(alloc: A) -> Result<bool, Error> {
     gives(alloc, IN_TURN)
 }
 
+#[test]
+fn several_runs_are_read_with_each_request_refused(rt: HostRuntime) {
+    assert!(rt; is_right_refused(rt.alloc(), &Read::Runs));
+}
+
 // Whether an entry of them is read.
 pub fn entry_is_read<A: Allocator + Copy>(alloc: A) -> Result<bool, Error> {
     Ok(found(alloc, TWO_RUNS, b"a", 9)? == Some(5))
+}
+
+#[test]
+fn an_entry_is_read_with_each_request_refused(rt: HostRuntime) {
+    assert!(rt; is_right_refused(rt.alloc(), &Read::Entry));
 }

@@ -2,6 +2,7 @@ use crate::streams::{FailingReader, FailingWriter, FlushCounter, UnflushedWriter
 use sst_script::run_script;
 use std::alloc::{AllocError, Allocator, Global};
 use std::io::{self, BufWriter};
+use std::test::Fail;
 use test_refusing::{Refusing, each_refused};
 
 // What a script prints, what it reports, and its status.
@@ -218,18 +219,27 @@ fn has_two_tables<A: Allocator + Clone>(alloc: A) -> Result<bool, AllocError> {
 }
 
 #[test]
-fn many_entries_are_several_tables(rt: HostRuntime) {
-    assert!(rt; has_two_tables(rt.alloc()) == Ok(true));
+fn many_entries_are_several_tables(rt: HostRuntime) -> Result<(), Fail> {
+    assert!(rt; has_two_tables(rt.alloc())?);
+    Ok(())
 }
 
 #[test]
-fn reads_back_what_was_written_compacts_and_packs(rt: HostRuntime) {
+fn reads_back_what_was_written(rt: HostRuntime) -> Result<(), Fail> {
     let alloc = rt.alloc();
-    for scripts in [READ_BACK, COMPACTED] {
-        for &(script, output) in scripts {
-            assert!(rt; gives(alloc, script, output) == Ok(true));
-        }
+    for &(script, output) in READ_BACK {
+        assert!(rt; gives(alloc, script, output)?);
     }
+    Ok(())
+}
+
+#[test]
+fn compacts_and_packs(rt: HostRuntime) -> Result<(), Fail> {
+    let alloc = rt.alloc();
+    for &(script, output) in COMPACTED {
+        assert!(rt; gives(alloc, script, output)?);
+    }
+    Ok(())
 }
 
 const NO_COMMANDS: &[&[u8]] = &[
@@ -302,14 +312,12 @@ const NO_COMMANDS: &[&[u8]] = &[
 ];
 
 #[test]
-fn a_line_of_no_such_form_ends_the_script(rt: HostRuntime) {
+fn a_line_of_no_such_form_ends_the_script(rt: HostRuntime) -> Result<(), Fail> {
     let alloc = rt.alloc();
     for &line in NO_COMMANDS {
-        assert!(rt;
-            stops(alloc, line, b"", b"sst: line 1\n") == Ok(true),
-            "{line:?}"
-        );
+        assert!(rt; stops(alloc, line, b"", b"sst: line 1\n")?, "{line:?}");
     }
+    Ok(())
 }
 
 // Scripts, what they print, and what they report.
@@ -349,11 +357,12 @@ const OUT_OF_ORDER: &[(&[u8], &[u8], &[u8])] = &[
 ];
 
 #[test]
-fn an_entry_out_of_order_or_twice_ends_the_script(rt: HostRuntime) {
+fn an_entry_out_of_order_or_twice_ends_the_script(rt: HostRuntime) -> Result<(), Fail> {
     let alloc = rt.alloc();
     for &(script, output, errors) in OUT_OF_ORDER {
-        assert!(rt; stops(alloc, script, output, errors) == Ok(true));
+        assert!(rt; stops(alloc, script, output, errors)?);
     }
+    Ok(())
 }
 
 // A script with an entry whose key has `length` bytes between two parts.
@@ -374,55 +383,23 @@ fn with_long_key<A: Allocator>(
     Ok(script)
 }
 
-const BEHIND_LONG: &[u8] = b"table\nget b 9\nget b 1\ntable\nget b 9\n";
-
-// Lines before an entry, how long its key is, and what is printed, and reported, with the lines
-// behind it.
-const WITH_LONG: &[(&[u8], usize, &[u8], &[u8])] = &[
-    // The refused table gives its entries up, and the runs stay.
-    (
-        b"entry b 1 V x\ntable\nentry b 0 V x\n",
-        1_048_577,
-        b"tables 1\nrefused 7\nb 1 V x\nnone\ntables 0\nb 1 V x\n",
-        b"",
-    ),
-    (
-        b"entry b 1 V x\ntable\nentry b 0 V x\n",
-        1_048_576,
-        b"tables 1\ntables 1\nb 1 V x\nb 0 V x\ntables 0\nb 1 V x\n",
-        b"",
-    ),
-    // A key and number that a run already holds come first.
-    (
-        b"entry b 1 V x\ntable\nentry b 1 V x\n",
-        1_048_577,
-        b"tables 1\n",
-        b"sst: line 5\n",
-    ),
-];
-
-// Whether a script with a long key prints this, and reports that and stops, or nothing.
-fn with_long_gives(
-    alloc: Global,
-    before: &[u8],
-    length: usize,
-    output: &[u8],
-    errors: &[u8],
-) -> Result<bool, AllocError> {
-    let script = with_long_key(alloc, before, length, BEHIND_LONG)?;
-    if errors.is_empty() {
-        gives(alloc, &script, output)
-    } else {
-        stops(alloc, &script, output, errors)
-    }
-}
-
 #[test]
-fn a_key_too_long_is_refused_by_the_table(rt: HostRuntime) {
-    for &(before, length, output, errors) in WITH_LONG {
-        let given = with_long_gives(rt.alloc(), before, length, output, errors);
-        assert!(rt; given == Ok(true));
-    }
+fn a_key_too_long_is_refused_by_the_table(rt: HostRuntime) -> Result<(), Fail> {
+    let alloc = rt.alloc();
+    let before = b"entry b 1 V x\ntable\nentry b 0 V x\n";
+    let after = b"table\nget b 9\nget b 1\ntable\nget b 9\n";
+    // The refused table gives its entries up, and the runs stay.
+    let script = with_long_key(alloc, before, 1_048_577, after)?;
+    let output = b"tables 1\nrefused 7\nb 1 V x\nnone\ntables 0\nb 1 V x\n";
+    assert!(rt; gives(alloc, &script, output)?);
+    let script = with_long_key(alloc, before, 1_048_576, after)?;
+    let output = b"tables 1\ntables 1\nb 1 V x\nb 0 V x\ntables 0\nb 1 V x\n";
+    assert!(rt; gives(alloc, &script, output)?);
+    // A key and number that a run already holds come first.
+    let before = b"entry b 1 V x\ntable\nentry b 1 V x\n";
+    let script = with_long_key(alloc, before, 1_048_577, after)?;
+    assert!(rt; stops(alloc, &script, b"tables 1\n", b"sst: line 5\n")?);
+    Ok(())
 }
 
 // Whether input that fails behind a script ends it there, once that much was shown and told.
@@ -443,11 +420,12 @@ const BEFORE_FAILING_INPUT: &[(&[u8], &[u8], &[u8])] = &[
 ];
 
 #[test]
-fn failing_input_ends_the_script(rt: HostRuntime) {
+fn failing_input_ends_the_script(rt: HostRuntime) -> Result<(), Fail> {
     let alloc = rt.alloc();
     for &(script, shown, told) in BEFORE_FAILING_INPUT {
         assert!(rt; ends_where_input_fails(alloc, script, shown, told));
     }
+    Ok(())
 }
 
 // Whether output that fails ends a script, and that much is told.
@@ -471,14 +449,15 @@ const WITH_FAILING_OUTPUT: &[(&[u8], &[u8])] = &[
 ];
 
 #[test]
-fn failing_output_ends_the_script(rt: HostRuntime) {
+fn failing_output_ends_the_script(rt: HostRuntime) -> Result<(), Fail> {
     let alloc = rt.alloc();
     for &(script, told) in WITH_FAILING_OUTPUT {
         assert!(rt; ends_where_output_fails(alloc, script, told));
         // Where errors cannot be told either, the status is the same.
-        assert!(rt; status_untold(alloc, script) == 2);
+        assert_eq!(rt; status_untold(alloc, script), 2);
     }
-    assert!(rt; status_untold(alloc, b"entry a 1 V x\n") == 0);
+    assert_eq!(rt; status_untold(alloc, b"entry a 1 V x\n"), 0);
+    Ok(())
 }
 
 // Whether output that takes every byte, and fails where it is flushed, ends a script with this
@@ -508,12 +487,13 @@ const UNFLUSHED: &[(&[u8], &[u8], u8)] = &[
 ];
 
 #[test]
-fn output_that_fails_when_flushed_ends_the_script(rt: HostRuntime) {
+fn output_that_fails_when_flushed_ends_the_script(rt: HostRuntime) -> Result<(), Fail> {
     let alloc = rt.alloc();
     for &(script, told, status) in UNFLUSHED {
         assert!(rt; ends_unflushed(alloc, script, told, status));
-        assert!(rt; ends_unkept(alloc, script, told, status).unwrap_or(false));
+        assert!(rt; ends_unkept(alloc, script, told, status)?);
     }
+    Ok(())
 }
 
 // How often a script's output is flushed.
@@ -524,11 +504,12 @@ fn flushes_of(alloc: Global, script: &[u8]) -> u64 {
 }
 
 #[test]
-fn each_answer_is_flushed(rt: HostRuntime) {
+fn each_answer_is_flushed(rt: HostRuntime) -> Result<(), Fail> {
     let alloc = rt.alloc();
-    assert!(rt; flushes_of(alloc, b"\n") == 0);
-    assert!(rt; flushes_of(alloc, b"get a 1\n") == 1);
-    assert!(rt; flushes_of(alloc, b"get a 1\n\nrange * *\ntable\n") == 3);
+    assert_eq!(rt; flushes_of(alloc, b"\n"), 0);
+    assert_eq!(rt; flushes_of(alloc, b"get a 1\n"), 1);
+    assert_eq!(rt; flushes_of(alloc, b"get a 1\n\nrange * *\ntable\n"), 3);
+    Ok(())
 }
 
 // What the first script prints where one of its commands is refused for want of memory, or none.
@@ -601,8 +582,9 @@ fn is_right_in_turn(alloc: Global, script: &[u8], outputs: &[&[u8]], more_than: 
 }
 
 #[test]
-fn each_request_refused_in_turn(rt: HostRuntime) {
+fn each_request_refused_in_turn(rt: HostRuntime) -> Result<(), Fail> {
     let alloc = rt.alloc();
     assert!(rt; is_right_in_turn(alloc, FIRST, &REFUSED_OUTPUTS, 40));
     assert!(rt; is_right_in_turn(alloc, OVER_TWO_RUNS, &OVER_TWO_RUNS_OUTPUTS, 40));
+    Ok(())
 }

@@ -1,9 +1,9 @@
 //! Which partition of a filter a read asks: that of the first handle whose end key is greater, or
 //! equal and numbered below `u64::MAX`.
+use crate::tables::asked_with;
 use lsm_tables::Table;
 use sst_blocks::{Error, SeqNo};
 use std::alloc::Global;
-use test_tables::large::asked_with;
 use test_tables::stored::filter_parts;
 use test_tables::tables::{open, overwritten};
 

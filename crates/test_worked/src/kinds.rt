@@ -9,6 +9,7 @@ use sst_blocks::{
     BlockSource, BlockType, Checksum, DataBlock, Error, IterItem, Opened, SeqNo, ValueType,
 };
 use std::alloc::{Allocator, Global};
+use test_refusing::{Refusing, each_refused};
 use test_tables::large::asked;
 use test_tables::rows::{Row, fill, new_writer};
 use test_tables::tables::{load_entries, open};
@@ -175,7 +176,6 @@ fn is_laid(alloc: Global, table: Result<FinishedTable, Error>, expected: &Laid) 
     laid(alloc, table) == Ok(*expected)
 }
 
-// The bytes of two of them are known.
 #[test]
 fn sections_of_partitioned_indexes_and_filters(rt: HostRuntime) {
     let alloc = rt.alloc();
@@ -184,8 +184,6 @@ fn sections_of_partitioned_indexes_and_filters(rt: HostRuntime) {
     assert!(rt; is_laid(alloc, filter_parts(alloc), &OF_FILTER_PARTS));
     assert!(rt; is_laid(alloc, forgotten_filter_parts(alloc), &OF_ONE_FILTER_PART));
     assert!(rt; is_laid(alloc, no_filter_parts(alloc), &OF_NO_FILTER_PARTS));
-    assert!(rt; asked(index_parts(alloc), told) == Ok(INDEX_PARTS));
-    assert!(rt; asked(one_key(alloc), told) == Ok(ONE_KEY));
 }
 
 /// The table of a@1, with the value `x`, as it is written where nothing is asked for.
@@ -209,6 +207,12 @@ fn told(table: &FinishedTable) -> Result<Bytes, Error> {
 const INDEX_PARTS: Bytes = (1744, Checksum(0x3e3e_26fe_b3b2_fc42), false);
 
 const ONE_KEY: Bytes = (1353, Checksum(0xdb3f_d8f7_6139_63e8), true);
+
+#[test]
+fn partitions_of_the_index_and_the_filter_of_one_key_byte_for_byte(rt: HostRuntime) {
+    assert!(rt; asked(index_parts(rt.alloc()), told) == Ok(INDEX_PARTS));
+    assert!(rt; asked(one_key(rt.alloc()), told) == Ok(ONE_KEY));
+}
 
 // How many of the rows reads find.
 fn count_read<A: Allocator + Copy>(table: &Table<A>) -> Result<usize, Error> {
@@ -256,7 +260,19 @@ fn read<A: Allocator + Copy>(table: &Table<A>, row: &Row<'_>) -> Result<bool, Er
     }
 }
 
-/// Whether the rows are found, also where there is no memory for marks.
-pub(crate) fn finds_its_rows<A: Allocator + Copy>(alloc: A) -> Result<bool, Error> {
-    Ok(rows_found(alloc)? == 8)
+// Whether the rows are found, also where there is no memory for marks, or a refused request is
+// answered as one.
+fn finds_its_rows(heap: &Refusing, may_fail: bool) -> bool {
+    match rows_found(heap) {
+        Ok(found) => found == 8,
+        Err(error) => may_fail && error == Error::OutOfMemory,
+    }
+}
+
+#[test]
+fn each_request_refused_is_told(rt: HostRuntime) {
+    let answers = each_refused(rt.alloc(), finds_its_rows);
+    let heap = Refusing::new(rt.alloc(), 0);
+    assert!(rt; finds_its_rows(&heap, false));
+    assert!(rt; answers == Ok(heap.requests()));
 }

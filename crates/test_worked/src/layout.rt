@@ -119,15 +119,19 @@ fn written_sections(alloc: Global) -> Result<(Sections, usize), Error> {
     Ok((asked(BlockSource::new(alloc, bytes), sections)?, length))
 }
 
-const WRITTEN: Sections = [
-    Some((0, 47)),
-    None,
-    Some((47, 53)),
-    None,
-    None,
-    Some((100, 1)),
-    Some((101, 1099)),
-];
+#[test]
+fn sections_of_a_table_that_is_written(rt: HostRuntime) {
+    let expected = [
+        Some((0, 47)),
+        None,
+        Some((47, 53)),
+        None,
+        None,
+        Some((100, 1)),
+        Some((101, 1099)),
+    ];
+    assert!(rt; written_sections(rt.alloc()) == Ok((expected, 1320)));
+}
 
 // Where the blocks of an index block's handles lie. `Source(3)` where there are more than four.
 type Places = [Option<BlockHandle>; 4];
@@ -203,15 +207,18 @@ fn below_both_levels(source: &BlockSource) -> Result<Below, Error> {
 }
 
 // Each partition has one handle.
-const BELOW: Below = (
-    [[9, 0, 0, 0], [7, 0, 0, 0], [5, 0, 0, 0], [1, 0, 0, 0]],
-    Opened {
+#[test]
+fn two_levels_lead_to_every_entry(rt: HostRuntime) {
+    let below = asked(source_of(rt.alloc(), &two_levels::BYTES), below_both_levels);
+    let numbers = [[9, 0, 0, 0], [7, 0, 0, 0], [5, 0, 0, 0], [1, 0, 0, 0]];
+    let opened = Opened {
         data_loads: 4,
         index_loads: 5,
         filter_loads: 0,
         meta_loads: 0,
-    },
-);
+    };
+    assert!(rt; below == Ok((numbers, opened)));
+}
 
 // Where a part of a filter lies, and the size of its payload.
 type Part = Option<(u64, usize)>;
@@ -236,13 +243,8 @@ fn filter_level(source: &BlockSource) -> Result<[Part; 4], Error> {
     Ok(parts)
 }
 
-const PARTS: [Part; 4] = [Some((296, 9)), Some((329, 9)), None, None];
-
 #[test]
-fn both_levels_lead_to_every_entry_and_to_the_parts_of_a_filter(rt: HostRuntime) {
-    let alloc = rt.alloc();
-    let below = asked(source_of(alloc, &two_levels::BYTES), below_both_levels);
-    assert!(rt; written_sections(alloc) == Ok((WRITTEN, 1320)));
-    assert!(rt; below == Ok(BELOW));
-    assert!(rt; asked(source_of(alloc, &filter_parts::BYTES), filter_level) == Ok(PARTS));
+fn the_top_level_of_a_filter_leads_to_its_parts(rt: HostRuntime) {
+    let parts = asked(source_of(rt.alloc(), &filter_parts::BYTES), filter_level);
+    assert!(rt; parts == Ok([Some((296, 9)), Some((329, 9)), None, None]));
 }

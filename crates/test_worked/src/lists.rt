@@ -1,4 +1,5 @@
 //! Lists that are written as one table, opened and read.
+use crate::memory::{Work, requests};
 use lsm_tables::{Scanner, Table, read_back, write_and_open};
 use lsm_writers::{FinishedTable, Timestamp, write_list};
 use sst_blocks::{Error, InternalValue, SeqNo, ValueType};
@@ -124,6 +125,11 @@ pub(crate) fn rows_are_read<A: Allocator + Copy>(alloc: A) -> Result<bool, Error
     Ok(read == Some((Some(7), [9, 7, 5, 1, 0])))
 }
 
+#[test]
+fn a_list_is_read_back_with_each_request_refused(rt: HostRuntime) {
+    assert!(rt; requests(rt.alloc(), &Work::List).is_ok());
+}
+
 // What a table says: its id, its entries, its tombstones and its highest number; and whether it may
 // have keys from `c` on, and from `b` on.
 type Facts = ([u64; 4], (bool, bool));
@@ -150,6 +156,13 @@ fn says(alloc: Global, global_seqno: SeqNo) -> Result<Option<Facts>, Error> {
     asked_if_any(table, facts_of)
 }
 
+// Past its last key it has no entry.
+#[test]
+fn an_opened_table_says_what_the_list_says(rt: HostRuntime) {
+    assert!(rt; says(rt.alloc(), 10) == Ok(Some(([3, 4, 1, 19], (false, true)))));
+    assert!(rt; says(rt.alloc(), 0) == Ok(Some(([3, 4, 1, 9], (false, true)))));
+}
+
 fn id_of(table: &mut FinishedTable) -> Result<u64, Error> {
     Ok(table.id)
 }
@@ -160,11 +173,8 @@ fn written_id(alloc: Global, rows: &[Row<'_>]) -> Result<Option<u64>, Error> {
     asked_if_any(table, id_of)
 }
 
-// Past its last key it has no entry. A list without entries has no table.
 #[test]
-fn an_opened_table_says_what_the_list_says(rt: HostRuntime) {
-    assert!(rt; says(rt.alloc(), 10) == Ok(Some(([3, 4, 1, 19], (false, true)))));
-    assert!(rt; says(rt.alloc(), 0) == Ok(Some(([3, 4, 1, 9], (false, true)))));
+fn a_list_without_entries_has_no_table(rt: HostRuntime) {
     assert!(rt; written_id(rt.alloc(), ROWS) == Ok(Some(3)));
     assert!(rt; written_id(rt.alloc(), &[]) == Ok(None));
 }

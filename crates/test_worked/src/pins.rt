@@ -2,7 +2,7 @@
 //! and what each read loads.
 use crate::kinds::{filter_parts, index_parts, one_key};
 use crate::tables::{bytes_of, written, written_in_blocks};
-use sst_blocks::{Error, SeqNo, Slice, ValueType};
+use sst_blocks::{Error, Slice, ValueType};
 use std::alloc::Global;
 use test_tables::pins::{
     OF_FILTER_PARTS, OF_FOUR_BLOCKS, OF_ONE_ENTRY, OF_ONE_ENTRY_FILTERED, OF_TWO_LEVELS, Read,
@@ -51,13 +51,7 @@ fn tables_are_read_under_each_pair_of_pins(rt: HostRuntime) {
     assert!(rt; is_read(alloc, filtered, OF_PARTS, &OF_FILTER_PARTS) == Ok(true));
     let parts = bytes_of(index_parts(alloc));
     assert!(rt; is_read(alloc, parts, OF_TOP, &OF_TWO_LEVELS) == Ok(true));
-    assert!(rt; starts_of_each(alloc) == Ok(STARTS));
 }
-
-const FOUND: Option<Option<SeqNo>> = Some(Some(7));
-
-// Only an index that stays loaded tells at once that no handle reaches a key.
-const STARTS: [Starts; 3] = [[FOUND, None], [FOUND, Some(None)], [FOUND, Some(None)]];
 
 // Where readers of an index start: of one that stays loaded, of one that does not, and of one in
 // two levels.
@@ -69,4 +63,12 @@ fn starts_of_each(alloc: Global) -> Result<[Starts; 3], Error> {
         starts_of(alloc, plain.as_slice(), (true, false))?,
         starts_of(alloc, parts.as_slice(), (true, true))?,
     ])
+}
+
+#[test]
+fn readers_of_the_index_of_each_kind(rt: HostRuntime) {
+    // only an index that stays loaded tells at once that no handle reaches a key
+    let found = Some(Some(7));
+    let expected = [[found, None], [found, Some(None)], [found, Some(None)]];
+    assert!(rt; starts_of_each(rt.alloc()) == Ok(expected));
 }

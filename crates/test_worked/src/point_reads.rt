@@ -1,12 +1,13 @@
 //! Point reads of a table that is written and opened.
-use crate::tables::{opened_in_blocks, written, written_in_blocks};
+use crate::memory::{Work, makes_many};
+use crate::tables::{asked_with, opened_in_blocks, written, written_in_blocks};
 use lsm_tables::{Table, point_in};
 use sst_blocks::{
     Block, BlockHandle, BlockSource, BlockType, Counted, Error, InternalValue, LoadBlocks, Opened,
     SeqNo, Slice, ValueType,
 };
 use std::alloc::{Allocator, Global};
-use test_tables::large::{asked, asked_with};
+use test_tables::large::asked;
 use test_tables::rows::Row;
 use test_tables::tables::{open, read};
 
@@ -144,6 +145,16 @@ pub(crate) fn are_right<A: Allocator + Copy>(heap: Global, alloc: A) -> Result<b
     Ok(three_reads(heap, alloc)? == EXPECTED)
 }
 
+#[test]
+fn a_read_asks_for_one_handle_at_most(rt: HostRuntime) {
+    assert!(rt; are_right(rt.alloc(), rt.alloc()) == Ok(true));
+}
+
+#[test]
+fn each_request_of_writing_and_reading_refused(rt: HostRuntime) {
+    assert!(rt; makes_many(rt.alloc(), &Work::PointReads));
+}
+
 // Whether a table finds a@7 and b@1 and nothing else, with one load at most.
 fn answers(table: &Table) -> Result<bool, Error> {
     Ok(
@@ -163,27 +174,28 @@ fn cloned(table: &Table) -> Result<Table, Error> {
     }
 }
 
+// It answers as the table did, once that is gone.
+#[test]
+fn a_clone_outlives_its_original(rt: HostRuntime) {
+    let copy = asked(opened_in_blocks(rt.alloc(), 0), cloned);
+    assert!(rt; asked(copy, answers) == Ok(true));
+}
+
 // What a read of a@8 opens.
 fn opened_by(table: &Table) -> Result<Opened, Error> {
     let hash = Table::<Global>::key_hash(b"a");
     Ok(table.get_counted(b"a", 8, hash).1)
 }
 
-const ONE_OF_DATA: Opened = Opened {
-    data_loads: 1,
-    index_loads: 0,
-    filter_loads: 0,
-    meta_loads: 0,
-};
-
-// A clone answers as the table did, once that is gone.
 #[test]
-fn a_read_asks_for_one_handle_and_opens_one_block_of_data_at_most(rt: HostRuntime) {
-    let alloc = rt.alloc();
-    let copy = asked(opened_in_blocks(alloc, 0), cloned);
-    assert!(rt; are_right(alloc, alloc) == Ok(true));
-    assert!(rt; asked(copy, answers) == Ok(true));
-    assert!(rt; asked(opened_in_blocks(alloc, 0), opened_by) == Ok(ONE_OF_DATA));
+fn a_read_opens_nothing_but_data(rt: HostRuntime) {
+    let expected = Opened {
+        data_loads: 1,
+        index_loads: 0,
+        filter_loads: 0,
+        meta_loads: 0,
+    };
+    assert!(rt; asked(opened_in_blocks(rt.alloc(), 0), opened_by) == Ok(expected));
 }
 
 // The highest number of a table, and what reads of `a` below 14, 13 and 10 find.

@@ -1,10 +1,10 @@
 //! Many reads of one table at once.
-use crate::tables::{ROWS, opened_in_blocks, written, written_in_blocks};
+use crate::memory::{Work, makes_many};
+use crate::tables::{ROWS, asked_with, opened_in_blocks, written, written_in_blocks};
 use lsm_tables::{Query, Table, get_many};
 use sst_blocks::{Error, InternalValue, SeqNo, Slice};
 use std::alloc::{Allocator, Global};
 use test_refusing::{Refusing, each_refused};
-use test_tables::large::asked_with;
 use test_tables::runs::{Name, is_right};
 use test_tables::stored::one_entry;
 use test_tables::tables::{open, overwritten};
@@ -127,6 +127,14 @@ fn found_in_damaged(alloc: Global, sought: &[Sought]) -> Result<Names, Error> {
     found_in_changed(alloc, &one_entry::BYTES, &[(44, b"y")], sought)
 }
 
+#[test]
+fn a_query_that_is_refused_leaves_no_answers(rt: HostRuntime) {
+    let refused = found_in_damaged(rt.alloc(), &[(b"c", 2), (b"a", 2), (b"a", 1)]);
+    assert!(rt; refused == Err(Error::ChecksumMismatch));
+    let none = found_in_damaged(rt.alloc(), &[(b"c", 2), (b"a", 1)]);
+    assert!(rt; none == Ok(([None; 4], 2)));
+}
+
 // What they find in a table of several blocks of 46 bytes, where the last byte of the block of a@7
 // is changed, and the mark of that of b@1.
 fn found_in_two_damaged(alloc: Global, sought: &[Sought]) -> Result<Names, Error> {
@@ -139,23 +147,22 @@ fn found_in_two_damaged(alloc: Global, sought: &[Sought]) -> Result<Names, Error
     )
 }
 
-// A query that is refused leaves no answers.
 #[test]
 fn the_earliest_refusal_is_answered(rt: HostRuntime) {
-    let alloc = rt.alloc();
-    let refused = found_in_damaged(alloc, &[(b"c", 2), (b"a", 2), (b"a", 1)]);
-    assert!(rt; refused == Err(Error::ChecksumMismatch));
-    let none = found_in_damaged(alloc, &[(b"c", 2), (b"a", 1)]);
-    assert!(rt; none == Ok(([None; 4], 2)));
-    let first = found_in_two_damaged(alloc, &[(b"a", 10), (b"a", 8), (b"b", 2)]);
+    let first = found_in_two_damaged(rt.alloc(), &[(b"a", 10), (b"a", 8), (b"b", 2)]);
     assert!(rt; first == Err(Error::ChecksumMismatch));
-    let second = found_in_two_damaged(alloc, &[(b"b", 2), (b"a", 10), (b"a", 8)]);
+    let second = found_in_two_damaged(rt.alloc(), &[(b"b", 2), (b"a", 10), (b"a", 8)]);
     assert!(rt; second == Err(Error::InvalidHeader));
 }
 
 /// Whether some queries are answered.
 pub(crate) fn are_answered<A: Allocator + Copy>(alloc: A) -> Result<bool, Error> {
     Ok(found(alloc, SOUGHT)? == (FOUND, 4))
+}
+
+#[test]
+fn each_request_of_many_reads_refused(rt: HostRuntime) {
+    assert!(rt; makes_many(rt.alloc(), &Work::Queries));
 }
 
 // How many answers no queries have.

@@ -1,9 +1,10 @@
 //! Whole tables, read in order.
-use crate::tables::opened_in_blocks;
+use crate::memory::{Work, requests};
+use crate::tables::{asked_with, opened_in_blocks};
 use lsm_tables::{Scanner, Table};
 use sst_blocks::{BlockSource, CompressionType, Error, IterItem, SeqNo, Slice, TagName};
 use std::alloc::{Allocator, Global};
-use test_tables::large::{asked, asked_mut, asked_with};
+use test_tables::large::{asked, asked_mut};
 use test_tables::stored::{filter_parts, one_entry, one_entry_filtered, two_levels};
 use test_tables::tables::{open, overwritten};
 
@@ -66,7 +67,12 @@ fn damaged_scan(alloc: Global) -> Result<[Step; 5], Error> {
     first_five(alloc, damaged.as_slice())
 }
 
-const DAMAGED: [Step; 5] = [Some(Ok(9)), Some(Ok(7)), Some(Err((5, 0))), None, None];
+#[test]
+fn a_scan_ends_at_a_damaged_block(rt: HostRuntime) {
+    let refused = Some(Err(fault(&Error::ChecksumMismatch)));
+    let steps: [Step; 5] = [Some(Ok(9)), Some(Ok(7)), refused, None, None];
+    assert!(rt; damaged_scan(rt.alloc()) == Ok(steps));
+}
 
 fn two_steps(scan: &mut Scanner) -> Result<[Step; 2], Error> {
     Ok([step(scan), step(scan)])
@@ -88,24 +94,28 @@ fn two_of_blocks(
     asked_with(BlockSource::new(alloc, bytes), of, two_of_source)
 }
 
-// How many blocks, a global number, and the first two steps. What lies behind the data block is no
-// data block: it has the tag 1.
-const OF_BLOCKS: [(u64, SeqNo, [Step; 2]); 5] = [
-    (1, 0, [Some(Ok(1)), None]),
-    (0, 0, [Some(Ok(1)), None]),
-    (9, 0, [Some(Ok(1)), Some(Err((4, 1)))]),
-    (1, u64::MAX - 1, [Some(Ok(u64::MAX)), None]),
-    (9, u64::MAX, [Some(Err((21, 0))), None]),
-];
-
+// What lies behind the data block is no data block.
 #[test]
-fn a_scan_lifts_up_to_the_largest_number_and_goes_on_up_to_what_is_no_block(rt: HostRuntime) {
-    for (block_count, global_seqno, steps) in OF_BLOCKS {
-        let of = (block_count, global_seqno);
-        assert!(rt; two_of_blocks(rt.alloc(), &[], of) == Ok(steps));
+fn a_scan_of_blocks_goes_on_up_to_what_is_none(rt: HostRuntime) {
+    let index_tag = Some(Err(fault(&Error::InvalidTag(TagName::BlockType, 1))));
+    let cases: [(u64, [Step; 2]); 3] = [
+        (1, [Some(Ok(1)), None]),
+        (0, [Some(Ok(1)), None]),
+        (9, [Some(Ok(1)), index_tag]),
+    ];
+    for (block_count, steps) in cases {
+        assert!(rt; two_of_blocks(rt.alloc(), &[], (block_count, 0)) == Ok(steps));
     }
     let damaged = two_of_blocks(rt.alloc(), &[(44, b"?")], (1, 0));
     assert!(rt; damaged == Err(Error::ChecksumMismatch));
+}
+
+#[test]
+fn a_scan_lifts_up_to_the_largest_number(rt: HostRuntime) {
+    let lifted = two_of_blocks(rt.alloc(), &[], (1, u64::MAX - 1));
+    assert!(rt; lifted == Ok([Some(Ok(u64::MAX)), None]));
+    let overflow = Some(Err(fault(&Error::SeqNoOverflow)));
+    assert!(rt; two_of_blocks(rt.alloc(), &[], (9, u64::MAX)) == Ok([overflow, None]));
 }
 
 // The steps of a scan, and how many data blocks were loaded before the first and after the last.
@@ -128,8 +138,7 @@ fn scanned(alloc: Global, global_seqno: SeqNo) -> Result<Counted, Error> {
 const LIFTED: [Step; 5] = [Some(Ok(19)), Some(Ok(17)), Some(Ok(15)), Some(Ok(11)), None];
 
 #[test]
-fn a_scan_reads_each_block_once_and_ends_at_a_damaged_one(rt: HostRuntime) {
-    assert!(rt; damaged_scan(rt.alloc()) == Ok(DAMAGED));
+fn a_scan_reads_each_block_once(rt: HostRuntime) {
     assert!(rt; scanned(rt.alloc(), 0) == Ok((FOUR, [1, 4])));
     assert!(rt; scanned(rt.alloc(), 10) == Ok((LIFTED, [1, 4])));
 }
@@ -156,4 +165,9 @@ fn sum<A: Allocator + Copy>(alloc: A) -> Result<u64, Error> {
 /// Whether the sum is right.
 pub(crate) fn sums_up<A: Allocator + Copy>(alloc: A) -> Result<bool, Error> {
     Ok(sum(alloc)? == 22)
+}
+
+#[test]
+fn a_scan_with_each_request_refused(rt: HostRuntime) {
+    assert!(rt; requests(rt.alloc(), &Work::Scan).is_ok());
 }

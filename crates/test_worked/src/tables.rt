@@ -1,10 +1,22 @@
-//! Tables that several of the tests write.
+//! Tables that several of the tests write, and what is asked of large values and another one.
 use lsm_tables::Table;
 use lsm_writers::FinishedTable;
 use sst_blocks::{BlockSource, Error, SectionName, SeqNo, Slice, ValueType};
 use std::alloc::Allocator;
 use test_tables::rows::{Row, fill, new_writer};
 use test_tables::tables::open;
+
+/// What is asked of a large value and of another, or why there is no large one, which is let go of
+/// here alone. It is generic in it, so that no part of it is looked at.
+pub(crate) fn asked_with<T: Drop, C: Copy, U, F: FnOnce(&T, C) -> Result<U, Error> + Drop>(
+    made: Result<T, Error>,
+    with: C,
+    ask: F,
+) -> Result<U, Error>
+    requires { F.IsAlwaysCallable ask }
+{
+    ask(&made?, with)
+}
 
 pub(crate) const ROWS: [Row<'static>; 4] = [
     (b"a", 9, ValueType::Value, b""),

@@ -1,9 +1,9 @@
 //! Tables that are written and opened.
-use crate::tables::{bytes_of, written};
+use crate::tables::{asked_with, bytes_of, written};
 use lsm_tables::Table;
 use sst_blocks::{Error, ValueType};
 use std::alloc::Global;
-use test_tables::large::{asked, asked_with};
+use test_tables::large::asked;
 use test_tables::rows::{Row, fill, new_writer};
 use test_tables::tables::{open, read};
 
@@ -20,6 +20,11 @@ fn open_interval_of_two(alloc: Global) -> Result<(), Error> {
     let writer = new_writer(alloc)?.use_index_block_restart_interval(2);
     let bytes = bytes_of(fill(writer, alloc, &rows))?;
     made(open(alloc, bytes, 0))
+}
+
+#[test]
+fn an_index_interval_of_two_is_written_and_not_opened(rt: HostRuntime) {
+    assert!(rt; open_interval_of_two(rt.alloc()) == Err(Error::UnsupportedIndexInterval));
 }
 
 // Whether an entry may follow a@1 in a table.
@@ -75,6 +80,12 @@ fn table_of(alloc: Global, rows: &[Row<'_>]) -> Result<Table, Error> {
     open(alloc, written(alloc, rows)?, 0)
 }
 
+#[test]
+fn counts_of_tombstones_come_back(rt: HostRuntime) {
+    let counts = asked(table_of(rt.alloc(), &TOMBSTONES), counts_of);
+    assert!(rt; counts == Ok([3, 2, 1, 5, 5, 9]));
+}
+
 // Whether a table finds each of some rows right above its number.
 fn finds_all(table: &Table, rows: &[Row<'_>]) -> Result<bool, Error> {
     for (key, seqno, _, _) in rows {
@@ -100,12 +111,8 @@ fn longest_is_found(alloc: Global) -> Result<bool, Error> {
     all_are_found(alloc, &rows)
 }
 
-// What an index interval of two is written with is not opened.
 #[test]
-fn entries_of_each_kind_their_counts_and_the_longest_key_come_back(rt: HostRuntime) {
-    let counts = asked(table_of(rt.alloc(), &TOMBSTONES), counts_of);
-    assert!(rt; open_interval_of_two(rt.alloc()) == Err(Error::UnsupportedIndexInterval));
-    assert!(rt; counts == Ok([3, 2, 1, 5, 5, 9]));
+fn entries_of_each_kind_and_the_longest_key_come_back(rt: HostRuntime) {
     assert!(rt; all_are_found(rt.alloc(), &TOMBSTONES) == Ok(true));
     assert!(rt; longest_is_found(rt.alloc()) == Ok(true));
 }

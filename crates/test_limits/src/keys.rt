@@ -3,7 +3,7 @@ use crate::tables::{Answers, each_answers};
 use sst_blocks::{Direction, Error, IterItem, SeqNo, ValueType};
 use std::alloc::Global;
 use std::ops::Bound;
-use test_tables::large::add;
+use std::test::Fail;
 use test_tables::lists::answers_within;
 use test_tables::pins::ALL_PINS;
 use test_tables::rows::Row;
@@ -12,9 +12,9 @@ use test_tables::runs::{ALL, Name, Tables, from_to, name_of, run_of};
 // How many bytes the longest key has that a writer takes.
 const LONGEST: usize = 1_048_576;
 
-// What tables of the longest key answer.
-fn longest_answers(alloc: Global) -> Result<[bool; 3], Error> {
-    let key = vec![in alloc; 0x61u8; LONGEST]?;
+#[test]
+fn the_longest_key_under_each_index_and_filter(rt: HostRuntime) -> Result<(), Fail> {
+    let key = vec![in rt.alloc(); 0x61u8; LONGEST]?;
     let rows: [Row<'_>; 3] = [
         (&key, 5, ValueType::Value, b"x"),
         (&key, 3, ValueType::Value, b"y"),
@@ -32,40 +32,35 @@ fn longest_answers(alloc: Global) -> Result<[bool; 3], Error> {
         bounds: from_to(&key, &key),
         numbers: [Some(5), Some(3), None],
     };
-    each_answers(alloc, &rows, &answers)
+    assert_eq!(rt; each_answers(rt.alloc(), &rows, &answers)?, [true; 3]);
+    Ok(())
 }
 
-const OF_THE_EMPTY: &[Row<'static>] = &[(b"", 7, ValueType::Value, b"")];
-
-const EMPTY_ANSWERS: &Answers<'static> = &Answers {
-    pins: &ALL_PINS,
-    reads: &[
-        (b"", 8, Some(7), 1),
-        (b"", SeqNo::MAX, Some(7), 1),
-        (b"", 7, None, 0),
-    ],
-    bounds: (Bound::Included(b""), Bound::Unbounded),
-    numbers: [Some(7), None, None],
-};
-
 #[test]
-fn the_longest_key_and_the_empty_one_under_each_index_and_filter(rt: HostRuntime) {
-    let alloc = rt.alloc();
-    assert!(rt; longest_answers(alloc) == Ok([true; 3]));
-    assert!(rt; each_answers(alloc, OF_THE_EMPTY, EMPTY_ANSWERS) == Ok([true; 3]));
+fn an_empty_key_and_value_alone(rt: HostRuntime) -> Result<(), Fail> {
+    let rows: [Row<'_>; 1] = [(b"", 7, ValueType::Value, b"")];
+    let answers = Answers {
+        pins: &ALL_PINS,
+        reads: &[
+            (b"", 8, Some(7), 1),
+            (b"", SeqNo::MAX, Some(7), 1),
+            (b"", 7, None, 0),
+        ],
+        bounds: (Bound::Included(b""), Bound::Unbounded),
+        numbers: [Some(7), None, None],
+    };
+    assert_eq!(rt; each_answers(rt.alloc(), &rows, &answers)?, [true; 3]);
+    Ok(())
 }
 
 // The runs of two tables of one key: the newer of one version, the older of two.
-fn two_runs(alloc: Global, key: &[u8]) -> Result<Vec<Tables<Global>>, Error> {
+fn two_runs(alloc: Global, key: &[u8]) -> Result<[Tables<Global>; 2], Error> {
     let newer: [Row<'_>; 1] = [(key, 9, ValueType::Value, b"x")];
     let older: [Row<'_>; 2] = [
         (key, 5, ValueType::Value, b"y"),
         (key, 3, ValueType::Value, b"z"),
     ];
-    let mut runs = Vec::new(alloc);
-    add(&mut runs, run_of(alloc, &[&newer]))?;
-    add(&mut runs, run_of(alloc, &[&older]))?;
-    Ok(runs)
+    Ok([run_of(alloc, &[&newer])?, run_of(alloc, &[&older])?])
 }
 
 // The names of what some answers are, and nothing where there are fewer than two.
@@ -79,23 +74,14 @@ fn two_names(answers: Vec<Option<IterItem>>) -> Result<[Option<Name>; 2], Error>
 }
 
 // What the newest versions of both runs are, from both ends.
-fn newest_in(alloc: Global, runs: &[Tables<Global>]) -> Result<[Option<Name>; 2], Error> {
-    two_names(answers_within(alloc, runs, ALL, &[Direction::Front, Direction::Back])?)
-}
-
 fn newest(alloc: Global, key: &[u8]) -> Result<[Option<Name>; 2], Error> {
     let runs = two_runs(alloc, key)?;
-    let names = newest_in(alloc, &runs);
-    drop(runs);
-    names
-}
-
-fn newest_of_the_longest(alloc: Global) -> Result<[Option<Name>; 2], Error> {
-    let key = vec![in alloc; 0x61u8; LONGEST]?;
-    newest(alloc, &key)
+    two_names(answers_within(alloc, &runs, ALL, &[Direction::Front, Direction::Back])?)
 }
 
 #[test]
-fn the_longest_key_in_two_runs(rt: HostRuntime) {
-    assert!(rt; newest_of_the_longest(rt.alloc()) == Ok([Some((0, 9)), None]));
+fn the_longest_key_in_two_runs(rt: HostRuntime) -> Result<(), Fail> {
+    let key = vec![in rt.alloc(); 0x61u8; LONGEST]?;
+    assert!(rt; newest(rt.alloc(), &key)? == [Some((0, 9)), None]);
+    Ok(())
 }

@@ -2,6 +2,7 @@
 use lsm_tables::{Iter, Table};
 use sst_blocks::{Error, SeqNo, Slice, ValueType};
 use std::alloc::Global;
+use std::test::Fail;
 use test_tables::large::{asked, asked_mut};
 use test_tables::rows::{Row, fill, new_writer};
 use test_tables::tables::{open, read};
@@ -27,12 +28,13 @@ fn first_number(iter: &mut Iter) -> Result<Option<SeqNo>, Error> {
 
 fn seen_in(table: &Table) -> Result<Seen, Error> {
     let (found, loads) = read(table, b"a", MAX);
-    let number = asked_mut(table.iter(), first_number)?;
+    let number = asked_mut(table.iter(), |iter| first_number(iter))?;
     Ok((found?, loads, number, table.get_highest_seqno()))
 }
 
 fn seen(alloc: Global, number: SeqNo, global: SeqNo) -> Result<Seen, Error> {
-    asked(open(alloc, numbered(alloc, number)?, global), seen_in)
+    let table = open(alloc, numbered(alloc, number)?, global);
+    asked(table, |table| seen_in(table))
 }
 
 // A stored number, a global number, and what is seen of them together.

@@ -6,7 +6,7 @@ use lsm_tables::{Iter, Table};
 use lsm_writers::{BloomConstructionPolicy, Writer};
 use sst_blocks::{Error, IterItem, SeqNo, Slice};
 use std::alloc::Global;
-use test_tables::large::{asked_mut, asked_with};
+use test_tables::large::{asked, asked_mut};
 use test_tables::pins::{Pins, open_with};
 use test_tables::rows::{Row, fill, new_writer};
 use test_tables::runs::{Bounds, owned_range};
@@ -47,7 +47,7 @@ pub(crate) type Read<'a> = (&'a [u8], SeqNo, Option<SeqNo>, u64);
 
 /// What a table is to answer under some pairs of pins: point reads, and the numbers within some
 /// bounds from the front, up to three of them.
-#[derive(Clone, Copy)]
+#[derive(Drop)]
 pub(crate) struct Answers<'a> {
     pub(crate) pins: &'a [Pins],
     pub(crate) reads: &'a [Read<'a>],
@@ -84,23 +84,20 @@ fn range_of(alloc: Global, table: &Table, bounds: Bounds<'_>) -> Result<Iter, Er
     table.range(lower, upper)
 }
 
-fn answers_all(table: &Table, of: (Global, &Answers<'_>)) -> Result<bool, Error> {
-    let (alloc, answers) = of;
+fn answers_all(alloc: Global, table: &Table, answers: &Answers<'_>) -> Result<bool, Error> {
     if !answers_reads(table, answers.reads) {
         return Ok(false);
     }
-    let numbers = asked_mut(range_of(alloc, table, answers.bounds), three_numbers)?;
+    let range = range_of(alloc, table, answers.bounds);
+    let numbers = asked_mut(range, |iter| three_numbers(iter))?;
     Ok(numbers == answers.numbers)
 }
 
 // Whether a table answers so under each of the pairs of pins.
 fn answers_pinned(alloc: Global, bytes: &[u8], answers: &Answers<'_>) -> Result<bool, Error> {
     for pins in answers.pins {
-        if !asked_with(
-            open_with(alloc, bytes, *pins),
-            (alloc, answers),
-            answers_all,
-        )? {
+        let table = open_with(alloc, bytes, *pins);
+        if !asked(table, |table| answers_all(alloc, table, answers))? {
             return Ok(false);
         }
     }
