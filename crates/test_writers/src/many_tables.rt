@@ -70,7 +70,10 @@ fn spent(alloc: Global) -> Result<[u8; 3], Error> {
 fn left(alloc: Global) -> ([Option<TableId>; 2], u8) {
     let mut ids = TableIds::new(TableId::MAX);
     let drawn = [ids.next(), ids.next()];
-    (drawn, number(MultiWriter::new(alloc, ids, 0, 0, Timestamp::from(0))))
+    (
+        drawn,
+        number(MultiWriter::new(alloc, ids, 0, 0, Timestamp::from(0))),
+    )
 }
 
 #[test]

@@ -62,10 +62,7 @@ fn register_block<A: Allocator, W: BlockIndexWriter<A>>(
 {
     let mut answers = (0, 0);
     if let Err(error) = writer.register_data_block(handle) {
-        answers = (
-            error.number(),
-            number(writer.register_data_block(handle)),
-        );
+        answers = (error.number(), number(writer.register_data_block(handle)));
     }
     let (first, second) = answers;
     (first, second, number(writer.finish(sections)))

@@ -147,7 +147,10 @@ fn answer<A: Allocator + Copy>(alloc: A, work: Work, may_fail: bool) -> bool {
 // How many requests what is named makes, where it is right with nothing refused and with each
 // request refused in turn.
 fn requests(alloc: Global, work: Work) -> Result<usize, usize> {
-    each_refused(alloc, |heap: &Refusing, may_fail: bool| answer(heap, work, may_fail))
+    each_refused(
+        alloc,
+        |heap: &Refusing, may_fail: bool| answer(heap, work, may_fail),
+    )
 }
 
 // Whether it makes more requests than so many.

@@ -123,8 +123,7 @@ const C0: Row<'static> = (b"c", 0, ValueType::Value, LONG);
 const VERSIONS: &[Row<'static>] = &[A2, A1, A0, B0, C1, C0];
 
 // The id of the table of each of their keys, and its rows.
-const ALONE: &[(TableId, &[Row<'static>])] =
-    &[(1, &[A2, A1, A0]), (2, &[B0]), (3, &[C1, C0])];
+const ALONE: &[(TableId, &[Row<'static>])] = &[(1, &[A2, A1, A0]), (2, &[B0]), (3, &[C1, C0])];
 
 // The entries of some rows.
 fn items_of(alloc: Global, rows: &[Row<'_>]) -> Result<Vec<InternalValue>, Error> {
@@ -223,8 +222,14 @@ const TWO_KEYS: &[Row<'static>] = &[
 // How many tables there are of two keys, if they are those of a writer of one table.
 fn options_agree(alloc: Global) -> Result<[Option<usize>; 2], Error> {
     let table = table_of(alloc, table_at_once(alloc), TWO_KEYS, Given::ByValue)?;
-    let first = count_of_same(&table, tables_of(alloc, one_by_one(alloc), TWO_KEYS, Given::ByValue));
-    let second = count_of_same(&table, tables_of(alloc, at_once(alloc), TWO_KEYS, Given::ByValue));
+    let first = count_of_same(
+        &table,
+        tables_of(alloc, one_by_one(alloc), TWO_KEYS, Given::ByValue),
+    );
+    let second = count_of_same(
+        &table,
+        tables_of(alloc, at_once(alloc), TWO_KEYS, Given::ByValue),
+    );
     drop(table);
     Ok([first?, second?])
 }

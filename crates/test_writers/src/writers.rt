@@ -1,7 +1,7 @@
 //! What writers count, cut, write and refuse.
 
-use crate::one_entry_v4;
 use crate::given::number;
+use crate::one_entry_v4;
 use lsm_writers::{
     BlockIndexWriter, FinishedTable, FullIndexWriter, GlobalTableId, Metadata, TableId, Timestamp,
     Writer,
@@ -38,7 +38,10 @@ fn one_entry(alloc: Global) -> Result<FinishedTable, Error> {
 // Whether a table is the stored one: its id and its checksum, and its bytes.
 fn is_the_stored(table: &FinishedTable) -> Result<(bool, bool), Error> {
     let is_told = table.id == 1 && table.checksum == Checksum(one_entry_v4::CHECKSUM);
-    Ok((is_told, table.bytes.as_slice() == one_entry_v4::BYTES.as_slice()))
+    Ok((
+        is_told,
+        table.bytes.as_slice() == one_entry_v4::BYTES.as_slice(),
+    ))
 }
 
 // Whether a table prints how many bytes it has, and not which.
@@ -87,7 +90,11 @@ const COUNTS: &[(&[Row<'static>], [usize; 7], [usize; 7])] = &[
     (&[A0], [0, 0, 1, 0, 0, 0, 2], [1, 1, 1, 0, 0, 0, 0]),
     (&[A0, B0], [0, 0, 2, 0, 0, 0, 4], [2, 1, 2, 0, 0, 0, 0]),
     (&[A0, B0, C0], [0, 0, 3, 0, 0, 0, 6], [3, 1, 3, 0, 0, 0, 0]),
-    (&[C0, D9, D8, E3], [0, 0, 3, 2, 1, 1, 6], [4, 1, 3, 2, 1, 1, 0]),
+    (
+        &[C0, D9, D8, E3],
+        [0, 0, 3, 2, 1, 1, 6],
+        [4, 1, 3, 2, 1, 1, 0],
+    ),
 ];
 
 #[test]
@@ -132,7 +139,11 @@ const C4: Row<'static> = (b"c", 4, ValueType::Value, b"c");
 const CUTS: &[(u32, &[Row<'static>], Cut)] = &[
     (4_096, &[], (SeqNo::MAX, 0, 0, 0, BlockOffset(0))),
     (4_096, &[C4, D9, E3], (3, 9, 0, 3, BlockOffset(0))),
-    (0, &[A9, A7, A5], (5, 9, 3, 1, BlockOffset(3 * (24 + 4 + 17 + 1)))),
+    (
+        0,
+        &[A9, A7, A5],
+        (5, 9, 3, 1, BlockOffset(3 * (24 + 4 + 17 + 1))),
+    ),
 ];
 
 #[test]
