@@ -21,7 +21,7 @@ fn answer_of(table: &Table) -> Answer {
 // Opens the stored table with some bytes changed, and reads `a` below 2.
 fn open_and_read(alloc: Global, changes: &[(usize, &[u8])], global_seqno: SeqNo) -> Answer {
     let bytes = overwritten(alloc, &one_entry::BYTES, changes)?;
-    asked(open(alloc, bytes, global_seqno), |table| answer_of(table))
+    asked(open(alloc, bytes, global_seqno), answer_of)
 }
 
 // Whether an answer is the expected one.

@@ -9,7 +9,7 @@ use sst_blocks::{
     InternalValue, Opened, SectionName, SectionWriter, SeqNo, Slice,
 };
 use std::alloc::{Allocator, Global};
-use test_refusing::each_refused;
+use test_refusing::{Refusing, each_refused};
 use test_tables::large::asked;
 use test_tables::rows::written;
 use test_tables::stored::one_entry;
@@ -86,7 +86,10 @@ fn put_read<A: Allocator>(
     item: Result<InternalValue<A>, Error>,
     changes: &[Item],
 ) -> Result<u32, Error> {
-    asked(item, |item| put_changed(payload, item, changes))
+    let item = item?;
+    let put = put_changed(payload, &item, changes);
+    drop(item);
+    put
 }
 
 // Appends the items of a meta block, some of them changed, and answers how many are left.
@@ -108,11 +111,9 @@ fn stored<A: Allocator + Copy>(alloc: A) -> Result<BlockSource<A>, Error> {
 }
 
 // The items of the stored table's meta block.
-fn stored_items<A: Allocator + Copy>(alloc: A) -> Result<DataBlock<A>, Error> {
+fn items_in<A: Allocator + Copy>(source: &BlockSource<A>) -> Result<DataBlock<A>, Error> {
     let handle = BlockHandle::new(BlockOffset(97), 1041);
-    asked(stored(alloc), |source| {
-        load_entries(source, &handle, BlockType::Meta, &mut Opened::none())
-    })
+    load_entries(source, &handle, BlockType::Meta, &mut Opened::none())
 }
 
 // Appends those items, some of them changed, and answers how many are left.
@@ -121,10 +122,10 @@ fn put_stored<A: Allocator + Copy>(
     items: &mut Vec<u8, A>,
     changes: &[Item],
 ) -> Result<u32, Error> {
-    asked(
-        stored_items(alloc),
-        |block| put_items(items, block, changes),
-    )
+    let block = asked(stored(alloc), items_in)?;
+    let put = put_items(items, &block, changes);
+    drop(block);
+    put
 }
 
 // Appends how many items are left, and the items, which wait in between.
@@ -312,15 +313,12 @@ fn numbers(alloc: Global, name: &'static [u8]) -> [u8; 4] {
     ]
 }
 
+// One that is not read may be gone.
 #[test]
 fn an_item_that_is_read_has_to_be_there(rt: HostRuntime) {
     for &name in READ {
         assert_eq!(rt; numbers(rt.alloc(), name), [MISSING, MISSING, 0, 0]);
     }
-}
-
-#[test]
-fn an_item_that_is_not_read_may_be_gone(rt: HostRuntime) {
     for &name in NOT_READ {
         assert_eq!(rt; number(rt.alloc(), &[(name, Change::Gone)]), 0);
     }
@@ -365,8 +363,8 @@ fn items_are_read_in_one_order(rt: HostRuntime) {
 
 // Whether opening a table of a checksum that is not known is refused so, or for want of memory
 // where that may be.
-fn refuses_the_checksum<A: Allocator + Copy>(alloc: A, may_fail: bool) -> bool {
-    match reopen(alloc, &[(b"checksum_type", TWO)]) {
+fn refuses_the_checksum(heap: &Refusing, may_fail: bool) -> bool {
+    match reopen(heap, &[(b"checksum_type", TWO)]) {
         Ok(()) => false,
         Err(Error::OutOfMemory) => may_fail,
         Err(error) => error == Error::UnsupportedChecksumType,
@@ -375,10 +373,7 @@ fn refuses_the_checksum<A: Allocator + Copy>(alloc: A, may_fail: bool) -> bool {
 
 #[test]
 fn each_request_refused_before_a_fault(rt: HostRuntime) {
-    let refused = each_refused(
-        rt.alloc(),
-        |alloc, may_fail| refuses_the_checksum(alloc, may_fail),
-    );
+    let refused = each_refused(rt.alloc(), refuses_the_checksum);
     assert!(rt; refused.is_ok_and(|requests| requests > 5));
 }
 

@@ -2,7 +2,7 @@
 use lsm_tables::{Iter, Table};
 use sst_blocks::{Checksum, Error, InternalValue, SeqNo};
 use std::alloc::Global;
-use test_tables::large::{asked, asked_mut};
+use test_tables::large::asked;
 use test_tables::stored::{filter_parts, one_entry, one_entry_filtered, two_levels};
 use test_tables::tables::overwritten;
 
@@ -133,22 +133,22 @@ fn read_counted(table: &Table, key: &[u8], seqno: SeqNo) -> (Found, [u64; 3]) {
 }
 
 // Whether a read answers and loads what it should.
-fn is_read(alloc: Global, read: &Read) -> bool {
+fn is_read(alloc: Global, read: &Read) -> Result<bool, Error> {
     let (damaged, key, seqno, found, loads) = read;
-    match asked(
-        opened(alloc, damaged),
-        |table| Ok(read_counted(table, key, *seqno)),
-    ) {
-        Ok(answer) => answer == (*found, *loads),
-        Err(_) => false,
-    }
+    let table = opened(alloc, damaged)?;
+    let answer = read_counted(&table, key, *seqno);
+    drop(table);
+    Ok(answer == (*found, *loads))
 }
 
 #[test]
 fn what_does_not_rest_on_the_damage_is_read(rt: HostRuntime) {
     for read in READS {
         let (damaged, key, seqno, ..) = read;
-        assert!(rt; is_read(rt.alloc(), read), "{damaged:?} {key:?} {seqno}");
+        assert!(rt;
+            is_read(rt.alloc(), read) == Ok(true),
+            "{damaged:?} {key:?} {seqno}"
+        );
     }
 }
 
@@ -193,22 +193,24 @@ fn gives(iter: &mut Iter, is_back: bool, steps: &[Step], loads: [u64; 2]) -> boo
 
 // All entries of a table that is let go of.
 fn entries(alloc: Global, damaged: &Damaged) -> Result<Iter, Error> {
-    asked(opened(alloc, damaged), |table| table.iter())
+    asked(opened(alloc, damaged), Table::iter)
 }
 
-fn is_walked(alloc: Global, walked: &Walked) -> bool {
+fn is_walked(alloc: Global, walked: &Walked) -> Result<bool, Error> {
     let (damaged, is_back, steps, loads) = walked;
-    let made = entries(alloc, damaged);
-    match asked_mut(made, |iter| Ok(gives(iter, *is_back, steps, *loads))) {
-        Ok(is_right) => is_right,
-        Err(_) => false,
-    }
+    let mut iter = entries(alloc, damaged)?;
+    let is_right = gives(&mut iter, *is_back, steps, *loads);
+    drop(iter);
+    Ok(is_right)
 }
 
 #[test]
 fn a_reader_ends_at_the_damage(rt: HostRuntime) {
     for walked in WALKS {
         let (damaged, is_back, ..) = walked;
-        assert!(rt; is_walked(rt.alloc(), walked), "{damaged:?} {is_back}");
+        assert!(rt;
+            is_walked(rt.alloc(), walked) == Ok(true),
+            "{damaged:?} {is_back}"
+        );
     }
 }

@@ -61,30 +61,29 @@ fn steps(iter: &mut Iter, is_back: bool) -> [Step; 3] {
 }
 
 fn entries(alloc: Global) -> Result<Iter, Error> {
-    asked(opened(alloc), |table| table.iter())
+    asked(opened(alloc), Table::iter)
 }
 
 fn walked(alloc: Global, is_back: bool) -> Result<[Step; 3], Error> {
-    asked_mut(entries(alloc), |iter| Ok(steps(iter, is_back)))
+    let mut iter = entries(alloc)?;
+    let steps = steps(&mut iter, is_back);
+    drop(iter);
+    Ok(steps)
 }
 
-fn scan_of(alloc: Global) -> Result<Scanner, Error> {
-    asked(opened(alloc), |table| table.scan())
-}
-
-fn scan_steps(scan: &mut Scanner) -> [Step; 2] {
-    [number_of(scan.next()), number_of(scan.next())]
+fn scan_steps(scan: &mut Scanner) -> Result<[Step; 2], Error> {
+    Ok([number_of(scan.next()), number_of(scan.next())])
 }
 
 fn scanned(alloc: Global) -> Result<[Step; 2], Error> {
-    asked_mut(scan_of(alloc), |scan| Ok(scan_steps(scan)))
+    asked_mut(asked(opened(alloc), Table::scan), scan_steps)
 }
 
 // What a read answers, and how many data blocks it loads.
 type Answer = (Result<Option<SeqNo>, Error>, u64);
 
-fn found(alloc: Global) -> Result<Answer, Error> {
-    asked(opened(alloc), |table| Ok(read(table, b"a", SeqNo::MAX)))
+fn found(table: &Table) -> Result<Answer, Error> {
+    Ok(read(table, b"a", SeqNo::MAX))
 }
 
 const OVERFLOW: Step = Some(Err(21));
@@ -95,5 +94,5 @@ fn an_entry_above_the_numbers_of_the_meta_block(rt: HostRuntime) {
     assert!(rt; walked(rt.alloc(), true) == Ok([OVERFLOW, None, None]));
     assert!(rt; scanned(rt.alloc()) == Ok([OVERFLOW, None]));
     // No handle is numbered below the bound less 3.
-    assert!(rt; found(rt.alloc()) == Ok((Ok(None), 0)));
+    assert!(rt; asked(opened(rt.alloc()), found) == Ok((Ok(None), 0)));
 }

@@ -1,8 +1,7 @@
 //! Stored tables that are read with each pin and without: what stays loaded, what is found, and
 //! what each read loads.
-use sst_blocks::Error;
+use sst_blocks::{Error, SeqNo};
 use std::alloc::Global;
-use std::test::Fail;
 use test_tables::pins::{
     OF_FILTER_PARTS, OF_ONE_ENTRY, OF_ONE_ENTRY_FILTERED, OF_TWO_LEVELS, Sizes, Starts,
     all_answered, all_sizes, starts_of,
@@ -27,12 +26,6 @@ const SIZES: [[Sizes; 4]; 4] = [
     [(66, 0, 96), (66, 0, 0), (66, 0, 96), (66, 0, 0)],
 ];
 
-#[test]
-fn what_is_pinned(rt: HostRuntime) -> Result<(), Fail> {
-    assert!(rt; sizes_of_each(rt.alloc())? == SIZES);
-    Ok(())
-}
-
 // Whether each stored table answers its reads, under each pair of pins.
 fn each_answers(alloc: Global) -> Result<[bool; 4], Error> {
     Ok([
@@ -41,12 +34,6 @@ fn each_answers(alloc: Global) -> Result<[bool; 4], Error> {
         all_answered(alloc, &two_levels::BYTES, &OF_TWO_LEVELS)?,
         all_answered(alloc, &filter_parts::BYTES, &OF_FILTER_PARTS)?,
     ])
-}
-
-#[test]
-fn reads_under_each_pair_of_pins(rt: HostRuntime) -> Result<(), Fail> {
-    assert_eq!(rt; each_answers(rt.alloc())?, [true; 4]);
-    Ok(())
 }
 
 // Where readers of an index start: of one that stays loaded, of one that does not, and of one in
@@ -59,11 +46,14 @@ fn starts_of_each(alloc: Global) -> Result<[Starts; 3], Error> {
     ])
 }
 
+const FOUND: Option<Option<SeqNo>> = Some(Some(7));
+
+// Only an index that stays loaded tells at once that no handle reaches a key.
+const STARTS: [Starts; 3] = [[FOUND, None], [FOUND, Some(None)], [FOUND, Some(None)]];
+
 #[test]
-fn readers_of_the_index_of_each_kind(rt: HostRuntime) -> Result<(), Fail> {
-    // only an index that stays loaded tells at once that no handle reaches a key
-    let found = Some(Some(7));
-    let expected = [[found, None], [found, Some(None)], [found, Some(None)]];
-    assert!(rt; starts_of_each(rt.alloc())? == expected);
-    Ok(())
+fn what_is_pinned_read_and_started_from_under_each_pair_of_pins(rt: HostRuntime) {
+    assert!(rt; sizes_of_each(rt.alloc()) == Ok(SIZES));
+    assert!(rt; each_answers(rt.alloc()) == Ok([true; 4]));
+    assert!(rt; starts_of_each(rt.alloc()) == Ok(STARTS));
 }

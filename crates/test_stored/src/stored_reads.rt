@@ -4,9 +4,8 @@ use sst_blocks::{
     BlockHandle, BlockOffset, BlockSource, BlockType, DataBlock, Error, Opened, SeqNo, Slice,
     ValueType,
 };
-use std::alloc::{Allocator, Global};
-use std::test::Fail;
-use test_tables::large::asked;
+use std::alloc::Global;
+use test_tables::large::{asked, asked_with};
 use test_tables::stored::{filter_parts, one_entry, one_entry_filtered, two_levels};
 use test_tables::tables::{load_entries, open, overwritten, read};
 
@@ -31,14 +30,14 @@ const OF_FOUR_ENTRIES: [Read; 9] = [
     (b"b", 1, None, 0),
 ];
 
-// Whether a table answers some reads so.
-fn answers<A: Allocator + Copy>(table: &Table<A>, reads: &[Read]) -> bool {
+// Whether a table answers some reads so, and the bytes that its filter takes.
+fn told(table: &Table, reads: &[Read]) -> Result<(bool, u32), Error> {
     for &(key, seqno, found, loads) in reads {
         if read(table, key, seqno) != (Ok(found), loads) {
-            return false;
+            return Ok((false, 0));
         }
     }
-    true
+    Ok((true, table.filter_size()))
 }
 
 // A stored table.
@@ -46,44 +45,19 @@ fn opened(alloc: Global, bytes: &[u8]) -> Result<Table, Error> {
     open(alloc, Slice::from(alloc, bytes)?, 0)
 }
 
-// Whether a stored table answers some reads so.
-fn stored_answers(alloc: Global, bytes: &[u8], reads: &[Read]) -> Result<bool, Error> {
-    asked(opened(alloc, bytes), |table| Ok(answers(table, reads)))
-}
-
-// Whether each stored table answers its reads so.
-fn each_answers(alloc: Global) -> Result<[bool; 3], Error> {
-    Ok([
-        stored_answers(alloc, &one_entry::BYTES, &OF_ONE_ENTRY)?,
-        stored_answers(alloc, &one_entry_filtered::BYTES, &OF_ONE_ENTRY)?,
-        stored_answers(alloc, &filter_parts::BYTES, &OF_FOUR_ENTRIES)?,
-    ])
+// What a stored table says to some reads, and of its filter.
+fn stored_told(alloc: Global, bytes: &[u8], reads: &[Read]) -> Result<(bool, u32), Error> {
+    asked_with(opened(alloc, bytes), reads, told)
 }
 
 #[test]
-fn stored_tables_answer_their_reads(rt: HostRuntime) -> Result<(), Fail> {
-    assert_eq!(rt; each_answers(rt.alloc())?, [true; 3]);
-    Ok(())
-}
-
-// The bytes that a table's filter takes.
-fn filter_size(alloc: Global, bytes: &[u8]) -> Result<u32, Error> {
-    asked(opened(alloc, bytes), |table| Ok(table.filter_size()))
-}
-
-// The bytes that the filter of each stored table takes.
-fn filter_sizes(alloc: Global) -> Result<[u32; 3], Error> {
-    Ok([
-        filter_size(alloc, &one_entry::BYTES)?,
-        filter_size(alloc, &one_entry_filtered::BYTES)?,
-        filter_size(alloc, &filter_parts::BYTES)?,
-    ])
-}
-
-#[test]
-fn filters_of_stored_tables(rt: HostRuntime) -> Result<(), Fail> {
-    assert_eq!(rt; filter_sizes(rt.alloc())?, [0, 33, 66]);
-    Ok(())
+fn stored_tables_answer_their_reads_and_have_their_filters(rt: HostRuntime) {
+    let alloc = rt.alloc();
+    let filtered = stored_told(alloc, &one_entry_filtered::BYTES, &OF_ONE_ENTRY);
+    let in_parts = stored_told(alloc, &filter_parts::BYTES, &OF_FOUR_ENTRIES);
+    assert!(rt; stored_told(alloc, &one_entry::BYTES, &OF_ONE_ENTRY) == Ok((true, 0)));
+    assert!(rt; filtered == Ok((true, 33)));
+    assert!(rt; in_parts == Ok((true, 66)));
 }
 
 // A table in four blocks of 44 bytes, of which all but the second are damaged in their last byte.
@@ -97,7 +71,10 @@ type Answer = (Result<Option<SeqNo>, Error>, u64);
 
 // What a read answers of it.
 fn damaged_read(alloc: Global, bytes: &[u8], key: &[u8], seqno: SeqNo) -> Result<Answer, Error> {
-    asked(damaged(alloc, bytes), |table| Ok(read(table, key, seqno)))
+    let table = damaged(alloc, bytes)?;
+    let answer = read(&table, key, seqno);
+    drop(table);
+    Ok(answer)
 }
 
 const OF_DAMAGED: &[(&[u8], SeqNo, Answer)] = &[
@@ -127,23 +104,12 @@ fn a_damaged_block_refuses_its_own_reads(rt: HostRuntime) {
 // The scan of the table of one entry whose data block is damaged.
 fn damaged_scan(alloc: Global) -> Result<Scanner, Error> {
     let bytes = overwritten(alloc, &one_entry::BYTES, &[(44, b"?")])?;
-    asked(open(alloc, bytes, 0), |table| table.scan())
-}
-
-// The number of its refusal, or 0 for none.
-fn scan_refusal(alloc: Global) -> u8 {
-    match damaged_scan(alloc) {
-        Ok(scan) => {
-            drop(scan);
-            0
-        }
-        Err(error) => error.number(),
-    }
+    asked(open(alloc, bytes, 0), Table::scan)
 }
 
 #[test]
 fn a_damaged_first_block_refuses_the_scan_of_the_table(rt: HostRuntime) {
-    assert_eq!(rt; scan_refusal(rt.alloc()), 5);
+    assert!(rt; damaged_scan(rt.alloc()).map(drop) == Err(Error::ChecksumMismatch));
 }
 
 // Whether a block has one entry alone, `a` at 1 with the value `x`.
@@ -168,10 +134,7 @@ fn data_block(source: &BlockSource) -> Result<DataBlock, Error> {
 
 fn stored_entry(alloc: Global) -> Result<bool, Error> {
     let source = BlockSource::new(alloc, Slice::from(alloc, &one_entry::BYTES)?);
-    asked(
-        asked(source, |source| data_block(source)),
-        |block| has_the_entry(block),
-    )
+    asked(asked(source, data_block), has_the_entry)
 }
 
 #[test]

@@ -13,6 +13,17 @@ pub fn asked<T: Drop, U, F: FnOnce(&T) -> Result<U, Error> + Drop>(
     ask(&made?)
 }
 
+/// What is asked of a large value and of another one, which is copied.
+pub fn asked_with<T: Drop, C: Copy, U, F: FnOnce(&T, C) -> Result<U, Error> + Drop>(
+    made: Result<T, Error>,
+    with: C,
+    ask: F,
+) -> Result<U, Error>
+    requires { F.IsAlwaysCallable ask }
+{
+    ask(&made?, with)
+}
+
 /// What is asked of a value that changes as it is asked, or the refusal that made none.
 pub fn asked_mut<T: Drop, U, F: FnOnce(&mut T) -> Result<U, Error> + Drop>(
     made: Result<T, Error>,

@@ -10,7 +10,7 @@ use sst_blocks::{
     IndexBlock, Opened, SectionName, SectionWriter, SeqNo, Slice, TagName, UserKey,
 };
 use std::alloc::Global;
-use test_tables::large::asked;
+use test_tables::large::asked_with;
 
 // The partition size, and how many tenths of a bit a key has.
 type Setting = (u32, u32);
@@ -100,7 +100,7 @@ fn end_at(tops: &IndexBlock, place: usize) -> Result<u8, Error> {
 // The end keys of the first partitions, and whether "a", "b" and "c" are admitted.
 type Told = ((u8, u8, u8), (bool, bool, bool));
 
-fn told(source: &BlockSource, tops: &IndexBlock) -> Result<Told, Error> {
+fn told(tops: &IndexBlock, source: &BlockSource) -> Result<Told, Error> {
     let ends = (end_at(tops, 0)?, end_at(tops, 1)?, end_at(tops, 2)?);
     let yes = (
         says(source, tops, b"a")?,
@@ -115,7 +115,8 @@ fn told(source: &BlockSource, tops: &IndexBlock) -> Result<Told, Error> {
 fn told_of(alloc: Global, settings: Settings) -> Result<(usize, Told), Error> {
     let (count, bytes) = written(alloc, settings)?;
     let source = BlockSource::new(alloc, bytes)?;
-    let told = asked(tops_of(&source), |tops| told(&source, tops));
+    let told = asked_with(tops_of(&source), &source, told);
+    drop(source);
     Ok((count, told?))
 }
 

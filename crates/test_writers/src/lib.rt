@@ -2,9 +2,9 @@
 #![tactic(auto)]
 
 #[cfg(test)]
-mod by_reference;
-#[cfg(test)]
 mod filter_options;
+#[cfg(test)]
+mod given;
 #[cfg(test)]
 mod many_tables;
 #[cfg(test)]
@@ -13,5 +13,7 @@ mod one_entry_v4;
 mod part_refusals;
 #[cfg(test)]
 mod refusals;
+#[cfg(test)]
+mod same;
 #[cfg(test)]
 mod writers;

@@ -5,7 +5,8 @@ ghost use Rattle.sst_blocks.specs.Handles.{AreStrictHandles};
 ghost use Rattle.lsm_section_writers.specs.Rising.{Rises};
 ghost use Rattle.lsm_formats.specs.File.{HasNoFilter, HasNoIndex};
 
-use crate::refusals::{Answers, are_right, number};
+use crate::given::number;
+use crate::refusals::Answers;
 use lsm_writers::{
     BlockIndexWriter, BloomConstructionPolicy, FilterWriter, FullFilterWriter, FullIndexWriter,
     PartitionedFilterWriter, PartitionedIndexWriter,
@@ -13,8 +14,7 @@ use lsm_writers::{
 use sst_blocks::{
     BlockHandle, BlockOffset, Error, KeyedBlockHandle, SectionName, SectionWriter, Slice, UserKey,
 };
-use std::alloc::{Allocator, Global};
-use test_refusing::{Refusing, each_refused};
+use std::alloc::Allocator;
 
 // What a section writer has before an index or a filter is written.
 const FRONT: &[u8] = b"front";
@@ -45,10 +45,10 @@ fn register_key<A: Allocator, W: FilterWriter<A>>(
 {
     let mut answers = (0, 0);
     if let Err(error) = writer.register_key(key) {
-        answers = (error.number(), number(writer.register_key(key).err()));
+        answers = (error.number(), number(writer.register_key(key)));
     }
     let (first, second) = answers;
-    (first, second, number(writer.finish(sections).err()))
+    (first, second, number(writer.finish(sections)))
 }
 
 // Registers a handle, twice where it is refused, and finishes.
@@ -62,27 +62,17 @@ fn register_block<A: Allocator, W: BlockIndexWriter<A>>(
 {
     let mut answers = (0, 0);
     if let Err(error) = writer.register_data_block(handle) {
-        answers = (
-            error.number(),
-            number(writer.register_data_block(handle).err()),
-        );
+        answers = (error.number(), number(writer.register_data_block(handle)));
     }
     let (first, second) = answers;
-    (first, second, number(writer.finish(sections).err()))
+    (first, second, number(writer.finish(sections)))
 }
 
-// What is answered, and whether the bytes before stay.
-type Outcome = Result<(Answers, bool), Error>;
+/// What is answered, and whether the bytes before stay.
+pub(crate) type Outcome = Result<(Answers, bool), Error>;
 
-fn is_right(outcome: Outcome, may_fail: bool) -> bool {
-    match outcome {
-        Ok((answers, stays)) => stays && are_right(Ok(answers), may_fail),
-        Err(error) => are_right(Err(error), may_fail),
-    }
-}
-
-// A full filter of one key.
-fn full_filter<A: Allocator + Copy>(alloc: A) -> Outcome {
+/// A full filter of one key.
+pub(crate) fn full_filter<A: Allocator + Copy>(alloc: A) -> Outcome {
     let key: UserKey<A> = Slice::from(alloc, b"a")?;
     let mut sections = with_front(alloc)?;
     let writer = FullFilterWriter::new(alloc, BloomConstructionPolicy::default());
@@ -90,8 +80,8 @@ fn full_filter<A: Allocator + Copy>(alloc: A) -> Outcome {
     Ok((answers, has_front(sections)?))
 }
 
-// A filter of one partition.
-fn partitioned_filter<A: Allocator + Copy>(alloc: A) -> Outcome {
+/// A filter of one partition.
+pub(crate) fn partitioned_filter<A: Allocator + Copy>(alloc: A) -> Outcome {
     let key: UserKey<A> = Slice::from(alloc, b"a")?;
     let mut sections = with_front(alloc)?;
     let none = PartitionedFilterWriter::new(alloc, BloomConstructionPolicy::default())?;
@@ -106,58 +96,22 @@ fn first_block<A: Allocator + Copy>(alloc: A) -> Result<KeyedBlockHandle<A>, Err
     Ok(KeyedBlockHandle::new(Slice::from(alloc, b"a")?, 1, lies))
 }
 
-// A full index of one handle.
+/// A full index of one handle.
 #[tactic(auto, using(crate::proofs::HandleLemmas::one_handle_strict))]
-fn full_index<A: Allocator + Copy>(alloc: A) -> Outcome {
+pub(crate) fn full_index<A: Allocator + Copy>(alloc: A) -> Outcome {
     let handle = first_block(alloc)?;
     let mut sections = with_front(alloc)?;
     let answers = register_block(FullIndexWriter::new(alloc), &handle, &mut sections);
     Ok((answers, has_front(sections)?))
 }
 
-// An index of one partition.
+/// An index of one partition.
 #[tactic(auto, using(crate::proofs::HandleLemmas::one_handle_strict))]
-fn partitioned_index<A: Allocator + Copy>(alloc: A) -> Outcome {
+pub(crate) fn partitioned_index<A: Allocator + Copy>(alloc: A) -> Outcome {
     let handle = first_block(alloc)?;
     let mut sections = with_front(alloc)?;
     let answers = register_block(PartitionedIndexWriter::new(alloc), &handle, &mut sections);
     Ok((answers, has_front(sections)?))
-}
-
-#[test]
-fn a_full_filter_that_was_refused_memory_has_failed(rt: HostRuntime) {
-    let answers = each_refused(
-        rt.alloc(),
-        |heap, may_fail| is_right(full_filter(heap), may_fail),
-    );
-    assert!(rt; matches!(answers, Ok(requests) if requests > 3));
-}
-
-#[test]
-fn partitions_of_a_filter_that_were_refused_memory_have_failed(rt: HostRuntime) {
-    let answers = each_refused(
-        rt.alloc(),
-        |heap, may_fail| is_right(partitioned_filter(heap), may_fail),
-    );
-    assert!(rt; matches!(answers, Ok(requests) if requests > 6));
-}
-
-#[test]
-fn a_full_index_that_was_refused_memory_has_failed(rt: HostRuntime) {
-    let answers = each_refused(
-        rt.alloc(),
-        |heap, may_fail| is_right(full_index(heap), may_fail),
-    );
-    assert!(rt; matches!(answers, Ok(requests) if requests > 3));
-}
-
-#[test]
-fn partitions_of_an_index_that_were_refused_memory_have_failed(rt: HostRuntime) {
-    let answers = each_refused(
-        rt.alloc(),
-        |heap, may_fail| is_right(partitioned_index(heap), may_fail),
-    );
-    assert!(rt; matches!(answers, Ok(requests) if requests > 4));
 }
 
 // What an index of no handles answers, and whether the bytes before stay.
@@ -166,8 +120,18 @@ fn index_of_none<A: Allocator + Copy, W: BlockIndexWriter<A> + Drop>(
     writer: W,
 ) -> Outcome {
     let mut sections = with_front(alloc)?;
-    let last = number(writer.finish(&mut sections).err());
+    let last = number(writer.finish(&mut sections));
     Ok(((0, 0, last), has_front(sections)?))
+}
+
+/// A full index of no handles.
+pub(crate) fn empty_full_index<A: Allocator + Copy>(alloc: A) -> Outcome {
+    index_of_none(alloc, FullIndexWriter::new(alloc))
+}
+
+/// A partitioned index of no handles.
+pub(crate) fn empty_partitioned_index<A: Allocator + Copy>(alloc: A) -> Outcome {
+    index_of_none(alloc, PartitionedIndexWriter::new(alloc))
 }
 
 // Begins a section, again where it is refused memory.
@@ -188,8 +152,8 @@ fn append<A: Allocator + Copy>(sections: &mut SectionWriter<A>, bytes: &[u8]) ->
     }
 }
 
-// The bytes of one section.
-fn section_of<A: Allocator + Copy>(alloc: A) -> Result<Slice<A>, Error> {
+/// The bytes of one section.
+pub(crate) fn section_of<A: Allocator + Copy>(alloc: A) -> Result<Slice<A>, Error> {
     let mut sections = SectionWriter::new(alloc)?;
     start(&mut sections)?;
     append(&mut sections, b"some")?;
@@ -198,47 +162,10 @@ fn section_of<A: Allocator + Copy>(alloc: A) -> Result<Slice<A>, Error> {
     Ok(bytes)
 }
 
-// Whether a section is written, though a request is refused once.
-fn is_section<A: Allocator + Copy>(alloc: A, may_fail: bool) -> bool {
-    match section_of(alloc) {
-        Ok(section) => section
-            .as_slice()
-            .starts_with(b"some bytes, more than were there"),
-        Err(Error::OutOfMemory) => may_fail,
-        Err(_) => false,
-    }
-}
-
-#[test]
-fn a_section_writer_that_was_refused_memory_goes_on(rt: HostRuntime) {
-    let answers = each_refused(rt.alloc(), |heap, may_fail| is_section(heap, may_fail));
-    assert!(rt; matches!(answers, Ok(requests) if requests > 2));
-}
-
-// A section of as many bytes as a block of no handles has.
-fn section_of_28<A: Allocator + Copy>(alloc: A) -> Result<bool, Error> {
+/// Whether a section of as many bytes as a block of no handles has is written.
+pub(crate) fn section_of_28<A: Allocator + Copy>(alloc: A) -> Result<bool, Error> {
     let mut sections = with_front(alloc)?;
     start(&mut sections)?;
     sections.append_both(&[0; 24], &[0; 4])?;
     has_front(sections)
-}
-
-// An index of no handles takes the memory that the section writer takes, and no other.
-#[test]
-fn an_index_of_no_handles_takes_memory_for_sections_alone(rt: HostRuntime) {
-    let full = each_refused(
-        rt.alloc(),
-        |heap, may_fail| is_right(index_of_none(heap, FullIndexWriter::new(heap)), may_fail),
-    );
-    let partitioned = each_refused(
-        rt.alloc(),
-        |heap, may_fail| is_right(
-            index_of_none(heap, PartitionedIndexWriter::new(heap)),
-            may_fail,
-        ),
-    );
-    let heap = Refusing::new(rt.alloc(), 0);
-    assert!(rt; matches!(section_of_28(&heap), Ok(true)));
-    assert!(rt; full == Ok(heap.requests()));
-    assert!(rt; partitioned == Ok(heap.requests()));
 }

@@ -1,22 +1,22 @@
-//! Writers of tables that were refused memory, each request in turn, and have ample memory again:
-//! they refuse from then on.
+//! Writers that were refused memory, each request in turn, and have ample memory again: they refuse
+//! from then on. One function tries them all, so that its call is proved once.
+use crate::given::{Given, Takes, to_table, to_tables};
+use crate::part_refusals::{
+    Outcome, empty_full_index, empty_partitioned_index, full_filter, full_index,
+    partitioned_filter, partitioned_index, section_of, section_of_28,
+};
 use lsm_writers::{MultiWriter, TableIds, Timestamp, Writer};
-use sst_blocks::{Error, InternalValue, ValueType};
-use std::alloc::Allocator;
-use test_refusing::each_refused;
-use test_tables::rows::{entry, new_writer};
+use sst_blocks::{Error, ValueType};
+use std::alloc::{Allocator, Global};
+use test_refusing::{Refusing, each_refused};
+use test_tables::rows::{Row, new_writer};
 
-// The number of a refusal, 0 for none.
-pub(crate) fn number(refused: Option<Error>) -> u8 {
-    refused.map_or(0, |error| error.number())
-}
-
-// What a call answers that is refused or not, the same call after a refusal, and the end.
+/// What a call answers that is refused or not, the same call after a refusal, and the end.
 pub(crate) type Answers = (u8, u8, u8);
 
 // Whether nothing was refused; or memory where it may be, and each later call for that; or memory
 // at the end alone.
-pub(crate) fn are_right(answers: Result<Answers, Error>, may_fail: bool) -> bool {
+fn are_right(answers: Result<Answers, Error>, may_fail: bool) -> bool {
     match answers {
         Ok((0, 0, 0)) => true,
         Ok((1, 23, 23) | (0, 0, 1)) | Err(Error::OutOfMemory) => may_fail,
@@ -24,87 +24,175 @@ pub(crate) fn are_right(answers: Result<Answers, Error>, may_fail: bool) -> bool
     }
 }
 
-// An entry of a key without a value.
-fn item<A: Allocator + Copy>(alloc: A, key: &[u8]) -> Result<InternalValue<A>, Error> {
-    entry(alloc, &(key, 1, ValueType::Value, b""))
-}
-
-const KEYS: [&[u8]; 3] = [b"a", b"b", b"c"];
-
-// Writes an entry; 24 where it may not follow.
-fn put<A: Allocator + Copy>(writer: &mut Writer<A>, item: InternalValue<A>) -> u8 {
-    if !writer.can_follow(&item.key) {
-        return 24;
+// Whether they are right, and nothing is written without the request that is refused.
+fn are_wanted(answers: Result<Answers, Error>, is_refused: bool) -> bool {
+    match answers {
+        Ok((0, 0, 0)) => !is_refused,
+        answers => are_right(answers, is_refused),
     }
-    number(writer.write(item).err())
 }
 
-// The number of the first refusal of some entries, and that of a further entry behind it.
-fn put_up_to<A: Allocator + Copy>(alloc: A, writer: &mut Writer<A>) -> Result<(u8, u8), Error> {
-    for key in KEYS {
-        let first = put(writer, item(alloc, key)?);
+const A9: Row<'static> = (b"a", 9, ValueType::Value, b"x");
+
+const A7: Row<'static> = (b"a", 7, ValueType::Value, b"");
+
+const B1: Row<'static> = (b"b", 1, ValueType::Value, b"");
+
+const C1: Row<'static> = (b"c", 1, ValueType::Value, b"");
+
+const D1: Row<'static> = (b"d", 1, ValueType::Value, b"");
+
+// A value that fills a block.
+const LONG: &[u8] = &[b'x'; 4_096];
+
+const SHORT_ROWS: &[Row<'static>] = &[A9, A7, B1, C1];
+
+const LONG_ROWS: &[Row<'static>] = &[
+    (b"a", 1, ValueType::Value, LONG),
+    (b"b", 1, ValueType::Value, LONG),
+    (b"c", 1, ValueType::Value, LONG),
+];
+
+// The number of the first refusal of some rows, and that of a further one behind it.
+fn put_up_to<T: Takes>(taking: &mut T, rows: &[Row<'_>]) -> Result<(u8, u8), Error> {
+    for row in rows {
+        let first = taking.take(row, Given::ByValue)?;
         if first != 0 {
-            return Ok((first, put(writer, item(alloc, b"d")?)));
+            return Ok((first, taking.fail(&D1)?));
         }
     }
     Ok((0, 0))
 }
 
-// What a writer of a block for each entry answers.
-fn written<A: Allocator + Copy>(alloc: A) -> Result<Answers, Error> {
-    let mut writer = new_writer(alloc)?.use_data_block_size(0);
-    let put = put_up_to(alloc, &mut writer);
-    let last = number(writer.finish().err());
+// What a writer answers that is given some rows.
+fn answers_of<T: Takes + Drop>(
+    taking: Result<T, Error>,
+    rows: &[Row<'_>],
+) -> Result<Answers, Error> {
+    let mut taking = taking?;
+    let put = put_up_to(&mut taking, rows);
+    let last = taking.end();
     let (first, second) = put?;
     Ok((first, second, last))
 }
 
+// A writer of a block for each entry.
+fn blocks_of_one<A: Allocator + Copy>(alloc: A) -> Result<Writer<A>, Error> {
+    Ok(new_writer(alloc)?.use_data_block_size(0))
+}
+
+// A writer of a table for each key.
+fn tables_of_one<A: Allocator + Copy>(alloc: A, target: u64) -> Result<MultiWriter<A>, Error> {
+    MultiWriter::new(alloc, TableIds::new(1), target, 0, Timestamp::from(0))
+}
+
+fn is_right(outcome: Outcome, may_fail: bool) -> bool {
+    match outcome {
+        Ok((answers, stays)) => stays && are_right(Ok(answers), may_fail),
+        Err(error) => are_right(Err(error), may_fail),
+    }
+}
+
+// Whether a section is written, though a request is refused once.
+fn is_section<A: Allocator + Copy>(alloc: A, may_fail: bool) -> bool {
+    match section_of(alloc) {
+        Ok(section) => section
+            .as_slice()
+            .starts_with(b"some bytes, more than were there"),
+        Err(Error::OutOfMemory) => may_fail,
+        Err(_) => false,
+    }
+}
+
+// What is written.
+#[derive(Clone, Copy)]
+enum Work {
+    Table,
+    Tables,
+    LongTables,
+    FullFilter,
+    FilterParts,
+    FullIndex,
+    IndexParts,
+    EmptyIndex,
+    EmptyIndexInParts,
+    Section,
+}
+
+// Whether what is named is written right.
+fn answer<A: Allocator + Copy>(alloc: A, work: Work, may_fail: bool) -> bool {
+    match work {
+        Work::Table => are_right(
+            answers_of(to_table(alloc, blocks_of_one(alloc)), SHORT_ROWS),
+            may_fail,
+        ),
+        Work::Tables => are_right(
+            answers_of(to_tables(alloc, tables_of_one(alloc, 0)), SHORT_ROWS),
+            may_fail,
+        ),
+        Work::LongTables => are_wanted(
+            answers_of(to_tables(alloc, tables_of_one(alloc, 1)), LONG_ROWS),
+            may_fail,
+        ),
+        Work::FullFilter => is_right(full_filter(alloc), may_fail),
+        Work::FilterParts => is_right(partitioned_filter(alloc), may_fail),
+        Work::FullIndex => is_right(full_index(alloc), may_fail),
+        Work::IndexParts => is_right(partitioned_index(alloc), may_fail),
+        Work::EmptyIndex => is_right(empty_full_index(alloc), may_fail),
+        Work::EmptyIndexInParts => is_right(empty_partitioned_index(alloc), may_fail),
+        Work::Section => is_section(alloc, may_fail),
+    }
+}
+
+// How many requests what is named makes, where it is right with nothing refused and with each
+// request refused in turn.
+fn requests(alloc: Global, work: Work) -> Result<usize, usize> {
+    each_refused(
+        alloc,
+        |heap: &Refusing, may_fail: bool| answer(heap, work, may_fail),
+    )
+}
+
+// Whether it makes more requests than so many.
+fn makes_more_than(alloc: Global, work: Work, count: usize) -> bool {
+    match requests(alloc, work) {
+        Ok(requests) => requests > count,
+        Err(_) => false,
+    }
+}
+
+const WORKS: &[(Work, usize)] = &[
+    (Work::Table, 9),
+    (Work::Tables, 9),
+    (Work::LongTables, 20),
+    (Work::FullFilter, 3),
+    (Work::FilterParts, 6),
+    (Work::FullIndex, 3),
+    (Work::IndexParts, 4),
+    (Work::Section, 2),
+];
+
+// Those of tables, indexes and filters refuse from then on; a section writer goes on.
 #[test]
 fn a_writer_that_was_refused_memory_has_failed(rt: HostRuntime) {
-    let answers = each_refused(
-        rt.alloc(),
-        |heap, may_fail| are_right(written(heap), may_fail),
-    );
-    assert!(rt; matches!(answers, Ok(requests) if requests > 9));
-}
-
-// Writes an entry; 24 where it may not follow.
-fn put_in_tables<A: Allocator + Copy>(writer: &mut MultiWriter<A>, item: InternalValue<A>) -> u8 {
-    if !writer.can_follow(&item.key) {
-        return 24;
+    for &(work, count) in WORKS {
+        assert!(rt; makes_more_than(rt.alloc(), work, count));
     }
-    number(writer.write(item).err())
 }
 
-// The number of the first refusal of some entries, and that of a further entry behind it.
-fn put_tables_up_to<A: Allocator + Copy>(
-    alloc: A,
-    writer: &mut MultiWriter<A>,
-) -> Result<(u8, u8), Error> {
-    for key in KEYS {
-        let first = put_in_tables(writer, item(alloc, key)?);
-        if first != 0 {
-            return Ok((first, put_in_tables(writer, item(alloc, b"d")?)));
-        }
+// How many requests a section of as many bytes makes as a block of no handles has.
+fn requests_of_section(alloc: Global) -> Result<usize, usize> {
+    let heap = Refusing::new(alloc, 0);
+    match section_of_28(&heap) {
+        Ok(true) => Ok(heap.requests()),
+        _ => Err(0),
     }
-    Ok((0, 0))
 }
 
-// What a writer of a table for each entry answers.
-fn tables_written<A: Allocator + Copy>(alloc: A) -> Result<Answers, Error> {
-    let ids = TableIds::new(1);
-    let mut writer = MultiWriter::new(alloc, ids, 0, 0, Timestamp::from(0))?;
-    let put = put_tables_up_to(alloc, &mut writer);
-    let last = number(writer.finish().err());
-    let (first, second) = put?;
-    Ok((first, second, last))
-}
-
+// An index of no handles takes the memory that the section writer takes, and no other.
 #[test]
-fn a_writer_of_tables_that_was_refused_memory_has_failed(rt: HostRuntime) {
-    let answers = each_refused(
-        rt.alloc(),
-        |heap, may_fail| are_right(tables_written(heap), may_fail),
-    );
-    assert!(rt; matches!(answers, Ok(requests) if requests > 9));
+fn an_index_of_no_handles_takes_memory_for_sections_alone(rt: HostRuntime) {
+    let alloc = rt.alloc();
+    assert!(rt; requests(alloc, Work::EmptyIndex) == requests_of_section(alloc));
+    assert!(rt; requests(alloc, Work::EmptyIndexInParts) == requests_of_section(alloc));
 }

@@ -1,18 +1,18 @@
 //! What writers count, cut, write and refuse.
 
+use crate::given::number;
 use crate::one_entry_v4;
 use lsm_writers::{
-    BlockIndexWriter, FinishedTable, FullIndexWriter, GlobalTableId, Metadata, Timestamp, Writer,
+    BlockIndexWriter, FinishedTable, FullIndexWriter, GlobalTableId, Metadata, TableId, Timestamp,
+    Writer,
 };
 use sst_blocks::{
-    BlockHandle, BlockOffset, Checksum, CompressionType, Error, InternalValue, KeyedBlockHandle,
-    SectionWriter, SeqNo, Slice, ValueType,
+    BlockHandle, BlockOffset, Checksum, CompressionType, Error, KeyedBlockHandle, SectionWriter,
+    SeqNo, Slice, ValueType,
 };
-use std::alloc::{Allocator, Global};
-use std::test::Fail;
-use test_refusing::{Refusing, each_refused};
-use test_tables::large::{asked, asked_if_any, asked_mut};
-use test_tables::rows::{Row, entry, fill, filled, new_writer, put_rows, written};
+use std::alloc::Global;
+use test_tables::large::{asked, asked_if_any, asked_mut, asked_with};
+use test_tables::rows::{Row, fill, filled, new_writer, put_rows};
 
 // How many entries and blocks are cut, how many keys, tombstones, weak ones and values behind those
 // are written, and how many bytes wait.
@@ -36,23 +36,16 @@ fn one_entry(alloc: Global) -> Result<FinishedTable, Error> {
 }
 
 // Whether a table is the stored one: its id and its checksum, and its bytes.
-fn is_the_stored(table: &FinishedTable) -> (bool, bool) {
-    (
-        table.id == 1 && table.checksum == Checksum(one_entry_v4::CHECKSUM),
+fn is_the_stored(table: &FinishedTable) -> Result<(bool, bool), Error> {
+    let is_told = table.id == 1 && table.checksum == Checksum(one_entry_v4::CHECKSUM);
+    Ok((
+        is_told,
         table.bytes.as_slice() == one_entry_v4::BYTES.as_slice(),
-    )
-}
-
-#[test]
-fn writes_a_table_byte_for_byte(rt: HostRuntime) -> Result<(), Fail> {
-    let (is_told, is_written) = asked(one_entry(rt.alloc()), |table| Ok(is_the_stored(table)))?;
-    assert!(rt; is_told);
-    assert!(rt; is_written);
-    Ok(())
+    ))
 }
 
 // Whether a table prints how many bytes it has, and not which.
-fn prints_its_length(alloc: Global, table: &FinishedTable) -> Result<bool, Error> {
+fn prints_its_length(table: &FinishedTable, alloc: Global) -> Result<bool, Error> {
     Ok(
         format!(in alloc; "{table:?}")?.as_str()
             == "FinishedTable { id: 1, checksum: Checksum(1866175774685508454), len: 1320 }",
@@ -60,10 +53,10 @@ fn prints_its_length(alloc: Global, table: &FinishedTable) -> Result<bool, Error
 }
 
 #[test]
-fn a_finished_table_prints_without_its_bytes(rt: HostRuntime) -> Result<(), Fail> {
+fn writes_a_table_byte_for_byte_and_prints_it_without_its_bytes(rt: HostRuntime) {
     let alloc = rt.alloc();
-    assert!(rt; asked(one_entry(alloc), |table| prints_its_length(alloc, table))?);
-    Ok(())
+    assert!(rt; asked(one_entry(alloc), is_the_stored) == Ok((true, true)));
+    assert!(rt; asked_with(one_entry(alloc), alloc, prints_its_length) == Ok(true));
 }
 
 // The counts before and after the block that waits is cut.
@@ -78,82 +71,99 @@ fn filled_new(alloc: Global, rows: &[Row<'_>]) -> Result<Writer, Error> {
     filled(new_writer(alloc)?, alloc, rows)
 }
 
-// The counts after some rows, before and after the block that waits is cut.
-fn counts_of(alloc: Global, rows: &[Row<'_>]) -> Result<([usize; 7], [usize; 7]), Error> {
-    asked_mut(
-        filled_new(alloc, rows),
-        |writer| counts_around_a_cut(writer),
-    )
-}
+const A0: Row<'static> = (b"a", 0, ValueType::Value, b"a");
 
-const THREE_KEYS: &[Row<'static>] = &[
-    (b"a", 0, ValueType::Value, b"a"),
-    (b"b", 0, ValueType::Value, b"b"),
-    (b"c", 0, ValueType::Value, b"c"),
-];
+const B0: Row<'static> = (b"b", 0, ValueType::Value, b"b");
 
-// How many rows are written, and the counts then, before and after the block that waits is cut.
-const COUNTS: &[(usize, [usize; 7], [usize; 7])] = &[
-    (0, [0, 0, 0, 0, 0, 0, 0], [0, 0, 0, 0, 0, 0, 0]),
-    (1, [0, 0, 1, 0, 0, 0, 2], [1, 1, 1, 0, 0, 0, 0]),
-    (2, [0, 0, 2, 0, 0, 0, 4], [2, 1, 2, 0, 0, 0, 0]),
-    (3, [0, 0, 3, 0, 0, 0, 6], [3, 1, 3, 0, 0, 0, 0]),
+const C0: Row<'static> = (b"c", 0, ValueType::Value, b"c");
+
+const E3: Row<'static> = (b"e", 3, ValueType::Tombstone, b"");
+
+// A weak tombstone directly before a value of its key.
+const D9: Row<'static> = (b"d", 9, ValueType::WeakTombstone, b"");
+
+const D8: Row<'static> = (b"d", 8, ValueType::Value, b"v");
+
+// Rows, and the counts once they are written, before and after the block that waits is cut.
+const COUNTS: &[(&[Row<'static>], [usize; 7], [usize; 7])] = &[
+    (&[], [0, 0, 0, 0, 0, 0, 0], [0, 0, 0, 0, 0, 0, 0]),
+    (&[A0], [0, 0, 1, 0, 0, 0, 2], [1, 1, 1, 0, 0, 0, 0]),
+    (&[A0, B0], [0, 0, 2, 0, 0, 0, 4], [2, 1, 2, 0, 0, 0, 0]),
+    (&[A0, B0, C0], [0, 0, 3, 0, 0, 0, 6], [3, 1, 3, 0, 0, 0, 0]),
+    (
+        &[C0, D9, D8, E3],
+        [0, 0, 3, 2, 1, 1, 6],
+        [4, 1, 3, 2, 1, 1, 0],
+    ),
 ];
 
 #[test]
-fn counts_what_is_written(rt: HostRuntime) -> Result<(), Fail> {
-    for &(len, before, after) in COUNTS {
-        let rows = THREE_KEYS.get(..len).unwrap_or_default();
-        assert_eq!(rt; counts_of(rt.alloc(), rows)?, (before, after));
+fn counts_what_is_written_and_what_tombstones_hide(rt: HostRuntime) {
+    for &(rows, before, after) in COUNTS {
+        let told = asked_mut(filled_new(rt.alloc(), rows), counts_around_a_cut);
+        assert!(rt; told == Ok((before, after)));
     }
-    Ok(())
 }
 
-#[test]
-fn counts_tombstones_and_what_they_hide(rt: HostRuntime) -> Result<(), Fail> {
-    // A weak tombstone directly before a value of its key.
-    let rows: [Row<'_>; 4] = [
-        (b"c", 0, ValueType::Value, b"c"),
-        (b"d", 9, ValueType::WeakTombstone, b""),
-        (b"d", 8, ValueType::Value, b"v"),
-        (b"e", 3, ValueType::Tombstone, b""),
-    ];
-    let expected = ([0, 0, 3, 2, 1, 1, 6], [4, 1, 3, 2, 1, 1, 0]);
-    assert!(rt; counts_of(rt.alloc(), &rows)? == expected);
-    Ok(())
-}
+// The lowest and the highest number that were written, how many blocks and keys were cut, and how
+// long the blocks are.
+type Cut = (SeqNo, SeqNo, usize, usize, BlockOffset);
 
-// The lowest and the highest number that were written.
-fn seqnos(writer: &Writer) -> (SeqNo, SeqNo) {
+fn cut_so_far(writer: &Writer) -> Result<Cut, Error> {
     let meta = writer.metadata();
-    (meta.lowest_seqno, meta.highest_seqno)
+    Ok((
+        meta.lowest_seqno,
+        meta.highest_seqno,
+        meta.data_block_count,
+        meta.key_count,
+        meta.file_pos,
+    ))
 }
 
-// The lowest and the highest number of what some rows wrote.
-fn seqnos_of(alloc: Global, rows: &[Row<'_>]) -> Result<(SeqNo, SeqNo), Error> {
-    asked(filled_new(alloc, rows), |writer| Ok(seqnos(writer)))
+// Those of a writer of blocks of a size that has written some rows.
+fn cut_at(alloc: Global, size: u32, rows: &[Row<'_>]) -> Result<Cut, Error> {
+    let writer = new_writer(alloc)?.use_data_block_size(size.min(4_096));
+    asked(filled(writer, alloc, rows), cut_so_far)
 }
+
+const A9: Row<'static> = (b"a", 9, ValueType::Value, b"");
+
+const A7: Row<'static> = (b"a", 7, ValueType::Value, b"");
+
+const A5: Row<'static> = (b"a", 5, ValueType::Value, b"");
+
+const C4: Row<'static> = (b"c", 4, ValueType::Value, b"c");
+
+// At size 0 a block is cut for each entry: it has a header of 24 bytes, a count of 4, and 17 bytes
+// and the key for its entry.
+const CUTS: &[(u32, &[Row<'static>], Cut)] = &[
+    (4_096, &[], (SeqNo::MAX, 0, 0, 0, BlockOffset(0))),
+    (4_096, &[C4, D9, E3], (3, 9, 0, 3, BlockOffset(0))),
+    (
+        0,
+        &[A9, A7, A5],
+        (5, 9, 3, 1, BlockOffset(3 * (24 + 4 + 17 + 1))),
+    ),
+];
 
 #[test]
-fn keeps_the_lowest_and_the_highest_number(rt: HostRuntime) -> Result<(), Fail> {
-    assert_eq!(rt; seqnos_of(rt.alloc(), &[])?, (SeqNo::MAX, 0));
-    let rows: [Row<'_>; 3] = [
-        (b"c", 4, ValueType::Value, b"c"),
-        (b"d", 9, ValueType::Tombstone, b""),
-        (b"e", 3, ValueType::Value, b""),
-    ];
-    assert_eq!(rt; seqnos_of(rt.alloc(), &rows)?, (3, 9));
-    Ok(())
+fn keeps_the_least_and_the_greatest_number_and_cuts_blocks(rt: HostRuntime) {
+    for &(size, rows, cut) in CUTS {
+        assert!(rt; cut_at(rt.alloc(), size, rows) == Ok(cut));
+    }
 }
 
 // Whether e@3 is written, and an entry may follow it and is written then.
-fn put_behind(alloc: Global, writer: &mut Writer, row: Row<'_>) -> Result<bool, Error> {
-    put_rows(alloc, writer, &[(b"e", 3, ValueType::Tombstone, b""), row])
+fn put_behind(writer: &mut Writer, of: (Global, &Row<'static>)) -> Result<bool, Error> {
+    put_rows(of.0, writer, &[E3, *of.1])
 }
 
 // Whether a new writer, once it was given e@3, takes an entry behind it.
-fn follows(alloc: Global, row: Row<'_>) -> Result<bool, Error> {
-    asked_mut(new_writer(alloc), |writer| put_behind(alloc, writer, row))
+fn follows(alloc: Global, row: &Row<'static>) -> Result<bool, Error> {
+    let mut writer = new_writer(alloc)?;
+    let follows = put_behind(&mut writer, (alloc, row));
+    drop(writer);
+    follows
 }
 
 // What is written behind e@3, and whether it may follow: neither an older key, nor the same number
@@ -167,53 +177,18 @@ const BEHIND: &[(Row<'static>, bool)] = &[
 ];
 
 #[test]
-fn entries_that_may_not_follow_are_told_before(rt: HostRuntime) -> Result<(), Fail> {
-    for &(row, may_follow) in BEHIND {
-        assert_eq!(rt; follows(rt.alloc(), row)?, may_follow);
+fn entries_that_may_not_follow_are_told_before(rt: HostRuntime) {
+    for (row, may_follow) in BEHIND {
+        assert!(rt; follows(rt.alloc(), row) == Ok(*may_follow));
     }
-    Ok(())
-}
-
-// How many blocks and keys were cut, and how long the blocks are.
-fn cut_so_far(writer: &Writer) -> (usize, usize, BlockOffset) {
-    let meta = writer.metadata();
-    (meta.data_block_count, meta.key_count, meta.file_pos)
-}
-
-// The counts of blocks and of keys, and the length, of a table of three versions in blocks of size
-// 0.
-fn cut_at_size_0(alloc: Global) -> Result<(usize, usize, BlockOffset), Error> {
-    let rows: [Row<'_>; 3] = [
-        (b"a", 9, ValueType::Value, b""),
-        (b"a", 7, ValueType::Value, b""),
-        (b"a", 5, ValueType::Value, b""),
-    ];
-    let writer = new_writer(alloc)?.use_data_block_size(0);
-    asked(
-        filled(writer, alloc, &rows),
-        |writer| Ok(cut_so_far(writer)),
-    )
-}
-
-#[test]
-fn cuts_a_block_for_each_entry_at_size_0(rt: HostRuntime) -> Result<(), Fail> {
-    // Each block has a header of 24 bytes, a count of 4, and 17 bytes and the key for its entry.
-    let length = BlockOffset(3 * (24 + 4 + 17 + 1));
-    assert_eq!(rt; cut_at_size_0(rt.alloc())?, (3, 1, length));
-    Ok(())
-}
-
-// The number of a refusal, 0 for none.
-fn number(refused: Option<Error>) -> u8 {
-    refused.map_or(0, |error| error.number())
 }
 
 // What writing an entry of this key answers, and another one and a cut after it.
 fn after_a_key(alloc: Global, writer: &mut Writer, key: &[u8]) -> [u8; 3] {
     [
-        number(put_rows(alloc, writer, &[(key, 1, ValueType::Value, b"")]).err()),
-        number(put_rows(alloc, writer, &[(b"b", 1, ValueType::Value, b"")]).err()),
-        number(writer.spill_block().err()),
+        number(put_rows(alloc, writer, &[(key, 1, ValueType::Value, b"")])),
+        number(put_rows(alloc, writer, &[(b"b", 1, ValueType::Value, b"")])),
+        number(writer.spill_block()),
     ]
 }
 
@@ -222,7 +197,7 @@ fn up_to_the_end(alloc: Global, key: &[u8]) -> Result<[u8; 4], Error> {
     let mut writer = new_writer(alloc)?;
     let [first, second, cut] = after_a_key(alloc, &mut writer, key);
     let is_empty = writer.is_empty();
-    let last = number(writer.finish().err());
+    let last = number(writer.finish());
     if is_empty {
         return Err(Error::Source(0));
     }
@@ -237,10 +212,9 @@ fn after_a_key_of(alloc: Global, len: usize) -> Result<[u8; 4], Error> {
 }
 
 #[test]
-fn refuses_long_keys_and_whatever_follows(rt: HostRuntime) -> Result<(), Fail> {
-    assert_eq!(rt; after_a_key_of(rt.alloc(), 1_048_576)?, [0; 4]);
-    assert_eq!(rt; after_a_key_of(rt.alloc(), 1_048_577)?, [7, 23, 23, 23]);
-    Ok(())
+fn refuses_long_keys_and_whatever_follows(rt: HostRuntime) {
+    assert!(rt; after_a_key_of(rt.alloc(), 1_048_576) == Ok([0; 4]));
+    assert!(rt; after_a_key_of(rt.alloc(), 1_048_577) == Ok([7, 23, 23, 23]));
 }
 
 // A writer with all its options set.
@@ -257,32 +231,37 @@ fn with_options(alloc: Global) -> Result<Writer, Error> {
     )
 }
 
-// Whether a writer with all its options set, and no entry, writes nothing.
-fn writes_nothing(alloc: Global) -> Result<bool, Error> {
+// The id of the table that a writer with all its options set writes of no entry, and whether it is
+// empty.
+fn written_of_nothing(alloc: Global) -> Result<(Option<TableId>, bool), Error> {
     let writer = with_options(alloc)?;
     let is_empty = writer.is_empty();
-    let id = asked_if_any(writer.finish(), |table| Ok(table.id))?;
-    Ok(id.is_none() && is_empty)
+    Ok((asked_if_any(writer.finish(), id_of)?, is_empty))
+}
+
+fn id_of(table: &mut FinishedTable) -> Result<TableId, Error> {
+    Ok(table.id)
 }
 
 #[test]
-fn takes_options_and_gives_no_table_of_nothing(rt: HostRuntime) -> Result<(), Fail> {
-    assert!(rt; writes_nothing(rt.alloc())?);
-    assert_eq!(rt; Metadata::<Global>::default().lowest_seqno, SeqNo::MAX);
-    Ok(())
+fn takes_options_and_gives_no_table_of_nothing(rt: HostRuntime) {
+    assert!(rt; written_of_nothing(rt.alloc()) == Ok((None, true)));
+    assert!(rt; Metadata::<Global>::default().lowest_seqno == SeqNo::MAX);
 }
 
-#[test]
-fn ids_and_moments_give_their_parts_back(rt: HostRuntime) -> Result<(), Fail> {
+// The parts of an id, whether ids stand in order, those of a moment, and whether moments do.
+fn parts_of_ids_and_moments() -> ((u64, u64), [bool; 2], [u128; 2], bool) {
     let id = GlobalTableId::from((42, 7));
-    assert_eq!(rt; (id.tree_id(), id.table_id()), (42, 7));
-    assert!(rt; GlobalTableId::from((1, 9)) < GlobalTableId::from((2, 0)));
-    assert!(rt; GlobalTableId::from((1, 0)) < GlobalTableId::from((1, 9)));
     let moment = Timestamp::from(1 << 100);
-    assert_eq!(rt; *moment, 1 << 100);
-    assert_eq!(rt; u128::from(moment), 1 << 100);
-    assert!(rt; Timestamp::from(3) < moment);
-    Ok(())
+    (
+        (id.tree_id(), id.table_id()),
+        [
+            GlobalTableId::from((1, 9)) < GlobalTableId::from((2, 0)),
+            GlobalTableId::from((1, 0)) < GlobalTableId::from((1, 9)),
+        ],
+        [*moment, u128::from(moment)],
+        Timestamp::from(3) < moment,
+    )
 }
 
 // How many blocks an index of a@1 has, and how many bytes.
@@ -299,74 +278,8 @@ fn index_of_one(alloc: Global) -> Result<(usize, u64), Error> {
 }
 
 #[test]
-fn a_full_index_is_one_block(rt: HostRuntime) -> Result<(), Fail> {
-    assert_eq!(rt; index_of_one(rt.alloc())?, (1, 53));
-    Ok(())
-}
-
-// Writes an entry; `Source(0)` where it may not follow.
-fn put<A: Allocator + Copy>(writer: &mut Writer<A>, item: InternalValue<A>) -> Result<(), Error> {
-    if !writer.can_follow(&item.key) {
-        return Err(Error::Source(0));
-    }
-    writer.write(item)
-}
-
-// Whether a writer refuses a cut as one that has failed.
-fn has_failed<A: Allocator + Copy>(writer: &mut Writer<A>) -> bool {
-    writer.spill_block() == Err(Error::WriterFailed)
-}
-
-// Writes an entry. Where that is refused, the writer refuses a cut from then on.
-fn write_or_fail<A: Allocator + Copy>(
-    writer: &mut Writer<A>,
-    item: InternalValue<A>,
-) -> Result<(), Error> {
-    let answer = put(writer, item);
-    if answer.is_err() && !has_failed(writer) {
-        return Err(Error::Source(0));
-    }
-    answer
-}
-
-// Writes three versions of a key.
-fn write_three<A: Allocator + Copy>(alloc: A, writer: &mut Writer<A>) -> Result<(), Error> {
-    for seqno in [9, 7, 5] {
-        let row: Row<'_> = (b"a", seqno, ValueType::Value, b"x");
-        write_or_fail(writer, entry(alloc, &row)?)?;
-    }
-    Ok(())
-}
-
-// A writer of three blocks. Whatever is refused, it refuses from then on.
-fn written_in_three<A: Allocator + Copy>(alloc: A) -> Result<Writer<A>, Error> {
-    let mut writer = new_writer(alloc)?.use_data_block_size(0);
-    let answer = write_three(alloc, &mut writer);
-    written(writer, answer)
-}
-
-// The id of a table of three blocks.
-fn three_blocks<A: Allocator + Copy>(alloc: A) -> Result<Option<u64>, Error> {
-    asked_if_any(written_in_three(alloc)?.finish(), |table| Ok(table.id))
-}
-
-// Whether a table of three blocks is written, or memory refused where it may be.
-fn writes_three_blocks<A: Allocator + Copy>(alloc: A, may_fail: bool) -> bool {
-    match three_blocks(alloc) {
-        Ok(id) => id == Some(1),
-        Err(Error::OutOfMemory) => may_fail,
-        Err(_) => false,
-    }
-}
-
-#[test]
-fn each_request_refused_is_answered_so(rt: HostRuntime) -> Result<(), Fail> {
-    let answers = each_refused(
-        rt.alloc(),
-        |heap, may_fail| writes_three_blocks(heap, may_fail),
-    );
-    let heap = Refusing::new(rt.alloc(), 0);
-    assert!(rt; writes_three_blocks(&heap, false));
-    assert_eq!(rt; answers, Ok(heap.requests()));
-    Ok(())
+fn ids_and_moments_give_their_parts_back_and_a_full_index_is_one_block(rt: HostRuntime) {
+    let parts = ((42, 7), [true; 2], [1 << 100; 2], true);
+    assert!(rt; parts_of_ids_and_moments() == parts);
+    assert!(rt; index_of_one(rt.alloc()) == Ok((1, 53)));
 }

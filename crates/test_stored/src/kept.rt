@@ -1,9 +1,10 @@
 //! A table's bytes, its meta block, and reads by a key alone.
 use example_calling::write_and_find;
 use lsm_formats::ItemName;
-use lsm_tables::{Fault, Finding, OpenOptions, Table, Verified, VerifyError};
+use lsm_tables::{Fault, Finding, OpenOptions, Table, Verification, Verified, VerifyError};
 use sst_blocks::{Checksum, Error, SectionName, SeqNo, ValueType};
 use std::alloc::{Allocator, Global};
+use test_tables::large::asked;
 use test_tables::lists::list_of;
 use test_tables::rows::{Row, fill, new_writer};
 use test_tables::runs::{Tables, damaged_run_of};
@@ -122,8 +123,7 @@ fn the_checksum_of_a_file_is_compared_where_it_is_given(rt: HostRuntime) {
 }
 
 // After how many steps a verification answers, and what; ten steps at most.
-fn steps_of<A: Allocator + Clone>(table: &Table<A>) -> (u8, Option<Verified>) {
-    let mut verification = table.verification();
+fn steps_of<A: Allocator + Clone>(verification: &mut Verification<A>) -> (u8, Option<Verified>) {
     for steps in 0..10u8 {
         match verification.step() {
             Ok(Some(verified)) => return (steps, Some(verified)),
@@ -135,9 +135,9 @@ fn steps_of<A: Allocator + Clone>(table: &Table<A>) -> (u8, Option<Verified>) {
 }
 
 fn stepped(alloc: Global) -> Result<(u8, Option<Verified>), Error> {
-    let table = table(alloc)?;
-    let told = steps_of(&table);
-    drop(table);
+    let mut verification = asked(table(alloc), Table::verification)?;
+    let told = steps_of(&mut verification);
+    drop(verification);
     Ok(told)
 }
 
