@@ -23,11 +23,13 @@ use Rattle.lsm_runs.specs.RunLists.{DealsList}
 none_some : {X : Type 0} {x : X} → Some x ≡ None → ⊥
 none_some e = cc
 
-same_entry : (x y : Entry) → Some {Result Entry Error} (Ok x) ≡ Some (Ok y) → x ≡ y
-same_entry x y e = cc
+same_entry : (x y : Entry) (r s : Option (Result Entry Error)) → r ≡ Some (Ok x)
+    → s ≡ Some (Ok y) → r ≡ s → x ≡ y
+same_entry x y r s p q e = cc
 
-err_ok : (e : Error) (y : Entry) → Some {Result Entry Error} (Err e) ≡ Some (Ok y) → ⊥
-err_ok e y h = cc
+err_ok : (e : Error) (y : Entry) (r s : Option (Result Entry Error)) → r ≡ Some (Err e)
+    → s ≡ Some (Ok y) → r ≡ s → ⊥
+err_ok e y r s p q h = cc
 
 -- an entry is the next of those that are left, and these are left then
 pub record IsNext {S : Type 0} (gives : S → Option (Result Entry Error) → S → Type 0) (x : Entry)
@@ -47,7 +49,7 @@ module _ {S : Type 0} (gives : S → Option (Result Entry Error) → S → Type 
       (Some (Ok x)) t (d (λ e. true) refl) step refl in
       record {
         others = ys;
-        are = ap (λ (z : Entry). z ∷ ys) (sym (same_entry x y one.0));
+        are = ap (λ (z : Entry). z ∷ ys) (sym (same_entry x y _ _ refl refl one.0));
         deals = λ stops wants. (deals_front (answer_stops stops) gives nowhere s
             (ok_results (y ∷ ys)) (Some (Ok x)) t (d stops wants) step refl).1;
       }
@@ -58,7 +60,7 @@ module _ {S : Type 0} (gives : S → Option (Result Entry Error) → S → Type 
       none_some (deals_front (answer_stops is_memory) gives nowhere s [] (Some (Err e)) t
       (d is_memory refl) step other).0
   fault_by s t e (y ∷ ys) d step other =
-      err_ok e y (deals_front (answer_stops is_memory) gives nowhere s (ok_results (y ∷ ys))
+      err_ok e y _ _ refl refl (deals_front (answer_stops is_memory) gives nowhere s (ok_results (y ∷ ys))
       (Some (Err e)) t (d is_memory refl) step other).0
 
   -- nothing but want of memory is refused
@@ -73,7 +75,16 @@ module _ {S : Type 0} (gives : S → Option (Result Entry Error) → S → Type 
 pub follows : (last : Option Entry) (x : Entry) (rest others : List Entry)
     → IsStrictAfter last rest → rest ≡ x ∷ others
     → (may_follow last x ≡ true) × IsStrictAfter (Some x) others
+unfolding IsStrictAfter
 follows last x rest others strict are = subst (IsStrictAfter last) are strict
+
+-- so none is told that may not
+pub all_follow : (last seen : Option Entry) (x : Entry) (rest others : List Entry) (told : Bool)
+    → seen ≡ last → told ≡ may_follow seen x → told ≡ false → IsStrictAfter last rest
+    → rest ≡ x ∷ others → false ≡ true
+all_follow last seen x rest others told same says not strict are =
+    sym not ∙ says ∙ ap (λ (l : Option Entry). may_follow l x) same
+    ∙ (follows last x rest others strict are).0
 
 -- ---- a stored list
 
