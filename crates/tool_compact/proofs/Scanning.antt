@@ -1,7 +1,7 @@
 -- Entries that are read one after another.
 use Rattle.std.proofs.Common.{◌≡◌, refl, sym, ◌∙◌, ap, subst, ℕ, ◌+◌, Bool, true, false, List, []}
-use Rattle.std.proofs.Common.{◌∷◌, ◌⊎◌, inl, inr, arith}
-use Rattle.std.specs.Prelude.{Option, Some, None, Result, Ok, Err}
+use Rattle.std.proofs.Common.{◌∷◌, ◌⊎◌, ◌<◌, inl, inr, arith, length, true≢false}
+use Rattle.std.specs.Prelude.{◌≢◌, IfSome, Option, Some, None, Result, Ok, Err}
 use Rattle.std.specs.List.{AllByRecursion}
 use Rattle.std.proofs.lemmas.Bool.{cases_Bool}
 use Rattle.sst_entries.specs.Entry.{Entry}
@@ -16,7 +16,9 @@ use Rattle.sst_entries.proofs.StreamLemmas.{deals_front}
 use Rattle.lsm_merge.proofs.Pairs.{Precedes, Strict, as_pairs, from_pairs}
 use Rattle.lsm_readers.specs.Answer.{lift}
 use Rattle.lsm_readers.specs.Stored.{StoresList}
+use Rattle.lsm_readers.specs.Table.{OpenTable}
 use Rattle.lsm_runs.specs.RunLists.{DealsList}
+use Rattle.tool_compact.specs.Scanned.{StoresNoEntries, StoresNone}
 
 -- ---- what a source deals
 
@@ -108,3 +110,18 @@ pub stored_strict : (bytes : List ℕ) (es : List Entry) (g : ℕ) → StoresLis
     → IsStrict (lift es g)
 stored_strict bytes es g h =
     from_pairs (lift es g) (lift_strict es g (as_pairs es h.strict))
+
+-- ---- what stores no list
+
+-- a table that is told to be out of order
+pub stores_none : (t : OpenTable) (told : Bool)
+    → ((es : List Entry) → StoresList t.bytes es → told ≡ true) → told ≡ false → StoresNone t
+stores_none t told says not = λ es stored. true≢false (sym (says es stored) ∙ not)
+
+-- one that is refused, and not for want of memory
+pub stores_no_entries : (t : OpenTable) (told : Option Error) (e : Error)
+    → ((es : List Entry) → StoresList t.bytes es → 0 < length es
+    → IfSome told (λ y. y ≡ OutOfMemory))
+    → told ≡ Some e → e ≢ OutOfMemory → StoresNoEntries t
+stores_no_entries t told e says is other = λ es stored some.
+    other (subst (λ (o : Option Error). IfSome o (λ y. y ≡ OutOfMemory)) is (says es stored some))
