@@ -1,5 +1,4 @@
 mod Alone
 mod Blaming
-mod Filling
 mod Scanning
 mod Texts
