@@ -10,8 +10,8 @@ all_more P [] x all one = (one, tt)
 all_more P (y ∷ ys) x all one = (all.0, all_more P ys x all.1 one)
 
 -- what holds of the files so far holds of one more
-pub all_so_far : {A : Type 0} (P : A → Type 0) (xs : List A) (i : ℕ) (x : A) → i < length xs
-    → x ≡ get_or xs i x → AllByRecursion P (take i xs) → P x → AllByRecursion P (take (i + 1) xs)
-all_so_far P xs i x h is before one =
-    subst (AllByRecursion P) (sym (take_more xs i x h))
-    (all_more P (take i xs) (get_or xs i x) before (subst P is one))
+pub all_so_far : {A : Type 0} (P : A → Type 0) (xs : List A) (i : ℕ) (d : A) → i < length xs
+    → AllByRecursion P (take i xs) → P (get_or xs i d) → AllByRecursion P (take (i + 1) xs)
+all_so_far P xs i d h before one =
+    subst (AllByRecursion P) (sym (take_more xs i d h))
+    (all_more P (take i xs) (get_or xs i d) before one)

@@ -10,11 +10,32 @@ use tool_lines::LineError;
 use tool_make::MakeError;
 use tool_show::ShowError;
 
+/// Which key on the command line is meant: shown as it is called there.
+#[derive(Clone, Copy, Debug)]
+pub(crate) enum KeyWord {
+    /// The one that is looked for.
+    Key,
+    /// The first of those that are dumped.
+    From,
+    /// The one before which they end.
+    To,
+}
+
+impl fmt::Display for KeyWord {
+    fn fmt<W: fmt::Write>(&self, f: &mut fmt::Formatter<W>) -> fmt::Result {
+        match self {
+            KeyWord::Key => write!(f, "KEY"),
+            KeyWord::From => write!(f, "--from"),
+            KeyWord::To => write!(f, "--to"),
+        }
+    }
+}
+
 /// Why a command did not succeed: shown as a sentence.
 #[derive(Debug, Drop)]
 pub(crate) enum Failure<'a> {
     /// A key on the command line is none: which one, and why.
-    Key(&'static str, LineError),
+    Key(KeyWord, LineError),
     /// Memory did not suffice.
     OutOfMemory,
     /// Standard output took no more.

@@ -1,7 +1,7 @@
 //! Tables that are made.
 ghost use Rattle.std.specs.Prelude.{◌≡◌};
 ghost use Rattle.sst_filters.specs.declared.policy.BloomConstructionPolicy.TheVariants.{BitsPerKey};
-ghost use Rattle.tool_tasks.specs.Options.{format_of, index_of, tenths};
+ghost use Rattle.tool_tasks.specs.Options.{format_of, index_kind_of, tenths};
 
 use crate::System;
 use crate::failure::Failure;
@@ -9,7 +9,7 @@ use logpurple::{BloomConstructionPolicy, IndexKind, Rules, Timestamp};
 use std::io::{Read, Write};
 use std::rt::{Clock, Files};
 use tool_compact::{CompactOptions, compact_files, pack_files, print_packed};
-use tool_files::{Disk, print_made};
+use tool_files::print_made;
 use tool_lines::Format;
 use tool_make::{WriteOptions, write_entries};
 use tool_options::{CompactTask, PackTask, WriteTask};
@@ -32,7 +32,7 @@ fn now<C: Clock>(clock: &C) -> Timestamp {
 // How a table is written.
 fn write_options(task: &WriteTask<'_>, created_at: Timestamp) -> WriteOptions
     ensures { result ≡ record {
-      index = index_of task.now.partitioned task.now.partition_size;
+      index = index_kind_of task.now.partitioned task.now.partition_size;
       filter = BitsPerKey (tenths task.now.filter_bits);
       block_size = task.now.block_size;
       level = task.now.level;

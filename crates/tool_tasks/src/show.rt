@@ -3,13 +3,13 @@ ghost use Rattle.std.specs.Prelude.{◌≡◌, ◌+◌, ◌-◌, ◌^◌, IfErr,
 ghost use Rattle.logpurple.specs.Words.{OpenTable};
 ghost use Rattle.tool_show.specs.Faults.{fault_count, unloaded_count};
 ghost use Rattle.tool_show.specs.Files.{IsSoundTable};
-ghost use Rattle.tool_files.specs.Blamed.{is_memory_fault};
+ghost use Rattle.tool_files.specs.Files.{is_memory_fault};
 ghost use Rattle.tool_tasks.specs.Endings.{EndsVerify};
 ghost use Rattle.tool_tasks.specs.Verified.{AreSoundFiles, IsSoundFile};
 
 use crate::System;
 use crate::bar::{Bar, Work, behind};
-use crate::failure::Failure;
+use crate::failure::{Failure, KeyWord};
 use crate::make::format_of;
 use logpurple::{Error, Slice};
 use std::alloc::Global;
@@ -41,8 +41,8 @@ fn open_each<'a, R: Files, C: Clock>(
     Ok(tables)
 }
 
-// The bytes of a key on the command line, which is called `name`.
-fn key_bytes<'a>(alloc: Global, name: &'static str, word: &str) -> Result<Vec<u8>, Failure<'a>> {
+// The bytes of a key on the command line.
+fn key_bytes<'a>(alloc: Global, name: KeyWord, word: &str) -> Result<Vec<u8>, Failure<'a>> {
     match parse_bytes(alloc, word.as_bytes()) {
         Ok(bytes) => Ok(bytes),
         Err(error) => Err(Failure::Key(name, error)),
@@ -52,7 +52,7 @@ fn key_bytes<'a>(alloc: Global, name: &'static str, word: &str) -> Result<Vec<u8
 // The bytes of a key that may have been left out.
 fn bound_bytes<'a>(
     alloc: Global,
-    name: &'static str,
+    name: KeyWord,
     word: Option<&str>,
 ) -> Result<Option<Vec<u8>>, Failure<'a>> {
     match word {
@@ -67,8 +67,8 @@ pub(crate) fn dump<'a, R: Files, C: Clock, W: Write>(
     task: &DumpTask<'a>,
     output: &mut W,
 ) -> Result<(), Failure<'a>> {
-    let from = bound_bytes(system.alloc, "--from", task.from)?;
-    let to = bound_bytes(system.alloc, "--to", task.to)?;
+    let from = bound_bytes(system.alloc, KeyWord::From, task.from)?;
+    let to = bound_bytes(system.alloc, KeyWord::To, task.to)?;
     let options = DumpOptions {
         from: from.as_deref(),
         to: to.as_deref(),
@@ -93,7 +93,7 @@ pub(crate) fn get<'a, R: Files, C: Clock, W: Write>(
     task: &GetTask<'a>,
     output: &mut W,
 ) -> Result<bool, Failure<'a>> {
-    let key = key_bytes(system.alloc, "KEY", task.key)?;
+    let key = key_bytes(system.alloc, KeyWord::Key, task.key)?;
     let options = GetOptions {
         key: key.as_slice(),
         at: task.at,

@@ -10,6 +10,6 @@ loop-name-preserved g c = λ none.
     let found : c.in_ok-found.found ≡ 0
     = omega (arith, none, c.saturating_add-faults.ensures) in
     let content = g.P.Place.content c.args.place.now in
-    all_so_far (λ (name : Bor (List ℕ)). IsSoundFile content name.now) c.args.task.now.files.items
-    c.loop-name.name-index c.name-item.result c.loop-name-test.true c.name-item.is
-    (c.loop-name.invariant before) (c.in_ok-found.ensures.sound found)
+    all_so_far (λ (name : Bor (List ℕ)). IsSoundFile content name.now) c.as_slice-names.result.now
+    c.loop-name.name-index _ c.loop-name-test.true (c.loop-name.invariant before)
+    (c.in_ok-found.ensures.sound found)
