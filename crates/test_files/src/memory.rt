@@ -84,7 +84,12 @@ impl Memory {
     // Whether anything lies in a folder.
     fn has_within(&self, folder: &str) -> bool {
         for file in &self.files {
-            if file.path.as_str().strip_prefix(folder).is_some_and(|rest| rest.starts_with("/")) {
+            if file
+                .path
+                .as_str()
+                .strip_prefix(folder)
+                .is_some_and(|rest| rest.starts_with("/"))
+            {
                 return true;
             }
         }
