@@ -62,7 +62,7 @@ impl Memory {
 
     /// Puts a file there, or a folder, uncounted.
     pub(crate) fn put(&mut self, path: &str, bytes: Option<&[u8]>) -> Result<(), AllocError> {
-        let path = String::from(self.alloc, path)?;
+        let path = String::from_str(self.alloc, path)?;
         let bytes = match bytes {
             Some(bytes) => Some(copied(self.alloc, bytes)?),
             None => None,
@@ -84,7 +84,12 @@ impl Memory {
     // Whether anything lies in a folder.
     fn has_within(&self, folder: &str) -> bool {
         for file in &self.files {
-            if file.path.as_str().strip_prefix(folder).is_some_and(|rest| rest.starts_with("/")) {
+            if file
+                .path
+                .as_str()
+                .strip_prefix(folder)
+                .is_some_and(|rest| rest.starts_with("/"))
+            {
                 return true;
             }
         }
@@ -159,7 +164,7 @@ impl Place for Memory {
         self.forget(to);
         for file in &mut self.files {
             if file.path.as_str() == from {
-                file.path = String::from(self.alloc, to)?;
+                file.path = String::from_str(self.alloc, to)?;
             }
         }
         Ok(())

@@ -43,8 +43,8 @@ abbrev pub NamesTurned : {T : Type 0} → (T → Interval) → List (Bor (List �
 NamesTurned {T} range paths tables e = (place : ℕ) × (t : T) × (slice_get tables place ≡ Some t)
     × (is_well_formed (range t) ≡ false) × IsTurned (path_or_mark (slice_get paths place)) e
 
--- why files are not packed: one cannot be opened, the first of them, and not for want of memory; the
--- first key of one is above its last; or memory is refused, and no file is named
+-- why files are not packed: one cannot be opened, the first of them, and not for want of memory;
+-- the first key of one is above its last; or memory is refused, and no file is named
 abbrev pub RefusesToPack : (List ℕ → Option (List ℕ)) → List (Bor (List ℕ)) → CompactError → Type 0
 RefusesToPack content paths (error.File e) =
     (is_memory_fault e.fault ≡ false) × StopsOpening true content paths e

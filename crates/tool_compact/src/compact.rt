@@ -1,6 +1,6 @@
 //! Files that are compacted.
-ghost use Rattle.std.specs.Prelude.{◌≡◌, ◌∷◌, [], IfErr, IfNone, IfOk, IfSome, IsErrAnd, List, OnOk};
-ghost use Rattle.std.specs.Prelude.{Option, Some, false, length, map, true, ℕ};
+ghost use Rattle.std.specs.Prelude.{◌≡◌, ◌∷◌, [], IfErr, IfNone, IfOk, IfSome, IsErrAnd, List};
+ghost use Rattle.std.specs.Prelude.{OnOk, Option, Some, false, length, map, true, ℕ};
 ghost use Rattle.std.specs.Arc.{arc_value};
 ghost use Rattle.std.specs.List.{AllByRecursion};
 ghost use Rattle.sst_entries.specs.Error.{is_memory};

@@ -17,8 +17,8 @@ use std::path::Path;
 use std::rt::Files;
 use std::{fs, io};
 
-/// Where files are read and written, with what is done there, one step after another. [`Disk`] is that of a
-/// system; a contract can say what was done where it is known.
+/// Where files are read and written, with what is done there, one step after another. [`Disk`] is
+/// that of a system; a contract can say what was done where it is known.
 pub trait Place {
     // What was done, in order, where it is known.
     ghost done: { Self → Option (List Step) };

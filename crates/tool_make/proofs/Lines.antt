@@ -220,9 +220,12 @@ rows_behind format n ([] ∷ before) line rows more h last =
     (subst (λ (k : ℕ). SpellRows format k (line ∷ []) more) next last)
 rows_behind format n ((b ∷ l) ∷ before) line [] more h last = absurd h
 rows_behind format n ((b ∷ l) ∷ before) line (r ∷ rows) more h last =
-    let next : n + length ((b ∷ l) ∷ before) ≡ suc n + length before = omega arith in
-    (h.0, h.1, rows_behind format (suc n) before line rows more h.2
-    (subst (λ (k : ℕ). SpellRows format k (line ∷ []) more) next last))
+    let next : n + length ((b ∷ l) ∷ before) ≡ suc n + length before = omega arith in (
+      h.0,
+      h.1,
+      rows_behind format (suc n) before line rows more h.2
+          (subst (λ (k : ℕ). SpellRows format k (line ∷ []) more) next last),
+    )
 
 pub rows_none : (format : Format) (input : Option (List ℕ)) → GoesRows format input input [] 0
 rows_none format input = by_none (SpellRows format 1) input [] refl

@@ -80,15 +80,19 @@ pub tables_stop : {A R : Type 0} (told : Result R MakeError) (path : List ℕ)
     → IfErr told (λ y. RefusesTables path target fs there known y new)
 tables_stop (Ok r) path target fs wanted seen there known new e files same stops is = tt
 tables_stop {A} (Err y) path target fs wanted seen there known new e files same stops is =
-    inr (e, is, record {
-      wanted = wanted;
-      files = files;
-      stops = subst (λ (n : ℕ).
-          StopsPlacing target (table_file_name path target (n + 1)) there known wanted e new)
-          (as_many path target fs wanted files)
-          (subst (λ (ws : List NewFile). StopsPlacing target
-          (table_file_name path target (length ws + 1)) there known ws e new) same stops);
-    })
+    inr (
+      e,
+      is,
+      record {
+        wanted = wanted;
+        files = files;
+        stops = subst (λ (n : ℕ).
+            StopsPlacing target (table_file_name path target (n + 1)) there known wanted e new)
+            (as_many path target fs wanted files)
+            (subst (λ (ws : List NewFile). StopsPlacing target
+            (table_file_name path target (length ws + 1)) there known ws e new) same stops);
+      },
+    )
 
 -- ---- the file that is named
 

@@ -26,7 +26,8 @@ abbrev pub files_from : {A : Type 0} → List ℕ → Option ℕ → ℕ → Lis
 files_from {A} path target number fs =
     numbered_files (table_file_name path target) number (map (λ (f : FinishedTable A). f.bytes) fs)
 
--- where a file of an earlier write is told, it has the name behind the tables that were to be written
+-- where a file of an earlier write is told, it has the name behind the tables that were to be
+-- written
 abbrev pub TellsEarlier : List ℕ → Option ℕ → ℕ → MakeError → Type 0
 TellsEarlier path target tables (File error) =
     IfLeft error.fault (path_text error.name ≡ table_file_name path target (tables + 1))

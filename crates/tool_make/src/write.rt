@@ -1,6 +1,6 @@
 //! Tables that are written of lines.
-ghost use Rattle.std.specs.Prelude.{◌≡◌, ◌⊎◌, ◌+◌, ◌<◌, Any, IfErr, IfOk, IsErrAnd, IsPermutation, List};
-ghost use Rattle.std.specs.Prelude.{OnOk, length, map, ℕ};
+ghost use Rattle.std.specs.Prelude.{◌≡◌, ◌⊎◌, ◌+◌, ◌<◌, Any, IfErr, IfOk, IsErrAnd};
+ghost use Rattle.std.specs.Prelude.{IsPermutation, List, OnOk, length, map, ℕ};
 ghost use Rattle.sst_entries.specs.Entry.{Entry};
 ghost use Rattle.lsm_writers.specs.declared.writer.FinishedTable.{FinishedTable};
 ghost use Rattle.tool_files.specs.Files.{path_text};
@@ -22,7 +22,9 @@ use crate::{MakeError, WriteOptions};
 use logpurple::{FinishedTable, MultiWriter};
 use std::alloc::Allocator;
 use std::io::{BufRead, BufReader, Read};
-use tool_files::{FileError, FileName, Made, NewFile, Place, place_files, place_series, table_files};
+use tool_files::{
+    FileError, FileName, Made, NewFile, Place, place_files, place_series, table_files,
+};
 use tool_lines::Format;
 
 // Writes the entries of lines that are put in order first, and answers how many there are.
