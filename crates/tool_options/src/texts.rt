@@ -302,7 +302,9 @@ so on.",
         usage: "sst dump [OPTIONS] <FILE>...",
         place: Some(FILES),
         options: &DUMP_OPTIONS,
-        notes: "The files come one behind the other, each in order.",
+        notes: "\
+The files come one behind the other, each in its order, or with --reverse from
+its end.",
     },
     CommandText {
         name: "get",

@@ -3,20 +3,21 @@ use Rattle.std.proofs.Common.{◌≡◌, refl, sym, ◌∙◌, ap, subst, Bool, 
 use Rattle.std.proofs.Common.{List, [], ◌∷◌, ◌++◌, ◌+◌, ◌-◌, ◌<◌, ◌≤◌, append_assoc, append-nil}
 use Rattle.std.proofs.Common.{arith}
 use Rattle.std.proofs.Common.{length, reverse, take}
-use Rattle.std.proofs.lemmas.List.{length-append, reverse-reverse}
-use Rattle.std.specs.Prelude.{Option, None, Some, Result, Ok, Err}
+use Rattle.std.proofs.lemmas.List.{length-append, length-map, map-append, reverse-reverse, take-map}
+use Rattle.std.specs.Prelude.{Option, None, Some, Result, Ok, Err, IfOk, OnOk}
 use Rattle.std.specs.Io.KnownBytes.{Appends}
 use Rattle.std.proofs.KnownBytes.{Appends-nil, Appends-trans}
 use Rattle.sst_entries.specs.declared.error.Error.{Error}
-use Rattle.sst_entries.specs.declared.error.Error.TheVariants.{OutOfMemory}
 use Rattle.sst_entries.specs.Entry.{Entry}
 use Rattle.sst_entries.specs.Error.{is_memory}
-use Rattle.sst_entries.specs.Stream.{CanDeal, Deals, answer_stops, but_first, first, ok_results}
+use Rattle.sst_entries.specs.Stream.{CanDeal, Deals, NoneStops, answer_stops, but_first, deal}
+use Rattle.sst_entries.specs.Stream.{first, ok_results}
 use Rattle.sst_entries.proofs.StreamLemmas.{can_after_back, can_front, deals_back, deals_front}
 use Rattle.sst_entries.proofs.StreamLemmas.{map_reverse}
-use Rattle.lsm_runs.specs.RunLists.{DealsList}
+use Rattle.lsm_block_indexes.specs.Dealt.{DealsEnding, ended_at_error}
 use Rattle.tool_lines.specs.declared.entry_line.Format.{Format}
-use Rattle.tool_show.specs.Printed.{AreLinesOf, IsLineOf, PrintsLine, PrintsLines, in_turn, dumped}
+use Rattle.tool_show.specs.Printed.{AreLinesOf, DealsTo, IsLineOf, PrintsLine, PrintsLines}
+use Rattle.tool_show.specs.Printed.{PrintsResults, R, dumped, in_turn}
 
 -- a line more behind others
 lines_more : (format : Format) (es : List Entry) (e : Entry) (text line : List ℕ)
@@ -37,80 +38,156 @@ lines_more format (x ∷ es) e text line lines one = (
   ap (λ (bytes : List ℕ). bytes ++ line) lines.4 ∙ append_assoc lines.0 lines.1 line,
 )
 
-taken_none : (n : ℕ) (es : List Entry) → es ≡ [] → take n es ≡ []
-taken_none zero es none = refl
+taken_none : (n : ℕ) (rs : List R) → rs ≡ [] → take n rs ≡ []
+taken_none zero rs none = refl
 taken_none (suc n) [] none = refl
-taken_none (suc n) (e ∷ es) none = absurd cc
+taken_none (suc n) (r ∷ rs) none = absurd cc
 
-module _ {S : Type 0} (front back : S → Option (Result Entry Error) → S → Type 0) where
-  -- a source that goes on deals these entries; some were printed, and so many of those may be
-  pub record Prints (s : S) (from_end : Bool) (n m : ℕ) (format : Format) (all : List Entry)
+-- behind entries of a list of entries stands no error
+no_error : (xs ys : List Entry) (e : Error) (rs : List R) → ok_results xs ++ Err e ∷ rs ≡ ok_results ys
+    → ⊥
+no_error [] [] e rs is = absurd cc
+no_error [] (y ∷ ys) e rs is = absurd cc
+no_error (x ∷ xs) [] e rs is = absurd cc
+no_error (x ∷ xs) (y ∷ ys) e rs is =
+    no_error xs ys e rs (let rest : ok_results xs ++ Err e ∷ rs ≡ ok_results ys = cc in rest)
+
+same_entries : (xs ys : List Entry) → ok_results xs ≡ ok_results ys → xs ≡ ys
+same_entries [] [] is = refl
+same_entries [] (y ∷ ys) is = absurd cc
+same_entries (x ∷ xs) [] is = absurd cc
+same_entries (x ∷ xs) (y ∷ ys) is =
+    let first : x ≡ y = cc in
+    let rest : ok_results xs ≡ ok_results ys = cc in
+    ap (λ (z : Entry). z ∷ xs) first ∙ ap (λ (zs : List Entry). y ∷ zs) (same_entries xs ys rest)
+
+turned_ok : (back : Bool) (es : List Entry) → in_turn back (ok_results es) ≡ ok_results (in_turn back es)
+turned_ok false es = refl
+turned_ok true es = map_reverse es
+
+-- what is dumped of entries are entries
+pub dumped_ok : (back : Bool) (n : ℕ) (es : List Entry)
+    → dumped back n (ok_results es) ≡ ok_results (dumped back n es)
+dumped_ok back n es =
+    ap (λ (rs : List R). take n rs) (turned_ok back es)
+    ∙ take-map (λ (x : Entry). Ok x) n (in_turn back es)
+
+module _ (format : Format) (back : Bool) (n : ℕ) (es : List Entry) (old new : Option (List ℕ)) where
+  -- what is printed of the results of a list are its entries
+  pub prints_entries : PrintsResults format (dumped back n (ok_results es)) old new
+      → PrintsLines format (dumped back n es) old new
+  prints_entries printed =
+      subst (λ (xs : List Entry). PrintsLines format xs old new)
+      (same_entries printed.0 (dumped back n es) (sym printed.1 ∙ dumped_ok back n es)) printed.2
+
+pub as_many : (back : Bool) (n : ℕ) (es : List Entry)
+    → length (dumped back n (ok_results es)) ≡ length (dumped back n es)
+as_many back n es = ap length (dumped_ok back n es) ∙ length-map {B = R} (dumped back n es) (λ (x : Entry). Ok x)
+
+on_ok : {X E P Q : Type 0} (r : Result X E) → (P → Q) → OnOk r P → OnOk r Q
+on_ok (Ok x) f p = f p
+on_ok (Err e) f p = tt
+
+if_ok : {X E : Type 0} {P Q : X → Type 0} (r : Result X E) → ((x : X) → P x → Q x) → IfOk r P
+    → IfOk r Q
+if_ok (Ok x) f p = f x p
+if_ok (Err e) f p = tt
+
+-- so where that is answered
+module _ {E : Type 0} (r : Result ℕ E) (back : Bool) (n : ℕ) (es : List Entry) where
+  pub entries_printed : (format : Format) (old new : Option (List ℕ))
+      → OnOk r (PrintsResults format (dumped back n (ok_results es)) old new)
+      → OnOk r (PrintsLines format (dumped back n es) old new)
+  entries_printed format old new told = on_ok r (prints_entries format back n es old new) told
+
+  pub entries_left : (m : ℕ) → IfOk r (λ rest. rest ≡ m - length (dumped back n (ok_results es)))
+      → IfOk r (λ rest. rest ≡ m - length (dumped back n es))
+  entries_left m told = if_ok r (λ rest is. is ∙ ap (λ (k : ℕ). m - k) (as_many back n es)) told
+
+-- ---- what is dealt up to the first error
+
+whole_answers : (rs : List (Option R)) → NoneStops (answer_stops (λ _. true)) (ended_at_error rs)
+    → ended_at_error rs ≡ rs
+whole_answers [] fine = refl
+whole_answers (None ∷ rs) fine =
+    ap (λ (zs : List (Option R)). None ∷ zs) (whole_answers rs fine.1)
+whole_answers (Some (Ok x) ∷ rs) fine =
+    ap (λ (zs : List (Option R)). Some (Ok x) ∷ zs) (whole_answers rs fine.1)
+whole_answers (Some (Err e) ∷ rs) fine = absurd (let not : true ≡ false = fine.0 in cc)
+
+no_memory : (rs : List (Option R)) → NoneStops (answer_stops (λ _. true)) rs
+    → NoneStops (answer_stops is_memory) rs
+no_memory [] fine = tt
+no_memory (None ∷ rs) fine = (refl, no_memory rs fine.1)
+no_memory (Some (Ok x) ∷ rs) fine = (refl, no_memory rs fine.1)
+no_memory (Some (Err e) ∷ rs) fine = absurd (let not : true ≡ false = fine.0 in cc)
+
+pub deals_to_error : {S : Type 0} (front back : S → Option R → S → Type 0) (may may_back : S → Type 0)
+    (s : S) (rs : List R) → DealsEnding front back may may_back s rs → DealsTo front back rs s
+deals_to_error front back may may_back s rs d = record {
+  answers = λ ends answers t runs fine.
+      let is = d.answers ends answers t runs (no_memory answers fine) in
+      is ∙ whole_answers (deal rs ends)
+      (subst (λ (zs : List (Option R)). NoneStops (answer_stops (λ _. true)) zs) is fine);
+}
+
+module _ {S : Type 0} (front back : S → Option R → S → Type 0) (stops : Error → Bool) where
+  -- a source that goes on deals these results; some entries were printed, and so many more may be
+  pub record Prints (s : S) (from_end : Bool) (n m : ℕ) (format : Format) (all : List R)
       (old new : Option (List ℕ)) : Type 0 where
     pub printed : List Entry
-    pub rest : List Entry
-    pub deals : DealsList front back rest s
+    pub rest : List R
+    pub deals : Deals (answer_stops stops) front back s rest
     pub lines : PrintsLines format printed old new
     pub counted : length printed + n ≡ m
-    pub whole : printed ++ dumped from_end n rest ≡ all
+    pub whole : ok_results printed ++ dumped from_end n rest ≡ all
 
   -- what one answer leaves
-  pub record Leaves (t : S) (from_end : Bool) (n : ℕ) (e : Entry) (rest : List Entry)
-      : Type 0 where
-    pub left : List Entry
-    pub deals : DealsList front back left t
-    pub taken : dumped from_end (suc n) rest ≡ e ∷ dumped from_end n left
+  pub record Leaves (t : S) (from_end : Bool) (n : ℕ) (e : Entry) (rest : List R) : Type 0 where
+    pub left : List R
+    pub deals : Deals (answer_stops stops) front back t left
+    pub taken : dumped from_end (suc n) rest ≡ Ok e ∷ dumped from_end n left
 
-  front_by : (t : S) (n : ℕ) (e : Entry) (rest : List Entry)
-      → Some (Ok e) ≡ first (ok_results rest)
-      → ((stops : Error → Bool) → stops OutOfMemory ≡ true
-      → Deals (answer_stops stops) front back t (but_first (ok_results rest)))
-      → Leaves t false n e rest
+  front_by : (t : S) (n : ℕ) (e : Entry) (rest : List R) → Some (Ok e) ≡ first rest
+      → Deals (answer_stops stops) front back t (but_first rest) → Leaves t false n e rest
   front_by t n e [] gave deals = absurd cc
   front_by t n e (x ∷ xs) gave deals = record {
     left = xs;
     deals = deals;
-    taken = let same : x ≡ e = cc in ap (λ (y : Entry). y ∷ take n xs) same;
+    taken = let same : x ≡ Ok e = cc in ap (λ (y : R). y ∷ take n xs) same;
   }
 
   -- the last of what is left is the first of it in the other order
-  back_by : (t : S) (n : ℕ) (e : Entry) (rest turned : List Entry) → reverse rest ≡ turned
-      → Some (Ok e) ≡ first (ok_results turned)
-      → ((stops : Error → Bool) → stops OutOfMemory ≡ true
-      → Deals (answer_stops stops) front back t (reverse (but_first (ok_results turned))))
+  back_by : (t : S) (n : ℕ) (e : Entry) (rest turned : List R) → reverse rest ≡ turned
+      → Some (Ok e) ≡ first turned
+      → Deals (answer_stops stops) front back t (reverse (but_first turned))
       → Leaves t true n e rest
   back_by t n e rest [] is gave deals = absurd cc
   back_by t n e rest (x ∷ xs) is gave deals = record {
     left = reverse xs;
-    deals = λ stops may. subst (Deals (answer_stops stops) front back t) (map_reverse xs)
-        (deals stops may);
-    taken = let same : x ≡ e = cc in
-        ap (λ (es : List Entry). take (suc n) es) is
-        ∙ ap (λ (y : Entry). y ∷ take n xs) same
-        ∙ ap (λ (es : List Entry). e ∷ take n es) (sym (reverse-reverse xs));
+    deals = deals;
+    taken = let same : x ≡ Ok e = cc in
+        ap (λ (rs : List R). take (suc n) rs) is
+        ∙ ap (λ (y : R). y ∷ take n xs) same
+        ∙ ap (λ (rs : List R). Ok e ∷ take n rs) (sym (reverse-reverse xs));
   }
 
-  one_by : (s t : S) (from_end : Bool) (n : ℕ) (e : Entry) (rest : List Entry)
-      → DealsList front back rest s → (from_end ≡ false → front s (Some (Ok e)) t)
+  one_by : (s t : S) (from_end : Bool) (n : ℕ) (e : Entry) (rest : List R)
+      → Deals (answer_stops stops) front back s rest
+      → (from_end ≡ false → front s (Some (Ok e)) t)
       → (from_end ≡ true → back s (Some (Ok e)) t) → Leaves t from_end n e rest
   one_by s t false n e rest deals front_step back_step =
-      let step = λ (stops : Error → Bool) (may : stops OutOfMemory ≡ true).
-      deals_front (answer_stops stops) front back s (ok_results rest) (Some (Ok e)) t
-      (deals stops may) (front_step refl) refl in
-      front_by t n e rest (step (λ _. true) refl).0 (λ stops may. (step stops may).1)
+      let one = deals_front (answer_stops stops) front back s rest (Some (Ok e)) t deals
+      (front_step refl) refl in
+      front_by t n e rest one.0 one.1
   one_by s t true n e rest deals front_step back_step =
-      let step = λ (stops : Error → Bool) (may : stops OutOfMemory ≡ true).
-      deals_back (answer_stops stops) front back s (ok_results rest) (Some (Ok e)) t
-      (deals stops may) (back_step refl) refl in
-      back_by t n e rest (reverse rest) refl
-      ((step (λ _. true) refl).0
-      ∙ ap (λ (rs : List (Result Entry Error)). first rs) (map_reverse rest))
-      (λ stops may. subst (λ (rs : List (Result Entry Error)).
-      Deals (answer_stops stops) front back t (reverse (but_first rs))) (map_reverse rest)
-      (step stops may).1)
+      let one = deals_back (answer_stops stops) front back s rest (Some (Ok e)) t deals
+      (back_step refl) refl in
+      back_by t n e rest (reverse rest) refl one.0 one.1
 
   -- an entry more is printed
   pub prints_more : (s t : S) (from_end : Bool) (n m : ℕ) (format : Format) (e : Entry)
-      (all : List Entry) (old mid new : Option (List ℕ))
+      (all : List R) (old mid new : Option (List ℕ))
       → Prints s from_end (suc n) m format all old mid
       → (from_end ≡ false → front s (Some (Ok e)) t) → (from_end ≡ true → back s (Some (Ok e)) t)
       → PrintsLine format e mid new → Prints t from_end n m format all old new
@@ -126,13 +203,16 @@ module _ {S : Type 0} (front back : S → Option (Result Entry Error) → S → 
           Appends-trans old mid new before.lines.0 more.0 before.lines.2 more.2,
         );
         counted = omega (arith, length-append before.printed (e ∷ []), before.counted);
-        whole = append_assoc before.printed (e ∷ []) (dumped from_end n one.left)
-            ∙ ap (λ (es : List Entry). before.printed ++ es) (sym one.taken) ∙ before.whole;
+        whole = ap (λ (rs : List R). rs ++ dumped from_end n one.left)
+            (map-append (λ (x : Entry). Ok x) before.printed (e ∷ []))
+            ∙ append_assoc (ok_results before.printed) (Ok e ∷ []) (dumped from_end n one.left)
+            ∙ ap (λ (rs : List R). ok_results before.printed ++ rs) (sym one.taken)
+            ∙ before.whole;
       }
 
   -- an entry more is printed, and one less may be
   pub prints_one : (s t : S) (from_end : Bool) (k m : ℕ) (format : Format)
-      (r : Result Entry Error) (e : Entry) (all : List Entry) (old mid new : Option (List ℕ))
+      (r : R) (e : Entry) (all : List R) (old mid new : Option (List ℕ))
       → 0 < k → r ≡ Ok e → Prints s from_end k m format all old mid
       → (from_end ≡ false → front s (Some r) t) → (from_end ≡ true → back s (Some r) t)
       → PrintsLine format e mid new → Prints t from_end (k - 1) m format all old new
@@ -143,98 +223,114 @@ module _ {S : Type 0} (front back : S → Option (Result Entry Error) → S → 
       let same : n ≡ suc n - 1 = omega arith in
       subst (λ (k : ℕ). Prints t from_end k m format all old new) same
       (prints_more s t from_end n m format e all old mid new before
-      (λ at. subst (λ (x : Result Entry Error). front s (Some x) t) is (front_step at))
-      (λ at. subst (λ (x : Result Entry Error). back s (Some x) t) is (back_step at)) more)
+      (λ at. subst (λ (x : R). front s (Some x) t) is (front_step at))
+      (λ at. subst (λ (x : R). back s (Some x) t) is (back_step at)) more)
 
   -- nothing was printed yet
-  pub prints_none : (s : S) (from_end : Bool) (n : ℕ) (format : Format) (es : List Entry)
-      (known : Option (List ℕ)) → DealsList front back es s
-      → Prints s from_end n n format (dumped from_end n es) known known
-  prints_none s from_end n format es known deals = record {
+  pub prints_none : (s : S) (from_end : Bool) (n : ℕ) (format : Format) (rs : List R)
+      (known : Option (List ℕ)) → Deals (answer_stops stops) front back s rs
+      → Prints s from_end n n format (dumped from_end n rs) known known
+  prints_none s from_end n format rs known deals = record {
     printed = [];
-    rest = es;
+    rest = rs;
     deals = deals;
     lines = ([], refl, Appends-nil known);
     counted = omega arith;
     whole = refl;
   }
 
-  -- as many are printed as may be
-  pub prints_full : (s : S) (from_end : Bool) (m : ℕ) (format : Format) (all : List Entry)
-      (old new : Option (List ℕ)) → Prints s from_end 0 m format all old new
-      → PrintsLines format all old new × (0 ≡ m - length all)
-  prints_full s from_end m format all old new before =
-      let same = sym (append-nil before.printed) ∙ before.whole in (
-        subst (λ (es : List Entry). PrintsLines format es old new) same before.lines,
-        omega (arith, before.counted, ap length same),
+  -- all is printed that is to be
+  ends : (s : S) (from_end : Bool) (n m : ℕ) (format : Format) (all : List R)
+      (old new : Option (List ℕ)) (before : Prints s from_end n m format all old new)
+      → dumped from_end n before.rest ≡ []
+      → PrintsResults format all old new × (n ≡ m - length all)
+  ends s from_end n m format all old new before none =
+      let same = sym (append-nil (ok_results before.printed))
+      ∙ ap (λ (rs : List R). ok_results before.printed ++ rs) (sym none) ∙ before.whole in (
+        (before.printed, sym same, before.lines),
+        omega (
+          arith,
+          before.counted,
+          ap length same,
+          length-map {B = R} before.printed (λ (x : Entry). Ok x),
+        ),
       )
 
-  pub prints_end : (s : S) (from_end : Bool) (n m : ℕ) (format : Format) (all : List Entry)
+  -- as many are printed as may be
+  pub prints_end : (s : S) (from_end : Bool) (n m : ℕ) (format : Format) (all : List R)
       (old new : Option (List ℕ)) → n ≤ 0 → Prints s from_end n m format all old new
-      → PrintsLines format all old new × (0 ≡ m - length all)
+      → PrintsResults format all old new × (0 ≡ m - length all)
   prints_end s from_end zero m format all old new none before =
-      prints_full s from_end m format all old new before
+      ends s from_end 0 m format all old new before refl
   prints_end s from_end (suc n) m format all old new none before = absurd (omega (arith, none))
 
-  nothing_left : (rest : List Entry) → first (ok_results rest) ≡ None → rest ≡ []
+  nothing_left : (rest : List R) → first rest ≡ None → rest ≡ []
   nothing_left [] none = refl
   nothing_left (x ∷ xs) none = absurd cc
 
-  none_shown : (s t : S) (from_end : Bool) (n : ℕ) (rest : List Entry)
-      → DealsList front back rest s → (from_end ≡ false → front s None t)
+  none_dumped : (s t : S) (from_end : Bool) (n : ℕ) (rest : List R)
+      → Deals (answer_stops stops) front back s rest → (from_end ≡ false → front s None t)
       → (from_end ≡ true → back s None t) → dumped from_end n rest ≡ []
-  none_shown s t false n rest deals front_step back_step =
-      let one = deals_front (answer_stops (λ _. true)) front back s (ok_results rest) None t
-      (deals (λ _. true) refl) (front_step refl) refl in
-      taken_none n rest (nothing_left rest (sym one.0))
-  none_shown s t true n rest deals front_step back_step =
-      let one = deals_back (answer_stops (λ _. true)) front back s (ok_results rest) None t
-      (deals (λ _. true) refl) (back_step refl) refl in
-      let none : first (ok_results (reverse rest)) ≡ None
-      = sym (one.0 ∙ ap (λ (rs : List (Result Entry Error)). first rs) (map_reverse rest)) in
-      taken_none n (reverse rest) (nothing_left (reverse rest) none)
+  none_dumped s t false n rest deals front_step back_step =
+      taken_none n rest (nothing_left rest (sym
+      (deals_front (answer_stops stops) front back s rest None t deals (front_step refl) refl).0))
+  none_dumped s t true n rest deals front_step back_step =
+      taken_none n (reverse rest) (nothing_left (reverse rest) (sym
+      (deals_back (answer_stops stops) front back s rest None t deals (back_step refl) refl).0))
 
   -- all is printed that there is
-  pub prints_all : (s t : S) (from_end : Bool) (n m : ℕ) (format : Format) (all : List Entry)
+  pub prints_all : (s t : S) (from_end : Bool) (n m : ℕ) (format : Format) (all : List R)
       (old new : Option (List ℕ)) → Prints s from_end n m format all old new
       → (from_end ≡ false → front s None t) → (from_end ≡ true → back s None t)
-      → PrintsLines format all old new × (n ≡ m - length all)
+      → PrintsResults format all old new × (n ≡ m - length all)
   prints_all s t from_end n m format all old new before front_step back_step =
-      let none = none_shown s t from_end n before.rest before.deals front_step back_step in
-      let same = sym (append-nil before.printed)
-      ∙ ap (λ (es : List Entry). before.printed ++ es) (sym none) ∙ before.whole in (
-        subst (λ (es : List Entry). PrintsLines format es old new) same before.lines,
-        omega (arith, before.counted, ap length same),
-      )
+      ends s from_end n m format all old new before
+      (none_dumped s t from_end n before.rest before.deals front_step back_step)
 
-  no_error : (e : Error) (rest : List Entry) → Some (Err e) ≡ first (ok_results rest) → ⊥
-  no_error e [] is = absurd cc
-  no_error e (x ∷ xs) is = absurd cc
+module _ {S : Type 0} (front back : S → Option R → S → Type 0) where
+  -- the next of what is left is an error, which is none of a list's
+  error_by : (s : S) (from_end : Bool) (k m : ℕ) (format : Format) (es : List Entry) (e : Error)
+      (old new : Option (List ℕ))
+      (before : Prints front back is_memory s from_end (suc k) m format
+      (dumped from_end m (ok_results es)) old new) (turned : List R)
+      → in_turn from_end before.rest ≡ turned → Some (Err e) ≡ first turned → ⊥
+  error_by s from_end k m format es e old new before [] is next = absurd cc
+  error_by s from_end k m format es e old new before (x ∷ xs) is next =
+      let same : x ≡ Err e = cc in
+      let taken : dumped from_end (suc k) before.rest ≡ Err e ∷ take k xs
+      = ap (λ (rs : List R). take (suc k) rs) is ∙ ap (λ (r : R). r ∷ take k xs) same in
+      no_error before.printed (dumped from_end m es) e (take k xs)
+      (ap (λ (rs : List R). ok_results before.printed ++ rs) (sym taken) ∙ before.whole
+      ∙ dumped_ok from_end m es)
 
-  memory_by : (s t : S) (from_end : Bool) (e : Error) (rest : List Entry) (b : Bool)
-      → is_memory e ≡ b → DealsList front back rest s
+  memory_by : (s t : S) (from_end : Bool) (k m : ℕ) (format : Format) (es : List Entry) (e : Error)
+      (old new : Option (List ℕ)) (b : Bool) → is_memory e ≡ b
+      → Prints front back is_memory s from_end (suc k) m format (dumped from_end m (ok_results es))
+      old new
       → (from_end ≡ false → front s (Some (Err e)) t)
       → (from_end ≡ true → back s (Some (Err e)) t) → b ≡ true
-  memory_by s t from_end e rest true is deals front_step back_step = refl
-  memory_by s t false e rest false is deals front_step back_step =
-      absurd (no_error e rest
-      (deals_front (answer_stops is_memory) front back s (ok_results rest) (Some (Err e)) t
-      (deals is_memory refl) (front_step refl) is).0)
-  memory_by s t true e rest false is deals front_step back_step =
-      absurd (no_error e (reverse rest)
-      ((deals_back (answer_stops is_memory) front back s (ok_results rest) (Some (Err e)) t
-      (deals is_memory refl) (back_step refl) is).0
-      ∙ ap (λ (rs : List (Result Entry Error)). first rs) (map_reverse rest)))
+  memory_by s t from_end k m format es e old new true is before front_step back_step = refl
+  memory_by s t false k m format es e old new false is before front_step back_step =
+      absurd (error_by s false k m format es e old new before before.rest refl
+      (deals_front (answer_stops is_memory) front back s before.rest (Some (Err e)) t before.deals
+      (front_step refl) is).0)
+  memory_by s t true k m format es e old new false is before front_step back_step =
+      absurd (error_by s true k m format es e old new before (reverse before.rest) refl
+      (deals_back (answer_stops is_memory) front back s before.rest (Some (Err e)) t before.deals
+      (back_step refl) is).0)
 
-  -- an error is one of memory
-  pub error_is_memory : (s t : S) (from_end : Bool) (r : Result Entry Error) (e : Error)
-      (rest : List Entry) → r ≡ Err e → DealsList front back rest s
+  -- of a list an error is one of memory
+  pub error_is_memory : (s t : S) (from_end : Bool) (k m : ℕ) (format : Format) (r : R) (e : Error)
+      (es : List Entry) (old new : Option (List ℕ)) → 0 < k → r ≡ Err e
+      → Prints front back is_memory s from_end k m format (dumped from_end m (ok_results es)) old new
       → (from_end ≡ false → front s (Some r) t) → (from_end ≡ true → back s (Some r) t)
       → is_memory e ≡ true
-  error_is_memory s t from_end r e rest is deals front_step back_step =
-      memory_by s t from_end e rest (is_memory e) refl deals
-      (λ at. subst (λ (x : Result Entry Error). front s (Some x) t) is (front_step at))
-      (λ at. subst (λ (x : Result Entry Error). back s (Some x) t) is (back_step at))
+  error_is_memory s t from_end zero m format r e es old new some is before front_step back_step =
+      absurd (omega (arith, some))
+  error_is_memory s t from_end (suc k) m format r e es old new some is before front_step back_step =
+      memory_by s t from_end k m format es e old new (is_memory e) refl before
+      (λ at. subst (λ (x : R). front s (Some x) t) is (front_step at))
+      (λ at. subst (λ (x : R). back s (Some x) t) is (back_step at))
 
 -- a source may be asked on
 pub may_go_on : {S A : Type 0} (front back : S → Option A → S → Type 0) (can can_back : S → Type 0)

@@ -1,7 +1,7 @@
 -- What is printed.
 use denote.Ref.{Bor}
 use Rattle.std.specs.Prelude.{◌≡◌, List, [], ◌∷◌, ◌++◌, codes, ℕ, Bool, false, true, reverse, take}
-use Rattle.std.specs.Prelude.{Option, None, Some}
+use Rattle.std.specs.Prelude.{Option, None, Result, Some}
 use Rattle.std.specs.Io.KnownBytes.{Appends}
 use Rattle.std.specs.declared.ops.Bound.{Bound}
 use Rattle.std.specs.declared.ops.Bound.TheVariants.{Excluded, Included, Unbounded}
@@ -9,8 +9,10 @@ use Rattle.json.specs.Print.{print}
 use Rattle.json.specs.Token.{Token}
 use Rattle.sst_entries.specs.Entry.{Entry}
 use Rattle.sst_entries.specs.Point.{within}
+use Rattle.sst_entries.specs.Stream.{Deals, answer_stops, ok_results}
+use Rattle.sst_entries.specs.declared.error.Error.{Error}
 use Rattle.lsm_readers.specs.Table.{OpenTable}
-use Rattle.lsm_readers.specs.Words.{lift}
+use Rattle.lsm_readers.specs.Words.{lift, range_told}
 use Rattle.tool_lines.specs.ObjectLine.{WritesEntry}
 use Rattle.tool_lines.specs.WordLine.{word_line}
 use Rattle.tool_lines.specs.declared.entry_line.Format.{Format}
@@ -49,14 +51,27 @@ abbrev pub PrintsFound : Format → Option Entry → (old new : Option (List ℕ
 PrintsFound format found old new =
     (line : List ℕ) × IsFoundLine format found line × Appends old new line
 
--- entries in their order, or from the last to the first
-abbrev pub in_turn : Bool → List Entry → List Entry
-in_turn false es = es
-in_turn true es = reverse es
+-- in their order, or from the last to the first
+abbrev pub in_turn : {X : Type 0} → Bool → List X → List X
+in_turn false xs = xs
+in_turn true xs = reverse xs
 
 -- so many of them at most
-abbrev pub dumped : Bool → ℕ → List Entry → List Entry
-dumped back n es = take n (in_turn back es)
+abbrev pub dumped : {X : Type 0} → Bool → ℕ → List X → List X
+dumped back n xs = take n (in_turn back xs)
+
+-- an entry, or why it cannot be read
+abbrev pub R : Type 0
+R = Result Entry Error
+
+-- these results are entries, whose lines are printed
+abbrev pub PrintsResults : Format → List R → (old new : Option (List ℕ)) → Type 0
+PrintsResults format rs old new =
+    (es : List Entry) × (rs ≡ ok_results es) × PrintsLines format es old new
+
+-- up to its first error a source deals these results
+abbrev pub DealsTo : {S : Type 0} (front back : S → Option R → S → Type 0) → List R → S → Type 0
+DealsTo front back rs s = Deals (answer_stops (λ _. true)) front back s rs
 
 -- from a first key on, and up to a key that is left out
 abbrev pub from_key : Option (Bor (List ℕ)) → Bound (List ℕ)
@@ -70,3 +85,7 @@ up_to_key (Some key) = Excluded key.now
 -- the entries of a table's list that are asked for
 abbrev pub chosen : DumpOptions → OpenTable → List Entry → List Entry
 chosen o t es = within (from_key o.from) (up_to_key o.to) (lift es t.global_seqno)
+
+-- what can be read of a table's bytes between the keys that are asked for, and why not
+abbrev pub asked : DumpOptions → OpenTable → List R
+asked o t = range_told t (from_key o.from) (up_to_key o.to)

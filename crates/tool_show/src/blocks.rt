@@ -67,8 +67,9 @@ pub(crate) fn named_blocks<A: Allocator + Copy>(
     source: &BlockSource<A>,
     inner: &TableInner<A>,
 ) -> Result<Vec<NamedBlock, A>, Error>
-    ensures { IfOk result (λ blocks.
+    ensures ok { IfOk result (λ blocks.
         blocks.items ≡ named_blocks (body_of source.now) (parts_of inner.now)) }
+    ensures err { IfErr result (λ e. e ≡ OutOfMemory) }
 {
     let mut blocks = Vec::new(alloc);
     add_filters(alloc, &mut blocks, inner)?;
@@ -83,8 +84,9 @@ pub(crate) fn region_blocks<A: Allocator + Copy>(
     source: &BlockSource<A>,
     regions: &ParsedRegions,
 ) -> Result<Vec<NamedBlock, A>, Error>
-    ensures { IfOk result (λ blocks.
+    ensures ok { IfOk result (λ blocks.
         blocks.items ≡ region_blocks (body_of source.now) regions.now) }
+    ensures err { IfErr result (λ e. e ≡ OutOfMemory) }
 {
     let mut blocks = Vec::new(alloc);
     blocks.push(named_at(SectionName::Meta, BlockType::Meta, regions.metadata))?;
@@ -100,9 +102,10 @@ fn add_told_filters<A: Allocator + Copy>(
     source: &BlockSource<A>,
     regions: &ParsedRegions,
 ) -> Result<(), Error>
-    ensures { let body = body_of source.now in let tops = regions.now.filter_tli in
+    ensures ok { let body = body_of source.now in let tops = regions.now.filter_tli in
         OnOk result (blocks.new.items ≡ blocks.old.items ++ (top_blocks tops
         ++ map filter_at (filter_places (told_tops body tops) regions.now.filter))) }
+    ensures err { IfErr result (λ e. e ≡ OutOfMemory) }
 {
     let Some(tops) = regions.filter_tli else {
         return add_filter(blocks, regions.filter);
@@ -119,8 +122,9 @@ fn add_index<A: Allocator + Copy>(
     source: &BlockSource<A>,
     regions: &ParsedRegions,
 ) -> Result<(), Error>
-    ensures { OnOk result (blocks.new.items ≡ blocks.old.items
+    ensures ok { OnOk result (blocks.new.items ≡ blocks.old.items
         ++ blocks_at (body_of source.now) [] regions.now) }
+    ensures err { IfErr result (λ e. e ≡ OutOfMemory) }
 {
     let tli = regions.tli;
     blocks.push(named_at(SectionName::Tli, BlockType::Index, tli))?;
@@ -133,7 +137,8 @@ fn places_of<A: Allocator + Copy>(
     alloc: A,
     handles: &IndexBlock<A>,
 ) -> Result<Vec<BlockHandle, A>, Error>
-    ensures { IfOk result (λ places. places.items ≡ map place_of handles.now) }
+    ensures ok { IfOk result (λ places. places.items ≡ map place_of handles.now) }
+    ensures err { IfErr result (λ e. e ≡ OutOfMemory) }
 {
     let mut places = Vec::new(alloc);
     for index in 0..handles.len() {
@@ -166,8 +171,9 @@ fn places_in<A: Allocator + Copy>(
     source: &BlockSource<A>,
     place: &BlockHandle,
 ) -> Result<Vec<BlockHandle, A>, Error>
-    ensures { IfOk result (λ places.
+    ensures ok { IfOk result (λ places.
         places.items ≡ map place_of (told_handles (body_of source.now) place.now)) }
+    ensures err { IfErr result (λ e. e ≡ OutOfMemory) }
 {
     match handles_in(source, place)? {
         Some(handles) => places_of(alloc, &handles),
@@ -182,8 +188,9 @@ fn add_filters<A: Allocator + Copy>(
     blocks: &mut Vec<NamedBlock, A>,
     inner: &TableInner<A>,
 ) -> Result<(), Error>
-    ensures { let parts = parts_of inner.now in OnOk result (blocks.new.items ≡ blocks.old.items
+    ensures ok { let parts = parts_of inner.now in OnOk result (blocks.new.items ≡ blocks.old.items
         ++ map filter_at (filter_places parts.pinned.filter_tops parts.regions.filter)) }
+    ensures err { IfErr result (λ e. e ≡ OutOfMemory) }
 {
     if let Some(tops) = &inner.pinned_filter_index {
         let places = places_of(alloc, tops)?;
@@ -197,8 +204,9 @@ fn add_filter<A: Allocator>(
     blocks: &mut Vec<NamedBlock, A>,
     filter: Option<BlockHandle>,
 ) -> Result<(), Error>
-    ensures { OnOk result (blocks.new.items ≡ blocks.old.items
+    ensures ok { OnOk result (blocks.new.items ≡ blocks.old.items
         ++ map filter_at (filter_places None filter)) }
+    ensures err { IfErr result (λ e. e ≡ OutOfMemory) }
 {
     if let Some(place) = filter {
         blocks.push(named_at(SectionName::Filter, BlockType::Filter, place))?;
@@ -213,8 +221,9 @@ fn add_each<A: Allocator>(
     kind: BlockType,
     places: &[BlockHandle],
 ) -> Result<(), Error>
-    ensures { OnOk result (blocks.new.items ≡ blocks.old.items
+    ensures ok { OnOk result (blocks.new.items ≡ blocks.old.items
         ++ map (named_at section kind) places.now) }
+    ensures err { IfErr result (λ e. e ≡ OutOfMemory) }
 {
     for place in places {
         blocks.push(named_at(section, kind, *place))?;
@@ -230,8 +239,9 @@ fn add_below<A: Allocator + Copy>(
     has_partitions: bool,
     places: &[BlockHandle],
 ) -> Result<(), Error>
-    ensures { OnOk result (blocks.new.items ≡ blocks.old.items
+    ensures ok { OnOk result (blocks.new.items ≡ blocks.old.items
         ++ blocks_below (body_of source.now) has_partitions places.now) }
+    ensures err { IfErr result (λ e. e ≡ OutOfMemory) }
 {
     if !has_partitions {
         return add_each(blocks, SectionName::Data, BlockType::Data, places);
@@ -249,8 +259,9 @@ fn add_partition<A: Allocator + Copy>(
     source: &BlockSource<A>,
     place: &BlockHandle,
 ) -> Result<(), Error>
-    ensures { OnOk result (blocks.new.items ≡ blocks.old.items
+    ensures ok { OnOk result (blocks.new.items ≡ blocks.old.items
         ++ partition (body_of source.now) place.now) }
+    ensures err { IfErr result (λ e. e ≡ OutOfMemory) }
 {
     blocks.push(named_at(SectionName::Index, BlockType::Index, *place))?;
     let places = places_in(alloc, source, place)?;

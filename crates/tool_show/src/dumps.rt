@@ -4,11 +4,11 @@ ghost use Rattle.sst_entries.specs.Entry.{Entry};
 ghost use Rattle.sst_entries.specs.Point.{within};
 ghost use Rattle.sst_entries.specs.Stream.{CanDeal};
 ghost use Rattle.lsm_readers.specs.Stored.{StoresList};
-ghost use Rattle.lsm_readers.specs.Words.{lift};
+ghost use Rattle.lsm_readers.specs.Words.{lift, range_told};
 ghost use Rattle.lsm_runs.specs.RunLists.{DealsList};
 ghost use Rattle.tool_show.specs.Failures.{BlamesNoFile, NamesNone, NamesOnly};
-ghost use Rattle.tool_show.specs.Printed.{PrintsLine, PrintsLines, chosen, from_key};
-ghost use Rattle.tool_show.specs.Printed.{dumped, up_to_key};
+ghost use Rattle.tool_show.specs.Printed.{DealsTo, PrintsLine, PrintsLines, PrintsResults, R};
+ghost use Rattle.tool_show.specs.Printed.{asked, chosen, dumped, from_key, up_to_key};
 
 use crate::error::Failure;
 use crate::{NamedTable, ShowError};
@@ -41,8 +41,12 @@ pub fn dump<'a, A: Allocator + Copy, W: Write>(
     options: &DumpOptions<'_>,
     left: u64,
 ) -> Result<u64, ShowError<'a>>
-    // The entries between the keys are printed, in their order or from the last on, as many as may
-    // be.
+    // Whatever the bytes, what is printed are entries that can be read between the keys, in their
+    // order or from the last on, as many as may be: no refusal is passed over.
+    ensures told { OnOk result (PrintsResults options.now.format
+        (dumped options.now.reverse left (asked options.now file.now.table))
+        (W.contents output.old) (W.contents output.new)) }
+    // Of a list they are its entries.
     ensures printed { let t = file.now.table in (es : List Entry) → StoresList t.bytes es →
         OnOk result (PrintsLines options.now.format
         (dumped options.now.reverse left (chosen options.now t es))
@@ -70,6 +74,9 @@ fn dump_table<A: Allocator + Copy, W: Write>(
     options: &DumpOptions<'_>,
     left: u64,
 ) -> Result<u64, Failure>
+    ensures told { OnOk result (PrintsResults options.now.format
+        (dumped options.now.reverse left (asked options.now table.now))
+        (W.contents output.old) (W.contents output.new)) }
     ensures printed { let t = table.now in (es : List Entry) → StoresList t.bytes es →
         OnOk result (PrintsLines options.now.format
         (dumped options.now.reverse left (chosen options.now t es))
@@ -124,6 +131,9 @@ fn dump_range<A: Allocator + Copy, W: Write>(
     reverse: bool,
     lines: Lines<A>,
 ) -> Result<u64, Failure>
+    ensures told { OnOk result (PrintsResults lines.format
+        (dumped reverse lines.left (range_told table.now bounds.0 bounds.1))
+        (W.contents output.old) (W.contents output.new)) }
     ensures printed { let t = table.now in (es : List Entry) → StoresList t.bytes es →
         OnOk result (PrintsLines lines.format
         (dumped reverse lines.left (within bounds.0 bounds.1 (lift es t.global_seqno)))
@@ -146,12 +156,12 @@ fn dump_items<I: DoubleEndedIterator<Item = IterItem<A>> + Drop, A: Allocator + 
     lines: Lines<A>,
 ) -> Result<u64, Failure>
     requires can { CanDeal I.next_gives I.next_back_gives I.can_next I.can_next_back items }
-    // The first of the entries are printed, or the last of them from the end on.
-    ensures printed { (es : List Entry) → DealsList I.next_gives I.next_back_gives es items →
-        OnOk result (PrintsLines lines.format (dumped reverse lines.left es)
+    // The first of what is dealt are entries, and printed, or the last of it from the end on.
+    ensures printed { (rs : List R) → DealsTo I.next_gives I.next_back_gives rs items →
+        OnOk result (PrintsResults lines.format (dumped reverse lines.left rs)
         (W.contents output.old) (W.contents output.new)) }
-    ensures left { (es : List Entry) → DealsList I.next_gives I.next_back_gives es items →
-        IfOk result (λ rest. rest ≡ lines.left - length (dumped reverse lines.left es)) }
+    ensures left { (rs : List R) → DealsTo I.next_gives I.next_back_gives rs items →
+        IfOk result (λ rest. rest ≡ lines.left - length (dumped reverse lines.left rs)) }
     ensures sound { (es : List Entry) → DealsList I.next_gives I.next_back_gives es items →
         IfErr result BlamesNoFile }
 {

@@ -18,7 +18,8 @@ pub enum ShowError<'a> {
     Refused {
         /// The name of the file.
         name: &'a str,
-        /// The block that is refused, where verifying the table finds this refusal first.
+        /// The block that does not load with this refusal, where verifying the table finds it
+        /// first.
         place: Option<BlockPlace>,
         /// The refusal.
         error: Error,

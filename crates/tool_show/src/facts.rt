@@ -163,10 +163,9 @@ pub(crate) struct Spread {
     pub(crate) passed: u64,
 }
 
-/// How a filter of so many bytes, the first of which says how many probes are made, is spread over
-/// so many keys; `None` for no keys.
+/// How a filter of so many bytes of bits is spread over so many keys; `None` for no keys.
 pub(crate) fn spread_of(bytes: u64, keys: u64) -> Option<Spread> {
-    let bits = bytes.saturating_sub(1).saturating_mul(8);
+    let bits = bytes.saturating_mul(8);
     let tenths = bits.saturating_mul(10).checked_div(keys)?;
     let mut passed = 1_000_000u64;
     // With the best number of probes each bit lets a share of 0.6185 of the keys through, and each

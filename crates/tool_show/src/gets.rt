@@ -1,10 +1,13 @@
 //! The version of a key that a reader sees.
 ghost use Rattle.std.specs.Prelude.{◌≡◌, ◌-◌, ◌^◌, ◌∷◌, [], List, IfErr, IfOk, IfSome, OnOk};
-ghost use Rattle.std.specs.Prelude.{false, is_some, map};
+ghost use Rattle.std.specs.Prelude.{Ok, Option, None, false, is_some, map};
 ghost use Rattle.std.specs.Option.{option_map_or};
 ghost use Rattle.std.specs.Arc.{arc_value};
+ghost use Rattle.std.specs.List.{AllByRecursion};
+ghost use Rattle.lsm_ranges.specs.Run.{IsInOrder};
 ghost use Rattle.lsm_runs.specs.RunLists.{RunsHoldLists};
-ghost use Rattle.lsm_runs.specs.SeveralRuns.{union_in};
+ghost use Rattle.lsm_runs.specs.RunParts.{range_of};
+ghost use Rattle.lsm_runs.specs.SeveralRuns.{runs_told, union_in};
 ghost use Rattle.sst_entries.specs.Entry.{Entry};
 ghost use Rattle.sst_entries.specs.Point.{point};
 ghost use Rattle.sst_entries.specs.declared.error.Error.TheVariants.{OutOfMemory};
@@ -49,6 +52,20 @@ pub fn get<'a, A: Allocator + Copy, W: Write>(
     files: &[NamedTable<'a, A>],
     options: &GetOptions<'_>,
 ) -> Result<bool, ShowError<'a>>
+    // Whatever the bytes, where each key range is well-formed it answers what the tables tell, and
+    // prints it: no refusal is passed over.
+    ensures told { AllByRecursion (IsInOrder range_of) (runs_in files.now) →
+        let seqno = option_map_or (λ n. n) options.now.at (2 ^ 64 - 1) in
+        IfOk result (λ there. (found : Option Entry)
+        × (runs_told options.now.key.now seqno None (runs_in files.now) ≡ Ok found)
+        × (there ≡ is_some found)) }
+    ensures shown { options.now.loads ≡ false →
+        AllByRecursion (IsInOrder range_of) (runs_in files.now) →
+        let seqno = option_map_or (λ n. n) options.now.at (2 ^ 64 - 1) in
+        OnOk result ((found : Option Entry)
+        × (runs_told options.now.key.now seqno None (runs_in files.now) ≡ Ok found)
+        × PrintsFound options.now.format found
+        (W.contents output.old) (W.contents output.new)) }
     // Of files of lists there is one where these lists together have it.
     ensures found { (lists : List (List (List Entry))) →
         RunsHoldLists (runs_in files.now) lists →
@@ -131,7 +148,7 @@ fn refused_in<'a, A: Allocator + Copy>(
             return refused;
         }
     }
-    // It was wanted on the way here.
+    // Only want of memory on the way leads here.
     ShowError::OutOfMemory
 }
 

@@ -10,7 +10,7 @@ pub(crate) fn print_sections<W: Write>(
     all: u64,
 ) -> io::Result<()> {
     for section in sections {
-        write!(output, "  {:<12}", section.name)?;
+        write!(output, "  {:<13}", section.name)?;
         print_place(output, section.place, all)?;
     }
     Ok(())
@@ -22,7 +22,7 @@ pub(crate) fn print_blocks<W: Write>(output: &mut W, blocks: &[Place], all: u64)
     let each = blocks.len().div_ceil(32).max(1);
     let mut first = 0usize;
     for part in blocks.chunks(each) {
-        write!(output, "  {first:<12}")?;
+        write!(output, "  {first:<13}")?;
         print_place(output, together(part), all)?;
         first = first.saturating_add(part.len());
     }

@@ -12,7 +12,7 @@ use crate::{NamedTable, ShowError};
 use json::Writer;
 use lsm_formats::ItemName;
 use lsm_readers::Table;
-use sst_blocks::{Error, Slice};
+use sst_blocks::{Error, Header, Slice};
 use std::alloc::{AllocError, Allocator};
 use std::io::{self, Write};
 use tool_lines::{Format, append_bytes, write_bytes};
@@ -64,6 +64,7 @@ fn stat_file<A: Allocator + Copy, W: Write>(
 
 fn parts_of<A: Allocator + Copy>(alloc: A, table: &Table<A>) -> Result<Parts<A>, Error> {
     let keys = number_of(table, ItemName::KeyCount)?.unwrap_or(0);
+    let filter_bytes = filter_bytes(table)?;
     let sections = sections_of(alloc, table)?;
     let blocks = blocks_of(alloc, table)?;
     Ok(Parts {
@@ -71,7 +72,7 @@ fn parts_of<A: Allocator + Copy>(alloc: A, table: &Table<A>) -> Result<Parts<A>,
         entries: table.metadata.item_count,
         index: kind_of(table.regions.index.is_some()),
         filter: filter_of(table),
-        spread: spread_of(filter_bytes(table), keys),
+        spread: spread_of(filter_bytes, keys),
         sections,
         blocks,
     })
@@ -102,12 +103,12 @@ fn filter_of<A: Allocator>(table: &Table<A>) -> &'static str {
     }
 }
 
-// How many bytes the filter has: without the header where its one block stays loaded.
-fn filter_bytes<A: Allocator>(table: &Table<A>) -> u64 {
-    match table.pinned_filter_size() {
-        0 => u64::from(table.filter_size()),
-        size => size as u64,
-    }
+// How many bytes of bits the filter has: each of its blocks has a header, and a byte that says how
+// many probes are made.
+fn filter_bytes<A: Allocator + Copy>(table: &Table<A>) -> Result<u64, Error> {
+    let blocks = number_of(table, ItemName::BlockCountFilter)?.unwrap_or(1);
+    let beside = blocks.saturating_mul(Header::serialized_len() as u64 + 1);
+    Ok(u64::from(table.filter_size()).saturating_sub(beside))
 }
 
 fn print_text<A: Allocator + Copy, W: Write>(
@@ -183,7 +184,7 @@ fn print_spread<W: Write>(output: &mut W, spread: Spread) -> io::Result<()> {
 }
 
 fn print_pictures<A: Allocator, W: Write>(output: &mut W, parts: &Parts<A>) -> io::Result<()> {
-    writeln!(output, "sections          offset        bytes   share")?;
+    writeln!(output, "sections           offset        bytes   share")?;
     print_sections(output, &parts.sections, parts.size)?;
     let (count, entries) = (parts.blocks.len(), parts.entries);
     let tenths = entries

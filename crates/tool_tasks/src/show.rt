@@ -20,12 +20,13 @@ use tool_lines::parse_bytes;
 use tool_options::{DumpTask, GetTask, StatTask, VerifyTask};
 use tool_show::{DumpOptions, GetOptions, NamedTable, NoProgress};
 
-// Opens a file as a table with its name. Its filter and its index stay loaded.
+// Opens a file as a table with its name. Nothing but top levels stays loaded, so a fault of the
+// filter or the index is one of the read that meets it.
 fn open_named<'a, R: Files, C: Clock>(
     system: System<'_, R, C>,
     name: &'a str,
 ) -> Result<NamedTable<'a, Global>, Failure<'a>> {
-    let table = open_table(&system.disk(), system.alloc, name, true)?;
+    let table = open_table(&system.disk(), system.alloc, name, false)?;
     Ok(NamedTable { name, table })
 }
 

@@ -1,3 +1,6 @@
+use Rattle.std.proofs.Common.{refl, true}
+use Rattle.sst_entries.specs.Error.{is_memory}
+use Rattle.sst_entries.specs.Stream.{ok_results}
 use Rattle.sst_entries.proofs.StreamLemmas.{can_now, can_now_back}
 use Rattle.tool_show.proofs.DumpLemmas.{error_is_memory, may_go_on, prints_all, prints_end}
 use Rattle.tool_show.proofs.DumpLemmas.{prints_none, prints_one}
@@ -7,7 +10,7 @@ use Rattle.tool_show.proofs.dumps.dump_items.Goals as goal
 pub loop-left-init : goal.loop-left-init
 loop-left-init g c = (
   c.requires.can,
-  λ es deals. prints_none _ _ c.args.items c.args.reverse c.args.lines.left _ es _ deals,
+  λ stops rs deals. prints_none _ _ stops c.args.items c.args.reverse c.args.lines.left _ rs _ deals,
 )
 
 pub take_item-requires-clause-can : goal.take_item-requires-clause-can
@@ -21,37 +24,40 @@ pub loop-left-preserved : goal.loop-left-preserved
 loop-left-preserved g c = (
   may_go_on _ _ _ _ c.loop-left.items c.take_item.new.items c.args.reverse _ c.loop-left.invariant.0
       c.in-Some.ensures.front c.in-Some.ensures.back,
-  λ es deals. prints_one _ _ c.loop-left.items c.take_item.new.items c.args.reverse
+  λ stops rs deals. prints_one _ _ stops c.loop-left.items c.take_item.new.items c.args.reverse
       c.loop-left.left _ _ c.in-Some.item c.in_ok-item-in-Some.field-0 _ _ _ _
-      c.loop-left-test.true c.in_ok-item-in-Some.was (c.loop-left.invariant.1 es deals)
+      c.loop-left-test.true c.in_ok-item-in-Some.was (c.loop-left.invariant.1 stops rs deals)
       c.in-Some.ensures.front c.in-Some.ensures.back c.in_ok-print_entry-in-Some.ensures.printed,
 )
 
 pub returns-in-None : goal.returns-in-None
 returns-in-None g c = record {
-  printed = λ es deals. (prints_all _ _ c.loop-left.items c.take_item.new.items c.args.reverse
-      c.loop-left.left _ _ _ _ _ (c.loop-left.invariant.1 es deals) c.in-None.ensures.front
-      c.in-None.ensures.back).0;
-  left = λ es deals. (prints_all _ _ c.loop-left.items c.take_item.new.items c.args.reverse
-      c.loop-left.left _ _ _ _ _ (c.loop-left.invariant.1 es deals) c.in-None.ensures.front
-      c.in-None.ensures.back).1;
+  printed = λ rs deals. (prints_all _ _ (λ _. true) c.loop-left.items c.take_item.new.items
+      c.args.reverse c.loop-left.left _ _ _ _ _ (c.loop-left.invariant.1 (λ _. true) rs deals)
+      c.in-None.ensures.front c.in-None.ensures.back).0;
+  left = λ rs deals. (prints_all _ _ (λ _. true) c.loop-left.items c.take_item.new.items
+      c.args.reverse c.loop-left.left _ _ _ _ _ (c.loop-left.invariant.1 (λ _. true) rs deals)
+      c.in-None.ensures.front c.in-None.ensures.back).1;
   sound = λ es deals. tt;
 }
 
 pub returns : goal.returns
 returns g c = record {
-  printed = λ es deals. (prints_end _ _ c.loop-left.items c.args.reverse c.loop-left.left _ _ _ _ _
-      c.loop-left-test.false (c.loop-left.invariant.1 es deals)).0;
-  left = λ es deals. (prints_end _ _ c.loop-left.items c.args.reverse c.loop-left.left _ _ _ _ _
-      c.loop-left-test.false (c.loop-left.invariant.1 es deals)).1;
+  printed = λ rs deals. (prints_end _ _ (λ _. true) c.loop-left.items c.args.reverse
+      c.loop-left.left _ _ _ _ _ c.loop-left-test.false
+      (c.loop-left.invariant.1 (λ _. true) rs deals)).0;
+  left = λ rs deals. (prints_end _ _ (λ _. true) c.loop-left.items c.args.reverse
+      c.loop-left.left _ _ _ _ _ c.loop-left-test.false
+      (c.loop-left.invariant.1 (λ _. true) rs deals)).1;
   sound = λ es deals. tt;
 }
 
 pub returns-in_err-item-in-Some-clause-sound : goal.returns-in_err-item-in-Some-clause-sound
 returns-in_err-item-in-Some-clause-sound g c = λ es deals.
-    let before = c.loop-left.invariant.1 es deals in
     memory_blames_none c.from_residual.result c.in_err-item-in-Some.field-0.0
     c.from_residual.ensures.1
-    (error_is_memory _ _ c.loop-left.items c.take_item.new.items c.args.reverse c.in-Some.item
-    c.in_err-item-in-Some.field-0.0 before.rest c.in_err-item-in-Some.was before.deals
+    (error_is_memory _ _ c.loop-left.items c.take_item.new.items c.args.reverse c.loop-left.left _ _
+    c.in-Some.item c.in_err-item-in-Some.field-0.0 es _ _ c.loop-left-test.true
+    c.in_err-item-in-Some.was
+    (c.loop-left.invariant.1 is_memory (ok_results es) (deals is_memory refl))
     c.in-Some.ensures.front c.in-Some.ensures.back)

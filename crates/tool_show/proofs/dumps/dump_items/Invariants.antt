@@ -1,20 +1,20 @@
 -- What was printed and what is left to print are together what is to be printed.
-use Rattle.std.proofs.Common.{◌≡◌, List}
-use Rattle.sst_entries.specs.Entry.{Entry}
-use Rattle.sst_entries.specs.Stream.{CanDeal}
-use Rattle.lsm_runs.specs.RunLists.{DealsList}
+use Rattle.std.proofs.Common.{Bool, List}
+use Rattle.sst_entries.specs.Stream.{CanDeal, Deals, answer_stops}
+use Rattle.sst_entries.specs.declared.error.Error.{Error}
 use Rattle.tool_show.proofs.DumpLemmas.{Prints}
-use Rattle.tool_show.specs.Printed.{dumped}
+use Rattle.tool_show.specs.Printed.{R, dumped}
 use Rattle.tool_show.proofs.dumps.dump_items.Given as goal
 
 abbrev pub invariant-loop-left : goal.invariant-loop-left
 invariant-loop-left g l =
     CanDeal g.I.Iterator.next_gives g.I.DoubleEndedIterator.next_back_gives g.I.Iterator.can_next
     g.I.DoubleEndedIterator.can_next_back l.items
-    × ((es : List Entry)
-    → DealsList g.I.Iterator.next_gives g.I.DoubleEndedIterator.next_back_gives es l.fn.items
-    → Prints g.I.Iterator.next_gives g.I.DoubleEndedIterator.next_back_gives l.items l.reverse
-    l.left l.fn.lines.left l.lines.format (dumped l.reverse l.fn.lines.left es)
+    × ((stops : Error → Bool) (rs : List R)
+    → Deals (answer_stops stops) g.I.Iterator.next_gives g.I.DoubleEndedIterator.next_back_gives
+    l.fn.items rs
+    → Prints g.I.Iterator.next_gives g.I.DoubleEndedIterator.next_back_gives stops l.items l.reverse
+    l.left l.fn.lines.left l.lines.format (dumped l.reverse l.fn.lines.left rs)
     (g.W.Write.contents l.fn.output) (g.W.Write.contents l.output))
 
 abbrev pub decreases-loop-left : goal.decreases-loop-left

@@ -1,12 +1,20 @@
+use Rattle.std.proofs.Common.{refl, true}
+use Rattle.tool_show.proofs.DumpLemmas.{deals_to_error, entries_left, entries_printed}
 use Rattle.tool_show.proofs.dumps.dump_range.Goals as goal
+
+pub returns-clause-told : goal.returns-clause-told
+returns-clause-told g c =
+    c.dump_items.ensures.printed _ (deals_to_error _ _ _ _ _ _ c.in_ok-items.ensures.deals)
 
 pub returns-clause-printed : goal.returns-clause-printed
 returns-clause-printed g c = λ es stores.
-    c.dump_items.ensures.printed _ (c.in_ok-items.ensures.list es stores)
+    entries_printed c.dump_items.result c.args.reverse c.args.lines.left _ c.args.lines.format _ _
+    (c.dump_items.ensures.printed _ (c.in_ok-items.ensures.list es stores (λ _. true) refl))
 
 pub returns-clause-left : goal.returns-clause-left
 returns-clause-left g c = λ es stores.
-    c.dump_items.ensures.left _ (c.in_ok-items.ensures.list es stores)
+    entries_left c.dump_items.result c.args.reverse c.args.lines.left _ c.args.lines.left
+    (c.dump_items.ensures.left _ (c.in_ok-items.ensures.list es stores (λ _. true) refl))
 
 pub returns-clause-sound : goal.returns-clause-sound
 returns-clause-sound g c = λ es stores.

@@ -10,3 +10,7 @@ pub returns-clause-left : goal.returns-clause-left
 returns-clause-left g c = λ es stores.
     rw (sym c.in_ok-bounds.ensures.lower, sym c.in_ok-bounds.ensures.upper)
     (c.dump_range.ensures.left es stores)
+
+pub returns-clause-told : goal.returns-clause-told
+returns-clause-told g c =
+    rw (sym c.in_ok-bounds.ensures.lower, sym c.in_ok-bounds.ensures.upper) c.dump_range.ensures.told
