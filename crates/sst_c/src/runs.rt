@@ -214,10 +214,12 @@ fn get(held: &mut Held, key: &[u8], seqno: SeqNo) -> u32
         RunsHoldLists (runs_held held.old.what) lists →
         AnswersRead result held.new.found (Ok (point (union_in lists) key.now seqno)) }
 {
-    held.found = None;
     match &held.what {
         What::Runs(runs) => get_in(runs, key, seqno, &mut held.found),
-        _ => OTHER_KIND,
+        _ => {
+            held.found = None;
+            OTHER_KIND
+        }
     }
 }
 

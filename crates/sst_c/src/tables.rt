@@ -108,6 +108,7 @@ pub extern "C" fn sst_table_open(
 }
 
 /// Keeps what a read found, nothing where it was refused, and answers 0 or the refusal's number.
+#[inline]
 pub(crate) fn keep(
     found: &mut Option<InternalValue>,
     outcome: Result<Option<InternalValue>, Error>,
@@ -141,13 +142,15 @@ fn get(held: &mut Held, key: &[u8], seqno: SeqNo) -> u32
         StoresList t.bytes es →
         AnswersRead result held.new.found (Ok (point (lift es t.global_seqno) key.now seqno)) }
 {
-    held.found = None;
     match &held.what {
         What::Table(table) => {
             let hash = Table::<Global>::key_hash(key);
             keep(&mut held.found, table.get(key, seqno, hash))
         }
-        _ => OTHER_KIND,
+        _ => {
+            held.found = None;
+            OTHER_KIND
+        }
     }
 }
 

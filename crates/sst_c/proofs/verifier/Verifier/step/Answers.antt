@@ -10,8 +10,7 @@ returns c =
     let code = c.tell_answer.result in
     let told = c.tell_answer.new.told in
     let left = c.step-answer.new.self in
-    subst (λ (v : Verifying). TellsStep v code c.progress.result told left) c.self.view_is
-    (
+    subst (λ (v : Verifying). TellsStep v code c.progress.result told left) c.self.view_is (
       c.step-answer.result,
       record {
         table = is.table;
