@@ -104,8 +104,8 @@ uint32_t sst_version(void);
 /* Closes a handle, whatever it holds; one that holds nothing stays as it is. */
 void sst_close(sst_handle *handle);
 
-/* What a read found. A read (`sst_table_get`, `sst_runs_get`, `sst_range_next`) keeps the entry that
- * it found, and the handle keeps it until the next read by it.
+/* What a read found. A read (`sst_table_get`, `sst_runs_get`, `sst_range_next`) keeps the entry
+ * that it found, and the handle keeps it until the next read by it.
  */
 
 /* Copies the key and the value of what the last read by a handle found. SST_NOTHING where nothing
@@ -273,8 +273,8 @@ uint32_t sst_runs_open(sst_handle *runs);
  */
 uint32_t sst_runs_add(sst_handle *runs, sst_handle *table);
 
-/* Finds the newest version of a key that is numbered below `seqno`, a deletion too, in all tables of
- * a list of runs together, and keeps it, as `sst_table_get` does of one.
+/* Finds the newest version of a key that is numbered below `seqno`, a deletion too, in all tables
+ * of a list of runs together, and keeps it, as `sst_table_get` does of one.
  */
 uint32_t sst_runs_get(sst_handle *runs, const uint8_t *key, size_t key_len, uint64_t seqno,
                       sst_entry *entry);

@@ -290,8 +290,8 @@ static void test_kept(const uint8_t *file, size_t len, int n) {
   sst_close(&table);
 }
 
-/* Steps of a verification to its end: as many bytes are told as the table says, and never fewer than
- * before. Answers the last code.
+/* Steps of a verification to its end: as many bytes are told as the table says, and never fewer
+ * than before. Answers the last code.
  */
 static uint32_t verify_by_steps(sst_handle *verification, sst_progress *progress,
                                 sst_verified *verified) {
