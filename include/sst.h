@@ -28,13 +28,13 @@
  *
  * Pointers: none may be NULL, and each is aligned as what it points to. Bytes, and other arrays,
  * are a pointer and how many there are, in this order; where there are none, any such pointer that
- * is not NULL will do. What a call is given is read until it returns, and never kept. What a call
- * writes to may not overlap what else it is given.
+ * is not NULL will do. What a call is given is read until it returns, and never kept, but for the
+ * bytes of `sst_table_open_kept`. What a call writes to may not overlap what else it is given.
  *
  * What each call answers, tells and leaves is proved, by the library's own contracts; docs/C.md has
  * what of it is not. Relied on, and not proved: that pointers are as said above, that a handle's
- * words are written by these calls alone, and that `malloc` aligns to 16 bytes. Where lent pointers
- * point is tested, and not proved.
+ * words are written by these calls alone, that bytes which are kept stay, and that `malloc` aligns
+ * to 16 bytes. Where lent pointers point is tested, and not proved.
  */
 #ifndef SST_H
 #define SST_H
@@ -48,7 +48,7 @@ extern "C" {
 #endif
 
 /* The version of these calls; `sst_version` answers that of the library. */
-#define SST_VERSION 2
+#define SST_VERSION 3
 
 /* What a call answers beside 0 and the library's refusals. */
 enum {
@@ -104,8 +104,8 @@ uint32_t sst_version(void);
 /* Closes a handle, whatever it holds; one that holds nothing stays as it is. */
 void sst_close(sst_handle *handle);
 
-/* What a read found. A read (`sst_table_get`, `sst_runs_get`, `sst_range_next`) keeps the entry that
- * it found, and the handle keeps it until the next read by it.
+/* What a read found. A read (`sst_table_get`, `sst_runs_get`, `sst_range_next`) keeps the entry
+ * that it found, and the handle keeps it until the next read by it.
  */
 
 /* Copies the key and the value of what the last read by a handle found. SST_NOTHING where nothing
@@ -130,6 +130,14 @@ uint32_t sst_found_lend(sst_handle *handle, sst_lent *lent);
  */
 uint32_t sst_table_open(const uint8_t *file, size_t len, uint64_t global_seqno, bool pin_filter,
                         bool pin_index, sst_handle *table);
+
+/* As `sst_table_open`, over the bytes themselves: none is copied. They have to stay where and as
+ * they are until this handle and all that was opened from what it holds are closed: its shares,
+ * ranges, answers and verifications, lists of runs that it was added to, and what was opened from
+ * these. Nobody writes to them meanwhile, another process neither, as to a file that is mapped.
+ */
+uint32_t sst_table_open_kept(const uint8_t *file, size_t len, uint64_t global_seqno,
+                             bool pin_filter, bool pin_index, sst_handle *table);
 
 /* Finds the newest version of a key that is numbered below `seqno`, a deletion too, and keeps it.
  * Where there is none it answers 0, and the kind is SST_NO_ENTRY. Refused with the first fault of
@@ -201,7 +209,7 @@ typedef struct sst_verified {
                        follow, 6 the filter denies a key, 7 a block of the filter does not load,
                        8 a handle names another key, 9 another number, 10 the entries do not bear
                        out an item of the meta block, 11 no handle names a data block; 12,
-                       another checksum of the file, is not told by `sst_table_verify` */
+                       another checksum of the file, is not told by these calls */
   uint32_t detail;  /* of faults 1 and 7 the load's refusal */
   uint32_t unused;
 } sst_verified;
@@ -211,6 +219,32 @@ typedef struct sst_verified {
  * for want of memory too, which says nothing of the table.
  */
 uint32_t sst_table_verify(sst_handle *table, sst_verified *verified);
+
+/* Begins to verify a table by steps, so that progress can be shown and the caller can stop, into a
+ * handle that holds nothing. Nothing is read yet.
+ */
+uint32_t sst_verification_open(sst_handle *table, sst_handle *verification);
+
+/* How far a verification is. */
+typedef struct sst_progress {
+  uint64_t bytes_read; /* of data blocks */
+  uint64_t data_size;  /* how many the table says that there are */
+  uint64_t at_end;     /* 1 where all was read and is sound, else 0 */
+} sst_progress;
+
+/* Reads one further block, of the filter, of the index or a data block, and tells how far it is:
+ *
+ *     sst_progress progress = {0};
+ *     while (progress.at_end == 0 && code == 0) {
+ *       code = sst_verification_step(&verification, &progress, &verified);
+ *     }
+ *
+ * At the end, and where it is refused, it tells and answers what `sst_table_verify` does; nothing
+ * changes then. So a step that was refused for want of memory can be made again, and one that found
+ * something wrong, SST_FAULTY, finds it again.
+ */
+uint32_t sst_verification_step(sst_handle *verification, sst_progress *progress,
+                               sst_verified *verified);
 
 /* Ranges. */
 
@@ -230,17 +264,17 @@ uint32_t sst_range_next(sst_handle *range, bool back, sst_entry *entry);
 
 /* Several tables as one. */
 
-/* Begins a list of runs, each of one table, into a handle that holds nothing. */
+/* Begins a list of runs, with none, into a handle that holds nothing. */
 uint32_t sst_runs_open(sst_handle *runs);
 
-/* Adds a table to a list of runs, behind those that are there: the newest comes first. The list has
- * a share of the table. SST_OUT_OF_ORDER where the table says of itself that its least key is above
- * its greatest, as only damaged bytes do.
+/* Adds a table to a list of runs, as a run of its own behind those that are there: the newest comes
+ * first. The list has a share of the table. SST_OUT_OF_ORDER where the table says of itself that
+ * its least key is above its greatest, as only damaged bytes do.
  */
 uint32_t sst_runs_add(sst_handle *runs, sst_handle *table);
 
-/* Finds the newest version of a key that is numbered below `seqno`, a deletion too, in all tables of
- * a list of runs together, and keeps it, as `sst_table_get` does of one.
+/* Finds the newest version of a key that is numbered below `seqno`, a deletion too, in all tables
+ * of a list of runs together, and keeps it, as `sst_table_get` does of one.
  */
 uint32_t sst_runs_get(sst_handle *runs, const uint8_t *key, size_t key_len, uint64_t seqno,
                       sst_entry *entry);
@@ -253,6 +287,38 @@ uint32_t sst_runs_get(sst_handle *runs, const uint8_t *key, size_t key_len, uint
 uint32_t sst_runs_range_open(sst_handle *runs, uint32_t lower_kind, const uint8_t *lower,
                              size_t lower_len, uint32_t upper_kind, const uint8_t *upper,
                              size_t upper_len, uint64_t seqno, sst_handle *range);
+
+/* Packing: the tables of a list go in as few runs as there can be, so that each key keeps the order
+ * of its tables. Each goes behind the last run that has one which overlaps it, or into the first.
+ */
+
+/* Makes a list of the packed runs, in a handle that holds nothing. It has shares of the tables, and
+ * where each of these stores a list of entries, it has the same entries: reads find the same, over
+ * fewer runs. The first list stays.
+ */
+uint32_t sst_runs_pack(sst_handle *runs, sst_handle *packed);
+
+/* Finds in which runs the tables of a list go, and why there are no fewer, and keeps it in a handle
+ * that holds nothing, for the calls below. A table is named by its place among those of the list,
+ * from 0 on: of a list of packed runs, run by run.
+ */
+uint32_t sst_packing_open(sst_handle *runs, sst_handle *packing);
+
+/* Tells in how many runs they go. */
+uint32_t sst_packing_count(sst_handle *packing, uint64_t *runs);
+
+/* Tells how many tables a run has. SST_NO_SUCH where there is no run at that place. */
+uint32_t sst_packing_run(sst_handle *packing, uint64_t run, uint64_t *tables);
+
+/* Tells which table stands at a place of a run: they stand there by their keys. SST_NO_SUCH where
+ * there is none.
+ */
+uint32_t sst_packing_table(sst_handle *packing, uint64_t run, uint64_t place, uint64_t *table);
+
+/* Tells which table stands at a place of a chain. SST_NO_SUCH where there is none: it has as many
+ * as there are runs. Each overlaps the next, which is an older one, so no fewer runs can do.
+ */
+uint32_t sst_packing_chain(sst_handle *packing, uint64_t place, uint64_t *table);
 
 /* Writing a table. */
 

@@ -249,6 +249,220 @@ static bool is_next(sst_handle *range, bool back, const char *key, const char *v
          has_found(range, &entry, key, value);
 }
 
+/* A table over bytes that the caller keeps: what was opened from it reads them too, once it is
+ * closed. What is lent of a value that lies whole in the bytes lies there.
+ */
+static void test_kept(const uint8_t *file, size_t len, int n) {
+  sst_handle table = {0}, copied = {0}, other = {0}, runs = {0}, range = {0}, answers = {0};
+  sst_entry entry;
+  sst_lent lent;
+  uint64_t key_len = 9;
+  uint32_t fault = sst_table_open(file, len - 1, 0, true, true, &table);
+  CHECK(sst_table_open_kept(file, len - 1, 0, true, true, &table) == fault && fault != 0);
+  CHECK(sst_table_open_kept(file, len, 0, true, true, &table) == 0);
+  CHECK(sst_table_open_kept(file, len, 0, true, true, &table) == SST_OPEN);
+  CHECK(sst_table_open(file, len, 0, true, true, &copied) == 0);
+  test_gets(&table, n);
+  CHECK(sst_table_get(&table, bytes("key000001"), 9, SST_NEWEST, &entry) == 0);
+  CHECK(sst_found_lend(&table, &lent) == 0);
+  CHECK(lent.value >= file && lent.value + lent.value_len <= file + len);
+  CHECK(sst_table_get(&copied, bytes("key000001"), 9, SST_NEWEST, &entry) == 0);
+  CHECK(sst_found_lend(&copied, &lent) == 0 && (lent.value < file || lent.value >= file + len));
+  sst_close(&copied);
+  CHECK(sst_table_share(&table, &other) == 0);
+  CHECK(sst_runs_open(&runs) == 0 && sst_runs_add(&runs, &table) == 0);
+  CHECK(sst_range_open(&table, 0, file, 0, 0, file, 0, &range) == 0);
+  CHECK(sst_table_get_many(&table, bytes("key000001"), 9, &key_len, 1, 9, &entry, 1, &answers) ==
+        0);
+  sst_close(&table);
+  CHECK(sst_table_get(&other, bytes("key000001"), 9, SST_NEWEST, &entry) == 0);
+  CHECK(has_found(&other, &entry, "key000001", "value 2 of 1"));
+  CHECK(sst_runs_get(&runs, bytes("key000002"), 9, SST_NEWEST, &entry) == 0);
+  CHECK(has_found(&runs, &entry, "key000002", "value 2 of 2"));
+  sst_close(&other);
+  sst_close(&runs);
+  CHECK(sst_range_next(&range, false, &entry) == 0 && has_found(&range, &entry, "key000000", ""));
+  sst_close(&range);
+  CHECK(sst_answers_lend(&answers, 0, &lent) == 0 && lent.value_len == 12);
+  CHECK(memcmp(lent.value, "value 2 of 1", 12) == 0);
+  sst_close(&answers);
+  CHECK(sst_table_open_kept(file, len, UINT64_MAX, true, true, &table) == 20);
+  sst_close(&table);
+}
+
+/* Steps of a verification to its end: as many bytes are told as the table says, and never fewer
+ * than before. Answers the last code.
+ */
+static uint32_t verify_by_steps(sst_handle *verification, sst_progress *progress,
+                                sst_verified *verified) {
+  uint64_t before = 0;
+  uint32_t code = 0;
+  progress->at_end = 0;
+  while (code == 0 && progress->at_end == 0) {
+    memset(verified, 7, sizeof *verified);
+    code = sst_verification_step(verification, progress, verified);
+    CHECK(progress->bytes_read >= before && progress->bytes_read <= progress->data_size);
+    CHECK(code != 0 || progress->at_end == 1 || verified->item_count == 0);
+    before = progress->bytes_read;
+  }
+  return code;
+}
+
+static void test_verification(const uint8_t *file, size_t len, uint64_t items) {
+  sst_handle table = {0}, steps = {0}, closed = {0};
+  sst_progress progress = {7, 7, 7};
+  sst_verified verified, again, at_once;
+  sst_facts facts;
+  sst_entry entry;
+  sst_lent lent;
+  CHECK(sst_verification_open(&closed, &steps) == SST_CLOSED);
+  CHECK(sst_verification_step(&steps, &progress, &verified) == SST_CLOSED);
+  CHECK(progress.bytes_read == 0 && progress.at_end == 0 && verified.item_count == 0);
+  CHECK(sst_table_open_kept(file, len, 0, true, true, &table) == 0);
+  CHECK(sst_verification_open(&table, &table) == SST_OPEN);
+  progress.at_end = 7;
+  CHECK(sst_verification_step(&table, &progress, &verified) == SST_OTHER_KIND);
+  CHECK(progress.at_end == 0);
+  CHECK(sst_verification_open(&table, &steps) == 0);
+  CHECK(sst_verification_open(&table, &steps) == SST_OPEN);
+  CHECK(sst_verification_open(&steps, &closed) == SST_OTHER_KIND);
+  CHECK(sst_table_get(&steps, file, 0, 1, &entry) == SST_OTHER_KIND);
+  CHECK(sst_range_next(&steps, false, &entry) == SST_OTHER_KIND);
+  CHECK(sst_found_lend(&steps, &lent) == SST_NOTHING);
+  CHECK(sst_table_facts(&table, &facts) == 0);
+  CHECK(sst_table_verify(&table, &at_once) == 0);
+  sst_close(&table); /* the verification has a share */
+  CHECK(sst_verification_step(&steps, &progress, &verified) == 0);
+  CHECK(progress.bytes_read == 0 && progress.data_size == facts.data_size);
+  CHECK(verify_by_steps(&steps, &progress, &verified) == 0);
+  CHECK(progress.bytes_read == facts.data_size && verified.item_count == items);
+  CHECK(memcmp(&verified, &at_once, sizeof verified) == 0);
+  CHECK(sst_verification_step(&steps, &progress, &again) == 0 && progress.at_end == 1);
+  CHECK(memcmp(&verified, &again, sizeof verified) == 0);
+  sst_close(&steps);
+  CHECK(sst_verification_step(&steps, &progress, &verified) == SST_CLOSED);
+}
+
+/* By steps the same is found as at once, and again by a further step. */
+static void verify_damaged(sst_handle *table, uint32_t code, const sst_verified *at_once) {
+  sst_handle steps = {0};
+  sst_progress progress;
+  sst_verified verified;
+  CHECK(sst_verification_open(table, &steps) == 0);
+  CHECK(verify_by_steps(&steps, &progress, &verified) == code);
+  CHECK(memcmp(&verified, at_once, sizeof verified) == 0);
+  CHECK(sst_verification_step(&steps, &progress, &verified) == code);
+  CHECK(memcmp(&verified, at_once, sizeof verified) == 0 && progress.at_end == (code == 0));
+  sst_close(&steps);
+}
+
+/* A table of one entry for each of some keys of one letter. */
+static void open_letters(const sst_options *options, const char *letters, uint64_t seqno,
+                         sst_handle *table) {
+  sst_handle writer = {0};
+  size_t len;
+  CHECK(sst_writer_open(options, &writer) == 0);
+  for (; *letters; letters++) {
+    CHECK(sst_writer_add(&writer, bytes(letters), 1, seqno, SST_VALUE, bytes(letters), 1) == 0);
+  }
+  CHECK(sst_writer_finish(&writer) == 0);
+  uint8_t *file = file_of(&writer, SIZE_MAX, &len);
+  CHECK(sst_table_open(file, len, 0, true, true, table) == 0);
+  free(file);
+  sst_close(&writer);
+}
+
+/* Whether a packed run has these tables, in this order. */
+static bool has_tables(sst_handle *packing, uint64_t run, const uint64_t *tables, uint64_t count) {
+  uint64_t told = 7, table = 7;
+  if (sst_packing_run(packing, run, &told) != 0 || told != count) return false;
+  for (uint64_t place = 0; place < count; place++) {
+    if (sst_packing_table(packing, run, place, &table) != 0 || table != tables[place]) return false;
+  }
+  return sst_packing_table(packing, run, count, &table) == SST_NO_SUCH;
+}
+
+/* Both lists find the same: each letter at each number, and all of them from both ends. */
+static void compare_runs(sst_handle *runs, sst_handle *packed) {
+  sst_handle one = {0}, other = {0};
+  sst_entry entry, same;
+  for (char key = 'a'; key <= 'z'; key++) {
+    for (uint64_t seqno = 0; seqno < 9; seqno++) {
+      CHECK(sst_runs_get(runs, (const uint8_t *)&key, 1, seqno, &entry) == 0);
+      CHECK(sst_runs_get(packed, (const uint8_t *)&key, 1, seqno, &same) == 0);
+      CHECK(memcmp(&entry, &same, sizeof entry) == 0);
+    }
+  }
+  CHECK(sst_runs_range_open(runs, 0, bytes(""), 0, 0, bytes(""), 0, SST_NEWEST, &one) == 0);
+  CHECK(sst_runs_range_open(packed, 0, bytes(""), 0, 0, bytes(""), 0, SST_NEWEST, &other) == 0);
+  for (int i = 0; i == 0 || entry.kind != 0; i++) {
+    CHECK(sst_range_next(&one, i % 3 == 1, &entry) == 0);
+    CHECK(sst_range_next(&other, i % 3 == 1, &same) == 0);
+    CHECK(memcmp(&entry, &same, sizeof entry) == 0);
+  }
+  sst_close(&one);
+  sst_close(&other);
+}
+
+/* Of five tables two pairs lie apart: `c..e` and `x..z` behind them, `a` beside `c..e`. */
+static void test_packing(const sst_options *options) {
+  const char *letters[] = {"cde", "a", "d", "xyz", "abcd"};
+  const uint64_t first[] = {1, 0, 3}, second[] = {2}, third[] = {4};
+  sst_handle runs = {0}, packing = {0}, packed = {0}, again = {0}, table = {0};
+  sst_entry entry;
+  uint64_t count = 7, told = 7;
+  CHECK(sst_packing_open(&runs, &packing) == SST_CLOSED);
+  CHECK(sst_runs_pack(&runs, &packed) == SST_CLOSED);
+  CHECK(sst_runs_open(&runs) == 0);
+  CHECK(sst_packing_open(&runs, &packing) == 0);
+  CHECK(sst_packing_count(&packing, &count) == 0 && count == 0);
+  CHECK(sst_packing_chain(&packing, 0, &told) == SST_NO_SUCH && told == 7);
+  CHECK(sst_packing_open(&runs, &packing) == SST_OPEN);
+  sst_close(&packing);
+  for (int i = 0; i < 5; i++) {
+    open_letters(options, letters[i], 7 - i, &table);
+    CHECK(sst_runs_add(&runs, &table) == 0);
+    CHECK(sst_packing_open(&table, &packing) == SST_OTHER_KIND);
+    CHECK(sst_runs_pack(&table, &packed) == SST_OTHER_KIND);
+    CHECK(sst_packing_count(&table, &count) == SST_OTHER_KIND);
+    CHECK(sst_packing_run(&table, 0, &count) == SST_OTHER_KIND);
+    CHECK(sst_packing_table(&table, 0, 0, &count) == SST_OTHER_KIND);
+    CHECK(sst_packing_chain(&table, 0, &count) == SST_OTHER_KIND && count == 0);
+    sst_close(&table);
+  }
+  CHECK(sst_packing_open(&runs, &packing) == 0);
+  CHECK(sst_packing_count(&packing, &count) == 0 && count == 3);
+  CHECK(has_tables(&packing, 0, first, 3) && has_tables(&packing, 1, second, 1));
+  CHECK(has_tables(&packing, 2, third, 1));
+  CHECK(sst_packing_run(&packing, 3, &told) == SST_NO_SUCH);
+  CHECK(sst_packing_run(&packing, UINT64_MAX, &told) == SST_NO_SUCH);
+  CHECK(sst_packing_table(&packing, 3, 0, &told) == SST_NO_SUCH && told == 7);
+  CHECK(sst_packing_chain(&packing, 0, &told) == 0 && told == 0);
+  CHECK(sst_packing_chain(&packing, 1, &told) == 0 && told == 2);
+  CHECK(sst_packing_chain(&packing, 2, &told) == 0 && told == 4);
+  CHECK(sst_packing_chain(&packing, 3, &told) == SST_NO_SUCH);
+  CHECK(sst_runs_pack(&runs, &packing) == SST_OPEN);
+  CHECK(sst_runs_pack(&runs, &packed) == 0);
+  compare_runs(&runs, &packed);
+  sst_close(&runs);
+  sst_close(&packing);
+  CHECK(sst_packing_count(&packing, &count) == SST_CLOSED);
+  CHECK(sst_packing_run(&packing, 0, &count) == SST_CLOSED);
+  CHECK(sst_packing_table(&packing, 0, 0, &count) == SST_CLOSED);
+  CHECK(sst_packing_chain(&packing, 0, &count) == SST_CLOSED);
+  /* packed runs are packed as they are, and take a table more */
+  CHECK(sst_runs_pack(&packed, &again) == 0 && sst_packing_open(&packed, &packing) == 0);
+  CHECK(sst_packing_count(&packing, &count) == 0 && count == 3);
+  compare_runs(&packed, &again);
+  open_letters(options, "m", 1, &table);
+  CHECK(sst_runs_add(&packed, &table) == 0);
+  CHECK(sst_runs_get(&packed, bytes("m"), 1, SST_NEWEST, &entry) == 0 && entry.seqno == 1);
+  sst_close(&table);
+  sst_close(&again);
+  sst_close(&packing);
+  sst_close(&packed);
+}
+
 /* A list of two runs, as one range and as what it is compacted to. */
 static void test_merged(sst_handle *runs, const sst_options *options) {
   sst_handle range = {0}, files = {0}, table = {0}, closed = {0};
@@ -440,6 +654,7 @@ static void test_damage(const uint8_t *file, size_t len, uint64_t items) {
     uint32_t code = sst_table_verify(&table, &verified);
     CHECK(code == SST_FAULTY || (code == 0 && verified.item_count == items));
     CHECK(code == 0 || (verified.fault >= 1 && verified.section >= 1 && verified.section <= 7));
+    verify_damaged(&table, code, &verified);
     CHECK(sst_range_open(&table, 0, file, 0, 0, file, 0, &range) == 0);
     while ((code = sst_range_next(&range, i % 2 == 1, &entry)) == 0 && entry.kind != 0) {
     }
@@ -472,10 +687,13 @@ static void test_table(const sst_options *options, int n, size_t piece, bool pin
   test_gets(&table, n);
   test_rooms(&table);
   test_bounds(&table);
+  test_verification(file, len, 2 * n + (n + 6) / 7);
   if (n < 10) {
     test_misuse(options, file, len);
     test_shares(file, len);
+    test_kept(file, len, n);
     test_many(file, len);
+    test_packing(options);
     test_runs(options, file, len);
     test_out_of_order(options, file, len);
     test_damage(file, len, 2 * n + (n + 6) / 7);

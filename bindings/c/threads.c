@@ -65,25 +65,34 @@ static void *read_all(void *handle) {
   return (void *)wrong;
 }
 
-int main(void) {
-  size_t len, wrong = 0;
-  sst_handle table = {0}, shares[THREADS] = {{{0}}};
+/* Has the threads read shares of a table at once, which is closed while they read. */
+static int read_at_once(sst_handle *table, size_t *wrong) {
+  sst_handle shares[THREADS] = {{{0}}};
   pthread_t threads[THREADS];
-  uint8_t *file = write_table(&len);
-  if (file == NULL || sst_table_open(file, len, 0, false, false, &table) != 0) return 1;
-  free(file);
   for (int i = 0; i < THREADS; i++) {
-    if (sst_table_share(&table, &shares[i]) != 0) return 1;
+    if (sst_table_share(table, &shares[i]) != 0) return 1;
   }
   for (int i = 0; i < THREADS; i++) {
     if (pthread_create(&threads[i], NULL, read_all, &shares[i]) != 0) return 1;
   }
-  sst_close(&table); /* while they read */
+  sst_close(table);
   for (int i = 0; i < THREADS; i++) {
     void *result;
     if (pthread_join(threads[i], &result) != 0) return 1;
-    wrong += (size_t)result;
+    *wrong += (size_t)result;
   }
+  return 0;
+}
+
+int main(void) {
+  size_t len, wrong = 0;
+  sst_handle table = {0}, kept = {0};
+  uint8_t *file = write_table(&len);
+  if (file == NULL || sst_table_open(file, len, 0, false, false, &table) != 0) return 1;
+  if (read_at_once(&table, &wrong) != 0) return 1;
+  if (sst_table_open_kept(file, len, 0, false, false, &kept) != 0) return 1;
+  if (read_at_once(&kept, &wrong) != 0) return 1;
+  free(file); /* all that read it is closed */
   printf(wrong == 0 ? "all as it should be\n" : "threads read wrongly\n");
   return wrong > 0;
 }

@@ -48,6 +48,12 @@ class VerifiedTold(Structure):
                 ("unused", c_uint32)]
 
 
+class Progress(Structure):
+    """How far a verification is."""
+
+    _fields_ = [(name, c_uint64) for name in ("bytes_read", "data_size", "at_end")]
+
+
 class Options(Structure):
     """What a table is written with."""
 
@@ -89,7 +95,7 @@ _array = (c_void_p, c_size_t)
 _bounds = (c_uint32, *_bytes, c_uint32, *_bytes)
 
 #: The version of the calls that are declared below.
-VERSION = 2
+VERSION = 3
 
 version = _call("sst_version")
 if version() != VERSION:
@@ -98,11 +104,15 @@ close = _call("sst_close", _handle, answers=None)
 strerror_copy = _call("sst_strerror_copy", c_uint32, *_array, answers=c_uint64)
 found_lend = _call("sst_found_lend", _handle, _lent)
 table_open = _call("sst_table_open", *_bytes, c_uint64, c_bool, c_bool, _handle)
+table_open_kept = _call("sst_table_open_kept", *_bytes, c_uint64, c_bool, c_bool, _handle)
 table_get = _call("sst_table_get", _handle, *_bytes, c_uint64, _told)
 table_get_many = _call("sst_table_get_many", _handle, *_bytes, *_array, c_uint64, *_array, _handle)
 table_facts = _call("sst_table_facts", _handle, POINTER(FactsTold))
 table_share = _call("sst_table_share", _handle, _handle)
 table_verify = _call("sst_table_verify", _handle, POINTER(VerifiedTold))
+verification_open = _call("sst_verification_open", _handle, _handle)
+verification_step = _call("sst_verification_step", _handle, POINTER(Progress),
+                          POINTER(VerifiedTold))
 answers_lend = _call("sst_answers_lend", _handle, c_uint64, POINTER(Lent))
 range_open = _call("sst_range_open", _handle, *_bounds, _handle)
 range_next = _call("sst_range_next", _handle, c_bool, _told)
@@ -110,6 +120,12 @@ runs_open = _call("sst_runs_open", _handle)
 runs_add = _call("sst_runs_add", _handle, _handle)
 runs_get = _call("sst_runs_get", _handle, *_bytes, c_uint64, _told)
 runs_range_open = _call("sst_runs_range_open", _handle, *_bounds, c_uint64, _handle)
+runs_pack = _call("sst_runs_pack", _handle, _handle)
+packing_open = _call("sst_packing_open", _handle, _handle)
+packing_count = _call("sst_packing_count", _handle, POINTER(c_uint64))
+packing_run = _call("sst_packing_run", _handle, c_uint64, POINTER(c_uint64))
+packing_table = _call("sst_packing_table", _handle, c_uint64, c_uint64, POINTER(c_uint64))
+packing_chain = _call("sst_packing_chain", _handle, c_uint64, POINTER(c_uint64))
 options_default = _call("sst_options_default", POINTER(Options), answers=None)
 writer_open = _call("sst_writer_open", POINTER(Options), _handle)
 writer_add = _call("sst_writer_add", _handle, *_bytes, c_uint64, c_uint32, *_bytes)
@@ -166,6 +182,17 @@ class Lending:
     def __exit__(self, *_):
         if self._buffer is not None:
             _release_buffer(byref(self._buffer))
+
+
+def kept(source):
+    """A view of bytes, which stay for as long as it is named. Refused with `BufferError` where they
+    lie apart or may be written to, as far as what has them says so."""
+    view = memoryview(source)
+    if not view.c_contiguous:
+        raise BufferError("bytes that are kept have to lie in one piece")
+    if not view.readonly or view.obj is not None and not memoryview(view.obj).readonly:
+        raise BufferError("bytes that are kept have to be read-only")
+    return view
 
 
 def filled(length, fill):

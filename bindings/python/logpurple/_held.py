@@ -2,7 +2,7 @@
 
 import operator
 import threading
-from typing import Any, Optional
+from typing import Any, Optional, Tuple
 
 from . import _calls
 from ._calls import addressof, copied
@@ -59,6 +59,8 @@ class Held:
         self._turn = _Turn()
         self._handle = _calls.Handle()
         self._ref = addressof(self._handle)
+        # What the library reads without a copy of its own: it stays until the handle is closed.
+        self._kept: Tuple[memoryview, ...] = ()
         # What a read tells and lends, used within a turn alone.
         self._told, self._lent = _calls.EntryTold(), _calls.Lent()
         self._told_ref, self._lent_ref = addressof(self._told), addressof(self._lent)
@@ -66,7 +68,7 @@ class Held:
     def close(self) -> None:
         """Lets go what is held. It may be closed twice."""
         with self._turn:
-            _calls.close(self._ref)
+            self._let_go()
 
     def __enter__(self):
         return self
@@ -77,7 +79,12 @@ class Held:
     def __del__(self) -> None:
         # Nothing else names it, so nothing is at work on it, but in a process that was forked.
         if hasattr(self, "_lent_ref") and _calls is not None and self._turn.is_free():
-            _calls.close(self._ref)
+            self._let_go()
+
+    # Closes the handle, within a turn or where nothing else names it. What is kept goes behind it.
+    def _let_go(self) -> None:
+        _calls.close(self._ref)
+        self._kept = ()
 
     def __copy__(self):
         raise TypeError(f"a {type(self).__name__} is not copied")

@@ -2,13 +2,13 @@
 
 import array
 import os
-from typing import Iterable, Iterator, List, Optional, Tuple, Type, TypeVar, Union
+from typing import Callable, Iterable, Iterator, List, Optional, Tuple, Type, TypeVar, Union
 
 from . import _calls
 from ._calls import byref, copied
 from ._errors import Closed, Faulty, of, test
 from ._held import Held, entry_of, number, plain
-from ._told import (NEWEST, Entry, Facts, Fault, Finding, Kind, Section, Verified)
+from ._told import NEWEST, Entry, Facts, Fault, Finding, Kind, Packing, Section, Verified
 
 #: What has bytes.
 BytesLike = Union[bytes, bytearray, memoryview]
@@ -52,7 +52,7 @@ class Entries(Held):
             test(code)
             found = self._found()
             if found is None:
-                _calls.close(self._ref)
+                self._let_go()
             else:
                 self._is_over = False
             return found
@@ -165,25 +165,42 @@ class Table(_Read):
 
     @classmethod
     def open(cls: Type[_SomeTable], source: Union[BytesLike, str, "os.PathLike[str]"],
-             global_seqno: int = 0, pin_filter: bool = True, pin_index: bool = True) -> _SomeTable:
+             global_seqno: int = 0, pin_filter: bool = True, pin_index: bool = True,
+             kept: bool = False) -> _SomeTable:
         """Opens a table from a copy of its bytes, or the file at a path. `global_seqno` is added to
         every stored number. A filter and an index in one block stay loaded where they are pinned,
         else each read loads them.
 
+        With `kept` the bytes are not copied: the table, and what is opened from it, name them until
+        they are closed. They have to be read-only and to lie in one piece, as `bytes` or a map of a
+        file with `ACCESS_READ`, else this is refused with `BufferError`. Nobody may write to them
+        meanwhile, as to a mapped file.
+
         >>> writer = Writer()
         >>> writer.add(b"a", b"1", seqno=2)
-        >>> table = Table.open(bytearray(writer.finish()), global_seqno=10)
+        >>> file = writer.finish()
+        >>> table = Table.open(bytearray(file), global_seqno=10)
         >>> table.entry(b"a").seqno
         12
+        >>> Table.open(file, kept=True)[b"a"]
+        b'1'
+        >>> Table.open(bytearray(file), kept=True)
+        Traceback (most recent call last):
+        ..
+        BufferError: bytes that are kept have to be read-only
         """
-        global_seqno = number(global_seqno)
+        global_seqno, call = number(global_seqno), _calls.table_open
         if isinstance(source, (str, os.PathLike)):
+            # Nobody else names what is read here, so it needs no copy.
+            kept = True
             with open(source, "rb") as file:
                 source = file.read()
         table = cls()
+        if kept:
+            source, call = _calls.kept(source), _calls.table_open_kept
+            table._kept = (source,)
         with _calls.Lending(source) as (at, length):
-            test(_calls.table_open(at, length, global_seqno, bool(pin_filter), bool(pin_index),
-                                   table._ref))
+            test(call(at, length, global_seqno, bool(pin_filter), bool(pin_index), table._ref))
         return table
 
     def share(self: _SomeTable) -> _SomeTable:
@@ -201,6 +218,7 @@ class Table(_Read):
         """
         other = type(self)()
         with self._turn:
+            other._kept = self._kept
             test(_calls.table_share(self._ref, other._ref))
         return other
 
@@ -257,6 +275,7 @@ class Table(_Read):
         told = array.array("Q", bytes(32 * len(each)))
         answers = Held()
         with self._turn:
+            answers._kept = self._kept
             test(_calls.table_get_many(self._ref, joined, len(joined), lengths.buffer_info()[0],
                                        len(each), at, (told or _NUMBER).buffer_info()[0],
                                        len(each), answers._ref))
@@ -279,6 +298,7 @@ class Table(_Read):
         """
         bounds, entries = _bounds(lower, upper), Entries(reverse)
         with self._turn:
+            entries._kept = self._kept
             test(_calls.range_open(self._ref, *bounds, entries._ref))
         return entries
 
@@ -311,32 +331,57 @@ class Table(_Read):
             test(_calls.table_facts(self._ref, byref(told)))
         return Facts(*(getattr(told, name) for name in Facts._fields))
 
-    def verify(self) -> Verified:
+    def verify(self, progress: Optional[Callable[[int, int], object]] = None) -> Verified:
         """Reads all of the table, and raises `Faulty` where its bytes store no list of entries in
         order, whoever wrote them; its `finding` says what is wrong first, and where.
+
+        `progress` is called behind each block that is read, with how many bytes of data blocks were
+        read of how many; what it raises ends this. It may use the table meanwhile.
 
         >>> writer = Writer()
         >>> writer.add(b"a", b"1")
         >>> file = bytearray(writer.finish())
         >>> Table.open(file).verify().item_count
         1
+        >>> told = []
+        >>> Table.open(file).verify(lambda read, size: told.append(read == size)).item_count
+        1
+        >>> told
+        [False, False, True]
         """
+        if progress is not None:
+            return self._verify_by_steps(progress)
         told = _calls.VerifiedTold()
-        try:
-            with self._turn:
-                test(_calls.table_verify(self._ref, byref(told)))
-        except Faulty as faulty:
-            faulty.finding = _finding_of(told)
-            raise faulty from (of(told.detail) if told.detail else None)
-        return Verified(told.item_count, told.data_block_count)
+        with self._turn:
+            code = _calls.table_verify(self._ref, byref(told))
+        return _verified_of(code, told)
+
+    def _verify_by_steps(self, progress: Callable[[int, int], object]) -> Verified:
+        steps, how_far, told = Held(), _calls.Progress(), _calls.VerifiedTold()
+        with self._turn:
+            steps._kept = self._kept
+            test(_calls.verification_open(self._ref, steps._ref))
+        with steps:
+            while True:
+                with steps._turn:
+                    code = _calls.verification_step(steps._ref, byref(how_far), byref(told))
+                if code or how_far.at_end:
+                    return _verified_of(code, told)
+                progress(how_far.bytes_read, how_far.data_size)
 
 
 # Where nothing is to lie: a pointer is never NULL.
 _NUMBER = array.array("Q", [0])
 
 
-def _finding_of(told: _calls.VerifiedTold) -> Finding:
-    return Finding(Section(told.section), told.offset, Fault(told.fault), told.detail)
+# What a verification told; where it was refused this raises, with what was found.
+def _verified_of(code: int, told: _calls.VerifiedTold) -> Verified:
+    if code == Faulty.code:
+        faulty = Faulty()
+        faulty.finding = Finding(Section(told.section), told.offset, Fault(told.fault), told.detail)
+        raise faulty from (of(told.detail) if told.detail else None)
+    test(code)
+    return Verified(told.item_count, told.data_block_count)
 
 
 class Runs(_Read):
@@ -373,6 +418,7 @@ class Runs(_Read):
         _require_table(table)
         with self._turn, table._turn:
             test(_calls.runs_add(self._ref, table._ref))
+            self._kept += table._kept
 
     def entries(self, lower: Optional[BytesLike] = None, upper: Optional[BytesLike] = None,
                 reverse: bool = False, at: int = NEWEST) -> Entries:
@@ -390,6 +436,7 @@ class Runs(_Read):
         """
         bounds, at, entries = _bounds(lower, upper), number(at), Entries(reverse)
         with self._turn:
+            entries._kept = self._kept
             test(_calls.runs_range_open(self._ref, *bounds, at, entries._ref))
         return entries
 
@@ -407,6 +454,60 @@ class Runs(_Read):
         ([(b'b', b'more')], [(b'b', b'more'), (b'a', b'old')])
         """
         return _shown(self.entries(lower, upper, reverse, at), NEWEST, reverse)
+
+
+    def packed(self) -> "Runs":
+        """The same tables in as few runs as there can be, so that each key keeps the order of its
+        tables: reads find the same, over fewer runs. These stay.
+
+        >>> runs = Runs()
+        >>> for key in (b"a", b"b"):
+        ...     writer = Writer()
+        ...     writer.add(key, b"1")
+        ...     runs.add(Table.open(writer.finish()))
+        >>> list(runs.packed().range())
+        [(b'a', b'1'), (b'b', b'1')]
+        """
+        packed = type(self).__new__(type(self))
+        Held.__init__(packed)
+        with self._turn:
+            packed._kept = self._kept
+            test(_calls.runs_pack(self._ref, packed._ref))
+        return packed
+
+    def packing(self) -> Packing:
+        """In which runs the tables go where these are as few as there can be, and why there are no
+        fewer.
+
+        >>> runs = Runs()
+        >>> for keys in (b"ac", b"d", b"b"):
+        ...     writer = Writer()
+        ...     for key in keys:
+        ...         writer.add(bytes([key]), b"")
+        ...     runs.add(Table.open(writer.finish()))
+        >>> runs.packing()
+        Packing(runs=[[0, 1], [2]], chain=[0, 2])
+        """
+        with Held() as packing:
+            with self._turn:
+                test(_calls.packing_open(self._ref, packing._ref))
+            count = _calls.c_uint64()
+            test(_calls.packing_count(packing._ref, byref(count)))
+            return Packing([_run_of(packing, run) for run in range(count.value)],
+                           [_told(_calls.packing_chain, packing, place)
+                            for place in range(count.value)])
+
+
+# A number that a call tells of a place.
+def _told(call: Callable[..., int], packing: Held, *place: int) -> int:
+    told = _calls.c_uint64()
+    test(call(packing._ref, *place, byref(told)))
+    return told.value
+
+
+def _run_of(packing: Held, run: int) -> List[int]:
+    return [_told(_calls.packing_table, packing, run, place)
+            for place in range(_told(_calls.packing_run, packing, run))]
 
 
 def listed(tables: Iterable[Table]) -> List[Table]:

@@ -1,7 +1,7 @@
 """What is told: of entries, of tables, and of what is wrong with one."""
 
 import enum
-from typing import NamedTuple
+from typing import List, NamedTuple
 
 #: A number above that of every entry: a read at it finds the newest version.
 NEWEST = 2**64 - 1
@@ -55,6 +55,15 @@ class Facts(NamedTuple):
     index_block_count: int
     #: How many bytes the data blocks have.
     data_size: int
+
+
+class Packing(NamedTuple):
+    """How tables are packed. Each is named by its place among them, from 0 on."""
+
+    #: The tables of each run, in the order of their keys.
+    runs: List[List[int]]
+    #: Tables each of which overlaps the next, an older one: as many as there are runs.
+    chain: List[int]
 
 
 class Verified(NamedTuple):

@@ -62,8 +62,57 @@ class Several(unittest.TestCase):
             with self.assertRaises(logpurple.Closed):
                 closed()
 
+    def test_packed(self):
+        packed = self.runs.packed()
+        self.assertIsInstance(packed, Runs)
+        for table in self.tables:
+            table.close()
+        self.runs.close()
+        for at in (0, 5, 20, NEWEST):
+            self.assertEqual(list(packed.entries(at=at)), seen(self.all, at))
+            self.assertEqual(list(packed.entries(at=at, reverse=True)), seen(self.all, at)[::-1])
+            for key in keys_of(self.all):
+                self.assertEqual(packed.entry(key, at), newest(self.all, key, at))
+        with self.assertRaises(logpurple.Closed):
+            self.runs.packed()
+        with self.assertRaises(logpurple.Closed):
+            self.runs.packing()
+
+    def test_packing(self):
+        dice = random.Random(4)
+        for count in range(9):
+            spans = [sorted(dice.choices(range(12), k=2)) for _ in range(count)]
+            runs = Runs()
+            for number, span in enumerate(spans):
+                keys = sorted({b"%02d" % key for key in span})
+                runs.add(table_of([Entry(key, count - number, Kind.VALUE, b"%d" % number)
+                                   for key in keys]))
+            packing, packed = runs.packing(), runs.packed()
+            self.check_packing(packing, spans)
+            self.assertEqual(list(packed.entries()), list(runs.entries()))
+            # Packed once more nothing changes but the numbers, which go run by run.
+            again, first = packed.packing(), itertools.count()
+            self.assertEqual(again.runs, [[next(first) for _ in run] for run in packing.runs])
+
+    def check_packing(self, packing, spans):
+        run_of = {table: at for at, run in enumerate(packing.runs) for table in run}
+        self.assertEqual(sorted(run_of), list(range(len(spans))))
+        for run in packing.runs:
+            for one, next_one in zip(run, run[1:]):
+                self.assertLess(spans[one][1], spans[next_one][0])
+        for newer, older in itertools.combinations(range(len(spans)), 2):
+            if spans[newer][0] <= spans[older][1] and spans[older][0] <= spans[newer][1]:
+                self.assertLess(run_of[newer], run_of[older])
+        self.assertEqual(len(packing.chain), len(packing.runs))
+        for newer, older in zip(packing.chain, packing.chain[1:]):
+            self.assertLess(newer, older)
+            self.assertLessEqual(spans[newer][0], spans[older][1])
+            self.assertLessEqual(spans[older][0], spans[newer][1])
+
     def test_none(self):
         with Runs() as runs:
+            self.assertEqual((runs.packing().runs, runs.packing().chain), ([], []))
+            self.assertEqual(list(runs.packed().entries()), [])
             self.assertEqual((list(runs.entries()), runs.get(b"a")), ([], None))
             self.assertEqual(compact(runs), [])
         self.assertEqual(compact([]), [])

@@ -143,4 +143,4 @@ pub memory_tells : (told : Option Error) → FaultTold 1 told
 unfolding FaultTold
 memory_tells told = inl refl
 
-pub ruleset faults = (fault_tells, no_fault_tells, not_zero)
+pub ruleset tell = (fault_tells, no_fault_tells, not_zero)

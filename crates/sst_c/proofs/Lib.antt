@@ -2,10 +2,12 @@ pub mod Values
 pub mod Answering
 pub mod Verifying
 pub mod Behind
-pub mod LoneRuns
+pub mod RunOrder
 pub mod Asking
 pub mod ManyAnswers
 pub mod ManyFound
 pub mod FirstFindings
 pub mod Compacting
 pub mod MergedLists
+pub mod Alone
+pub mod Shared

@@ -2,7 +2,6 @@ pub mod Owned
 pub mod Codes
 pub mod Copies
 pub mod Told
-pub mod Runs
 pub mod What
 pub mod Options
 pub mod Writing
@@ -11,5 +10,7 @@ pub mod Facts
 pub mod Many
 pub mod Files
 pub mod Verify
+pub mod Stepwise
+pub mod Packed
 pub mod Compact
 pub mod Sentences

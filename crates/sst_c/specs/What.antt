@@ -11,6 +11,7 @@ use Rattle.lsm_iters.specs.Words.{back_of, front_of}
 use Rattle.lsm_readers.specs.Parts.{recovered_told}
 use Rattle.lsm_readers.specs.Ranges.{DealsWithin}
 use Rattle.lsm_readers.specs.Table.{OpenTable}
+use Rattle.lsm_readers.specs.Verification.{Verifying}
 use Rattle.lsm_writers.specs.declared.writer.FinishedTable.{FinishedTable}
 use Rattle.lsm_writers.specs.Writing.{Writing}
 use Rattle.sst_c.specs.declared.held.Held.{Held}
@@ -18,6 +19,10 @@ use Rattle.sst_c.specs.declared.held.What.{What}
 use Rattle.sst_c.specs.declared.held.What.TheVariants.{Table, Files as FilesOf, Runs}
 use Rattle.sst_c.specs.declared.held.What.TheVariants.{Range as RangeOf, Merged as MergedOf}
 use Rattle.sst_c.specs.declared.held.What.TheVariants.{Answers as AnswersOf}
+use Rattle.sst_c.specs.declared.held.What.TheVariants.{Packing as PackingOf}
+use Rattle.sst_c.specs.declared.held.What.TheVariants.{Verification as VerificationOf}
+use Rattle.sst_c.specs.declared.packed.Packed.{Packed}
+use Rattle.sst_c.specs.declared.packed.Placed.{Placed}
 use Rattle.sst_c.specs.Codes.{result_code}
 use Rattle.sst_c.specs.Steps.{NewestAt, StepsUntil}
 use Rattle.sst_c.specs.Told.{found_of}
@@ -88,6 +93,33 @@ are_runs _ = false
 abbrev pub runs_held : What → List (List OpenTable)
 runs_held (Runs rs) = rs
 runs_held _ = []
+
+-- it is a verification of which this holds
+abbrev pub IsVerificationWhere : (Verifying → Type 0) → What → Type 0
+IsVerificationWhere holds (VerificationOf v) = holds v
+IsVerificationWhere holds _ = ⊥
+
+abbrev pub is_verification : What → Bool
+is_verification (VerificationOf v) = true
+is_verification _ = false
+
+-- it is a packing of which this holds
+abbrev pub IsPackingWhere : (Packed OpenTable → Type 0) → What → Type 0
+IsPackingWhere holds (PackingOf p) = holds p
+IsPackingWhere holds _ = ⊥
+
+abbrev pub is_packing : What → Bool
+is_packing (PackingOf p) = true
+is_packing _ = false
+
+-- the packed runs, and the places of the tables of the chain
+abbrev pub packed_runs : What → List (List (Placed OpenTable))
+packed_runs (PackingOf p) = p.runs.items
+packed_runs _ = []
+
+abbrev pub packed_chain : What → List (ℕ × ℕ)
+packed_chain (PackingOf p) = p.chain.items
+packed_chain _ = []
 
 -- a table that was opened from these bytes, with this global number and these pins, of which
 -- nothing was read yet

@@ -1,6 +1,8 @@
 //! What is behind a handle.
 use crate::asked::Asked;
+use crate::packed::Packed;
 use crate::run_list::RunList;
+use crate::verifier::Verifier;
 use lsm_iters::Iter;
 use lsm_readers::Table;
 use lsm_runs::NewestOfRunsAt;
@@ -33,6 +35,10 @@ pub enum What {
     Runs(RunList),
     /// What was found of each of some keys.
     Answers(Vec<Option<InternalValue>>),
+    /// A verification of a table, which is made by steps.
+    Verification(Verifier),
+    /// How tables are packed in runs.
+    Packing(Packed<Table>),
 }
 
 /// Tables that are written.

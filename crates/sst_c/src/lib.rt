@@ -17,15 +17,20 @@ mod files;
 mod found;
 mod handle;
 mod held;
+mod kept;
 mod many;
 mod merged;
 mod options;
+mod packed;
+mod packing;
 mod ranges;
 mod run_list;
 mod runs;
 mod sentences;
 mod shares;
 mod tables;
+mod verification;
+mod verifier;
 mod verify;
 mod writers;
 
@@ -38,14 +43,22 @@ pub use files::{FileTold, sst_files_copy, sst_files_count, sst_files_tell};
 pub use found::{Lent, sst_found_copy, sst_found_lend};
 pub use handle::{Handle, sst_close};
 pub use held::{Files, Held, What};
+pub use kept::sst_table_open_kept;
 pub use many::{sst_answers_copy, sst_answers_lend, sst_table_get_many};
 pub use merged::sst_runs_range_open;
 pub use options::{TableOptions, sst_options_default};
+pub use packed::{Packed, Placed};
+pub use packing::{
+    sst_packing_chain, sst_packing_count, sst_packing_open, sst_packing_run, sst_packing_table,
+    sst_runs_pack,
+};
 pub use ranges::{sst_range_next, sst_range_open};
 pub use run_list::RunList;
 pub use runs::{sst_runs_add, sst_runs_get, sst_runs_open};
 pub use sentences::sst_strerror_copy;
 pub use shares::sst_table_share;
 pub use tables::{sst_table_get, sst_table_open};
+pub use verification::{sst_verification_open, sst_verification_step};
+pub use verifier::{ProgressTold, Verifier};
 pub use verify::{VerifyTold, sst_table_verify};
 pub use writers::{sst_writer_add, sst_writer_finish, sst_writer_open};

@@ -258,11 +258,13 @@ fn step(held: &mut Held, back: bool) -> u32
     ensures over { held.old.what ≡ MergedOf None →
         (result ≡ 0) × (held.new.found ≡ None) × (held.new.what ≡ MergedOf None) }
 {
-    held.found = None;
     match &mut held.what {
         What::Range(iter) => keep(&mut held.found, outcome_of(step_of(iter, back))),
         What::Merged(merged) => keep(&mut held.found, step_merged(merged, back)),
-        _ => OTHER_KIND,
+        _ => {
+            held.found = None;
+            OTHER_KIND
+        }
     }
 }
 

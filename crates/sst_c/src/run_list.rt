@@ -1,13 +1,14 @@
-//! Lists of runs, each of one table.
+//! Lists of runs, each in order.
 ghost use Rattle.std.specs.Prelude.{◌≡◌, ◌≢◌, ◌∷◌, ◌⊎◌, ◌++◌, [], IfErr, IfOk, map, true};
 ghost use Rattle.std.specs.Arc.{arc_value};
-ghost use Rattle.std.specs.List.{AllByRecursion};
 ghost use Rattle.sst_entries.specs.declared.error.Error.TheVariants.{OutOfMemory};
 ghost use Rattle.lsm_ranges.specs.KeyRange.{is_well_formed};
+ghost use Rattle.lsm_ranges.specs.Packing.{AreInOrder};
 ghost use Rattle.lsm_runs.specs.Words.{range_of};
-ghost use Rattle.sst_c.specs.Runs.{IsLone};
+ghost use Rattle.sst_c.specs.Packed.{ArePackedOf};
 
 use crate::codes::NO_MEMORY;
+use lsm_compactions::pack_runs;
 use lsm_ranges::Run;
 use lsm_readers::Table;
 use sst_blocks::Error;
@@ -15,8 +16,8 @@ use std::alloc::Global;
 use std::marker::Model;
 use std::sync::Arc;
 
-/// Runs, each of one table whose least key is not above its greatest. A contract sees the tables of
-/// each run.
+/// Runs, each in order: its tables' ranges are well-formed, ascend and do not overlap. A contract
+/// sees the tables of each run.
 #[derive(Drop)]
 pub struct RunList {
     runs: Vec<Arc<Run<Table>>>,
@@ -25,15 +26,15 @@ pub struct RunList {
 impl Model for RunList {
     ghost use Rattle.std.specs.Prelude.{List, map};
     ghost use Rattle.std.specs.Arc.{arc_value};
-    ghost use Rattle.std.specs.List.{AllByRecursion};
+    ghost use Rattle.lsm_ranges.specs.Packing.{AreInOrder};
     ghost use Rattle.lsm_readers.specs.Table.{OpenTable};
-    ghost use Rattle.sst_c.specs.Runs.{IsLone};
+    ghost use Rattle.lsm_runs.specs.RunParts.{range_of};
 
     ghost Value = { List (List OpenTable) };
 
     ghost view = { λ l. map arc_value l.runs.items };
 
-    ghost invariant = { λ l. AllByRecursion IsLone (map arc_value l.runs.items) };
+    ghost invariant = { λ l. AreInOrder range_of (map arc_value l.runs.items) };
 }
 
 // A run of one table, which it shares.
@@ -49,6 +50,28 @@ fn run_of(alloc: Global, table: &Table) -> Result<Arc<Run<Table>>, Error>
     }
 }
 
+// Runs that can be shared.
+fn share_runs(alloc: Global, runs: Vec<Run<Table>>) -> Result<Vec<Arc<Run<Table>>>, Error>
+    ensures ok { IfOk result (λ shared. map arc_value shared.items ≡ runs.items) }
+    ensures err { IfErr result (λ e. e ≡ OutOfMemory) }
+{
+    let mut shared = Vec::new(alloc);
+    for run in runs {
+        shared.push(Arc::new(alloc, run)?)?;
+    }
+    Ok(shared)
+}
+
+// The tables of some runs in order, in as few runs as there can be.
+fn pack(alloc: Global, runs: &[Arc<Run<Table>>]) -> Result<Vec<Arc<Run<Table>>>, Error>
+    ensures packed { IfOk result (λ packed. AreInOrder range_of (map arc_value runs.now) →
+        ArePackedOf (map arc_value runs.now) (map arc_value packed.items)) }
+    ensures err { IfErr result (λ e. e ≡ OutOfMemory) }
+{
+    let packed = pack_runs(alloc, runs)?;
+    share_runs(alloc, packed)
+}
+
 impl RunList {
     /// No run.
     pub(crate) fn new(alloc: Global) -> RunList
@@ -62,13 +85,13 @@ impl RunList {
     /// The runs.
     pub(crate) fn as_slice(&self) -> &[Arc<Run<Table>>]
         ensures runs { map arc_value result.now ≡ self.now }
-        ensures lone { AllByRecursion IsLone self.now }
+        ensures order { AreInOrder range_of self.now }
     {
         self.runs.as_slice()
     }
 
     /// Puts a run of one table behind the others, and answers 0, or 1 for want of memory.
-    #[tactic(auto, using(crate::proofs::Behind::map_behind, crate::proofs::LoneRuns::lone_behind))]
+    #[tactic(auto, using(crate::proofs::Behind::map_behind, crate::proofs::RunOrder::order_behind))]
     pub(crate) fn push(&mut self, alloc: Global, table: &Table) -> u32
         requires { is_well_formed (range_of table.now) ≡ true }
         ensures memory { (result ≡ 0) ⊎ (result ≡ 1) }
@@ -85,5 +108,14 @@ impl RunList {
             },
             Err(error) => u32::from(error.number()),
         }
+    }
+
+    /// The same tables in as few runs as there can be, as shares of them.
+    pub(crate) fn packed(&self, alloc: Global) -> Result<RunList, Error>
+        ensures packed { IfOk result (ArePackedOf self.now) }
+        ensures err { IfErr result (λ e. e ≡ OutOfMemory) }
+    {
+        let runs = pack(alloc, self.runs.as_slice())?;
+        Ok(RunList { runs })
     }
 }

@@ -189,7 +189,7 @@ pub extern "C" fn sst_runs_add(alloc: Global, runs: &mut Handle, table: &mut Han
 }
 
 // Reads a list of runs.
-#[tactic(auto, using(crate::proofs::Answering::reads, crate::proofs::LoneRuns::lone_order))]
+#[tactic(auto, using(crate::proofs::Answering::reads))]
 fn get_in(runs: &RunList, key: &[u8], seqno: SeqNo, found: &mut Option<InternalValue>) -> u32
     ensures told { AnswersRead result found.new (runs_told key.now seqno None runs.now) }
     ensures early { TellsFirst result (runs_read key.now seqno None runs.now).early }
@@ -214,10 +214,12 @@ fn get(held: &mut Held, key: &[u8], seqno: SeqNo) -> u32
         RunsHoldLists (runs_held held.old.what) lists →
         AnswersRead result held.new.found (Ok (point (union_in lists) key.now seqno)) }
 {
-    held.found = None;
     match &held.what {
         What::Runs(runs) => get_in(runs, key, seqno, &mut held.found),
-        _ => OTHER_KIND,
+        _ => {
+            held.found = None;
+            OTHER_KIND
+        }
     }
 }
 

@@ -10,7 +10,7 @@ ghost use Rattle.sst_c.specs.What.{IsOpenedAs, is_table};
 ghost use Rattle.sst_c.specs.declared.held.Held.{Held as HeldValue};
 ghost use Rattle.sst_c.specs.declared.held.What.TheVariants.{Table as TableOf};
 
-use crate::codes::{CLOSED, OPEN, OTHER_KIND};
+use crate::codes::{CLOSED, NO_MEMORY, OPEN, OTHER_KIND};
 use crate::entries::{EntryTold, tell};
 use crate::handle::Handle;
 use crate::held::{Held, What};
@@ -18,22 +18,21 @@ use lsm_readers::Table;
 use sst_blocks::{Checksum, Error, InternalValue, SeqNo, Slice};
 use std::alloc::Global;
 
-// The box of a table that was opened from a copy of its bytes.
+// The box of a table that was opened from its bytes.
 fn opened(
     alloc: Global,
-    file: &[u8],
+    bytes: Slice,
     global_seqno: SeqNo,
     pin_filter: bool,
     pin_index: bool,
 ) -> Result<Box<Held>, Error>
     ensures table { IfOk result (λ held.
-        IsOpenedAs file.now global_seqno pin_filter pin_index held.value) }
+        IsOpenedAs bytes global_seqno pin_filter pin_index held.value) }
     ensures refused { IfErr result (λ e.
-        Fails e (recovered_told file.now global_seqno pin_filter pin_index)) }
-    ensures list { (es : List Entry) → StoresList file.now es →
+        Fails e (recovered_told bytes global_seqno pin_filter pin_index)) }
+    ensures list { (es : List Entry) → StoresList bytes es →
         Gives (λ (_ : _). tt) result (fits_told es global_seqno) }
 {
-    let bytes = Slice::from(alloc, file)?;
     let checksum = Checksum(0);
     let table = Table::recover(
         alloc,
@@ -51,10 +50,36 @@ fn opened(
     Ok(Box::new(alloc, held)?)
 }
 
+/// Opens a table from its bytes, into a handle that holds nothing.
+#[tactic(auto, using(crate::proofs::Answering::tells, crate::proofs::Answering::tells_ok))]
+pub(crate) fn open_from(
+    alloc: Global,
+    bytes: Slice,
+    global_seqno: SeqNo,
+    pin_filter: bool,
+    pin_index: bool,
+    table: &mut Handle,
+) -> u32
+    requires { table.old.boxed.value ≡ None }
+    ensures opened { result ≡ 0 → IsSomeAnd table.new.boxed.value
+        (IsOpenedAs bytes global_seqno pin_filter pin_index) }
+    ensures told { TellsCode result (recovered_told bytes global_seqno pin_filter pin_index) }
+    ensures list { (es : List Entry) → StoresList bytes es →
+        TellsCode result (fits_told es global_seqno) }
+    ensures left { result ≢ 0 → table.new.boxed.value ≡ None }
+{
+    match opened(alloc, bytes, global_seqno, pin_filter, pin_index) {
+        Ok(held) => {
+            table.put(held);
+            0
+        }
+        Err(error) => u32::from(error.number()),
+    }
+}
+
 /// Opens a table from a copy of its bytes, into a handle that holds nothing. Refused 101 where the
 /// handle holds something, and as `Table::recover`; the handle stays as it is then.
 #[unsafe(no_mangle)]
-#[tactic(auto, using(crate::proofs::Answering::tells, crate::proofs::Answering::tells_ok))]
 pub extern "C" fn sst_table_open(
     alloc: Global,
     file: &[u8],
@@ -76,16 +101,14 @@ pub extern "C" fn sst_table_open(
     if table.is_open() {
         return OPEN;
     }
-    match opened(alloc, file, global_seqno, pin_filter, pin_index) {
-        Ok(held) => {
-            table.put(held);
-            0
-        }
-        Err(error) => u32::from(error.number()),
-    }
+    let Ok(bytes) = Slice::from(alloc, file) else {
+        return NO_MEMORY;
+    };
+    open_from(alloc, bytes, global_seqno, pin_filter, pin_index, table)
 }
 
 /// Keeps what a read found, nothing where it was refused, and answers 0 or the refusal's number.
+#[inline]
 pub(crate) fn keep(
     found: &mut Option<InternalValue>,
     outcome: Result<Option<InternalValue>, Error>,
@@ -119,13 +142,15 @@ fn get(held: &mut Held, key: &[u8], seqno: SeqNo) -> u32
         StoresList t.bytes es →
         AnswersRead result held.new.found (Ok (point (lift es t.global_seqno) key.now seqno)) }
 {
-    held.found = None;
     match &held.what {
         What::Table(table) => {
             let hash = Table::<Global>::key_hash(key);
             keep(&mut held.found, table.get(key, seqno, hash))
         }
-        _ => OTHER_KIND,
+        _ => {
+            held.found = None;
+            OTHER_KIND
+        }
     }
 }
 

@@ -42,7 +42,8 @@ pub struct VerifyTold {
     pub unused: u32,
 }
 
-fn nothing() -> VerifyTold
+/// What is told where nothing is found.
+pub(crate) fn nothing() -> VerifyTold
     ensures { result ≡ no_finding }
 {
     VerifyTold {
@@ -85,7 +86,8 @@ fn detail_of(fault: &Fault) -> u32
     }
 }
 
-fn tell_finding(finding: &Finding) -> VerifyTold
+/// What is told of what is wrong.
+pub(crate) fn tell_finding(finding: &Finding) -> VerifyTold
     ensures { result ≡ finding_told finding.now }
 {
     VerifyTold {
@@ -99,7 +101,8 @@ fn tell_finding(finding: &Finding) -> VerifyTold
     }
 }
 
-fn tell_verified(verified: Verified) -> VerifyTold
+/// What is told of a sound table.
+pub(crate) fn tell_verified(verified: Verified) -> VerifyTold
     ensures { result ≡ verified_told verified }
 {
     VerifyTold {

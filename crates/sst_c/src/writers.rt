@@ -90,7 +90,7 @@ fn kind_of(kind: u32) -> Option<ValueType>
 }
 
 // Writes an entry that may follow.
-#[tactic(auto, using(crate::proofs::Answering::faults), unfolding(crate::specs::Writing::TookEntry))]
+#[tactic(auto, using(crate::proofs::Answering::tell), unfolding(crate::specs::Writing::TookEntry))]
 fn write(writer: &mut Writer, key: &[u8], seqno: SeqNo, kind: ValueType, value: &[u8]) -> u32
     requires { IsTrue (may_be_written (written writer.old) key.now seqno) }
     ensures { TookEntry writer.old (entry key.now value.now seqno kind) result writer.new }
@@ -209,7 +209,7 @@ pub extern "C" fn sst_writer_add(
 }
 
 // Finishes a writer, and puts its table behind others, where something was written.
-#[tactic(auto, using(crate::proofs::Answering::faults), unfolding(crate::specs::Writing::AddsFileOf))]
+#[tactic(auto, using(crate::proofs::Answering::tell), unfolding(crate::specs::Writing::AddsFileOf))]
 fn finish_behind(tables: &mut Vec<FinishedTable>, writer: Writer) -> u32
     ensures told { FaultTold result (finish_fault writer) }
     ensures finished { result ≡ 0 → AddsFileOf writer tables.old.items tables.new.items }

@@ -51,8 +51,8 @@ fn write_members<A: Allocator + Copy>(
     writer.end_object()
 }
 
-/// Writes bytes as a string, or, where they are no UTF-8, as an object `{"hex":"ff00"}`. Refused for
-/// want of memory alone.
+/// Writes bytes as a string, or, where they are no UTF-8, as an object `{"hex":"ff00"}`. Refused
+/// for want of memory alone.
 pub fn write_bytes<A: Allocator + Copy>(
     alloc: A,
     writer: &mut Writer<A>,

@@ -286,7 +286,8 @@ pub(crate) fn refusal_of<A: Allocator + Clone>(
 
 /// Whether a finding, if there is one, says of a block that it does not load.
 pub(crate) fn is_told(finding: Option<&Finding>, block: &NamedBlock) -> bool
-    ensures { result ≡ is_told (option_map (λ (f : Bor FindingValue). f.now) finding.entry) block.now }
+    ensures { let told = option_map (λ (f : Bor FindingValue). f.now) finding.entry in
+        result ≡ is_told told block.now }
 {
     match finding {
         None => false,

@@ -201,8 +201,8 @@ fn print_named<'a, A: Allocator + Copy, W: Write>(
 }
 
 /// Writes a line for each block that does not load of a file that does not open as a table: of its
-/// meta block, its filter, its index and its data, as far as its bytes tell where these lie. Answers
-/// how many lines there are. Refused with the first failure to write, and for want of memory; what
+/// meta block, its filter, its index and its data, as far as its bytes tell where these lie.
+/// Answers how many lines there are. Refused with the first failure to write, and for want of memory; what
 /// was written stays.
 pub fn verify_unopened<'a, A: Allocator + Copy, W: Write>(
     alloc: A,
@@ -263,8 +263,8 @@ fn print_unloaded<'a, A: Allocator + Copy, W: Write>(
     Ok(count)
 }
 
-// Writes a line for a block that does not load, if no finding says it already. Answers whether there
-// is a line.
+// Writes a line for a block that does not load, if no finding says it already. Answers whether
+// there is a line.
 fn print_block<'a, A: Allocator + Clone, W: Write>(
     output: &mut W,
     name: &str,

@@ -43,8 +43,8 @@ pub struct GetOptions<'k> {
 /// The runs of files, each of one table.
 type Runs<A> = Vec<Arc<Run<Table<A>, A>, A>, A>;
 
-/// Writes the version of a key that a reader sees over all files, or that there is none (`none`, and
-/// as JSON `null`), and answers whether there is one. Then, if asked for, a line for each file: how
+/// Writes the version of a key that a reader sees over all files, or that there is none (`none`,
+/// and as JSON `null`), and answers whether there is one. Then, if asked for, a line for each file: how
 /// many blocks of which kind were loaded for it, and where these begin.
 pub fn get<'a, A: Allocator + Copy, W: Write>(
     alloc: A,
@@ -79,8 +79,8 @@ pub fn get<'a, A: Allocator + Copy, W: Write>(
         OnOk result (PrintsFound options.now.format
         (point (union_in lists) options.now.key.now seqno)
         (W.contents output.old) (W.contents output.new)) }
-    // Where a file is named, it is one of these, whose bytes store no list, and so is the block that
-    // is named: of files of lists none is.
+    // Where a file is named, it is one of these, whose bytes store no list, and so is the block
+    // that is named: of files of lists none is.
     ensures named { IfErr result (NamesFaulty files.now) }
     ensures sound { (lists : List (List (List Entry))) → RunsHoldLists (runs_in files.now) lists →
         IfErr result NamesNone }

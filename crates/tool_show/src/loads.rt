@@ -98,8 +98,8 @@ fn data_place<A: Allocator + Copy>(
     }
 }
 
-// Where the first block lies whose handle in a block reaches a key and a number, if that block loads.
-// Refused for want of memory alone.
+// Where the first block lies whose handle in a block reaches a key and a number, if that block
+// loads. Refused for want of memory alone.
 fn reached<A: Allocator + Copy>(
     source: &BlockSource<A>,
     place: &BlockHandle,

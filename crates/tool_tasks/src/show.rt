@@ -214,8 +214,8 @@ fn verify_bytes<'a, R: Files, C: Clock, W: Write, E: Write>(
     }
 }
 
-// Prints why bytes did not open as a table, which is a fault unless memory is wanted, and each block
-// that does not load. Answers how many faults there are.
+// Prints why bytes did not open as a table, which is a fault unless memory is wanted, and each
+// block that does not load. Answers how many faults there are.
 fn print_unopened<'a, W: Write>(
     alloc: Global,
     name: &'a str,

@@ -5,7 +5,7 @@
 #![allow(non_camel_case_types)]
 
 /// The version of the calls that these declarations name.
-pub const SST_VERSION: u32 = 2;
+pub const SST_VERSION: u32 = 3;
 
 pub const SST_NO_MEMORY: u32 = 1;
 pub const SST_CLOSED: u32 = 100;
@@ -86,6 +86,15 @@ pub struct sst_verified {
     pub unused: u32,
 }
 
+/// How far a verification is.
+#[repr(C)]
+#[derive(Clone, Copy, Debug, Default)]
+pub struct sst_progress {
+    pub bytes_read: u64,
+    pub data_size: u64,
+    pub at_end: u64,
+}
+
 /// What a table is written with.
 #[repr(C)]
 #[derive(Clone, Copy, Debug, Default)]
@@ -132,6 +141,14 @@ extern "C" {
         pin_index: bool,
         table: *mut sst_handle,
     ) -> u32;
+    pub fn sst_table_open_kept(
+        file: *const u8,
+        len: usize,
+        global_seqno: u64,
+        pin_filter: bool,
+        pin_index: bool,
+        table: *mut sst_handle,
+    ) -> u32;
     pub fn sst_table_get(
         table: *mut sst_handle,
         key: *const u8,
@@ -162,6 +179,12 @@ extern "C" {
         value_room: usize,
     ) -> u32;
     pub fn sst_table_verify(table: *mut sst_handle, verified: *mut sst_verified) -> u32;
+    pub fn sst_verification_open(table: *mut sst_handle, verification: *mut sst_handle) -> u32;
+    pub fn sst_verification_step(
+        verification: *mut sst_handle,
+        progress: *mut sst_progress,
+        verified: *mut sst_verified,
+    ) -> u32;
 
     pub fn sst_range_open(
         table: *mut sst_handle,
@@ -195,6 +218,18 @@ extern "C" {
         seqno: u64,
         range: *mut sst_handle,
     ) -> u32;
+
+    pub fn sst_runs_pack(runs: *mut sst_handle, packed: *mut sst_handle) -> u32;
+    pub fn sst_packing_open(runs: *mut sst_handle, packing: *mut sst_handle) -> u32;
+    pub fn sst_packing_count(packing: *mut sst_handle, runs: *mut u64) -> u32;
+    pub fn sst_packing_run(packing: *mut sst_handle, run: u64, tables: *mut u64) -> u32;
+    pub fn sst_packing_table(
+        packing: *mut sst_handle,
+        run: u64,
+        place: u64,
+        table: *mut u64,
+    ) -> u32;
+    pub fn sst_packing_chain(packing: *mut sst_handle, place: u64, table: *mut u64) -> u32;
 
     pub fn sst_options_default(options: *mut sst_options);
     pub fn sst_writer_open(options: *const sst_options, writer: *mut sst_handle) -> u32;

@@ -16,17 +16,17 @@ use logpurple_sys as sys;
 /// }
 /// ```
 #[derive(Debug)]
-pub struct Answers {
-    handle: Handle,
+pub struct Answers<'f> {
+    handle: Handle<'f>,
     told: Vec<sys::sst_entry>,
 }
 
-impl Answers {
+impl<'f> Answers<'f> {
     pub(crate) fn of<K: AsRef<[u8]>>(
-        table: &Table,
+        table: &Table<'f>,
         keys: &[K],
         seqno: SeqNo,
-    ) -> Result<Answers, Error> {
+    ) -> Result<Answers<'f>, Error> {
         let handle = Handle::closed();
         let (joined, lens) = joined(keys)?;
         let mut told = room(keys.len())?;
@@ -72,7 +72,7 @@ impl Answers {
     }
 
     /// What was found of each key, in their order.
-    pub fn iter(&self) -> impl ExactSizeIterator<Item = Option<LentValue<'_>>> + '_ {
+    pub fn iter<'l>(&'l self) -> impl ExactSizeIterator<Item = Option<LentValue<'l>>> + 'l {
         (0..self.len()).map(move |place| self.get(place))
     }
 

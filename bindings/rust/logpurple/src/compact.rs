@@ -55,7 +55,7 @@ pub struct Compacted {
 }
 
 impl Compacted {
-    pub(crate) fn of(runs: &Handle, compaction: &Compaction) -> Result<Compacted, Error> {
+    pub(crate) fn of(runs: &Handle<'_>, compaction: &Compaction) -> Result<Compacted, Error> {
         let (files, asked) = (Handle::closed(), compaction.options.told());
         let mut next_id = 0;
         // SAFETY: the options are read during the call alone, and `files` holds nothing.

@@ -4,6 +4,7 @@ use crate::error::test;
 use crate::{Error, LentValue, SeqNo, ValueType};
 use logpurple_sys as sys;
 use std::cell::UnsafeCell;
+use std::marker::PhantomData;
 use std::ops::Bound;
 use std::slice;
 use std::sync::Once;
@@ -19,19 +20,25 @@ use std::sync::Once;
 /// blocks are never written, shares are counted by atomic steps, and so is noted which blocks were
 /// compared. A handle that goes to another thread needs what orders memory between the two; in Rust
 /// nothing is sent without that.
+///
+/// What it holds may read bytes that are kept for `'f`, and never copied: so it is dropped before
+/// these are.
 #[derive(Debug)]
-pub(crate) struct Handle(UnsafeCell<sys::sst_handle>);
+pub(crate) struct Handle<'f> {
+    words: UnsafeCell<sys::sst_handle>,
+    kept: PhantomData<&'f [u8]>,
+}
 
-impl Handle {
+impl<'f> Handle<'f> {
     /// A handle that holds nothing.
-    pub(crate) fn closed() -> Handle {
+    pub(crate) fn closed() -> Handle<'f> {
         require_version();
-        Handle(UnsafeCell::new(sys::sst_handle::default()))
+        Handle { words: UnsafeCell::new(sys::sst_handle::default()), kept: PhantomData }
     }
 
     /// The words, for one call.
     pub(crate) fn words(&self) -> *mut sys::sst_handle {
-        self.0.get()
+        self.words.get()
     }
 
     /// Lends what the last read by the handle found, as that read told it.
@@ -48,7 +55,7 @@ impl Handle {
     }
 }
 
-impl Drop for Handle {
+impl Drop for Handle<'_> {
     fn drop(&mut self) {
         // SAFETY: the handle is this one's own, and nothing that it lent is in use.
         unsafe { sys::sst_close(self.words()) }
@@ -101,7 +108,7 @@ type Get =
 /// Makes such a call, and tells what it found.
 pub(crate) fn get(
     call: Get,
-    handle: &Handle,
+    handle: &Handle<'_>,
     key: &[u8],
     seqno: SeqNo,
 ) -> Result<sys::sst_entry, Error> {

@@ -36,9 +36,11 @@ mod compact;
 mod entry;
 mod error;
 mod handle;
+mod packing;
 mod range;
 mod runs;
 mod table;
+mod verification;
 mod verify;
 mod writer;
 
@@ -48,9 +50,11 @@ pub use entry::{
     InternalKey, InternalValue, LentValue, SeqNo, UserKey, UserValue, ValueType, NEWEST,
 };
 pub use error::Error;
+pub use packing::Packing;
 pub use range::Range;
 pub use runs::Runs;
 pub use table::{Metadata, OpenOptions, Table};
+pub use verification::Verification;
 pub use verify::{Fault, Finding, SectionName, Verified, VerifyError};
 pub use writer::{FinishedTable, Options, Writer};
 

@@ -27,17 +27,17 @@ use std::ops::Bound;
 /// # }
 /// ```
 #[derive(Debug)]
-pub struct Range {
-    handle: Handle,
+pub struct Range<'f> {
+    handle: Handle<'f>,
     is_over: bool,
 }
 
-impl Range {
+impl<'f> Range<'f> {
     pub(crate) fn of_table<K: AsRef<[u8]>>(
-        table: &Table,
+        table: &Table<'f>,
         lower: Bound<&K>,
         upper: Bound<&K>,
-    ) -> Result<Range, Error> {
+    ) -> Result<Range<'f>, Error> {
         let handle = Handle::closed();
         let ((lower_kind, lower), (upper_kind, upper)) = (bound(lower), bound(upper));
         // SAFETY: the keys are read during the call alone, and the handle holds nothing.
@@ -57,11 +57,11 @@ impl Range {
     }
 
     pub(crate) fn of_runs<K: AsRef<[u8]>>(
-        runs: &Runs,
+        runs: &Runs<'f>,
         lower: Bound<&K>,
         upper: Bound<&K>,
         seqno: SeqNo,
-    ) -> Result<Range, Error> {
+    ) -> Result<Range<'f>, Error> {
         let handle = Handle::closed();
         let ((lower_kind, lower), (upper_kind, upper)) = (bound(lower), bound(upper));
         // SAFETY: the keys are read during the call alone, and the handle holds nothing.
@@ -133,7 +133,7 @@ impl Range {
     }
 }
 
-impl Iterator for Range {
+impl Iterator for Range<'_> {
     type Item = Result<InternalValue, Error>;
 
     fn next(&mut self) -> Option<Self::Item> {
@@ -141,10 +141,10 @@ impl Iterator for Range {
     }
 }
 
-impl DoubleEndedIterator for Range {
+impl DoubleEndedIterator for Range<'_> {
     fn next_back(&mut self) -> Option<Self::Item> {
         self.step_copied(true)
     }
 }
 
-impl FusedIterator for Range {}
+impl FusedIterator for Range<'_> {}

@@ -1,21 +1,23 @@
 //! Several tables as one.
 
 use crate::error::test;
-use crate::handle::{get, Handle};
-use crate::{Compacted, Compaction, Error, InternalValue, LentValue, Range, SeqNo, Table};
+use crate::handle::{get, room, Handle};
+use crate::packing::packing_of;
+use crate::{Compacted, Compaction, Error, InternalValue, LentValue, Packing, Range, SeqNo, Table};
 use logpurple_sys as sys;
 use std::ops::RangeBounds;
 
 /// Several tables as one, the newest first. It owns them.
 #[derive(Debug)]
-pub struct Runs {
-    pub(crate) handle: Handle,
-    tables: Vec<Table>,
+pub struct Runs<'f> {
+    pub(crate) handle: Handle<'f>,
+    // Run by run, where these were packed.
+    tables: Vec<Table<'f>>,
 }
 
-impl Runs {
+impl<'f> Runs<'f> {
     /// No tables. Refused for want of memory.
-    pub fn new() -> Result<Runs, Error> {
+    pub fn new() -> Result<Runs<'f>, Error> {
         let handle = Handle::closed();
         // SAFETY: the handle holds nothing.
         test(unsafe { sys::sst_runs_open(handle.words()) })?;
@@ -23,7 +25,7 @@ impl Runs {
     }
 
     /// These tables, the newest first. Refused as `push` is; the tables are given up then.
-    pub fn from_tables(tables: impl IntoIterator<Item = Table>) -> Result<Runs, Error> {
+    pub fn from_tables(tables: impl IntoIterator<Item = Table<'f>>) -> Result<Runs<'f>, Error> {
         let mut runs = Runs::new()?;
         for table in tables {
             runs.push(table)?;
@@ -34,7 +36,7 @@ impl Runs {
     /// Adds a table behind those that are there. Refused with `OutOfOrder` where the table says of
     /// itself that its least key is above its greatest, as only damaged bytes do, and for want of
     /// memory: the table is given up then, and the others stay.
-    pub fn push(&mut self, table: Table) -> Result<(), Error> {
+    pub fn push(&mut self, table: Table<'f>) -> Result<(), Error> {
         self.tables.try_reserve(1).map_err(|_| Error::OutOfMemory)?;
         // SAFETY: both are references of this call.
         test(unsafe { sys::sst_runs_add(self.handle.words(), table.handle.words()) })?;
@@ -42,13 +44,13 @@ impl Runs {
         Ok(())
     }
 
-    /// The tables, the newest first.
-    pub fn tables(&self) -> &[Table] {
+    /// The tables, the newest first; of packed runs run by run.
+    pub fn tables(&self) -> &[Table<'f>] {
         &self.tables
     }
 
-    /// The tables, the newest first, each on its own again.
-    pub fn into_tables(self) -> Vec<Table> {
+    /// The tables, in the order of `tables`, each on its own again.
+    pub fn into_tables(self) -> Vec<Table<'f>> {
         self.tables
     }
 
@@ -90,7 +92,7 @@ impl Runs {
     /// # Ok(())
     /// # }
     /// ```
-    pub fn range<K, R>(&self, bounds: R, seqno: SeqNo) -> Result<Range, Error>
+    pub fn range<K, R>(&self, bounds: R, seqno: SeqNo) -> Result<Range<'f>, Error>
     where
         K: AsRef<[u8]>,
         R: RangeBounds<K>,
@@ -99,8 +101,47 @@ impl Runs {
     }
 
     /// As `range`, without bounds.
-    pub fn iter(&self, seqno: SeqNo) -> Result<Range, Error> {
+    pub fn iter(&self, seqno: SeqNo) -> Result<Range<'f>, Error> {
         self.range::<&[u8], _>(.., seqno)
+    }
+
+    /// Finds in which runs the tables go where these are as few as there can be, so that each key
+    /// keeps the order of its tables, and why there are no fewer. Refused for want of memory.
+    ///
+    /// ```
+    /// use logpurple::{Runs, Table, ValueType, Writer, NEWEST};
+    ///
+    /// # fn main() -> Result<(), Box<dyn std::error::Error>> {
+    /// let mut runs = Runs::new()?;
+    /// for (id, keys) in [["a", "c"], ["d", "e"], ["b", "b"]].iter().enumerate() {
+    ///     let mut writer = Writer::new(id as u64)?;
+    ///     writer.write(keys[0].as_bytes(), 9, ValueType::Value, b"")?;
+    ///     writer.write(keys[1].as_bytes(), 8, ValueType::Value, b"")?;
+    ///     runs.push(Table::open(writer.finish()?.unwrap())?)?;
+    /// }
+    /// let packing = runs.packing()?;
+    /// assert_eq!((packing.runs, packing.chain), (vec![vec![0, 1], vec![2]], vec![0, 2]));
+    /// let packed = runs.packed()?;
+    /// assert_eq!(packed.iter(NEWEST)?.count(), runs.iter(NEWEST)?.count());
+    /// assert_eq!(packed.tables()[1].metadata().id, 1);
+    /// # Ok(())
+    /// # }
+    /// ```
+    pub fn packing(&self) -> Result<Packing, Error> {
+        packing_of(&self.handle)
+    }
+
+    /// The same tables in as few runs as there can be: reads find the same, over fewer runs. These
+    /// stay. Refused for want of memory.
+    pub fn packed(&self) -> Result<Runs<'f>, Error> {
+        let mut tables = room(self.tables.len())?;
+        for place in self.packing()?.runs.into_iter().flatten() {
+            tables.push(self.tables[place].share()?);
+        }
+        let handle = Handle::closed();
+        // SAFETY: both are references of this call, and the handle holds nothing.
+        test(unsafe { sys::sst_runs_pack(self.handle.words(), handle.words()) })?;
+        Ok(Runs { handle, tables })
     }
 
     /// Writes what is kept of all entries into new tables, as [`Compaction`] says. These tables

@@ -2,14 +2,16 @@
 
 use crate::error::test;
 use crate::handle::{get, Handle};
-use crate::{Answers, Error, InternalValue, LentValue, Range, SeqNo, Verified, VerifyError};
+use crate::{
+    Answers, Error, InternalValue, LentValue, Range, SeqNo, Verification, Verified, VerifyError,
+};
 use logpurple_sys as sys;
 use std::alloc::{handle_alloc_error, Layout};
 use std::ops::RangeBounds;
 
 /// An opened table.
 ///
-/// It has a copy of its bytes, and shares them with its clones, its ranges and the runs that it was
+/// It has a copy of its bytes, or reads bytes that are kept for `'f`, and shares them with its clones, its ranges and the runs that it was
 /// pushed to. Threads that use different ones of these at once need nothing between them, as the
 /// header says: a table's bytes and blocks are never written, shares are counted by atomic steps,
 /// and so is noted which blocks were compared. So it is `Send`, and each thread reads by a clone:
@@ -35,8 +37,8 @@ use std::ops::RangeBounds;
 /// is_sync::<logpurple::Table>();
 /// ```
 #[derive(Debug)]
-pub struct Table {
-    pub(crate) handle: Handle,
+pub struct Table<'f> {
+    pub(crate) handle: Handle<'f>,
 }
 
 /// What a table is opened with.
@@ -60,12 +62,38 @@ impl Default for OpenOptions {
 impl OpenOptions {
     /// Opens a table from a copy of its bytes. Refused with the first fault of the bytes. Bytes
     /// whose blocks are damaged may open: reads that meet the damage are refused.
-    pub fn open(&self, file: impl AsRef<[u8]>) -> Result<Table, Error> {
-        let file = file.as_ref();
+    pub fn open(&self, file: impl AsRef<[u8]>) -> Result<Table<'static>, Error> {
+        // SAFETY: the bytes are read during the call alone.
+        unsafe { self.open_by(sys::sst_table_open, file.as_ref()) }
+    }
+
+    /// As `open`, over the bytes themselves: none is copied, and the compiler sees to it that they
+    /// stay until the table is dropped, and all that was opened from it. As any bytes that are
+    /// borrowed, nobody else may write to them meanwhile, as to a file that is mapped.
+    ///
+    /// ```compile_fail,E0597
+    /// fn open() {
+    ///     let range;
+    ///     {
+    ///         let file = std::fs::read("table").unwrap();
+    ///         let table = logpurple::OpenOptions::default().open_kept(&file).unwrap();
+    ///         range = table.iter().unwrap();
+    ///     }
+    ///     drop(range);
+    /// }
+    /// ```
+    pub fn open_kept<'f>(&self, file: &'f [u8]) -> Result<Table<'f>, Error> {
+        // SAFETY: the bytes stay for `'f`, and each handle of what is opened from the table has it
+        // too, and is closed before it ends.
+        unsafe { self.open_by(sys::sst_table_open_kept, file) }
+    }
+
+    // SAFETY of callers: the call reads the bytes no longer than they stay.
+    unsafe fn open_by<'f>(&self, open: Open, file: &[u8]) -> Result<Table<'f>, Error> {
         let handle = Handle::closed();
-        // SAFETY: the bytes are read during the call alone, and the handle holds nothing.
+        // SAFETY: the caller sees to the bytes, and the handle holds nothing.
         test(unsafe {
-            sys::sst_table_open(
+            open(
                 file.as_ptr(),
                 file.len(),
                 self.global_seqno,
@@ -77,6 +105,9 @@ impl OpenOptions {
         Ok(Table { handle })
     }
 }
+
+/// A call that opens a table.
+type Open = unsafe extern "C" fn(*const u8, usize, u64, bool, bool, *mut sys::sst_handle) -> u32;
 
 /// What a table says of itself. The numbers of entries are as stored, without the global number.
 #[derive(Clone, Copy, Debug, PartialEq, Eq)]
@@ -101,10 +132,30 @@ pub struct Metadata {
     pub file_size: u64,
 }
 
-impl Table {
+impl Table<'static> {
     /// Opens a table from a copy of its bytes, as `OpenOptions::default()` does.
-    pub fn open(file: impl AsRef<[u8]>) -> Result<Table, Error> {
+    pub fn open(file: impl AsRef<[u8]>) -> Result<Table<'static>, Error> {
         OpenOptions::default().open(file)
+    }
+}
+
+impl<'f> Table<'f> {
+    /// Opens a table over its bytes, of which none is copied, as `OpenOptions::default()` does.
+    ///
+    /// ```
+    /// # use logpurple::{Table, ValueType, Writer, NEWEST};
+    /// # fn main() -> Result<(), Box<dyn std::error::Error>> {
+    /// # let mut writer = Writer::new(1)?;
+    /// # writer.write(b"apple", 2, ValueType::Value, b"red")?;
+    /// # let file = writer.finish()?.unwrap();
+    /// let mut table = Table::open_kept(file.as_ref())?;
+    /// let found = table.get_lent(b"apple", NEWEST)?.unwrap();
+    /// assert!(file.as_ref().as_ptr_range().contains(&found.value.as_ptr()));
+    /// # Ok(())
+    /// # }
+    /// ```
+    pub fn open_kept(file: &'f [u8]) -> Result<Table<'f>, Error> {
+        OpenOptions::default().open_kept(file)
     }
 
     /// Finds the newest version of a key that is numbered below `seqno`, a deletion too, and copies
@@ -161,13 +212,13 @@ impl Table {
         &self,
         keys: &[K],
         seqno: SeqNo,
-    ) -> Result<Answers, Error> {
+    ) -> Result<Answers<'f>, Error> {
         Answers::of(self, keys, seqno)
     }
 
     /// The entries whose keys lie within bounds, each version of a key, from both ends. Nothing is
     /// loaded yet.
-    pub fn range<K, R>(&self, bounds: R) -> Result<Range, Error>
+    pub fn range<K, R>(&self, bounds: R) -> Result<Range<'f>, Error>
     where
         K: AsRef<[u8]>,
         R: RangeBounds<K>,
@@ -176,7 +227,7 @@ impl Table {
     }
 
     /// All entries, from both ends.
-    pub fn iter(&self) -> Result<Range, Error> {
+    pub fn iter(&self) -> Result<Range<'f>, Error> {
         self.range::<&[u8], _>(..)
     }
 
@@ -203,7 +254,7 @@ impl Table {
 
     /// The same table once more, as `clone` makes it: no bytes are copied. Refused for want of
     /// memory.
-    pub fn share(&self) -> Result<Table, Error> {
+    pub fn share(&self) -> Result<Table<'f>, Error> {
         let handle = Handle::closed();
         // SAFETY: both are references of this call, and the handle holds nothing.
         test(unsafe { sys::sst_table_share(self.handle.words(), handle.words()) })?;
@@ -227,12 +278,36 @@ impl Table {
         let code = unsafe { sys::sst_table_verify(self.handle.words(), &mut told) };
         Verified::of(code, &told)
     }
+
+    /// A verification that is made by steps, so that progress can be shown and it can be stopped.
+    /// Nothing is read yet. Refused for want of memory.
+    ///
+    /// ```
+    /// # use logpurple::{Table, ValueType, Writer};
+    /// # fn main() -> Result<(), Box<dyn std::error::Error>> {
+    /// # let mut writer = Writer::new(1)?;
+    /// # writer.write(b"apple", 2, ValueType::Value, b"red")?;
+    /// # let table = Table::open(writer.finish()?.unwrap())?;
+    /// let mut verification = table.verification()?;
+    /// let verified = loop {
+    ///     match verification.step()? {
+    ///         Some(verified) => break verified,
+    ///         None => println!("{} of {}", verification.bytes_read(), verification.data_size()),
+    ///     }
+    /// };
+    /// assert_eq!(verified, table.verify()?);
+    /// # Ok(())
+    /// # }
+    /// ```
+    pub fn verification(&self) -> Result<Verification<'f>, Error> {
+        Verification::of(self)
+    }
 }
 
-impl Clone for Table {
+impl<'f> Clone for Table<'f> {
     /// A share of the same bytes, of which none are copied. Where there is no memory for it the
     /// program ends, as with any clone; [`Table::share`] is refused instead.
-    fn clone(&self) -> Table {
+    fn clone(&self) -> Table<'f> {
         match self.share() {
             Ok(table) => table,
             Err(Error::OutOfMemory) => handle_alloc_error(Layout::new::<sys::sst_handle>()),

@@ -80,7 +80,7 @@ impl Options {
 /// Writes a table. Entries come by key up, and of one key by number down.
 #[derive(Debug)]
 pub struct Writer {
-    handle: Handle,
+    handle: Handle<'static>,
 }
 
 /// A table that is written: its bytes, and what it is called.
@@ -147,7 +147,7 @@ impl Writer {
 }
 
 /// Copies of all finished tables that a handle holds.
-pub(crate) fn finished_tables(files: &Handle) -> Result<Vec<FinishedTable>, Error> {
+pub(crate) fn finished_tables(files: &Handle<'_>) -> Result<Vec<FinishedTable>, Error> {
     let mut count = 0;
     // SAFETY: both are references of this call.
     test(unsafe { sys::sst_files_count(files.words(), &mut count) })?;
@@ -159,7 +159,7 @@ pub(crate) fn finished_tables(files: &Handle) -> Result<Vec<FinishedTable>, Erro
     Ok(tables)
 }
 
-fn finished_table(files: &Handle, place: u64) -> Result<FinishedTable, Error> {
+fn finished_table(files: &Handle<'_>, place: u64) -> Result<FinishedTable, Error> {
     let mut told = sys::sst_file::default();
     // SAFETY: both are references of this call.
     test(unsafe { sys::sst_files_tell(files.words(), place, &mut told) })?;

@@ -6,12 +6,12 @@ use common::{
     collect, items, kept, keys, newest, random_entries, seen, small, spaced_entries, write, Dice,
     Entries,
 };
-use logpurple::{Compaction, Error, Options, Runs, Table, NEWEST};
+use logpurple::{Compaction, Error, Options, Runs, Table, ValueType, NEWEST};
 use std::cmp::Reverse;
 use std::ops::Bound;
 
 /// Tables of random entries, the newest first, and all entries together.
-fn several() -> (Runs, Entries) {
+fn several() -> (Runs<'static>, Entries) {
     let mut all = Entries::new();
     let mut tables = Vec::new();
     for (seed, above) in [(1, 20), (2, 11), (3, 2), (4, 1)] {
@@ -44,6 +44,60 @@ fn the_newest_of_several_tables_is_found() {
     assert_eq!(collect(runs.tables()[1].iter().unwrap()), items(&older));
     let tables = runs.into_tables();
     assert_eq!(collect(tables[0].iter().unwrap()), items(&newer));
+}
+
+/// Packed runs find the same, and their tables stand run by run.
+#[test]
+fn packed_runs_find_the_same() {
+    let (runs, all) = several();
+    let packed = runs.packed().unwrap();
+    for seqno in (0..60).step_by(13).chain([NEWEST]) {
+        assert_eq!(collect(packed.iter(seqno).unwrap()), seen(&all, seqno));
+        for key in keys(&all) {
+            assert_eq!(packed.get(&key, seqno).unwrap(), newest(&all, &key, seqno));
+        }
+    }
+    let places = runs.packing().unwrap().runs.concat();
+    let ids: Vec<_> = places.iter().map(|place| runs.tables()[*place].metadata().id).collect();
+    let packed: Vec<_> = packed.tables().iter().map(|table| table.metadata().id).collect();
+    assert_eq!(packed, ids);
+}
+
+/// Tables of two keys each: those of a run lie apart, each key keeps the order of its tables, and a
+/// chain is as long as there are runs.
+#[test]
+fn tables_are_packed_as_far_as_they_lie_apart() {
+    let mut dice = Dice::new(3);
+    for count in 0..9 {
+        let spans: Vec<[u64; 2]> = (0..count)
+            .map(|_| {
+                let ends = [dice.below(12), dice.below(12)];
+                [ends[0].min(ends[1]), ends[0].max(ends[1])]
+            })
+            .collect();
+        let runs = Runs::from_tables(spans.iter().zip(0..).map(|(span, id)| span_table(span, id)));
+        let packing = runs.unwrap().packing().unwrap();
+        let overlap = |a: usize, b: usize| spans[a][0] <= spans[b][1] && spans[b][0] <= spans[a][1];
+        let mut run_of = vec![usize::MAX; spans.len()];
+        for (at, run) in packing.runs.iter().enumerate() {
+            assert!(run.windows(2).all(|two| spans[two[0]][1] < spans[two[1]][0]));
+            run.iter().for_each(|table| run_of[*table] = at);
+        }
+        for older in 0..spans.len() {
+            assert!(run_of[older] < packing.runs.len());
+            assert!((0..older).all(|newer| !overlap(newer, older) || run_of[newer] < run_of[older]));
+        }
+        assert_eq!(packing.chain.len(), packing.runs.len());
+        assert!(packing.chain.windows(2).all(|two| two[0] < two[1] && overlap(two[0], two[1])));
+    }
+}
+
+fn span_table(span: &[u64; 2], id: u64) -> Table<'static> {
+    let mut writer = Options { id, ..Options::default() }.open().unwrap();
+    for (key, seqno) in span.iter().zip([9, 8]) {
+        writer.write(format!("{key:02}").as_bytes(), seqno, ValueType::Value, b"").unwrap();
+    }
+    Table::open(writer.finish().unwrap().unwrap()).unwrap()
 }
 
 #[test]

@@ -3,7 +3,9 @@
 mod common;
 
 use common::{collect, items, keys, newest, random_entries, seen, small, write, Entries};
-use logpurple::{Answers, Compaction, OpenOptions, Range, Runs, Table, Writer, NEWEST};
+use logpurple::{
+    Answers, Compaction, OpenOptions, Range, Runs, Table, Verification, Writer, NEWEST,
+};
 use std::sync::{Arc, Barrier, Mutex};
 use std::thread;
 
@@ -11,7 +13,7 @@ fn is_send<T: Send>() {}
 
 #[test]
 fn all_that_is_held_goes_to_another_thread() {
-    is_send::<(Table, Range, Runs, Writer, Answers)>();
+    is_send::<(Table, Range, Runs, Writer, Answers, Verification)>();
 }
 
 fn read_all(table: &Table, entries: &Entries) {
@@ -26,7 +28,7 @@ fn read_all(table: &Table, entries: &Entries) {
 }
 
 /// Nothing was read before, so that threads meet where blocks are compared first.
-fn tables(entries: &Entries) -> impl Iterator<Item = Table> + '_ {
+fn tables(entries: &Entries) -> impl Iterator<Item = Table<'static>> + '_ {
     (0..8).map(move |seed| {
         let pinned = seed % 2 == 0;
         let options =

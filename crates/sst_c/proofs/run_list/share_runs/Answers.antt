@@ -1,0 +1,25 @@
+use Rattle.std.proofs.Common.{◌≡◌, ◌∙◌, refl, sym, []}
+use Rattle.std.specs.Arc.{arc_value}
+use Rattle.std.proofs.lemmas.List.{nil_from_length}
+use Rattle.sst_c.proofs.Shared.{shared_all, shared_more}
+use Rattle.sst_c.proofs.run_list.share_runs.Goals as goal
+
+pub loop-run-init : goal.loop-run-init
+loop-run-init c =
+    rw (c.new-shared.ensures.items, c.into_iter-run-iterator.ensures.into_iter_gives.0) refl
+
+-- one more is shared
+pub loop-run-preserved : goal.loop-run-preserved
+loop-run-preserved c =
+    rw c.in_ok-push.ensures.items
+    (shared_more arc_value c.loop-run.shared.items c.in_ok-new.field-0 c.in-Some.run'
+    c.loop-run.run-iterator.rest.items c.next.new.self.rest.items c.args.runs.items
+    c.in_ok-new.ensures.ok c.in-Some.ensures.steps.0 c.loop-run.invariant)
+
+pub returns-clause-ok : goal.returns-clause-ok
+returns-clause-ok c =
+    let rest = c.loop-run.run-iterator.rest in
+    let none : rest.items ≡ [] =
+    nil_from_length rest.items (sym rest.ok.0 ∙ c.in-None.ensures.steps.0) in
+    shared_all arc_value c.loop-run.shared.items rest.items c.args.runs.items none
+    c.loop-run.invariant

@@ -1,0 +1,88 @@
+-- A verification by steps, as C sees it.
+use Rattle.std.specs.Prelude.{◌≡◌, ℕ, ◌+◌, List, length, true, IfErr, IfNone, IfOk, IfSome}
+use Rattle.std.specs.Prelude.{Option, Some, None, Result, Ok, Err}
+use Rattle.sst_entries.specs.Entry.{Entry}
+use Rattle.sst_sections.specs.Sections.{body_of}
+use Rattle.lsm_readers.specs.Findings.{IsFirstFinding}
+use Rattle.lsm_readers.specs.Stored.{StoresList}
+use Rattle.lsm_readers.specs.Verification.{ReadsNext, StepsCalmly, Verifying, bytes_read}
+use Rattle.lsm_readers.specs.Verification.{next_size, step_early, steps_of}
+use Rattle.lsm_readers.specs.Verify.{FindsFirst, Misses, is_found, table_found}
+use Rattle.lsm_readers.specs.declared.verify.Finding.{Finding}
+use Rattle.lsm_readers.specs.declared.verify.Verified.{Verified}
+use Rattle.lsm_readers.specs.declared.verify.VerifyError.{VerifyError}
+use Rattle.lsm_readers.specs.declared.verify.VerifyError.TheVariants.{Found, OutOfMemory}
+use Rattle.sst_c.specs.Verify.{finding_told, no_finding, verified_told}
+use Rattle.sst_c.specs.declared.verifier.ProgressTold.{ProgressTold}
+use Rattle.sst_c.specs.declared.verify.VerifyTold.{VerifyTold}
+
+-- what a step answers: that more is to be read, what a sound table has, or a refusal
+abbrev pub StepAnswer : Type 0
+StepAnswer = Result (Option Verified) VerifyError
+
+-- what a step of a verification comes to, which leads it from v to w
+pub record IsStepOf (v : Verifying) (answer : StepAnswer) (w : Verifying) : Type 0 where
+  pub table : w.table ≡ v.table
+  -- as long as a block is left it reads a further one, the next, and this one alone:
+  pub goes : IfOk answer (λ a. IfNone a (steps_of v ≡ 1 + steps_of w))
+  pub reads : IfOk answer (λ a. IfNone a
+      (ReadsNext (body_of v.table.bytes) v.table.parts v.ahead v.left w.ahead w.left))
+  pub sizes : IfOk answer (λ a. IfNone a
+      (v.left.counts.size ≡ next_size v.ahead + w.left.counts.size))
+  -- where none is left it answers what verifying at once does, memory aside,
+  pub ends : IfOk answer (λ a. IfSome a (λ _. steps_of v ≡ 0))
+  pub told : IfOk answer (λ a. IfSome a (λ u.
+      table_found (body_of v.table.bytes) v.table.parts ≡ Ok u))
+  pub refused : IfErr answer (λ e. Misses e (table_found (body_of v.table.bytes) v.table.parts))
+  -- and what takes no memory to be found whatever memory there is;
+  pub early : FindsFirst answer (step_early (body_of v.table.bytes) v.table.parts v.ahead v.left)
+  pub calm : StepsCalmly (body_of v.table.bytes) v.ahead v.left →
+      IfErr answer (λ e. is_found e ≡ true)
+  -- where it answers or is refused nothing changes
+  pub answered : IfOk answer (λ a. IfSome a (λ _. w ≡ v))
+  pub unchanged : IfErr answer (λ _. w ≡ v)
+  -- what is found is wrong there, and all that is read before it is sound
+  pub first : IfErr answer (λ e. (f : Finding) → e ≡ Found f →
+      IsFirstFinding (body_of v.table.bytes) v.table.parts f)
+  -- what is verified stores a list, which has as many entries and data blocks;
+  pub sound : IfOk answer (λ a. IfSome a (λ u. (es : List Entry) × (t : StoresList v.table.bytes es)
+      × (u.item_count ≡ length es) × (u.data_block_count ≡ length t.handles)))
+  -- what stores a list is verified, memory aside
+  pub complete : (es : List Entry) → StoresList v.table.bytes es →
+      IfErr answer (λ e. e ≡ OutOfMemory)
+
+-- what C is told of an answer: its code,
+abbrev pub step_code : StepAnswer → ℕ
+step_code (Ok a) = 0
+step_code (Err OutOfMemory) = 1
+step_code (Err (Found f)) = 107
+
+-- whether it is the end, by 1 and 0,
+abbrev pub step_end : StepAnswer → ℕ
+step_end (Ok None) = 0
+step_end (Ok (Some u)) = 1
+step_end (Err e) = 0
+
+-- and what is there, or what is wrong
+abbrev pub step_told : StepAnswer → VerifyTold
+step_told (Ok None) = no_finding
+step_told (Ok (Some u)) = verified_told u
+step_told (Err OutOfMemory) = no_finding
+step_told (Err (Found f)) = finding_told f
+
+abbrev pub no_progress : ProgressTold
+no_progress = record { bytes_read = 0; data_size = 0; at_end = 0 }
+
+-- how far a verification is
+abbrev pub progress_told : Verifying → ℕ → ProgressTold
+progress_told v end = record {
+  bytes_read = bytes_read v;
+  data_size = v.table.parts.facts.file_size;
+  at_end = end;
+}
+
+-- a step led from v to w, and what it answered is told
+abbrev pub TellsStep : Verifying → ℕ → ProgressTold → VerifyTold → Verifying → Type 0
+TellsStep v code progress told w = (answer : StepAnswer) × IsStepOf v answer w
+    × (code ≡ step_code answer) × (told ≡ step_told answer)
+    × (progress ≡ progress_told w (step_end answer))

@@ -1,0 +1,47 @@
+//! Tables over bytes that the caller keeps.
+ghost use Rattle.std.specs.Prelude.{◌≡◌, ◌≢◌, IsSomeAnd, List, None, is_some, true};
+ghost use Rattle.lsm_readers.specs.Words.{Entry, StoresList, fits_told, recovered_told};
+ghost use Rattle.sst_c.specs.Codes.{TellsCode};
+ghost use Rattle.sst_c.specs.What.{IsOpenedAs};
+
+use crate::codes::OPEN;
+use crate::handle::Handle;
+use crate::tables::open_from;
+use sst_blocks::Slice;
+use std::alloc::Global;
+
+/// Opens a table over bytes that stay where and as they are, of which none is copied, into a handle
+/// that holds nothing. What is opened from it (ranges, shares, runs, answers, verifications) reads
+/// these bytes too. Refused 101 where the handle holds something, and as `Table::recover`; the
+/// handle stays as it is then.
+#[unsafe(no_mangle)]
+pub extern "C" fn sst_table_open_kept(
+    alloc: Global,
+    file: &'static [u8],
+    global_seqno: u64,
+    pin_filter: bool,
+    pin_index: bool,
+    table: &mut Handle,
+) -> u32
+    ensures open { is_some table.old.boxed.value ≡ true → result ≡ 101 }
+    ensures opened { result ≡ 0 → IsSomeAnd table.new.boxed.value
+        (IsOpenedAs file.now global_seqno pin_filter pin_index) }
+    ensures told { table.old.boxed.value ≡ None →
+        TellsCode result (recovered_told file.now global_seqno pin_filter pin_index) }
+    // Bytes that store a list are opened where the highest number fits.
+    ensures list { table.old.boxed.value ≡ None → (es : List Entry) → StoresList file.now es →
+        TellsCode result (fits_told es global_seqno) }
+    ensures left { result ≢ 0 → table.new.boxed.value ≡ table.old.boxed.value }
+{
+    if table.is_open() {
+        return OPEN;
+    }
+    open_from(
+        alloc,
+        Slice::from_static(file),
+        global_seqno,
+        pin_filter,
+        pin_index,
+        table,
+    )
+}

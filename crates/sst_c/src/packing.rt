@@ -1,0 +1,354 @@
+//! Packing the tables of a list of runs in as few runs as there can be.
+ghost use Rattle.std.specs.Prelude.{◌≡◌, ◌≢◌, ◌⊎◌, false, IfErr, IfOk, IsSomeAnd, List, None, Some};
+ghost use Rattle.std.specs.Prelude.{ℕ, is_some, length, slice_get, true};
+ghost use Rattle.sst_entries.specs.declared.error.Error.TheVariants.{OutOfMemory};
+ghost use Rattle.lsm_ranges.specs.Packing.{tables_in};
+ghost use Rattle.lsm_readers.specs.Words.{OpenTable};
+ghost use Rattle.lsm_runs.specs.Words.{range_of};
+ghost use Rattle.sst_c.specs.Packed.{ArePackedOf, IsPackedOf};
+ghost use Rattle.sst_c.specs.What.{IsPackingWhere, are_runs, is_packing, packed_chain, packed_runs};
+ghost use Rattle.sst_c.specs.What.{runs_held};
+ghost use Rattle.sst_c.specs.declared.held.Held.{Held as HeldValue};
+ghost use Rattle.sst_c.specs.declared.packed.Placed.{Placed as PlacedTable};
+
+use crate::codes::{CLOSED, NO_SUCH, OPEN, OTHER_KIND};
+use crate::handle::Handle;
+use crate::held::{Held, What};
+use crate::packed::packing_of;
+use crate::run_list::RunList;
+use sst_blocks::Error;
+use std::alloc::Global;
+
+// The box of runs, packed.
+fn packed_box(alloc: Global, runs: &RunList) -> Result<Box<Held>, Error>
+    ensures new { IfOk result (λ held. held.value.found ≡ None) }
+    ensures kind { IfOk result (λ held. are_runs held.value.what ≡ true) }
+    ensures packed { IfOk result (λ held. ArePackedOf runs.now (runs_held held.value.what)) }
+    ensures err { IfErr result (λ e. e ≡ OutOfMemory) }
+{
+    let held = Held {
+        found: None,
+        what: What::Runs(runs.packed(alloc)?),
+    };
+    Ok(Box::new(alloc, held)?)
+}
+
+// Puts runs, packed, into a handle that holds nothing.
+fn pack(alloc: Global, held: &Held, packed: &mut Handle) -> u32
+    requires { packed.old.boxed.value ≡ None }
+    ensures other { are_runs held.now.what ≡ false → result ≡ 102 }
+    ensures memory { are_runs held.now.what ≡ true → (result ≡ 0) ⊎ (result ≡ 1) }
+    ensures new { result ≡ 0 → IsSomeAnd packed.new.boxed.value (λ k. k.found ≡ None) }
+    ensures kind { result ≡ 0 → IsSomeAnd packed.new.boxed.value (λ k. are_runs k.what ≡ true) }
+    ensures packed { result ≡ 0 → IsSomeAnd packed.new.boxed.value (λ k.
+        ArePackedOf (runs_held held.now.what) (runs_held k.what)) }
+    ensures left { result ≢ 0 → packed.new.boxed.value ≡ None }
+{
+    let What::Runs(runs) = &held.what else {
+        return OTHER_KIND;
+    };
+    match packed_box(alloc, runs) {
+        Ok(held) => {
+            packed.put(held);
+            0
+        }
+        Err(error) => u32::from(error.number()),
+    }
+}
+
+/// Packs the tables of a list of runs in as few runs as there can be, so that each key keeps the
+/// order of its tables: a list of these runs, in a handle that holds nothing. It has shares of the
+/// tables, and finds what the list finds. The list stays. Refused 101 where the packed runs' handle
+/// holds something, 100 where the list's is closed, 102 where it holds no runs, and for want of
+/// memory; both stay as they are then.
+#[unsafe(no_mangle)]
+pub extern "C" fn sst_runs_pack(alloc: Global, runs: &mut Handle, packed: &mut Handle) -> u32
+    ensures kept { runs.new.boxed.value ≡ runs.old.boxed.value }
+    ensures left { result ≢ 0 → packed.new.boxed.value ≡ packed.old.boxed.value }
+    ensures open { is_some packed.old.boxed.value ≡ true → result ≡ 101 }
+    ensures shut { packed.old.boxed.value ≡ None → runs.old.boxed.value ≡ None → result ≡ 100 }
+    ensures other { (h : HeldValue) → packed.old.boxed.value ≡ None →
+        runs.old.boxed.value ≡ Some h → are_runs h.what ≡ false → result ≡ 102 }
+    ensures memory { (h : HeldValue) → packed.old.boxed.value ≡ None →
+        runs.old.boxed.value ≡ Some h → are_runs h.what ≡ true → (result ≡ 0) ⊎ (result ≡ 1) }
+    ensures new { result ≡ 0 → IsSomeAnd packed.new.boxed.value (λ k. k.found ≡ None) }
+    ensures kind { result ≡ 0 → IsSomeAnd packed.new.boxed.value (λ k. are_runs k.what ≡ true) }
+    // They are the runs of the list, packed; where the tables are of lists they hold the same.
+    ensures packed { (h : HeldValue) → runs.old.boxed.value ≡ Some h → result ≡ 0 →
+        IsSomeAnd packed.new.boxed.value (λ k.
+        ArePackedOf (runs_held h.what) (runs_held k.what)) }
+{
+    if packed.is_open() {
+        return OPEN;
+    }
+    let Some(held) = runs.take(alloc) else {
+        return CLOSED;
+    };
+    let code = pack(alloc, &held, packed);
+    runs.put(held);
+    code
+}
+
+// The box of how the tables of runs are packed.
+fn packing_box(alloc: Global, runs: &RunList) -> Result<Box<Held>, Error>
+    ensures new { IfOk result (λ held. held.value.found ≡ None) }
+    ensures packed { IfOk result (λ held.
+        IsPackingWhere (IsPackedOf range_of (tables_in runs.now)) held.value.what) }
+    ensures err { IfErr result (λ e. e ≡ OutOfMemory) }
+{
+    let held = Held {
+        found: None,
+        what: What::Packing(packing_of(alloc, runs)?),
+    };
+    Ok(Box::new(alloc, held)?)
+}
+
+// Puts how the tables of runs are packed into a handle that holds nothing.
+fn show_packing(alloc: Global, held: &Held, packing: &mut Handle) -> u32
+    requires { packing.old.boxed.value ≡ None }
+    ensures other { are_runs held.now.what ≡ false → result ≡ 102 }
+    ensures memory { are_runs held.now.what ≡ true → (result ≡ 0) ⊎ (result ≡ 1) }
+    ensures new { result ≡ 0 → IsSomeAnd packing.new.boxed.value (λ k. k.found ≡ None) }
+    ensures packed { result ≡ 0 → IsSomeAnd packing.new.boxed.value (λ k.
+        IsPackingWhere (IsPackedOf range_of (tables_in (runs_held held.now.what))) k.what) }
+    ensures left { result ≢ 0 → packing.new.boxed.value ≡ None }
+{
+    let What::Runs(runs) = &held.what else {
+        return OTHER_KIND;
+    };
+    match packing_box(alloc, runs) {
+        Ok(held) => {
+            packing.put(held);
+            0
+        }
+        Err(error) => u32::from(error.number()),
+    }
+}
+
+/// Finds in which runs the tables of a list of runs go where these are to be as few as there can
+/// be, and why there are no fewer, and keeps it in a handle that holds nothing. A table is told by
+/// its place among those of the list, one run behind another, from 0 on. Refused 101 where the
+/// packing's handle holds something, 100 where the list's is closed, 102 where it holds no runs,
+/// and for want of memory; both stay as they are then.
+#[unsafe(no_mangle)]
+pub extern "C" fn sst_packing_open(alloc: Global, runs: &mut Handle, packing: &mut Handle) -> u32
+    ensures kept { runs.new.boxed.value ≡ runs.old.boxed.value }
+    ensures left { result ≢ 0 → packing.new.boxed.value ≡ packing.old.boxed.value }
+    ensures open { is_some packing.old.boxed.value ≡ true → result ≡ 101 }
+    ensures shut { packing.old.boxed.value ≡ None → runs.old.boxed.value ≡ None → result ≡ 100 }
+    ensures other { (h : HeldValue) → packing.old.boxed.value ≡ None →
+        runs.old.boxed.value ≡ Some h → are_runs h.what ≡ false → result ≡ 102 }
+    ensures memory { (h : HeldValue) → packing.old.boxed.value ≡ None →
+        runs.old.boxed.value ≡ Some h → are_runs h.what ≡ true → (result ≡ 0) ⊎ (result ≡ 1) }
+    ensures new { result ≡ 0 → IsSomeAnd packing.new.boxed.value (λ k. k.found ≡ None) }
+    // The tables are those of the list, each key keeps the order of its tables, no fewer runs can
+    // do, and the chain is as long.
+    ensures packed { (h : HeldValue) → runs.old.boxed.value ≡ Some h → result ≡ 0 →
+        IsSomeAnd packing.new.boxed.value (λ k.
+        IsPackingWhere (IsPackedOf range_of (tables_in (runs_held h.what))) k.what) }
+{
+    if packing.is_open() {
+        return OPEN;
+    }
+    let Some(held) = runs.take(alloc) else {
+        return CLOSED;
+    };
+    let code = show_packing(alloc, &held, packing);
+    runs.put(held);
+    code
+}
+
+fn count(held: &Held, runs: &mut u64) -> u32
+    ensures other { is_packing held.now.what ≡ false → result ≡ 102 }
+    ensures told { is_packing held.now.what ≡ true →
+        (result ≡ 0) × (runs.new ≡ length (packed_runs held.now.what)) }
+    ensures left { result ≢ 0 → runs.new ≡ runs.old }
+{
+    match &held.what {
+        What::Packing(packed) => {
+            *runs = packed.runs.len() as u64;
+            0
+        }
+        _ => OTHER_KIND,
+    }
+}
+
+/// Tells in how many runs the tables go. Refused 100 where the handle is closed and 102 where it
+/// holds no packing; what `runs` says stays then.
+#[unsafe(no_mangle)]
+pub extern "C" fn sst_packing_count(alloc: Global, packing: &mut Handle, runs: &mut u64) -> u32
+    ensures kept { packing.new.boxed.value ≡ packing.old.boxed.value }
+    ensures shut { packing.old.boxed.value ≡ None → result ≡ 100 }
+    ensures other { (h : HeldValue) → packing.old.boxed.value ≡ Some h →
+        is_packing h.what ≡ false → result ≡ 102 }
+    ensures told { (h : HeldValue) → packing.old.boxed.value ≡ Some h →
+        is_packing h.what ≡ true → (result ≡ 0) × (runs.new ≡ length (packed_runs h.what)) }
+    ensures left { result ≢ 0 → runs.new ≡ runs.old }
+{
+    let Some(held) = packing.take(alloc) else {
+        return CLOSED;
+    };
+    let code = count(&held, runs);
+    packing.put(held);
+    code
+}
+
+fn count_run(held: &Held, run: u64, tables: &mut u64) -> u32
+    ensures other { is_packing held.now.what ≡ false → result ≡ 102 }
+    ensures none { is_packing held.now.what ≡ true →
+        slice_get (packed_runs held.now.what) run ≡ None → result ≡ 105 }
+    ensures told { (ts : List (PlacedTable OpenTable)) →
+        slice_get (packed_runs held.now.what) run ≡ Some ts →
+        (result ≡ 0) × (tables.new ≡ length ts) }
+    ensures left { result ≢ 0 → tables.new ≡ tables.old }
+{
+    let What::Packing(packed) = &held.what else {
+        return OTHER_KIND;
+    };
+    match packed.runs.get(run as usize) {
+        Some(run) => {
+            *tables = run.as_slice().len() as u64;
+            0
+        }
+        None => NO_SUCH,
+    }
+}
+
+/// Tells how many tables a run has: the one at a place, from 0 on. Refused 100 where the handle is
+/// closed, 102 where it holds no packing, and 105 where there is no run at that place; what
+/// `tables` says stays then.
+#[unsafe(no_mangle)]
+pub extern "C" fn sst_packing_run(
+    alloc: Global,
+    packing: &mut Handle,
+    run: u64,
+    tables: &mut u64,
+) -> u32
+    ensures kept { packing.new.boxed.value ≡ packing.old.boxed.value }
+    ensures shut { packing.old.boxed.value ≡ None → result ≡ 100 }
+    ensures other { (h : HeldValue) → packing.old.boxed.value ≡ Some h →
+        is_packing h.what ≡ false → result ≡ 102 }
+    ensures none { (h : HeldValue) → packing.old.boxed.value ≡ Some h →
+        is_packing h.what ≡ true → slice_get (packed_runs h.what) run ≡ None → result ≡ 105 }
+    ensures told { (h : HeldValue) (ts : List (PlacedTable OpenTable)) →
+        packing.old.boxed.value ≡ Some h → slice_get (packed_runs h.what) run ≡ Some ts →
+        (result ≡ 0) × (tables.new ≡ length ts) }
+    ensures left { result ≢ 0 → tables.new ≡ tables.old }
+{
+    let Some(held) = packing.take(alloc) else {
+        return CLOSED;
+    };
+    let code = count_run(&held, run, tables);
+    packing.put(held);
+    code
+}
+
+fn tell_table(held: &Held, run: u64, place: u64, table: &mut u64) -> u32
+    ensures other { is_packing held.now.what ≡ false → result ≡ 102 }
+    ensures no_run { is_packing held.now.what ≡ true →
+        slice_get (packed_runs held.now.what) run ≡ None → result ≡ 105 }
+    ensures none { (ts : List (PlacedTable OpenTable)) →
+        slice_get (packed_runs held.now.what) run ≡ Some ts → slice_get ts place ≡ None →
+        result ≡ 105 }
+    ensures told { (ts : List (PlacedTable OpenTable)) (t : PlacedTable OpenTable) →
+        slice_get (packed_runs held.now.what) run ≡ Some ts → slice_get ts place ≡ Some t →
+        (result ≡ 0) × (table.new ≡ t.place) }
+    ensures left { result ≢ 0 → table.new ≡ table.old }
+{
+    let What::Packing(packed) = &held.what else {
+        return OTHER_KIND;
+    };
+    let Some(run) = packed.runs.get(run as usize) else {
+        return NO_SUCH;
+    };
+    match run.as_slice().get(place as usize) {
+        Some(placed) => {
+            *table = placed.place as u64;
+            0
+        }
+        None => NO_SUCH,
+    }
+}
+
+/// Tells which table stands in a run at a place, both from 0 on: its place among those of the list.
+/// Refused 100 where the handle is closed, 102 where it holds no packing, and 105 where there is no
+/// such run or no table at that place of it; what `table` says stays then.
+#[unsafe(no_mangle)]
+pub extern "C" fn sst_packing_table(
+    alloc: Global,
+    packing: &mut Handle,
+    run: u64,
+    place: u64,
+    table: &mut u64,
+) -> u32
+    ensures kept { packing.new.boxed.value ≡ packing.old.boxed.value }
+    ensures shut { packing.old.boxed.value ≡ None → result ≡ 100 }
+    ensures other { (h : HeldValue) → packing.old.boxed.value ≡ Some h →
+        is_packing h.what ≡ false → result ≡ 102 }
+    ensures no_run { (h : HeldValue) → packing.old.boxed.value ≡ Some h →
+        is_packing h.what ≡ true → slice_get (packed_runs h.what) run ≡ None → result ≡ 105 }
+    ensures none { (h : HeldValue) (ts : List (PlacedTable OpenTable)) →
+        packing.old.boxed.value ≡ Some h → slice_get (packed_runs h.what) run ≡ Some ts →
+        slice_get ts place ≡ None → result ≡ 105 }
+    ensures told { (h : HeldValue) (ts : List (PlacedTable OpenTable))
+        (t : PlacedTable OpenTable) → packing.old.boxed.value ≡ Some h →
+        slice_get (packed_runs h.what) run ≡ Some ts → slice_get ts place ≡ Some t →
+        (result ≡ 0) × (table.new ≡ t.place) }
+    ensures left { result ≢ 0 → table.new ≡ table.old }
+{
+    let Some(held) = packing.take(alloc) else {
+        return CLOSED;
+    };
+    let code = tell_table(&held, run, place, table);
+    packing.put(held);
+    code
+}
+
+fn tell_link(held: &Held, place: u64, table: &mut u64) -> u32
+    ensures other { is_packing held.now.what ≡ false → result ≡ 102 }
+    ensures none { is_packing held.now.what ≡ true →
+        slice_get (packed_chain held.now.what) place ≡ None → result ≡ 105 }
+    ensures told { (p : ℕ × ℕ) → slice_get (packed_chain held.now.what) place ≡ Some p →
+        (result ≡ 0) × (table.new ≡ p.0) }
+    ensures left { result ≢ 0 → table.new ≡ table.old }
+{
+    let What::Packing(packed) = &held.what else {
+        return OTHER_KIND;
+    };
+    match packed.chain.get(place as usize) {
+        Some(link) => {
+            *table = link.0 as u64;
+            0
+        }
+        None => NO_SUCH,
+    }
+}
+
+/// Tells which table stands in the chain at a place, from 0 on: its place among those of the list.
+/// Each overlaps the next one, which is an older one, and there are as many as runs. Refused 100
+/// where the handle is closed, 102 where it holds no packing, and 105 where the chain has no table
+/// at that place; what `table` says stays then.
+#[unsafe(no_mangle)]
+pub extern "C" fn sst_packing_chain(
+    alloc: Global,
+    packing: &mut Handle,
+    place: u64,
+    table: &mut u64,
+) -> u32
+    ensures kept { packing.new.boxed.value ≡ packing.old.boxed.value }
+    ensures shut { packing.old.boxed.value ≡ None → result ≡ 100 }
+    ensures other { (h : HeldValue) → packing.old.boxed.value ≡ Some h →
+        is_packing h.what ≡ false → result ≡ 102 }
+    ensures none { (h : HeldValue) → packing.old.boxed.value ≡ Some h →
+        is_packing h.what ≡ true → slice_get (packed_chain h.what) place ≡ None → result ≡ 105 }
+    ensures told { (h : HeldValue) (p : ℕ × ℕ) → packing.old.boxed.value ≡ Some h →
+        slice_get (packed_chain h.what) place ≡ Some p → (result ≡ 0) × (table.new ≡ p.0) }
+    ensures left { result ≢ 0 → table.new ≡ table.old }
+{
+    let Some(held) = packing.take(alloc) else {
+        return CLOSED;
+    };
+    let code = tell_link(&held, place, table);
+    packing.put(held);
+    code
+}

@@ -1,0 +1,119 @@
+//! A verification that is made by steps, and what C is told of one.
+ghost use Rattle.std.specs.Prelude.{◌≡◌, IfErr, IfOk};
+ghost use Rattle.sst_entries.specs.declared.error.Error.TheVariants.{OutOfMemory};
+ghost use Rattle.lsm_readers.specs.Verification.{verifying};
+ghost use Rattle.sst_c.specs.Stepwise.{TellsStep, progress_told, step_code, step_end, step_told};
+ghost use Rattle.sst_c.specs.Stepwise.{no_progress};
+ghost use Rattle.sst_c.specs.Verify.{no_finding};
+
+use crate::codes::{FAULTY, NO_MEMORY};
+use crate::verify::{VerifyTold, tell_finding, tell_verified};
+use lsm_readers::{Table, Verification, Verified, VerifyError};
+use sst_blocks::Error;
+use std::marker::Model;
+
+/// How far a verification is.
+#[repr(C)]
+#[derive(Clone, Copy)]
+pub struct ProgressTold {
+    /// How many bytes of data blocks were read.
+    pub bytes_read: u64,
+    /// How many the table says that there are.
+    pub data_size: u64,
+    /// 1 where all was read and is sound, else 0.
+    pub at_end: u64,
+}
+
+/// A verification, and how many bytes of data blocks its table says that there are. A contract sees
+/// the verification.
+#[derive(Drop)]
+pub struct Verifier {
+    verification: Verification,
+    data_size: u64,
+}
+
+impl Model for Verifier {
+    ghost use Rattle.std.specs.Prelude.{◌≡◌};
+    ghost use Rattle.lsm_readers.specs.Verification.{Verifying};
+
+    ghost Value = { Verifying };
+
+    ghost view = { λ v. v.verification };
+
+    ghost invariant = { λ v. v.data_size ≡ v.verification.table.parts.facts.file_size };
+}
+
+/// What is told of no verification.
+pub(crate) fn no_progress() -> ProgressTold
+    ensures { result ≡ no_progress }
+{
+    ProgressTold {
+        bytes_read: 0,
+        data_size: 0,
+        at_end: 0,
+    }
+}
+
+// Whether a step was the last: 1 where it was, else 0.
+fn end_of(answer: &Result<Option<Verified>, VerifyError>) -> u64
+    ensures { result ≡ step_end answer.now }
+{
+    match answer {
+        Ok(Some(_)) => 1,
+        _ => 0,
+    }
+}
+
+// Tells what a step answered.
+fn tell_answer(answer: &Result<Option<Verified>, VerifyError>, told: &mut VerifyTold) -> u32
+    requires { told.old ≡ no_finding }
+    ensures code { result ≡ step_code answer.now }
+    ensures told { told.new ≡ step_told answer.now }
+{
+    match answer {
+        Ok(None) => 0,
+        Ok(Some(verified)) => {
+            *told = tell_verified(*verified);
+            0
+        }
+        Err(VerifyError::OutOfMemory) => NO_MEMORY,
+        Err(VerifyError::Found(finding)) => {
+            *told = tell_finding(finding);
+            FAULTY
+        }
+    }
+}
+
+impl Verifier {
+    /// A verification of a table, of which nothing is read yet.
+    pub(crate) fn of(table: &Table) -> Result<Verifier, Error>
+        ensures ok { IfOk result (λ v. v ≡ verifying table.now) }
+        ensures err { IfErr result (λ e. e ≡ OutOfMemory) }
+    {
+        Ok(Verifier {
+            verification: table.verification()?,
+            data_size: table.metadata.file_size,
+        })
+    }
+
+    // How far it is, and whether it is at its end.
+    fn progress(&self, at_end: u64) -> ProgressTold
+        ensures { result ≡ progress_told self.now at_end }
+    {
+        ProgressTold {
+            bytes_read: self.verification.bytes_read(),
+            data_size: self.data_size,
+            at_end,
+        }
+    }
+
+    /// Makes a step, and tells what it answered.
+    pub(crate) fn step(&mut self, progress: &mut ProgressTold, told: &mut VerifyTold) -> u32
+        requires { told.old ≡ no_finding }
+        ensures { TellsStep self.old result progress.new told.new self.new }
+    {
+        let answer = self.verification.step();
+        *progress = self.progress(end_of(&answer));
+        tell_answer(&answer, told)
+    }
+}
