@@ -26,7 +26,7 @@ each_alone tables = map (λ t. t ∷ []) tables
 
 -- tables that are made of these: those of a list that can be written; and where these are tables of
 -- lists, the newest first, those of what is kept of all entries together
-pub record AreMadeOf {A : Type 0} (o : CompactOptions) (opened : List OpenTable)
+pub record AreCompactedOf {A : Type 0} (o : CompactOptions) (opened : List OpenTable)
     (tables : List (FinishedTable A)) : Type 0 where
   pub left : Option ℕ
   pub some : WritesSome (compactor_by o) tables left

@@ -10,7 +10,7 @@ use Rattle.logpurple.specs.Words.{OpenTable, OutOfMemory, range_of}
 use Rattle.tool_compact.specs.declared.compact_error.CompactError.{CompactError}
 use Rattle.tool_compact.specs.declared.compact_error.CompactError.TheVariants as error
 use Rattle.tool_files.specs.Files.{is_memory_fault}
-use Rattle.tool_files.specs.Opened.{AreOpened, StopsOpening}
+use Rattle.tool_files.specs.Opened.{AreOpenedFrom, StopsOpening}
 use Rattle.tool_compact.specs.Printed.{path_or_mark}
 
 -- a table and its place
@@ -50,6 +50,6 @@ RefusesToPack content paths (error.File e) =
     (is_memory_fault e.fault ≡ false) × StopsOpening true content paths e
 RefusesToPack content paths (error.Refused e) = e ≡ OutOfMemory
 RefusesToPack content paths (error.Range name) = (tables : List OpenTable)
-    × (length tables ≡ length paths) × AreOpened true content paths tables
+    × (length tables ≡ length paths) × AreOpenedFrom true content paths tables
     × NamesTurned range_of paths tables (error.Range name)
 RefusesToPack content paths _ = ⊥

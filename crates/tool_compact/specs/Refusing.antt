@@ -3,13 +3,13 @@ use denote.Ref.{Bor}
 use Rattle.std.specs.Prelude.{◌≡◌, ◌⊎◌, ℕ, Bool, true, List, Option, length}
 use Rattle.lsm_writers.specs.declared.writer.FinishedTable.{FinishedTable}
 use Rattle.tool_files.specs.declared.file_error.FileError.{FileError}
-use Rattle.tool_files.specs.Opened.{AreOpened, StopsOpening}
+use Rattle.tool_files.specs.Opened.{AreOpenedFrom, StopsOpening}
 use Rattle.tool_files.specs.Steps.{Step}
 use Rattle.logpurple.specs.Words.{OpenTable}
 use Rattle.tool_compact.specs.declared.compact_error.CompactError.{CompactError}
 use Rattle.tool_compact.specs.declared.compact_options.CompactOptions.{CompactOptions}
 use Rattle.tool_compact.specs.Blamed.{IsBlame, blamed}
-use Rattle.tool_compact.specs.Compacted.{AreMadeOf, TellCount, TellsOrder}
+use Rattle.tool_compact.specs.Compacted.{AreCompactedOf, TellCount, TellsOrder}
 use Rattle.tool_compact.specs.Filled.{IsFilled, IsNotFilled, IsTakenFault, TellsFolder}
 use Rattle.tool_compact.specs.Scanned.{NamesOrder}
 use Rattle.tool_files.specs.declared.made.Made.{Made}
@@ -19,8 +19,8 @@ pub record AreOfFiles {A : Type 0} (o : CompactOptions) (content : List ℕ → 
     (paths : List (Bor (List ℕ))) (tables : List (FinishedTable A)) : Type 0 where
   pub opened : List OpenTable
   pub many : length opened ≡ length paths
-  pub are : AreOpened true content paths opened
-  pub made : AreMadeOf o opened tables
+  pub are : AreOpenedFrom true content paths opened
+  pub made : AreCompactedOf o opened tables
 
 -- the first file that is refused is told, and no file where memory is wanted
 pub record StopsFiles (content : List ℕ → Option (List ℕ)) (paths : List (Bor (List ℕ)))
@@ -34,7 +34,7 @@ pub record StopsTables (o : CompactOptions) (content : List ℕ → Option (List
     (paths : List (Bor (List ℕ))) (e : CompactError) : Type 0 where
   pub opened : List OpenTable
   pub many : length opened ≡ length paths
-  pub are : AreOpened true content paths opened
+  pub are : AreOpenedFrom true content paths opened
   pub order : TellsOrder o opened e
   pub blames : IsBlame paths opened e
   pub names : NamesOrder paths opened e
@@ -64,7 +64,7 @@ RefusesToCompact A o content paths folder there known e new =
 
 -- so many tables were made of files and fill a new folder, and nothing else was done; they tell so
 -- many entries
-pub record CompactsTo (A : Type 0) (o : CompactOptions) (content : List ℕ → Option (List ℕ))
+pub record CompactsFiles (A : Type 0) (o : CompactOptions) (content : List ℕ → Option (List ℕ))
     (paths : List (Bor (List ℕ))) (folder : List ℕ) (made : Made) (known new : Option (List Step))
     : Type 0 where
   pub tables : List (FinishedTable A)

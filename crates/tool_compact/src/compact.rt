@@ -8,11 +8,11 @@ ghost use Rattle.logpurple.specs.Words.{CameInOrder, Entry, GoesThrough, HasMade
 ghost use Rattle.logpurple.specs.Words.{OpenTable, OutOfMemory, RunsHoldLists, kept_in};
 ghost use Rattle.tool_compact.specs.declared.compact_error.CompactError.TheVariants.{Refused};
 ghost use Rattle.tool_compact.specs.Blamed.{BlamesNone, BlamesNoneForMemory, IsBlame, NamesBlame};
-ghost use Rattle.tool_compact.specs.Compacted.{AreMadeOf, HasCount, HasNoTables, IfOutOfOrder};
+ghost use Rattle.tool_compact.specs.Compacted.{AreCompactedOf, HasCount, HasNoTables, IfOutOfOrder};
 ghost use Rattle.tool_compact.specs.Compacted.{TellCount, TellsOrder, compactor_by, counted};
 ghost use Rattle.tool_compact.specs.Compacted.{each_alone};
 ghost use Rattle.tool_compact.specs.Filled.{IsTakenFault, TellsFolder};
-ghost use Rattle.tool_compact.specs.Refusing.{AreOfFiles, CompactsTo, RefusesFiles};
+ghost use Rattle.tool_compact.specs.Refusing.{AreOfFiles, CompactsFiles, RefusesFiles};
 ghost use Rattle.tool_compact.specs.Refusing.{RefusesToCompact};
 ghost use Rattle.tool_compact.specs.Scanned.{NamesOrder};
 ghost use Rattle.lsm_compactions.specs.declared.any_runs.CompactionOutcome.TheVariants.{Tables};
@@ -193,7 +193,7 @@ fn compact_opened<'a, A: Allocator + Copy>(
     tables: &[Table<A>],
     options: &CompactOptions,
 ) -> Result<NewTables<A>, CompactError<'a>>
-    ensures made { IfOk result (λ made. AreMadeOf options.now tables.now made.tables.items) }
+    ensures made { IfOk result (λ made. AreCompactedOf options.now tables.now made.tables.items) }
     ensures count { IfOk result (λ made. TellCount made.tables.items made.entries) }
     ensures order { IfErr result (TellsOrder options.now tables.now) }
     ensures blames { IfErr result (IsBlame paths.now tables.now) }
@@ -251,7 +251,7 @@ pub fn compact_files<'a, P: Place, A: Allocator + Copy>(
     // in their order; of tables of lists, those of what is kept of all entries together. As many
     // entries are answered as these tables tell. The folder was made, the files of just these
     // tables placed in it, and its own name synced, and nothing else was done.
-    ensures made { IfOk result (λ made. CompactsTo A options.now (P.content place.old) paths.now
+    ensures made { IfOk result (λ made. CompactsFiles A options.now (P.content place.old) paths.now
         folder.now made (P.done place.old) (P.done place.new)) }
     // Where anything has the folder's path, the folder is named, whatever the files are.
     ensures taken { P.there place.old folder.now ≡ Some true → IsErrAnd result

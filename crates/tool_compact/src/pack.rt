@@ -3,7 +3,7 @@ ghost use Rattle.std.specs.Prelude.{◌≡◌, ◌+◌, ◌∷◌, [], IfErr, If
 ghost use Rattle.std.specs.Prelude.{length, not, true};
 ghost use Rattle.lsm_ranges.specs.Packing.{AreTablesWellFormed};
 ghost use Rattle.logpurple.specs.Words.{OpenTable, OutOfMemory, range_of};
-ghost use Rattle.tool_files.specs.Opened.{AreOpened};
+ghost use Rattle.tool_files.specs.Opened.{AreOpenedFrom};
 ghost use Rattle.tool_compact.specs.Packed.{IsPackedOf, NamesTurned, RefusesToPack, alone, placed};
 
 use crate::CompactError;
@@ -131,7 +131,7 @@ pub fn pack_files<'a, P: Place, A: Allocator + Copy>(
 ) -> Result<Packed<Table<A>, A>, CompactError<'a>>
     // They are the tables of these files, packed.
     ensures ok { IfOk result (λ packed. (opened : List OpenTable)
-        × (length opened ≡ length paths.now) × AreOpened true (P.content place.now) paths.now opened
+        × (length opened ≡ length paths.now) × AreOpenedFrom true (P.content place.now) paths.now opened
         × IsPackedOf range_of opened packed) }
     // A refusal names the first file that is not opened, or one of tables whose first key is above
     // the last; or it is for want of memory.

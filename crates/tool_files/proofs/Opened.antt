@@ -12,7 +12,7 @@ use Rattle.tool_files.specs.declared.file_error.FileFault.TheVariants.{AfterOthe
 use Rattle.tool_files.specs.declared.file_error.FileFault.TheVariants.{Io, Left, NamesTaken, NotPlain}
 use Rattle.tool_files.specs.declared.file_error.FileFault.TheVariants.{NotSynced, Refused, Taken}
 use Rattle.tool_files.specs.Files.{IsReadFault, is_memory_fault, path_text}
-use Rattle.tool_files.specs.Opened.{AreOpened, HasContent, IsToldByBytes, StopsOpening}
+use Rattle.tool_files.specs.Opened.{AreOpenedFrom, HasContent, IsToldByBytes, StopsOpening}
 use Rattle.tool_files.specs.Opened.{TellsRefused}
 use Rattle.tool_files.proofs.Steps.{list_at}
 
@@ -77,9 +77,9 @@ refused_told pinned (Some k) bytes e same told =
 
 module _ (pinned : Bool) (content : List ℕ → Option (List ℕ)) where
   opened_behind : (paths : List (Bor (List ℕ))) (path : Bor (List ℕ)) (ts : List OpenTable)
-      (t : OpenTable) → AreOpened pinned content paths ts → IsToldByBytes pinned t
+      (t : OpenTable) → AreOpenedFrom pinned content paths ts → IsToldByBytes pinned t
       → HasContent (content path.now) t
-      → AreOpened pinned content (paths ++ path ∷ []) (ts ++ t ∷ [])
+      → AreOpenedFrom pinned content (paths ++ path ∷ []) (ts ++ t ∷ [])
   opened_behind [] path [] t h told has = ((told, has), tt)
   opened_behind [] path (x ∷ ts) t h told has = absurd h
   opened_behind (p ∷ paths) path [] t h told has = absurd h
@@ -89,18 +89,18 @@ module _ (pinned : Bool) (content : List ℕ → Option (List ℕ)) where
   -- one more is opened
   pub opened_more : (paths : List (Bor (List ℕ))) (i : ℕ) (d : Bor (List ℕ))
       (ts : List OpenTable) (t : OpenTable) → i < length paths
-      → AreOpened pinned content (take i paths) ts → IsToldByBytes pinned t
+      → AreOpenedFrom pinned content (take i paths) ts → IsToldByBytes pinned t
       → HasContent (content (get_or paths i d).now) t
-      → AreOpened pinned content (take (i + 1) paths) (ts ++ t ∷ [])
+      → AreOpenedFrom pinned content (take (i + 1) paths) (ts ++ t ∷ [])
   opened_more paths i d ts t less so_far told has =
-      subst (λ (ps : List (Bor (List ℕ))). AreOpened pinned content ps (ts ++ t ∷ []))
+      subst (λ (ps : List (Bor (List ℕ))). AreOpenedFrom pinned content ps (ts ++ t ∷ []))
       (sym (take_more paths i d less))
       (opened_behind (take i paths) (get_or paths i d) ts t so_far told has)
 
   -- one is refused
   pub stops_opening : {R : Type 0} (result : Result R FileError) (paths : List (Bor (List ℕ)))
       (i : ℕ) (d : Bor (List ℕ)) (ts : List OpenTable) (e : FileError) → i < length paths
-      → AreOpened pinned content (take i paths) ts → path_text e.name ≡ (get_or paths i d).now
+      → AreOpenedFrom pinned content (take i paths) ts → path_text e.name ≡ (get_or paths i d).now
       → TellsRefused pinned (content (get_or paths i d).now) e.fault
       → IsErrAnd result (λ y. y ≡ e) → IfErr result (StopsOpening pinned content paths)
   stops_opening (Ok r) paths i d ts e less so_far named told is = tt

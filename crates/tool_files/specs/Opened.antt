@@ -19,14 +19,14 @@ abbrev pub HasContent : Option (List ℕ) → OpenTable → Type 0
 HasContent known t = IfSome known (λ bytes. t.bytes ≡ bytes)
 
 -- files were opened as tables in their order, each table of the bytes of its own file
-abbrev pub AreOpened : Bool → (List ℕ → Option (List ℕ)) → List (Bor (List ℕ)) → List OpenTable
+abbrev pub AreOpenedFrom : Bool → (List ℕ → Option (List ℕ)) → List (Bor (List ℕ)) → List OpenTable
     → Type 0
-AreOpened pinned content [] [] = Unit {0}
-AreOpened pinned content [] (t ∷ ts) = ⊥
-AreOpened pinned content (path ∷ paths) [] = ⊥
-AreOpened pinned content (path ∷ paths) (t ∷ ts) =
+AreOpenedFrom pinned content [] [] = Unit {0}
+AreOpenedFrom pinned content [] (t ∷ ts) = ⊥
+AreOpenedFrom pinned content (path ∷ paths) [] = ⊥
+AreOpenedFrom pinned content (path ∷ paths) (t ∷ ts) =
     (IsToldByBytes pinned t × HasContent (content path.now) t)
-    × AreOpened pinned content paths ts
+    × AreOpenedFrom pinned content paths ts
 
 -- where a file is refused as a table, its bytes tell so, where these are known, or memory is wanted
 abbrev pub TellsRefused : Bool → Option (List ℕ) → FileFault → Type 0
@@ -43,6 +43,6 @@ pub record StopsOpening (pinned : Bool) (content : List ℕ → Option (List ℕ
   pub behind : List (Bor (List ℕ))
   pub split : paths ≡ before ++ path ∷ behind
   pub tables : List OpenTable
-  pub opened : AreOpened pinned content before tables
+  pub opened : AreOpenedFrom pinned content before tables
   pub named : path_text e.name ≡ path.now
   pub told : TellsRefused pinned (content path.now) e.fault

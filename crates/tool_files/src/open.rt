@@ -3,7 +3,7 @@ ghost use Rattle.std.specs.Prelude.{◌≡◌, ◌++◌, ◌∷◌, [], Any, IfE
 ghost use Rattle.std.specs.List.{AllByRecursion};
 ghost use Rattle.logpurple.specs.Words.{Gives, OpenTable, recovered_told};
 ghost use Rattle.tool_files.specs.Files.{is_memory_fault, path_text};
-ghost use Rattle.tool_files.specs.Opened.{AreOpened, HasContent, IsToldByBytes, StopsOpening};
+ghost use Rattle.tool_files.specs.Opened.{AreOpenedFrom, HasContent, IsToldByBytes, StopsOpening};
 ghost use Rattle.tool_files.specs.Opened.{TellsRefused};
 
 use crate::{FileError, FileFault, FileName, Place, read_file};
@@ -87,7 +87,7 @@ pub fn open_tables<'a, P: Place, A: Allocator + Copy>(
     ensures numbers { IfOk result (λ tables.
         AllByRecursion (λ (t : OpenTable). t.global_seqno ≡ 0) tables.items) }
     ensures opened { IfOk result (λ tables.
-        AreOpened pinned (P.content place.now) paths.now tables.items) }
+        AreOpenedFrom pinned (P.content place.now) paths.now tables.items) }
     // A refusal names the first of the files that is refused, and those before it were opened.
     ensures stops { IfErr result (StopsOpening pinned (P.content place.now) paths.now) }
     ensures named { IfErr result (λ e. Any (λ path. path_text e.name ≡ path.now) paths.now) }

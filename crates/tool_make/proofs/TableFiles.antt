@@ -10,7 +10,7 @@ use Rattle.tool_files.specs.declared.file_error.FileError.{FileError}
 use Rattle.tool_make.specs.declared.make_error.MakeError.{MakeError}
 use Rattle.tool_make.specs.declared.make_error.MakeError.TheVariants.{File, Refused}
 use Rattle.logpurple.specs.Words.{OutOfMemory}
-use Rattle.tool_make.specs.Faults.{blamed}
+use Rattle.tool_make.specs.Faults.{error_of_file}
 use Rattle.lsm_writers.specs.declared.writer.FinishedTable.{FinishedTable}
 use Rattle.tool_files.specs.declared.write.NewFile.{NewFile}
 use Rattle.tool_files.specs.Files.{is_memory_fault, path_text}
@@ -76,7 +76,7 @@ pub tables_stop : {A R : Type 0} (told : Result R MakeError) (path : List ℕ)
     (there : List ℕ → Option Bool) (known new : Option (List Step)) (e : FileError)
     → map named_bytes wanted ≡ files_from path target 1 fs → seen ≡ wanted
     → StopsPlacing target (table_file_name path target (length seen + 1)) there known seen e new
-    → IsErrAnd told (λ y. y ≡ blamed e)
+    → IsErrAnd told (λ y. y ≡ error_of_file e)
     → IfErr told (λ y. RefusesTables path target fs there known y new)
 tables_stop (Ok r) path target fs wanted seen there known new e files same stops is = tt
 tables_stop {A} (Err y) path target fs wanted seen there known new e files same stops is =
@@ -105,7 +105,7 @@ blamed_by path target tables e false h = h
 -- where memory is wanted none is
 pub blamed_table : {R : Type 0} (told : Result R MakeError) (path : List ℕ)
     (target : Option ℕ) (tables : ℕ) (e : FileError) → TellsTableFile path target tables (File e)
-    → IsErrAnd told (λ y. y ≡ blamed e) → IfErr told (TellsTableFile path target tables)
+    → IsErrAnd told (λ y. y ≡ error_of_file e) → IfErr told (TellsTableFile path target tables)
 blamed_table (Ok r) path target tables e h is = tt
 blamed_table (Err y) path target tables e h is =
     subst (TellsTableFile path target tables) (sym is)
@@ -121,7 +121,7 @@ pub blamed_earlier : {A R : Type 0} (told : Result R MakeError) (path : List ℕ
     (target : Option ℕ) (fs : List (FinishedTable A)) (wanted seen : List NewFile)
     (e : FileError) → map named_bytes wanted ≡ files_from path target 1 fs → seen ≡ wanted
     → IfLeft e.fault (path_text e.name ≡ table_file_name path target (length seen + 1))
-    → IsErrAnd told (λ y. y ≡ blamed e) → IfErr told (TellsEarlier path target (length fs))
+    → IsErrAnd told (λ y. y ≡ error_of_file e) → IfErr told (TellsEarlier path target (length fs))
 blamed_earlier (Ok r) path target fs wanted seen e files same h is = tt
 blamed_earlier {A} (Err y) path target fs wanted seen e files same h is =
     subst (TellsEarlier path target (length fs)) (sym is)

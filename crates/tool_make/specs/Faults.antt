@@ -19,8 +19,8 @@ use Rattle.tool_make.specs.Entries.{LineSpells, Spell, SpellRows, input_lines}
 use Rattle.tool_make.specs.Taken.{TookAll}
 
 -- what is wrong with a file, and no file where memory is wanted
-abbrev pub blamed : FileError → MakeError
-blamed e = if is_memory_fault e.fault then Refused OutOfMemory else File e
+abbrev pub error_of_file : FileError → MakeError
+error_of_file e = if is_memory_fault e.fault then Refused OutOfMemory else File e
 
 -- what is wrong with an entry for a writer of tables, as entries come or put in order
 abbrev pub IsWrongEntry : Bool → TablesWriting → Entry → LineFault → Type 0

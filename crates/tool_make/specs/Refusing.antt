@@ -12,7 +12,7 @@ use Rattle.tool_make.specs.declared.make_error.MakeError.TheVariants.{File, NoEn
 use Rattle.tool_make.specs.declared.make_error.MakeError.TheVariants.{SizeTooLarge}
 use Rattle.tool_make.specs.declared.options.WriteOptions.{WriteOptions}
 use Rattle.tool_make.specs.Entries.{HasEntries}
-use Rattle.tool_make.specs.Faults.{StopsLines, blamed}
+use Rattle.tool_make.specs.Faults.{StopsLines, error_of_file}
 use Rattle.tool_make.specs.TableFiles.{AreTablesNotPlaced}
 use Rattle.tool_make.specs.Written.{AreOfLines, HasSmallSizes, TookLines, writer_by}
 
@@ -44,14 +44,14 @@ RefusesLines o input (File e) = ⊥
 RefusesLines o input error = StopsLines o.sort o.format input (writer_by o) error
 
 -- tables were made of lines, and their files were not all placed, or not for good
-pub record RefusesFiles (A : Type 0) (o : WriteOptions) (input : Option (List ℕ))
+pub record RefusesToPlace (A : Type 0) (o : WriteOptions) (input : Option (List ℕ))
     (path : List ℕ) (there : List ℕ → Option Bool) (known : Option (List Step))
     (error : MakeError) (new : Option (List Step)) : Type 0 where
   pub tables : List (FinishedTable A)
   pub count : ℕ
   pub made : AreOfLines o input tables count
   pub file : FileError
-  pub told : error ≡ blamed file
+  pub told : error ≡ error_of_file file
   pub stops : AreTablesNotPlaced path o.target tables there known file new
 
 -- why lines are not written: no tables come of them, and nothing was done; or there are tables, and
@@ -60,4 +60,4 @@ abbrev pub RefusesToWrite : Type 0 → WriteOptions → Option (List ℕ) → Li
     → (List ℕ → Option Bool) → Option (List Step) → MakeError → Option (List Step) → Type 0
 RefusesToWrite A o input path there known error new =
     (RefusesLines o input error × (new ≡ known))
-    ⊎ RefusesFiles A o input path there known error new
+    ⊎ RefusesToPlace A o input path there known error new

@@ -12,7 +12,7 @@ use Rattle.tool_files.specs.declared.write.NewFile.{NewFile}
 use Rattle.tool_make.specs.declared.make_error.MakeError.{MakeError}
 use Rattle.tool_make.specs.declared.make_error.MakeError.TheVariants.{File, Refused}
 use Rattle.logpurple.specs.Words.{OutOfMemory}
-use Rattle.tool_make.specs.Faults.{blamed}
+use Rattle.tool_make.specs.Faults.{error_of_file}
 
 -- the name of a table's file: the path where there is one table, and the number behind it where
 -- there may be several
@@ -76,5 +76,5 @@ abbrev pub RefusesTables : {A : Type 0} → List ℕ → Option ℕ → List (Fi
     → (List ℕ → Option Bool) → Option (List Step) → MakeError → Option (List Step) → Type 0
 RefusesTables path target fs there known error new =
     ((error ≡ Refused OutOfMemory) × (new ≡ known))
-    ⊎ ((file : FileError) × (error ≡ blamed file)
+    ⊎ ((file : FileError) × (error ≡ error_of_file file)
     × AreTablesNotPlaced path target fs there known file new)

@@ -83,9 +83,9 @@ impl<'a> std::error::Error for MakeError<'a> {}
 // Want of memory is no file's fault.
 impl<'a> From<FileError<'a>> for MakeError<'a> {
     ghost use Rattle.std.specs.Prelude.{◌≡◌};
-    ghost use Rattle.tool_make.specs.Faults.{blamed};
+    ghost use Rattle.tool_make.specs.Faults.{error_of_file};
 
-    ghost from_gives = { λ error made. made ≡ blamed error };
+    ghost from_gives = { λ error made. made ≡ error_of_file error };
 
     fn from(error: FileError<'a>) -> MakeError<'a> {
         if error.fault.is_memory() {

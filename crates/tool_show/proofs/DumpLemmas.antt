@@ -17,7 +17,7 @@ use Rattle.sst_entries.proofs.StreamLemmas.{map_reverse}
 use Rattle.lsm_block_indexes.specs.Dealt.{DealsEnding, ended_at_error}
 use Rattle.tool_lines.specs.declared.entry_line.Format.{Format}
 use Rattle.tool_show.specs.Printed.{AreLinesOf, DealsTo, IsLineOf, PrintsLine, PrintsLines}
-use Rattle.tool_show.specs.Printed.{PrintsResults, R, dumped, in_turn}
+use Rattle.tool_show.specs.Printed.{PrintsResults, Outcome, dumped, in_turn}
 
 -- a line more behind others
 lines_more : (format : Format) (es : List Entry) (e : Entry) (text line : List ℕ)
@@ -38,13 +38,13 @@ lines_more format (x ∷ es) e text line lines one = (
   ap (λ (bytes : List ℕ). bytes ++ line) lines.4 ∙ append_assoc lines.0 lines.1 line,
 )
 
-taken_none : (n : ℕ) (rs : List R) → rs ≡ [] → take n rs ≡ []
+taken_none : (n : ℕ) (rs : List Outcome) → rs ≡ [] → take n rs ≡ []
 taken_none zero rs none = refl
 taken_none (suc n) [] none = refl
 taken_none (suc n) (r ∷ rs) none = absurd cc
 
 -- behind entries of a list of entries stands no error
-no_error : (xs ys : List Entry) (e : Error) (rs : List R) → ok_results xs ++ Err e ∷ rs ≡ ok_results ys
+no_error : (xs ys : List Entry) (e : Error) (rs : List Outcome) → ok_results xs ++ Err e ∷ rs ≡ ok_results ys
     → ⊥
 no_error [] [] e rs is = absurd cc
 no_error [] (y ∷ ys) e rs is = absurd cc
@@ -69,7 +69,7 @@ turned_ok true es = map_reverse es
 pub dumped_ok : (back : Bool) (n : ℕ) (es : List Entry)
     → dumped back n (ok_results es) ≡ ok_results (dumped back n es)
 dumped_ok back n es =
-    ap (λ (rs : List R). take n rs) (turned_ok back es)
+    ap (λ (rs : List Outcome). take n rs) (turned_ok back es)
     ∙ take-map (λ (x : Entry). Ok x) n (in_turn back es)
 
 module _ (format : Format) (back : Bool) (n : ℕ) (es : List Entry) (old new : Option (List ℕ)) where
@@ -82,7 +82,7 @@ module _ (format : Format) (back : Bool) (n : ℕ) (es : List Entry) (old new : 
 
 pub as_many : (back : Bool) (n : ℕ) (es : List Entry)
     → length (dumped back n (ok_results es)) ≡ length (dumped back n es)
-as_many back n es = ap length (dumped_ok back n es) ∙ length-map {B = R} (dumped back n es) (λ (x : Entry). Ok x)
+as_many back n es = ap length (dumped_ok back n es) ∙ length-map {B = Outcome} (dumped back n es) (λ (x : Entry). Ok x)
 
 on_ok : {X E P Q : Type 0} (r : Result X E) → (P → Q) → OnOk r P → OnOk r Q
 on_ok (Ok x) f p = f p
@@ -106,59 +106,59 @@ module _ {E : Type 0} (r : Result ℕ E) (back : Bool) (n : ℕ) (es : List Entr
 
 -- ---- what is dealt up to the first error
 
-whole_answers : (rs : List (Option R)) → NoneStops (answer_stops (λ _. true)) (ended_at_error rs)
+whole_answers : (rs : List (Option Outcome)) → NoneStops (answer_stops (λ _. true)) (ended_at_error rs)
     → ended_at_error rs ≡ rs
 whole_answers [] fine = refl
 whole_answers (None ∷ rs) fine =
-    ap (λ (zs : List (Option R)). None ∷ zs) (whole_answers rs fine.1)
+    ap (λ (zs : List (Option Outcome)). None ∷ zs) (whole_answers rs fine.1)
 whole_answers (Some (Ok x) ∷ rs) fine =
-    ap (λ (zs : List (Option R)). Some (Ok x) ∷ zs) (whole_answers rs fine.1)
+    ap (λ (zs : List (Option Outcome)). Some (Ok x) ∷ zs) (whole_answers rs fine.1)
 whole_answers (Some (Err e) ∷ rs) fine = absurd (let not : true ≡ false = fine.0 in cc)
 
-no_memory : (rs : List (Option R)) → NoneStops (answer_stops (λ _. true)) rs
+no_memory : (rs : List (Option Outcome)) → NoneStops (answer_stops (λ _. true)) rs
     → NoneStops (answer_stops is_memory) rs
 no_memory [] fine = tt
 no_memory (None ∷ rs) fine = (refl, no_memory rs fine.1)
 no_memory (Some (Ok x) ∷ rs) fine = (refl, no_memory rs fine.1)
 no_memory (Some (Err e) ∷ rs) fine = absurd (let not : true ≡ false = fine.0 in cc)
 
-pub deals_to_error : {S : Type 0} (front back : S → Option R → S → Type 0) (may may_back : S → Type 0)
-    (s : S) (rs : List R) → DealsEnding front back may may_back s rs → DealsTo front back rs s
+pub deals_to_error : {S : Type 0} (front back : S → Option Outcome → S → Type 0) (may may_back : S → Type 0)
+    (s : S) (rs : List Outcome) → DealsEnding front back may may_back s rs → DealsTo front back rs s
 deals_to_error front back may may_back s rs d = record {
   answers = λ ends answers t runs fine.
       let is = d.answers ends answers t runs (no_memory answers fine) in
       is ∙ whole_answers (deal rs ends)
-      (subst (λ (zs : List (Option R)). NoneStops (answer_stops (λ _. true)) zs) is fine);
+      (subst (λ (zs : List (Option Outcome)). NoneStops (answer_stops (λ _. true)) zs) is fine);
 }
 
-module _ {S : Type 0} (front back : S → Option R → S → Type 0) (stops : Error → Bool) where
+module _ {S : Type 0} (front back : S → Option Outcome → S → Type 0) (stops : Error → Bool) where
   -- a source that goes on deals these results; some entries were printed, and so many more may be
-  pub record Prints (s : S) (from_end : Bool) (n m : ℕ) (format : Format) (all : List R)
+  pub record Prints (s : S) (from_end : Bool) (n m : ℕ) (format : Format) (all : List Outcome)
       (old new : Option (List ℕ)) : Type 0 where
     pub printed : List Entry
-    pub rest : List R
+    pub rest : List Outcome
     pub deals : Deals (answer_stops stops) front back s rest
     pub lines : PrintsLines format printed old new
     pub counted : length printed + n ≡ m
     pub whole : ok_results printed ++ dumped from_end n rest ≡ all
 
   -- what one answer leaves
-  pub record Leaves (t : S) (from_end : Bool) (n : ℕ) (e : Entry) (rest : List R) : Type 0 where
-    pub left : List R
+  pub record Leaves (t : S) (from_end : Bool) (n : ℕ) (e : Entry) (rest : List Outcome) : Type 0 where
+    pub left : List Outcome
     pub deals : Deals (answer_stops stops) front back t left
     pub taken : dumped from_end (suc n) rest ≡ Ok e ∷ dumped from_end n left
 
-  front_by : (t : S) (n : ℕ) (e : Entry) (rest : List R) → Some (Ok e) ≡ first rest
+  front_by : (t : S) (n : ℕ) (e : Entry) (rest : List Outcome) → Some (Ok e) ≡ first rest
       → Deals (answer_stops stops) front back t (but_first rest) → Leaves t false n e rest
   front_by t n e [] gave deals = absurd cc
   front_by t n e (x ∷ xs) gave deals = record {
     left = xs;
     deals = deals;
-    taken = let same : x ≡ Ok e = cc in ap (λ (y : R). y ∷ take n xs) same;
+    taken = let same : x ≡ Ok e = cc in ap (λ (y : Outcome). y ∷ take n xs) same;
   }
 
   -- the last of what is left is the first of it in the other order
-  back_by : (t : S) (n : ℕ) (e : Entry) (rest turned : List R) → reverse rest ≡ turned
+  back_by : (t : S) (n : ℕ) (e : Entry) (rest turned : List Outcome) → reverse rest ≡ turned
       → Some (Ok e) ≡ first turned
       → Deals (answer_stops stops) front back t (reverse (but_first turned))
       → Leaves t true n e rest
@@ -167,12 +167,12 @@ module _ {S : Type 0} (front back : S → Option R → S → Type 0) (stops : Er
     left = reverse xs;
     deals = deals;
     taken = let same : x ≡ Ok e = cc in
-        ap (λ (rs : List R). take (suc n) rs) is
-        ∙ ap (λ (y : R). y ∷ take n xs) same
-        ∙ ap (λ (rs : List R). Ok e ∷ take n rs) (sym (reverse-reverse xs));
+        ap (λ (rs : List Outcome). take (suc n) rs) is
+        ∙ ap (λ (y : Outcome). y ∷ take n xs) same
+        ∙ ap (λ (rs : List Outcome). Ok e ∷ take n rs) (sym (reverse-reverse xs));
   }
 
-  one_by : (s t : S) (from_end : Bool) (n : ℕ) (e : Entry) (rest : List R)
+  one_by : (s t : S) (from_end : Bool) (n : ℕ) (e : Entry) (rest : List Outcome)
       → Deals (answer_stops stops) front back s rest
       → (from_end ≡ false → front s (Some (Ok e)) t)
       → (from_end ≡ true → back s (Some (Ok e)) t) → Leaves t from_end n e rest
@@ -187,7 +187,7 @@ module _ {S : Type 0} (front back : S → Option R → S → Type 0) (stops : Er
 
   -- an entry more is printed
   pub prints_more : (s t : S) (from_end : Bool) (n m : ℕ) (format : Format) (e : Entry)
-      (all : List R) (old mid new : Option (List ℕ))
+      (all : List Outcome) (old mid new : Option (List ℕ))
       → Prints s from_end (suc n) m format all old mid
       → (from_end ≡ false → front s (Some (Ok e)) t) → (from_end ≡ true → back s (Some (Ok e)) t)
       → PrintsLine format e mid new → Prints t from_end n m format all old new
@@ -203,16 +203,16 @@ module _ {S : Type 0} (front back : S → Option R → S → Type 0) (stops : Er
           Appends-trans old mid new before.lines.0 more.0 before.lines.2 more.2,
         );
         counted = omega (arith, length-append before.printed (e ∷ []), before.counted);
-        whole = ap (λ (rs : List R). rs ++ dumped from_end n one.left)
+        whole = ap (λ (rs : List Outcome). rs ++ dumped from_end n one.left)
             (map-append (λ (x : Entry). Ok x) before.printed (e ∷ []))
             ∙ append_assoc (ok_results before.printed) (Ok e ∷ []) (dumped from_end n one.left)
-            ∙ ap (λ (rs : List R). ok_results before.printed ++ rs) (sym one.taken)
+            ∙ ap (λ (rs : List Outcome). ok_results before.printed ++ rs) (sym one.taken)
             ∙ before.whole;
       }
 
   -- an entry more is printed, and one less may be
   pub prints_one : (s t : S) (from_end : Bool) (k m : ℕ) (format : Format)
-      (r : R) (e : Entry) (all : List R) (old mid new : Option (List ℕ))
+      (r : Outcome) (e : Entry) (all : List Outcome) (old mid new : Option (List ℕ))
       → 0 < k → r ≡ Ok e → Prints s from_end k m format all old mid
       → (from_end ≡ false → front s (Some r) t) → (from_end ≡ true → back s (Some r) t)
       → PrintsLine format e mid new → Prints t from_end (k - 1) m format all old new
@@ -223,11 +223,11 @@ module _ {S : Type 0} (front back : S → Option R → S → Type 0) (stops : Er
       let same : n ≡ suc n - 1 = omega arith in
       subst (λ (k : ℕ). Prints t from_end k m format all old new) same
       (prints_more s t from_end n m format e all old mid new before
-      (λ at. subst (λ (x : R). front s (Some x) t) is (front_step at))
-      (λ at. subst (λ (x : R). back s (Some x) t) is (back_step at)) more)
+      (λ at. subst (λ (x : Outcome). front s (Some x) t) is (front_step at))
+      (λ at. subst (λ (x : Outcome). back s (Some x) t) is (back_step at)) more)
 
   -- nothing was printed yet
-  pub prints_none : (s : S) (from_end : Bool) (n : ℕ) (format : Format) (rs : List R)
+  pub prints_none : (s : S) (from_end : Bool) (n : ℕ) (format : Format) (rs : List Outcome)
       (known : Option (List ℕ)) → Deals (answer_stops stops) front back s rs
       → Prints s from_end n n format (dumped from_end n rs) known known
   prints_none s from_end n format rs known deals = record {
@@ -240,35 +240,35 @@ module _ {S : Type 0} (front back : S → Option R → S → Type 0) (stops : Er
   }
 
   -- all is printed that is to be
-  ends : (s : S) (from_end : Bool) (n m : ℕ) (format : Format) (all : List R)
+  ends : (s : S) (from_end : Bool) (n m : ℕ) (format : Format) (all : List Outcome)
       (old new : Option (List ℕ)) (before : Prints s from_end n m format all old new)
       → dumped from_end n before.rest ≡ []
       → PrintsResults format all old new × (n ≡ m - length all)
   ends s from_end n m format all old new before none =
       let same = sym (append-nil (ok_results before.printed))
-      ∙ ap (λ (rs : List R). ok_results before.printed ++ rs) (sym none) ∙ before.whole in (
+      ∙ ap (λ (rs : List Outcome). ok_results before.printed ++ rs) (sym none) ∙ before.whole in (
         (before.printed, sym same, before.lines),
         omega (
           arith,
           before.counted,
           ap length same,
-          length-map {B = R} before.printed (λ (x : Entry). Ok x),
+          length-map {B = Outcome} before.printed (λ (x : Entry). Ok x),
         ),
       )
 
   -- as many are printed as may be
-  pub prints_end : (s : S) (from_end : Bool) (n m : ℕ) (format : Format) (all : List R)
+  pub prints_end : (s : S) (from_end : Bool) (n m : ℕ) (format : Format) (all : List Outcome)
       (old new : Option (List ℕ)) → n ≤ 0 → Prints s from_end n m format all old new
       → PrintsResults format all old new × (0 ≡ m - length all)
   prints_end s from_end zero m format all old new none before =
       ends s from_end 0 m format all old new before refl
   prints_end s from_end (suc n) m format all old new none before = absurd (omega (arith, none))
 
-  nothing_left : (rest : List R) → first rest ≡ None → rest ≡ []
+  nothing_left : (rest : List Outcome) → first rest ≡ None → rest ≡ []
   nothing_left [] none = refl
   nothing_left (x ∷ xs) none = absurd cc
 
-  none_dumped : (s t : S) (from_end : Bool) (n : ℕ) (rest : List R)
+  none_dumped : (s t : S) (from_end : Bool) (n : ℕ) (rest : List Outcome)
       → Deals (answer_stops stops) front back s rest → (from_end ≡ false → front s None t)
       → (from_end ≡ true → back s None t) → dumped from_end n rest ≡ []
   none_dumped s t false n rest deals front_step back_step =
@@ -279,7 +279,7 @@ module _ {S : Type 0} (front back : S → Option R → S → Type 0) (stops : Er
       (deals_back (answer_stops stops) front back s rest None t deals (back_step refl) refl).0))
 
   -- all is printed that there is
-  pub prints_all : (s t : S) (from_end : Bool) (n m : ℕ) (format : Format) (all : List R)
+  pub prints_all : (s t : S) (from_end : Bool) (n m : ℕ) (format : Format) (all : List Outcome)
       (old new : Option (List ℕ)) → Prints s from_end n m format all old new
       → (from_end ≡ false → front s None t) → (from_end ≡ true → back s None t)
       → PrintsResults format all old new × (n ≡ m - length all)
@@ -287,20 +287,20 @@ module _ {S : Type 0} (front back : S → Option R → S → Type 0) (stops : Er
       ends s from_end n m format all old new before
       (none_dumped s t from_end n before.rest before.deals front_step back_step)
 
-module _ {S : Type 0} (front back : S → Option R → S → Type 0) where
+module _ {S : Type 0} (front back : S → Option Outcome → S → Type 0) where
   -- the next of what is left is an error, which is none of a list's
   error_by : (s : S) (from_end : Bool) (k m : ℕ) (format : Format) (es : List Entry) (e : Error)
       (old new : Option (List ℕ))
       (before : Prints front back is_memory s from_end (suc k) m format
-      (dumped from_end m (ok_results es)) old new) (turned : List R)
+      (dumped from_end m (ok_results es)) old new) (turned : List Outcome)
       → in_turn from_end before.rest ≡ turned → Some (Err e) ≡ first turned → ⊥
   error_by s from_end k m format es e old new before [] is next = absurd cc
   error_by s from_end k m format es e old new before (x ∷ xs) is next =
       let same : x ≡ Err e = cc in
       let taken : dumped from_end (suc k) before.rest ≡ Err e ∷ take k xs
-      = ap (λ (rs : List R). take (suc k) rs) is ∙ ap (λ (r : R). r ∷ take k xs) same in
+      = ap (λ (rs : List Outcome). take (suc k) rs) is ∙ ap (λ (r : Outcome). r ∷ take k xs) same in
       no_error before.printed (dumped from_end m es) e (take k xs)
-      (ap (λ (rs : List R). ok_results before.printed ++ rs) (sym taken) ∙ before.whole
+      (ap (λ (rs : List Outcome). ok_results before.printed ++ rs) (sym taken) ∙ before.whole
       ∙ dumped_ok from_end m es)
 
   memory_by : (s t : S) (from_end : Bool) (k m : ℕ) (format : Format) (es : List Entry) (e : Error)
@@ -320,7 +320,7 @@ module _ {S : Type 0} (front back : S → Option R → S → Type 0) where
       (back_step refl) is).0)
 
   -- of a list an error is one of memory
-  pub error_is_memory : (s t : S) (from_end : Bool) (k m : ℕ) (format : Format) (r : R) (e : Error)
+  pub error_is_memory : (s t : S) (from_end : Bool) (k m : ℕ) (format : Format) (r : Outcome) (e : Error)
       (es : List Entry) (old new : Option (List ℕ)) → 0 < k → r ≡ Err e
       → Prints front back is_memory s from_end k m format (dumped from_end m (ok_results es)) old new
       → (from_end ≡ false → front s (Some r) t) → (from_end ≡ true → back s (Some r) t)
@@ -329,8 +329,8 @@ module _ {S : Type 0} (front back : S → Option R → S → Type 0) where
       absurd (omega (arith, some))
   error_is_memory s t from_end (suc k) m format r e es old new some is before front_step back_step =
       memory_by s t from_end k m format es e old new (is_memory e) refl before
-      (λ at. subst (λ (x : R). front s (Some x) t) is (front_step at))
-      (λ at. subst (λ (x : R). back s (Some x) t) is (back_step at))
+      (λ at. subst (λ (x : Outcome). front s (Some x) t) is (front_step at))
+      (λ at. subst (λ (x : Outcome). back s (Some x) t) is (back_step at))
 
 -- a source may be asked on
 pub may_go_on : {S A : Type 0} (front back : S → Option A → S → Type 0) (can can_back : S → Type 0)

@@ -61,16 +61,16 @@ abbrev pub dumped : {X : Type 0} → Bool → ℕ → List X → List X
 dumped back n xs = take n (in_turn back xs)
 
 -- an entry, or why it cannot be read
-abbrev pub R : Type 0
-R = Result Entry Error
+abbrev pub Outcome : Type 0
+Outcome = Result Entry Error
 
 -- these results are entries, whose lines are printed
-abbrev pub PrintsResults : Format → List R → (old new : Option (List ℕ)) → Type 0
+abbrev pub PrintsResults : Format → List Outcome → (old new : Option (List ℕ)) → Type 0
 PrintsResults format rs old new =
     (es : List Entry) × (rs ≡ ok_results es) × PrintsLines format es old new
 
 -- up to its first error a source deals these results
-abbrev pub DealsTo : {S : Type 0} (front back : S → Option R → S → Type 0) → List R → S → Type 0
+abbrev pub DealsTo : {S : Type 0} (front back : S → Option Outcome → S → Type 0) → List Outcome → S → Type 0
 DealsTo front back rs s = Deals (answer_stops (λ _. true)) front back s rs
 
 -- from a first key on, and up to a key that is left out
@@ -87,5 +87,5 @@ abbrev pub chosen : DumpOptions → OpenTable → List Entry → List Entry
 chosen o t es = within (from_key o.from) (up_to_key o.to) (lift es t.global_seqno)
 
 -- what can be read of a table's bytes between the keys that are asked for, and why not
-abbrev pub asked : DumpOptions → OpenTable → List R
-asked o t = range_told t (from_key o.from) (up_to_key o.to)
+abbrev pub readable : DumpOptions → OpenTable → List Outcome
+readable o t = range_told t (from_key o.from) (up_to_key o.to)

@@ -202,8 +202,8 @@ fn print_named<'a, A: Allocator + Copy, W: Write>(
 
 /// Writes a line for each block that does not load of a file that does not open as a table: of its
 /// meta block, its filter, its index and its data, as far as its bytes tell where these lie.
-/// Answers how many lines there are. Refused with the first failure to write, and for want of memory; what
-/// was written stays.
+/// Answers how many lines there are. Refused with the first failure to write, and for want of
+/// memory; what was written stays.
 pub fn verify_unopened<'a, A: Allocator + Copy, W: Write>(
     alloc: A,
     output: &mut W,

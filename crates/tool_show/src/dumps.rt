@@ -7,8 +7,8 @@ ghost use Rattle.lsm_readers.specs.Stored.{StoresList};
 ghost use Rattle.lsm_readers.specs.Words.{lift, range_told};
 ghost use Rattle.lsm_runs.specs.RunLists.{DealsList};
 ghost use Rattle.tool_show.specs.Failures.{BlamesNoFile, NamesNone, NamesOnly};
-ghost use Rattle.tool_show.specs.Printed.{DealsTo, PrintsLine, PrintsLines, PrintsResults, R};
-ghost use Rattle.tool_show.specs.Printed.{asked, chosen, dumped, from_key, up_to_key};
+ghost use Rattle.tool_show.specs.Printed.{DealsTo, PrintsLine, PrintsLines, PrintsResults, Outcome};
+ghost use Rattle.tool_show.specs.Printed.{chosen, dumped, from_key, readable, up_to_key};
 
 use crate::error::Failure;
 use crate::{NamedTable, ShowError};
@@ -44,7 +44,7 @@ pub fn dump<'a, A: Allocator + Copy, W: Write>(
     // Whatever the bytes, what is printed are entries that can be read between the keys, in their
     // order or from the last on, as many as may be: no refusal is passed over.
     ensures told { OnOk result (PrintsResults options.now.format
-        (dumped options.now.reverse left (asked options.now file.now.table))
+        (dumped options.now.reverse left (readable options.now file.now.table))
         (W.contents output.old) (W.contents output.new)) }
     // Of a list they are its entries.
     ensures printed { let t = file.now.table in (es : List Entry) → StoresList t.bytes es →
@@ -75,7 +75,7 @@ fn dump_table<A: Allocator + Copy, W: Write>(
     left: u64,
 ) -> Result<u64, Failure>
     ensures told { OnOk result (PrintsResults options.now.format
-        (dumped options.now.reverse left (asked options.now table.now))
+        (dumped options.now.reverse left (readable options.now table.now))
         (W.contents output.old) (W.contents output.new)) }
     ensures printed { let t = table.now in (es : List Entry) → StoresList t.bytes es →
         OnOk result (PrintsLines options.now.format
@@ -157,10 +157,10 @@ fn dump_items<I: DoubleEndedIterator<Item = IterItem<A>> + Drop, A: Allocator + 
 ) -> Result<u64, Failure>
     requires can { CanDeal I.next_gives I.next_back_gives I.can_next I.can_next_back items }
     // The first of what is dealt are entries, and printed, or the last of it from the end on.
-    ensures printed { (rs : List R) → DealsTo I.next_gives I.next_back_gives rs items →
+    ensures printed { (rs : List Outcome) → DealsTo I.next_gives I.next_back_gives rs items →
         OnOk result (PrintsResults lines.format (dumped reverse lines.left rs)
         (W.contents output.old) (W.contents output.new)) }
-    ensures left { (rs : List R) → DealsTo I.next_gives I.next_back_gives rs items →
+    ensures left { (rs : List Outcome) → DealsTo I.next_gives I.next_back_gives rs items →
         IfOk result (λ rest. rest ≡ lines.left - length (dumped reverse lines.left rs)) }
     ensures sound { (es : List Entry) → DealsList I.next_gives I.next_back_gives es items →
         IfErr result BlamesNoFile }

@@ -44,8 +44,8 @@ pub struct GetOptions<'k> {
 type Runs<A> = Vec<Arc<Run<Table<A>, A>, A>, A>;
 
 /// Writes the version of a key that a reader sees over all files, or that there is none (`none`,
-/// and as JSON `null`), and answers whether there is one. Then, if asked for, a line for each file: how
-/// many blocks of which kind were loaded for it, and where these begin.
+/// and as JSON `null`), and answers whether there is one. Then, if asked for, a line for each file:
+/// how many blocks of which kind were loaded for it, and where these begin.
 pub fn get<'a, A: Allocator + Copy, W: Write>(
     alloc: A,
     output: &mut W,

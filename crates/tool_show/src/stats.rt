@@ -18,10 +18,10 @@ use std::io::{self, Write};
 use tool_lines::{Format, append_bytes, write_bytes};
 
 /// Writes what a table says of itself: the items of its meta block, its sections and its data
-/// blocks with their sizes and shares of the file, entries a block, the kinds of index and filter, the
-/// filter's bits a key, and how many of the keys that are not there it is expected to let through.
-/// As text, or as an object of JSON on a line. Refused with the first failure; what was written
-/// stays.
+/// blocks with their sizes and shares of the file, entries a block, the kinds of index and filter,
+/// the filter's bits a key, and how many of the keys that are not there it is expected to let
+/// through. As text, or as an object of JSON on a line. Refused with the first failure; what was
+/// written stays.
 pub fn stat<'a, A: Allocator + Copy, W: Write>(
     alloc: A,
     output: &mut W,

@@ -10,8 +10,8 @@ abbrev pub format_of : Bool → Format
 format_of json = if json then Json else Lines
 
 -- the kind of the index
-abbrev pub index_kind_of : Bool → ℕ → IndexKind
-index_kind_of partitioned size = if partitioned then Partitioned size else Full
+abbrev pub index_asked : Bool → ℕ → IndexKind
+index_asked partitioned size = if partitioned then Partitioned size else Full
 
 -- tenths of a bit for so many bits
 abbrev pub tenths : ℕ → ℕ

@@ -1,7 +1,7 @@
 //! Tables that are made.
 ghost use Rattle.std.specs.Prelude.{◌≡◌};
 ghost use Rattle.sst_filters.specs.declared.policy.BloomConstructionPolicy.TheVariants.{BitsPerKey};
-ghost use Rattle.tool_tasks.specs.Options.{format_of, index_kind_of, tenths};
+ghost use Rattle.tool_tasks.specs.Options.{format_of, index_asked, tenths};
 
 use crate::System;
 use crate::failure::Failure;
@@ -32,7 +32,7 @@ fn now<C: Clock>(clock: &C) -> Timestamp {
 // How a table is written.
 fn write_options(task: &WriteTask<'_>, created_at: Timestamp) -> WriteOptions
     ensures { result ≡ record {
-      index = index_kind_of task.now.partitioned task.now.partition_size;
+      index = index_asked task.now.partitioned task.now.partition_size;
       filter = BitsPerKey (tenths task.now.filter_bits);
       block_size = task.now.block_size;
       level = task.now.level;

@@ -1,7 +1,7 @@
 use Rattle.std.proofs.Common.{◌≡◌, length, take}
 use Rattle.std.specs.List.{AllByRecursion}
 use Rattle.logpurple.specs.Words.{OpenTable}
-use Rattle.tool_files.specs.Opened.{AreOpened, IsToldByBytes}
+use Rattle.tool_files.specs.Opened.{AreOpenedFrom, IsToldByBytes}
 use Rattle.tool_files.proofs.open.open_tables.Given as goal
 
 abbrev pub invariant-loop-path : goal.invariant-loop-path
@@ -9,6 +9,6 @@ invariant-loop-path g l = record {
   many : length l.tables.items ≡ l.path-index;
   numbers : AllByRecursion (λ (t : OpenTable). t.global_seqno ≡ 0) l.tables.items;
   recovered : AllByRecursion (IsToldByBytes l.pinned) l.tables.items;
-  opened : AreOpened l.pinned (g.P.Place.content l.place) (take l.path-index l.paths)
+  opened : AreOpenedFrom l.pinned (g.P.Place.content l.place) (take l.path-index l.paths)
       l.tables.items;
 }

@@ -3,14 +3,14 @@ use Rattle.std.proofs.Common.{Bool, List}
 use Rattle.sst_entries.specs.Stream.{CanDeal, Deals, answer_stops}
 use Rattle.sst_entries.specs.declared.error.Error.{Error}
 use Rattle.tool_show.proofs.DumpLemmas.{Prints}
-use Rattle.tool_show.specs.Printed.{R, dumped}
+use Rattle.tool_show.specs.Printed.{Outcome, dumped}
 use Rattle.tool_show.proofs.dumps.dump_items.Given as goal
 
 abbrev pub invariant-loop-left : goal.invariant-loop-left
 invariant-loop-left g l =
     CanDeal g.I.Iterator.next_gives g.I.DoubleEndedIterator.next_back_gives g.I.Iterator.can_next
     g.I.DoubleEndedIterator.can_next_back l.items
-    × ((stops : Error → Bool) (rs : List R)
+    × ((stops : Error → Bool) (rs : List Outcome)
     → Deals (answer_stops stops) g.I.Iterator.next_gives g.I.DoubleEndedIterator.next_back_gives
     l.fn.items rs
     → Prints g.I.Iterator.next_gives g.I.DoubleEndedIterator.next_back_gives stops l.items l.reverse
