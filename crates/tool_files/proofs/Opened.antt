@@ -40,28 +40,28 @@ pub told_memory : (pinned : Bool) (known : Option (List ℕ)) (fault : FileFault
     → is_memory_fault fault ≡ true → TellsRefused pinned known fault
 told_memory pinned known (Refused e) h = memory_told pinned known e h
 told_memory pinned known Folder h = tt
-told_memory pinned known Taken h = tt
-told_memory pinned known NotPlain h = tt
-told_memory pinned known Left h = tt
+told_memory pinned known Taken h = absurd cc
+told_memory pinned known NotPlain h = absurd cc
+told_memory pinned known Left h = absurd cc
 told_memory pinned known (CutShort read size) h = tt
-told_memory pinned known NamesTaken h = tt
-told_memory pinned known (AfterOthers renamed error) h = tt
-told_memory pinned known (NotSynced error) h = tt
+told_memory pinned known NamesTaken h = absurd cc
+told_memory pinned known (AfterOthers renamed error) h = absurd cc
+told_memory pinned known (NotSynced error) h = absurd cc
 told_memory pinned known (Io error) h = tt
 
 -- nor does a file that is not read
 pub told_read : (pinned : Bool) (known : Option (List ℕ)) (fault : FileFault)
     → IsReadFault fault → TellsRefused pinned known fault
 told_read pinned known (Refused e) h = memory_told pinned known e (ap is_memory h)
-told_read pinned known Folder h = tt
-told_read pinned known Taken h = tt
-told_read pinned known NotPlain h = tt
-told_read pinned known Left h = tt
-told_read pinned known (CutShort read size) h = tt
-told_read pinned known NamesTaken h = tt
-told_read pinned known (AfterOthers renamed error) h = tt
-told_read pinned known (NotSynced error) h = tt
-told_read pinned known (Io error) h = tt
+told_read pinned known Folder h = h
+told_read pinned known Taken h = h
+told_read pinned known NotPlain h = h
+told_read pinned known Left h = h
+told_read pinned known (CutShort read size) h = h
+told_read pinned known NamesTaken h = h
+told_read pinned known (AfterOthers renamed error) h = h
+told_read pinned known (NotSynced error) h = h
+told_read pinned known (Io error) h = h
 
 -- what the bytes that were read tell, the file's bytes tell
 pub refused_told : (pinned : Bool) (known : Option (List ℕ)) (bytes : List ℕ) (e : Error)

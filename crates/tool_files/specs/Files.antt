@@ -1,10 +1,10 @@
 -- Names of files, and what is wrong with a file.
 use Rattle.std.specs.Prelude.{◌≡◌, ◌<◌, ℕ, List, ◌++◌, Option, Some, Bool, false}
-use Rattle.std.specs.Prelude.{codes}
+use Rattle.std.specs.Prelude.{IfSome, codes, length}
 use Rattle.std.specs.Fmt.{decimal}
 use Rattle.logpurple.specs.Words.{OutOfMemory, is_memory}
 use Rattle.tool_files.specs.declared.file_error.FileFault.{FileFault}
-use Rattle.tool_files.specs.declared.file_error.FileFault.TheVariants.{CutShort, Refused}
+use Rattle.tool_files.specs.declared.file_error.FileFault.TheVariants.{CutShort, Folder, Io, Refused}
 use Rattle.tool_files.specs.declared.file_name.FileName.{FileName}
 use Rattle.tool_files.specs.declared.file_name.FileName.TheVariants.{Part, Plain, Within}
 
@@ -29,7 +29,16 @@ abbrev pub is_memory_fault : FileFault → Bool
 is_memory_fault (Refused e) = is_memory e
 is_memory_fault fault = false
 
--- of reading a file the library refuses nothing but for want of memory
+-- as many bytes were read of a file that was cut short as it had, where these are known
+abbrev pub IsCutBehind : FileFault → Option (List ℕ) → Type 0
+IsCutBehind (CutShort read size) known = IfSome known (λ bytes. read ≡ length bytes)
+IsCutBehind fault known = Unit {0}
+
+-- a file is not read: a folder has its place, it is cut short, the system refuses, or memory is
+-- wanted
 abbrev pub IsReadFault : FileFault → Type 0
+IsReadFault Folder = Unit {0}
+IsReadFault (CutShort read size) = Unit {0}
+IsReadFault (Io e) = Unit {0}
 IsReadFault (Refused e) = e ≡ OutOfMemory
-IsReadFault fault = Unit {0}
+IsReadFault fault = ⊥

@@ -5,7 +5,7 @@ use Rattle.logpurple.specs.Words.{Gives, OpenTable, recovered_told}
 use Rattle.tool_files.specs.declared.file_error.FileError.{FileError}
 use Rattle.tool_files.specs.declared.file_error.FileFault.{FileFault}
 use Rattle.tool_files.specs.declared.file_error.FileFault.TheVariants.{Refused}
-use Rattle.tool_files.specs.Files.{path_text}
+use Rattle.tool_files.specs.Files.{IsReadFault, path_text}
 
 -- a table is what its bytes tell, with the numbers that are stored in it, its index and filter
 -- loaded or not
@@ -33,7 +33,7 @@ abbrev pub TellsRefused : Bool → Option (List ℕ) → FileFault → Type 0
 TellsRefused pinned known (Refused e) =
     IfSome known (λ bytes. Gives (λ (u : OpenTable). u.parts) (Err e)
     (recovered_told bytes 0 pinned pinned))
-TellsRefused pinned known fault = Unit {0}
+TellsRefused pinned known fault = IsReadFault fault
 
 -- files were opened up to one that was refused, which is named
 pub record StopsOpening (pinned : Bool) (content : List ℕ → Option (List ℕ))

@@ -13,6 +13,7 @@ use logpurple::Slice;
 use std::alloc::Allocator;
 use std::fs::{Metadata, OpenFile, OpenOptions, Permissions};
 use std::io::{ErrorKind, Write};
+use std::os::unix::fs::OpenOptionsExt;
 use std::path::Path;
 use std::rt::Files;
 use std::{fs, io};
@@ -114,11 +115,13 @@ impl<'r, R: Files> Place for Disk<'r, R> {
         bytes: &[u8],
         permissions: Option<&Permissions>,
     ) -> io::Result<bool> {
-        let opened = OpenOptions::new()
-            .write(true)
-            .create_new(true)
-            .open(self.files, path);
-        let filled = match opened {
+        let mut options = OpenOptions::new();
+        options.write(true).create_new(true);
+        if permissions.is_some() {
+            // Nobody else opens it before it has its permissions.
+            options.mode(0o600);
+        }
+        let filled = match options.open(self.files, path) {
             Ok(mut file) => fill(&mut file, bytes, permissions),
             Err(error) if error.kind() == ErrorKind::AlreadyExists => return Ok(false),
             Err(error) => return Err(error),
@@ -151,8 +154,7 @@ impl<'r, R: Files> Place for Disk<'r, R> {
     }
 }
 
-// Gives a new file its permissions, before anything can be read in it, writes all its bytes and
-// syncs it.
+// Gives a new file its permissions, if they are given, writes all its bytes and syncs it.
 fn fill<F: Write + OpenFile>(
     file: &mut F,
     bytes: &[u8],

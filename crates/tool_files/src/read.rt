@@ -1,7 +1,7 @@
 //! Reading whole files.
 ghost use Rattle.std.specs.Prelude.{◌≡◌, ◌≤◌, IfErr, IfOk, IfSome, OnOk, length};
 ghost use Rattle.std.specs.Io.KnownBytes.{IsAtEnd};
-ghost use Rattle.tool_files.specs.Files.{IsCutShort, IsReadFault, path_text};
+ghost use Rattle.tool_files.specs.Files.{IsCutBehind, IsCutShort, IsReadFault, path_text};
 
 use crate::{FileError, FileFault, FileName, Place};
 use logpurple::Slice;
@@ -75,6 +75,7 @@ pub fn read_whole<R: Read, A: Allocator + Copy>(
     // and as many as there should be, or more.
     ensures sized { IfOk result (λ s. IfSome size (λ n. n ≤ length s)) }
     ensures cut { IfErr result (λ fault. IsCutShort fault size) }
+    ensures behind { IfErr result (λ fault. IsCutBehind fault (R.remaining reader.old)) }
     ensures refused { IfErr result IsReadFault }
 {
     let mut bytes = Vec::new(alloc);

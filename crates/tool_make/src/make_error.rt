@@ -54,7 +54,7 @@ pub enum MakeError<'a> {
     },
     /// There is no entry, and so no table.
     NoEntries,
-    /// A block or a partition would be larger than 4 MiB.
+    /// A block or a partition would be cut behind more than 4 MiB.
     SizeTooLarge,
     /// The library refused, or memory was.
     Refused(Error),
@@ -70,6 +70,7 @@ impl<'a> fmt::Display for MakeError<'a> {
             MakeError::SizeTooLarge => {
                 write!(f, "a block or partition has at most 4194304 bytes")
             }
+            MakeError::Refused(Error::OutOfMemory) => write!(f, "out of memory"),
             MakeError::Refused(error) => {
                 let number = error.number();
                 write!(f, "{error} ({number})")

@@ -66,6 +66,7 @@ impl<'a> Failure<'a> {
 impl<'a> fmt::Display for Failure<'a> {
     fn fmt<W: fmt::Write>(&self, f: &mut fmt::Formatter<W>) -> fmt::Result {
         match self {
+            Failure::Key(_, LineError::OutOfMemory) => write!(f, "out of memory"),
             Failure::Key(name, error) => write!(f, "{name}: {error}"),
             Failure::OutOfMemory => write!(f, "out of memory"),
             Failure::Output(error) => write!(f, "standard output: {error}"),
@@ -111,6 +112,11 @@ impl<'a> From<io::Error> for Failure<'a> {
 }
 
 impl<'a> From<FileError<'a>> for Failure<'a> {
+    ghost use Rattle.tool_tasks.specs.Statuses.{failure_of_file};
+    ghost use Rattle.std.specs.Prelude.{◌≡◌};
+
+    ghost from_gives = { λ error failure. failure ≡ failure_of_file error };
+
     // Want of memory is no file's fault.
     fn from(error: FileError<'a>) -> Failure<'a> {
         if error.fault.is_memory() {
@@ -133,12 +139,22 @@ impl<'a> From<ShowError<'a>> for Failure<'a> {
 }
 
 impl<'a> From<MakeError<'a>> for Failure<'a> {
+    ghost use Rattle.std.specs.Prelude.{◌≡◌};
+    ghost use Rattle.tool_tasks.specs.declared.failure.Failure.TheVariants.{Make};
+
+    ghost from_gives = { λ error failure. failure ≡ Make error };
+
     fn from(error: MakeError<'a>) -> Failure<'a> {
         Failure::Make(error)
     }
 }
 
 impl<'a> From<CompactError<'a>> for Failure<'a> {
+    ghost use Rattle.std.specs.Prelude.{◌≡◌};
+    ghost use Rattle.tool_tasks.specs.declared.failure.Failure.TheVariants.{Compact};
+
+    ghost from_gives = { λ error failure. failure ≡ Compact error };
+
     fn from(error: CompactError<'a>) -> Failure<'a> {
         Failure::Compact(error)
     }
