@@ -1,12 +1,13 @@
 -- Tables that stand alone in runs. Assumes `Logic`.
-use Rattle.std.proofs.Common.{◌≡◌, refl, sym, ◌∙◌, ap, subst, ℕ, ◌+◌, suc, true, List}
+use Rattle.std.proofs.Common.{◌≡◌, refl, sym, ◌∙◌, ap, subst, ℕ, ◌+◌, ◌<◌, suc, true, List}
 use Rattle.std.proofs.Common.{[], ◌∷◌, ◌++◌, length, append_assoc, append-nil, length-append, arith}
 use Rattle.std.specs.Prelude.{◌≢◌, IfOk, Result, Ok, Err, map}
 use Rattle.sst_entries.specs.declared.error.Error.{Error}
 use Rattle.std.specs.List.{AllByRecursion}
 use Rattle.lsm_ranges.specs.KeyRange.{Interval, are_disjoint}
-use Rattle.lsm_ranges.specs.Packing.{AreDisjointRuns, AreTablesWellFormed, AreWellFormed, IsChain}
-use Rattle.lsm_ranges.specs.Packing.{IsLeastSize, SameHolders, SameTables}
+use Rattle.lsm_ranges.specs.Packing.{AreDisjointRuns, ArePacked, ArePlaced, AreTablesWellFormed}
+use Rattle.lsm_ranges.specs.Packing.{AreWellFormed, IsChain, IsLeastSize, SameHolders, SameTables}
+use Rattle.lsm_ranges.specs.Packing.{tables_in}
 use Rattle.sst_c.specs.declared.packed.Packed.{Packed}
 use Rattle.sst_c.specs.declared.packed.Placed.{Placed}
 use Rattle.sst_c.specs.Packed.{IsPackedOf, alone, placed}
@@ -68,11 +69,16 @@ pub packed_of : {T : Type 0} (range : T → Interval) (tables : List T) (p : Pac
     → SameHolders (λ (x : Placed T). range x.table) runs p.runs.items)
     → (AreDisjointRuns (λ (x : Placed T). range x.table) runs
     → IsLeastSize (λ (x : Placed T). range x.table) runs (length p.runs.items))
+    → (AreWellFormed (λ (x : Placed T). range x.table) runs → 1 < length runs
+    → ArePacked (λ (x : Placed T). range x.table) p.runs.items)
+    → (AreWellFormed (λ (x : Placed T). range x.table) runs → 1 < length runs
+    → ArePlaced (λ (x : Placed T). range x.table) (tables_in runs) p.runs.items)
     → IsChain (λ (x : Placed T). range x.table) seen p.chain.items
     → (AreDisjointRuns (λ (x : Placed T). range x.table) seen
     → IsLeastSize (λ (x : Placed T). range x.table) seen (length p.chain.items))
     → IsPackedOf range tables p
-packed_of {T} range tables p runs seen given looked formed same order least chain as_long =
+packed_of {T} range tables p runs seen given looked formed same order least ordered behind chain
+    as_long =
     let of = λ (x : Placed T). range x.table in
     let apart : AreDisjointRuns of (alone 0 tables) = disjoint_alone range 0 tables formed in
     let before = subst (AreDisjointRuns of) (sym given) apart in
@@ -80,6 +86,10 @@ packed_of {T} range tables p runs seen given looked formed same order least chai
       same = subst (λ (r : List (List (Placed T))). SameTables r p.runs.items) given same;
       order = subst (λ (r : List (List (Placed T))). SameHolders of r p.runs.items) given
           (order before.formed);
+      ordered = subst (λ (r : List (List (Placed T))). 1 < length r → ArePacked of p.runs.items) given
+          (ordered before.formed);
+      behind = subst (λ (r : List (List (Placed T))).
+          1 < length r → ArePlaced of (tables_in r) p.runs.items) given (behind before.formed);
       least = subst (λ (r : List (List (Placed T))). IsLeastSize of r (length p.runs.items)) given
           (least before);
       chain = subst (λ (r : List (List (Placed T))). IsChain of r p.chain.items) looked chain;

@@ -28,6 +28,11 @@ pub record IsPackedOf {T : Type 0} (range : T → Interval) (tables : List T) (p
     : Type 0 where
   pub same : SameTables (alone 0 tables) p.runs.items
   pub order : SameHolders (λ t. range t.table) (alone 0 tables) p.runs.items
+  -- of several each run is in order and has a table, and each table stands one run behind the last
+  -- run of an earlier one that it overlaps, or in the first;
+  pub ordered : 1 < length (alone 0 tables) → ArePacked (λ t. range t.table) p.runs.items
+  pub behind : 1 < length (alone 0 tables) →
+      ArePlaced (λ t. range t.table) (tables_in (alone 0 tables)) p.runs.items
   pub least : IsLeastSize (λ t. range t.table) (alone 0 tables) (length p.runs.items)
   pub chain : IsChain (λ t. range t.table) (alone 0 tables) p.chain.items
   pub as_long : IsLeastSize (λ t. range t.table) (alone 0 tables) (length p.chain.items)

@@ -113,7 +113,7 @@ fn lend_found(held: &Held, lent: &mut Lent) -> u32
 }
 
 /// Lends the key and the value of what the last read by a handle found: they lie there until the
-/// next call on the handle. Refused 100 where the handle is closed and 106 where nothing was found;
+/// next read by the handle, or its close. Refused 100 where the handle is closed and 106 where nothing was found;
 /// what `lent` says stays then.
 #[unsafe(no_mangle)]
 pub extern "C" fn sst_found_lend(alloc: Global, handle: &mut Handle, lent: &mut Lent) -> u32

@@ -1,7 +1,8 @@
 //! Tables over bytes that the caller keeps.
 ghost use Rattle.std.specs.Prelude.{◌≡◌, ◌≢◌, IsSomeAnd, List, None, is_some, true};
 ghost use Rattle.lsm_readers.specs.Words.{Entry, StoresList, fits_told, recovered_told};
-ghost use Rattle.sst_c.specs.Codes.{TellsCode};
+ghost use Rattle.sst_c.specs.Codes.{TellsCode, TellsFirst};
+ghost use Rattle.lsm_readers.specs.Parts.{early_fault};
 ghost use Rattle.sst_c.specs.What.{IsOpenedAs};
 
 use crate::codes::OPEN;
@@ -28,6 +29,8 @@ pub extern "C" fn sst_table_open_kept(
         (IsOpenedAs file.now global_seqno pin_filter pin_index) }
     ensures told { table.old.boxed.value ≡ None →
         TellsCode result (recovered_told file.now global_seqno pin_filter pin_index) }
+    // What is found before memory is taken is the refusal, whatever memory there is.
+    ensures early { table.old.boxed.value ≡ None → TellsFirst result (early_fault file.now) }
     // Bytes that store a list are opened where the highest number fits.
     ensures list { table.old.boxed.value ≡ None → (es : List Entry) → StoresList file.now es →
         TellsCode result (fits_told es global_seqno) }

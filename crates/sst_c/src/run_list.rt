@@ -110,7 +110,7 @@ impl RunList {
         }
     }
 
-    /// The same tables in as few runs as there can be, as shares of them.
+    /// Shares of the tables of the list, in as few runs as there can be.
     pub(crate) fn packed(&self, alloc: Global) -> Result<RunList, Error>
         ensures packed { IfOk result (ArePackedOf self.now) }
         ensures err { IfErr result (λ e. e ≡ OutOfMemory) }

@@ -1,7 +1,8 @@
 //! Tables: opening and point reads.
 ghost use Rattle.std.specs.Prelude.{◌≡◌, ◌≢◌, [], false, IfErr, IfOk, IsSome, IsSomeAnd, List};
 ghost use Rattle.std.specs.Prelude.{None, Ok, Result, Some, is_some, true};
-ghost use Rattle.sst_entries.specs.Error.{Fails, Gives};
+ghost use Rattle.sst_entries.specs.Error.{Fails, FaultsFirst, Gives};
+ghost use Rattle.lsm_readers.specs.Parts.{early_fault};
 ghost use Rattle.lsm_readers.specs.Words.{Entry, OpenTable, StoresList, fits_told, lift, point};
 ghost use Rattle.lsm_readers.specs.Words.{recovered_told, table_answer};
 ghost use Rattle.sst_c.specs.Codes.{TellsCode, TellsFirst, result_code};
@@ -30,6 +31,7 @@ fn opened(
         IsOpenedAs bytes global_seqno pin_filter pin_index held.value) }
     ensures refused { IfErr result (λ e.
         Fails e (recovered_told bytes global_seqno pin_filter pin_index)) }
+    ensures early { FaultsFirst result (early_fault bytes) }
     ensures list { (es : List Entry) → StoresList bytes es →
         Gives (λ (_ : _). tt) result (fits_told es global_seqno) }
 {
@@ -64,6 +66,7 @@ pub(crate) fn open_from(
     ensures opened { result ≡ 0 → IsSomeAnd table.new.boxed.value
         (IsOpenedAs bytes global_seqno pin_filter pin_index) }
     ensures told { TellsCode result (recovered_told bytes global_seqno pin_filter pin_index) }
+    ensures early { TellsFirst result (early_fault bytes) }
     ensures list { (es : List Entry) → StoresList bytes es →
         TellsCode result (fits_told es global_seqno) }
     ensures left { result ≢ 0 → table.new.boxed.value ≡ None }

@@ -101,6 +101,7 @@ fn step(held: &mut Held, progress: &mut ProgressTold, told: &mut VerifyTold) -> 
         (held.new.what ≡ held.old.what) }
     ensures steps { (v : Verifying) → held.old.what ≡ VerificationOf v →
         IsVerificationWhere (TellsStep v result progress.new told.new) held.new.what }
+    ensures found { held.new.found ≡ held.old.found }
 {
     match &mut held.what {
         What::Verification(verifier) => verifier.step(progress, told),
@@ -130,6 +131,9 @@ pub extern "C" fn sst_verification_step(
     ensures steps { (h : HeldValue) (v : Verifying) → verification.old.boxed.value ≡ Some h →
         h.what ≡ VerificationOf v → IsSomeAnd verification.new.boxed.value (λ k.
         IsVerificationWhere (TellsStep v result progress.new told.new) k.what) }
+    // What a read found stays.
+    ensures found { (h : HeldValue) → verification.old.boxed.value ≡ Some h →
+        IsSomeAnd verification.new.boxed.value (λ k. k.found ≡ h.found) }
 {
     *progress = no_progress();
     *told = nothing();

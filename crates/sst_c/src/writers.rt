@@ -155,6 +155,7 @@ fn add(held: &mut Held, key: &[u8], seqno: SeqNo, kind: u32, value: &[u8]) -> u3
         let e = entry key.now value.now seqno k in
         IsSomeAnd (writer_in held.new.what) (TookEntry w e result) }
     ensures tables { files_held held.new.what ≡ files_held held.old.what }
+    ensures found { held.new.found ≡ held.old.found }
 {
     match &mut held.what {
         What::Files(files) => match &mut files.writer {
@@ -199,6 +200,9 @@ pub extern "C" fn sst_writer_add(
         IsSomeAnd (writer_in k.what) (TookEntry w e result)) }
     ensures tables { (h : HeldValue) → writer.old.boxed.value ≡ Some h →
         IsSomeAnd writer.new.boxed.value (λ k. files_held k.what ≡ files_held h.what) }
+    // What a read found stays.
+    ensures found { (h : HeldValue) → writer.old.boxed.value ≡ Some h →
+        IsSomeAnd writer.new.boxed.value (λ k. k.found ≡ h.found) }
 {
     let Some(mut held) = writer.take(alloc) else {
         return CLOSED;
@@ -257,6 +261,7 @@ fn finish(held: &mut Held) -> u32
         AddsFileOf w (files_held held.old.what) (files_held held.new.what) }
     ensures refused { (w : WritingValue) → writer_in held.old.what ≡ Some w → result ≢ 0 →
         files_held held.new.what ≡ files_held held.old.what }
+    ensures found { held.new.found ≡ held.old.found }
 {
     match &mut held.what {
         What::Files(files) => finish_files(files),
@@ -287,6 +292,9 @@ pub extern "C" fn sst_writer_finish(alloc: Global, writer: &mut Handle) -> u32
     ensures refused { (h : HeldValue) (w : WritingValue) → writer.old.boxed.value ≡ Some h →
         writer_in h.what ≡ Some w → result ≢ 0 → IsSomeAnd writer.new.boxed.value (λ k.
         files_held k.what ≡ files_held h.what) }
+    // What a read found stays.
+    ensures found { (h : HeldValue) → writer.old.boxed.value ≡ Some h →
+        IsSomeAnd writer.new.boxed.value (λ k. k.found ≡ h.found) }
 {
     let Some(mut held) = writer.take(alloc) else {
         return CLOSED;

@@ -1,11 +1,12 @@
 -- Tables that stand alone in runs.
-use Rattle.std.proofs.Common.{◌≡◌, refl, sym, ◌∙◌, ap, subst, ℕ, ◌+◌, suc, true, List}
+use Rattle.std.proofs.Common.{◌≡◌, refl, sym, ◌∙◌, ap, subst, ℕ, ◌+◌, ◌<◌, suc, true, List}
 use Rattle.std.proofs.Common.{[], ◌∷◌, ◌++◌, length, append_assoc, append-nil, length-append, arith}
 use Rattle.std.specs.Prelude.{◌≢◌, map}
 use Rattle.std.specs.List.{AllByRecursion}
 use Rattle.lsm_ranges.specs.KeyRange.{Interval, are_disjoint}
-use Rattle.lsm_ranges.specs.Packing.{AreDisjointRuns, AreTablesWellFormed, AreWellFormed, IsChain}
-use Rattle.lsm_ranges.specs.Packing.{IsLeastSize, SameHolders, SameTables}
+use Rattle.lsm_ranges.specs.Packing.{AreDisjointRuns, ArePacked, ArePlaced, AreTablesWellFormed}
+use Rattle.lsm_ranges.specs.Packing.{AreWellFormed, IsChain, IsLeastSize, SameHolders, SameTables}
+use Rattle.lsm_ranges.specs.Packing.{tables_in}
 use Rattle.tool_compact.specs.declared.pack.Packed.{Packed}
 use Rattle.tool_compact.specs.declared.pack.Placed.{Placed}
 use Rattle.tool_compact.specs.Packed.{IsPackedOf, alone, placed}
@@ -67,11 +68,16 @@ pub packed_of : {T A : Type 0} (range : T → Interval) (tables : List T) (p : P
     → SameHolders (λ (x : Placed T). range x.table) runs p.runs.items)
     → (AreDisjointRuns (λ (x : Placed T). range x.table) runs
     → IsLeastSize (λ (x : Placed T). range x.table) runs (length p.runs.items))
+    → (AreWellFormed (λ (x : Placed T). range x.table) runs → 1 < length runs
+    → ArePacked (λ (x : Placed T). range x.table) p.runs.items)
+    → (AreWellFormed (λ (x : Placed T). range x.table) runs → 1 < length runs
+    → ArePlaced (λ (x : Placed T). range x.table) (tables_in runs) p.runs.items)
     → IsChain (λ (x : Placed T). range x.table) seen p.chain.items
     → (AreDisjointRuns (λ (x : Placed T). range x.table) seen
     → IsLeastSize (λ (x : Placed T). range x.table) seen (length p.chain.items))
     → IsPackedOf range tables p
-packed_of {T} range tables p runs seen given looked formed same order least chain as_long =
+packed_of {T} range tables p runs seen given looked formed same order least ordered behind chain
+    as_long =
     let of = λ (x : Placed T). range x.table in
     let apart : AreDisjointRuns of (alone 0 tables) = disjoint_alone range 0 tables formed in
     let before = subst (AreDisjointRuns of) (sym given) apart in
@@ -79,6 +85,10 @@ packed_of {T} range tables p runs seen given looked formed same order least chai
       same = subst (λ (r : List (List (Placed T))). SameTables r p.runs.items) given same;
       order = subst (λ (r : List (List (Placed T))). SameHolders of r p.runs.items) given
           (order before.formed);
+      ordered = subst (λ (r : List (List (Placed T))). 1 < length r → ArePacked of p.runs.items) given
+          (ordered before.formed);
+      behind = subst (λ (r : List (List (Placed T))).
+          1 < length r → ArePlaced of (tables_in r) p.runs.items) given (behind before.formed);
       least = subst (λ (r : List (List (Placed T))). IsLeastSize of r (length p.runs.items)) given
           (least before);
       chain = subst (λ (r : List (List (Placed T))). IsChain of r p.chain.items) looked chain;

@@ -1,9 +1,10 @@
 -- Files that are packed in runs.
 use denote.Ref.{Bor}
-use Rattle.std.specs.Prelude.{◌≡◌, ℕ, suc, List, [], ◌∷◌, length, false, true, Option, Some}
+use Rattle.std.specs.Prelude.{◌≡◌, ◌<◌, ℕ, suc, List, [], ◌∷◌, length, false, true, Option, Some}
 use Rattle.std.specs.List.{slice_get}
 use Rattle.lsm_ranges.specs.KeyRange.{Interval, is_well_formed}
-use Rattle.lsm_ranges.specs.Packing.{IsChain, IsLeastSize, SameHolders, SameTables}
+use Rattle.lsm_ranges.specs.Packing.{ArePacked, ArePlaced, IsChain, IsLeastSize, SameHolders}
+use Rattle.lsm_ranges.specs.Packing.{SameTables, tables_in}
 use Rattle.tool_compact.specs.declared.pack.Packed.{Packed}
 use Rattle.tool_compact.specs.declared.pack.Placed.{Placed}
 use Rattle.logpurple.specs.Words.{OpenTable, OutOfMemory, range_of}
@@ -28,6 +29,11 @@ pub record IsPackedOf {T A : Type 0} (range : T → Interval) (tables : List T) 
     : Type 0 where
   pub same : SameTables (alone 0 tables) p.runs.items
   pub order : SameHolders (λ t. range t.table) (alone 0 tables) p.runs.items
+  -- of several each run is in order and has a table, and each table stands one run behind the last
+  -- run of an earlier one that it overlaps, or in the first;
+  pub ordered : 1 < length (alone 0 tables) → ArePacked (λ t. range t.table) p.runs.items
+  pub behind : 1 < length (alone 0 tables) →
+      ArePlaced (λ t. range t.table) (tables_in (alone 0 tables)) p.runs.items
   pub least : IsLeastSize (λ t. range t.table) (alone 0 tables) (length p.runs.items)
   pub chain : IsChain (λ t. range t.table) (alone 0 tables) p.chain.items
   pub as_long : IsLeastSize (λ t. range t.table) (alone 0 tables) (length p.chain.items)
