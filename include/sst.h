@@ -116,7 +116,8 @@ uint32_t sst_found_copy(sst_handle *handle, uint8_t *key, size_t key_room, uint8
                         size_t value_room);
 
 /* Lends the key and the value of what the last read by a handle found: they lie there, and may be
- * read, until the next read by the handle or its close. SST_NOTHING where nothing was found.
+ * read, until the next read by the handle or its close: a key that is to be given to that read is
+ * copied before. SST_NOTHING where nothing was found.
  */
 uint32_t sst_found_lend(sst_handle *handle, sst_lent *lent);
 
@@ -241,7 +242,7 @@ typedef struct sst_progress {
  *
  * At the end, and where it is refused, it tells and answers what `sst_table_verify` does; nothing
  * changes then. So a step that was refused for want of memory can be made again, and one that found
- * something wrong, SST_FAULTY, finds it again.
+ * something wrong, SST_FAULTY, may be made again too.
  */
 uint32_t sst_verification_step(sst_handle *verification, sst_progress *progress,
                                sst_verified *verified);
@@ -249,7 +250,8 @@ uint32_t sst_verification_step(sst_handle *verification, sst_progress *progress,
 /* Ranges. */
 
 /* Begins to read the entries of a table whose keys lie within two bounds, into a handle that holds
- * nothing. Nothing is loaded yet. A bound that is SST_UNBOUNDED does not look at its key.
+ * nothing. Nothing is loaded yet. A bound that is SST_UNBOUNDED does not look at its key; one of a
+ * kind that is none is SST_NO_SUCH.
  */
 uint32_t sst_range_open(sst_handle *table, uint32_t lower_kind, const uint8_t *lower,
                         size_t lower_len, uint32_t upper_kind, const uint8_t *upper,
@@ -282,7 +284,8 @@ uint32_t sst_runs_get(sst_handle *runs, const uint8_t *key, size_t key_len, uint
 /* Begins to read what all tables of a list of runs have together within two bounds, into a handle
  * that holds nothing: of each key the newest version that is numbered below `seqno`, a deletion
  * too. Nothing is loaded yet. `sst_range_next` takes the entries, from both ends. The range has
- * shares of the tables: tables that are added to the list later are not in it.
+ * shares of the tables: tables that are added to the list later are not in it. Bounds are as in
+ * `sst_range_open`.
  */
 uint32_t sst_runs_range_open(sst_handle *runs, uint32_t lower_kind, const uint8_t *lower,
                              size_t lower_len, uint32_t upper_kind, const uint8_t *upper,

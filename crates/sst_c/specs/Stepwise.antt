@@ -51,25 +51,26 @@ pub record IsStepOf (v : Verifying) (answer : StepAnswer) (w : Verifying) : Type
   pub complete : (es : List Entry) → StoresList v.table.bytes es →
       IfErr answer (λ e. e ≡ OutOfMemory)
 
--- what C is told of an answer: its code,
+-- the code of an answer
 abbrev pub step_code : StepAnswer → ℕ
 step_code (Ok a) = 0
 step_code (Err OutOfMemory) = 1
 step_code (Err (Found f)) = 107
 
--- whether it is the end, by 1 and 0,
+-- whether it is the end, by 1 and 0
 abbrev pub step_end : StepAnswer → ℕ
 step_end (Ok None) = 0
 step_end (Ok (Some u)) = 1
 step_end (Err e) = 0
 
--- and what is there, or what is wrong
+-- what is there, or what is wrong
 abbrev pub step_told : StepAnswer → VerifyTold
 step_told (Ok None) = no_finding
 step_told (Ok (Some u)) = verified_told u
 step_told (Err OutOfMemory) = no_finding
 step_told (Err (Found f)) = finding_told f
 
+-- nothing is told of how far it is
 abbrev pub no_progress : ProgressTold
 no_progress = record { bytes_read = 0; data_size = 0; at_end = 0 }
 

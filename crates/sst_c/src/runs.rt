@@ -1,4 +1,4 @@
-//! Several tables as one: a list of runs, each of one table, the newest first.
+//! Several tables as one: a list of runs, the newest first.
 ghost use Rattle.std.specs.Prelude.{◌≡◌, ◌≢◌, ◌∷◌, ◌⊎◌, ◌++◌, [], false, IfErr, IfOk, IsSomeAnd};
 ghost use Rattle.std.specs.Prelude.{List, None, Ok, Some, is_some, true};
 ghost use Rattle.sst_entries.specs.declared.error.Error.TheVariants.{OutOfMemory};

@@ -170,7 +170,7 @@ fn add(held: &mut Held, key: &[u8], seqno: SeqNo, kind: u32, value: &[u8]) -> u3
 /// where the handle is closed, 102 where it holds no writer, 105 where there is no such kind, 104
 /// where the entry does not come strictly after the last one by key up and number down, or its
 /// number is the largest; the writer stays as it is then. Else refused as `Writer::write`: what was
-/// written stays, and each later call is refused 23.
+/// written stays, and each later entry that may follow is refused.
 #[unsafe(no_mangle)]
 pub extern "C" fn sst_writer_add(
     alloc: Global,
