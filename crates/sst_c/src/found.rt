@@ -113,8 +113,8 @@ fn lend_found(held: &Held, lent: &mut Lent) -> u32
 }
 
 /// Lends the key and the value of what the last read by a handle found: they lie there until the
-/// next read by the handle, or its close. Refused 100 where the handle is closed and 106 where nothing was found;
-/// what `lent` says stays then.
+/// next read by the handle, or its close. Refused 100 where the handle is closed and 106 where
+/// nothing was found; what `lent` says stays then.
 #[unsafe(no_mangle)]
 pub extern "C" fn sst_found_lend(alloc: Global, handle: &mut Handle, lent: &mut Lent) -> u32
     ensures kept { handle.new.boxed.value ≡ handle.old.boxed.value }

@@ -58,9 +58,9 @@ fn pack(alloc: Global, held: &Held, packed: &mut Handle) -> u32
 
 /// Packs the tables of a list of runs in as few runs as there can be, so that each key keeps the
 /// order of its tables: a list of these runs, in a handle that holds nothing. It has shares of the
-/// tables, and where these store lists it finds what the list finds. The list stays. Refused 101 where the packed runs' handle
-/// holds something, 100 where the list's is closed, 102 where it holds no runs, and for want of
-/// memory; both stay as they are then.
+/// tables, and where these store lists it finds what the list finds. The list stays. Refused 101
+/// where the packed runs' handle holds something, 100 where the list's is closed, 102 where it
+/// holds no runs, and for want of memory; both stay as they are then.
 #[unsafe(no_mangle)]
 pub extern "C" fn sst_runs_pack(alloc: Global, runs: &mut Handle, packed: &mut Handle) -> u32
     ensures kept { runs.new.boxed.value ≡ runs.old.boxed.value }

@@ -131,7 +131,8 @@ pub fn pack_files<'a, P: Place, A: Allocator + Copy>(
 ) -> Result<Packed<Table<A>, A>, CompactError<'a>>
     // They are the tables of these files, packed.
     ensures ok { IfOk result (λ packed. (opened : List OpenTable)
-        × (length opened ≡ length paths.now) × AreOpenedFrom true (P.content place.now) paths.now opened
+        × (length opened ≡ length paths.now)
+        × AreOpenedFrom true (P.content place.now) paths.now opened
         × IsPackedOf range_of opened packed) }
     // A refusal names the first file that is not opened, or one of tables whose first key is above
     // the last; or it is for want of memory.
