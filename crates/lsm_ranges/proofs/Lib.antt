@@ -8,3 +8,4 @@ pub mod PackSize
 pub mod LinkLemmas
 pub mod WalkLemmas
 pub mod ChainLemmas
+pub mod Alone

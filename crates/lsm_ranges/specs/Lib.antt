@@ -3,3 +3,4 @@ pub mod Run
 pub mod Packing
 pub mod Links
 pub mod LinkedRuns
+pub mod Packed

@@ -4,8 +4,10 @@
 
 mod key_range;
 mod optimize;
+mod packed;
 mod run;
 
 pub use key_range::KeyRange;
 pub use optimize::{optimize_runs, overlap_chain};
+pub use packed::{Packed, Placed, pack_each};
 pub use run::{Indexed, Ranged, Run};

@@ -1,104 +1,14 @@
--- Tables that stand alone in runs. Assumes `Logic`.
-use Rattle.std.proofs.Common.{◌≡◌, refl, sym, ◌∙◌, ap, subst, ℕ, ◌+◌, ◌<◌, suc, true, List}
-use Rattle.std.proofs.Common.{[], ◌∷◌, ◌++◌, length, append_assoc, append-nil, length-append, arith}
-use Rattle.std.specs.Prelude.{◌≢◌, IfOk, Result, Ok, Err, map}
+-- All tables of a list of runs, packed. Assumes `Logic`.
+use Rattle.std.proofs.Common.{◌≡◌, subst, List}
+use Rattle.std.specs.Prelude.{IfOk, Result, Ok, Err}
 use Rattle.sst_entries.specs.declared.error.Error.{Error}
-use Rattle.std.specs.List.{AllByRecursion}
-use Rattle.lsm_ranges.specs.KeyRange.{Interval, are_disjoint}
-use Rattle.lsm_ranges.specs.Packing.{AreDisjointRuns, ArePacked, ArePlaced, AreTablesWellFormed}
-use Rattle.lsm_ranges.specs.Packing.{AreWellFormed, IsChain, IsLeastSize, SameHolders, SameTables}
-use Rattle.lsm_ranges.specs.Packing.{tables_in}
-use Rattle.sst_c.specs.declared.packed.Packed.{Packed}
-use Rattle.sst_c.specs.declared.packed.Placed.{Placed}
-use Rattle.sst_c.specs.Packed.{IsPackedOf, alone, placed}
-
--- one more table stands alone
-pub alone_more : {T : Type 0} (runs : List (List (Placed T))) (t : T) (rest before : List T)
-    (all : List (List (Placed T))) → before ≡ t ∷ rest
-    → runs ++ alone (length runs) before ≡ all
-    → (runs ++ (placed (length runs) t ∷ []) ∷ [])
-    ++ alone (length (runs ++ (placed (length runs) t ∷ []) ∷ [])) rest ≡ all
-alone_more {T} runs t rest before all next so_far =
-    let x : List (Placed T) = placed (length runs) t ∷ [] in
-    let one : length (runs ++ x ∷ []) ≡ suc (length runs) =
-    length-append runs (x ∷ []) ∙ (let e : length runs + 1 ≡ suc (length runs) = omega arith in e) in
-    ap (λ (n : ℕ). (runs ++ x ∷ []) ++ alone n rest) one
-    ∙ append_assoc runs (x ∷ []) (alone (suc (length runs)) rest)
-    ∙ ap (λ (ts : List T). runs ++ alone (length runs) ts) (sym next)
-    ∙ so_far
-
-pub alone_all : {T : Type 0} (runs : List (List (Placed T))) (rest : List T)
-    (all : List (List (Placed T))) → rest ≡ [] → runs ++ alone (length runs) rest ≡ all
-    → runs ≡ all
-alone_all {T} runs rest all none so_far =
-    sym (append-nil runs)
-    ∙ ap (λ (ts : List T). runs ++ alone (length runs) ts) (sym none)
-    ∙ so_far
-
--- ---- runs of one table each are apart
-
-module _ {T : Type 0} (range : T → Interval) where
-  some_alone : (place : ℕ) (ts : List T) → AllByRecursion (λ run. run ≢ []) (alone place ts)
-  some_alone place [] = tt
-  some_alone place (t ∷ ts) = (λ none. absurd cc, some_alone (suc place) ts)
-
-  apart_alone : (place : ℕ) (ts : List T)
-      → AllByRecursion (λ (run : List (Placed T)). are_disjoint (map (λ x. range x.table) run) ≡ true)
-      (alone place ts)
-  apart_alone place [] = tt
-  apart_alone place (t ∷ ts) = (refl, apart_alone (suc place) ts)
-
-  formed_alone : (place : ℕ) (ts : List T) → AreTablesWellFormed range ts
-      → AreWellFormed (λ (x : Placed T). range x.table) (alone place ts)
-  formed_alone place [] formed = tt
-  formed_alone place (t ∷ ts) formed = (formed.0, formed_alone (suc place) ts formed.1)
-
-  pub disjoint_alone : (place : ℕ) (ts : List T) → AreTablesWellFormed range ts
-      → AreDisjointRuns (λ (x : Placed T). range x.table) (alone place ts)
-  disjoint_alone place ts formed = record {
-    some = some_alone place ts;
-    apart = apart_alone place ts;
-    formed = formed_alone place ts formed;
-  }
-
--- what packing and a chain tell of runs that are these tables, each alone
-pub packed_of : {T : Type 0} (range : T → Interval) (tables : List T) (p : Packed T)
-    (runs seen : List (List (Placed T))) → runs ≡ alone 0 tables → seen ≡ alone 0 tables
-    → AreTablesWellFormed range tables → SameTables runs p.runs.items
-    → (AreWellFormed (λ (x : Placed T). range x.table) runs
-    → SameHolders (λ (x : Placed T). range x.table) runs p.runs.items)
-    → (AreDisjointRuns (λ (x : Placed T). range x.table) runs
-    → IsLeastSize (λ (x : Placed T). range x.table) runs (length p.runs.items))
-    → (AreWellFormed (λ (x : Placed T). range x.table) runs → 1 < length runs
-    → ArePacked (λ (x : Placed T). range x.table) p.runs.items)
-    → (AreWellFormed (λ (x : Placed T). range x.table) runs → 1 < length runs
-    → ArePlaced (λ (x : Placed T). range x.table) (tables_in runs) p.runs.items)
-    → IsChain (λ (x : Placed T). range x.table) seen p.chain.items
-    → (AreDisjointRuns (λ (x : Placed T). range x.table) seen
-    → IsLeastSize (λ (x : Placed T). range x.table) seen (length p.chain.items))
-    → IsPackedOf range tables p
-packed_of {T} range tables p runs seen given looked formed same order least ordered behind chain
-    as_long =
-    let of = λ (x : Placed T). range x.table in
-    let apart : AreDisjointRuns of (alone 0 tables) = disjoint_alone range 0 tables formed in
-    let before = subst (AreDisjointRuns of) (sym given) apart in
-    record {
-      same = subst (λ (r : List (List (Placed T))). SameTables r p.runs.items) given same;
-      order = subst (λ (r : List (List (Placed T))). SameHolders of r p.runs.items) given
-          (order before.formed);
-      ordered = subst (λ (r : List (List (Placed T))). 1 < length r → ArePacked of p.runs.items) given
-          (ordered before.formed);
-      behind = subst (λ (r : List (List (Placed T))).
-          1 < length r → ArePlaced of (tables_in r) p.runs.items) given (behind before.formed);
-      least = subst (λ (r : List (List (Placed T))). IsLeastSize of r (length p.runs.items)) given
-          (least before);
-      chain = subst (λ (r : List (List (Placed T))). IsChain of r p.chain.items) looked chain;
-      as_long = subst (λ (r : List (List (Placed T))). IsLeastSize of r (length p.chain.items)) looked
-          (as_long (subst (AreDisjointRuns of) (sym looked) apart));
-    }
+use Rattle.lsm_ranges.specs.KeyRange.{Interval}
+use Rattle.lsm_ranges.specs.Packing.{AreTablesWellFormed}
+use Rattle.lsm_ranges.specs.Packed.{IsPackedOf}
+use Rattle.lsm_ranges.specs.declared.packed.Packed.{Packed}
 
 -- all tables are packed
-pub packed_all : {T : Type 0} (range : T → Interval) (r : Result (Packed T) Error)
+pub packed_all : {T A : Type 0} (range : T → Interval) (r : Result (Packed T A) Error)
     (tables all : List T) → tables ≡ all → AreTablesWellFormed range all
     → IfOk r (λ p. AreTablesWellFormed range tables → IsPackedOf range tables p)
     → IfOk r (IsPackedOf range all)

@@ -21,8 +21,8 @@ use Rattle.sst_c.specs.declared.held.What.TheVariants.{Range as RangeOf, Merged 
 use Rattle.sst_c.specs.declared.held.What.TheVariants.{Answers as AnswersOf}
 use Rattle.sst_c.specs.declared.held.What.TheVariants.{Packing as PackingOf}
 use Rattle.sst_c.specs.declared.held.What.TheVariants.{Verification as VerificationOf}
-use Rattle.sst_c.specs.declared.packed.Packed.{Packed}
-use Rattle.sst_c.specs.declared.packed.Placed.{Placed}
+use Rattle.lsm_ranges.specs.declared.packed.Packed.{Packed}
+use Rattle.lsm_ranges.specs.declared.packed.Placed.{Placed}
 use Rattle.sst_c.specs.Codes.{result_code}
 use Rattle.sst_c.specs.Steps.{NewestAt, StepsUntil}
 use Rattle.sst_c.specs.Told.{found_of}
@@ -104,7 +104,7 @@ is_verification (VerificationOf v) = true
 is_verification _ = false
 
 -- it is a packing of which this holds
-abbrev pub IsPackingWhere : (Packed OpenTable → Type 0) → What → Type 0
+abbrev pub IsPackingWhere : (Packed OpenTable Global → Type 0) → What → Type 0
 IsPackingWhere holds (PackingOf p) = holds p
 IsPackingWhere holds _ = ⊥
 

@@ -1,6 +1,5 @@
 //! What is behind a handle.
 use crate::asked::Asked;
-use crate::packed::Packed;
 use crate::run_list::RunList;
 use crate::verifier::Verifier;
 use lsm_iters::Iter;

@@ -47,7 +47,6 @@ pub use kept::sst_table_open_kept;
 pub use many::{sst_answers_copy, sst_answers_lend, sst_table_get_many};
 pub use merged::sst_runs_range_open;
 pub use options::{TableOptions, sst_options_default};
-pub use packed::{Packed, Placed};
 pub use packing::{
     sst_packing_chain, sst_packing_count, sst_packing_open, sst_packing_run, sst_packing_table,
     sst_runs_pack,

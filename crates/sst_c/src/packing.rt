@@ -5,11 +5,12 @@ ghost use Rattle.sst_entries.specs.declared.error.Error.TheVariants.{OutOfMemory
 ghost use Rattle.lsm_ranges.specs.Packing.{tables_in};
 ghost use Rattle.lsm_readers.specs.Words.{OpenTable};
 ghost use Rattle.lsm_runs.specs.Words.{range_of};
-ghost use Rattle.sst_c.specs.Packed.{ArePackedOf, IsPackedOf};
+ghost use Rattle.lsm_ranges.specs.Packed.{IsPackedOf};
+ghost use Rattle.sst_c.specs.Packed.{ArePackedOf};
 ghost use Rattle.sst_c.specs.What.{IsPackingWhere, are_runs, is_packing, packed_chain, packed_runs};
 ghost use Rattle.sst_c.specs.What.{runs_held};
 ghost use Rattle.sst_c.specs.declared.held.Held.{Held as HeldValue};
-ghost use Rattle.sst_c.specs.declared.packed.Placed.{Placed as PlacedTable};
+ghost use Rattle.lsm_ranges.specs.declared.packed.Placed.{Placed as PlacedTable};
 
 use crate::codes::{CLOSED, NO_SUCH, OPEN, OTHER_KIND};
 use crate::handle::Handle;

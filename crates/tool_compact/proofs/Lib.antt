@@ -1,4 +1,3 @@
-mod Alone
 mod Blaming
 mod Scanning
 mod Texts

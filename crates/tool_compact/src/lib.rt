@@ -12,5 +12,5 @@ mod scanned;
 pub use compact::compact_files;
 pub use compact_error::CompactError;
 pub use compact_options::CompactOptions;
-pub use pack::{Packed, Placed, pack_files};
+pub use pack::pack_files;
 pub use print::print_packed;

@@ -8,7 +8,7 @@ returns-clause-ok g c = (
   c.in_ok-tables.tables.items,
   c.in_ok-tables.ensures.each,
   c.in_ok-tables.ensures.opened,
-  c.in_ok-pack.ensures.packed
+  c.in_ok-pack_each.ensures.packed
       (subst (λ (ts : List OpenTable). AreTablesWellFormed range_of ts) c.deref.ensures.value
       c.in_ok-check_ranges.ensures.ok),
 )

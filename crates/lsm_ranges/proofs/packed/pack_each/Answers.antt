@@ -1,6 +1,6 @@
 use Rattle.std.proofs.Common.{◌∙◌}
-use Rattle.sst_c.proofs.Alone.{packed_of}
-use Rattle.sst_c.proofs.packed.pack.Goals as goal
+use Rattle.lsm_ranges.proofs.Alone.{packed_of}
+use Rattle.lsm_ranges.proofs.packed.pack_each.Goals as goal
 
 pub returns-clause-packed : goal.returns-clause-packed
 returns-clause-packed g c formed =

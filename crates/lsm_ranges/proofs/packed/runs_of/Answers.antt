@@ -1,7 +1,7 @@
 use Rattle.std.proofs.Common.{◌≡◌, ◌∙◌, refl, sym, []}
 use Rattle.std.proofs.lemmas.List.{nil_from_length}
-use Rattle.tool_compact.proofs.Alone.{alone_all, alone_more}
-use Rattle.tool_compact.proofs.pack.runs_of.Goals as goal
+use Rattle.lsm_ranges.proofs.Alone.{alone_all, alone_more}
+use Rattle.lsm_ranges.proofs.packed.runs_of.Goals as goal
 
 pub loop-table-init : goal.loop-table-init
 loop-table-init g c = rw (c.new-runs.ensures.items, c.into_iter-table-iterator.ensures.into_iter_gives.0) refl

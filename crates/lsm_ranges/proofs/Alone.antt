@@ -7,9 +7,9 @@ use Rattle.lsm_ranges.specs.KeyRange.{Interval, are_disjoint}
 use Rattle.lsm_ranges.specs.Packing.{AreDisjointRuns, ArePacked, ArePlaced, AreTablesWellFormed}
 use Rattle.lsm_ranges.specs.Packing.{AreWellFormed, IsChain, IsLeastSize, SameHolders, SameTables}
 use Rattle.lsm_ranges.specs.Packing.{tables_in}
-use Rattle.tool_compact.specs.declared.pack.Packed.{Packed}
-use Rattle.tool_compact.specs.declared.pack.Placed.{Placed}
-use Rattle.tool_compact.specs.Packed.{IsPackedOf, alone, placed}
+use Rattle.lsm_ranges.specs.declared.packed.Packed.{Packed}
+use Rattle.lsm_ranges.specs.declared.packed.Placed.{Placed}
+use Rattle.lsm_ranges.specs.Packed.{IsPackedOf, alone, placed}
 
 -- one more table stands alone
 pub alone_more : {T : Type 0} (runs : List (List (Placed T))) (t : T) (rest before : List T)

@@ -1,6 +1,6 @@
 use Rattle.std.proofs.Common.{◌≡◌, ◌++◌, length}
-use Rattle.sst_c.specs.Packed.{alone}
-use Rattle.sst_c.proofs.packed.runs_of.Given as goal
+use Rattle.lsm_ranges.specs.Packed.{alone}
+use Rattle.lsm_ranges.proofs.packed.runs_of.Given as goal
 
 abbrev pub invariant-loop-table : goal.invariant-loop-table
 invariant-loop-table g l =
