@@ -15,10 +15,10 @@ use Rattle.lsm_readers.specs.Verify.{◌>>=◌, Misses, Unread, all_found, block
 use Rattle.lsm_readers.specs.Verify.{end_found, filter_found, filter_places, filters_by}
 use Rattle.lsm_readers.specs.Verify.{handles_found, index_found, part_found}
 use Rattle.lsm_readers.specs.Verify.{parts_found, table_found, top_named, tops_found, unread_of}
-use Rattle.lsm_readers.specs.Verify.{named_found, verified_of}
+use Rattle.lsm_readers.specs.Verify.{named_found, passed, verified_of}
 use Rattle.lsm_readers.specs.Verification.{GoesOne, IsThrough, before_index, count_told}
 use Rattle.lsm_readers.specs.Verification.{ended_found, in_index, index_ahead, named_steps}
-use Rattle.lsm_readers.specs.Verification.{partition_found, parts_steps}
+use Rattle.lsm_readers.specs.Verification.{next_found, partition_found, parts_steps}
 use Rattle.lsm_readers.specs.Verification.{places_found, places_in, rest_found, steps_left}
 use Rattle.lsm_readers.proofs.VerifyBlocks.{size_less}
 use Rattle.lsm_readers.proofs.VerifySteps.{answer, then_ok, told_is}
@@ -39,6 +39,33 @@ at_some P (Some y) x p is = let same : y ≡ x = cc in subst P same p
 pub refuses : {X Y : Type 0} (r : Result X VerifyError) (e : VerifyError) (told : Result Y Finding)
     → IsErrAnd r (λ y. y ≡ e) → Misses e told → IfErr r (λ y. Misses y told)
 refuses r e told is misses = let p = err_from_is_err_and r is in rw (p.1, p.2) misses
+
+-- what is missed of a value is missed where nothing is kept of it
+pub misses_passed : {X : Type 0} (e : VerifyError) (told : Result X Finding) → Misses e told
+    → Misses e (passed told)
+misses_passed e told misses = λ f found. ap passed (misses f found)
+
+-- what the first of some data blocks is refused for is what is found next
+pub next_block : (body : List ℕ) (parts : Parts) (left : Unread) (hs tops : List Handle)
+    (e : VerifyError) → (hs ≡ [] → false ≡ true)
+    → ((h : Handle) (rest : List Handle) → hs ≡ h ∷ rest
+    → Misses e (block_found body parts left h))
+    → Misses e (next_found body parts (in_index hs tops) left)
+next_block body parts left [] tops e some first =
+    absurd (let no : false ≡ true = some refl in cc)
+next_block body parts left (h ∷ hs) tops e some first =
+    misses_passed e (block_found body parts left h) (first h hs refl)
+
+-- and so is what the first of some partitions is refused for
+pub next_part : (body : List ℕ) (parts : Parts) (left : Unread) (tops : List Handle)
+    (e : VerifyError) → (tops ≡ [] → false ≡ true)
+    → ((top : Handle) (rest : List Handle) → tops ≡ top ∷ rest
+    → Misses e (partition_found body top))
+    → Misses e (next_found body parts (in_index [] tops) left)
+next_part body parts left [] e some first =
+    absurd (let no : false ≡ true = some refl in cc)
+next_part body parts left (top ∷ tops) e some first =
+    misses_passed e (partition_found body top) (first top tops refl)
 
 pub refuses_with : {X : Type 0} (P : VerifyError → Type 0) (r : Result X VerifyError)
     (e : VerifyError) → IsErrAnd r (λ y. y ≡ e) → P e → IfErr r P

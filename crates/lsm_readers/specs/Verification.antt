@@ -21,7 +21,7 @@ use Rattle.lsm_readers.specs.Table.{OpenTable}
 use Rattle.lsm_readers.specs.Verify.{◌>>=◌, Unread, block_found, blocks_found, counted_found}
 use Rattle.lsm_readers.specs.Verify.{counts_found}
 use Rattle.lsm_readers.specs.Verify.{early_at, end_found, filter_found, filter_places}
-use Rattle.lsm_readers.specs.Verify.{handles_found, index_found, key_same, parts_found}
+use Rattle.lsm_readers.specs.Verify.{handles_found, index_found, key_same, parts_found, passed}
 use Rattle.lsm_readers.specs.Verify.{table_found, top_named, unread_of, verified_of}
 
 -- ---- what is left to read
@@ -115,6 +115,16 @@ ReadsNext body parts (in_index [] (top ∷ tops)) before new after =
     (handles : List Handle) × (partition_found body top ≡ Ok handles)
     × (new ≡ in_index handles tops) × (after ≡ before)
 ReadsNext body parts (in_index [] []) before new after = ⊥
+
+-- what is found first in the next block, with what its handle says of it, or at the end where none
+-- is left
+abbrev pub next_found : List ℕ → Parts → Ahead → Unread → Result (Unit {0}) Finding
+next_found body parts (before_index (place ∷ places)) left = filter_found body place
+next_found body parts (before_index []) left =
+    passed (handles_found body section.Tli parts.regions.tli)
+next_found body parts (in_index (h ∷ handles) tops) left = passed (block_found body parts left h)
+next_found body parts (in_index [] (top ∷ tops)) left = passed (partition_found body top)
+next_found body parts (in_index [] []) left = end_found body parts left
 
 -- the size of the data block that is read next, and none where that is another block
 abbrev pub next_size : Ahead → ℕ

@@ -4,8 +4,8 @@ ghost use Rattle.std.specs.Prelude.{true};
 ghost use Rattle.lsm_readers.specs.Findings.{IsFirstFinding};
 ghost use Rattle.lsm_readers.specs.Verify.{FindsFirst, Misses, is_found, table_found, verified_of};
 ghost use Rattle.lsm_readers.specs.Verification.{GoesOne, IsThrough, ReadsNext, ahead_of};
-ghost use Rattle.lsm_readers.specs.Verification.{bytes_read, next_size, rest_found, step_early};
-ghost use Rattle.lsm_readers.specs.Verification.{StepsCalmly, steps_of, verifying};
+ghost use Rattle.lsm_readers.specs.Verification.{bytes_read, next_found, next_size, rest_found};
+ghost use Rattle.lsm_readers.specs.Verification.{StepsCalmly, step_early, steps_of, verifying};
 ghost use Rattle.lsm_readers.specs.Words.{Entry, IsOpen, StoresList, body_of};
 ghost use Rattle.sst_entries.specs.declared.error.Error.TheVariants as refusal;
 ghost use Rattle.lsm_readers.specs.declared.verify.Finding.{Finding};
@@ -103,6 +103,8 @@ impl<A: Allocator + Clone> Table<A> {
             (stage.new ≡ stage.old) × (left.new ≡ left.old)) }
         ensures refused { let parts = self.now.parts in IfErr result (λ e. Misses e
             (rest_found (body_of self.now.bytes) parts (ahead_of parts stage.old) left.old)) }
+        ensures next { let parts = self.now.parts in IfErr result (λ e. Misses e
+            (next_found (body_of self.now.bytes) parts (ahead_of parts stage.old) left.old)) }
         ensures early { let parts = self.now.parts in FindsFirst result
             (step_early (body_of self.now.bytes) parts (ahead_of parts stage.old) left.old) }
         ensures calm { let ahead = ahead_of self.now.parts stage.old in
@@ -144,6 +146,9 @@ impl<A: Allocator + Clone> Verification<A> {
             table_found (body_of t.bytes) t.parts ≡ Ok v)) }
         ensures refused { let t = self.old.table in
             IfErr result (λ e. Misses e (table_found (body_of t.bytes) t.parts)) }
+        // What is found is wrong in the next block, or at the end where none is left.
+        ensures next { let t = self.old.table in IfErr result (λ e. Misses e
+            (next_found (body_of t.bytes) t.parts self.old.ahead self.old.left)) }
         // A fault of the next block which takes no memory to be found is told whatever memory there
         // is, and so is one at the end, but for a data block that no handle names.
         ensures early { let t = self.old.table in FindsFirst result

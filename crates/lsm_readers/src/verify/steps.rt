@@ -5,12 +5,13 @@ ghost use Rattle.std.specs.List.{slice_get};
 ghost use Rattle.lsm_readers.specs.Words.{Handle, body_of, parts_of, place_of};
 ghost use Rattle.lsm_readers.specs.declared.verify.VerifyError.TheVariants.{OutOfMemory};
 ghost use Rattle.lsm_readers.specs.Verify.{Finds, Misses, Unread as UnreadLeft, block_found};
-ghost use Rattle.lsm_readers.specs.Verify.{FindsFirst, blocks_found, early_at, is_found};
+ghost use Rattle.lsm_readers.specs.Verify.{FindsFirst, blocks_found, early_at, handles_found};
+ghost use Rattle.lsm_readers.specs.Verify.{is_found, passed};
 ghost use Rattle.lsm_readers.specs.Handles.{handles_ahead};
 ghost use Rattle.lsm_readers.specs.Parts.{Parts};
 ghost use Rattle.lsm_readers.specs.Verification.{GoesOne, IsThrough, ahead_of, before_index};
-ghost use Rattle.lsm_readers.specs.Verification.{in_index, partition_found, places_in, rest_found};
-ghost use Rattle.lsm_readers.specs.Verification.{StepsCalmly, chunk_early, step_early};
+ghost use Rattle.lsm_readers.specs.Verification.{in_index, next_found, partition_found, places_in};
+ghost use Rattle.lsm_readers.specs.Verification.{StepsCalmly, chunk_early, rest_found, step_early};
 ghost use Rattle.sst_blocks.specs.declared.block_type.BlockType.TheVariants as block;
 ghost use Rattle.sst_sections.specs.declared.section.SectionName.TheVariants as section;
 
@@ -184,6 +185,9 @@ fn step_block<A: Allocator + Clone>(
         (handles.old ≡ []) × (handles.new ≡ []) × (left.new ≡ left.old)) }
     ensures refused { IfErr result (λ e. Misses e
         (blocks_found (body_of source.now) (parts_of inner.now) left.old handles.old)) }
+    ensures next { (h : Handle) (rest : List Handle) → handles.old ≡ h ∷ rest →
+        IfErr result (λ e. Misses e
+        (block_found (body_of source.now) (parts_of inner.now) left.old h)) }
     ensures early { (h : Handle) (rest : List Handle) → handles.old ≡ h ∷ rest →
         let counts = left.old.counts in
         FindsFirst result
@@ -270,6 +274,9 @@ fn step_index<A: Allocator + Clone>(
     ensures refused { let ahead = in_index handles.old tops.old in
         IfErr result (λ e. Misses e
         (rest_found (body_of source.now) (parts_of inner.now) ahead left.old)) }
+    ensures next { let ahead = in_index handles.old tops.old in
+        IfErr result (λ e. Misses e
+        (next_found (body_of source.now) (parts_of inner.now) ahead left.old)) }
     ensures early { let ahead = in_index handles.old tops.old in
         FindsFirst result (step_early (body_of source.now) (parts_of inner.now) ahead left.old) }
     ensures calm { StepsCalmly (body_of source.now) (in_index handles.old tops.old) left.old →
@@ -325,6 +332,8 @@ fn open_index<A: Allocator + Clone>(
         (ahead_of parts stage) left) }
     ensures refused { (left : UnreadLeft) → IfErr result (λ e. Misses e
         (rest_found (body_of source.now) (parts_of inner.now) (before_index []) left)) }
+    ensures next { let tli = (parts_of inner.now).regions.tli in IfErr result (λ e. Misses e
+        (passed (handles_found (body_of source.now) section.Tli tli))) }
     ensures early { let tli = (parts_of inner.now).regions.tli in
         FindsFirst result (early_at (body_of source.now) section.Tli tli block.Index) }
 {
@@ -355,6 +364,9 @@ fn step_filter<A: Allocator + Clone>(
     ensures refused { (left : UnreadLeft) → let parts = parts_of inner.now in
         let ahead = before_index (drop index (places_in parts)) in
         IfErr result (λ e. Misses e (rest_found (body_of source.now) parts ahead left)) }
+    ensures next { (left : UnreadLeft) → let parts = parts_of inner.now in
+        let ahead = before_index (drop index (places_in parts)) in
+        IfErr result (λ e. Misses e (next_found (body_of source.now) parts ahead left)) }
     ensures early { (left : UnreadLeft) → let parts = parts_of inner.now in
         let ahead = before_index (drop index (places_in parts)) in
         FindsFirst result (step_early (body_of source.now) parts ahead left) }
@@ -385,6 +397,9 @@ pub(crate) fn step_stage<A: Allocator + Clone>(
         (stage.new ≡ stage.old) × (left.new ≡ left.old)) }
     ensures refused { let parts = parts_of inner.now in let ahead = ahead_of parts stage.old in
         IfErr result (λ e. Misses e (rest_found (body_of source.now) parts ahead left.old)) }
+    // What is found is wrong in the next block, or at the end.
+    ensures next { let parts = parts_of inner.now in let ahead = ahead_of parts stage.old in
+        IfErr result (λ e. Misses e (next_found (body_of source.now) parts ahead left.old)) }
     // What is found before memory is taken is the refusal, whatever memory there is.
     ensures early { let parts = parts_of inner.now in let ahead = ahead_of parts stage.old in
         FindsFirst result (step_early (body_of source.now) parts ahead left.old) }

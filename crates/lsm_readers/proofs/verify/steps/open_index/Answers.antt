@@ -1,8 +1,11 @@
 use Rattle.std.proofs.Common.{[]}
 use Rattle.sst_sections.specs.Sections.{body_of}
+use Rattle.sst_sections.specs.declared.section.SectionName.TheVariants as section
 use Rattle.lsm_readers.specs.Table.{parts_of}
 use Rattle.lsm_readers.specs.Verification.{before_index, rest_found}
-use Rattle.lsm_readers.proofs.Verifications.{full_goes, index_misses, refuses, tops_goes}
+use Rattle.lsm_readers.specs.Verify.{handles_found, passed}
+use Rattle.lsm_readers.proofs.Verifications.{full_goes, index_misses, misses_passed, refuses}
+use Rattle.lsm_readers.proofs.Verifications.{tops_goes}
 use Rattle.lsm_readers.proofs.verify.steps.open_index.Goals as goal
 
 pub returns-in_err-handles-clause-refused : goal.returns-in_err-handles-clause-refused
@@ -24,3 +27,11 @@ returns-in-Some-clause-goes g c = λ left.
     rw (c.none-in-Some.ensures, c.all-handles.ensures)
     (tops_goes (body_of c.args.source.now) (parts_of c.args.inner.now) c.in-Some.field-0
     c.in-Some.is c.in_ok-handles.handles left c.in_ok-handles.ensures.told)
+
+pub returns-in_err-handles-clause-next : goal.returns-in_err-handles-clause-next
+returns-in_err-handles-clause-next g c =
+    let told = handles_found (body_of c.args.source.now) section.Tli
+    (parts_of c.args.inner.now).regions.tli in
+    let e = c.in_err-handles.field-0.0 in
+    refuses c.from_residual.result e (passed told) c.from_residual.ensures.1
+    (misses_passed e told c.in_err-handles.ensures.told)

@@ -2,7 +2,8 @@ use Rattle.std.proofs.Common.{◌∷◌, List, drop, refl, ap, sym, ◌∙◌}
 use Rattle.sst_sections.specs.Sections.{body_of}
 use Rattle.sst_blocks.specs.Handle.{Handle}
 use Rattle.lsm_readers.specs.Table.{parts_of}
-use Rattle.lsm_readers.specs.Verify.{blocks_found}
+use Rattle.std.specs.List.{slice_get}
+use Rattle.lsm_readers.specs.Verify.{block_found, blocks_found}
 use Rattle.lsm_readers.proofs.Verifications.{at_none, first_misses, refuses}
 use Rattle.lsm_readers.proofs.VerifyEarly.{some_first}
 use Rattle.lsm_readers.proofs.VerifyReads.{next_is}
@@ -44,3 +45,13 @@ returns-in_err-read-clause-calm g c = λ none.
     let next = c.in-Some.next in
     let first = next_is next.0.now hs next.1 c.in-Some.ensures.within c.in-Some.ensures.some in
     absurd (some_first hs first.0 (drop 1 hs) first.2 none)
+
+pub returns-in_err-read-clause-next : goal.returns-in_err-read-clause-next
+returns-in_err-read-clause-next g c = λ h rest is.
+    let parts = parts_of c.args.inner.now in
+    let body = body_of c.args.source.now in
+    let e = c.in_err-read.field-0.0 in
+    refuses c.from_residual.result e (block_found body parts c.args.left.now h)
+    c.from_residual.ensures.1
+    (c.in_err-read.ensures.told h
+    (c.in-Some.ensures.some ∙ ap (λ (hs : List Handle). slice_get hs 0) is))

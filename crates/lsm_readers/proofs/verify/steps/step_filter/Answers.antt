@@ -4,9 +4,9 @@ use Rattle.sst_sections.specs.Sections.{body_of}
 use Rattle.sst_blocks.specs.Place.{Place}
 use Rattle.lsm_readers.specs.Table.{parts_of}
 use Rattle.lsm_readers.specs.declared.verify.Finding.{Finding}
-use Rattle.lsm_readers.specs.Verify.{FindsFirst, Misses}
+use Rattle.lsm_readers.specs.Verify.{FindsFirst, Misses, filter_found}
 use Rattle.lsm_readers.specs.Verification.{GoesOne, ahead_of, before_index, places_in, rest_found}
-use Rattle.lsm_readers.specs.Verification.{step_early}
+use Rattle.lsm_readers.specs.Verification.{next_found, step_early}
 use Rattle.lsm_readers.proofs.HandlesLeft.{none_at}
 use Rattle.lsm_readers.proofs.VerifyEarly.{passes_first}
 use Rattle.lsm_readers.proofs.VerifyLoops.{drop_at}
@@ -98,3 +98,25 @@ returns-in-None-clause-early g c = λ left.
     (sym c.filter_at.ensures.place ∙ c.in-None.is) in
     subst (λ (ps : List Place). FindsFirst c.open_index.result
     (step_early body parts (before_index ps) left)) (sym none) c.open_index.ensures.early
+
+pub returns-in_err-test_filter-in-Some-clause-next :
+    goal.returns-in_err-test_filter-in-Some-clause-next
+returns-in_err-test_filter-in-Some-clause-next g c = λ left.
+    let parts = parts_of c.args.inner.now in
+    let body = body_of c.args.source.now in
+    let places = places_in parts in
+    let place = c.in-Some.place in
+    let head = drop_at places c.args.index place (sym c.filter_at.ensures.place ∙ c.in-Some.is) in
+    subst (λ (ps : List Place). IfErr c.from_residual.result (λ e.
+    Misses e (next_found body parts (before_index ps) left))) (sym head)
+    (refuses c.from_residual.result c.in_err-test_filter-in-Some.field-0.0 (filter_found body place)
+    c.from_residual.ensures.1 c.in_err-test_filter-in-Some.ensures.told)
+
+pub returns-in-None-clause-next : goal.returns-in-None-clause-next
+returns-in-None-clause-next g c = λ left.
+    let parts = parts_of c.args.inner.now in
+    let body = body_of c.args.source.now in
+    let none = none_at (places_in parts) c.args.index
+    (sym c.filter_at.ensures.place ∙ c.in-None.is) in
+    subst (λ (ps : List Place). IfErr c.open_index.result (λ e.
+    Misses e (next_found body parts (before_index ps) left))) (sym none) c.open_index.ensures.next

@@ -3,10 +3,11 @@ use Rattle.std.specs.Prelude.{Ok}
 use Rattle.sst_sections.specs.Sections.{body_of}
 use Rattle.sst_blocks.specs.Handle.{Handle}
 use Rattle.lsm_readers.specs.Table.{parts_of}
-use Rattle.lsm_readers.specs.Verification.{GoesOne, in_index, rest_found}
+use Rattle.lsm_readers.specs.Verification.{GoesOne, in_index, next_found, rest_found}
 use Rattle.lsm_readers.proofs.VerifyEarly.{early_block, early_part, passes_first, some_first}
 use Rattle.lsm_readers.proofs.Verifications.{at_none, at_some, block_goes, block_misses}
-use Rattle.lsm_readers.proofs.Verifications.{end_misses, ends_here, next_misses, part_goes, refuses}
+use Rattle.lsm_readers.proofs.Verifications.{end_misses, ends_here, next_block, next_misses}
+use Rattle.lsm_readers.proofs.Verifications.{next_part, part_goes, refuses}
 use Rattle.lsm_readers.proofs.verify.steps.step_index.Goals as goal
 
 pub returns-in_err-step_block-clause-refused : goal.returns-in_err-step_block-clause-refused
@@ -107,3 +108,44 @@ returns-in-Some-clause-early g c =
     c.args.left.now tops (Ok false)
     (λ no. absurd (some_first tops part.0 c.step_part.new.tops part.1 no))
     c.in_ok-block.ensures.early)
+
+pub returns-in_err-step_block-clause-next : goal.returns-in_err-step_block-clause-next
+returns-in_err-step_block-clause-next g c =
+    let parts = parts_of c.args.inner.now in
+    let body = body_of c.args.source.now in
+    let hs = c.args.handles.now in
+    let tops = c.args.tops.now in
+    let left = c.args.left.now in
+    let e = c.in_err-step_block.field-0.0 in
+    refuses c.from_residual.result e (next_found body parts (in_index hs tops) left)
+    c.from_residual.ensures.1
+    (next_block body parts left hs tops e c.in_err-step_block.ensures.calm
+    c.in_err-step_block.ensures.next)
+
+pub returns-in_err-block-clause-next : goal.returns-in_err-block-clause-next
+returns-in_err-block-clause-next g c =
+    let parts = parts_of c.args.inner.now in
+    let body = body_of c.args.source.now in
+    let tops = c.args.tops.now in
+    let left = c.args.left.now in
+    let e = c.in_err-block.field-0.0 in
+    let passed = c.from_residual-in_err-block in
+    let none = c.in_ok-step_block.ensures.none c.if-branch.false in
+    refuses passed.result e (next_found body parts (in_index c.args.handles.now tops) left)
+    passed.ensures.1
+    (λ f found. ap (λ (hs : List Handle). next_found body parts (in_index hs tops) left) none.0
+    ∙ next_part body parts left tops e c.in_err-block.ensures.calm c.in_err-block.ensures.refused f
+    found)
+
+pub returns-in_err-test_left-in-None-clause-next :
+    goal.returns-in_err-test_left-in-None-clause-next
+returns-in_err-test_left-in-None-clause-next g c =
+    let parts = parts_of c.args.inner.now in
+    let body = body_of c.args.source.now in
+    let e = c.in_err-test_left-in-None.field-0.0 in
+    let passed = c.from_residual-in_err-test_left-in-None in
+    let none = c.in_ok-step_block.ensures.none c.if-branch.false in
+    let last = at_none _ c.in_ok-block.field-0 c.in_ok-block.ensures.none c.in-None.is in
+    let ahead = in_index c.args.handles.now c.args.tops.now in
+    refuses passed.result e (next_found body parts ahead c.args.left.now) passed.ensures.1
+    (rw (none.0, last.0, sym none.2) c.in_err-test_left-in-None.ensures.told)

@@ -1,17 +1,17 @@
-use Rattle.std.specs.Prelude.{Err, Ok}
+use Rattle.std.specs.Prelude.{Err, IfErr, Ok}
 use Rattle.std.proofs.Common.{◌≡◌, ap, subst, sym, ◌∙◌}
 use Rattle.sst_sections.specs.Sections.{body_of}
 use Rattle.lsm_readers.specs.Findings.{IsFirstFinding}
 use Rattle.lsm_readers.specs.Table.{IsOpen, OpenTable}
 use Rattle.lsm_readers.specs.Verify.{FindsFirst, Misses, table_found}
-use Rattle.lsm_readers.specs.Verification.{Verifying, step_early}
+use Rattle.lsm_readers.specs.Verification.{Verifying, next_found, step_early}
 use Rattle.lsm_readers.specs.declared.verify.Finding.{Finding}
 use Rattle.lsm_readers.specs.declared.verify.Verified.{Verified}
 use Rattle.lsm_readers.specs.declared.verify.VerifyError.TheVariants.{Found, OutOfMemory}
 use Rattle.lsm_readers.proofs.VerifyEarly.{passes_first}
 use Rattle.lsm_readers.proofs.VerifySteps.{answer}
 use Rattle.lsm_readers.proofs.VerifyTables.{all_complete, all_first, all_sound}
-use Rattle.lsm_readers.proofs.Verifications.{refuses_with}
+use Rattle.lsm_readers.proofs.Verifications.{refuses, refuses_with}
 use Rattle.lsm_readers.proofs.table.verification.Verification.step.Goals as goal
 
 pub returns-in_err-read_next-clause-first : goal.returns-in_err-read_next-clause-first
@@ -53,3 +53,11 @@ returns-in_err-read_next-clause-early g c =
     (step_early (body_of v.table.bytes) v.table.parts v.ahead v.left)) c.self.view_is
     (passes_first passed c.in_err-read_next.field-0.0 _ c.from_residual.ensures.1
     c.in_err-read_next.ensures.early)
+
+pub returns-in_err-read_next-clause-next : goal.returns-in_err-read_next-clause-next
+returns-in_err-read_next-clause-next g c =
+    let passed = c.from_residual.result in
+    subst (λ (v : Verifying). IfErr passed (λ e.
+    Misses e (next_found (body_of v.table.bytes) v.table.parts v.ahead v.left))) c.self.view_is
+    (refuses passed c.in_err-read_next.field-0.0 _ c.from_residual.ensures.1
+    c.in_err-read_next.ensures.next)
