@@ -6,7 +6,7 @@ use Rattle.sst_sections.specs.Sections.{body_of}
 use Rattle.lsm_readers.specs.Findings.{IsFirstFinding}
 use Rattle.lsm_readers.specs.Stored.{StoresList}
 use Rattle.lsm_readers.specs.Verification.{ReadsNext, StepsCalmly, Verifying, bytes_read}
-use Rattle.lsm_readers.specs.Verification.{next_size, step_early, steps_of}
+use Rattle.lsm_readers.specs.Verification.{next_found, next_size, step_early, steps_of}
 use Rattle.lsm_readers.specs.Verify.{FindsFirst, Misses, is_found, table_found}
 use Rattle.lsm_readers.specs.declared.verify.Finding.{Finding}
 use Rattle.lsm_readers.specs.declared.verify.Verified.{Verified}
@@ -34,7 +34,10 @@ pub record IsStepOf (v : Verifying) (answer : StepAnswer) (w : Verifying) : Type
   pub told : IfOk answer (λ a. IfSome a (λ u.
       table_found (body_of v.table.bytes) v.table.parts ≡ Ok u))
   pub refused : IfErr answer (λ e. Misses e (table_found (body_of v.table.bytes) v.table.parts))
-  -- and what takes no memory to be found whatever memory there is;
+  -- and what is found is wrong in the next block, or at the end,
+  pub next : IfErr answer (λ e. Misses e
+      (next_found (body_of v.table.bytes) v.table.parts v.ahead v.left))
+  -- and told whatever memory there is where it takes none to be found;
   pub early : FindsFirst answer (step_early (body_of v.table.bytes) v.table.parts v.ahead v.left)
   pub calm : StepsCalmly (body_of v.table.bytes) v.ahead v.left →
       IfErr answer (λ e. is_found e ≡ true)

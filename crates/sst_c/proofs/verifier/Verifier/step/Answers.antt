@@ -20,6 +20,7 @@ returns c =
         ends = is.ends;
         told = is.told;
         refused = is.refused;
+        next = is.next;
         early = is.early;
         calm = is.calm;
         answered = is.answered;
