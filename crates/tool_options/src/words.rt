@@ -1,9 +1,8 @@
 //! The words of the command line, parsed.
 ghost use Rattle.std.specs.Prelude.{◌≡◌, IfOk, map, true};
-ghost use Rattle.clap.specs.Words.{App, is_simple, subcommand_of, subcommand_rows_of};
+ghost use Rattle.clap.specs.Words.{is_simple, subcommand_of, subcommand_rows_of};
 ghost use Rattle.tool_options.specs.Program.{program_of};
-ghost use Rattle.tool_options.specs.Asks.{AsksBy, IsText};
-ghost use Rattle.tool_options.specs.Commands.{commands, commands_in};
+ghost use Rattle.tool_options.specs.Asks.{AsksBy, AsksFrom, IsText};
 
 use crate::command::program;
 use crate::completion::completion;
@@ -34,8 +33,7 @@ pub enum Parsed<'a> {
 ///
 /// Refused for want of memory alone.
 pub fn parse<'a, S: AsStr>(alloc: Global, words: &'a [S]) -> Result<Parsed<'a>, AllocError>
-    ensures { IfOk result (λ p. (a : App) × (commands_in a ≡ commands)
-        × AsksBy (subcommand_of a (map S.text words.now)) p) }
+    ensures { IfOk result (AsksFrom (map S.text words.now)) }
 {
     parse_by(alloc, COMMANDS.as_slice(), words)
 }

@@ -1,5 +1,8 @@
 pub mod Bars
 pub mod Endings
+pub mod Making
 pub mod Options
+pub mod Packing
 pub mod Statuses
+pub mod Tasks
 pub mod Verified

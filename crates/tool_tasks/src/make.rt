@@ -1,15 +1,17 @@
 //! Tables that are made.
-ghost use Rattle.std.specs.Prelude.{◌≡◌};
-ghost use Rattle.sst_filters.specs.declared.policy.BloomConstructionPolicy.TheVariants.{BitsPerKey};
-ghost use Rattle.tool_tasks.specs.Options.{format_of, index_asked, tenths};
+ghost use Rattle.std.specs.Prelude.{◌≡◌, IfErr, OnOk};
+ghost use Rattle.tool_tasks.specs.Making.{DoesCompact, DoesWrite, RefusesCompact, RefusesWrite};
+ghost use Rattle.tool_tasks.specs.Options.{compact_by, format_of, write_by};
+ghost use Rattle.tool_tasks.specs.Packing.{DoesPack, RefusesPack};
 
 use crate::System;
 use crate::failure::Failure;
 use logpurple::{BloomConstructionPolicy, IndexKind, Rules, Timestamp};
+use std::alloc::Global;
 use std::io::{Read, Write};
 use std::rt::{Clock, Files};
 use tool_compact::{CompactOptions, compact_files, pack_files, print_packed};
-use tool_files::print_made;
+use tool_files::{Place, print_made};
 use tool_lines::Format;
 use tool_make::{WriteOptions, write_entries};
 use tool_options::{CompactTask, PackTask, WriteTask};
@@ -31,16 +33,7 @@ fn now<C: Clock>(clock: &C) -> Timestamp {
 
 // How a table is written.
 fn write_options(task: &WriteTask<'_>, created_at: Timestamp) -> WriteOptions
-    ensures { result ≡ record {
-      index = index_asked task.now.partitioned task.now.partition_size;
-      filter = BitsPerKey (tenths task.now.filter_bits);
-      block_size = task.now.block_size;
-      level = task.now.level;
-      target = task.now.target;
-      created_at = created_at;
-      format = format_of task.now.json;
-      sort = task.now.sort;
-    } }
+    ensures { result ≡ write_by task.now result }
 {
     WriteOptions {
         index: if task.partitioned {
@@ -60,15 +53,7 @@ fn write_options(task: &WriteTask<'_>, created_at: Timestamp) -> WriteOptions
 
 // How tables are compacted.
 fn compact_options(task: &CompactTask<'_>, created_at: Timestamp) -> CompactOptions
-    ensures { result ≡ record {
-      rules = record {
-        watermark = task.now.watermark;
-        evict = task.now.evict;
-        zeroing = task.now.zero;
-      };
-      target = task.now.target;
-      created_at = created_at;
-    } }
+    ensures { result ≡ compact_by task.now result }
 {
     CompactOptions {
         rules: Rules {
@@ -82,41 +67,56 @@ fn compact_options(task: &CompactTask<'_>, created_at: Timestamp) -> CompactOpti
 }
 
 /// Writes a table of the entries that the input has, and says how many there were.
-pub(crate) fn write<'a, R: Files, C: Clock, I: Read + Drop, W: Write>(
+pub(crate) fn write<'a, R: Files, C: Clock, P: Place, I: Read + Drop, W: Write>(
     system: System<'_, R, C>,
+    place: &mut P,
     task: &WriteTask<'a>,
     input: I,
     output: &mut W,
-) -> Result<(), Failure<'a>> {
+) -> Result<(), Failure<'a>>
+    ensures does { OnOk result (DoesWrite task.now (I.remaining input) (P.there place.old)
+        (P.done place.old) (P.done place.new) (W.contents output.old) (W.contents output.new)) }
+    ensures refused { IfErr result (λ e. RefusesWrite task.now (I.remaining input)
+        (P.there place.old) (P.done place.old) e (P.done place.new)) }
+{
     let options = write_options(task, now(system.clock));
-    let mut place = system.disk();
-    let made = write_entries(&mut place, system.alloc, input, task.file, &options)?;
+    let made = write_entries(place, system.alloc, input, task.file, &options)?;
     print_made(output, made)?;
     Ok(())
 }
 
 /// Merges tables into new ones, and says how many there are.
-pub(crate) fn compact<'a, R: Files, C: Clock, W: Write>(
+pub(crate) fn compact<'a, R: Files, C: Clock, P: Place, W: Write>(
     system: System<'_, R, C>,
+    place: &mut P,
     task: &CompactTask<'a>,
     output: &mut W,
-) -> Result<(), Failure<'a>> {
+) -> Result<(), Failure<'a>>
+    ensures does { OnOk result (DoesCompact task.now (P.content place.old) (P.done place.old)
+        (P.done place.new) (W.contents output.old) (W.contents output.new)) }
+    ensures refused { IfErr result (λ e. RefusesCompact task.now (P.content place.old)
+        (P.there place.old) (P.done place.old) e (P.done place.new)) }
+{
     let options = compact_options(task, now(system.clock));
     let files = task.files.as_slice();
-    let mut place = system.disk();
-    let made = compact_files(&mut place, system.alloc, files, task.folder, &options)?;
+    let made = compact_files(place, system.alloc, files, task.folder, &options)?;
     print_made(output, made)?;
     Ok(())
 }
 
 /// Prints the fewest runs in which tables can stand, and why there are not fewer.
-pub(crate) fn pack<'a, R: Files, C: Clock, W: Write>(
-    system: System<'_, R, C>,
+pub(crate) fn pack<'a, P: Place, W: Write>(
+    alloc: Global,
+    place: &P,
     task: &PackTask<'a>,
     output: &mut W,
-) -> Result<(), Failure<'a>> {
+) -> Result<(), Failure<'a>>
+    ensures does { OnOk result (DoesPack task.now (P.content place.now) (W.contents output.old)
+        (W.contents output.new)) }
+    ensures refused { IfErr result (RefusesPack task.now (P.content place.now)) }
+{
     let files = task.files.as_slice();
-    let packed = pack_files(&system.disk(), system.alloc, files)?;
+    let packed = pack_files(place, alloc, files)?;
     print_packed(output, files, &packed)?;
     Ok(())
 }

@@ -1,6 +1,8 @@
 //! One command line, done.
-ghost use Rattle.std.specs.Prelude.{◌≡◌, ◌≤◌, IfOk, MatchResult};
+ghost use Rattle.std.specs.Prelude.{◌≡◌, ◌≤◌, IfErr, IfOk, MatchResult, OnOk, map};
+ghost use Rattle.std.specs.Io.KnownBytes.{Appends};
 ghost use Rattle.tool_tasks.specs.Statuses.{status_of_answer, status_of_failure};
+ghost use Rattle.tool_tasks.specs.Tasks.{DoesTask, IsDone, Runs};
 
 use crate::failure::Failure;
 use crate::{System, make, show};
@@ -8,6 +10,7 @@ use std::convert::AsStr;
 use std::io;
 use std::io::{Read, Write};
 use std::rt::{Clock, Files};
+use tool_files::Place;
 use tool_options::{Parsed, Task, parse};
 
 // The status of an answer to a question: 0 for yes.
@@ -29,11 +32,14 @@ pub fn run<S: AsStr, R: Files, C: Clock, I: Read + Drop, W: Write, E: Write>(
     errors: &mut E,
     shows_bar: bool,
 ) -> u8
-    ensures { result ≤ 2 }
+    ensures small { result ≤ 2 }
+    ensures runs { Runs (map S.text words.now) (I.remaining input) result (W.contents output.old)
+        (W.contents output.new) }
 {
     match parse(system.alloc, words) {
         Ok(Parsed::Task(task)) => {
-            let done = execute(system, &task, input, output, errors, shows_bar);
+            let mut place = system.disk();
+            let done = execute(system, &mut place, &task, input, output, errors, shows_bar);
             report(done, errors)
         }
         Ok(Parsed::Shown(text)) => report(print(output, text.as_str()), errors),
@@ -48,7 +54,10 @@ pub fn run<S: AsStr, R: Files, C: Clock, I: Read + Drop, W: Write, E: Write>(
 
 // Prints a text, whole.
 fn print<'a, W: Write>(output: &mut W, text: &str) -> Result<u8, Failure<'a>>
-    ensures { IfOk result (λ status. status ≡ 0) }
+    ensures ok { IfOk result (λ status. status ≡ 0) }
+    ensures printed { OnOk result (Appends (W.contents output.old) (W.contents output.new)
+        text.now) }
+    ensures refused { IfErr result (λ e. status_of_failure e ≡ 1) }
 {
     output.write_all(text.as_bytes())?;
     output.flush()?;
@@ -70,30 +79,52 @@ fn report<E: Write>(done: Result<u8, Failure<'_>>, errors: &mut E) -> u8
     }
 }
 
-// Does a task.
-fn execute<'a, R: Files, C: Clock, I: Read + Drop, W: Write, E: Write>(
+// Does a task, and passes on all that it printed.
+fn execute<'a, R: Files, C: Clock, P: Place, I: Read + Drop, W: Write, E: Write>(
     system: System<'_, R, C>,
+    place: &mut P,
     task: &Task<'a>,
     input: I,
     output: &mut W,
     errors: &mut E,
     shows_bar: bool,
 ) -> Result<u8, Failure<'a>>
-    ensures { IfOk result (λ status. status ≤ 1) }
+    ensures small { IfOk result (λ status. status ≤ 1) }
+    ensures does { IfOk result (λ status. IsDone task.now (I.remaining input)
+        (P.content place.old) (P.there place.old) (P.done place.old) (P.done place.new) status
+        (W.contents output.old) (W.contents output.new)) }
 {
-    let status = match task {
-        Task::Write(task) => make::write(system, task, input, output).and(Ok(0)),
+    let done = perform(system, place, task, input, output, errors, shows_bar);
+    let flushed: io::Result<()> = output.flush();
+    let status = done?;
+    flushed?;
+    Ok(status)
+}
+
+// Does a task.
+fn perform<'a, R: Files, C: Clock, P: Place, I: Read + Drop, W: Write, E: Write>(
+    system: System<'_, R, C>,
+    place: &mut P,
+    task: &Task<'a>,
+    input: I,
+    output: &mut W,
+    errors: &mut E,
+    shows_bar: bool,
+) -> Result<u8, Failure<'a>>
+    ensures small { IfOk result (λ status. status ≤ 1) }
+    ensures does { IfOk result (λ status. DoesTask task.now (I.remaining input)
+        (P.content place.old) (P.there place.old) (P.done place.old) (P.done place.new) status
+        (W.contents output.old) (W.contents output.new)) }
+{
+    match task {
+        Task::Write(task) => make::write(system, place, task, input, output).and(Ok(0)),
         Task::Dump(task) => show::dump(system, task, output).and(Ok(0)),
         Task::Get(task) => show::get(system, task, output).map(status_of),
         Task::Stat(task) => show::stat(system, task, output).and(Ok(0)),
         Task::Verify(task) => {
-            show::verify(system, &system.disk(), task, output, errors, shows_bar).map(status_of)
+            show::verify(system, place, task, output, errors, shows_bar).map(status_of)
         }
-        Task::Compact(task) => make::compact(system, task, output).and(Ok(0)),
-        Task::Pack(task) => make::pack(system, task, output).and(Ok(0)),
-    };
-    let flushed: io::Result<()> = output.flush();
-    let status = status?;
-    flushed?;
-    Ok(status)
+        Task::Compact(task) => make::compact(system, place, task, output).and(Ok(0)),
+        Task::Pack(task) => make::pack(system.alloc, place, task, output).and(Ok(0)),
+    }
 }

@@ -1,0 +1,59 @@
+-- How the program ends.
+use Rattle.std.proofs.Common.{◌≡◌, ◌∙◌, subst, ℕ, ◌≤◌, List, arith, inl}
+use Rattle.std.specs.Prelude.{IfErr, IfOk, MatchResult, None, OnOk, Option, Result, Ok, Err}
+use Rattle.std.specs.Prelude.{String, string_bytes}
+use Rattle.std.specs.Global.{Global}
+use Rattle.std.specs.Io.KnownBytes.{Appends}
+use Rattle.tool_options.specs.Asks.{AsksFrom}
+use Rattle.tool_options.specs.declared.tasks.Task.{Task}
+use Rattle.tool_options.specs.declared.words.Parsed.{Parsed}
+use Rattle.tool_options.specs.declared.words.Parsed.TheVariants as parsed
+use Rattle.tool_tasks.specs.Statuses.{status_of_failure}
+use Rattle.tool_tasks.specs.Tasks.{IsDone, Runs, RunsAs, status_of_done}
+use Rattle.tool_tasks.specs.declared.failure.Failure.{Failure}
+
+-- what a report answers is the status of what was done
+ended : (done : Result ℕ Failure) (status : ℕ)
+    → MatchResult done (λ s. status ≡ s) (λ e. status ≡ status_of_failure e)
+    → status ≡ status_of_done done
+ended (Ok s) status told = told
+ended (Err e) status told = told
+
+-- what the words ask for
+runs_as : {E : Type 0} (words : List (List ℕ)) (input : Option (List ℕ)) (asked : Result Parsed E)
+    (p : Parsed) (status : ℕ) (old new : Option (List ℕ)) → IfOk asked (AsksFrom words)
+    → asked ≡ Ok p → RunsAs p input status old new → Runs words input status old new
+runs_as {E} words input asked p status old new asks is runs =
+    inl (p, subst (λ (r : Result Parsed E). IfOk r (AsksFrom words)) is asks, runs)
+
+pub runs_task : {E : Type 0} (words : List (List ℕ)) (input : Option (List ℕ))
+    (asked : Result Parsed E) (t : Task) (done : Result ℕ Failure) (status : ℕ)
+    (old new : Option (List ℕ)) → IfOk asked (AsksFrom words) → asked ≡ Ok (parsed.Task t)
+    → IfOk done (λ s. IsDone t input (λ _. None) (λ _. None) None None s old new)
+    → MatchResult done (λ s. status ≡ s) (λ e. status ≡ status_of_failure e)
+    → Runs words input status old new
+runs_task words input asked t done status old new asks is does told =
+    runs_as words input asked (parsed.Task t) status old new asks is
+    (done, does, ended done status told)
+
+-- 0 where the output took a text, else 1
+shown : {P : Type 0} (printed : Result ℕ Failure) (status : ℕ) → IfOk printed (λ s. s ≡ 0)
+    → OnOk printed P → IfErr printed (λ e. status_of_failure e ≡ 1)
+    → MatchResult printed (λ s. status ≡ s) (λ e. status ≡ status_of_failure e)
+    → (status ≡ 0 → P) × (status ≤ 1)
+shown (Ok s) status zero took one told =
+    (λ _. took, let small : status ≤ 1 = omega (arith, zero, told) in small)
+shown (Err e) status zero took one told =
+    let is : status ≡ 1 = told ∙ one in
+    (λ none. absurd (omega (arith, is, none)), let small : status ≤ 1 = omega (arith, is) in small)
+
+pub runs_shown : {E : Type 0} (words : List (List ℕ)) (input : Option (List ℕ))
+    (asked : Result Parsed E) (text : String Global) (printed : Result ℕ Failure) (status : ℕ)
+    (old new : Option (List ℕ)) → IfOk asked (AsksFrom words) → asked ≡ Ok (parsed.Shown text)
+    → IfOk printed (λ s. s ≡ 0) → OnOk printed (Appends old new (string_bytes text))
+    → IfErr printed (λ e. status_of_failure e ≡ 1)
+    → MatchResult printed (λ s. status ≡ s) (λ e. status ≡ status_of_failure e)
+    → Runs words input status old new
+runs_shown words input asked text printed status old new asks is zero took one told =
+    runs_as words input asked (parsed.Shown text) status old new asks is
+    (shown printed status zero took one told)
