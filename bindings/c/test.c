@@ -145,6 +145,59 @@ static void test_range(sst_handle *table, int n) {
   CHECK(sst_range_next(&range, false, &entry) == SST_CLOSED);
 }
 
+/* All entries from the front as a range gives them, of two scans, while the table is closed. */
+static void test_scan(const uint8_t *file, size_t len, bool pin) {
+  sst_handle table = {0}, scan = {0}, other = {0}, range = {0};
+  sst_entry entry, same;
+  sst_lent one, two;
+  CHECK(sst_scan_open(&table, &scan) == SST_CLOSED && sst_scan_open(&scan, &scan) == SST_CLOSED);
+  CHECK(sst_scan_next(&scan, &entry) == SST_CLOSED && entry.kind == SST_NO_ENTRY);
+  CHECK(sst_table_open_kept(file, len, 7, pin, pin, &table) == 0);
+  CHECK(sst_scan_open(&table, &table) == SST_OPEN);
+  CHECK(sst_scan_open(&table, &scan) == 0 && sst_scan_open(&table, &scan) == SST_OPEN);
+  CHECK(sst_scan_open(&table, &other) == 0);
+  CHECK(sst_range_open(&table, 0, file, 0, 0, file, 0, &range) == 0);
+  sst_close(&table); /* the scans have shares */
+  do {
+    CHECK(sst_scan_next(&scan, &entry) == 0 && sst_range_next(&range, false, &same) == 0);
+    CHECK(memcmp(&entry, &same, sizeof entry) == 0);
+    if (entry.kind == SST_NO_ENTRY) break;
+    CHECK(sst_found_lend(&scan, &one) == 0 && sst_found_lend(&range, &two) == 0);
+    CHECK(memcmp(one.key, two.key, one.key_len) == 0);
+    CHECK(memcmp(one.value, two.value, one.value_len) == 0);
+  } while (true);
+  CHECK(sst_found_lend(&scan, &one) == SST_NOTHING);
+  CHECK(sst_scan_next(&scan, &entry) == 0 && entry.kind == SST_NO_ENTRY);
+  CHECK(sst_scan_next(&other, &entry) == 0 && has_found(&other, &entry, "key000000", ""));
+  CHECK(sst_range_next(&other, false, &entry) == SST_OTHER_KIND && entry.kind == SST_NO_ENTRY);
+  CHECK(sst_scan_next(&range, &entry) == SST_OTHER_KIND && entry.kind == SST_NO_ENTRY);
+  CHECK(sst_scan_open(&other, &table) == SST_OTHER_KIND);
+  CHECK(sst_table_get(&other, file, 0, 1, &entry) == SST_OTHER_KIND);
+  sst_close(&scan);
+  sst_close(&scan);
+  sst_close(&other);
+  sst_close(&range);
+}
+
+/* A scan of damaged bytes gives entries up to the fault, and none from then on. Where the table
+ * opens and each data block loads, it gives all.
+ */
+static void scan_damaged(sst_handle *table, bool is_sound, uint64_t items) {
+  sst_handle scan = {0};
+  sst_entry entry;
+  uint64_t count = 0;
+  uint32_t code = sst_scan_open(table, &scan);
+  if (code != 0) {
+    CHECK(!is_sound && code <= 24 && sst_scan_next(&scan, &entry) == SST_CLOSED);
+    return;
+  }
+  while ((code = sst_scan_next(&scan, &entry)) == 0 && entry.kind != SST_NO_ENTRY) count++;
+  CHECK(code <= 24 && count <= items && (!is_sound || (code == 0 && count == items)));
+  CHECK(entry.kind == SST_NO_ENTRY && entry.key_len == 0);
+  CHECK(sst_scan_next(&scan, &entry) == 0 && entry.kind == SST_NO_ENTRY);
+  sst_close(&scan);
+}
+
 static void test_bounds(sst_handle *table) {
   sst_handle range = {0};
   sst_entry entry;
@@ -254,6 +307,7 @@ static bool is_next(sst_handle *range, bool back, const char *key, const char *v
  */
 static void test_kept(const uint8_t *file, size_t len, int n) {
   sst_handle table = {0}, copied = {0}, other = {0}, runs = {0}, range = {0}, answers = {0};
+  sst_handle scan = {0};
   sst_entry entry;
   sst_lent lent;
   uint64_t key_len = 9;
@@ -272,6 +326,7 @@ static void test_kept(const uint8_t *file, size_t len, int n) {
   CHECK(sst_table_share(&table, &other) == 0);
   CHECK(sst_runs_open(&runs) == 0 && sst_runs_add(&runs, &table) == 0);
   CHECK(sst_range_open(&table, 0, file, 0, 0, file, 0, &range) == 0);
+  CHECK(sst_scan_open(&table, &scan) == 0);
   CHECK(sst_table_get_many(&table, bytes("key000001"), 9, &key_len, 1, 9, &entry, 1, &answers) ==
         0);
   sst_close(&table);
@@ -283,6 +338,8 @@ static void test_kept(const uint8_t *file, size_t len, int n) {
   sst_close(&runs);
   CHECK(sst_range_next(&range, false, &entry) == 0 && has_found(&range, &entry, "key000000", ""));
   sst_close(&range);
+  CHECK(sst_scan_next(&scan, &entry) == 0 && has_found(&scan, &entry, "key000000", ""));
+  sst_close(&scan);
   CHECK(sst_answers_lend(&answers, 0, &lent) == 0 && lent.value_len == 12);
   CHECK(memcmp(lent.value, "value 2 of 1", 12) == 0);
   sst_close(&answers);
@@ -578,6 +635,7 @@ static void test_misuse(const sst_options *options, const uint8_t *file, size_t 
   sst_options wrong = *options;
   sst_entry entry;
   sst_facts facts;
+  sst_memory memory;
   sst_file told;
   sst_lent lent;
   sst_verified verified;
@@ -591,6 +649,10 @@ static void test_misuse(const sst_options *options, const uint8_t *file, size_t 
   CHECK(sst_table_open(file, len, 0, true, true, &table) == 0);
   CHECK(sst_table_get(&closed, room, 0, 1, &entry) == SST_CLOSED);
   CHECK(sst_table_facts(&closed, &facts) == SST_CLOSED);
+  memset(&memory, 7, sizeof memory);
+  CHECK(sst_table_memory(&closed, &memory) == SST_CLOSED);
+  CHECK(sst_table_memory(&writer, &memory) == SST_OTHER_KIND);
+  CHECK(memory.file_len == 0x0707070707070707 && memory.marks_size == memory.file_len);
   CHECK(sst_table_verify(&closed, &verified) == SST_CLOSED);
   CHECK(sst_writer_add(&closed, room, 0, 1, SST_VALUE, room, 0) == SST_CLOSED);
   CHECK(sst_writer_finish(&closed) == SST_CLOSED);
@@ -655,6 +717,7 @@ static void test_damage(const uint8_t *file, size_t len, uint64_t items) {
     CHECK(code == SST_FAULTY || (code == 0 && verified.item_count == items));
     CHECK(code == 0 || (verified.fault >= 1 && verified.section >= 1 && verified.section <= 7));
     verify_damaged(&table, code, &verified);
+    scan_damaged(&table, code == 0, items);
     CHECK(sst_range_open(&table, 0, file, 0, 0, file, 0, &range) == 0);
     while ((code = sst_range_next(&range, i % 2 == 1, &entry)) == 0 && entry.kind != 0) {
     }
@@ -677,6 +740,22 @@ static void test_facts(sst_handle *table, const sst_options *options, int n) {
   CHECK(verified.item_count == items && verified.data_block_count == facts.data_block_count);
 }
 
+/* What is pinned counts, and the marks are a word for each 2,048 bytes and one more. */
+static void test_memory(sst_handle *table, const sst_options *options, size_t len, bool pin) {
+  sst_handle other = {0};
+  sst_memory memory, same;
+  bool has_filter = pin && options->filter_partition_size == 0;
+  bool has_index = pin || options->index_partition_size > 0; /* the top level stays loaded */
+  CHECK(sst_table_memory(table, &memory) == 0);
+  CHECK(memory.file_len == len && memory.marks_size == 8 * (len / 2048 + 1));
+  CHECK((memory.pinned_filter_size > 0) == has_filter);
+  CHECK((memory.pinned_index_size > 0) == has_index);
+  CHECK(memory.pinned_filter_size + memory.pinned_index_size < len);
+  CHECK(sst_table_share(table, &other) == 0 && sst_table_memory(&other, &same) == 0);
+  CHECK(memcmp(&memory, &same, sizeof memory) == 0);
+  sst_close(&other);
+}
+
 static void test_table(const sst_options *options, int n, size_t piece, bool pin) {
   sst_handle table = {0};
   size_t len;
@@ -684,9 +763,11 @@ static void test_table(const sst_options *options, int n, size_t piece, bool pin
   CHECK(sst_table_open(file, len - 1, 0, pin, pin, &table) == 11);
   CHECK(sst_table_open(file, len, 0, pin, pin, &table) == 0);
   test_facts(&table, options, n);
+  test_memory(&table, options, len, pin);
   test_gets(&table, n);
   test_rooms(&table);
   test_bounds(&table);
+  test_scan(file, len, pin);
   test_verification(file, len, 2 * n + (n + 6) / 7);
   if (n < 10) {
     test_misuse(options, file, len);

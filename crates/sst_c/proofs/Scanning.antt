@@ -1,0 +1,58 @@
+-- A scan of a table, and one step of it. Assumes `Logic`.
+use Rattle.std.proofs.Common.{◌≡◌, ℕ, ◌<◌, Bool, false, List, [], length, refl, sym, ap, inl}
+use Rattle.std.specs.Prelude.{IfErr, IfOk, Option, Some, None, Result, Ok, Err}
+use Rattle.sst_entries.specs.Entry.{Entry}
+use Rattle.sst_entries.specs.Stream.{answer_stops, ok_results}
+use Rattle.sst_entries.specs.declared.error.Error.{Error}
+use Rattle.sst_entries.specs.declared.error.Error.TheVariants.{OutOfMemory}
+use Rattle.lsm_readers.specs.Answer.{lift}
+use Rattle.lsm_readers.specs.Scan.{IsEndedScan, Scan, ScansList, ScansNext}
+use Rattle.lsm_readers.proofs.Scans.{ended_left}
+use Rattle.sst_c.specs.Codes.{result_code}
+use Rattle.sst_c.specs.Scans.{DealsScan}
+use Rattle.sst_c.specs.Told.{found_of, outcome_of}
+
+-- a scan of a table of a list deals it
+pub list_dealt : (r : Result Scan Error) (es : List Entry) (g : ℕ) → ScansList r es g
+    → IfOk r (DealsScan (ok_results (lift es g)))
+unfolding DealsScan
+list_dealt (Ok s) es g is = is
+list_dealt (Err e) es g is = tt
+
+-- and is refused for want of memory alone, where it has an entry
+pub list_refused : (r : Result Scan Error) (es : List Entry) (g : ℕ) → ScansList r es g
+    → 0 < length es → IfErr r (λ e. e ≡ OutOfMemory)
+list_refused (Ok s) es g is some = tt
+list_refused (Err e) es g is some = is some
+
+pub ruleset scans = (list_dealt, list_refused)
+
+-- what a step that finds nothing leaves is at its end
+pub found_none : (s t : Scan) (answer : Option (Result Entry Error)) → ScansNext s answer t
+    → found_of (outcome_of answer) ≡ None → IsEndedScan t
+found_none s t None next none = next.ends
+found_none s t (Some (Ok e)) next none = absurd (let no : ⊥ = cc in no)
+found_none s t (Some (Err e)) next none = next.ends
+
+never_stops : (answer : Option (Result Entry Error)) → answer_stops (λ _. false) answer ≡ false
+never_stops None = refl
+never_stops (Some (Ok e)) = refl
+never_stops (Some (Err e)) = refl
+
+-- a step of a scan that is at its end finds nothing
+pub none_comes : (s t : Scan) (answer : Option (Result Entry Error)) → ScansNext s answer t
+    → IsEndedScan s → answer ≡ None
+none_comes s t answer next over =
+    (next.answers.gives (λ _. false) [] (sym (ended_left s over), inl over) (never_stops answer)).0
+
+pub none_code : (s t : Scan) (answer : Option (Result Entry Error)) → ScansNext s answer t
+    → IsEndedScan s → result_code (outcome_of answer) ≡ 0
+none_code s t answer next over =
+    ap (λ (r : Option (Result Entry Error)). result_code (outcome_of r)) (none_comes s t answer next over)
+
+pub none_found : (s t : Scan) (answer : Option (Result Entry Error)) → ScansNext s answer t
+    → IsEndedScan s → found_of (outcome_of answer) ≡ None
+none_found s t answer next over =
+    ap (λ (r : Option (Result Entry Error)). found_of (outcome_of r)) (none_comes s t answer next over)
+
+pub ruleset scan_steps = (found_none, none_code, none_found)
