@@ -1,8 +1,9 @@
 -- A scan of a table, and one step of it. Assumes `Logic`.
-use Rattle.std.proofs.Common.{◌≡◌, ℕ, ◌<◌, Bool, false, List, [], length, refl, sym, ap, inl}
+use Rattle.std.proofs.Common.{◌≡◌, ℕ, ◌<◌, Bool, true, false, List, [], length, refl, sym, ap}
+use Rattle.std.proofs.Common.{inl}
 use Rattle.std.specs.Prelude.{IfErr, IfOk, Option, Some, None, Result, Ok, Err}
 use Rattle.sst_entries.specs.Entry.{Entry}
-use Rattle.sst_entries.specs.Stream.{answer_stops, ok_results}
+use Rattle.sst_entries.specs.Stream.{Deals, answer_stops, nowhere, ok_results}
 use Rattle.sst_entries.specs.declared.error.Error.{Error}
 use Rattle.sst_entries.specs.declared.error.Error.TheVariants.{OutOfMemory}
 use Rattle.lsm_readers.specs.Answer.{lift}
@@ -12,7 +13,15 @@ use Rattle.sst_c.specs.Codes.{result_code}
 use Rattle.sst_c.specs.Scans.{DealsScan}
 use Rattle.sst_c.specs.Told.{found_of, outcome_of}
 
--- a scan of a table of a list deals it
+-- a scan of a table deals what its blocks have
+pub all_dealt : (r : Result Scan Error) (rs : List (Result Entry Error))
+    → ((stops : Error → Bool) → stops OutOfMemory ≡ true →
+    IfOk r (λ s. Deals (answer_stops stops) ScansNext nowhere s rs)) → IfOk r (DealsScan rs)
+unfolding DealsScan
+all_dealt (Ok s) rs deals = deals
+all_dealt (Err e) rs deals = tt
+
+-- of a list it deals the list
 pub list_dealt : (r : Result Scan Error) (es : List Entry) (g : ℕ) → ScansList r es g
     → IfOk r (DealsScan (ok_results (lift es g)))
 unfolding DealsScan
@@ -24,8 +33,6 @@ pub list_refused : (r : Result Scan Error) (es : List Entry) (g : ℕ) → Scans
     → 0 < length es → IfErr r (λ e. e ≡ OutOfMemory)
 list_refused (Ok s) es g is some = tt
 list_refused (Err e) es g is some = is some
-
-pub ruleset scans = (list_dealt, list_refused)
 
 -- what a step that finds nothing leaves is at its end
 pub found_none : (s t : Scan) (answer : Option (Result Entry Error)) → ScansNext s answer t

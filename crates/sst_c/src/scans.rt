@@ -23,11 +23,10 @@ use crate::held::{Held, What};
 use crate::ranges::outcome_of;
 use crate::tables::keep;
 use lsm_readers::{Scanner, Table};
-use sst_blocks::Error;
+use sst_blocks::{Error, InternalValue};
 use std::alloc::Global;
 
 // A scan of a table.
-#[tactic(auto, using(crate::proofs::Scanning::scans), unfolding(crate::specs::Scans::DealsScan))]
 fn scan_of(table: &Table) -> Result<Scanner, Error>
     ensures begun { IfOk result (IsBegunScan table.now) }
     ensures deals { IfOk result (DealsScan (table_scan table.now)) }
@@ -164,7 +163,16 @@ pub extern "C" fn sst_scan_open(alloc: Global, table: &mut Handle, scan: &mut Ha
     code
 }
 
+// A step of a scanner.
 #[tactic(auto, using(crate::proofs::Scanning::scan_steps))]
+fn step_scan(scanner: &mut Scanner, found: &mut Option<InternalValue>) -> u32
+    ensures steps { StepsBy ScansNext scanner.old result found.new scanner.new }
+    ensures ends { found.new ≡ None → IsEndedScan scanner.new }
+    ensures over { IsEndedScan scanner.old → (result ≡ 0) × (found.new ≡ None) }
+{
+    keep(found, outcome_of(scanner.next()))
+}
+
 fn step(held: &mut Held) -> u32
     ensures other { is_scan held.old.what ≡ false →
         (result ≡ 102) × (held.new.found ≡ None) × (held.new.what ≡ held.old.what) }
@@ -176,7 +184,7 @@ fn step(held: &mut Held) -> u32
         (result ≡ 0) × (held.new.found ≡ None) }
 {
     match &mut held.what {
-        What::Scan(scanner) => keep(&mut held.found, outcome_of(scanner.next())),
+        What::Scan(scanner) => step_scan(scanner, &mut held.found),
         _ => {
             held.found = None;
             OTHER_KIND
