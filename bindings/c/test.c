@@ -115,6 +115,29 @@ static void scan_damaged(sst_handle *table, bool is_sound, uint64_t items) {
   sst_close(&scan);
 }
 
+/* A scan reads no index: it goes on where a partition of the index is damaged, which ranges need. */
+static void test_scan_alone(const uint8_t *file, size_t len, uint64_t items) {
+  sst_handle table = {0}, range = {0};
+  sst_facts facts;
+  sst_entry entry;
+  uint8_t *damaged = malloc(len);
+  uint32_t code;
+  memcpy(damaged, file, len);
+  CHECK(sst_table_open(file, len, 0, true, true, &table) == 0);
+  CHECK(sst_table_facts(&table, &facts) == 0);
+  sst_close(&table);
+  damaged[facts.data_size + 50] ^= 1; /* the index lies behind the data */
+  CHECK(sst_table_open(damaged, len, 0, true, true, &table) == 0);
+  CHECK(sst_range_open(&table, 0, file, 0, 0, file, 0, &range) == 0);
+  while ((code = sst_range_next(&range, false, &entry)) == 0 && entry.kind != SST_NO_ENTRY) {
+  }
+  CHECK(code == 5);
+  sst_close(&range);
+  scan_damaged(&table, true, items);
+  sst_close(&table);
+  free(damaged);
+}
+
 static void test_bounds(sst_handle *table) {
   sst_handle range = {0};
   sst_entry entry;
@@ -714,6 +737,7 @@ static void test_table(const sst_options *options, int n, size_t piece, bool pin
   test_rooms(&table);
   test_bounds(&table);
   test_scan(file, len, pin);
+  if (options->index_partition_size > 0) test_scan_alone(file, len, 2 * n + (n + 6) / 7);
   test_verification(file, len, 2 * n + (n + 6) / 7);
   if (n < 10) {
     test_misuse(options, file, len);
