@@ -231,6 +231,9 @@ class TableBench {
       CheckKeys("calls", table_, CallGet, present_, passes, found_);
       CheckKeys("calls absent", table_, CallGet, absent_, passes, Digest{});
       CheckKeys("calls batch", table_, CallGetMany, batch_, passes, batch_found_);
+      CheckTable("calls scan", CallScan, passes, whole_);
+      CheckTable("calls verify", CallVerify, passes, Digest{count_, 0, 0});
+      CheckTable("calls verify steps", CallVerifySteps, passes, Digest{count_, 0, 0});
       CheckFiles("runs", tool_bench_range_runs, passes);
       CheckFiles("runs_lent", tool_bench_range_runs_lent, passes);
       CheckFiles("merge", tool_bench_merge, passes);
@@ -466,6 +469,10 @@ class TableBench {
              &rows);
     PassRows("scan", an_entry, "scan", "scan", data * kBeside, entries, 1, &rows);
     PassRows("scan, lent", an_entry, "scan_lent", "scan", data * kBeside, entries, 1, &rows);
+    PassRows("scan from C", an_entry, "calls scan", "scan", data * kBeside, entries, 1, &rows);
+    PassRows("verify", an_entry, "calls verify", "none", data * kBeside, entries, 1, &rows);
+    PassRows("verify by steps", an_entry, "calls verify steps", "none", data * kBeside, entries, 1,
+             &rows);
     PassRows("iterator from the front", an_entry, "iter", "scan", data * kBeside, entries, 1,
              &rows);
     PassRows("iterator from the back", an_entry, "back", "back", data * kBeside, entries, 1, &rows);

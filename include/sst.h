@@ -15,6 +15,10 @@
  * What was opened from what a handle holds has shares of its own, so handles may be closed in any
  * order. A handle may be moved, and no copy of it may be used beside it.
  *
+ * Where a call that fills a handle is given the same one for what it reads, it fills nothing: it
+ * answers SST_OPEN where the handle holds something, and SST_CLOSED where it holds nothing.
+ * `sst_runs_add`, which fills none, may not be given one handle twice.
+ *
  * Threads: one thread uses a handle at a time. Threads that use different handles at once need
  * nothing between them, whatever the handles share: a table's bytes and blocks are never written,
  * shares are counted by atomic steps, and so is noted which blocks were compared. So several
@@ -29,12 +33,14 @@
  * Pointers: none may be NULL, and each is aligned as what it points to. Bytes, and other arrays,
  * are a pointer and how many there are, in this order; where there are none, any such pointer that
  * is not NULL will do. What a call is given is read until it returns, and never kept, but for the
- * bytes of `sst_table_open_kept`. What a call writes to may not overlap what else it is given.
+ * bytes of `sst_table_open_kept`. What a call writes to may not overlap what else it is given, but
+ * for one handle that is given twice, as above.
  *
  * What each call answers, tells and leaves is proved, by the library's own contracts; docs/C.md has
  * what of it is not. Relied on, and not proved: that pointers are as said above, that a handle's
  * words are written by these calls alone, that bytes which are kept stay, and that `malloc` aligns
- * to 16 bytes. Where lent pointers point is tested, and not proved.
+ * to 16 bytes. Where lent pointers point is tested, and not proved; so is what comes of one handle
+ * that is given twice.
  */
 #ifndef SST_H
 #define SST_H
@@ -48,7 +54,7 @@ extern "C" {
 #endif
 
 /* The version of these calls; `sst_version` answers that of the library. */
-#define SST_VERSION 3
+#define SST_VERSION 4
 
 /* What a call answers beside 0 and the library's refusals. */
 enum {
@@ -104,8 +110,8 @@ uint32_t sst_version(void);
 /* Closes a handle, whatever it holds; one that holds nothing stays as it is. */
 void sst_close(sst_handle *handle);
 
-/* What a read found. A read (`sst_table_get`, `sst_runs_get`, `sst_range_next`) keeps the entry
- * that it found, and the handle keeps it until the next read by it.
+/* What a read found. A read (`sst_table_get`, `sst_runs_get`, `sst_range_next`, `sst_scan_next`)
+ * keeps the entry that it found, and the handle keeps it until the next read by it.
  */
 
 /* Copies the key and the value of what the last read by a handle found. SST_NOTHING where nothing
@@ -134,8 +140,9 @@ uint32_t sst_table_open(const uint8_t *file, size_t len, uint64_t global_seqno, 
 
 /* As `sst_table_open`, over the bytes themselves: none is copied. They have to stay where and as
  * they are until this handle and all that was opened from what it holds are closed: its shares,
- * ranges, answers and verifications, lists of runs that it was added to, and what was opened from
- * these. Nobody writes to them meanwhile, another process neither, as to a file that is mapped.
+ * ranges, scans, answers and verifications, lists of runs that it was added to, and what was opened
+ * from these. Nobody writes to them meanwhile, another process neither, as to a file that is
+ * mapped.
  */
 uint32_t sst_table_open_kept(const uint8_t *file, size_t len, uint64_t global_seqno,
                              bool pin_filter, bool pin_index, sst_handle *table);
@@ -163,6 +170,23 @@ typedef struct sst_facts {
 } sst_facts;
 
 uint32_t sst_table_facts(sst_handle *table, sst_facts *facts);
+
+/* How much memory a table holds, in bytes, once for all of its handles and for what was opened from
+ * them.
+ */
+typedef struct sst_memory {
+  uint64_t file_len;           /* its file; where its bytes are kept they are the caller's */
+  uint64_t pinned_index_size;  /* of these the index that stays loaded, the whole or the top level;
+                                  0 where none does */
+  uint64_t pinned_filter_size; /* of these the filter that stays loaded; 0 where none does, and of a
+                                  filter in partitions */
+  uint64_t marks_size;         /* beside the file, what tells which blocks were compared: 8 for each
+                                  2,048 bytes of the file and 8 more, or 0 where there was no memory
+                                  for them */
+} sst_memory;
+
+/* Tells how much memory a table holds. What reads found, and the handles themselves, come to it. */
+uint32_t sst_table_memory(sst_handle *table, sst_memory *memory);
 
 /* Makes a further handle of the table that a handle holds, in one that holds nothing. Both read the
  * same bytes, and neither knows what the other has found: so one may go to another thread. No bytes
@@ -242,7 +266,8 @@ typedef struct sst_progress {
  *
  * At the end, and where it is refused, it tells and answers what `sst_table_verify` does; nothing
  * changes then. So a step that was refused for want of memory can be made again, and one that found
- * something wrong, SST_FAULTY, may be made again too.
+ * something wrong, SST_FAULTY, may be made again too: what it found is wrong in the next block, or
+ * at the end where none is left.
  */
 uint32_t sst_verification_step(sst_handle *verification, sst_progress *progress,
                                sst_verified *verified);
@@ -263,6 +288,21 @@ uint32_t sst_range_open(sst_handle *table, uint32_t lower_kind, const uint8_t *l
  * either end.
  */
 uint32_t sst_range_next(sst_handle *range, bool back, sst_entry *entry);
+
+/* Scans. */
+
+/* Begins to read all entries of a table in order, into a handle that holds nothing: its data blocks
+ * as they lie in the file, each once, as many as the table says that it has, and no index. Of a
+ * table that stores a list of entries, as one that a writer made, it gives all of them. The first
+ * block is read at once: refused with its first fault, and the handle stays as it is then.
+ */
+uint32_t sst_scan_open(sst_handle *table, sst_handle *scan);
+
+/* Takes the next entry of a scan, and keeps it: by key up, and of one key by number down, every
+ * version. At the end it answers 0, and the kind is SST_NO_ENTRY. Where it is refused nothing more
+ * comes.
+ */
+uint32_t sst_scan_next(sst_handle *scan, sst_entry *entry);
 
 /* Several tables as one. */
 

@@ -1,90 +1,7 @@
 /* The calls of sst.h, as a caller in C makes them. `bindings/test` builds it and runs it under
  * valgrind. It prints what failed, and answers 1 then.
  */
-#include "sst.h"
-
-#include <stdio.h>
-#include <stdlib.h>
-#include <string.h>
-
-static int failures;
-
-#define CHECK(holds) check((holds), #holds, __LINE__)
-
-static void check(bool holds, const char *text, int line) {
-  if (holds) return;
-  fprintf(stderr, "test.c:%d: %s\n", line, text);
-  failures++;
-}
-
-static const uint8_t *bytes(const char *text) { return (const uint8_t *)text; }
-
-/* Entry number i of n: keys ascend, each with two versions, and each seventh is deleted. */
-static void key_of(int i, char key[16]) { snprintf(key, 16, "key%06d", i); }
-
-static void value_of(int i, int version, char value[32]) {
-  snprintf(value, 32, "value %d of %d", version, i);
-}
-
-static void write_entries(sst_handle *writer, int n) {
-  char key[16], value[32];
-  for (int i = 0; i < n; i++) {
-    key_of(i, key);
-    if (i % 7 == 0) {
-      CHECK(sst_writer_add(writer, bytes(key), strlen(key), 9, SST_TOMBSTONE, bytes(""), 0) == 0);
-    }
-    for (int version = 2; version > 0; version--) {
-      value_of(i, version, value);
-      CHECK(sst_writer_add(writer, bytes(key), strlen(key), version, SST_VALUE, bytes(value),
-                           strlen(value)) == 0);
-    }
-  }
-}
-
-/* The bytes of a finished table, in pieces of a few bytes where `piece` says so. */
-static uint8_t *file_of(sst_handle *files, size_t piece, size_t *len) {
-  sst_file told;
-  CHECK(sst_files_tell(files, 0, &told) == 0);
-  uint8_t *file = malloc(told.len);
-  uint64_t at = 0, count = 1;
-  while (count > 0) {
-    size_t room = told.len - at < piece ? told.len - at : piece;
-    uint8_t none;
-    CHECK(sst_files_copy(files, 0, at, room > 0 ? file + at : &none, room, &count) == 0);
-    at += count;
-  }
-  CHECK(at == told.len);
-  *len = told.len;
-  return file;
-}
-
-static uint8_t *write_table(const sst_options *options, int n, size_t piece, size_t *len) {
-  sst_handle writer = {0};
-  uint64_t count = 7;
-  CHECK(sst_writer_open(options, &writer) == 0);
-  write_entries(&writer, n);
-  CHECK(sst_writer_finish(&writer) == 0);
-  CHECK(sst_files_count(&writer, &count) == 0 && count == 1);
-  uint8_t *file = file_of(&writer, piece, len);
-  sst_close(&writer);
-  return file;
-}
-
-/* Whether a read found this entry, seen both copied and lent. */
-static bool has_found(sst_handle *handle, const sst_entry *entry, const char *key,
-                      const char *value) {
-  uint8_t key_room[32], value_room[64];
-  sst_lent lent;
-  size_t key_len = strlen(key), value_len = strlen(value);
-  if (entry->key_len != key_len || entry->value_len != value_len) return false;
-  if (sst_found_copy(handle, key_room, sizeof key_room, value_room, sizeof value_room) != 0 ||
-      memcmp(key_room, key, key_len) != 0 || memcmp(value_room, value, value_len) != 0) {
-    return false;
-  }
-  return sst_found_lend(handle, &lent) == 0 && lent.key_len == key_len &&
-         lent.value_len == value_len && memcmp(lent.key, key, key_len) == 0 &&
-         memcmp(lent.value, value, value_len) == 0;
-}
+#include "made.h"
 
 static void test_gets(sst_handle *table, int n) {
   char key[16], value[32];
@@ -143,6 +60,82 @@ static void test_range(sst_handle *table, int n) {
   sst_close(&range);
   sst_close(&range);
   CHECK(sst_range_next(&range, false, &entry) == SST_CLOSED);
+}
+
+/* All entries from the front as a range gives them, of two scans, while the table is closed. */
+static void test_scan(const uint8_t *file, size_t len, bool pin) {
+  sst_handle table = {0}, scan = {0}, other = {0}, range = {0};
+  sst_entry entry, same;
+  sst_lent one, two;
+  CHECK(sst_scan_open(&table, &scan) == SST_CLOSED && sst_scan_open(&scan, &scan) == SST_CLOSED);
+  CHECK(sst_scan_next(&scan, &entry) == SST_CLOSED && entry.kind == SST_NO_ENTRY);
+  CHECK(sst_table_open_kept(file, len, 7, pin, pin, &table) == 0);
+  CHECK(sst_scan_open(&table, &table) == SST_OPEN);
+  CHECK(sst_scan_open(&table, &scan) == 0 && sst_scan_open(&table, &scan) == SST_OPEN);
+  CHECK(sst_scan_open(&table, &other) == 0);
+  CHECK(sst_range_open(&table, 0, file, 0, 0, file, 0, &range) == 0);
+  sst_close(&table); /* the scans have shares */
+  do {
+    CHECK(sst_scan_next(&scan, &entry) == 0 && sst_range_next(&range, false, &same) == 0);
+    CHECK(memcmp(&entry, &same, sizeof entry) == 0);
+    if (entry.kind == SST_NO_ENTRY) break;
+    CHECK(sst_found_lend(&scan, &one) == 0 && sst_found_lend(&range, &two) == 0);
+    CHECK(memcmp(one.key, two.key, one.key_len) == 0);
+    CHECK(memcmp(one.value, two.value, one.value_len) == 0);
+  } while (true);
+  CHECK(sst_found_lend(&scan, &one) == SST_NOTHING);
+  CHECK(sst_scan_next(&scan, &entry) == 0 && entry.kind == SST_NO_ENTRY);
+  CHECK(sst_scan_next(&other, &entry) == 0 && has_found(&other, &entry, "key000000", ""));
+  CHECK(sst_range_next(&other, false, &entry) == SST_OTHER_KIND && entry.kind == SST_NO_ENTRY);
+  CHECK(sst_scan_next(&range, &entry) == SST_OTHER_KIND && entry.kind == SST_NO_ENTRY);
+  CHECK(sst_scan_open(&other, &table) == SST_OTHER_KIND);
+  CHECK(sst_table_get(&other, file, 0, 1, &entry) == SST_OTHER_KIND);
+  sst_close(&scan);
+  sst_close(&scan);
+  sst_close(&other);
+  sst_close(&range);
+}
+
+/* A scan of damaged bytes gives entries up to the fault, and none from then on. Where the table
+ * opens and each data block loads, it gives all.
+ */
+static void scan_damaged(sst_handle *table, bool is_sound, uint64_t items) {
+  sst_handle scan = {0};
+  sst_entry entry;
+  uint64_t count = 0;
+  uint32_t code = sst_scan_open(table, &scan);
+  if (code != 0) {
+    CHECK(!is_sound && code <= 24 && sst_scan_next(&scan, &entry) == SST_CLOSED);
+    return;
+  }
+  while ((code = sst_scan_next(&scan, &entry)) == 0 && entry.kind != SST_NO_ENTRY) count++;
+  CHECK(code <= 24 && count <= items && (!is_sound || (code == 0 && count == items)));
+  CHECK(entry.kind == SST_NO_ENTRY && entry.key_len == 0);
+  CHECK(sst_scan_next(&scan, &entry) == 0 && entry.kind == SST_NO_ENTRY);
+  sst_close(&scan);
+}
+
+/* A scan reads no index: it goes on where a partition of the index is damaged, which ranges need. */
+static void test_scan_alone(const uint8_t *file, size_t len, uint64_t items) {
+  sst_handle table = {0}, range = {0};
+  sst_facts facts;
+  sst_entry entry;
+  uint8_t *damaged = malloc(len);
+  uint32_t code;
+  memcpy(damaged, file, len);
+  CHECK(sst_table_open(file, len, 0, true, true, &table) == 0);
+  CHECK(sst_table_facts(&table, &facts) == 0);
+  sst_close(&table);
+  damaged[facts.data_size + 50] ^= 1; /* the index lies behind the data */
+  CHECK(sst_table_open(damaged, len, 0, true, true, &table) == 0);
+  CHECK(sst_range_open(&table, 0, file, 0, 0, file, 0, &range) == 0);
+  while ((code = sst_range_next(&range, false, &entry)) == 0 && entry.kind != SST_NO_ENTRY) {
+  }
+  CHECK(code == 5);
+  sst_close(&range);
+  scan_damaged(&table, true, items);
+  sst_close(&table);
+  free(damaged);
 }
 
 static void test_bounds(sst_handle *table) {
@@ -254,6 +247,7 @@ static bool is_next(sst_handle *range, bool back, const char *key, const char *v
  */
 static void test_kept(const uint8_t *file, size_t len, int n) {
   sst_handle table = {0}, copied = {0}, other = {0}, runs = {0}, range = {0}, answers = {0};
+  sst_handle scan = {0};
   sst_entry entry;
   sst_lent lent;
   uint64_t key_len = 9;
@@ -272,6 +266,7 @@ static void test_kept(const uint8_t *file, size_t len, int n) {
   CHECK(sst_table_share(&table, &other) == 0);
   CHECK(sst_runs_open(&runs) == 0 && sst_runs_add(&runs, &table) == 0);
   CHECK(sst_range_open(&table, 0, file, 0, 0, file, 0, &range) == 0);
+  CHECK(sst_scan_open(&table, &scan) == 0);
   CHECK(sst_table_get_many(&table, bytes("key000001"), 9, &key_len, 1, 9, &entry, 1, &answers) ==
         0);
   sst_close(&table);
@@ -283,6 +278,8 @@ static void test_kept(const uint8_t *file, size_t len, int n) {
   sst_close(&runs);
   CHECK(sst_range_next(&range, false, &entry) == 0 && has_found(&range, &entry, "key000000", ""));
   sst_close(&range);
+  CHECK(sst_scan_next(&scan, &entry) == 0 && has_found(&scan, &entry, "key000000", ""));
+  sst_close(&scan);
   CHECK(sst_answers_lend(&answers, 0, &lent) == 0 && lent.value_len == 12);
   CHECK(memcmp(lent.value, "value 2 of 1", 12) == 0);
   sst_close(&answers);
@@ -578,6 +575,7 @@ static void test_misuse(const sst_options *options, const uint8_t *file, size_t 
   sst_options wrong = *options;
   sst_entry entry;
   sst_facts facts;
+  sst_memory memory;
   sst_file told;
   sst_lent lent;
   sst_verified verified;
@@ -591,6 +589,10 @@ static void test_misuse(const sst_options *options, const uint8_t *file, size_t 
   CHECK(sst_table_open(file, len, 0, true, true, &table) == 0);
   CHECK(sst_table_get(&closed, room, 0, 1, &entry) == SST_CLOSED);
   CHECK(sst_table_facts(&closed, &facts) == SST_CLOSED);
+  memset(&memory, 7, sizeof memory);
+  CHECK(sst_table_memory(&closed, &memory) == SST_CLOSED);
+  CHECK(sst_table_memory(&writer, &memory) == SST_OTHER_KIND);
+  CHECK(memory.file_len == 0x0707070707070707 && memory.marks_size == memory.file_len);
   CHECK(sst_table_verify(&closed, &verified) == SST_CLOSED);
   CHECK(sst_writer_add(&closed, room, 0, 1, SST_VALUE, room, 0) == SST_CLOSED);
   CHECK(sst_writer_finish(&closed) == SST_CLOSED);
@@ -629,6 +631,35 @@ static void test_misuse(const sst_options *options, const uint8_t *file, size_t 
   sst_close(&table);
 }
 
+/* One handle in both places of a call that fills one: nothing is filled, and what it holds stays. */
+static void fill_from_itself(sst_handle *handle, const sst_options *options, uint32_t code) {
+  sst_handle before = *handle;
+  sst_entry entry;
+  uint64_t len = 1, next_id = 7;
+  uint8_t key = 'a';
+  CHECK(sst_table_share(handle, handle) == code);
+  CHECK(sst_table_get_many(handle, &key, 1, &len, 1, 9, &entry, 1, handle) == code);
+  CHECK(sst_verification_open(handle, handle) == code);
+  CHECK(sst_range_open(handle, 0, &key, 0, 0, &key, 0, handle) == code);
+  CHECK(sst_scan_open(handle, handle) == code);
+  CHECK(sst_runs_range_open(handle, 0, &key, 0, 0, &key, 0, 9, handle) == code);
+  CHECK(sst_runs_pack(handle, handle) == code);
+  CHECK(sst_packing_open(handle, handle) == code);
+  CHECK(sst_compact(handle, options, 9, false, false, 1, handle, &next_id) == code);
+  CHECK(next_id == 7 && memcmp(&before, handle, sizeof before) == 0);
+}
+
+static void test_one_handle_twice(const sst_options *options, const uint8_t *file, size_t len) {
+  sst_handle closed = {0}, table = {0}, runs = {0};
+  CHECK(sst_table_open(file, len, 0, true, true, &table) == 0);
+  CHECK(sst_runs_open(&runs) == 0 && sst_runs_add(&runs, &table) == 0);
+  fill_from_itself(&closed, options, SST_CLOSED);
+  fill_from_itself(&table, options, SST_OPEN);
+  fill_from_itself(&runs, options, SST_OPEN);
+  sst_close(&table);
+  sst_close(&runs);
+}
+
 /* A writer that was given nothing finishes without a table. */
 static void test_no_entry(const sst_options *options) {
   sst_handle writer = {0};
@@ -655,6 +686,7 @@ static void test_damage(const uint8_t *file, size_t len, uint64_t items) {
     CHECK(code == SST_FAULTY || (code == 0 && verified.item_count == items));
     CHECK(code == 0 || (verified.fault >= 1 && verified.section >= 1 && verified.section <= 7));
     verify_damaged(&table, code, &verified);
+    scan_damaged(&table, code == 0, items);
     CHECK(sst_range_open(&table, 0, file, 0, 0, file, 0, &range) == 0);
     while ((code = sst_range_next(&range, i % 2 == 1, &entry)) == 0 && entry.kind != 0) {
     }
@@ -677,6 +709,22 @@ static void test_facts(sst_handle *table, const sst_options *options, int n) {
   CHECK(verified.item_count == items && verified.data_block_count == facts.data_block_count);
 }
 
+/* What is pinned counts, and the marks are a word for each 2,048 bytes and one more. */
+static void test_memory(sst_handle *table, const sst_options *options, size_t len, bool pin) {
+  sst_handle other = {0};
+  sst_memory memory, same;
+  bool has_filter = pin && options->filter_partition_size == 0;
+  bool has_index = pin || options->index_partition_size > 0; /* the top level stays loaded */
+  CHECK(sst_table_memory(table, &memory) == 0);
+  CHECK(memory.file_len == len && memory.marks_size == 8 * (len / 2048 + 1));
+  CHECK((memory.pinned_filter_size > 0) == has_filter);
+  CHECK((memory.pinned_index_size > 0) == has_index);
+  CHECK(memory.pinned_filter_size + memory.pinned_index_size < len);
+  CHECK(sst_table_share(table, &other) == 0 && sst_table_memory(&other, &same) == 0);
+  CHECK(memcmp(&memory, &same, sizeof memory) == 0);
+  sst_close(&other);
+}
+
 static void test_table(const sst_options *options, int n, size_t piece, bool pin) {
   sst_handle table = {0};
   size_t len;
@@ -684,12 +732,16 @@ static void test_table(const sst_options *options, int n, size_t piece, bool pin
   CHECK(sst_table_open(file, len - 1, 0, pin, pin, &table) == 11);
   CHECK(sst_table_open(file, len, 0, pin, pin, &table) == 0);
   test_facts(&table, options, n);
+  test_memory(&table, options, len, pin);
   test_gets(&table, n);
   test_rooms(&table);
   test_bounds(&table);
+  test_scan(file, len, pin);
+  if (options->index_partition_size > 0) test_scan_alone(file, len, 2 * n + (n + 6) / 7);
   test_verification(file, len, 2 * n + (n + 6) / 7);
   if (n < 10) {
     test_misuse(options, file, len);
+    test_one_handle_twice(options, file, len);
     test_shares(file, len);
     test_kept(file, len, n);
     test_many(file, len);

@@ -37,11 +37,11 @@ static uint8_t *write_table(size_t *len) {
   return file;
 }
 
-/* Reads every key, once by a point read and once by a range, and a share of the handle that it is
+/* Reads every key, by a point read, by a range and by a scan, and a share of the handle that it is
  * given, which it closes.
  */
 static void *read_all(void *handle) {
-  sst_handle *table = handle, share = {0}, range = {0};
+  sst_handle *table = handle, share = {0}, range = {0}, scan = {0};
   sst_entry entry;
   uint8_t key[9], found[9], value[9];
   size_t wrong = 0;
@@ -61,6 +61,15 @@ static void *read_all(void *handle) {
     if (sst_range_next(&range, i % 2 == 1, &entry) != 0 || entry.kind != SST_VALUE) wrong++;
   }
   sst_close(&range);
+  if (sst_scan_open(table, &scan) != 0) wrong++;
+  for (int i = 0; i < KEYS; i++) {
+    key_of(i, key);
+    if (sst_scan_next(&scan, &entry) != 0 || sst_found_copy(&scan, found, 9, value, 9) != 0 ||
+        memcmp(key, found, 9) != 0) {
+      wrong++;
+    }
+  }
+  sst_close(&scan);
   sst_close(table);
   return (void *)wrong;
 }

@@ -26,12 +26,14 @@ It needs CPython 3.8 or a later one, and no compiler.
 
 from . import _errors
 from ._errors import *  # noqa: F401,F403
-from ._tables import BytesLike, Entries, Runs, Table
-from ._told import NEWEST, Entry, Facts, Fault, Finding, Kind, Packing, Section, Verified
+from ._tables import BytesLike, Entries, Runs, Scan, Table
+from ._told import (NEWEST, Entry, Facts, Fault, Finding, Kind, Memory, Packing, Section,
+                    Verified)
 from ._writing import Writer, compact
 
 __all__ = ["NEWEST", "BytesLike", "Entries", "Entry", "Facts", "Fault", "Finding", "Kind",
-           "Packing", "Runs", "Section", "Table", "Verified", "Writer", "compact"]
+           "Memory", "Packing", "Runs", "Scan", "Section", "Table", "Verified", "Writer",
+           "compact"]
 __all__ += _errors.__all__
 
 # What is public says that it is of this package.

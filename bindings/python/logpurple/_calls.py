@@ -40,6 +40,13 @@ class FactsTold(Structure):
         "data_size")]
 
 
+class MemoryTold(Structure):
+    """How much memory a table holds."""
+
+    _fields_ = [(name, c_uint64) for name in ("file_len", "pinned_index_size",
+                                              "pinned_filter_size", "marks_size")]
+
+
 class VerifiedTold(Structure):
     """What a verification found."""
 
@@ -95,7 +102,7 @@ _array = (c_void_p, c_size_t)
 _bounds = (c_uint32, *_bytes, c_uint32, *_bytes)
 
 #: The version of the calls that are declared below.
-VERSION = 3
+VERSION = 4
 
 version = _call("sst_version")
 if version() != VERSION:
@@ -108,6 +115,7 @@ table_open_kept = _call("sst_table_open_kept", *_bytes, c_uint64, c_bool, c_bool
 table_get = _call("sst_table_get", _handle, *_bytes, c_uint64, _told)
 table_get_many = _call("sst_table_get_many", _handle, *_bytes, *_array, c_uint64, *_array, _handle)
 table_facts = _call("sst_table_facts", _handle, POINTER(FactsTold))
+table_memory = _call("sst_table_memory", _handle, POINTER(MemoryTold))
 table_share = _call("sst_table_share", _handle, _handle)
 table_verify = _call("sst_table_verify", _handle, POINTER(VerifiedTold))
 verification_open = _call("sst_verification_open", _handle, _handle)
@@ -116,6 +124,8 @@ verification_step = _call("sst_verification_step", _handle, POINTER(Progress),
 answers_lend = _call("sst_answers_lend", _handle, c_uint64, POINTER(Lent))
 range_open = _call("sst_range_open", _handle, *_bounds, _handle)
 range_next = _call("sst_range_next", _handle, c_bool, _told)
+scan_open = _call("sst_scan_open", _handle, _handle)
+scan_next = _call("sst_scan_next", _handle, _told)
 runs_open = _call("sst_runs_open", _handle)
 runs_add = _call("sst_runs_add", _handle, _handle)
 runs_get = _call("sst_runs_get", _handle, *_bytes, c_uint64, _told)

@@ -8,7 +8,8 @@ from . import _calls
 from ._calls import byref, copied
 from ._errors import Closed, Faulty, of, test
 from ._held import Held, entry_of, number, plain
-from ._told import NEWEST, Entry, Facts, Fault, Finding, Kind, Packing, Section, Verified
+from ._told import (NEWEST, Entry, Facts, Fault, Finding, Kind, Memory, Packing, Section,
+                    Verified)
 
 #: What has bytes.
 BytesLike = Union[bytes, bytearray, memoryview]
@@ -18,7 +19,55 @@ _SomeTable = TypeVar("_SomeTable", bound="Table")
 _DELETIONS = (int(Kind.TOMBSTONE), int(Kind.WEAK_TOMBSTONE))
 
 
-class Entries(Held):
+class _Steps(Held):
+    """Reads entries one by one. It has a share of what it reads, which may be closed meanwhile.
+    Where it is refused nothing more comes."""
+
+    def __init__(self) -> None:
+        super().__init__()
+        self._is_over = False
+
+    # The next entry that a call gives, with these words of its own; `None` at the end.
+    def _step(self, call: Callable[..., int], *words: bool) -> Optional[Entry]:
+        with self._turn:
+            if self._is_over:
+                return None
+            # Where this is left by an exception, what was taken is lost: so nothing more comes.
+            self._is_over = True
+            code = call(self._ref, *words, self._told_ref)
+            self._is_over = code != Closed.code
+            test(code)
+            found = self._found()
+            if found is None:
+                self._let_go()
+            else:
+                self._is_over = False
+            return found
+
+
+class Scan(_Steps):
+    """Reads all entries of a table in order, from its data blocks alone. It has a share of the
+    table, which may be closed meanwhile. Where it is refused nothing more comes.
+
+    >>> writer = Writer()
+    >>> for key in (b"a", b"b"):
+    ...     writer.add(key, b"")
+    >>> scan = Table.open(writer.finish()).scan()
+    >>> next(scan).key, [entry.key for entry in scan]
+    (b'a', [b'b'])
+    """
+
+    def __iter__(self) -> "Scan":
+        return self
+
+    def __next__(self) -> Entry:
+        found = self._step(_calls.scan_next)
+        if found is None:
+            raise StopIteration
+        return found
+
+
+class Entries(_Steps):
     """Reads entries one by one. It has a share of what it reads, which may be closed meanwhile.
     Where it is refused nothing more comes.
 
@@ -37,25 +86,10 @@ class Entries(Held):
     def __init__(self, reverse: bool = False) -> None:
         super().__init__()
         self._reverse = bool(reverse)
-        self._is_over = False
 
     def take(self, reverse: bool = False) -> Optional[Entry]:
         """The next entry from the front or, in reverse, from the back; `None` at the end."""
-        reverse = bool(reverse)
-        with self._turn:
-            if self._is_over:
-                return None
-            # Where this is left by an exception, what was taken is lost: so nothing more comes.
-            self._is_over = True
-            code = _calls.range_next(self._ref, reverse, self._told_ref)
-            self._is_over = code != Closed.code
-            test(code)
-            found = self._found()
-            if found is None:
-                self._let_go()
-            else:
-                self._is_over = False
-            return found
+        return self._step(_calls.range_next, bool(reverse))
 
     def __iter__(self) -> "Entries":
         return self
@@ -316,6 +350,38 @@ class Table(_Read):
         """
         at = number(at)
         return _shown(self.entries(lower, upper, reverse), at, reverse)
+
+    def scan(self) -> Scan:
+        """Every version of each key, in order, from the data blocks as they lie in the file: each
+        is read once, and no index is. The first is read at once.
+
+        >>> writer = Writer()
+        >>> for key, seqno in ((b"a", 2), (b"a", 1), (b"b", 3)):
+        ...     writer.add(key, b"", seqno)
+        >>> with Table.open(writer.finish()) as table:
+        ...     [(entry.key, entry.seqno) for entry in table.scan()]
+        [(b'a', 2), (b'a', 1), (b'b', 3)]
+        """
+        scan = Scan()
+        with self._turn:
+            scan._kept = self._kept
+            test(_calls.scan_open(self._ref, scan._ref))
+        return scan
+
+    def memory(self) -> Memory:
+        """How much memory the table holds.
+
+        >>> writer = Writer()
+        >>> writer.add(b"a", b"1")
+        >>> file = writer.finish()
+        >>> memory = Table.open(file, pin_filter=False).memory()
+        >>> memory.file_len == len(file), memory.pinned_filter_size, memory.marks_size
+        (True, 0, 8)
+        """
+        told = _calls.MemoryTold()
+        with self._turn:
+            test(_calls.table_memory(self._ref, byref(told)))
+        return Memory(*(getattr(told, name) for name in Memory._fields))
 
     def facts(self) -> Facts:
         """What the table says of itself.

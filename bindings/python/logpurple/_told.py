@@ -57,6 +57,20 @@ class Facts(NamedTuple):
     data_size: int
 
 
+class Memory(NamedTuple):
+    """How much memory a table holds, in bytes, for all of its shares together and for what was
+    opened from them."""
+
+    #: Its file; where its bytes are kept, they are not its own.
+    file_len: int
+    #: Of these the index that stays loaded, the whole or the top level; 0 where none does.
+    pinned_index_size: int
+    #: Of these the filter that stays loaded; 0 where none does, and of a filter in partitions.
+    pinned_filter_size: int
+    #: Beside the file, what tells which blocks were compared.
+    marks_size: int
+
+
 class Packing(NamedTuple):
     """How tables are packed. Each is named by its place among them, from 0 on."""
 

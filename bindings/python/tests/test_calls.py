@@ -16,7 +16,7 @@ PLAIN = {"size_t": ctypes.c_size_t, "uint64_t": ctypes.c_uint64, "uint32_t": cty
 STRUCTS = {"sst_handle": _calls.Handle, "sst_entry": _calls.EntryTold, "sst_lent": _calls.Lent,
            "sst_facts": _calls.FactsTold, "sst_verified": _calls.VerifiedTold,
            "sst_options": _calls.Options, "sst_file": _calls.FileTold,
-           "sst_progress": _calls.Progress}
+           "sst_progress": _calls.Progress, "sst_memory": _calls.MemoryTold}
 POINTERS = (ctypes.c_char_p, ctypes.c_void_p)
 
 

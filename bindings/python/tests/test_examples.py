@@ -27,7 +27,7 @@ def public():
 def wants_example(name, value):
     """Calls do; of classes those that have calls, but not exceptions, tuples and numbers."""
     if inspect.isclass(value):
-        return name in ("Table", "Runs", "Writer", "Entries", "TableError")
+        return name in ("Table", "Runs", "Writer", "Entries", "Scan", "TableError")
     return True
 
 

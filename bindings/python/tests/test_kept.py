@@ -71,6 +71,15 @@ class Kept(unittest.TestCase):
                 held[place].close()
             self.assertEqual(counted(self.file), before)
 
+    def test_a_scan_keeps_them(self):
+        before = counted(self.file)
+        table = Table.open(self.file, kept=True)
+        scan = table.scan()
+        table.close()
+        self.assertGreater(counted(self.file), before)
+        self.assertEqual(list(scan), self.written)
+        self.assertEqual(counted(self.file), before)
+
     def test_collected_in_a_circle(self):
         before = counted(self.file)
         table = Table.open(self.file, kept=True)

@@ -37,6 +37,7 @@ class Damage(unittest.TestCase):
             self.assertEqual(error.__cause__ is None, found.detail == 0)
         keys = [entry.key for entry in written] + [b"zz"]
         for read in (lambda: list(table.entries()), lambda: list(table.entries(reverse=True))[::-1],
+                     lambda: list(table.scan()),
                      lambda: list(Runs(table).entries()), lambda: table.entry_many(keys),
                      lambda: [table.entry(key) for key in keys], lambda: compact([table])):
             try:
@@ -69,13 +70,14 @@ class Damage(unittest.TestCase):
 class Misuse(unittest.TestCase):
     def test_closed(self):
         table, writer, runs = table_of(entries_of(1, 9)), Writer(), Runs()
-        entries = table.entries()
-        for held in (table, writer, runs, entries):
+        entries, scan = table.entries(), table.scan()
+        for held in (table, writer, runs, entries, scan):
             held.close()
             held.close()
         for call in (lambda: table.get(b"a"), lambda: table.entry(b"a"), lambda: table[b"a"],
                      lambda: b"a" in table, lambda: len(table), lambda: list(table), table.facts,
-                     table.verify, table.share, table.entries, table.range,
+                     table.verify, table.share, table.entries, table.range, table.scan,
+                     table.memory, lambda: next(scan),
                      lambda: table.get_many([b"a"]), lambda: table.get_many([]),
                      lambda: table.entry_many([b"a"]), lambda: writer.add(b"a", b""),
                      lambda: writer.delete(b"a"), writer.finish, lambda: runs.get(b"a"),
@@ -176,7 +178,7 @@ class Misuse(unittest.TestCase):
 
     def test_what_is_opened_is_not_copied(self):
         table = table_of(entries_of(7, 3))
-        for held in (table, table.entries(), Runs(table), Writer(), table._handle):
+        for held in (table, table.entries(), table.scan(), Runs(table), Writer(), table._handle):
             for copied in (copy.copy, copy.deepcopy, pickle.dumps):
                 with self.assertRaises(TypeError):
                     copied(held)
@@ -203,6 +205,7 @@ class Misuse(unittest.TestCase):
         writer._get = Table._get
         for call in (lambda: Table.get(writer, b"a"), lambda: Table.facts(writer),
                      lambda: Table.entries(writer), lambda: Table.verify(writer),
+                     lambda: Table.scan(writer), lambda: Table.memory(writer),
                      lambda: Table._ask(writer, [b"a"], 1), lambda: Writer.add(table, b"a", b"")):
             with self.assertRaises(logpurple.OtherKind):
                 call()

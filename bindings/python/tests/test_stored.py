@@ -61,6 +61,7 @@ class StoredTables(unittest.TestCase):
             table = Table.open(each.file)
             entries = list(table.entries())
             self.assertEqual(list(table.entries(reverse=True)), entries[::-1])
+            self.assertEqual(list(table.scan()), entries)
             self.assertEqual(table.verify().item_count, len(entries))
             self.assertEqual(entries, sorted(entries, key=lambda e: (e.key, -e.seqno)))
             runs = Runs(table)

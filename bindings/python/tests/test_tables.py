@@ -10,7 +10,7 @@ import unittest
 from common import entries_of, file_of, keys_of, newest, shown, small, table_of, within
 
 import logpurple
-from logpurple import Entry, Kind, Table, Writer
+from logpurple import Entry, Kind, Memory, Table, Writer
 
 BOUNDS = [None, b"", b"\0", b"a", b"ab", b"b\0", b"ca", b"\xff", b"\xff" * 9]
 
@@ -71,6 +71,38 @@ class Tables(unittest.TestCase):
                 (back if step % turn == 0 else front).append(entries.take(step % turn == 0))
             self.assertEqual(front + back[::-1], wanted)
             self.assertEqual([entries.take(), entries.take(True), list(entries)], [None, None, []])
+
+    def test_scans(self):
+        for seed in range(6):
+            wanted = entries_of(seed, 200)
+            table = table_of(wanted, **small(seed))
+            scan, other = table.scan(), table.scan()
+            self.assertEqual(next(scan), wanted[0])
+            table.close()
+            self.assertEqual([wanted[0]] + list(scan), wanted)
+            self.assertEqual((list(other), list(scan), next(scan, None)), (wanted, [], None))
+        lifted = Table.open(file_of(wanted), global_seqno=100)
+        self.assertEqual(list(lifted.scan()), list(lifted.entries()))
+
+    def test_memory(self):
+        for seed in (0, 1, 2, 3):
+            file = file_of(entries_of(seed, 300), **{**small(seed), "filter_bits_per_key": 100})
+            told = [Table.open(file, 0, *pins).memory() for pins in
+                    ((False, False), (True, False), (False, True), (True, True))]
+            for each in told:
+                self.assertIsInstance(each, Memory)
+                self.assertEqual((each.file_len, each.marks_size),
+                                 (len(file), 8 * (len(file) // 2048 + 1)))
+            filters = [each.pinned_filter_size for each in told]
+            self.assertEqual([filters[0], filters[1]], [filters[2], filters[3]])
+            has_parts = small(seed)["filter_partition_size"] > 0
+            self.assertEqual((filters[0], filters[1] > 0), (0, not has_parts))
+            indexes = [each.pinned_index_size for each in told]
+            self.assertEqual([indexes[0], indexes[2]], [indexes[1], indexes[3]])
+            self.assertGreater(indexes[2], 0)
+            with Table.open(file, kept=True) as kept:
+                self.assertEqual(kept.memory(), kept.share().memory())
+                self.assertEqual(kept.memory(), told[3])
 
     def test_long_and_empty(self):
         longest, value = b"k" * 65535, os.urandom(1 << 20)

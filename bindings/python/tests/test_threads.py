@@ -45,6 +45,7 @@ class Threads(unittest.TestCase):
         self.assertEqual(table.entry_many(self.keys), list(wanted.values()))
         self.assertEqual(list(table.entries(reverse=start % 2 == 1)),
                          self.entries[::-1] if start % 2 == 1 else self.entries)
+        self.assertEqual(list(table.scan()), self.entries)
         self.assertEqual(table.verify().item_count, len(self.entries))
 
     def test_in_turns(self):

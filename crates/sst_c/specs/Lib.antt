@@ -6,7 +6,9 @@ pub mod What
 pub mod Options
 pub mod Writing
 pub mod Steps
+pub mod Scans
 pub mod Facts
+pub mod Memory
 pub mod Many
 pub mod Files
 pub mod Verify

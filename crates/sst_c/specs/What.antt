@@ -10,6 +10,7 @@ use Rattle.lsm_iters.specs.Range.{Range, RangeGives, back_next, front_next}
 use Rattle.lsm_iters.specs.Words.{back_of, front_of}
 use Rattle.lsm_readers.specs.Parts.{recovered_told}
 use Rattle.lsm_readers.specs.Ranges.{DealsWithin}
+use Rattle.lsm_readers.specs.Scan.{Scan}
 use Rattle.lsm_readers.specs.Table.{OpenTable}
 use Rattle.lsm_readers.specs.Verification.{Verifying}
 use Rattle.lsm_writers.specs.declared.writer.FinishedTable.{FinishedTable}
@@ -18,7 +19,7 @@ use Rattle.sst_c.specs.declared.held.Held.{Held}
 use Rattle.sst_c.specs.declared.held.What.{What}
 use Rattle.sst_c.specs.declared.held.What.TheVariants.{Table, Files as FilesOf, Runs}
 use Rattle.sst_c.specs.declared.held.What.TheVariants.{Range as RangeOf, Merged as MergedOf}
-use Rattle.sst_c.specs.declared.held.What.TheVariants.{Answers as AnswersOf}
+use Rattle.sst_c.specs.declared.held.What.TheVariants.{Answers as AnswersOf, Scan as ScanOf}
 use Rattle.sst_c.specs.declared.held.What.TheVariants.{Packing as PackingOf}
 use Rattle.sst_c.specs.declared.held.What.TheVariants.{Verification as VerificationOf}
 use Rattle.lsm_ranges.specs.declared.packed.Packed.{Packed}
@@ -60,6 +61,15 @@ abbrev pub is_range : What → Bool
 is_range (RangeOf s) = true
 is_range (MergedOf s) = true
 is_range _ = false
+
+-- it is a scan of which this holds
+abbrev pub IsScanWhere : (Scan → Type 0) → What → Type 0
+IsScanWhere holds (ScanOf s) = holds s
+IsScanWhere holds _ = ⊥
+
+abbrev pub is_scan : What → Bool
+is_scan (ScanOf s) = true
+is_scan _ = false
 
 -- what was found of each of some keys, where it is that
 abbrev pub many_in : What → Option (List (Option Entry))

@@ -29,12 +29,12 @@ pub(crate) const NOTHING: u32 = 106;
 pub(crate) const FAULTY: u32 = 107;
 
 /// The version of the calls: what a header of another number names may differ.
-const VERSION: u32 = 3;
+const VERSION: u32 = 4;
 
 /// The version of the calls.
 #[unsafe(no_mangle)]
 pub extern "C" fn sst_version() -> u32
-    ensures { result ≡ 3 }
+    ensures { result ≡ 4 }
 {
     VERSION
 }

@@ -3,7 +3,8 @@ use crate::asked::Asked;
 use crate::run_list::RunList;
 use crate::verifier::Verifier;
 use lsm_iters::Iter;
-use lsm_readers::Table;
+use lsm_ranges::Packed;
+use lsm_readers::{Scanner, Table};
 use lsm_runs::NewestOfRunsAt;
 use lsm_writers::{FinishedTable, Writer};
 use sst_blocks::InternalValue;
@@ -25,6 +26,8 @@ pub enum What {
     Table(Table),
     /// A range of a table, which is read from both ends.
     Range(Iter),
+    /// A scan of a table, which is read from the front.
+    Scan(Scanner),
     /// What runs of tables have together within bounds, read from both ends; nothing once a read
     /// was refused.
     Merged(Option<Asked<NewestOfRunsAt<Global>>>),

@@ -5,7 +5,7 @@
 #![allow(non_camel_case_types)]
 
 /// The version of the calls that these declarations name.
-pub const SST_VERSION: u32 = 3;
+pub const SST_VERSION: u32 = 4;
 
 pub const SST_NO_MEMORY: u32 = 1;
 pub const SST_CLOSED: u32 = 100;
@@ -71,6 +71,16 @@ pub struct sst_facts {
     pub data_block_count: u64,
     pub index_block_count: u64,
     pub data_size: u64,
+}
+
+/// How much memory a table holds.
+#[repr(C)]
+#[derive(Clone, Copy, Debug, Default)]
+pub struct sst_memory {
+    pub file_len: u64,
+    pub pinned_index_size: u64,
+    pub pinned_filter_size: u64,
+    pub marks_size: u64,
 }
 
 /// What a verification found.
@@ -157,6 +167,7 @@ extern "C" {
         entry: *mut sst_entry,
     ) -> u32;
     pub fn sst_table_facts(table: *mut sst_handle, facts: *mut sst_facts) -> u32;
+    pub fn sst_table_memory(table: *mut sst_handle, memory: *mut sst_memory) -> u32;
     pub fn sst_table_share(table: *mut sst_handle, other: *mut sst_handle) -> u32;
     pub fn sst_table_get_many(
         table: *mut sst_handle,
@@ -197,6 +208,9 @@ extern "C" {
         range: *mut sst_handle,
     ) -> u32;
     pub fn sst_range_next(range: *mut sst_handle, back: bool, entry: *mut sst_entry) -> u32;
+
+    pub fn sst_scan_open(table: *mut sst_handle, scan: *mut sst_handle) -> u32;
+    pub fn sst_scan_next(scan: *mut sst_handle, entry: *mut sst_entry) -> u32;
 
     pub fn sst_runs_open(runs: *mut sst_handle) -> u32;
     pub fn sst_runs_add(runs: *mut sst_handle, table: *mut sst_handle) -> u32;

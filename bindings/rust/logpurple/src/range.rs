@@ -2,6 +2,7 @@
 
 use crate::error::test;
 use crate::handle::{bound, Handle};
+use crate::steps::Steps;
 use crate::{Error, InternalValue, LentValue, Runs, SeqNo, Table};
 use logpurple_sys as sys;
 use std::iter::FusedIterator;
@@ -28,8 +29,7 @@ use std::ops::Bound;
 /// ```
 #[derive(Debug)]
 pub struct Range<'f> {
-    handle: Handle<'f>,
-    is_over: bool,
+    steps: Steps<'f>,
 }
 
 impl<'f> Range<'f> {
@@ -53,7 +53,7 @@ impl<'f> Range<'f> {
                 handle.words(),
             )
         })?;
-        Ok(Range { handle, is_over: false })
+        Ok(Range { steps: Steps::of(handle) })
     }
 
     pub(crate) fn of_runs<K: AsRef<[u8]>>(
@@ -78,7 +78,7 @@ impl<'f> Range<'f> {
                 handle.words(),
             )
         })?;
-        Ok(Range { handle, is_over: false })
+        Ok(Range { steps: Steps::of(handle) })
     }
 
     /// The next entry from the front, lent until the range reads again.
@@ -91,7 +91,7 @@ impl<'f> Range<'f> {
     /// }
     /// ```
     pub fn next_lent(&mut self) -> Result<Option<LentValue<'_>>, Error> {
-        self.step(false)
+        self.steps.lent(step(false))
     }
 
     /// The next entry from the back, lent until the range reads again.
@@ -104,46 +104,27 @@ impl<'f> Range<'f> {
     /// }
     /// ```
     pub fn next_back_lent(&mut self) -> Result<Option<LentValue<'_>>, Error> {
-        self.step(true)
+        self.steps.lent(step(true))
     }
+}
 
-    fn step(&mut self, back: bool) -> Result<Option<LentValue<'_>>, Error> {
-        if self.is_over {
-            return Ok(None);
-        }
-        let mut told = sys::sst_entry::default();
-        // SAFETY: both are references of this call.
-        let code = unsafe { sys::sst_range_next(self.handle.words(), back, &mut told) };
-        self.is_over = code != 0 || told.kind == sys::SST_NO_ENTRY;
-        test(code)?;
-        // SAFETY: the range is borrowed mutably for as long as the bytes are lent.
-        unsafe { self.handle.lend(told) }
-    }
-
-    // The next entry, copied. Where there is no memory for the copy the range is over, since the
-    // entry would be missing from what comes then.
-    fn step_copied(&mut self, back: bool) -> Option<Result<InternalValue, Error>> {
-        let copied = match self.step(back) {
-            Ok(None) => return None,
-            Ok(Some(lent)) => lent.to_owned(),
-            Err(error) => Err(error),
-        };
-        self.is_over |= copied.is_err();
-        Some(copied)
-    }
+/// A call that takes the next entry, from the back where `back` says so.
+fn step(back: bool) -> impl FnOnce(*mut sys::sst_handle, *mut sys::sst_entry) -> u32 {
+    // SAFETY: those who make the call give references of their own.
+    move |range, entry| unsafe { sys::sst_range_next(range, back, entry) }
 }
 
 impl Iterator for Range<'_> {
     type Item = Result<InternalValue, Error>;
 
     fn next(&mut self) -> Option<Self::Item> {
-        self.step_copied(false)
+        self.steps.copied(step(false))
     }
 }
 
 impl DoubleEndedIterator for Range<'_> {
     fn next_back(&mut self) -> Option<Self::Item> {
-        self.step_copied(true)
+        self.steps.copied(step(true))
     }
 }
 

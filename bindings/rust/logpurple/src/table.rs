@@ -3,7 +3,8 @@
 use crate::error::test;
 use crate::handle::{get, Handle};
 use crate::{
-    Answers, Error, InternalValue, LentValue, Range, SeqNo, Verification, Verified, VerifyError,
+    Answers, Error, InternalValue, LentValue, Range, Scanner, SeqNo, Verification, Verified,
+    VerifyError,
 };
 use logpurple_sys as sys;
 use std::alloc::{handle_alloc_error, Layout};
@@ -132,6 +133,22 @@ pub struct Metadata {
     pub file_size: u64,
 }
 
+/// How much memory a table holds, in bytes, for all of its clones together and for what was opened
+/// from them.
+#[derive(Clone, Copy, Debug, PartialEq, Eq)]
+pub struct Memory {
+    /// How many bytes its file has. Where these are kept, they are not its own.
+    pub file_len: u64,
+    /// How many of them the index has that stays loaded, the whole or the top level; 0 where none
+    /// does.
+    pub pinned_block_index_size: u64,
+    /// How many of them the filter has that stays loaded; 0 where none does, and of a filter in
+    /// partitions.
+    pub pinned_filter_size: u64,
+    /// How many bytes it takes beside the file to remember which blocks were compared.
+    pub marks_size: u64,
+}
+
 impl Table<'static> {
     /// Opens a table from a copy of its bytes, as `OpenOptions::default()` does.
     pub fn open(file: impl AsRef<[u8]>) -> Result<Table<'static>, Error> {
@@ -229,6 +246,54 @@ impl<'f> Table<'f> {
     /// All entries, from both ends.
     pub fn iter(&self) -> Result<Range<'f>, Error> {
         self.range::<&[u8], _>(..)
+    }
+
+    /// All entries in order, from the front: the data blocks are read in file order, each once, and
+    /// no index is. The first is read at once: refused with its first fault, and for want of
+    /// memory.
+    ///
+    /// ```
+    /// # use logpurple::{Table, ValueType, Writer};
+    /// # fn main() -> Result<(), Box<dyn std::error::Error>> {
+    /// # let mut writer = Writer::new(1)?;
+    /// # writer.write(b"apple", 2, ValueType::Value, b"red")?;
+    /// # writer.write(b"apple", 1, ValueType::Value, b"green")?;
+    /// # let table = Table::open(writer.finish()?.unwrap())?;
+    /// let mut scanner = table.scan()?;
+    /// assert_eq!(scanner.next_lent()?.unwrap().value, b"red");
+    /// assert_eq!(scanner.next().unwrap()?.value, b"green");
+    /// assert!(scanner.next().is_none());
+    /// # Ok(())
+    /// # }
+    /// ```
+    pub fn scan(&self) -> Result<Scanner<'f>, Error> {
+        Scanner::of(self)
+    }
+
+    /// How much memory the table holds.
+    ///
+    /// ```
+    /// # use logpurple::{Table, ValueType, Writer};
+    /// # fn main() -> Result<(), Box<dyn std::error::Error>> {
+    /// # let mut writer = Writer::new(1)?;
+    /// # writer.write(b"apple", 2, ValueType::Value, b"red")?;
+    /// # let file = writer.finish()?.unwrap();
+    /// let memory = Table::open(&file)?.memory();
+    /// assert_eq!(memory.file_len, file.bytes.len() as u64);
+    /// # Ok(())
+    /// # }
+    /// ```
+    pub fn memory(&self) -> Memory {
+        let mut told = sys::sst_memory::default();
+        // SAFETY: both are references of this call.
+        let code = unsafe { sys::sst_table_memory(self.handle.words(), &mut told) };
+        assert_eq!(code, 0, "a table that is open says what it holds");
+        Memory {
+            file_len: told.file_len,
+            pinned_block_index_size: told.pinned_index_size,
+            pinned_filter_size: told.pinned_filter_size,
+            marks_size: told.marks_size,
+        }
     }
 
     /// What the table says of itself.

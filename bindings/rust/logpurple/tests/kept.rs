@@ -29,7 +29,7 @@ fn what_was_opened_from_the_table_reads_them_too() {
     let entries = random_entries(5, 150);
     let file = write(&small(1), &items(&entries)).bytes;
     let table = Table::open_kept(&file).unwrap();
-    let (other, range) = (table.clone(), table.iter().unwrap());
+    let (other, range, scanner) = (table.clone(), table.iter().unwrap(), table.scan().unwrap());
     let answers = table.get_many_lent(&keys(&entries), NEWEST).unwrap();
     let mut verification = table.verification().unwrap();
     let runs = Runs::from_tables([table]).unwrap();
@@ -37,6 +37,7 @@ fn what_was_opened_from_the_table_reads_them_too() {
     drop(runs);
     let reader = std::thread::scope(|scope| scope.spawn(move || collect(range)).join().unwrap());
     assert_eq!(reader, items(&entries));
+    assert_eq!(collect(scanner), items(&entries));
     assert_eq!(collect(merged), seen(&entries, NEWEST));
     assert_eq!(collect(other.iter().unwrap()), items(&entries));
     assert_eq!(answers.to_owned().unwrap(), other.get_many(&keys(&entries), NEWEST).unwrap());

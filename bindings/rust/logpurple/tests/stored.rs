@@ -102,6 +102,7 @@ fn stored_tables_are_read() {
     for stored in &tables {
         let table = Table::open(&stored.bytes).unwrap();
         let read: Vec<_> = table.iter().unwrap().map(Result::unwrap).collect();
+        assert_eq!(collect(table.scan().unwrap()), read);
         let mut back: Vec<_> = table.iter().unwrap().rev().map(Result::unwrap).collect();
         back.reverse();
         assert_eq!(read, back);

@@ -120,6 +120,54 @@ fn in_turn(table: &Table, turn: usize) -> Vec<InternalValue> {
 }
 
 #[test]
+fn a_scan_gives_all_entries() {
+    for seed in 0..6 {
+        let entries = random_entries(seed, 300);
+        let options = OpenOptions { global_seqno: seed, ..OpenOptions::default() };
+        let table = options.open(write(&small(seed), &items(&entries))).unwrap();
+        let (mut scanner, other) = (table.scan().unwrap(), table.scan().unwrap());
+        let all = collect(table.iter().unwrap());
+        drop(table);
+        assert_eq!(collect(other), all);
+        for expected in &all {
+            let lent = scanner.next_lent().unwrap().unwrap();
+            assert_eq!(&lent.to_owned().unwrap(), expected);
+        }
+        assert!(scanner.next_lent().unwrap().is_none() && scanner.next().is_none());
+    }
+}
+
+#[test]
+fn a_scan_ends_at_damage() {
+    let written = items(&random_entries(13, 100));
+    let mut file = write(&small(2), &written).bytes;
+    let place = Table::open(&file).unwrap().metadata().file_size as usize / 2;
+    file[place] ^= 0xff;
+    let table = Table::open(&file).unwrap();
+    let mut scanner = table.scan().unwrap();
+    let read: Vec<_> = scanner.by_ref().take_while(Result::is_ok).map(Result::unwrap).collect();
+    assert!(!read.is_empty() && read.len() < written.len() && written.starts_with(&read));
+    assert!(scanner.next().is_none() && scanner.next_lent().unwrap().is_none());
+    file[40] ^= 0xff;
+    assert!(matches!(Table::open(&file).unwrap().scan(), Err(Error::ChecksumMismatch)));
+}
+
+#[test]
+fn memory_is_told_by_what_is_pinned() {
+    let file = write(&small(4), &items(&random_entries(14, 300))).bytes;
+    let pinned = |pin_filter, pin_index| {
+        let options = OpenOptions { pin_filter, pin_index, ..OpenOptions::default() };
+        options.open(&file).unwrap().memory()
+    };
+    let (both, none) = (pinned(true, true), pinned(false, false));
+    assert_eq!((both.file_len, none.file_len), (file.len() as u64, file.len() as u64));
+    assert!(both.pinned_filter_size > 0 && both.pinned_block_index_size > 0);
+    assert_eq!((none.pinned_filter_size, none.pinned_block_index_size), (0, 0));
+    assert_eq!(pinned(true, false).pinned_filter_size, both.pinned_filter_size);
+    assert_eq!(both.marks_size, 8 * (file.len() as u64 / 2048 + 1));
+}
+
+#[test]
 fn bounds_are_those_of_the_standard_library() {
     let entries = random_entries(8, 300);
     let table = Table::open(write(&small(3), &items(&entries))).unwrap();
@@ -262,10 +310,11 @@ fn damage_is_refused_or_found() {
             runs.iter(NEWEST)?.collect::<Result<Vec<_>, _>>()
         });
         let read: Result<Vec<_>, _> = table.iter().unwrap().collect();
+        let scanned: Result<Vec<_>, _> = table.scan().and_then(|scanner| scanner.collect());
         let back: Result<Vec<_>, _> = table.iter().unwrap().rev().collect();
         match table.verify() {
             Ok(_) => {
-                assert!(several.is_ok() && many == singly);
+                assert!(several.is_ok() && many == singly && scanned == read);
                 assert_eq!((read, back.map(|b| b.len())), (Ok(written.clone()), Ok(written.len())))
             }
             Err(VerifyError::Found(_)) => found += 1,

@@ -4,7 +4,7 @@ mod common;
 
 use common::{collect, items, keys, newest, random_entries, seen, small, write, Entries};
 use logpurple::{
-    Answers, Compaction, OpenOptions, Range, Runs, Table, Verification, Writer, NEWEST,
+    Answers, Compaction, OpenOptions, Range, Runs, Scanner, Table, Verification, Writer, NEWEST,
 };
 use std::sync::{Arc, Barrier, Mutex};
 use std::thread;
@@ -13,7 +13,7 @@ fn is_send<T: Send>() {}
 
 #[test]
 fn all_that_is_held_goes_to_another_thread() {
-    is_send::<(Table, Range, Runs, Writer, Answers, Verification)>();
+    is_send::<(Table, Range, Scanner, Runs, Writer, Answers, Verification)>();
 }
 
 fn read_all(table: &Table, entries: &Entries) {
@@ -24,6 +24,7 @@ fn read_all(table: &Table, entries: &Entries) {
     }
     assert_eq!(table.get_many(&keys, NEWEST).unwrap(), expected);
     assert_eq!(collect(table.iter().unwrap()), items(entries));
+    assert_eq!(collect(table.scan().unwrap()), items(entries));
     assert_eq!(table.verify().unwrap().item_count, entries.len() as u64);
 }
 

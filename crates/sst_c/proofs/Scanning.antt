@@ -1,0 +1,76 @@
+-- A scan of a table, and one step of it. Assumes `Logic`.
+use Rattle.std.proofs.Common.{◌≡◌, ℕ, ◌<◌, Bool, true, false, List, [], length, refl, sym, ◌∙◌}
+use Rattle.std.proofs.Common.{ap, inl}
+use Rattle.std.specs.Prelude.{IfErr, IfOk, Option, Some, None, Result, Ok, Err}
+use Rattle.sst_entries.specs.Entry.{Entry}
+use Rattle.sst_entries.specs.Stream.{Deals, answer_stops, nowhere, ok_results}
+use Rattle.sst_entries.specs.declared.error.Error.{Error}
+use Rattle.sst_entries.specs.declared.error.Error.TheVariants.{OutOfMemory}
+use Rattle.lsm_readers.specs.Answer.{lift}
+use Rattle.lsm_readers.specs.Scan.{IsEndedScan, Scan, ScansList, ScansNext}
+use Rattle.lsm_readers.proofs.Scans.{ended_left}
+use Rattle.sst_c.specs.Codes.{result_code}
+use Rattle.sst_c.specs.Scans.{DealsScan}
+use Rattle.sst_c.specs.Steps.{StepsBy}
+use Rattle.sst_c.specs.Told.{found_of, outcome_of}
+use Rattle.sst_c.specs.declared.held.What.{What}
+use Rattle.sst_c.specs.declared.held.What.TheVariants.{Scan as ScanOf}
+
+-- a scan of a table deals what its blocks have
+pub all_dealt : (r : Result Scan Error) (rs : List (Result Entry Error))
+    → ((stops : Error → Bool) → stops OutOfMemory ≡ true →
+    IfOk r (λ s. Deals (answer_stops stops) ScansNext nowhere s rs)) → IfOk r (DealsScan rs)
+unfolding DealsScan
+all_dealt (Ok s) rs deals = deals
+all_dealt (Err e) rs deals = tt
+
+-- of a list it deals the list
+pub list_dealt : (r : Result Scan Error) (es : List Entry) (g : ℕ) → ScansList r es g
+    → IfOk r (DealsScan (ok_results (lift es g)))
+unfolding DealsScan
+list_dealt (Ok s) es g is = is
+list_dealt (Err e) es g is = tt
+
+-- and is refused for want of memory alone, where it has an entry
+pub list_refused : (r : Result Scan Error) (es : List Entry) (g : ℕ) → ScansList r es g
+    → 0 < length es → IfErr r (λ e. e ≡ OutOfMemory)
+list_refused (Ok s) es g is some = tt
+list_refused (Err e) es g is some = is some
+
+-- what a step that finds nothing leaves is at its end
+ended_behind : (s t : Scan) (answer : Option (Result Entry Error)) → ScansNext s answer t
+    → found_of (outcome_of answer) ≡ None → IsEndedScan t
+ended_behind s t None next none = next.ends
+ended_behind s t (Some (Ok e)) next none = absurd (let no : ⊥ = cc in no)
+ended_behind s t (Some (Err e)) next none = next.ends
+
+pub ends_by : (s t : Scan) (code : ℕ) (found : Option Entry) → StepsBy ScansNext s code found t
+    → found ≡ None → IsEndedScan t
+ends_by s t code found is none = ended_behind s t is.0 is.1 (sym is.3 ∙ none)
+
+never_stops : (answer : Option (Result Entry Error)) → answer_stops (λ _. false) answer ≡ false
+never_stops None = refl
+never_stops (Some (Ok e)) = refl
+never_stops (Some (Err e)) = refl
+
+none_comes : (s t : Scan) (answer : Option (Result Entry Error)) → ScansNext s answer t
+    → IsEndedScan s → answer ≡ None
+none_comes s t answer next over =
+    (next.answers.gives (λ _. false) [] (sym (ended_left s over), inl over) (never_stops answer)).0
+
+-- a step of a scan that is at its end finds nothing, and is not refused
+pub over_by : (s t : Scan) (code : ℕ) (found : Option Entry) → StepsBy ScansNext s code found t
+    → IsEndedScan s → (code ≡ 0) × (found ≡ None)
+over_by s t code found is over =
+    let none = none_comes s t is.0 is.1 over in (
+      is.2 ∙ ap (λ (r : Option (Result Entry Error)). result_code (outcome_of r)) none,
+      is.3 ∙ ap (λ (r : Option (Result Entry Error)). found_of (outcome_of r)) none,
+    )
+
+abbrev scan_or : Scan → What → Scan
+scan_or s (ScanOf u) = u
+scan_or s _ = s
+
+-- a handle holds one scan
+pub same_scan : (w : What) (u s : Scan) → w ≡ ScanOf u → w ≡ ScanOf s → u ≡ s
+same_scan w u s is same = ap (scan_or s) (sym is) ∙ ap (scan_or s) same

@@ -1,0 +1,9 @@
+use Rattle.std.proofs.Common.{ap, ◌∙◌}
+use Rattle.sst_c.specs.declared.held.Held.{Held}
+use Rattle.sst_c.proofs.Verifying.{same_held}
+use Rattle.sst_c.proofs.scans.sst_scan_open.Goals as goal
+
+pub returns-clause-fine : goal.returns-clause-fine
+returns-clause-fine c h t es empty same is stores some =
+    let one = same_held c.args.table.now.boxed.value c.in-Some.held.value h c.in-Some.ensures.taken same in
+    c.begin-code.ensures.fine t es (ap (λ (x : Held). x.what) (c.deref.ensures ∙ one) ∙ is) stores some
