@@ -17,7 +17,7 @@ ghost use Rattle.tool_compact.specs.Refusing.{RefusesToCompact};
 ghost use Rattle.tool_compact.specs.Scanned.{NamesOrder};
 ghost use Rattle.lsm_compactions.specs.declared.any_runs.CompactionOutcome.TheVariants.{Tables};
 
-use crate::fill::{check_free, write_tables};
+use crate::fill::{check_folder, write_tables};
 use crate::print::path_at;
 use crate::scanned::{has_order, refusal_of};
 use crate::{CompactError, CompactOptions};
@@ -269,7 +269,7 @@ pub fn compact_files<'a, P: Place, A: Allocator + Copy>(
     // Where memory is wanted no file is named.
     ensures memory { IfErr result BlamesNoneForMemory }
 {
-    check_free(place, folder)?;
+    check_folder(place, folder)?;
     let made = open_and_compact(place, alloc, paths, options)?;
     write_tables(place, alloc, folder, &made.tables)?;
     Ok(Made {
