@@ -1,5 +1,5 @@
 -- New folders of files: written beside their names, then renamed.
-use Rattle.std.specs.Prelude.{◌≡◌, ◌≢◌, ◌<◌, ◌⊎◌, ℕ, suc, List, [], ◌∷◌, ◌++◌, Option, codes}
+use Rattle.std.specs.Prelude.{◌≡◌, ◌≢◌, ◌<◌, ◌⊎◌, ℕ, ◌+◌, List, [], ◌∷◌, ◌++◌, Option, codes}
 use Rattle.std.specs.Prelude.{length, map, take}
 use Rattle.std.specs.List.{AllByRecursion}
 use Rattle.std.specs.Fmt.{decimal}
@@ -24,14 +24,14 @@ path_within folder number = folder ++ (codes "/" ++ (decimal number ++ codes ".s
 abbrev pub numbered_within : List ℕ → List (List ℕ) → List (List ℕ × List ℕ)
 numbered_within folder all = numbered_files (path_within folder) 1 all
 
--- a path is the same with slashes at its end
-abbrev pub IsWithSlashes : List ℕ → List ℕ → Type 0
-IsWithSlashes stem path = (slashes : List ℕ) × (path ≡ stem ++ slashes)
-    × AllByRecursion (λ c. c ≡ slash) slashes
+-- a path without the slashes at its end
+abbrev pub IsStemOf : List ℕ → List ℕ → Type 0
+IsStemOf stem path = (slashes : List ℕ) × (path ≡ stem ++ slashes)
+    × AllByRecursion (λ c. c ≡ slash) slashes × ((front : List ℕ) → stem ≢ front ++ codes "/")
 
 -- a path beside that of a folder, whose slashes at the end are left out
 abbrev pub IsBesideFolder : List ℕ → List ℕ → Type 0
-IsBesideFolder folder text = (stem : List ℕ) × IsWithSlashes stem folder × IsBeside stem text
+IsBesideFolder folder text = (stem : List ℕ) × IsStemOf stem folder × IsBeside stem text
 
 -- a path is not that of a folder, nor that of anything in it
 abbrev pub LiesElsewhere : List ℕ → List ℕ → Type 0
@@ -99,7 +99,7 @@ MaySyncNames folder steps = (steps ≡ []) ⊎ (steps ≡ SyncedNames folder ∷
 -- were, and the folder did not get the name
 abbrev pub TellsGivenUp : List ℕ → List ℕ → List (List ℕ) → ℕ → List Step → FileError → Type 0
 TellsGivenUp folder beside all written synced e =
-    ((written < length all) × (path_text e.name ≡ path_within folder (suc written))
+    ((written < length all) × (path_text e.name ≡ path_within folder (1 + written))
     × IsWritingFault e.fault × (synced ≡ []))
     ⊎ ((written ≡ length all) × (path_text e.name ≡ folder)
     × IsNamingFault e.fault × MaySyncNames beside synced)

@@ -1,9 +1,9 @@
 //! New folders of tables, written beside their names.
-ghost use Rattle.std.specs.Prelude.{◌≡◌, ◌∷◌, ◌++◌, [], IfErr, IfOk, OnErr, OnOk, map, string_bytes};
+ghost use Rattle.std.specs.Prelude.{◌≡◌, ◌∷◌, ◌++◌, [], IfErr, IfOk, List, OnErr, OnOk, map};
+ghost use Rattle.std.specs.Prelude.{string_bytes};
 ghost use Rattle.tool_files.specs.NewFolders.{IsBesideFolder, IsFolderNotPlaced, IsFolderPlaced};
 ghost use Rattle.tool_files.specs.NewFolders.{IsMakingFault, IsNamingFault, IsNotFilled, IsWithin};
-ghost use Rattle.tool_files.specs.NewFolders.{IsWithSlashes, IsWritingFault, MaySyncNames};
-ghost use Rattle.tool_files.specs.NewFolders.{StopsWithin};
+ghost use Rattle.tool_files.specs.NewFolders.{IsStemOf, IsWritingFault, MaySyncNames, StopsWithin};
 ghost use Rattle.tool_files.specs.NewFolders.{naming_folder, numbered_within, path_within};
 ghost use Rattle.tool_files.specs.NewFolders.{removing_folder, writing_files};
 ghost use Rattle.tool_files.specs.Files.{path_text};
@@ -75,7 +75,7 @@ fn make_beside<P: Place, A: Allocator + Copy>(
 
 // A path without the slashes at its end.
 fn without_slashes(path: &str) -> &str
-    ensures { IsWithSlashes result.now path.now }
+    ensures { IsStemOf result.now path.now }
 {
     path.trim_end_matches('/')
 }
