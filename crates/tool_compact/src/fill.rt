@@ -2,7 +2,9 @@
 ghost use Rattle.std.specs.Prelude.{◌≡◌, IfErr, IfSome, OnOk, false};
 ghost use Rattle.tool_compact.specs.Blamed.{BlamesNoneForMemory};
 ghost use Rattle.tool_compact.specs.Compacted.{IfOutOfOrder};
-ghost use Rattle.tool_compact.specs.Filled.{IsFilled, IsNotFilledWith, IsTakenFault, TellsFolder};
+ghost use Rattle.tool_compact.specs.Filled.{IsFilled, StaysUnfilled, TellsFolder};
+ghost use Rattle.tool_files.specs.declared.file_error.FileFault.TheVariants.{Taken};
+ghost use Rattle.tool_files.specs.Placed.{TellsFound};
 
 use crate::CompactError;
 use logpurple::FinishedTable;
@@ -10,6 +12,7 @@ use std::alloc::Allocator;
 use tool_files::{FileError, FileFault, FileName, Place, check_free, place_folder};
 
 /// Refused where anything has a folder's path, and where that is not told.
+#[tactic(auto, using(crate::proofs::Blaming::found_memory))]
 pub(crate) fn check_folder<'a, P: Place>(
     place: &P,
     folder: &'a str,
@@ -17,7 +20,7 @@ pub(crate) fn check_folder<'a, P: Place>(
     ensures free { OnOk result
         (IfSome (P.there place.now folder.now) (λ there. there ≡ false)) }
     ensures taken { IfErr result
-        (TellsFolder folder.now (IsTakenFault (P.there place.now folder.now))) }
+        (TellsFolder folder.now (TellsFound Taken (P.there place.now folder.now))) }
     ensures order { IfErr result (λ e. IfOutOfOrder e ⊥) }
     ensures memory { IfErr result BlamesNoneForMemory }
 {
@@ -41,7 +44,7 @@ pub(crate) fn write_tables<'a, P: Place, A: Allocator + Copy>(
     ensures filled { OnOk result
         (IsFilled folder.now tables.now (P.done place.old) (P.done place.new)) }
     ensures refused { IfErr result (λ e.
-        IsNotFilledWith folder.now tables.now (P.done place.old) e (P.done place.new)) }
+        StaysUnfilled folder.now tables.now (P.done place.old) e (P.done place.new)) }
     ensures order { IfErr result (λ e. IfOutOfOrder e ⊥) }
     ensures memory { IfErr result BlamesNoneForMemory }
 {
