@@ -1,7 +1,7 @@
 -- Entries that are read one after another.
 use Rattle.std.proofs.Common.{◌≡◌, refl, sym, ◌∙◌, ap, subst, ℕ, ◌+◌, Bool, true, false, List, []}
 use Rattle.std.proofs.Common.{◌∷◌, ◌⊎◌, ◌<◌, inl, inr, arith, length, take, true≢false, get_or}
-use Rattle.std.specs.Prelude.{◌≢◌, ◌&&◌, IfOk, IfSome, Option, Some, None, Result, Ok, Err}
+use Rattle.std.specs.Prelude.{◌≢◌, ◌&&◌, IfOk, IfSome, OnOk, Option, Some, None, Result, Ok, Err}
 use Rattle.std.specs.List.{AllByRecursion}
 use Rattle.std.proofs.lemmas.Bool.{cases_Bool}
 use Rattle.sst_sections.specs.Sections.{body_of}
@@ -179,11 +179,20 @@ pub scan_refused : (t : OpenTable) (e : Error)
 scan_refused t e fault =
     ap first (fault_left (body_of t.bytes) t.global_seqno t.parts.facts.data_block_count e fault)
 
-pub not_memory : (e : Error) → e ≢ OutOfMemory → is_memory e ≡ false
-not_memory e other = elim (cases_Bool (is_memory e)) [
-  | inl memory ↦ absurd (other (memory_is e memory))
-  | inr no ↦ no
-]
+-- entries that came in order up to an error, which is no want of memory
+pub ended_so : (told : Result Bool Error) (e : Error) (x : Bool) → OnOk told (is_memory e ≡ false)
+    → IfOk told (λ b. b ≡ true) → (is_memory e ≡ false → x ≡ true) → IfOk told (λ b. b ≡ x)
+ended_so (Err f) e x fault order same = tt
+ended_so (Ok b) e x fault order same = order ∙ sym (same fault)
+
+-- so are those of a table that is not scanned
+pub refused_order : (t : OpenTable) (e : Error) (told : Result Bool Error)
+    → OnOk told (is_memory e ≡ false) → IfOk told (λ b. b ≡ true)
+    → (is_memory e ≡ false → scan_fault t ≡ Some e)
+    → IfOk told (λ b. b ≡ come_in_order (table_scan t))
+refused_order t e told fault order refused =
+    ended_so told e (come_in_order (table_scan t)) fault order
+    (λ other. order_refused None (table_scan t) e (scan_refused t e (refused other)))
 
 -- ---- a stored list
 

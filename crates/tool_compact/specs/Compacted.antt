@@ -12,7 +12,8 @@ use Rattle.lsm_compactions.specs.Compacted.{AreCompactable, AreWrittenBy, FitsBy
 use Rattle.lsm_compactions.specs.OpenedBy.{AreOpenedBy, default_opening, run_with_fault}
 use Rattle.lsm_compactions.specs.declared.any_runs.CompactionOutcome.{CompactionOutcome}
 use Rattle.lsm_compactions.specs.declared.any_runs.CompactionOutcome.TheVariants.{Tables}
-use Rattle.logpurple.specs.Words.{Entry, HaveEntries, OpenTable, OutOfMemory, RunsHoldLists, kept_in}
+use Rattle.logpurple.specs.Words.{Entry, Error, HaveEntries, OpenTable, OutOfMemory, RunsHoldLists}
+use Rattle.logpurple.specs.Words.{kept_in}
 use Rattle.tool_files.specs.Targets.{largest_table}
 use Rattle.tool_compact.specs.declared.compact_error.CompactError.{CompactError}
 use Rattle.tool_compact.specs.declared.compact_error.CompactError.TheVariants as error

@@ -1,10 +1,10 @@
 //! Tables that are read whole, to find which is at fault.
-ghost use Rattle.std.specs.Prelude.{◌≡◌, ◌<◌, IfErr, IfOk, IfSome, List, None, length, true};
+ghost use Rattle.std.specs.Prelude.{◌≡◌, ◌<◌, IfErr, IfOk, IfSome, List, OnOk, false, length, true};
 ghost use Rattle.std.specs.Iterator.{IsFinite};
 ghost use Rattle.lsm_compactions.specs.AnyRuns.{DealsResults};
 ghost use Rattle.lsm_merge.specs.Ends.{R};
 ghost use Rattle.lsm_runs.specs.RunScan.{table_scan};
-ghost use Rattle.logpurple.specs.Words.{Entry, OutOfMemory, StoresList};
+ghost use Rattle.logpurple.specs.Words.{Entry, OutOfMemory, StoresList, is_memory};
 ghost use Rattle.tool_compact.specs.Scanned.{IsFirstRefusal, come_in_order};
 
 use logpurple::{Error, InternalValue, IterItem, Table};
@@ -26,6 +26,19 @@ fn first_refusal<I: Iterator<Item = IterItem<A>> + Drop, A: Allocator>(items: I)
     None
 }
 
+// Whether entries that came in order up to an error do so up to the first that cannot be read: they
+// do, but want of memory tells nothing of them.
+fn ended_by(error: Error) -> Result<bool, Error>
+    ensures fault { OnOk result (is_memory error ≡ false) }
+    ensures order { IfOk result (λ b. b ≡ true) }
+    ensures memory { IfErr result (λ e. e ≡ OutOfMemory) }
+{
+    if error == Error::OutOfMemory {
+        return Err(error);
+    }
+    Ok(true)
+}
+
 // Whether entries come in order, up to the first that cannot be read. Refused for want of memory
 // alone.
 fn is_in_order<I: Iterator<Item = IterItem<A>> + Drop, A: Allocator>(
@@ -41,8 +54,7 @@ fn is_in_order<I: Iterator<Item = IterItem<A>> + Drop, A: Allocator>(
     for item in items {
         let item = match item {
             Ok(item) => item,
-            Err(Error::OutOfMemory) => return Err(Error::OutOfMemory),
-            Err(_) => return Ok(true),
+            Err(error) => return ended_by(error),
         };
         if !item.may_follow(last.as_ref()) {
             return Ok(false);
@@ -77,7 +89,6 @@ pub(crate) fn has_order<A: Allocator + Copy>(table: &Table<A>) -> Result<bool, E
 {
     match table.scan() {
         Ok(items) => is_in_order(items),
-        Err(Error::OutOfMemory) => Err(Error::OutOfMemory),
-        Err(_) => Ok(true),
+        Err(error) => ended_by(error),
     }
 }

@@ -28,7 +28,16 @@ loop-item-preserved-in_default-2 g c = λ rs d.
     (next.others, next.deals, refused_behind rs left.0 next.others c.in_default.field-0 left.2 next.are)
 
 pub returns-in-Err : goal.returns-in-Err
-returns-in-Err g c = λ rs d.
-    let gives = g.I.Iterator.next_gives in
-    let left = c.loop-item.invariant rs d in
-    refused_last rs left.0 c.in-Err.error left.2 (came_err gives c.loop-item.item-iterator c.next.new.self c.in-Err.error left.0 left.1 (subst (λ r. gives c.loop-item.item-iterator (Some r) c.next.new.self) c.in-Err.is c.in-Some.ensures.steps))
+returns-in-Err g c = record {
+  first = λ rs d.
+      let gives = g.I.Iterator.next_gives in
+      let left = c.loop-item.invariant rs d in
+      refused_last rs left.0 c.in-Err.error left.2 (came_err gives c.loop-item.item-iterator c.next.new.self c.in-Err.error left.0 left.1 (subst (λ r. gives c.loop-item.item-iterator (Some r) c.next.new.self) c.in-Err.is c.in-Some.ensures.steps));
+}
+
+pub returns : goal.returns
+returns g c = record {
+  first = λ rs d.
+      let left = c.loop-item.invariant rs d in
+      refused_none rs left.0 left.2 (came_none g.I.Iterator.next_gives c.loop-item.item-iterator c.next.new.self left.0 left.1 c.in-None.ensures.steps);
+}
