@@ -1,6 +1,6 @@
 -- Which refusal of the library's is told.
 use denote.Ref.{Bor}
-use Rattle.std.proofs.Common.{◌≡◌, refl, sym, ◌∙◌, ap, subst, ℕ, zero, suc, ◌+◌, ◌^◌, ◌<◌, ◌×◌, List}
+use Rattle.std.proofs.Common.{◌≡◌, refl, sym, ◌∙◌, ap, subst, ℕ, zero, suc, ◌+◌, ◌^◌, ◌<◌, List}
 use Rattle.std.proofs.Common.{[], ◌∷◌, ◌⊎◌, inl, inr, arith, false, length, true≢false}
 use Rattle.std.specs.Prelude.{Option, Some, None}
 use Rattle.std.specs.List.{AllByRecursion, slice_get}
@@ -31,7 +31,7 @@ use Rattle.tool_compact.specs.Scanned.{StoresNoEntries}
 -- ---- tables that hold lists
 
 -- the bytes of a table store a list that has an entry
-StoresSome : OpenTable → Type 0
+abbrev StoresSome : OpenTable → Type 0
 StoresSome t = (stored : List Entry) × StoresList t.bytes stored × (0 < length stored)
 
 none_some : {X : Type 0} {x : X} → Some x ≡ None → ⊥

@@ -220,12 +220,9 @@ stored_strict bytes es g h =
 -- ---- what stores no list
 
 -- a table that is told to be out of order
-pub stores_none : (t : OpenTable) (told : Result Bool Error)
-    → ((es : List Entry) → StoresList t.bytes es → IfOk told (λ b. b ≡ true))
-    → told ≡ Ok false → StoresNone t
-stores_none t told says not = λ es stored.
-    true≢false (sym (subst (λ (r : Result Bool Error). IfOk r (λ b. b ≡ true)) not
-    (says es stored)))
+pub stores_none : (t : OpenTable) (told : Bool)
+    → ((es : List Entry) → StoresList t.bytes es → told ≡ true) → told ≡ false → StoresNone t
+stores_none t told says not = λ es stored. true≢false (sym (says es stored) ∙ not)
 
 -- one that is refused, and not for want of memory
 pub stores_no_entries : (t : OpenTable) (told : Option Error) (e : Error)
