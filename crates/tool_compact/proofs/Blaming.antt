@@ -1,8 +1,7 @@
 -- What is said of a file that is at fault.
 use denote.Ref.{Bor}
-use Rattle.std.proofs.Common.{◌≡◌, ◌⊎◌, refl, sym, ap, subst, Bool, true, false, inl, inr, ℕ, List}
-use Rattle.std.specs.Prelude.{IfErr, Option, Result, Ok, Err, if◌then◌else◌}
-use Rattle.std.specs.Result.{IsErrAnd}
+use Rattle.std.proofs.Common.{◌≡◌, ◌⊎◌, refl, ap, Bool, true, false, inl, inr, ℕ, List}
+use Rattle.std.specs.Prelude.{Option, if◌then◌else◌}
 use Rattle.tool_files.specs.declared.file_error.FileError.{FileError}
 use Rattle.tool_files.specs.declared.file_error.FileFault.{FileFault}
 use Rattle.tool_files.specs.declared.file_error.FileFault.TheVariants.{AfterOthers, CutShort, Folder}
@@ -12,7 +11,6 @@ use Rattle.tool_files.specs.Files.{is_memory_fault}
 use Rattle.tool_files.specs.Placed.{IsOfSystem, TellsFound}
 use Rattle.tool_files.specs.Opened.{StopsOpening}
 use Rattle.logpurple.specs.Words.{OutOfMemory}
-use Rattle.tool_compact.specs.declared.compact_error.CompactError.{CompactError}
 use Rattle.tool_compact.specs.declared.compact_error.CompactError.TheVariants as error
 use Rattle.tool_compact.specs.Blamed.{BlamesNoneForMemory, blamed}
 use Rattle.tool_compact.specs.Compacted.{IfOutOfOrder}

@@ -1,6 +1,6 @@
 -- Which refusal of the library's is told.
 use denote.Ref.{Bor}
-use Rattle.std.proofs.Common.{◌≡◌, refl, sym, ◌∙◌, ap, subst, ℕ, zero, suc, ◌+◌, ◌^◌, ◌<◌, List}
+use Rattle.std.proofs.Common.{◌≡◌, sym, ◌∙◌, ap, subst, ℕ, zero, suc, ◌+◌, ◌^◌, ◌<◌, List}
 use Rattle.std.proofs.Common.{[], ◌∷◌, ◌⊎◌, inl, inr, arith, false, length, true≢false}
 use Rattle.std.specs.Prelude.{Option, Some, None}
 use Rattle.std.specs.List.{AllByRecursion, slice_get}
@@ -23,7 +23,7 @@ use Rattle.tool_compact.specs.declared.compact_error.CompactError.{CompactError}
 use Rattle.tool_compact.specs.declared.compact_error.CompactError.TheVariants as error
 use Rattle.tool_compact.specs.declared.compact_options.CompactOptions.{CompactOptions}
 use Rattle.tool_compact.specs.Blamed.{IsBlame, KeepsRefusal, NamesBlame}
-use Rattle.tool_compact.specs.Compacted.{HasNoTables, IsRefusedFor, TellsLibrary, compactor_by}
+use Rattle.tool_compact.specs.Compacted.{HasNoTables, TellsLibrary, compactor_by}
 use Rattle.tool_compact.specs.Compacted.{each_alone}
 use Rattle.tool_compact.specs.Printed.{path_or_mark}
 use Rattle.tool_compact.specs.Scanned.{StoresNoEntries}

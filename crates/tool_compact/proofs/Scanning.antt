@@ -1,6 +1,6 @@
 -- Entries that are read one after another.
 use Rattle.std.proofs.Common.{◌≡◌, refl, sym, ◌∙◌, ap, subst, ℕ, ◌+◌, Bool, true, false, List, []}
-use Rattle.std.proofs.Common.{◌∷◌, ◌⊎◌, ◌<◌, inl, inr, arith, length, take, true≢false, get_or}
+use Rattle.std.proofs.Common.{◌∷◌, ◌<◌, inl, inr, arith, length, true≢false}
 use Rattle.std.specs.Prelude.{◌≢◌, ◌&&◌, IfOk, IfSome, OnOk, Option, Some, None, Result, Ok, Err}
 use Rattle.std.specs.List.{AllByRecursion}
 use Rattle.std.proofs.lemmas.Bool.{cases_Bool}

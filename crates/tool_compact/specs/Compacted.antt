@@ -1,5 +1,5 @@
 -- Tables that are compacted.
-use Rattle.std.specs.Prelude.{◌≡◌, ◌+◌, ◌-◌, ◌^◌, ◌<◌, ℕ, List, [], ◌∷◌, false, length, map}
+use Rattle.std.specs.Prelude.{◌≡◌, ◌+◌, ◌-◌, ◌^◌, ◌<◌, ℕ, List, [], ◌∷◌, false, map}
 use Rattle.std.specs.Prelude.{Option, Some, min, sum_by}
 use Rattle.std.specs.List.{AllByRecursion}
 use Rattle.lsm_writers.specs.declared.writer.FinishedTable.{FinishedTable}

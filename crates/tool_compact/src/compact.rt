@@ -3,7 +3,6 @@ ghost use Rattle.std.specs.Prelude.{◌≡◌, ◌+◌, ◌^◌, ◌<◌, ◌∷
 ghost use Rattle.std.specs.Prelude.{IsErrAnd, List, OnOk, Option, Some, false, length, map, true, ℕ};
 ghost use Rattle.std.specs.Arc.{arc_value};
 ghost use Rattle.std.specs.List.{AllByRecursion};
-ghost use Rattle.sst_entries.specs.Error.{is_memory};
 ghost use Rattle.lsm_compactions.specs.Compacted.{FitsBy};
 ghost use Rattle.logpurple.specs.Words.{AreCompactable, AreTablesBy, CameInOrder, Entry, Faults};
 ghost use Rattle.logpurple.specs.Words.{GoesThrough, HasMade, HaveEntries, OpenTable, OutOfMemory};

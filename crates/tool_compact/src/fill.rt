@@ -13,10 +13,7 @@ use tool_files::{FileError, FileFault, FileName, Place, check_free, place_folder
 
 /// Refused where anything has a folder's path, and where that is not told.
 #[tactic(auto, using(crate::proofs::Blaming::found_memory))]
-pub(crate) fn check_folder<'a, P: Place>(
-    place: &P,
-    folder: &'a str,
-) -> Result<(), CompactError<'a>>
+pub(crate) fn check_folder<'a, P: Place>(place: &P, folder: &'a str) -> Result<(), CompactError<'a>>
     ensures free { OnOk result
         (IfSome (P.there place.now folder.now) (λ there. there ≡ false)) }
     ensures taken { IfErr result

@@ -2,7 +2,7 @@
 use Rattle.std.proofs.Common.{◌≡◌, refl, sym, ◌∙◌, ap, subst, ℕ, suc, ◌+◌, ◌-◌, ◌<◌, List, [], ◌∷◌}
 use Rattle.std.proofs.Common.{◌++◌, append-nil, append_assoc, arith, drop, get_or, inl, inr, length}
 use Rattle.std.proofs.Common.{take}
-use Rattle.std.specs.Prelude.{◌≢◌, ◌==◌, IfErr, IfSome, OnOk, Option, None, Some, Result, Ok, Err, codes}
+use Rattle.std.specs.Prelude.{◌≢◌, IfErr, IfSome, OnOk, Option, None, Some, Result, Ok, Err, codes}
 use Rattle.std.specs.Prelude.{Bool, if◌then◌else◌, map}
 use Rattle.std.specs.Fmt.{decimal}
 use Rattle.std.specs.List.{AllByRecursion}
@@ -14,18 +14,17 @@ use Rattle.std.proofs.lemmas.List.{take-append-drop, take-map, take_all, take_mo
 use Rattle.std.proofs.lemmas.Str.Pattern.{drop_at_char}
 use Rattle.tool_files.specs.declared.file_error.FileError.{FileError}
 use Rattle.tool_files.specs.Ended.{behind_front, files_left, moved_by, path_behind, path_moved}
-use Rattle.tool_files.specs.Files.{IsBeside, path_text}
+use Rattle.tool_files.specs.Files.{path_text}
 use Rattle.tool_files.specs.NewFolders.{IsBesideFolder, IsEmptied, IsFolderGivenUp, IsFolderNotPlaced}
 use Rattle.tool_files.specs.NewFolders.{IsFolderPlaced, IsNamingFault, IsNotFilled, IsStemOf}
 use Rattle.tool_files.specs.NewFolders.{IsWithin, IsWritingFault, LiesElsewhere, MaySyncNames}
 use Rattle.tool_files.specs.NewFolders.{StopsWithin, TellsGivenUp, giving_up, naming_folder}
-use Rattle.tool_files.specs.NewFolders.{numbered_within, path_within, placing_folder}
+use Rattle.tool_files.specs.NewFolders.{numbered_within, path_within}
 use Rattle.tool_files.specs.NewFolders.{removing_folder, writing_files}
 use Rattle.tool_files.specs.Numbered.{numbered_files}
-use Rattle.tool_files.specs.Placed.{IsNotSynced}
 use Rattle.tool_files.specs.Steps.{Step, then_done}
-use Rattle.tool_files.specs.Steps.Step.{MadeFolder, Removed, RemovedFolder, RenamedFolder, Synced}
-use Rattle.tool_files.specs.Steps.Step.{SyncedNames, Wrote}
+use Rattle.tool_files.specs.Steps.Step.{MadeFolder, Removed, RemovedFolder, Synced}
+use Rattle.tool_files.specs.Steps.Step.{Wrote}
 use Rattle.tool_files.proofs.FilesMore.{files_behind}
 use Rattle.tool_files.proofs.Steps.{then_more}
 
@@ -47,11 +46,10 @@ slashes_cut : (s : List ℕ) (ns r : List ℕ) → CutsSuffixes (FindsCharSuffix
     → (slashes : List ℕ) × (s ≡ r ++ slashes) × AllByRecursion (λ c. c ≡ slash) slashes
 slashes_cut s [] r h = ([], sym h ∙ sym (append-nil r), tt)
 slashes_cut s (n ∷ ns) r h =
-    let more = slashes_cut s ns h.0 h.1 in
-    (
+    let more = slashes_cut s ns h.0 h.1 in (
       slash ∷ more.0,
       more.1 ∙ ap (λ (l : List ℕ). l ++ more.0) (slash_cut h.0 r n h.2 h.3)
-      ∙ append_assoc r (slash ∷ []) more.0,
+          ∙ append_assoc r (slash ∷ []) more.0,
       (refl, more.2),
     )
 
@@ -103,18 +101,17 @@ module _ {X : Type 0} (bytes_of : X → List ℕ) where
       numbered_within folder (map bytes_of (take i tables)) in
       let one : List ℕ × List ℕ = (path_within folder (1 + i), bytes_of t) in
       let more : numbered_within folder (map bytes_of (take (i + 1) tables)) ≡ files ++ one ∷ [] =
-      within_more folder tables i t less here in
-      (
+      within_more folder tables i t less here in (
         added ∙ ap (λ (l : List (List ℕ)). l ++ path_within folder number ∷ []) so_far.0
-        ∙ ap (λ (n : ℕ). map (λ f. f.0) files ++ path_within folder n ∷ []) counted
-        ∙ sym (map-append (λ f. f.0) files (one ∷ []))
-        ∙ ap (map (λ f. f.0)) (sym more),
+            ∙ ap (λ (n : ℕ). map (λ f. f.0) files ++ path_within folder n ∷ []) counted
+            ∙ sym (map-append (λ f. f.0) files (one ∷ []))
+            ∙ ap (map (λ f. f.0)) (sym more),
         done ∙ ap (λ (n : ℕ). then_done now (Wrote (path_within folder n) bytes ∷ [])) counted
-        ∙ ap (λ (b : List ℕ). then_done now (Wrote (path_within folder (1 + i)) b ∷ [])) held
-        ∙ ap (λ (k : Option (List Step)). then_done k (Wrote one.0 one.1 ∷ [])) so_far.1
-        ∙ then_more known (writing_files files) (Wrote one.0 one.1 ∷ [])
-        ∙ ap (then_done known)
-        (sym (map-append (λ f. Wrote f.0 f.1) files (one ∷ [])) ∙ ap writing_files (sym more)),
+            ∙ ap (λ (b : List ℕ). then_done now (Wrote (path_within folder (1 + i)) b ∷ [])) held
+            ∙ ap (λ (k : Option (List Step)). then_done k (Wrote one.0 one.1 ∷ [])) so_far.1
+            ∙ then_more known (writing_files files) (Wrote one.0 one.1 ∷ [])
+            ∙ ap (then_done known)
+            (sym (map-append (λ f. Wrote f.0 f.1) files (one ∷ [])) ∙ ap writing_files (sym more)),
       )
 
   -- one that was not written
@@ -329,8 +326,7 @@ elsewhere_one folder beside number named =
     let split : path_within beside number ≡ stem ++ (codes "." ++ (mark ++ end)) =
     ap (λ (l : List ℕ). l ++ end) named.2.1
     ∙ append_assoc stem (codes "." ++ mark) end
-    ∙ ap (λ (l : List ℕ). stem ++ l) (append_assoc (codes ".") mark end) in
-    (
+    ∙ ap (λ (l : List ℕ). stem ++ l) (append_assoc (codes ".") mark end) in (
       λ same. dot_no_slash slashes (mark ++ end) are
           (append_cancel_left stem (codes "." ++ (mark ++ end)) slashes
           (sym split ∙ same ∙ kept)),

@@ -5,7 +5,7 @@ ghost use Rattle.tool_files.specs.NewFolders.{IsBesideFolder, IsFolderNotPlaced,
 ghost use Rattle.tool_files.specs.NewFolders.{IsMakingFault, IsNamingFault, IsNotFilled, IsWithin};
 ghost use Rattle.tool_files.specs.NewFolders.{IsStemOf, IsWritingFault, MaySyncNames, StopsWithin};
 ghost use Rattle.tool_files.specs.NewFolders.{naming_folder, numbered_within, path_within};
-ghost use Rattle.tool_files.specs.NewFolders.{removing_folder, writing_files};
+ghost use Rattle.tool_files.specs.NewFolders.{writing_files};
 ghost use Rattle.tool_files.specs.Files.{path_text};
 ghost use Rattle.tool_files.specs.Placed.{IsNotSynced};
 ghost use Rattle.tool_files.specs.Steps.{Step, then_done};

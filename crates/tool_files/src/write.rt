@@ -1,6 +1,6 @@
 //! Writing files beside their names.
 ghost use Rattle.std.specs.Prelude.{◌≡◌, ◌<◌, ◌∷◌, [], Any, IfErr, IfOk, IfSome, OnErr, OnOk, drop};
-ghost use Rattle.std.specs.Prelude.{◌⊎◌, false, length, true, string_bytes, take};
+ghost use Rattle.std.specs.Prelude.{◌⊎◌, false, length, string_bytes, take};
 ghost use Rattle.std.specs.Option.{option_map};
 ghost use Rattle.std.specs.Fs.{IsFile, file_type, metadata_mode, permissions_mode};
 ghost use Rattle.tool_files.specs.Files.{IsBeside, path_text};
@@ -189,7 +189,10 @@ fn write_beside<'a, 'b, P: Place, A: Allocator + Copy>(
 }
 
 /// The path of a file.
-pub(crate) fn path_of<A: Allocator + Copy>(alloc: A, name: &FileName<'_>) -> Result<String<A>, AllocError>
+pub(crate) fn path_of<A: Allocator + Copy>(
+    alloc: A,
+    name: &FileName<'_>,
+) -> Result<String<A>, AllocError>
     ensures { IfOk result (λ path. string_bytes path ≡ path_text name.now) }
 {
     format!(in alloc; "{name}")
