@@ -1,6 +1,6 @@
 //! Files that are compacted.
-ghost use Rattle.std.specs.Prelude.{◌≡◌, ◌+◌, ◌^◌, ◌<◌, ◌∷◌, [], IfErr, IfNone, IfOk, IfSome};
-ghost use Rattle.std.specs.Prelude.{IsErrAnd, List, OnOk, Option, Some, false, length, map, true, ℕ};
+ghost use Rattle.std.specs.Prelude.{◌≡◌, ◌+◌, ◌^◌, ◌<◌, ◌∷◌, [], IfErr, IfNone, IfOk, IfSome, ℕ};
+ghost use Rattle.std.specs.Prelude.{IsErrAnd, List, OnOk, Option, Some, false, length, map, true};
 ghost use Rattle.std.specs.Arc.{arc_value};
 ghost use Rattle.std.specs.List.{AllByRecursion};
 ghost use Rattle.lsm_compactions.specs.Compacted.{FitsBy};
@@ -264,8 +264,8 @@ fn open_and_compact<'a, P: Place, A: Allocator + Copy>(
 /// Refused where anything has the folder's path, before any file is read; as [`open_tables`]; where
 /// a block of a file cannot be read, where the entries of a file are out of order, where a key has
 /// one number twice in what is kept of the files, and as the writer of the tables and
-/// [`place_folder`](tool_files::place_folder) are; and for want of memory. No file that was there is
-/// changed, and nothing has the folder's path then, but where only its name is not synced.
+/// [`place_folder`](tool_files::place_folder) are; and for want of memory. No file that was there
+/// is changed, and nothing has the folder's path then, but where only its name is not synced.
 pub fn compact_files<'a, P: Place, A: Allocator + Copy>(
     place: &mut P,
     alloc: A,

@@ -7,7 +7,8 @@ use Rattle.std.specs.Path.{slash}
 use Rattle.logpurple.specs.Words.{OutOfMemory}
 use Rattle.tool_files.specs.declared.file_error.FileError.{FileError}
 use Rattle.tool_files.specs.declared.file_error.FileFault.{FileFault}
-use Rattle.tool_files.specs.declared.file_error.FileFault.TheVariants.{Io, NamesTaken, Refused, Taken}
+use Rattle.tool_files.specs.declared.file_error.FileFault.TheVariants.{Io, NamesTaken, Refused}
+use Rattle.tool_files.specs.declared.file_error.FileFault.TheVariants.{Taken}
 use Rattle.tool_files.specs.Ended.{files_left}
 use Rattle.tool_files.specs.Files.{IsBeside, path_text}
 use Rattle.tool_files.specs.Numbered.{numbered_files}

@@ -31,8 +31,8 @@ pub fn place_folder<'a, P: Place, A: Allocator + Copy>(
     folder: &'a str,
     tables: &[FinishedTable<A>],
 ) -> Result<(), FileError<'a>>
-    // Where it answers, all was written and synced beside the folder's name, then renamed once, then
-    // synced; and just the tables' files lie in the folder, with their bytes.
+    // Where it answers, all was written and synced beside the folder's name, then renamed once,
+    // then synced; and just the tables' files lie in the folder, with their bytes.
     ensures placed { OnOk result (IsFolderPlaced folder.now (map (λ t. t.bytes) tables.now)
         (Synced folder.now ∷ []) (P.done place.old) (P.done place.new)) }
     // Where it is refused, this was done and no more; and no file has the folder's name or lies
