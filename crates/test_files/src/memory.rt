@@ -71,8 +71,8 @@ impl Memory {
         Ok(())
     }
 
-    // Whether anything has a path.
-    fn has(&self, path: &str) -> bool {
+    /// Whether anything has a path.
+    pub(crate) fn has(&self, path: &str) -> bool {
         for file in &self.files {
             if file.path.as_str() == path {
                 return true;
@@ -94,6 +94,20 @@ impl Memory {
             }
         }
         false
+    }
+
+    // What has a path gets another one; what lies in a folder goes with it.
+    fn rename_all(&mut self, from: &str, to: &str) -> Result<(), AllocError> {
+        for file in &mut self.files {
+            let Some(rest) = file.path.as_str().strip_prefix(from) else {
+                continue;
+            };
+            if rest.is_empty() || rest.starts_with("/") {
+                let path = format!(in self.alloc; "{to}{rest}")?;
+                file.path = path;
+            }
+        }
+        Ok(())
     }
 
     // Takes what has a path away.
@@ -162,11 +176,7 @@ impl Place for Memory {
     fn rename(&mut self, from: &str, to: &str) -> io::Result<()> {
         self.step()?;
         self.forget(to);
-        for file in &mut self.files {
-            if file.path.as_str() == from {
-                file.path = String::from_str(self.alloc, to)?;
-            }
-        }
+        self.rename_all(from, to)?;
         Ok(())
     }
 
@@ -176,6 +186,9 @@ impl Place for Memory {
 
     fn make_folder(&mut self, path: &str) -> io::Result<()> {
         self.step()?;
+        if self.has(path) {
+            return Err(io::Error::from(ErrorKind::AlreadyExists));
+        }
         self.put(path, None)?;
         Ok(())
     }
@@ -184,6 +197,19 @@ impl Place for Memory {
         if !self.has_within(path) {
             self.forget(path);
         }
+    }
+
+    fn rename_folder(&mut self, from: &str, to: &str) -> io::Result<()> {
+        self.step()?;
+        if self.has(to) {
+            return Err(io::Error::from(ErrorKind::AlreadyExists));
+        }
+        self.rename_all(from, to)?;
+        Ok(())
+    }
+
+    fn sync_names(&mut self, _folder: &str) -> io::Result<()> {
+        self.step()
     }
 
     fn sync_folder(&mut self, _path: &str) -> io::Result<()> {

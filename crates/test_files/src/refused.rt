@@ -55,32 +55,34 @@ fn first_of_two_stands_renamed(rt: HostRuntime) {
     assert_eq!(rt; both_replaced(alloc, NEVER), (true, true, 2));
 }
 
-// Compacts with a step refused. Answers whether that was done, whether the new file is whole, and
-// how many files and folders there are.
-fn compacted(alloc: Global, refused: u64) -> (bool, bool, usize) {
+// Compacts into three tables with a step refused. Answers whether that was done, whether anything
+// has the folder's name, whether all tables are in it, and how many files and folders there are.
+fn compacted(alloc: Global, refused: u64) -> (bool, bool, bool, usize) {
     let mut place = sources(alloc, refused);
-    let done = compact(&mut place, alloc).is_some();
-    let whole = entries_of(&place, alloc, "to/1.sst") == Some(5);
-    (done, whole, place.count())
+    let done = compact(&mut place, alloc, "to", Some(0)).is_some();
+    let whole = entries_of(&place, alloc, "to/1.sst") == Some(3)
+        && entries_of(&place, alloc, "to/2.sst") == Some(1)
+        && entries_of(&place, alloc, "to/3.sst") == Some(1);
+    (done, place.has("to"), whole, place.count())
 }
 
 #[test]
-fn folder_goes_where_it_is_not_filled(rt: HostRuntime) {
+fn folder_stands_whole_or_is_absent(rt: HostRuntime) {
     let alloc = rt.alloc();
-    // Both sources stay.
-    assert_eq!(rt; compacted(alloc, 0), (false, false, 2));
-    assert_eq!(rt; compacted(alloc, 1), (false, false, 2));
-    assert_eq!(rt; compacted(alloc, 2), (false, false, 2));
-    // The new file stands, and its name or the folder's is not synced.
-    assert_eq!(rt; compacted(alloc, 3), (false, true, 4));
-    assert_eq!(rt; compacted(alloc, 4), (false, true, 4));
-    assert_eq!(rt; compacted(alloc, NEVER), (true, true, 4));
+    // The folder is not made, one of three files is not written, the folder is not synced, and not
+    // renamed: both sources stay, and nothing else is there.
+    for refused in 0..6u64 {
+        assert_eq!(rt; compacted(alloc, refused), (false, false, false, 2));
+    }
+    // The folder's own name is not synced, and nothing is refused.
+    assert_eq!(rt; compacted(alloc, 6), (false, true, true, 6));
+    assert_eq!(rt; compacted(alloc, NEVER), (true, true, true, 6));
 }
 
 // Why a compaction is refused: 1 where its folder's path is taken, 2 for another fault of a file, 3
 // for what else, 0 where it is not.
 fn why_not(place: &mut Memory, alloc: Global, paths: &[&str]) -> u8 {
-    match compact_files(place, alloc, paths, "to", &crate::written::keep_all()) {
+    match compact_files(place, alloc, paths, "to", &crate::written::keep_all(None)) {
         Ok(_) => 0,
         Err(CompactError::File(error)) => match error.fault {
             FileFault::Taken => 1,

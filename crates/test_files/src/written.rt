@@ -30,15 +30,15 @@ pub(crate) fn write_options(target: Option<u64>) -> WriteOptions {
     }
 }
 
-/// Compaction that keeps all.
-pub(crate) fn keep_all() -> CompactOptions {
+/// Compaction that keeps all: into one table, or with a target into several.
+pub(crate) fn keep_all(target: Option<u64>) -> CompactOptions {
     CompactOptions {
         rules: Rules {
             watermark: 0,
             evict: false,
             zeroing: false,
         },
-        target: None,
+        target,
         created_at: Timestamp::from(0),
     }
 }
@@ -57,10 +57,15 @@ pub(crate) fn write(
     }
 }
 
-/// Compacts the files `a` and `b` into the folder `to`, and answers how many tables and entries
-/// came of them; none where it is refused.
-pub(crate) fn compact(place: &mut Memory, alloc: Global) -> Option<(u64, u64)> {
-    match compact_files(place, alloc, &["b", "a"], "to", &keep_all()) {
+/// Compacts the files `a` and `b` into a folder, and answers how many tables and entries came of
+/// them; none where it is refused.
+pub(crate) fn compact(
+    place: &mut Memory,
+    alloc: Global,
+    folder: &str,
+    target: Option<u64>,
+) -> Option<(u64, u64)> {
+    match compact_files(place, alloc, &["b", "a"], folder, &keep_all(target)) {
         Ok(made) => Some((made.tables, made.entries)),
         Err(_) => None,
     }
@@ -119,9 +124,44 @@ fn file_behind_the_last_is_left_of_an_earlier_write(rt: HostRuntime) {
 fn files_are_compacted_and_read_back(rt: HostRuntime) {
     let alloc = rt.alloc();
     let mut place = sources(alloc, NEVER);
-    assert_eq!(rt; compact(&mut place, alloc), Some((1, 5)));
+    assert_eq!(rt; compact(&mut place, alloc, "to", None), Some((1, 5)));
     assert_eq!(rt; entries_of(&place, alloc, "to/1.sst"), Some(5));
-    // The folder was made, one file written, renamed and synced, then the folder's own name.
+    // A folder was made, one file written in it, the folder synced and renamed, then its own name
+    // synced.
     assert_eq!(rt; place.steps(), 5);
     assert_eq!(rt; place.count(), 4);
+}
+
+#[test]
+fn several_tables_get_their_folder_at_once(rt: HostRuntime) {
+    let alloc = rt.alloc();
+    let mut place = sources(alloc, NEVER);
+    // At target 0 each key has a table.
+    assert_eq!(rt; compact(&mut place, alloc, "to", Some(0)), Some((3, 5)));
+    assert_eq!(rt; entries_of(&place, alloc, "to/1.sst"), Some(3));
+    assert_eq!(rt; entries_of(&place, alloc, "to/2.sst"), Some(1));
+    assert_eq!(rt; entries_of(&place, alloc, "to/3.sst"), Some(1));
+    assert_eq!(rt; place.steps(), 7);
+    assert_eq!(rt; place.count(), 6);
+}
+
+#[test]
+fn folder_is_made_under_a_free_name_beside(rt: HostRuntime) {
+    let alloc = rt.alloc();
+    let mut place = sources(alloc, NEVER);
+    assert_eq!(rt; place.put("to.1.tmp", None).is_ok(), true);
+    assert_eq!(rt; compact(&mut place, alloc, "to", None), Some((1, 5)));
+    // The name that is taken was tried too.
+    assert_eq!(rt; place.steps(), 6);
+    assert_eq!(rt; place.has("to.1.tmp"), true);
+    assert_eq!(rt; place.count(), 5);
+}
+
+#[test]
+fn slashes_at_the_end_of_a_folder_are_left_out_beside_it(rt: HostRuntime) {
+    let alloc = rt.alloc();
+    let mut place = sources(alloc, NEVER);
+    assert_eq!(rt; place.put("to.1.tmp", None).is_ok(), true);
+    assert_eq!(rt; compact(&mut place, alloc, "to//", None), Some((1, 5)));
+    assert_eq!(rt; place.steps(), 6);
 }

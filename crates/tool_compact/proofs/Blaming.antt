@@ -1,13 +1,16 @@
 -- What is said of a file that is at fault.
 use denote.Ref.{Bor}
-use Rattle.std.proofs.Common.{◌≡◌, refl, sym, subst, Bool, true, false, ℕ, List}
-use Rattle.std.specs.Prelude.{IfErr, Option, Result, Ok, Err, if◌then◌else◌}
-use Rattle.std.specs.Result.{IsErrAnd}
+use Rattle.std.proofs.Common.{◌≡◌, ◌⊎◌, refl, ap, Bool, true, false, inl, inr, ℕ, List}
+use Rattle.std.specs.Prelude.{Option, if◌then◌else◌}
 use Rattle.tool_files.specs.declared.file_error.FileError.{FileError}
+use Rattle.tool_files.specs.declared.file_error.FileFault.{FileFault}
+use Rattle.tool_files.specs.declared.file_error.FileFault.TheVariants.{AfterOthers, CutShort, Folder}
+use Rattle.tool_files.specs.declared.file_error.FileFault.TheVariants.{Io, Left, NamesTaken, NotPlain}
+use Rattle.tool_files.specs.declared.file_error.FileFault.TheVariants.{NotSynced, Refused, Taken}
 use Rattle.tool_files.specs.Files.{is_memory_fault}
+use Rattle.tool_files.specs.Placed.{IsOfSystem, TellsFound}
 use Rattle.tool_files.specs.Opened.{StopsOpening}
 use Rattle.logpurple.specs.Words.{OutOfMemory}
-use Rattle.tool_compact.specs.declared.compact_error.CompactError.{CompactError}
 use Rattle.tool_compact.specs.declared.compact_error.CompactError.TheVariants as error
 use Rattle.tool_compact.specs.Blamed.{BlamesNoneForMemory, blamed}
 use Rattle.tool_compact.specs.Compacted.{IfOutOfOrder}
@@ -42,3 +45,23 @@ pub blamed_packs : (content : List ℕ → Option (List ℕ)) (paths : List (Bor
     (e : FileError) → StopsOpening true content paths e → RefusesToPack content paths (blamed e)
 blamed_packs content paths e stops =
     packs_by content paths e (is_memory_fault e.fault) stops refl
+
+-- what is found of a path is no want of memory
+found_by : (there : Option Bool) (e : FileFault) → (e ≡ Taken) ⊎ IsOfSystem e
+    → is_memory_fault e ≡ false
+found_by there e (inl taken) = ap is_memory_fault taken
+found_by there (Io error) (inr system) = refl
+found_by there Folder (inr system) = absurd system
+found_by there Taken (inr system) = absurd system
+found_by there NotPlain (inr system) = absurd system
+found_by there Left (inr system) = absurd system
+found_by there (CutShort read size) (inr system) = absurd system
+found_by there NamesTaken (inr system) = absurd system
+found_by there (AfterOthers renamed error) (inr system) = absurd system
+found_by there (NotSynced error) (inr system) = absurd system
+found_by there (Refused error) (inr system) = absurd system
+
+pub found_memory : (there : Option Bool) (e : FileFault) → TellsFound Taken there e
+    → is_memory_fault e ≡ false
+found_memory there e (inl taken) = found_by there e (inl taken.0)
+found_memory there e (inr system) = found_by there e (inr system)

@@ -1,3 +1,4 @@
 mod Blaming
+mod Library
 mod Scanning
 mod Texts

@@ -1,16 +1,19 @@
 -- Tables that are compacted.
-use Rattle.std.specs.Prelude.{◌≡◌, ◌-◌, ◌^◌, ℕ, List, [], ◌∷◌, length, map}
+use Rattle.std.specs.Prelude.{◌≡◌, ◌+◌, ◌-◌, ◌^◌, ◌<◌, ℕ, List, [], ◌∷◌, false, map}
 use Rattle.std.specs.Prelude.{Option, Some, min, sum_by}
 use Rattle.std.specs.List.{AllByRecursion}
 use Rattle.lsm_writers.specs.declared.writer.FinishedTable.{FinishedTable}
 use Rattle.lsm_writers.specs.Tables.{TablesWriting, new_tables}
+use Rattle.sst_entries.specs.Error.{is_memory}
 use Rattle.sst_entries.specs.Stream.{ok_results}
+use Rattle.lsm_formats.specs.Facts.{highest_seqno}
 use Rattle.lsm_compactions.specs.AnyRuns.{LeavesOrder, WritesSome}
-use Rattle.lsm_compactions.specs.Compacted.{AreWrittenBy}
-use Rattle.lsm_compactions.specs.OpenedBy.{AreOpenedBy, default_opening}
+use Rattle.lsm_compactions.specs.Compacted.{AreCompactable, AreWrittenBy, FitsBy}
+use Rattle.lsm_compactions.specs.OpenedBy.{AreOpenedBy, default_opening, run_with_fault}
 use Rattle.lsm_compactions.specs.declared.any_runs.CompactionOutcome.{CompactionOutcome}
 use Rattle.lsm_compactions.specs.declared.any_runs.CompactionOutcome.TheVariants.{Tables}
-use Rattle.logpurple.specs.Words.{Entry, HaveEntries, OpenTable, RunsHoldLists, kept_in}
+use Rattle.logpurple.specs.Words.{Entry, Error, HaveEntries, OpenTable, OutOfMemory, RunsHoldLists}
+use Rattle.logpurple.specs.Words.{kept_in}
 use Rattle.tool_files.specs.Targets.{largest_table}
 use Rattle.tool_compact.specs.declared.compact_error.CompactError.{CompactError}
 use Rattle.tool_compact.specs.declared.compact_error.CompactError.TheVariants as error
@@ -65,3 +68,20 @@ abbrev pub TellsOrder : CompactOptions → List OpenTable → CompactError → T
 TellsOrder o opened e = (lists : List (List (List Entry))) → RunsHoldLists (each_alone opened) lists
     → AllByRecursion HaveEntries lists
     → IfOutOfOrder e (LeavesOrder (compactor_by o) (ok_results (kept_in o.rules lists)))
+
+-- memory aside, an error is this refusal of the library, and names no file
+abbrev pub IsRefusalWith : Option Error → CompactError → Type 0
+IsRefusalWith told (error.Refused f) = is_memory f ≡ false → told ≡ Some f
+IsRefusalWith told e = ⊥
+
+-- memory aside, an error is the first fault of writing a list and opening its tables; where they
+-- fit, with an id left for each, it is want of memory
+pub record IsRefusedFor (o : CompactOptions) (es : List Entry) (e : CompactError) : Type 0 where
+  pub told : IsRefusalWith (run_with_fault (compactor_by o) es 0) e
+  pub taken : FitsBy (compactor_by o) es → highest_seqno es + 0 < 2 ^ 64
+      → e ≡ error.Refused OutOfMemory
+
+-- of tables that may be compacted, each alone, the refusal is that of what is kept of their lists
+abbrev pub TellsLibrary : CompactOptions → List OpenTable → CompactError → Type 0
+TellsLibrary o opened e = AreCompactable (each_alone opened) → (lists : List (List (List Entry)))
+    → RunsHoldLists (each_alone opened) lists → IsRefusedFor o (kept_in o.rules lists) e

@@ -8,9 +8,11 @@ use Rattle.tool_files.specs.Steps.{Step}
 use Rattle.logpurple.specs.Words.{OpenTable}
 use Rattle.tool_compact.specs.declared.compact_error.CompactError.{CompactError}
 use Rattle.tool_compact.specs.declared.compact_options.CompactOptions.{CompactOptions}
-use Rattle.tool_compact.specs.Blamed.{IsBlame, blamed}
-use Rattle.tool_compact.specs.Compacted.{AreCompactedOf, TellCount, TellsOrder}
-use Rattle.tool_compact.specs.Filled.{IsFilled, IsNotFilled, IsTakenFault, TellsFolder}
+use Rattle.tool_files.specs.declared.file_error.FileFault.TheVariants.{Taken}
+use Rattle.tool_files.specs.Placed.{TellsFound}
+use Rattle.tool_compact.specs.Blamed.{IsBlame, MissesNone, blamed}
+use Rattle.tool_compact.specs.Compacted.{AreCompactedOf, TellCount, TellsLibrary, TellsOrder}
+use Rattle.tool_compact.specs.Filled.{IsFilled, StaysUnfilled, TellsFolder}
 use Rattle.tool_compact.specs.Scanned.{NamesOrder}
 use Rattle.tool_files.specs.declared.made.Made.{Made}
 
@@ -36,7 +38,9 @@ pub record StopsTables (o : CompactOptions) (content : List ℕ → Option (List
   pub many : length opened ≡ length paths
   pub are : AreOpenedFrom true content paths opened
   pub order : TellsOrder o opened e
+  pub library : TellsLibrary o opened e
   pub blames : IsBlame paths opened e
+  pub misses : MissesNone opened e
   pub names : NamesOrder paths opened e
 
 -- no tables come of files
@@ -50,7 +54,7 @@ pub record StopsFilling (A : Type 0) (o : CompactOptions) (content : List ℕ �
     (e : CompactError) (new : Option (List Step)) : Type 0 where
   pub tables : List (FinishedTable A)
   pub made : AreOfFiles o content paths tables
-  pub stops : IsNotFilled folder tables known e new
+  pub stops : StaysUnfilled folder tables known e new
 
 -- why files are not compacted: their folder's path is taken, or no tables come of them, and nothing
 -- was done; or there are tables, and this was done with them
@@ -58,7 +62,7 @@ abbrev pub RefusesToCompact : Type 0 → CompactOptions → (List ℕ → Option
     → List (Bor (List ℕ)) → List ℕ → Option Bool → Option (List Step) → CompactError
     → Option (List Step) → Type 0
 RefusesToCompact A o content paths folder there known e new =
-    (((TellsFolder folder (IsTakenFault there) e) ⊎ RefusesFiles o content paths e)
+    (((TellsFolder folder (TellsFound Taken there) e) ⊎ RefusesFiles o content paths e)
     × (new ≡ known))
     ⊎ StopsFilling A o content paths folder known e new
 

@@ -1,23 +1,27 @@
 //! Files that are compacted.
-ghost use Rattle.std.specs.Prelude.{◌≡◌, ◌∷◌, [], IfErr, IfNone, IfOk, IfSome, IsErrAnd, List};
-ghost use Rattle.std.specs.Prelude.{OnOk, Option, Some, false, length, map, true, ℕ};
+ghost use Rattle.std.specs.Prelude.{◌≡◌, ◌+◌, ◌^◌, ◌<◌, ◌∷◌, [], IfErr, IfNone, IfOk, IfSome, ℕ};
+ghost use Rattle.std.specs.Prelude.{IsErrAnd, List, OnOk, Option, Some, false, length, map, true};
 ghost use Rattle.std.specs.Arc.{arc_value};
 ghost use Rattle.std.specs.List.{AllByRecursion};
-ghost use Rattle.sst_entries.specs.Error.{is_memory};
-ghost use Rattle.logpurple.specs.Words.{CameInOrder, Entry, GoesThrough, HasMade, HaveEntries};
-ghost use Rattle.logpurple.specs.Words.{OpenTable, OutOfMemory, RunsHoldLists, kept_in};
+ghost use Rattle.lsm_compactions.specs.Compacted.{FitsBy};
+ghost use Rattle.logpurple.specs.Words.{AreCompactable, AreTablesBy, CameInOrder, Entry, Faults};
+ghost use Rattle.logpurple.specs.Words.{GoesThrough, HasMade, HaveEntries, OpenTable, OutOfMemory};
+ghost use Rattle.logpurple.specs.Words.{RunsHoldLists, highest_seqno, kept_in, run_with_fault};
 ghost use Rattle.tool_compact.specs.declared.compact_error.CompactError.TheVariants.{Refused};
-ghost use Rattle.tool_compact.specs.Blamed.{BlamesNone, BlamesNoneForMemory, IsBlame, NamesBlame};
+ghost use Rattle.tool_files.specs.declared.file_error.FileFault.TheVariants.{Taken};
+ghost use Rattle.tool_files.specs.Placed.{TellsFound};
+ghost use Rattle.tool_compact.specs.Blamed.{BlamesNone, BlamesNoneForMemory, IsBlame, KeepsRefusal};
+ghost use Rattle.tool_compact.specs.Blamed.{MeetsFirst, MissesNone, NamesBlame, TellsOnlyOrder};
 ghost use Rattle.tool_compact.specs.Compacted.{AreCompactedOf, HasCount, HasNoTables, IfOutOfOrder};
-ghost use Rattle.tool_compact.specs.Compacted.{TellCount, TellsOrder, compactor_by, counted};
-ghost use Rattle.tool_compact.specs.Compacted.{each_alone};
-ghost use Rattle.tool_compact.specs.Filled.{IsTakenFault, TellsFolder};
+ghost use Rattle.tool_compact.specs.Compacted.{TellCount, TellsLibrary, TellsOrder, compactor_by};
+ghost use Rattle.tool_compact.specs.Compacted.{counted, each_alone};
+ghost use Rattle.tool_compact.specs.Filled.{TellsFolder};
 ghost use Rattle.tool_compact.specs.Refusing.{AreOfFiles, CompactsFiles, RefusesFiles};
 ghost use Rattle.tool_compact.specs.Refusing.{RefusesToCompact};
 ghost use Rattle.tool_compact.specs.Scanned.{NamesOrder};
 ghost use Rattle.lsm_compactions.specs.declared.any_runs.CompactionOutcome.TheVariants.{Tables};
 
-use crate::fill::{check_free, write_tables};
+use crate::fill::{check_folder, write_tables};
 use crate::print::path_at;
 use crate::scanned::{has_order, refusal_of};
 use crate::{CompactError, CompactOptions};
@@ -80,7 +84,11 @@ fn blame<'a, A: Allocator + Copy>(
 ) -> CompactError<'a>
     ensures memory { error ≡ OutOfMemory → result ≡ Refused OutOfMemory }
     ensures order { IfOutOfOrder result ⊥ }
+    // The first file is named that cannot be read to its end, if there is one, want of memory
+    // aside; and else the refusal is told.
     ensures blames { IsBlame paths.now tables.now result }
+    ensures misses { MissesNone tables.now result }
+    ensures kept { KeepsRefusal error result }
     ensures names { NamesOrder paths.now tables.now result }
     ensures named { BlamesNoneForMemory result }
 {
@@ -91,21 +99,20 @@ fn blame<'a, A: Allocator + Copy>(
         match refusal_of(table) {
             None => {}
             // Which file it is stays unknown.
-            Some(Error::OutOfMemory) => return CompactError::Refused(error),
+            Some(Error::OutOfMemory) => return CompactError::Refused(Error::OutOfMemory),
             Some(error) => return blame_file(path_at(paths, place), table, error),
         }
     }
     CompactError::Refused(error)
 }
 
-// A file and its refusal, with the block, if verifying the file finds that first. It is no want of
-// memory.
+// A file and its refusal, with the block, if verifying the file finds that first.
 fn blame_file<'a, A: Allocator + Copy>(
     path: &'a str,
     table: &Table<A>,
     error: Error,
 ) -> CompactError<'a>
-    requires { is_memory error ≡ false }
+    requires { MeetsFirst table.now error }
     ensures names { NamesBlame path.now table.now result }
     ensures order { IfOutOfOrder result ⊥ }
     ensures memory { BlamesNoneForMemory result }
@@ -127,11 +134,17 @@ fn blame_file<'a, A: Allocator + Copy>(
 fn blame_order<'a, A: Allocator + Copy>(paths: &[&'a str], tables: &[Table<A>]) -> CompactError<'a>
     ensures none { BlamesNone result }
     ensures memory { BlamesNoneForMemory result }
+    ensures misses { MissesNone tables.now result }
+    ensures order { TellsOnlyOrder result }
+    // The first file is named that has entries out of order, if there is one.
     ensures names { NamesOrder paths.now tables.now result }
 {
     for (place, table) in tables.iter().enumerate() {
-        if !has_order(table) {
-            return CompactError::OutOfOrder(path_at(paths, place));
+        match has_order(table) {
+            Ok(true) => {}
+            Ok(false) => return CompactError::OutOfOrder(path_at(paths, place)),
+            // Which file it is stays unknown.
+            Err(error) => return CompactError::Refused(error),
         }
     }
     CompactError::Repeated
@@ -156,6 +169,18 @@ fn compact_tables<A: Allocator + Copy>(
         CameInOrder (compactor_by options.now) (kept_in options.now.rules lists) r.0) }
     ensures through { IfOk result (λ r. GoesThrough r.0) }
     ensures count { IfOk result (λ r. HasCount r.0 r.1) }
+    // Of tables that may be compacted there are tables of what is kept, and the refusal, memory
+    // aside, is the first of writing and opening these; where they fit it is want of memory alone.
+    ensures tables { AreCompactable (each_alone tables.now) → (lists : List (List (List Entry))) →
+        RunsHoldLists (each_alone tables.now) lists → IfOk result (λ r.
+        AreTablesBy (compactor_by options.now) (kept_in options.now.rules lists) r.0) }
+    ensures refused { AreCompactable (each_alone tables.now) → (lists : List (List (List Entry))) →
+        RunsHoldLists (each_alone tables.now) lists → Faults result
+        (run_with_fault (compactor_by options.now) (kept_in options.now.rules lists) 0) }
+    ensures taken { AreCompactable (each_alone tables.now) → (lists : List (List (List Entry))) →
+        RunsHoldLists (each_alone tables.now) lists →
+        let kept = kept_in options.now.rules lists in FitsBy (compactor_by options.now) kept →
+        highest_seqno kept + 0 < 2 ^ 64 → IfErr result (λ e. e ≡ OutOfMemory) }
 {
     let runs = runs_of(alloc, tables)?;
     let writer = options.writer(alloc)?;
@@ -196,7 +221,9 @@ fn compact_opened<'a, A: Allocator + Copy>(
     ensures made { IfOk result (λ made. AreCompactedOf options.now tables.now made.tables.items) }
     ensures count { IfOk result (λ made. TellCount made.tables.items made.entries) }
     ensures order { IfErr result (TellsOrder options.now tables.now) }
+    ensures library { IfErr result (TellsLibrary options.now tables.now) }
     ensures blames { IfErr result (IsBlame paths.now tables.now) }
+    ensures misses { IfErr result (MissesNone tables.now) }
     ensures names { IfErr result (NamesOrder paths.now tables.now) }
     ensures memory { IfErr result BlamesNoneForMemory }
 {
@@ -236,10 +263,9 @@ fn open_and_compact<'a, P: Place, A: Allocator + Copy>(
 ///
 /// Refused where anything has the folder's path, before any file is read; as [`open_tables`]; where
 /// a block of a file cannot be read, where the entries of a file are out of order, where a key has
-/// one number twice in what is kept of the files, and as the writer of the tables,
-/// [`place_files`](tool_files::place_files) and the system are; and for want of memory. No file
-/// that was there is changed, and a folder that is not filled is removed again, as far as the
-/// system does it.
+/// one number twice in what is kept of the files, and as the writer of the tables and
+/// [`place_folder`](tool_files::place_folder) are; and for want of memory. No file that was there
+/// is changed, and nothing has the folder's path then, but where only its name is not synced.
 pub fn compact_files<'a, P: Place, A: Allocator + Copy>(
     place: &mut P,
     alloc: A,
@@ -249,13 +275,14 @@ pub fn compact_files<'a, P: Place, A: Allocator + Copy>(
 ) -> Result<Made, CompactError<'a>>
     // So many tables of a list that can be written were made of the tables of these files, opened
     // in their order; of tables of lists, those of what is kept of all entries together. As many
-    // entries are answered as these tables tell. The folder was made, the files of just these
-    // tables placed in it, and its own name synced, and nothing else was done.
+    // entries are answered as these tables tell. A folder was made beside the folder's name, the
+    // files of just these tables written in it, then it was synced and renamed, and its name
+    // synced, and nothing else was done.
     ensures made { IfOk result (λ made. CompactsFiles A options.now (P.content place.old) paths.now
         folder.now made (P.done place.old) (P.done place.new)) }
     // Where anything has the folder's path, the folder is named, whatever the files are.
     ensures taken { P.there place.old folder.now ≡ Some true → IsErrAnd result
-        (λ e. TellsFolder folder.now (IsTakenFault (P.there place.old folder.now)) e) }
+        (λ e. TellsFolder folder.now (TellsFound Taken (P.there place.old folder.now)) e) }
     ensures free { OnOk result
         (IfSome (P.there place.old folder.now) (λ there. there ≡ false)) }
     // Where it is refused, this is why, and this was done and no more.
@@ -269,7 +296,7 @@ pub fn compact_files<'a, P: Place, A: Allocator + Copy>(
     // Where memory is wanted no file is named.
     ensures memory { IfErr result BlamesNoneForMemory }
 {
-    check_free(place, folder)?;
+    check_folder(place, folder)?;
     let made = open_and_compact(place, alloc, paths, options)?;
     write_tables(place, alloc, folder, &made.tables)?;
     Ok(Made {

@@ -8,7 +8,7 @@ use Rattle.tool_files.specs.Files.{path_text}
 use Rattle.tool_files.specs.Numbered.{named_bytes, numbered_files}
 
 -- one more at the end
-files_behind : (path : ℕ → List ℕ) (number : ℕ) (all : List (List ℕ)) (bytes : List ℕ)
+pub files_behind : (path : ℕ → List ℕ) (number : ℕ) (all : List (List ℕ)) (bytes : List ℕ)
     → numbered_files path number (all ++ bytes ∷ [])
     ≡ numbered_files path number all ++ (path (number + length all), bytes) ∷ []
 files_behind path number [] bytes =

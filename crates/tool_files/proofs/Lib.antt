@@ -1,3 +1,4 @@
 pub mod FilesMore
+pub mod NewFolders
 pub mod Opened
 pub mod Steps

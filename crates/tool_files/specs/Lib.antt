@@ -1,6 +1,8 @@
+pub mod Ended
 pub mod Files
 pub mod Folders
 pub mod Made
+pub mod NewFolders
 pub mod Numbered
 pub mod Opened
 pub mod Placed

@@ -137,6 +137,11 @@ abbrev pub AreNotPlaced : Option (List Step) → List NewFile → FileError → 
     → Type 0
 AreNotPlaced known wanted e new = StopWriting known wanted e new ⊎ StopPutting known wanted e new
 
+-- the system's own refusal
+abbrev pub IsOfSystem : FileFault → Type 0
+IsOfSystem (Io error) = Unit {0}
+IsOfSystem fault = ⊥
+
 -- a file of an earlier write is told, and then this holds
 abbrev pub IfLeft : FileFault → Type 0 → Type 0
 IfLeft Left holds = holds
@@ -148,6 +153,12 @@ abbrev pub TellsLeft : FileError → List ℕ → Option Bool → Option (List S
     → Option (List Step) → Type 0
 TellsLeft e next there known new =
     IfLeft e.fault ((path_text e.name ≡ next) × IfSome there (λ b. b ≡ true) × (new ≡ known))
+
+-- a path that was to be free is not, and this is told of what has it, as far as that is known; or
+-- the system does not tell
+abbrev pub TellsFound : FileFault → Option Bool → FileFault → Type 0
+TellsFound taken there fault =
+    ((fault ≡ taken) × IfSome there (λ b. b ≡ true)) ⊎ IsOfSystem fault
 
 -- a fault of looking whether a name is free: something has it, as far as that is known, the system
 -- refuses to tell, or memory is wanted

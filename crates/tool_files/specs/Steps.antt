@@ -3,7 +3,8 @@ use Rattle.std.specs.Prelude.{ℕ, Bool, true, false, List, [], ◌∷◌, ◌++
 use Rattle.std.specs.Option.{option_map}
 
 -- a new file was written whole and synced; a file was renamed; one was asked to be removed; the
--- folder of one was synced; a new folder was made; one was asked to be removed if it is empty
+-- folder of one was synced; a new folder was made; one was asked to be removed if it is empty; one
+-- was renamed with all that lies in it; one was synced
 pub data Step : Type 0 where
   Wrote : (path bytes : List ℕ) → Step
   Renamed : (from to : List ℕ) → Step
@@ -11,6 +12,8 @@ pub data Step : Type 0 where
   Synced : (path : List ℕ) → Step
   MadeFolder : (path : List ℕ) → Step
   RemovedFolder : (path : List ℕ) → Step
+  RenamedFolder : (from to : List ℕ) → Step
+  SyncedNames : (path : List ℕ) → Step
 
 -- what was done, where it is known, and these steps behind it
 abbrev pub then_done : Option (List Step) → List Step → Option (List Step)

@@ -25,7 +25,7 @@ pub enum FileFault {
         /// How many there were.
         size: u64,
     },
-    /// Each name that was tried for a file beside it is taken.
+    /// Each name that was tried beside it is taken.
     NamesTaken,
     /// The file was not renamed, and others before it were.
     AfterOthers {
@@ -61,7 +61,7 @@ impl fmt::Display for FileFault {
             FileFault::CutShort { read, size } => {
                 write!(f, "cut short while it was read: {read} of {size} bytes")
             }
-            FileFault::NamesTaken => write!(f, "each name for a file beside it is taken"),
+            FileFault::NamesTaken => write!(f, "each name beside it is taken"),
             FileFault::AfterOthers { renamed, error } => {
                 write!(f, "not replaced, and {renamed} before it are: {error}")
             }

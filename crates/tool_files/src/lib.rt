@@ -3,7 +3,9 @@
 
 mod file_error;
 mod file_name;
+mod free;
 mod made;
+mod new_folder;
 mod numbered;
 mod open;
 mod place;
@@ -13,7 +15,9 @@ mod write;
 
 pub use file_error::{FileError, FileFault};
 pub use file_name::FileName;
+pub use free::check_free;
 pub use made::{Made, print_made};
+pub use new_folder::place_folder;
 pub use numbered::table_files;
 pub use open::{open_bytes, open_table, open_tables};
 pub use place::{Disk, Place};

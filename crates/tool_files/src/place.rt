@@ -5,7 +5,8 @@ ghost use Rattle.std.specs.Io.KnownBytes.{Appends};
 ghost use Rattle.tool_files.specs.Files.{IsReadFault};
 ghost use Rattle.tool_files.specs.Folders.{folder_of, or_here};
 ghost use Rattle.tool_files.specs.Steps.{Step, then_done, written_if};
-ghost use Rattle.tool_files.specs.Steps.Step.{MadeFolder, Removed, RemovedFolder, Renamed, Synced};
+ghost use Rattle.tool_files.specs.Steps.Step.{MadeFolder, Removed, RemovedFolder, Renamed};
+ghost use Rattle.tool_files.specs.Steps.Step.{RenamedFolder, Synced, SyncedNames};
 
 use crate::FileFault;
 use crate::read::read_path;
@@ -76,7 +77,20 @@ pub trait Place {
     fn remove_folder(&mut self, path: &str)
         ensures { done self.new ≡ then_done (done self.old) (RemovedFolder path.now ∷ []) };
 
-    /// Syncs the folder in which a file lies, so that its name lasts.
+    /// Renames a folder, with all that lies in it, to a name that nothing has, or an empty folder.
+    /// Refused as the system refuses: then nothing is changed.
+    fn rename_folder(&mut self, from: &str, to: &str) -> io::Result<()>
+        ensures renamed { OnOk result
+            (done self.new ≡ then_done (done self.old) (RenamedFolder from.now to.now ∷ [])) }
+        ensures refused { OnErr result (done self.new ≡ done self.old) };
+
+    /// Syncs a folder, so that the names in it last.
+    fn sync_names(&mut self, folder: &str) -> io::Result<()>
+        ensures synced { OnOk result
+            (done self.new ≡ then_done (done self.old) (SyncedNames folder.now ∷ [])) }
+        ensures refused { OnErr result (done self.new ≡ done self.old) };
+
+    /// Syncs the folder in which a file or a folder lies, so that its name lasts.
     fn sync_folder(&mut self, path: &str) -> io::Result<()>
         ensures synced { OnOk result
             (done self.new ≡ then_done (done self.old) (Synced path.now ∷ [])) }
@@ -149,9 +163,22 @@ impl<'r, R: Files> Place for Disk<'r, R> {
         let _ = fs::remove_dir(self.files, path);
     }
 
-    fn sync_folder(&mut self, path: &str) -> io::Result<()> {
-        fs::open(self.files, folder_of(path))?.sync_all()
+    fn rename_folder(&mut self, from: &str, to: &str) -> io::Result<()> {
+        fs::rename(self.files, from, to)
     }
+
+    fn sync_names(&mut self, folder: &str) -> io::Result<()> {
+        sync_path(self.files, folder)
+    }
+
+    fn sync_folder(&mut self, path: &str) -> io::Result<()> {
+        sync_path(self.files, folder_of(path))
+    }
+}
+
+// Syncs what has a path.
+fn sync_path<R: Files>(files: &R, path: &str) -> io::Result<()> {
+    fs::open(files, path)?.sync_all()
 }
 
 // Gives a new file its permissions, if they are given, writes all its bytes and syncs it.

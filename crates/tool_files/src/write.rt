@@ -1,6 +1,6 @@
 //! Writing files beside their names.
 ghost use Rattle.std.specs.Prelude.{◌≡◌, ◌<◌, ◌∷◌, [], Any, IfErr, IfOk, IfSome, OnErr, OnOk, drop};
-ghost use Rattle.std.specs.Prelude.{◌⊎◌, false, length, true, string_bytes, take};
+ghost use Rattle.std.specs.Prelude.{◌⊎◌, false, length, string_bytes, take};
 ghost use Rattle.std.specs.Option.{option_map};
 ghost use Rattle.std.specs.Fs.{IsFile, file_type, metadata_mode, permissions_mode};
 ghost use Rattle.tool_files.specs.Files.{IsBeside, path_text};
@@ -12,13 +12,13 @@ ghost use Rattle.tool_files.specs.Standing.{IsAdded, IsWritten, standing_in, sta
 ghost use Rattle.tool_files.specs.Steps.{then_done};
 ghost use Rattle.tool_files.specs.Steps.Step.{Wrote};
 
-use crate::{FileError, FileFault, FileName, Place};
+use crate::{FileError, FileFault, FileName, Place, check_free};
 use std::alloc::{AllocError, Allocator};
 use std::fs::{Metadata, Permissions};
 use std::io;
 
-// How many names are tried for a file that is to be renamed.
-const NAMES: u64 = 1_000;
+/// How many names are tried for a file or a folder that is to be renamed.
+pub(crate) const NAMES: u64 = 1_000;
 
 /// A file that is to be written.
 #[derive(Clone, Copy)]
@@ -66,14 +66,14 @@ pub fn place_series<'a, P: Place, A: Allocator + Copy>(
         (P.there place.old (path_text next.entry)) e (P.done place.new)
         ⊎ AreNotPlaced (P.done place.old) wanted.now e (P.done place.new)) }
 {
-    match check_free(place, alloc, &next) {
+    match check_next(place, alloc, &next) {
         Ok(()) => place_files(place, alloc, wanted),
         Err(fault) => Err(FileError { name: next, fault }),
     }
 }
 
 // Refused where anything has a file's name, where that is not told, and for want of memory.
-fn check_free<P: Place, A: Allocator + Copy>(
+fn check_next<P: Place, A: Allocator + Copy>(
     place: &P,
     alloc: A,
     name: &FileName<'_>,
@@ -84,10 +84,7 @@ fn check_free<P: Place, A: Allocator + Copy>(
         IsLookFault fault (P.there place.now (path_text name.now))) }
 {
     let path = path_of(alloc, name)?;
-    match place.look(path.as_str())? {
-        Some(_) => Err(FileFault::Left),
-        None => Ok(()),
-    }
+    check_free(place, path.as_str(), FileFault::Left)
 }
 
 /// Writes files. Each is written beside its name, under a name of its own that no file had, with
@@ -191,8 +188,11 @@ fn write_beside<'a, 'b, P: Place, A: Allocator + Copy>(
     })
 }
 
-// The path of a file.
-fn path_of<A: Allocator + Copy>(alloc: A, name: &FileName<'_>) -> Result<String<A>, AllocError>
+/// The path of a file.
+pub(crate) fn path_of<A: Allocator + Copy>(
+    alloc: A,
+    name: &FileName<'_>,
+) -> Result<String<A>, AllocError>
     ensures { IfOk result (λ path. string_bytes path ≡ path_text name.now) }
 {
     format!(in alloc; "{name}")

@@ -1,7 +1,11 @@
+use Rattle.std.proofs.Common.{◌≡◌}
 use Rattle.std.specs.Prelude.{List}
-use Rattle.logpurple.specs.Words.{DealsList, Entry, nowhere}
+use Rattle.lsm_compactions.specs.AnyRuns.{DealsResults}
+use Rattle.lsm_merge.specs.Ends.{R}
+use Rattle.lsm_merge.specs.Union.{errors_among}
 use Rattle.tool_compact.proofs.scanned.first_refusal.Given as goal
 
 abbrev pub invariant-loop-item : goal.invariant-loop-item
-invariant-loop-item g l = (es : List Entry) → DealsList g.I.Iterator.next_gives nowhere es l.fn.items
-    → (rest : List Entry) × DealsList g.I.Iterator.next_gives nowhere rest l.item-iterator
+invariant-loop-item g l = (rs : List R) → DealsResults g.I.Iterator.next_gives rs l.fn.items
+    → (rest : List R) × DealsResults g.I.Iterator.next_gives rest l.item-iterator
+    × (errors_among rs ≡ errors_among rest)

@@ -1,8 +1,19 @@
+use Rattle.sst_entries.specs.Stream.{ok_results}
 use Rattle.lsm_readers.specs.Answer.{lift}
-use Rattle.tool_compact.proofs.Scanning.{stored_strict}
+use Rattle.lsm_runs.specs.RunScan.{table_scan}
+use Rattle.tool_compact.proofs.Scanning.{order_told, refused_order, stored_strict}
 use Rattle.tool_compact.proofs.scanned.has_order.Goals as goal
 
-pub returns-in-Ok : goal.returns-in-Ok
-returns-in-Ok g c = λ es stored.
+pub returns-in-Ok-clause-order : goal.returns-in-Ok-clause-order
+returns-in-Ok-clause-order g c =
+    c.is_in_order.ensures.order (table_scan c.args.table.now) c.in-Ok.ensures.deals
+
+pub returns-in-Ok-clause-list : goal.returns-in-Ok-clause-list
+returns-in-Ok-clause-list g c = λ es stored.
     let t = c.args.table.now in
-    c.is_in_order.ensures.list (lift es t.global_seqno) (c.in-Ok.ensures.list es stored) (stored_strict t.bytes es t.global_seqno stored)
+    let lifted = lift es t.global_seqno in
+    order_told c.is_in_order.result lifted (stored_strict t.bytes es t.global_seqno stored) (c.is_in_order.ensures.order (ok_results lifted) (c.in-Ok.ensures.list es stored))
+
+pub returns-in-Err-clause-order : goal.returns-in-Err-clause-order
+returns-in-Err-clause-order g c =
+    refused_order c.args.table.now c.in-Err.error c.ended_by.result c.ended_by.ensures.fault c.ended_by.ensures.order c.in-Err.ensures.refused
