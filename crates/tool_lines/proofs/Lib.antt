@@ -1,3 +1,4 @@
 mod EscapeLemmas
+mod ObjectBack
 mod ObjectLemmas
 mod WordLemmas

@@ -1,7 +1,7 @@
 -- Objects of JSON, and their members.
 use Rattle.std.proofs.Common.{◌≡◌, refl, sym, ◌∙◌, ◌++◌, ap, append_assoc, inl, inr, ℕ, suc, List}
 use Rattle.std.proofs.Common.{[], ◌∷◌, length, Option, Some, Result, Ok, Err, IfOk, IfErr, codes}
-use Rattle.std.proofs.Common.{Vec, rules, decimal, subst, false}
+use Rattle.std.proofs.Common.{Vec, rules, decimal, subst, true, false}
 use Rattle.std.specs.Prelude.{OnOk}
 use Rattle.std.specs.Borrow.{Bor}
 use Rattle.json.specs.Find.{get, get_member}
@@ -156,7 +156,7 @@ same_some : (o : Option Json) (a b : Json) → o ≡ Some a → o ≡ Some b →
 same_some o a b h k = let e : Some a ≡ Some b = sym h ∙ k in cc
 
 -- a line has one choice of four members
-four_once : (line : List ℕ) (v w : FourMembers line)
+pub four_once : (line : List ℕ) (v w : FourMembers line)
     → (v.key ≡ w.key) × (v.seqno ≡ w.seqno) × (v.kind ≡ w.kind) × (v.value ≡ w.value)
 four_once line v w =
     let same : v.members ≡ w.members = same_object v.members w.members
@@ -191,6 +191,15 @@ no_object_fault line e fault.KindMember h k =
 no_object_fault line e fault.ValueMember h k = absurd (k.1 e.value
     (subst (λ (j : Json). MeansBytes j e.value) (four_once line h.members k.0).3 h.value_is))
 
+-- so a line that has one spells none
+pub spells_no_object : {X : Type 0} (told : Result X LineError) (line : List ℕ)
+    → IfErr told (λ e. IsObjectFault line e)
+    → IfErr told (λ e. lacks_memory e ≡ false → (item : Entry) → ¬ SpellsObject line item)
+spells_no_object (Ok x) line h = tt
+spells_no_object (Err e) line h = λ fine item spells.
+    let memory : lacks_memory e ≡ true =
+    ap lacks_memory (no_object_fault line item e spells h) in absurd cc
+
 -- ---- tokens, one behind another
 
 -- more, and then more
@@ -203,30 +212,28 @@ more a b c one two first then = (
 
 -- the tokens of an entry
 pub wrote_entry : {E : Type 0} (told : Result (Unit {0}) E) (e : Entry) (name : List ℕ)
-    (k v : List Token) (w0 w1 w2 w3 w4 w5 w6 w7 w8 w9 w10 : Written)
-    → HasMore w0 w1 (Token.begin_object ∷ []) → HasMore w1 w2 (Token.key (codes "key") ∷ [])
-    → WritesBytes e.user_key k → HasMore w2 w3 k
-    → HasMore w3 w4 (Token.key (codes "seqno") ∷ [])
-    → HasMore w4 w5 (Token.number (decimal e.seqno) ∷ [])
-    → HasMore w5 w6 (Token.key (codes "kind") ∷ []) → name ≡ kind_name e.kind
-    → HasMore w6 w7 (Token.string name ∷ []) → HasMore w7 w8 (Token.key (codes "value") ∷ [])
-    → WritesBytes e.value v → HasMore w8 w9 v → w10.before ≡ w9.before
-    → OnOk told (w10.tokens ≡ w9.tokens ++ Token.end_object ∷ [])
-    → OnOk told ((ts : List Token) × WritesEntry e ts × HasMore w0 w10 ts)
-wrote_entry (Ok u) e name k v w0 w1 w2 w3 w4 w5 w6 w7 w8 w9 w10 h1 h2 key h3 h4 h5 h6 named h7 h8
-    value h9 same ended =
-    let kind : HasMore w6 w7 (Token.string (kind_name e.kind) ∷ []) =
-    subst (λ (n : List ℕ). HasMore w6 w7 (Token.string n ∷ [])) named h7 in
+    (k v : List Token) (w0 w1 w2 w3 w4 w5 w6 w7 w8 : Written)
+    → HasMore w0 w1 (Token.begin_object ∷ []) → WritesBytes e.user_key k
+    → HasMore w1 w2 (Token.key (codes "key") ∷ k)
+    → HasMore w2 w3 (Token.key (codes "seqno") ∷ [])
+    → HasMore w3 w4 (Token.number (decimal e.seqno) ∷ [])
+    → HasMore w4 w5 (Token.key (codes "kind") ∷ []) → name ≡ kind_name e.kind
+    → HasMore w5 w6 (Token.string name ∷ []) → WritesBytes e.value v
+    → HasMore w6 w7 (Token.key (codes "value") ∷ v) → w8.before ≡ w7.before
+    → OnOk told (w8.tokens ≡ w7.tokens ++ Token.end_object ∷ [])
+    → OnOk told ((ts : List Token) × WritesEntry e ts × HasMore w0 w8 ts)
+wrote_entry (Ok u) e name k v w0 w1 w2 w3 w4 w5 w6 w7 w8 h1 key h2 h3 h4 h5 named h6 value h7 same
+    ended =
+    let kind : HasMore w5 w6 (Token.string (kind_name e.kind) ∷ []) =
+    subst (λ (n : List ℕ). HasMore w5 w6 (Token.string n ∷ [])) named h6 in
     let end : List Token = Token.end_object ∷ [] in
-    let last : HasMore w9 w10 end = (same, ended) in
-    let t8 : List Token = v ++ end in
-    let t7 : List Token = Token.key (codes "value") ∷ t8 in
-    let t6 : List Token = Token.string (kind_name e.kind) ∷ t7 in
-    let t5 : List Token = Token.key (codes "kind") ∷ t6 in
-    let t4 : List Token = Token.number (decimal e.seqno) ∷ t5 in
-    let t3 : List Token = Token.key (codes "seqno") ∷ t4 in
-    let t2 : List Token = k ++ t3 in
-    let t1 : List Token = Token.key (codes "key") ∷ t2 in (
+    let last : HasMore w7 w8 end = (same, ended) in
+    let t6 : List Token = Token.key (codes "value") ∷ (v ++ end) in
+    let t5 : List Token = Token.string (kind_name e.kind) ∷ t6 in
+    let t4 : List Token = Token.key (codes "kind") ∷ t5 in
+    let t3 : List Token = Token.number (decimal e.seqno) ∷ t4 in
+    let t2 : List Token = Token.key (codes "seqno") ∷ t3 in
+    let t1 : List Token = Token.key (codes "key") ∷ (k ++ t2) in (
       Token.begin_object ∷ t1,
       record {
         key = k;
@@ -235,15 +242,13 @@ wrote_entry (Ok u) e name k v w0 w1 w2 w3 w4 w5 w6 w7 w8 w9 w10 h1 h2 key h3 h4 
         value_is = value;
         are = refl;
       },
-      more w0 w1 w10 (Token.begin_object ∷ []) t1 h1
-          (more w1 w2 w10 (Token.key (codes "key") ∷ []) t2 h2
-          (more w2 w3 w10 k t3 h3
-          (more w3 w4 w10 (Token.key (codes "seqno") ∷ []) t4 h4
-          (more w4 w5 w10 (Token.number (decimal e.seqno) ∷ []) t5 h5
-          (more w5 w6 w10 (Token.key (codes "kind") ∷ []) t6 h6
-          (more w6 w7 w10 (Token.string (kind_name e.kind) ∷ []) t7 kind
-          (more w7 w8 w10 (Token.key (codes "value") ∷ []) t8 h8
-          (more w8 w9 w10 v end h9 last)))))))),
+      more w0 w1 w8 (Token.begin_object ∷ []) t1 h1
+          (more w1 w2 w8 (Token.key (codes "key") ∷ k) t2 h2
+          (more w2 w3 w8 (Token.key (codes "seqno") ∷ []) t3 h3
+          (more w3 w4 w8 (Token.number (decimal e.seqno) ∷ []) t4 h4
+          (more w4 w5 w8 (Token.key (codes "kind") ∷ []) t5 h5
+          (more w5 w6 w8 (Token.string (kind_name e.kind) ∷ []) t6 kind
+          (more w6 w7 w8 (Token.key (codes "value") ∷ v) end h7 last)))))),
     )
-wrote_entry (Err u) e name k v w0 w1 w2 w3 w4 w5 w6 w7 w8 w9 w10 h1 h2 key h3 h4 h5 h6 named h7 h8
-    value h9 same ended = tt
+wrote_entry (Err u) e name k v w0 w1 w2 w3 w4 w5 w6 w7 w8 h1 key h2 h3 h4 h5 named h6 value h7 same
+    ended = tt

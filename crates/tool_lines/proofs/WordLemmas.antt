@@ -207,7 +207,8 @@ words_once line v w =
     sym v.are ∙ w.are in
     (cc, cc, cc, cc)
 
-alike : (k l : List ℕ) (m n : ℕ) (s t : ValueType) (v w : List ℕ) → k ≡ l → m ≡ n → s ≡ t
+-- entries of the same parts
+pub alike : (k l : List ℕ) (m n : ℕ) (s t : ValueType) (v w : List ℕ) → k ≡ l → m ≡ n → s ≡ t
     → v ≡ w → entry k v m s ≡ entry l w n t
 alike k l m n s t v w p q r o = rw (p, q, r, o) refl
 

@@ -1,5 +1,5 @@
 //! Entries as objects of JSON.
-ghost use Rattle.std.specs.Prelude.{◌≡◌, ◌≢◌, ◌++◌, ℕ, IfErr, IfNone, IfOk, IfSome, List, OnOk};
+ghost use Rattle.std.specs.Prelude.{◌≡◌, ◌≢◌, ◌<◌, ◌^◌, ◌++◌, ◌∷◌, ℕ, IfErr, IfNone, IfOk, IfSome, List, OnOk};
 ghost use Rattle.std.specs.Prelude.{false, length};
 ghost use Rattle.json.specs.Json.{Json, Members, object, string};
 ghost use Rattle.json.specs.Strict.{keys};
@@ -8,6 +8,7 @@ ghost use Rattle.json.specs.Token.{Token};
 ghost use Rattle.json.specs.Value.{value_view};
 ghost use Rattle.sst_entries.specs.Lending.{entry_of_ref};
 ghost use Rattle.sst_entries.specs.declared.value_type.ValueType.{ValueType};
+ghost use Rattle.tool_lines.specs.Escapes.{AreBytes};
 ghost use Rattle.tool_lines.specs.Faults.{lacks_memory};
 ghost use Rattle.tool_lines.specs.ObjectLine.{AreMembers, IsEntryObject, IsObjectFault, IsStrictLine};
 ghost use Rattle.tool_lines.specs.ObjectLine.{LacksMembers, MeansBytes, MeansNumber, SpellsObject};
@@ -42,19 +43,34 @@ fn write_members<A: Allocator + Copy>(
     writer: &mut Writer<A>,
     entry: &EntryRef<'_>,
 ) -> Result<(), AllocError>
-    ensures { OnOk result ((ts : List Token) × WritesEntry (entry_of_ref entry.now) ts
+    ensures tokens { OnOk result ((ts : List Token) × WritesEntry (entry_of_ref entry.now) ts
         × HasMore writer.old writer.new ts) }
+    ensures bytes { OnOk result (AreBytes (entry_of_ref entry.now).user_key
+        × AreBytes (entry_of_ref entry.now).value × ((entry_of_ref entry.now).seqno < 2 ^ 64)) }
 {
     writer.begin_object()?;
-    writer.key("key")?;
-    write_bytes(alloc, writer, entry.user_key)?;
+    write_member(alloc, writer, "key", entry.user_key)?;
     writer.key("seqno")?;
     writer.u64(entry.seqno)?;
     writer.key("kind")?;
     writer.string(name_of(entry.value_type))?;
-    writer.key("value")?;
-    write_bytes(alloc, writer, entry.value)?;
+    write_member(alloc, writer, "value", entry.value)?;
     writer.end_object()
+}
+
+// Writes a member that stands for bytes.
+fn write_member<A: Allocator + Copy>(
+    alloc: A,
+    writer: &mut Writer<A>,
+    name: &str,
+    bytes: &[u8],
+) -> Result<(), AllocError>
+    ensures tokens { OnOk result ((ts : List Token) × WritesBytes bytes.now ts
+        × HasMore writer.old writer.new (Token.key name.now ∷ ts)) }
+    ensures bytes { AreBytes bytes.now }
+{
+    writer.key(name)?;
+    write_bytes(alloc, writer, bytes)
 }
 
 /// Writes bytes as a string, or, where they are no UTF-8, as an object `{"hex":"ff00"}`. Refused
