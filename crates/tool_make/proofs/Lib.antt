@@ -1,4 +1,5 @@
 mod Lines
 mod Refusals
+mod Sorting
 mod TableFiles
 mod Taken

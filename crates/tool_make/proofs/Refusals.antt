@@ -123,7 +123,7 @@ none_sorted : (A : Type 0) (sort : Bool) (w : TablesWriting) (es : List Entry)
     → WritesSorted {A = A} sort w es [] → es ≡ []
 none_sorted A false w es h = none_all A w es h
 none_sorted A true w es h =
-    nil_from_length es (sym (length_permutation es h.0 h.1)
+    nil_from_length es (sym (length_permutation es h.0 h.1.permuted)
     ∙ ap (λ (xs : List Entry). length xs) (none_all A w h.0 h.2))
 
 pub none_spelled : {A : Type 0} (o : WriteOptions) (input : Option (List ℕ))
