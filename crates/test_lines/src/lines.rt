@@ -114,35 +114,83 @@ const BAD_OBJECTS: [(&[u8], LineError); 53] = [
     (b"\"k\"", LineError::Json),
     (b"[]", LineError::Json),
     (b"{}{}", LineError::Json),
-    (b"{\"key\":\"k\",\"seqno\":7,\"kind\":\"value\",\"value\":\"v\"},", LineError::Json),
-    (b"{\"key\":\"k\",\"seqno\":07,\"kind\":\"value\",\"value\":\"v\"}", LineError::Json),
-    (b"{\"key\":\"\\ud800\",\"seqno\":7,\"kind\":\"value\",\"value\":\"v\"}", LineError::Json),
-    (b"{\"key\":\"\\udc00x\",\"seqno\":7,\"kind\":\"value\",\"value\":\"v\"}", LineError::Json),
+    (
+        b"{\"key\":\"k\",\"seqno\":7,\"kind\":\"value\",\"value\":\"v\"},",
+        LineError::Json,
+    ),
+    (
+        b"{\"key\":\"k\",\"seqno\":07,\"kind\":\"value\",\"value\":\"v\"}",
+        LineError::Json,
+    ),
+    (
+        b"{\"key\":\"\\ud800\",\"seqno\":7,\"kind\":\"value\",\"value\":\"v\"}",
+        LineError::Json,
+    ),
+    (
+        b"{\"key\":\"\\udc00x\",\"seqno\":7,\"kind\":\"value\",\"value\":\"v\"}",
+        LineError::Json,
+    ),
     (
         b"{\"key\":\"\\ud800\\u0041\",\"seqno\":7,\"kind\":\"value\",\"value\":\"v\"}",
         LineError::Json,
     ),
-    (b"{\"key\":\"k\",\"seqno\":7,\"kind\":\"value\",\"value\":\"\\x\"}", LineError::Json),
-    (b"{\"key\":\"\x01\",\"seqno\":7,\"kind\":\"value\",\"value\":\"v\"}", LineError::Json),
-    (b"{\"key\":\"\xff\",\"seqno\":7,\"kind\":\"value\",\"value\":\"v\"}", LineError::Json),
-    (b"{\"key\":\"\",\"key\":\"\",\"seqno\":7,\"value\":\"\"}", LineError::Json),
+    (
+        b"{\"key\":\"k\",\"seqno\":7,\"kind\":\"value\",\"value\":\"\\x\"}",
+        LineError::Json,
+    ),
+    (
+        b"{\"key\":\"\x01\",\"seqno\":7,\"kind\":\"value\",\"value\":\"v\"}",
+        LineError::Json,
+    ),
+    (
+        b"{\"key\":\"\xff\",\"seqno\":7,\"kind\":\"value\",\"value\":\"v\"}",
+        LineError::Json,
+    ),
+    (
+        b"{\"key\":\"\",\"key\":\"\",\"seqno\":7,\"value\":\"\"}",
+        LineError::Json,
+    ),
     (
         b"{\"key\":{\"hex\":\"00\",\"hex\":\"00\"},\"seqno\":7,\"kind\":\"value\",\"value\":\"v\"}",
         LineError::Json,
     ),
     (b"{}", LineError::Members),
-    (b"{\"key\":\"\",\"seqno\":7,\"value\":\"\"}", LineError::Members),
-    (b"{\"key\":\"\",\"seqno\":7,\"kind\":\"value\",\"other\":\"\"}", LineError::Members),
-    (b"{\"Key\":\"k\",\"seqno\":7,\"kind\":\"value\",\"value\":\"v\"}", LineError::Members),
+    (
+        b"{\"key\":\"\",\"seqno\":7,\"value\":\"\"}",
+        LineError::Members,
+    ),
+    (
+        b"{\"key\":\"\",\"seqno\":7,\"kind\":\"value\",\"other\":\"\"}",
+        LineError::Members,
+    ),
+    (
+        b"{\"Key\":\"k\",\"seqno\":7,\"kind\":\"value\",\"value\":\"v\"}",
+        LineError::Members,
+    ),
     (
         b"{\"key\":\"k\",\"seqno\":7,\"kind\":\"value\",\"value\":\"v\",\"more\":1}",
         LineError::Members,
     ),
-    (b"{\"key\":7,\"seqno\":\"\",\"kind\":7,\"other\":\"\"}", LineError::Members),
-    (b"{\"key\":\"k\",\"seqno\":7.0,\"kind\":\"value\",\"value\":\"v\"}", LineError::NumberMember),
-    (b"{\"key\":\"k\",\"seqno\":7e0,\"kind\":\"value\",\"value\":\"v\"}", LineError::NumberMember),
-    (b"{\"key\":\"k\",\"seqno\":-7,\"kind\":\"value\",\"value\":\"v\"}", LineError::NumberMember),
-    (b"{\"key\":\"k\",\"seqno\":-0,\"kind\":\"value\",\"value\":\"v\"}", LineError::NumberMember),
+    (
+        b"{\"key\":7,\"seqno\":\"\",\"kind\":7,\"other\":\"\"}",
+        LineError::Members,
+    ),
+    (
+        b"{\"key\":\"k\",\"seqno\":7.0,\"kind\":\"value\",\"value\":\"v\"}",
+        LineError::NumberMember,
+    ),
+    (
+        b"{\"key\":\"k\",\"seqno\":7e0,\"kind\":\"value\",\"value\":\"v\"}",
+        LineError::NumberMember,
+    ),
+    (
+        b"{\"key\":\"k\",\"seqno\":-7,\"kind\":\"value\",\"value\":\"v\"}",
+        LineError::NumberMember,
+    ),
+    (
+        b"{\"key\":\"k\",\"seqno\":-0,\"kind\":\"value\",\"value\":\"v\"}",
+        LineError::NumberMember,
+    ),
     (
         b"{\"key\":\"k\",\"seqno\":18446744073709551616,\"kind\":\"value\",\"value\":\"v\"}",
         LineError::NumberMember,
@@ -151,21 +199,66 @@ const BAD_OBJECTS: [(&[u8], LineError); 53] = [
         b"{\"key\":\"k\",\"seqno\":\"7\",\"kind\":\"value\",\"value\":\"v\"}",
         LineError::NumberMember,
     ),
-    (b"{\"key\":\"k\",\"seqno\":null,\"kind\":\"value\",\"value\":\"v\"}", LineError::NumberMember),
-    (b"{\"key\":\"k\",\"seqno\":[7],\"kind\":\"value\",\"value\":\"v\"}", LineError::NumberMember),
-    (b"{\"key\":\"k\",\"seqno\":7,\"kind\":\"Value\",\"value\":\"v\"}", LineError::KindMember),
-    (b"{\"key\":\"k\",\"seqno\":7,\"kind\":\"V\",\"value\":\"v\"}", LineError::KindMember),
-    (b"{\"key\":\"k\",\"seqno\":7,\"kind\":\"\",\"value\":\"v\"}", LineError::KindMember),
-    (b"{\"key\":\"k\",\"seqno\":7,\"kind\":7,\"value\":\"v\"}", LineError::KindMember),
-    (b"{\"key\":\"k\",\"seqno\":7,\"kind\":null,\"value\":\"v\"}", LineError::KindMember),
-    (b"{\"key\":7,\"seqno\":7,\"kind\":\"value\",\"value\":\"v\"}", LineError::KeyMember),
-    (b"{\"key\":\"k\",\"seqno\":7,\"kind\":\"value\",\"value\":7}", LineError::ValueMember),
-    (b"{\"key\":null,\"seqno\":7,\"kind\":\"value\",\"value\":\"v\"}", LineError::KeyMember),
-    (b"{\"key\":\"k\",\"seqno\":7,\"kind\":\"value\",\"value\":null}", LineError::ValueMember),
-    (b"{\"key\":[],\"seqno\":7,\"kind\":\"value\",\"value\":\"v\"}", LineError::KeyMember),
-    (b"{\"key\":\"k\",\"seqno\":7,\"kind\":\"value\",\"value\":[]}", LineError::ValueMember),
-    (b"{\"key\":{},\"seqno\":7,\"kind\":\"value\",\"value\":\"v\"}", LineError::KeyMember),
-    (b"{\"key\":\"k\",\"seqno\":7,\"kind\":\"value\",\"value\":{}}", LineError::ValueMember),
+    (
+        b"{\"key\":\"k\",\"seqno\":null,\"kind\":\"value\",\"value\":\"v\"}",
+        LineError::NumberMember,
+    ),
+    (
+        b"{\"key\":\"k\",\"seqno\":[7],\"kind\":\"value\",\"value\":\"v\"}",
+        LineError::NumberMember,
+    ),
+    (
+        b"{\"key\":\"k\",\"seqno\":7,\"kind\":\"Value\",\"value\":\"v\"}",
+        LineError::KindMember,
+    ),
+    (
+        b"{\"key\":\"k\",\"seqno\":7,\"kind\":\"V\",\"value\":\"v\"}",
+        LineError::KindMember,
+    ),
+    (
+        b"{\"key\":\"k\",\"seqno\":7,\"kind\":\"\",\"value\":\"v\"}",
+        LineError::KindMember,
+    ),
+    (
+        b"{\"key\":\"k\",\"seqno\":7,\"kind\":7,\"value\":\"v\"}",
+        LineError::KindMember,
+    ),
+    (
+        b"{\"key\":\"k\",\"seqno\":7,\"kind\":null,\"value\":\"v\"}",
+        LineError::KindMember,
+    ),
+    (
+        b"{\"key\":7,\"seqno\":7,\"kind\":\"value\",\"value\":\"v\"}",
+        LineError::KeyMember,
+    ),
+    (
+        b"{\"key\":\"k\",\"seqno\":7,\"kind\":\"value\",\"value\":7}",
+        LineError::ValueMember,
+    ),
+    (
+        b"{\"key\":null,\"seqno\":7,\"kind\":\"value\",\"value\":\"v\"}",
+        LineError::KeyMember,
+    ),
+    (
+        b"{\"key\":\"k\",\"seqno\":7,\"kind\":\"value\",\"value\":null}",
+        LineError::ValueMember,
+    ),
+    (
+        b"{\"key\":[],\"seqno\":7,\"kind\":\"value\",\"value\":\"v\"}",
+        LineError::KeyMember,
+    ),
+    (
+        b"{\"key\":\"k\",\"seqno\":7,\"kind\":\"value\",\"value\":[]}",
+        LineError::ValueMember,
+    ),
+    (
+        b"{\"key\":{},\"seqno\":7,\"kind\":\"value\",\"value\":\"v\"}",
+        LineError::KeyMember,
+    ),
+    (
+        b"{\"key\":\"k\",\"seqno\":7,\"kind\":\"value\",\"value\":{}}",
+        LineError::ValueMember,
+    ),
     (
         b"{\"key\":{\"hex\":\"f\"},\"seqno\":7,\"kind\":\"value\",\"value\":\"v\"}",
         LineError::KeyMember,
@@ -182,7 +275,10 @@ const BAD_OBJECTS: [(&[u8], LineError); 53] = [
         b"{\"key\":\"k\",\"seqno\":7,\"kind\":\"value\",\"value\":{\"hex\":\"0g\"}}",
         LineError::ValueMember,
     ),
-    (b"{\"key\":{\"hex\":7},\"seqno\":7,\"kind\":\"value\",\"value\":\"v\"}", LineError::KeyMember),
+    (
+        b"{\"key\":{\"hex\":7},\"seqno\":7,\"kind\":\"value\",\"value\":\"v\"}",
+        LineError::KeyMember,
+    ),
     (
         b"{\"key\":\"k\",\"seqno\":7,\"kind\":\"value\",\"value\":{\"hex\":7}}",
         LineError::ValueMember,
@@ -296,8 +392,14 @@ const SPELLED: [(&[u8], &[u8]); 4] = [
         b"{\"key\":{\"hex\":\"00FfaB\"},\"seqno\":7,\"kind\":\"value\",\"value\":\"v\"}",
         b"\x00\xff\xab",
     ),
-    (b"{\"key\":{\"hex\":\"\"},\"seqno\":7,\"kind\":\"value\",\"value\":\"v\"}", b""),
-    (b" { \"value\" : \"v\" , \"kind\":\"value\",\"seqno\":7,\x09\"key\":\"k\"\x0d} ", b"k"),
+    (
+        b"{\"key\":{\"hex\":\"\"},\"seqno\":7,\"kind\":\"value\",\"value\":\"v\"}",
+        b"",
+    ),
+    (
+        b" { \"value\" : \"v\" , \"kind\":\"value\",\"seqno\":7,\x09\"key\":\"k\"\x0d} ",
+        b"k",
+    ),
 ];
 
 // How many of the objects have these keys.

@@ -1,4 +1,5 @@
 mod EscapeLemmas
 mod ObjectBack
 mod ObjectLemmas
+mod OneLine
 mod WordLemmas

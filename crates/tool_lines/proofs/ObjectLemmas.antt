@@ -42,10 +42,14 @@ pub other_many : {A : Type 0} (value : Value A) (ms : List (Bor (List ℕ) × Va
     → value_view value ≡ object (members_view ms) → (length ms ≡ 4 → ⊥)
     → LacksMembers (value_view value) fault.Members
 other_many {A} value ms is other =
-    inr (refl, (members_view ms, is), λ key seqno kind rest h.
-    let same : object (members_view ms) ≡ object h.0 = sym is ∙ h.1 in
-    let inner : members_view ms ≡ h.0 = cc in
-    other (sym (keys_long ms) ∙ ap (λ (x : Members). length (keys x)) inner ∙ h.2.four))
+    inr (
+      refl,
+      (members_view ms, is),
+      λ key seqno kind rest h.
+          let same : object (members_view ms) ≡ object h.0 = sym is ∙ h.1 in
+          let inner : members_view ms ≡ h.0 = cc in
+          other (sym (keys_long ms) ∙ ap (λ (x : Members). length (keys x)) inner ∙ h.2.four),
+    )
 
 -- ---- bytes
 

@@ -1,5 +1,6 @@
 //! Entries as lines.
-ghost use Rattle.std.specs.Prelude.{◌≡◌, ◌++◌, ◌∷◌, [], IfErr, IfOk, List, OnOk, false};
+ghost use Rattle.std.specs.Prelude.{◌≡◌, ◌≢◌, ◌++◌, ◌∷◌, ℕ, [], All, IfErr, IfOk, List, OnOk};
+ghost use Rattle.std.specs.Prelude.{false};
 ghost use Rattle.sst_entries.specs.Entry.{Entry};
 ghost use Rattle.sst_entries.specs.Lending.{entry_of_ref};
 ghost use Rattle.json.specs.Print.{print};
@@ -45,6 +46,9 @@ pub fn append_entry<A: Allocator + Copy>(
     ensures spells_object { format ≡ Json → OnOk result ((ts : List Token)
         → WritesEntry (entry_of_ref entry.now) ts
         → SpellsObject (print ts) (entry_of_ref entry.now)) }
+    // It is one line.
+    ensures one_line { IfOk result (λ t. (line : List ℕ) × (t.items ≡ text.items ++ line ++ 10 ∷ [])
+        × All (λ b. b ≢ 10) line) }
 {
     end_line(append_line(alloc, text, entry, format)?)
 }

@@ -1,6 +1,6 @@
 //! Entries as objects of JSON.
-ghost use Rattle.std.specs.Prelude.{◌≡◌, ◌≢◌, ◌<◌, ◌^◌, ◌++◌, ◌∷◌, ℕ, IfErr, IfNone, IfOk, IfSome, List, OnOk};
-ghost use Rattle.std.specs.Prelude.{false, length};
+ghost use Rattle.std.specs.Prelude.{◌≡◌, ◌≢◌, ◌<◌, ◌^◌, ◌++◌, ◌∷◌, ℕ, IfErr, IfNone, IfOk};
+ghost use Rattle.std.specs.Prelude.{IfSome, List, OnOk, false, length};
 ghost use Rattle.json.specs.Json.{Json, Members, object, string};
 ghost use Rattle.json.specs.Strict.{keys};
 ghost use Rattle.json.specs.Print.{print};
@@ -10,11 +10,12 @@ ghost use Rattle.sst_entries.specs.Lending.{entry_of_ref};
 ghost use Rattle.sst_entries.specs.declared.value_type.ValueType.{ValueType};
 ghost use Rattle.tool_lines.specs.Escapes.{AreBytes};
 ghost use Rattle.tool_lines.specs.Faults.{lacks_memory};
-ghost use Rattle.tool_lines.specs.ObjectLine.{AreMembers, IsEntryObject, IsObjectFault, IsStrictLine};
-ghost use Rattle.tool_lines.specs.ObjectLine.{LacksMembers, MeansBytes, MeansNumber, SpellsObject};
-ghost use Rattle.tool_lines.specs.ObjectLine.{StandsInDigits, kind_name};
-ghost use Rattle.tool_lines.specs.ObjectLine.{HasMore, WritesBytes, WritesEntry, digits_tokens};
-ghost use Rattle.tool_lines.specs.declared.entry_line.LineError.TheVariants.{KindMember, NumberMember};
+ghost use Rattle.tool_lines.specs.ObjectLine.{AreMembers, HasMore, IsEntryObject, IsObjectFault};
+ghost use Rattle.tool_lines.specs.ObjectLine.{IsStrictLine, LacksMembers, MeansBytes, MeansNumber};
+ghost use Rattle.tool_lines.specs.ObjectLine.{SpellsObject, StandsInDigits, WritesBytes};
+ghost use Rattle.tool_lines.specs.ObjectLine.{WritesEntry, digits_tokens, kind_name};
+ghost use Rattle.tool_lines.specs.declared.entry_line.LineError.TheVariants.{KindMember};
+ghost use Rattle.tool_lines.specs.declared.entry_line.LineError.TheVariants.{NumberMember};
 
 use crate::LineError;
 use crate::word_line::{parse_number, slice_of};

@@ -23,6 +23,6 @@ pub returns-in-Object-2-clause-refused : goal.returns-in-Object-2-clause-refused
 returns-in-Object-2-clause-refused g c = λ fine. (
   refl,
   let long : c.len.result ≡ length c.in-Object.members.items = search rules in
-  many_mean_none c.args.value.now c.in-Object.members.items (ap value_view c.in-Object.is ∙ view_object c.in-Object.members)
-  (λ one. c.if-len-eq1.false (long ∙ one)),
+      many_mean_none c.args.value.now c.in-Object.members.items (ap value_view c.in-Object.is ∙ view_object c.in-Object.members)
+      (λ one. c.if-len-eq1.false (long ∙ one)),
 )
