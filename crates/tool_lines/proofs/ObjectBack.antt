@@ -1,8 +1,7 @@
 -- Objects of JSON, written and read back.
-use Rattle.std.proofs.Common.{◌≡◌, ◌≢◌, refl, sym, ◌∙◌, ◌++◌, ap, inl, inr, ℕ, ◌+◌, ◌<◌, ◌≤◌, ◌^◌}
+use Rattle.std.proofs.Common.{◌≡◌, ◌≢◌, refl, sym, ◌∙◌, ap, inl, inr, ℕ, ◌<◌, ◌≤◌, ◌^◌}
 use Rattle.std.proofs.Common.{List, [], ◌∷◌, Some, Result, Ok, Err, IfOk, codes, decimal, subst, arith, length}
-use Rattle.std.specs.Prelude.{Bool, true, false, Option, None, cond, if◌then◌else◌, ◌==◌}
-use Rattle.std.specs.List.{All}
+use Rattle.std.specs.Prelude.{Bool, true, false, None, cond, if◌then◌else◌, ◌==◌}
 use Rattle.std.specs.Str.{IsUtf8, bytes_eq}
 use Rattle.std.specs.Str.Parse.{digits_value}
 use Rattle.std.proofs.lemmas.List.Elements.{All-cons, All-nil}
@@ -19,12 +18,11 @@ use Rattle.json.specs.Token.{Token}
 use Rattle.json.specs.Tree.{HasNumbers, depth, json_tokens}
 use Rattle.json.proofs.Printed.Decimals.{IsNumber-decimal}
 use Rattle.json.proofs.Printed.Trees.{document-print}
-use Rattle.sst_entries.specs.Entry.{Entry, entry}
+use Rattle.sst_entries.specs.Entry.{Entry}
 use Rattle.sst_entries.specs.declared.value_type.ValueType.{ValueType}
 use Rattle.sst_entries.specs.declared.value_type.ValueType.TheVariants.{Value, Tombstone}
 use Rattle.sst_entries.specs.declared.value_type.ValueType.TheVariants.{WeakTombstone, Indirection}
 use Rattle.tool_lines.specs.Escapes.{AreBytes}
-use Rattle.tool_lines.specs.ObjectLine.{AreDigits, AreMembers, FourMembers, IsStrictLine}
 use Rattle.tool_lines.specs.ObjectLine.{MeansBytes, MeansNumber, SpellsObject, StandsInDigits}
 use Rattle.tool_lines.specs.ObjectLine.{WritesBytes, WritesEntry, digits_tokens, kind_name}
 use Rattle.tool_lines.proofs.ObjectLemmas.{four_once}

@@ -1,4 +1,4 @@
-use Rattle.std.proofs.Common.{rules, sym, ◌∙◌, subst, ap, ◌≡◌, ◌++◌, List, []}
+use Rattle.std.proofs.Common.{◌∙◌, subst, ap, ◌≡◌, ◌++◌, List}
 use Rattle.std.specs.Str.{IsUtf8}
 use Rattle.json.specs.Print.{print}
 use Rattle.json.specs.Token.{Token}

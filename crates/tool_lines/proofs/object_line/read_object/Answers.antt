@@ -1,4 +1,4 @@
-use Rattle.std.proofs.Common.{rules, ap, sym, ◌∙◌, subst}
+use Rattle.std.proofs.Common.{rules, sym, subst}
 use Rattle.json.specs.Value.{value_view}
 use Rattle.tool_lines.specs.ObjectLine.{IsObjectFault}
 use Rattle.tool_lines.specs.declared.entry_line.LineError.TheVariants as fault
