@@ -2,7 +2,8 @@
 use Rattle.std.proofs.Common.{◌≡◌, refl, sym, ◌∙◌, ap, subst, ℕ, suc, ◌+◌, ◌<◌, ◌≤◌, Bool, true, false}
 use Rattle.std.proofs.Common.{List, [], ◌∷◌, ◌++◌, length, get_or, cond, arith, length-append}
 use Rattle.std.proofs.Common.{inl, inr, append_assoc}
-use Rattle.std.specs.Prelude.{◌⊎◌, ◌&&◌, AllPairs, Option, Some, None, Result, Ok, Err, IfErr}
+use Rattle.std.specs.Prelude.{◌⊎◌, ◌&&◌, AllPairs, IsPermutation, OnOk, Option, Some, None}
+use Rattle.std.specs.Prelude.{Result, Ok, Err}
 use Rattle.std.specs.Prelude.{IfSome, not, map, filter}
 use Rattle.std.specs.List.{All}
 use Rattle.std.specs.List.Sorted.{IsSortedBy, IsStableBy, ties}
@@ -16,7 +17,8 @@ use Rattle.std.proofs.lemmas.List.{get_or-append-add, get_or-map, length-map, ma
 use Rattle.std.proofs.lemmas.List.Elements.{All-cons, All-nil, filter-append}
 use Rattle.std.proofs.lemmas.List.Kept.{AllPairs-cons, AllPairs-filter}
 use Rattle.std.proofs.lemmas.List.Sorted.{IsPermutation-map, ranks_by}
-use Rattle.sst_entries.specs.Entry.{Entry}
+use Rattle.sst_entries.specs.Entry.{Entry, entry}
+use Rattle.sst_entries.specs.declared.value_type.ValueType.TheVariants.{Value}
 use Rattle.sst_entries.specs.Strict.{IsStrict, IsStrictAfter, is_before, last_of, may_follow}
 use Rattle.sst_entries.specs.Strict.{version_cmp}
 use Rattle.sst_entries.proofs.OrderLemmas.{number_total, tie_same}
@@ -71,13 +73,24 @@ entries_sorted rows order h =
     sort_mapped (λ (r : ℕ × Entry). r.1) (λ (e : Entry). (0, e)) (λ e. refl) is_before rows order h
 
 -- rows, each as its number and its entry
-pub rows_sorted : {A : Type 0} (rows order : List (Numbered A))
+rows_sorted : {A : Type 0} (rows order : List (Numbered A))
     → IsSortOf (λ a b. is_before a.entry b.entry) rows order
     → IsSortOf is_row_before (numbered rows) (numbered order)
 rows_sorted {A} rows order h =
     sort_mapped (λ (r : Numbered A). (r.line, r.entry))
     (λ (p : ℕ × Entry). record { line = p.0; entry = p.1 }) (λ p. refl) is_row_before rows order h
 
+-- rows that a sort put in order
+pub sorted_rows : {A E : Type 0} (rows order : List (Numbered A)) (told : Result (Unit {0}) E)
+    (Says : Type 0) → IsPermutation rows order
+    → (Says → IsSortedBy (λ a b. is_before a.entry b.entry) order) → OnOk told Says
+    → IsStableBy (λ a b. is_before a.entry b.entry) rows order
+    → OnOk told (IsSortOf is_row_before (numbered rows) (numbered order))
+sorted_rows rows order (Ok u) Says permuted sorted says stable =
+    rows_sorted rows order record { permuted = permuted; sorted = sorted says; stable = stable }
+sorted_rows rows order (Err e) Says permuted sorted says stable = tt
+
+-- their entries are in order too
 pub row_entries_sorted : {A : Type 0} (rows order : List (Numbered A))
     → IsSortOf is_row_before (numbered rows) (numbered order)
     → IsSortOf is_before (row_entries rows) (row_entries order)
@@ -92,15 +105,21 @@ right_of : (a b : Bool) → a && b ≡ true → b ≡ true
 right_of true b h = h
 right_of false b h = absurd cc
 
+-- the key and number alone say what may follow
+follow_same : (o : Option Entry) (e : Entry)
+    → may_follow o (entry e.user_key [] e.seqno Value) ≡ may_follow o e
+follow_same None e = refl
+follow_same (Some last) e = refl
+
 strict_taken : (w m : TablesWriting) (es : List Entry) → TookAll w es m
     → IsStrictAfter (last_of None (all_written w)) es
 unfolding IsStrictAfter
 strict_taken w m [] h = tt
 strict_taken w m (e ∷ es) h = (
-  right_of _ _ h.2.0,
+  sym (follow_same (last_of None (all_written w)) e) ∙ right_of _ _ h.2,
   subst (λ (last : Option Entry). IsStrictAfter last es)
       (ap (last_of None) h.1 ∙ last_push None (all_written w) e)
-      (strict_taken (took w e) m es h.2.1),
+      (strict_taken (took w e) m es h.3),
 )
 
 -- ---- neither is before the other
@@ -249,7 +268,7 @@ unfolding last_of
 repeated_by format lines rows order before behind row w m n fresh spelled put are taken told line
     (inl none) = absurd (none_before row w m before fresh taken none told)
 repeated_by format lines rows order before behind row w m n fresh spelled put are taken told line
-    (inr (front, (first, is))) =
+    (inr (front, first, is)) =
     let entries : List (ℕ × Entry) → List Entry = λ rs. map (λ r. r.1) rs in
     let listed : all_written m ≡ entries before =
     took_list w m (entries before) taken ∙ ap (λ (es : List Entry). es ++ entries before) fresh in

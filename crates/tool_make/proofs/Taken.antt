@@ -48,7 +48,7 @@ took_more w m n [] e same fine listed next is = (
   is ∙ ap (λ (x : TablesWriting). took x e) same,
 )
 took_more w m n (x ∷ es) e h fine listed next is =
-    (h.0, h.1, h.2.0, took_more (took w x) m n es e h.2.1 fine listed next is)
+    (h.0, h.1, h.2, took_more (took w x) m n es e h.3 fine listed next is)
 
 -- ---- lines that a writer takes as they are read
 
@@ -88,7 +88,7 @@ lines_more format input left new line w m n count passed h loses some t = record
   goes = goes_more format input left new line h.entries passed t.entry h.goes loses some t.spelled;
   counted = ap (λ (k : ℕ). k + 1) h.counted ∙ sym (length-append h.entries (t.entry ∷ []));
   taken = took_more w m n h.entries t.entry h.taken t.taken.0
-      (ap all_written t.taken.2.1 ∙ t.taken.1) t.taken.2.0 t.taken.2.1;
+      (ap all_written t.taken.3 ∙ t.taken.1) t.taken.2 t.taken.3;
 }
 
 -- a line whose entry a writer took
@@ -113,7 +113,7 @@ pub took_list : (w m : TablesWriting) (es : List Entry) → TookAll w es m
     → all_written m ≡ all_written w ++ es
 took_list w m [] h = ap all_written h ∙ sym (append-nil (all_written w))
 took_list w m (e ∷ es) h =
-    took_list (took w e) m es h.2.1
+    took_list (took w e) m es h.3
     ∙ ap (λ (xs : List Entry). xs ++ es) h.1
     ∙ append_assoc (all_written w) (e ∷ []) es
 
@@ -243,7 +243,7 @@ took_since : (w m n : TablesWriting) (es : List Entry) → IsFreshRun w → Sinc
     → TookAll m es n → Since w n
 took_since w m n [] fresh h same = subst (Since w) (sym same) h
 took_since w m n (e ∷ es) fresh h taken =
-    took_since w (took m e) n es fresh (since_more w m fresh e h taken.0) taken.2.1
+    took_since w (took m e) n es fresh (since_more w m fresh e h taken.0) taken.3
 
 -- the tables of a writer that took entries are those of these entries
 taken_all : {A : Type 0} (w m : TablesWriting) (es : List Entry) (fs : List (FinishedTable A))
