@@ -27,7 +27,7 @@ use Rattle.tool_make.specs.Entries.{HasEntries, input_lines}
 use Rattle.tool_make.specs.Faults.{StopsLines}
 use Rattle.tool_make.specs.Refusing.{RefusesLines, TellsEnd, TellsSizes}
 use Rattle.tool_make.specs.Sorting.{TellsRepeated}
-use Rattle.tool_make.specs.Written.{AreOfLines, TookLines, TookSorted, WritesAll, WritesSorted}
+use Rattle.tool_make.specs.Written.{AreOfLines, TookLines, WritesAll, WritesSorted}
 use Rattle.tool_make.specs.Written.{writer_by}
 use Rattle.tool_make.proofs.Sorting.{first_repeated}
 

@@ -4,7 +4,7 @@ use Rattle.std.proofs.Common.{List, [], ◌∷◌, ◌++◌, length, get_or, con
 use Rattle.std.proofs.Common.{inl, inr, append_assoc}
 use Rattle.std.specs.Prelude.{◌⊎◌, ◌&&◌, AllPairs, IsPermutation, OnOk, Option, Some, None}
 use Rattle.std.specs.Prelude.{Result, Ok, Err}
-use Rattle.std.specs.Prelude.{IfSome, not, map, filter}
+use Rattle.std.specs.Prelude.{not, map, filter}
 use Rattle.std.specs.List.{All}
 use Rattle.std.specs.List.Sorted.{IsSortedBy, IsStableBy, ties}
 use Rattle.std.specs.Cmp.{IsStrictWeakOrder}
@@ -27,10 +27,9 @@ use Rattle.lsm_writers.specs.Tables.{TablesWriting, all_written, took}
 use Rattle.tool_lines.specs.declared.entry_line.Format.{Format}
 use Rattle.tool_make.specs.declared.entries.Numbered.{Numbered}
 use Rattle.tool_make.specs.declared.make_error.LineFault.TheVariants.{Repeated}
-use Rattle.tool_make.specs.declared.make_error.MakeError.{MakeError}
 use Rattle.tool_make.specs.declared.make_error.MakeError.TheVariants.{Line}
 use Rattle.tool_make.specs.Entries.{SpellRows, numbered, row_entries}
-use Rattle.tool_make.specs.Faults.{StopsAmong, StopsSorted}
+use Rattle.tool_make.specs.Faults.{StopsSorted}
 use Rattle.tool_make.specs.Sorting.{IsFirstRepeated, IsSortOf, is_row_before}
 use Rattle.tool_make.specs.Taken.{TookAll}
 use Rattle.tool_make.proofs.Taken.{entries_of, took_list}

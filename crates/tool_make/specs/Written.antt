@@ -1,5 +1,5 @@
 -- Tables that are written of lines.
-use Rattle.std.specs.Prelude.{◌≡◌, ◌≤◌, ◌-◌, ◌^◌, ◌++◌, ℕ, None, Bool, true, false}
+use Rattle.std.specs.Prelude.{◌≡◌, ◌≤◌, ℕ, Bool, true, false}
 use Rattle.std.specs.Prelude.{List, [], ◌∷◌, length}
 use Rattle.std.specs.Prelude.{Option, Some}
 use Rattle.sst_entries.specs.Entry.{Entry}
@@ -7,8 +7,8 @@ use Rattle.sst_entries.specs.Strict.{IsStrict, is_before}
 use Rattle.lsm_formats.specs.declared.options.Options.{Options}
 use Rattle.lsm_writers.specs.declared.writer.FinishedTable.{FinishedTable}
 use Rattle.lsm_writers.specs.Tables.{AreFinished, AreInKeyOrder, AreTables, TablesWriting}
-use Rattle.lsm_writers.specs.Tables.{all_written, first_label, new_tables, tables_of, took}
-use Rattle.lsm_writers.specs.Tables.{took_fault, with_options}
+use Rattle.lsm_writers.specs.Tables.{all_written, first_label, new_tables, tables_of}
+use Rattle.lsm_writers.specs.Tables.{with_options}
 use Rattle.lsm_writers.specs.Writing.{IsSmallIndex}
 use Rattle.lsm_compactions.specs.Compacted.{AreWrittenBy}
 use Rattle.logpurple.specs.Words.{default_options}

@@ -1,4 +1,4 @@
-use Rattle.std.proofs.Common.{rules, List}
+use Rattle.std.proofs.Common.{rules}
 use Rattle.std.proofs.lemmas.List.Sorted.{answers_always, ranks_by}
 use Rattle.sst_entries.proofs.OrderLemmas.{number_total}
 use Rattle.tool_make.specs.declared.entries.Numbered.{Numbered}

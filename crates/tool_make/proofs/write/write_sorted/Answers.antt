@@ -1,7 +1,3 @@
-use Rattle.std.specs.Prelude.{IfErr}
-use Rattle.std.proofs.Common.{refl}
-use Rattle.logpurple.specs.Words.{OutOfMemory}
-use Rattle.tool_make.specs.declared.make_error.MakeError.TheVariants.{Refused}
 use Rattle.tool_make.specs.Entries.{numbered}
 use Rattle.tool_make.specs.Faults.{StopsInOrder}
 use Rattle.tool_make.proofs.Lines.{handed_on}
