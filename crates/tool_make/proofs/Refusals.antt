@@ -26,10 +26,10 @@ use Rattle.tool_make.specs.declared.options.WriteOptions.{WriteOptions}
 use Rattle.tool_make.specs.Entries.{HasEntries, input_lines}
 use Rattle.tool_make.specs.Faults.{StopsLines}
 use Rattle.tool_make.specs.Refusing.{RefusesLines, TellsEnd, TellsSizes}
-use Rattle.tool_make.specs.Sorting.{TellsRepeated}
+use Rattle.tool_make.specs.Sorting.{TellsOrder}
 use Rattle.tool_make.specs.Written.{AreOfLines, TookLines, WritesAll, WritesSorted}
 use Rattle.tool_make.specs.Written.{writer_by}
-use Rattle.tool_make.proofs.Sorting.{first_repeated}
+use Rattle.tool_make.proofs.Sorting.{first_out_of_order, first_repeated}
 
 -- what is no want of memory
 pub not_memory : (e : Error) → e ≢ OutOfMemory → is_memory e ≡ false
@@ -139,11 +139,11 @@ none_spelled {A} o input fs count h none =
     (subst (λ (xs : List (FinishedTable A)). WritesSorted o.sort (writer_by o) h.entries xs) none
     h.written)) h.spelled
 
--- ---- a line that is told as repeated
+-- ---- a line that is told as repeated, or out of order
 
 repeated_line : (sort : Bool) (format : Format) (input : Option (List ℕ)) (w : TablesWriting)
     (n : ℕ) → all_written w ≡ [] → StopsLines sort format input w (Line n fault.Repeated)
-    → TellsRepeated format input (Line n fault.Repeated)
+    → TellsOrder format input (Line n fault.Repeated)
 repeated_line true format None w n fresh h = tt
 repeated_line false format None w n fresh h = tt
 repeated_line true format (Some bytes) w n fresh (inl h) = absurd h.told.1
@@ -152,17 +152,30 @@ repeated_line true format (Some bytes) w n fresh (inr h) =
 repeated_line false format (Some bytes) w n fresh h =
     absurd (true≢false (sym h.told.1.2.0))
 
-pub told_repeated : (o : WriteOptions) (input : Option (List ℕ)) (error : MakeError)
-    → RefusesLines o input error → TellsRepeated o.format input error
-told_repeated o input (Line n fault.Repeated) h =
+order_line : (sort : Bool) (format : Format) (input : Option (List ℕ)) (w : TablesWriting)
+    (n : ℕ) → all_written w ≡ [] → StopsLines sort format input w (Line n fault.OutOfOrder)
+    → TellsOrder format input (Line n fault.OutOfOrder)
+order_line true format None w n fresh h = tt
+order_line false format None w n fresh h = tt
+order_line true format (Some bytes) w n fresh (inl h) = absurd h.told.1
+order_line true format (Some bytes) w n fresh (inr h) =
+    absurd (true≢false h.stops.told.1.0)
+order_line false format (Some bytes) w n fresh h =
+    first_out_of_order format (input_lines bytes) w n fresh h
+
+pub told_order : (o : WriteOptions) (input : Option (List ℕ)) (error : MakeError)
+    → RefusesLines o input error → TellsOrder o.format input error
+told_order o input (Line n fault.Repeated) h =
     repeated_line o.sort o.format input (writer_by o) n
     (nothing_yet (writer_by o) (refl, (refl, refl, refl), refl)) h
-told_repeated o input (Line n (fault.Spelling e)) h = tt
-told_repeated o input (Line n fault.TooHigh) h = tt
-told_repeated o input (Line n fault.OutOfOrder) h = tt
-told_repeated o input (Line n (fault.Refused e)) h = tt
-told_repeated o input (File e) h = tt
-told_repeated o input (Input e) h = tt
-told_repeated o input NoEntries h = tt
-told_repeated o input SizeTooLarge h = tt
-told_repeated o input (Refused e) h = tt
+told_order o input (Line n (fault.Spelling e)) h = tt
+told_order o input (Line n fault.TooHigh) h = tt
+told_order o input (Line n fault.OutOfOrder) h =
+    order_line o.sort o.format input (writer_by o) n
+    (nothing_yet (writer_by o) (refl, (refl, refl, refl), refl)) h
+told_order o input (Line n (fault.Refused e)) h = tt
+told_order o input (File e) h = tt
+told_order o input (Input e) h = tt
+told_order o input NoEntries h = tt
+told_order o input SizeTooLarge h = tt
+told_order o input (Refused e) h = tt

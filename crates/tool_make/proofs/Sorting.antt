@@ -26,11 +26,12 @@ use Rattle.sst_entries.proofs.Strictness.{last_push}
 use Rattle.lsm_writers.specs.Tables.{TablesWriting, all_written, took}
 use Rattle.tool_lines.specs.declared.entry_line.Format.{Format}
 use Rattle.tool_make.specs.declared.entries.Numbered.{Numbered}
-use Rattle.tool_make.specs.declared.make_error.LineFault.TheVariants.{Repeated}
+use Rattle.tool_make.specs.declared.make_error.LineFault.TheVariants.{OutOfOrder, Repeated}
 use Rattle.tool_make.specs.declared.make_error.MakeError.TheVariants.{Line}
 use Rattle.tool_make.specs.Entries.{SpellRows, numbered, row_entries}
-use Rattle.tool_make.specs.Faults.{StopsSorted}
-use Rattle.tool_make.specs.Sorting.{IsFirstRepeated, IsSortOf, is_row_before}
+use Rattle.tool_make.specs.Faults.{StopsAt, StopsSorted}
+use Rattle.tool_make.specs.Sorting.{IsFirstOutOfOrder, IsFirstRepeated, IsSortOf}
+use Rattle.tool_make.specs.Sorting.{is_row_before}
 use Rattle.tool_make.specs.Taken.{TookAll}
 use Rattle.tool_make.proofs.Taken.{entries_of, took_list}
 
@@ -312,3 +313,27 @@ first_repeated format lines w n fresh h = (
       fresh h.spelled h.put h.stops.are h.stops.taken h.stops.told.1.1 h.stops.told.0
       (ends_in h.stops.before),
 )
+
+-- and so is one that is told as out of order
+pub first_out_of_order : (format : Format) (lines : List (List ℕ)) (w : TablesWriting) (n : ℕ)
+    → all_written w ≡ [] → StopsAt format lines w (Line n OutOfOrder)
+    → IsFirstOutOfOrder format lines n
+unfolding last_of
+first_out_of_order format lines w n fresh h =
+    let listed : all_written h.writer ≡ h.entries =
+    took_list w h.writer h.entries h.taken ∙ ap (λ (es : List Entry). es ++ h.entries) fresh in
+    record {
+      before = h.before;
+      line = h.line;
+      behind = h.behind;
+      are = h.are;
+      entries = h.entries;
+      spelled = h.spelled;
+      strict = subst (λ (o : Option Entry). IsStrictAfter o h.entries)
+          (ap (last_of None) fresh) (strict_taken w h.writer h.entries h.taken);
+      entry = h.told.1.0;
+      spells = h.told.1.1;
+      breaks = subst (λ (es : List Entry). may_follow (last_of None es) h.told.1.0 ≡ false) listed
+          h.told.1.2.1;
+      counted = h.told.0;
+    }
