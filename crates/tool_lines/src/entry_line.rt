@@ -173,8 +173,7 @@ pub enum LineError {
     #[error("key is a string, or {{\"hex\":\"..\"}} with two digits for each byte")]
     KeyMember,
 
-    /// A member seqno that is no number, or has a point, an exponent or a sign, leading zeros, or
-    /// is 2^64 or more.
+    /// A member seqno that is no number, or has a point, an exponent or a sign, or is 2^64 or more.
     #[error("seqno is a number of decimal digits without leading zeros, below 2^64")]
     NumberMember,
 

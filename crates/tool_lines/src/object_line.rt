@@ -46,6 +46,7 @@ fn write_members<A: Allocator + Copy>(
 ) -> Result<(), AllocError>
     ensures tokens { OnOk result ((ts : List Token) × WritesEntry (entry_of_ref entry.now) ts
         × HasMore writer.old writer.new ts) }
+    // What any entry has, which no text of it says.
     ensures bytes { OnOk result (AreBytes (entry_of_ref entry.now).user_key
         × AreBytes (entry_of_ref entry.now).value × ((entry_of_ref entry.now).seqno < 2 ^ 64)) }
 {
