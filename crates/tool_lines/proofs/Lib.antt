@@ -1,3 +1,4 @@
+pub mod EmptyLine
 mod EscapeLemmas
 mod ObjectBack
 mod ObjectLemmas

@@ -1,4 +1,5 @@
 mod Lines
+mod LinesLaw
 mod Refusals
 mod Sorting
 mod TableFiles
