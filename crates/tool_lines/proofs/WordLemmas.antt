@@ -207,7 +207,8 @@ words_once line v w =
     sym v.are ∙ w.are in
     (cc, cc, cc, cc)
 
-alike : (k l : List ℕ) (m n : ℕ) (s t : ValueType) (v w : List ℕ) → k ≡ l → m ≡ n → s ≡ t
+-- entries of the same parts
+pub alike : (k l : List ℕ) (m n : ℕ) (s t : ValueType) (v w : List ℕ) → k ≡ l → m ≡ n → s ≡ t
     → v ≡ w → entry k v m s ≡ entry l w n t
 alike k l m n s t v w p q r o = rw (p, q, r, o) refl
 
@@ -274,15 +275,15 @@ memory_only (fault.NumberMember) h = absurd cc
 memory_only (fault.KindMember) h = absurd cc
 memory_only (fault.ValueMember) h = absurd cc
 
-fault_at : (line : List ℕ) (e f : LineError) (b : Bool) → lacks_memory e ≡ b
-    → (lacks_memory e ≡ false → (e ≡ f) × IsWordFault line f) → IsWordFault line e
-fault_at line e f true p h = subst (IsWordFault line) (sym (memory_only e p)) tt
-fault_at line e f false p h = subst (IsWordFault line) (sym (h p).0) (h p).1
+fault_at : (P : LineError → Type 0) (e f : LineError) (b : Bool) → P OutOfMemory
+    → lacks_memory e ≡ b → (lacks_memory e ≡ false → (e ≡ f) × P f) → P e
+fault_at P e f true memory p h = subst P (sym (memory_only e p)) memory
+fault_at P e f false memory p h = subst P (sym (h p).0) (h p).1
 
--- a refusal but want of memory is a fault of the line
-pub fault_by : (line : List ℕ) (e f : LineError)
-    → (lacks_memory e ≡ false → (e ≡ f) × IsWordFault line f) → IsWordFault line e
-fault_by line e f h = fault_at line e f (lacks_memory e) refl h
+-- a refusal is want of memory or a fault of the line
+pub fault_by : (P : LineError → Type 0) (e f : LineError) → P OutOfMemory
+    → (lacks_memory e ≡ false → (e ≡ f) × P f) → P e
+fault_by P e f memory h = fault_at P e f (lacks_memory e) memory refl h
 
 -- what is known anyhow
 pub always : {X E : Type 0} (P : Type 0) (r : Result X E) → P → OnOk r P
@@ -290,10 +291,10 @@ always P (Ok x) h = h
 always P (Err e) h = tt
 
 -- an error that is passed on
-pub fault_of : {X : Type 0} (r : Result X LineError) (line : List ℕ) (e : LineError)
-    → IsErrAnd r (λ y. y ≡ e) → IsWordFault line e → IfErr r (λ y. IsWordFault line y)
-fault_of (Ok x) line e is h = absurd is
-fault_of (Err y) line e is h = subst (IsWordFault line) (sym is) h
+pub passed_on : {X : Type 0} (P : LineError → Type 0) (r : Result X LineError) (e : LineError)
+    → IsErrAnd r (λ y. y ≡ e) → P e → IfErr r P
+passed_on P (Ok x) e is h = absurd is
+passed_on P (Err y) e is h = subst P (sym is) h
 
 -- a letter that is none
 pub no_kind : (word : List ℕ) (r : Option ValueType) → r ≡ None

@@ -1,6 +1,6 @@
 -- Entries as objects of JSON.
-use Rattle.std.specs.Prelude.{◌≡◌, ◌≢◌, ◌⊎◌, ℕ, List, [], ◌∷◌, ◌++◌, codes, length, Option, Some}
-use Rattle.std.specs.Prelude.{Ok, Err, None}
+use Rattle.std.specs.Prelude.{◌≡◌, ◌≢◌, ◌⊎◌, ℕ, List, [], ◌∷◌, ◌++◌, codes, length, Some}
+use Rattle.std.specs.Prelude.{Ok}
 use Rattle.std.specs.Fmt.{decimal}
 use Rattle.std.specs.Str.{IsUtf8}
 use Rattle.hex.specs.Hex.{decode_of, encode_lower}
@@ -13,6 +13,8 @@ use Rattle.sst_entries.specs.Entry.{Entry}
 use Rattle.sst_entries.specs.declared.value_type.ValueType.{ValueType}
 use Rattle.sst_entries.specs.declared.value_type.ValueType.TheVariants.{Value, Tombstone}
 use Rattle.sst_entries.specs.declared.value_type.ValueType.TheVariants.{WeakTombstone, Indirection}
+use Rattle.tool_lines.specs.declared.entry_line.LineError.{LineError}
+use Rattle.tool_lines.specs.declared.entry_line.LineError.TheVariants as fault
 use Rattle.tool_lines.specs.WordLine.{SpellsNumber}
 
 -- the name of a kind
@@ -22,12 +24,17 @@ kind_name Tombstone = codes "tombstone"
 kind_name WeakTombstone = codes "weak_tombstone"
 kind_name Indirection = codes "indirection"
 
+-- a string of two digits for each byte
+abbrev pub StandsInDigits : Json → List ℕ → Type 0
+StandsInDigits json bytes =
+    (digits : List ℕ) × (json ≡ string digits) × (decode_of digits ≡ Ok bytes)
+
 -- an object that has one member, hex, with digits for each byte
 pub record AreDigits (members : Members) (bytes : List ℕ) : Type 0 where
   pub one : length (keys members) ≡ 1
-  pub digits : List ℕ
-  pub are : get_member (codes "hex") members ≡ Some (string digits)
-  pub decoded : decode_of digits ≡ Ok bytes
+  pub digits : Json
+  pub are : get_member (codes "hex") members ≡ Some digits
+  pub stand : StandsInDigits digits bytes
 
 -- what a key or a value stands for: a string for its text, and that object for its bytes
 abbrev pub MeansBytes : Json → List ℕ → Type 0
@@ -39,29 +46,69 @@ MeansBytes json bytes =
 abbrev pub MeansNumber : Json → ℕ → Type 0
 MeansNumber json n = (word : List ℕ) × (json ≡ number word) × SpellsNumber word n
 
--- a member of an object, which is there
-pub record HasMember (members : Members) (name : List ℕ) (Means : Json → Type 0) : Type 0 where
-  pub json : Json
-  pub is : get_member name members ≡ Some json
-  pub means : Means json
-
--- an object of four members is that of an entry
-pub record IsEntryObject (json : Json) (e : Entry) : Type 0 where
-  pub members : Members
-  pub is_object : json ≡ object members
-  pub four : length (keys members) ≡ 4
-  pub key_is : HasMember members (codes "key") (λ m. MeansBytes m e.user_key)
-  pub seqno_is : HasMember members (codes "seqno") (λ m. MeansNumber m e.seqno)
-  pub kind_is : HasMember members (codes "kind") (λ m. m ≡ string (kind_name e.kind))
-  pub value_is : HasMember members (codes "value") (λ m. MeansBytes m e.value)
-
--- a line is a document of JSON, no object of which has a member twice, and spells an entry
-pub record SpellsObject (line : List ℕ) (e : Entry) : Type 0 where
+-- a line is a document of JSON, no object of which has a member twice
+pub record IsStrictLine (line : List ℕ) (json : Json) : Type 0 where
   pub utf8 : IsUtf8 line
-  pub json : Json
   pub is_document : document line ≡ Some json
   pub unique : HasUniqueKeys json
-  pub entry : IsEntryObject json e
+
+-- an object has four members, those of an entry, with these values
+pub record AreMembers (members : Members) (key seqno kind value : Json) : Type 0 where
+  pub four : length (keys members) ≡ 4
+  pub key_is : get_member (codes "key") members ≡ Some key
+  pub seqno_is : get_member (codes "seqno") members ≡ Some seqno
+  pub kind_is : get_member (codes "kind") members ≡ Some kind
+  pub value_is : get_member (codes "value") members ≡ Some value
+
+-- a value is an object of just these four members
+abbrev pub IsEntryObject : Json → Json → Json → Json → Json → Type 0
+IsEntryObject json key seqno kind value =
+    (members : Members) × (json ≡ object members) × AreMembers members key seqno kind value
+
+-- a value is no object, or it is one and has not just the four members, as is told
+abbrev pub LacksMembers : Json → LineError → Type 0
+LacksMembers json error =
+    ((error ≡ fault.Json) × ((members : Members) → json ≢ object members))
+    ⊎ ((error ≡ fault.Members) × ((members : Members) × (json ≡ object members))
+    × ((key seqno kind value : Json) → ¬ IsEntryObject json key seqno kind value))
+
+-- the four members of the object that a line is
+pub record FourMembers (line : List ℕ) : Type 0 where
+  pub members : Members
+  pub strict : IsStrictLine line (object members)
+  pub key : Json
+  pub seqno : Json
+  pub kind : Json
+  pub value : Json
+  pub are : AreMembers members key seqno kind value
+
+-- a line is an object whose members spell an entry
+pub record SpellsObject (line : List ℕ) (e : Entry) : Type 0 where
+  pub members : FourMembers line
+  pub key_is : MeansBytes members.key e.user_key
+  pub seqno_is : MeansNumber members.seqno e.seqno
+  pub kind_is : members.kind ≡ string (kind_name e.kind)
+  pub value_is : MeansBytes members.value e.value
+
+-- what is wrong of a line that is to be an object is said truly
+abbrev pub IsObjectFault : List ℕ → LineError → Type 0
+IsObjectFault line fault.OutOfMemory = Unit {0}
+IsObjectFault line fault.Words = ⊥
+IsObjectFault line fault.Key = ⊥
+IsObjectFault line fault.Number = ⊥
+IsObjectFault line fault.Kind = ⊥
+IsObjectFault line fault.Value = ⊥
+IsObjectFault line fault.Json = (members : Members) → ¬ IsStrictLine line (object members)
+IsObjectFault line fault.Members =
+    ((members : Members) × IsStrictLine line (object members)) × ¬ FourMembers line
+IsObjectFault line fault.KeyMember =
+    (four : FourMembers line) × ((key : List ℕ) → ¬ MeansBytes four.key key)
+IsObjectFault line fault.NumberMember =
+    (four : FourMembers line) × ((n : ℕ) → ¬ MeansNumber four.seqno n)
+IsObjectFault line fault.KindMember =
+    (four : FourMembers line) × ((kind : ValueType) → four.kind ≢ string (kind_name kind))
+IsObjectFault line fault.ValueMember =
+    (four : FourMembers line) × ((value : List ℕ) → ¬ MeansBytes four.value value)
 
 -- an object of the digits of some bytes
 abbrev pub digits_tokens : List ℕ → List Token

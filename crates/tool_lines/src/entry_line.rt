@@ -1,9 +1,12 @@
 //! Entries as lines.
-ghost use Rattle.std.specs.Prelude.{◌≡◌, ◌++◌, ◌∷◌, [], IfErr, IfOk, List, OnOk};
+ghost use Rattle.std.specs.Prelude.{◌≡◌, ◌≢◌, ◌++◌, ◌∷◌, ℕ, [], All, IfErr, IfOk, List, OnOk};
+ghost use Rattle.std.specs.Prelude.{false};
+ghost use Rattle.sst_entries.specs.Entry.{Entry};
 ghost use Rattle.sst_entries.specs.Lending.{entry_of_ref};
 ghost use Rattle.json.specs.Print.{print};
 ghost use Rattle.json.specs.Token.{Token};
-ghost use Rattle.tool_lines.specs.ObjectLine.{SpellsObject, WritesEntry};
+ghost use Rattle.tool_lines.specs.Faults.{lacks_memory};
+ghost use Rattle.tool_lines.specs.ObjectLine.{IsObjectFault, SpellsObject, WritesEntry};
 ghost use Rattle.tool_lines.specs.WordLine.{IsWordFault, SpellsEntry, word_line};
 ghost use Rattle.tool_lines.specs.declared.entry_line.Format.TheVariants.{Json, Lines};
 ghost use Rattle.tool_lines.specs.declared.entry_line.LineError.TheVariants.{OutOfMemory};
@@ -37,13 +40,39 @@ pub fn append_entry<A: Allocator + Copy>(
         text.items ++ word_line (entry_of_ref entry.now) ++ 10 ∷ []) }
     ensures object { format ≡ Json → IfOk result (λ t. (ts : List Token)
         × WritesEntry (entry_of_ref entry.now) ts × (t.items ≡ text.items ++ print ts ++ 10 ∷ [])) }
-    // The words spell the entry.
+    // The words spell the entry, and so does the object.
     ensures spells { format ≡ Lines → OnOk result
         (SpellsEntry (word_line (entry_of_ref entry.now)) (entry_of_ref entry.now)) }
+    ensures spells_object { format ≡ Json → OnOk result ((ts : List Token)
+        → WritesEntry (entry_of_ref entry.now) ts
+        → SpellsObject (print ts) (entry_of_ref entry.now)) }
+    // It is one line.
+    ensures one_line { IfOk result (λ t. (line : List ℕ) × (t.items ≡ text.items ++ line ++ 10 ∷ [])
+        × All (λ b. b ≢ 10) line) }
+{
+    end_line(append_line(alloc, text, entry, format)?)
+}
+
+// Appends an entry's line without its end.
+fn append_line<A: Allocator + Copy>(
+    alloc: A,
+    text: Vec<u8, A>,
+    entry: &EntryRef<'_>,
+    format: Format,
+) -> Result<Vec<u8, A>, AllocError>
+    ensures words { format ≡ Lines → IfOk result (λ t. t.items ≡
+        text.items ++ word_line (entry_of_ref entry.now)) }
+    ensures object { format ≡ Json → IfOk result (λ t. (ts : List Token)
+        × WritesEntry (entry_of_ref entry.now) ts × (t.items ≡ text.items ++ print ts)) }
+    ensures spells { format ≡ Lines → OnOk result
+        (SpellsEntry (word_line (entry_of_ref entry.now)) (entry_of_ref entry.now)) }
+    ensures spells_object { format ≡ Json → OnOk result ((ts : List Token)
+        → WritesEntry (entry_of_ref entry.now) ts
+        → SpellsObject (print ts) (entry_of_ref entry.now)) }
 {
     match format {
-        Format::Lines => end_line(append_words(text, entry)?),
-        Format::Json => end_line(push_object(alloc, text, entry)?),
+        Format::Lines => append_words(text, entry),
+        Format::Json => push_object(alloc, text, entry),
     }
 }
 
@@ -68,16 +97,18 @@ fn append_words<A: Allocator>(
     Ok(text)
 }
 
-/// Writes an entry as words and reads it back: it is the same. Refused for want of memory alone.
+/// Writes an entry's line, without its end, and reads it back: it is the same. Refused for want of
+/// memory alone.
 pub fn read_back<A: Allocator + Copy>(
     alloc: A,
     entry: &EntryRef<'_>,
+    format: Format,
 ) -> Result<InternalValue<A>, LineError>
     ensures same { IfOk result (λ e. e ≡ entry_of_ref entry.now) }
     ensures refused { IfErr result (λ e. e ≡ OutOfMemory) }
 {
-    let line = append_words(Vec::new(alloc), entry)?;
-    parse_words(alloc, &line)
+    let line = append_line(alloc, Vec::new(alloc), entry, format)?;
+    parse_entry(alloc, &line, format)
 }
 
 /// The entry of a line without its end. The members of an object may come in any order, and no
@@ -90,6 +121,12 @@ pub fn parse_entry<A: Allocator + Copy>(
     ensures spells { format ≡ Lines → IfOk result (λ e. SpellsEntry line.now e) }
     ensures refused { format ≡ Lines → IfErr result (λ e. IsWordFault line.now e) }
     ensures object { format ≡ Json → IfOk result (λ e. SpellsObject line.now e) }
+    ensures refused_object { format ≡ Json → IfErr result (λ e. IsObjectFault line.now e) }
+    // So a line that is refused spells no entry, but for want of memory.
+    ensures no_words { format ≡ Lines → IfErr result (λ e. lacks_memory e ≡ false
+        → (item : Entry) → ¬ SpellsEntry line.now item) }
+    ensures no_object { format ≡ Json → IfErr result (λ e. lacks_memory e ≡ false
+        → (item : Entry) → ¬ SpellsObject line.now item) }
 {
     match format {
         Format::Lines => parse_words(alloc, line),
@@ -136,8 +173,7 @@ pub enum LineError {
     #[error("key is a string, or {{\"hex\":\"..\"}} with two digits for each byte")]
     KeyMember,
 
-    /// A member seqno that is no number, or has a point, an exponent or a sign, leading zeros, or
-    /// is 2^64 or more.
+    /// A member seqno that is no number, or has a point, an exponent or a sign, or is 2^64 or more.
     #[error("seqno is a number of decimal digits without leading zeros, below 2^64")]
     NumberMember,
 

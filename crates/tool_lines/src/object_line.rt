@@ -1,15 +1,21 @@
 //! Entries as objects of JSON.
-ghost use Rattle.std.specs.Prelude.{◌≡◌, ◌++◌, ℕ, IfOk, IfSome, List, Ok, OnOk, length};
-ghost use Rattle.hex.specs.Hex.{decode_of};
-ghost use Rattle.json.specs.Json.{Members, object, string};
+ghost use Rattle.std.specs.Prelude.{◌≡◌, ◌≢◌, ◌<◌, ◌^◌, ◌++◌, ◌∷◌, ℕ, IfErr, IfNone, IfOk};
+ghost use Rattle.std.specs.Prelude.{IfSome, List, OnOk, false, length};
+ghost use Rattle.json.specs.Json.{Json, Members, object, string};
 ghost use Rattle.json.specs.Strict.{keys};
 ghost use Rattle.json.specs.Print.{print};
 ghost use Rattle.json.specs.Token.{Token};
 ghost use Rattle.json.specs.Value.{value_view};
 ghost use Rattle.sst_entries.specs.Lending.{entry_of_ref};
-ghost use Rattle.tool_lines.specs.ObjectLine.{IsEntryObject, MeansBytes};
-ghost use Rattle.tool_lines.specs.ObjectLine.{MeansNumber, SpellsObject, kind_name};
-ghost use Rattle.tool_lines.specs.ObjectLine.{HasMore, WritesBytes, WritesEntry, digits_tokens};
+ghost use Rattle.sst_entries.specs.declared.value_type.ValueType.{ValueType};
+ghost use Rattle.tool_lines.specs.Escapes.{AreBytes};
+ghost use Rattle.tool_lines.specs.Faults.{lacks_memory};
+ghost use Rattle.tool_lines.specs.ObjectLine.{AreMembers, HasMore, IsEntryObject, IsObjectFault};
+ghost use Rattle.tool_lines.specs.ObjectLine.{IsStrictLine, LacksMembers, MeansBytes, MeansNumber};
+ghost use Rattle.tool_lines.specs.ObjectLine.{SpellsObject, StandsInDigits, WritesBytes};
+ghost use Rattle.tool_lines.specs.ObjectLine.{WritesEntry, digits_tokens, kind_name};
+ghost use Rattle.tool_lines.specs.declared.entry_line.LineError.TheVariants.{KindMember};
+ghost use Rattle.tool_lines.specs.declared.entry_line.LineError.TheVariants.{NumberMember};
 
 use crate::LineError;
 use crate::word_line::{parse_number, slice_of};
@@ -23,8 +29,10 @@ pub(crate) fn push_object<A: Allocator + Copy>(
     text: Vec<u8, A>,
     entry: &EntryRef<'_>,
 ) -> Result<Vec<u8, A>, AllocError>
-    ensures { IfOk result (λ t. (ts : List Token) × WritesEntry (entry_of_ref entry.now) ts
+    ensures text { IfOk result (λ t. (ts : List Token) × WritesEntry (entry_of_ref entry.now) ts
         × (t.items ≡ text.items ++ print ts)) }
+    ensures spells { OnOk result ((ts : List Token) → WritesEntry (entry_of_ref entry.now) ts
+        → SpellsObject (print ts) (entry_of_ref entry.now)) }
 {
     let mut writer = Writer::new(text);
     write_members(alloc, &mut writer, entry)?;
@@ -36,19 +44,35 @@ fn write_members<A: Allocator + Copy>(
     writer: &mut Writer<A>,
     entry: &EntryRef<'_>,
 ) -> Result<(), AllocError>
-    ensures { OnOk result ((ts : List Token) × WritesEntry (entry_of_ref entry.now) ts
+    ensures tokens { OnOk result ((ts : List Token) × WritesEntry (entry_of_ref entry.now) ts
         × HasMore writer.old writer.new ts) }
+    // What any entry has, which no text of it says.
+    ensures bytes { OnOk result (AreBytes (entry_of_ref entry.now).user_key
+        × AreBytes (entry_of_ref entry.now).value × ((entry_of_ref entry.now).seqno < 2 ^ 64)) }
 {
     writer.begin_object()?;
-    writer.key("key")?;
-    write_bytes(alloc, writer, entry.user_key)?;
+    write_member(alloc, writer, "key", entry.user_key)?;
     writer.key("seqno")?;
     writer.u64(entry.seqno)?;
     writer.key("kind")?;
     writer.string(name_of(entry.value_type))?;
-    writer.key("value")?;
-    write_bytes(alloc, writer, entry.value)?;
+    write_member(alloc, writer, "value", entry.value)?;
     writer.end_object()
+}
+
+// Writes a member that stands for bytes.
+fn write_member<A: Allocator + Copy>(
+    alloc: A,
+    writer: &mut Writer<A>,
+    name: &str,
+    bytes: &[u8],
+) -> Result<(), AllocError>
+    ensures tokens { OnOk result ((ts : List Token) × WritesBytes bytes.now ts
+        × HasMore writer.old writer.new (Token.key name.now ∷ ts)) }
+    ensures bytes { AreBytes bytes.now }
+{
+    writer.key(name)?;
+    write_bytes(alloc, writer, bytes)
 }
 
 /// Writes bytes as a string, or, where they are no UTF-8, as an object `{"hex":"ff00"}`. Refused
@@ -98,7 +122,8 @@ pub(crate) fn parse_object<A: Allocator + Copy>(
     alloc: A,
     line: &[u8],
 ) -> Result<InternalValue<A>, LineError>
-    ensures { IfOk result (λ e. SpellsObject line.now e) }
+    ensures spells { IfOk result (λ e. SpellsObject line.now e) }
+    ensures refused { IfErr result (λ e. IsObjectFault line.now e) }
 {
     let Ok(text) = str::from_utf8(line) else {
         return Err(LineError::Json);
@@ -111,28 +136,52 @@ pub(crate) fn parse_object<A: Allocator + Copy>(
     }
 }
 
+// The values of an entry's members.
+#[derive(Drop)]
+struct EntryMembers<'v, 'a, A: Allocator> {
+    key: &'v Value<'a, A>,
+    seqno: &'v Value<'a, A>,
+    kind: &'v Value<'a, A>,
+    value: &'v Value<'a, A>,
+}
+
+// The entry of an object, of whatever line it is.
 fn read_object<A: Allocator + Copy>(
     alloc: A,
     object: &Value<'_, A>,
 ) -> Result<InternalValue<A>, LineError>
-    ensures { IfOk result (λ e. IsEntryObject (value_view object.now) e) }
+    ensures spells { (line : List ℕ) → IsStrictLine line (value_view object.now)
+        → IfOk result (λ e. SpellsObject line e) }
+    ensures refused { (line : List ℕ) → IsStrictLine line (value_view object.now)
+        → IfErr result (λ e. IsObjectFault line e) }
 {
-    test_members(object)?;
-    let seqno = read_number(object.get("seqno").ok_or(LineError::Members)?)?;
-    let kind = read_kind(object.get("kind").ok_or(LineError::Members)?)?;
-    let key = object.get("key").ok_or(LineError::Members)?;
-    let value = object.get("value").ok_or(LineError::Members)?;
-    let key = read_bytes(alloc, key, LineError::KeyMember)?;
-    match read_bytes(alloc, value, LineError::ValueMember) {
+    let members = split_members(object)?;
+    let seqno = read_number(members.seqno)?;
+    let kind = read_kind(members.kind)?;
+    let key = read_bytes(alloc, members.key, LineError::KeyMember)?;
+    match read_bytes(alloc, members.value, LineError::ValueMember) {
         Ok(value) => Ok(InternalValue::from_components(key, value, seqno, kind)),
         Err(error) => Err(error),
     }
 }
 
+// The members of a value that is an object of just these four.
+fn split_members<'v, 'a, A: Allocator>(
+    value: &'v Value<'a, A>,
+) -> Result<EntryMembers<'v, 'a, A>, LineError>
+    ensures ok { IfOk result (λ m. IsEntryObject (value_view value.now) (value_view m.key.now)
+        (value_view m.seqno.now) (value_view m.kind.now) (value_view m.value.now)) }
+    ensures refused { IfErr result (LacksMembers (value_view value.now)) }
+{
+    test_members(value)?;
+    find_members(value).ok_or(LineError::Members)
+}
+
 // Tests that a value is an object of four members.
 fn test_members<A: Allocator>(value: &Value<'_, A>) -> Result<(), LineError>
-    ensures { OnOk result ((members : Members) × (value_view value.now ≡ object members)
+    ensures ok { OnOk result ((members : Members) × (value_view value.now ≡ object members)
         × (length (keys members) ≡ 4)) }
+    ensures refused { IfErr result (LacksMembers (value_view value.now)) }
 {
     match value {
         Value::Object(members) if members.len() == 4 => Ok(()),
@@ -141,8 +190,27 @@ fn test_members<A: Allocator>(value: &Value<'_, A>) -> Result<(), LineError>
     }
 }
 
+// The members that are an entry's, where a value has each.
+fn find_members<'v, 'a, A: Allocator>(value: &'v Value<'a, A>) -> Option<EntryMembers<'v, 'a, A>>
+    ensures some { IfSome result (λ m. (members : Members)
+        → value_view value.now ≡ object members → length (keys members) ≡ 4
+        → AreMembers members (value_view m.key.now) (value_view m.seqno.now)
+        (value_view m.kind.now) (value_view m.value.now)) }
+    ensures none { IfNone result ((key seqno kind other : Json)
+        → ¬ IsEntryObject (value_view value.now) key seqno kind other) }
+{
+    Some(EntryMembers {
+        key: value.get("key")?,
+        seqno: value.get("seqno")?,
+        kind: value.get("kind")?,
+        value: value.get("value")?,
+    })
+}
+
 fn read_number<A: Allocator>(value: &Value<'_, A>) -> Result<u64, LineError>
-    ensures { IfOk result (λ n. MeansNumber (value_view value.now) n) }
+    ensures ok { IfOk result (λ n. MeansNumber (value_view value.now) n) }
+    ensures refused { IfErr result (λ e.
+        (e ≡ NumberMember) × ((n : ℕ) → ¬ MeansNumber (value_view value.now) n)) }
 {
     match value {
         Value::Number(text) => parse_number(text.as_bytes()).ok_or(LineError::NumberMember),
@@ -151,7 +219,9 @@ fn read_number<A: Allocator>(value: &Value<'_, A>) -> Result<u64, LineError>
 }
 
 fn read_kind<A: Allocator>(value: &Value<'_, A>) -> Result<ValueType, LineError>
-    ensures { IfOk result (λ kind. value_view value.now ≡ string (kind_name kind)) }
+    ensures ok { IfOk result (λ kind. value_view value.now ≡ string (kind_name kind)) }
+    ensures refused { IfErr result (λ e. (e ≡ KindMember)
+        × ((kind : ValueType) → value_view value.now ≢ string (kind_name kind))) }
 {
     match value {
         Value::String(text) => kind_named(text).ok_or(LineError::KindMember),
@@ -160,7 +230,8 @@ fn read_kind<A: Allocator>(value: &Value<'_, A>) -> Result<ValueType, LineError>
 }
 
 fn kind_named(name: &str) -> Option<ValueType>
-    ensures { IfSome result (λ kind. name.now ≡ kind_name kind) }
+    ensures some { IfSome result (λ kind. name.now ≡ kind_name kind) }
+    ensures none { IfNone result ((kind : ValueType) → name.now ≢ kind_name kind) }
 {
     match name {
         "value" => Some(ValueType::Value),
@@ -177,7 +248,9 @@ fn read_bytes<A: Allocator + Copy>(
     value: &Value<'_, A>,
     fault: LineError,
 ) -> Result<Slice<A>, LineError>
-    ensures { IfOk result (λ bytes. MeansBytes (value_view value.now) bytes) }
+    ensures ok { IfOk result (λ bytes. MeansBytes (value_view value.now) bytes) }
+    ensures refused { IfErr result (λ e. lacks_memory e ≡ false →
+        (e ≡ fault) × ((bytes : List ℕ) → ¬ MeansBytes (value_view value.now) bytes)) }
 {
     match value {
         Value::String(text) => slice_of(Vec::from_slice(alloc, text.as_bytes())?),
@@ -185,6 +258,7 @@ fn read_bytes<A: Allocator + Copy>(
             Some(digits) => read_digits(alloc, digits, fault),
             None => Err(fault),
         },
+        Value::Object(_) => Err(fault),
         _ => Err(fault),
     }
 }
@@ -195,8 +269,9 @@ fn read_digits<A: Allocator + Copy>(
     value: &Value<'_, A>,
     fault: LineError,
 ) -> Result<Slice<A>, LineError>
-    ensures { IfOk result (λ bytes. (digits : List ℕ) × (value_view value.now ≡ string digits)
-        × (decode_of digits ≡ Ok bytes)) }
+    ensures ok { IfOk result (λ bytes. StandsInDigits (value_view value.now) bytes) }
+    ensures refused { IfErr result (λ e. lacks_memory e ≡ false →
+        (e ≡ fault) × ((bytes : List ℕ) → ¬ StandsInDigits (value_view value.now) bytes)) }
 {
     let Value::String(digits) = value else {
         return Err(fault);

@@ -1,4 +1,6 @@
 mod Lines
+mod LinesLaw
 mod Refusals
+mod Sorting
 mod TableFiles
 mod Taken

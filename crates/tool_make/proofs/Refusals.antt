@@ -1,7 +1,7 @@
 -- Why no tables come of lines.
 use Rattle.std.proofs.Common.{◌≡◌, refl, sym, ◌∙◌, ap, subst, ℕ, Bool, true, false, true≢false}
-use Rattle.std.proofs.Common.{List, [], ◌∷◌, length}
-use Rattle.std.specs.Prelude.{◌≢◌, Option, Result, Ok, Err, IfErr, IsPermutation}
+use Rattle.std.proofs.Common.{List, [], ◌∷◌, inl, inr, length}
+use Rattle.std.specs.Prelude.{◌≢◌, None, Option, Result, Some, Ok, Err, IfErr}
 use Rattle.std.proofs.lemmas.Bool.{false_from_ne_true}
 use Rattle.std.proofs.lemmas.List.{nil_from_length}
 use Rattle.std.proofs.lemmas.List.Sorted.{length_permutation}
@@ -13,19 +13,23 @@ use Rattle.lsm_formats.specs.declared.label.Label.{Label}
 use Rattle.lsm_formats.specs.declared.options.Options.{Options}
 use Rattle.lsm_formats.specs.Chunks.{joined}
 use Rattle.lsm_writers.specs.declared.writer.FinishedTable.{FinishedTable}
-use Rattle.lsm_writers.specs.Tables.{AreFinished, TablesWriting}
+use Rattle.lsm_writers.specs.Tables.{AreFinished, TablesWriting, all_written}
+use Rattle.lsm_compactions.proofs.WrittenBy.{nothing_yet}
 use Rattle.logpurple.proofs.Laws.{memory_is}
 use Rattle.tool_lines.specs.declared.entry_line.Format.{Format}
 use Rattle.tool_files.specs.declared.file_error.FileError.{FileError}
+use Rattle.tool_make.specs.declared.make_error.LineFault.TheVariants as fault
 use Rattle.tool_make.specs.declared.make_error.MakeError.{MakeError}
 use Rattle.tool_make.specs.declared.make_error.MakeError.TheVariants.{File, Input, Line, NoEntries}
 use Rattle.tool_make.specs.declared.make_error.MakeError.TheVariants.{Refused, SizeTooLarge}
 use Rattle.tool_make.specs.declared.options.WriteOptions.{WriteOptions}
-use Rattle.tool_make.specs.Entries.{HasEntries}
+use Rattle.tool_make.specs.Entries.{HasEntries, input_lines}
 use Rattle.tool_make.specs.Faults.{StopsLines}
 use Rattle.tool_make.specs.Refusing.{RefusesLines, TellsEnd, TellsSizes}
-use Rattle.tool_make.specs.Written.{AreOfLines, TookLines, TookSorted, WritesAll, WritesSorted}
+use Rattle.tool_make.specs.Sorting.{TellsOrder}
+use Rattle.tool_make.specs.Written.{AreOfLines, TookLines, WritesAll, WritesSorted}
 use Rattle.tool_make.specs.Written.{writer_by}
+use Rattle.tool_make.proofs.Sorting.{first_out_of_order, first_repeated}
 
 -- what is no want of memory
 pub not_memory : (e : Error) → e ≢ OutOfMemory → is_memory e ≡ false
@@ -123,7 +127,7 @@ none_sorted : (A : Type 0) (sort : Bool) (w : TablesWriting) (es : List Entry)
     → WritesSorted {A = A} sort w es [] → es ≡ []
 none_sorted A false w es h = none_all A w es h
 none_sorted A true w es h =
-    nil_from_length es (sym (length_permutation es h.0 h.1)
+    nil_from_length es (sym (length_permutation es h.0 h.1.permuted)
     ∙ ap (λ (xs : List Entry). length xs) (none_all A w h.0 h.2))
 
 pub none_spelled : {A : Type 0} (o : WriteOptions) (input : Option (List ℕ))
@@ -134,3 +138,44 @@ none_spelled {A} o input fs count h none =
     (none_sorted A o.sort (writer_by o) h.entries
     (subst (λ (xs : List (FinishedTable A)). WritesSorted o.sort (writer_by o) h.entries xs) none
     h.written)) h.spelled
+
+-- ---- a line that is told as repeated, or out of order
+
+repeated_line : (sort : Bool) (format : Format) (input : Option (List ℕ)) (w : TablesWriting)
+    (n : ℕ) → all_written w ≡ [] → StopsLines sort format input w (Line n fault.Repeated)
+    → TellsOrder format input (Line n fault.Repeated)
+repeated_line true format None w n fresh h = tt
+repeated_line false format None w n fresh h = tt
+repeated_line true format (Some bytes) w n fresh (inl h) = absurd h.told.1
+repeated_line true format (Some bytes) w n fresh (inr h) =
+    first_repeated format (input_lines bytes) w n fresh h
+repeated_line false format (Some bytes) w n fresh h =
+    absurd (true≢false (sym h.told.1.2.0))
+
+order_line : (sort : Bool) (format : Format) (input : Option (List ℕ)) (w : TablesWriting)
+    (n : ℕ) → all_written w ≡ [] → StopsLines sort format input w (Line n fault.OutOfOrder)
+    → TellsOrder format input (Line n fault.OutOfOrder)
+order_line true format None w n fresh h = tt
+order_line false format None w n fresh h = tt
+order_line true format (Some bytes) w n fresh (inl h) = absurd h.told.1
+order_line true format (Some bytes) w n fresh (inr h) =
+    absurd (true≢false h.stops.told.1.0)
+order_line false format (Some bytes) w n fresh h =
+    first_out_of_order format (input_lines bytes) w n fresh h
+
+pub told_order : (o : WriteOptions) (input : Option (List ℕ)) (error : MakeError)
+    → RefusesLines o input error → TellsOrder o.format input error
+told_order o input (Line n fault.Repeated) h =
+    repeated_line o.sort o.format input (writer_by o) n
+    (nothing_yet (writer_by o) (refl, (refl, refl, refl), refl)) h
+told_order o input (Line n (fault.Spelling e)) h = tt
+told_order o input (Line n fault.TooHigh) h = tt
+told_order o input (Line n fault.OutOfOrder) h =
+    order_line o.sort o.format input (writer_by o) n
+    (nothing_yet (writer_by o) (refl, (refl, refl, refl), refl)) h
+told_order o input (Line n (fault.Refused e)) h = tt
+told_order o input (File e) h = tt
+told_order o input (Input e) h = tt
+told_order o input NoEntries h = tt
+told_order o input SizeTooLarge h = tt
+told_order o input (Refused e) h = tt

@@ -1,11 +1,11 @@
 -- Files of tables, one after another.
-use Rattle.std.proofs.Common.{◌≡◌, sym, ◌∙◌, ap, subst, ℕ, suc, ◌+◌, ◌<◌, List, [], ◌∷◌, ◌++◌}
-use Rattle.std.proofs.Common.{arith, get_or, length, take}
+use Rattle.std.proofs.Common.{◌≡◌, sym, ◌∙◌, ap, subst, ℕ, ◌+◌, ◌<◌, List}
+use Rattle.std.proofs.Common.{arith, get_or, length}
 use Rattle.std.specs.Prelude.{Any, Bool, IfErr, Option, Result, Ok, Err, false, if◌then◌else◌, map}
 use Rattle.std.specs.Prelude.{true}
 use Rattle.std.specs.Result.{IsErrAnd}
-use Rattle.std.proofs.Common.{◌⊎◌, inl, inr, refl, zero}
-use Rattle.std.proofs.lemmas.List.{get_or-map, length-map, length-take-le, map-append, take_more}
+use Rattle.std.proofs.Common.{◌⊎◌, inl, inr}
+use Rattle.std.proofs.lemmas.List.{get_or-map, length-map}
 use Rattle.tool_files.specs.declared.file_error.FileError.{FileError}
 use Rattle.tool_make.specs.declared.make_error.MakeError.{MakeError}
 use Rattle.tool_make.specs.declared.make_error.MakeError.TheVariants.{File, Refused}

@@ -2,13 +2,15 @@
 use Rattle.std.proofs.Common.{◌≡◌, refl, sym, ◌∙◌, ap, subst, List, [], ◌∷◌, ◌++◌, append_assoc}
 use Rattle.std.proofs.Common.{append-nil, ℕ, ◌+◌, Bool, true, false, length, length-append, ◌<◌}
 use Rattle.std.proofs.Common.{get_or, take}
-use Rattle.std.specs.Prelude.{Option, Some, None, Result, Ok, Err, IfErr, IfOk, IsPermutation, map}
+use Rattle.std.specs.Prelude.{Option, Some, None, Result, Ok, Err, IfErr, IfOk, map}
 use Rattle.std.specs.Io.KnownBytes.{IsAtEnd}
 use Rattle.std.proofs.lemmas.List.{length-map, map-append, take_more}
-use Rattle.std.proofs.lemmas.List.Sorted.{IsPermutation-map, length_permutation}
+use Rattle.std.proofs.lemmas.List.Sorted.{length_permutation}
 use Rattle.sst_entries.specs.Entry.{Entry}
+use Rattle.sst_entries.specs.Strict.{is_before}
 use Rattle.lsm_writers.specs.declared.writer.FinishedTable.{FinishedTable}
 use Rattle.lsm_writers.specs.Tables.{IsFreshRun, TablesWriting, all_written, took, took_fault}
+use Rattle.lsm_writers.specs.Writing.{may_be_written}
 use Rattle.lsm_compactions.specs.Compacted.{RunsOn}
 use Rattle.lsm_compactions.proofs.WrittenBy.{Since, all_finished, nothing_yet, since_more}
 use Rattle.lsm_compactions.proofs.WrittenBy.{since_now}
@@ -28,22 +30,25 @@ use Rattle.tool_make.specs.Entries.{row_entries}
 use Rattle.tool_make.specs.declared.entries.Numbered.{Numbered}
 use Rattle.tool_make.specs.declared.options.WriteOptions.{WriteOptions}
 use Rattle.tool_make.specs.Written.{AreOfLines, AreTablesOf, TookLine, TookLines}
+use Rattle.tool_make.specs.Sorting.{IsSortOf, is_row_before}
 use Rattle.tool_make.specs.Taken.{TookAll}
 use Rattle.tool_make.specs.Written.{TookSorted}
 use Rattle.tool_make.specs.Written.{WritesAll, WritesSorted, writer_by}
 
 -- one more entry behind those that were taken
 pub took_more : (w m n : TablesWriting) (es : List Entry) (e : Entry) → TookAll w es m
-    → took_fault m e ≡ None → all_written n ≡ all_written m ++ e ∷ [] → n ≡ took m e
+    → took_fault m e ≡ None → all_written n ≡ all_written m ++ e ∷ []
+    → may_be_written (all_written m) e.user_key e.seqno ≡ true → n ≡ took m e
     → TookAll w (es ++ e ∷ []) n
-took_more w m n [] e same fine listed is = (
+took_more w m n [] e same fine listed next is = (
   subst (λ (x : TablesWriting). took_fault x e ≡ None) same fine,
   subst (λ (x : TablesWriting). all_written (took x e) ≡ all_written x ++ e ∷ []) same
       (ap all_written (sym is) ∙ listed),
+  subst (λ (x : TablesWriting). may_be_written (all_written x) e.user_key e.seqno ≡ true) same next,
   is ∙ ap (λ (x : TablesWriting). took x e) same,
 )
-took_more w m n (x ∷ es) e h fine listed is =
-    (h.0, h.1, took_more (took w x) m n es e h.2 fine listed is)
+took_more w m n (x ∷ es) e h fine listed next is =
+    (h.0, h.1, h.2, took_more (took w x) m n es e h.3 fine listed next is)
 
 -- ---- lines that a writer takes as they are read
 
@@ -83,17 +88,18 @@ lines_more format input left new line w m n count passed h loses some t = record
   goes = goes_more format input left new line h.entries passed t.entry h.goes loses some t.spelled;
   counted = ap (λ (k : ℕ). k + 1) h.counted ∙ sym (length-append h.entries (t.entry ∷ []));
   taken = took_more w m n h.entries t.entry h.taken t.taken.0
-      (ap all_written t.taken.2 ∙ t.taken.1) t.taken.2;
+      (ap all_written t.taken.3 ∙ t.taken.1) t.taken.2 t.taken.3;
 }
 
 -- a line whose entry a writer took
 pub line_taken : (format : Format) (line : List ℕ) (w m : TablesWriting) (e : Entry)
     → LineSpells format line e → took_fault w e ≡ None → all_written m ≡ all_written w ++ e ∷ []
-    → m ≡ took w e → TookLine format line w m
-line_taken format line w m e reads fine listed is = record {
+    → may_be_written (all_written w) e.user_key e.seqno ≡ true → m ≡ took w e
+    → TookLine format line w m
+line_taken format line w m e reads fine listed next is = record {
   entry = e;
   spelled = reads;
-  taken = (fine, ap all_written (sym is) ∙ listed, is);
+  taken = (fine, ap all_written (sym is) ∙ listed, next, is);
 }
 
 pub lines_end : (format : Format) (input left : Option (List ℕ)) (w m : TablesWriting)
@@ -103,11 +109,11 @@ lines_end format input left w m count passed h end =
     (h.entries, goes_end format input left h.entries passed h.goes end, h.counted, h.taken)
 
 -- what was written before, and then these
-took_list : (w m : TablesWriting) (es : List Entry) → TookAll w es m
+pub took_list : (w m : TablesWriting) (es : List Entry) → TookAll w es m
     → all_written m ≡ all_written w ++ es
 took_list w m [] h = ap all_written h ∙ sym (append-nil (all_written w))
 took_list w m (e ∷ es) h =
-    took_list (took w e) m es h.2
+    took_list (took w e) m es h.3
     ∙ ap (λ (xs : List Entry). xs ++ es) h.1
     ∙ append_assoc (all_written w) (e ∷ []) es
 
@@ -125,19 +131,20 @@ lines_stop format input left new line w m count passed error h loses told =
 pub rows_more : {A : Type 0} (w m n : TablesWriting) (rows : List (Numbered A)) (i : ℕ)
     (row : Numbered A) → i < length rows → row ≡ get_or rows i row
     → TookAll w (row_entries (take i rows)) m → took_fault m row.entry ≡ None
-    → all_written n ≡ all_written m ++ row.entry ∷ [] → n ≡ took m row.entry
-    → TookAll w (row_entries (take (i + 1) rows)) n
-rows_more {A} w m n rows i row less here h fine listed is =
+    → all_written n ≡ all_written m ++ row.entry ∷ []
+    → may_be_written (all_written m) row.entry.user_key row.entry.seqno ≡ true
+    → n ≡ took m row.entry → TookAll w (row_entries (take (i + 1) rows)) n
+rows_more {A} w m n rows i row less here h fine listed next is =
     let more : take (i + 1) rows ≡ take i rows ++ row ∷ [] =
     take_more rows i row less
     ∙ ap (λ (r : Numbered A). take i rows ++ r ∷ []) (sym here) in
     subst (λ (es : List Entry). TookAll w es n)
     (sym (ap (λ (rs : List (Numbered A)). row_entries rs) more
     ∙ map-append (λ (r : Numbered A). r.entry) (take i rows) (row ∷ [])))
-    (took_more w m n (row_entries (take i rows)) row.entry h fine listed is)
+    (took_more w m n (row_entries (take i rows)) row.entry h fine listed next is)
 
 -- the entries of rows, with their numbers or without
-entries_of : {A : Type 0} (rows : List (Numbered A))
+pub entries_of : {A : Type 0} (rows : List (Numbered A))
     → map (λ (r : ℕ × Entry). r.1) (numbered rows) ≡ row_entries rows
 entries_of [] = refl
 entries_of {A} (row ∷ rows) = ap (λ (es : List Entry). row.entry ∷ es) (entries_of rows)
@@ -164,39 +171,38 @@ stops_among {A} (Err e) rows i row w m error less here so_far wrong is =
 
 -- ---- lines that are put in order are refused
 
-among_line : {A : Type 0} (format : Format) (input : Option (List ℕ))
-    (rows sorted : List (Numbered A)) (w : TablesWriting) (n : ℕ) (wrong : LineFault)
-    → HasRows format input (numbered rows) → IsPermutation rows sorted
-    → StopsAmong (numbered sorted) w (Line n wrong) → StopsInOrder format input w (Line n wrong)
-among_line format None rows sorted w n wrong h permuted stops = tt
-among_line {A} format (Some bytes) rows sorted w n wrong h permuted stops =
-    inr record {
-      rows = numbered rows;
-      spelled = h;
-      sorted = numbered sorted;
-      permuted = IsPermutation-map (λ (r : Numbered A). (r.line, r.entry)) rows sorted permuted;
-      stops = stops;
-    }
+among_line : (format : Format) (input : Option (List ℕ)) (rows sorted : List (ℕ × Entry))
+    (w : TablesWriting) (n : ℕ) (wrong : LineFault) → HasRows format input rows
+    → IsSortOf is_row_before rows sorted → StopsAmong sorted w (Line n wrong)
+    → StopsInOrder format input w (Line n wrong)
+among_line format None rows sorted w n wrong h put stops = tt
+among_line format (Some bytes) rows sorted w n wrong h put stops = inr record {
+  rows = rows;
+  spelled = h;
+  sorted = sorted;
+  put = put;
+  stops = stops;
+}
 
-among_sorted : {A : Type 0} (format : Format) (input : Option (List ℕ))
-    (rows sorted : List (Numbered A)) (w : TablesWriting) (error : MakeError)
-    → HasRows format input (numbered rows) → IsPermutation rows sorted
-    → StopsAmong (numbered sorted) w error → StopsInOrder format input w error
-among_sorted format input rows sorted w (Line n wrong) h permuted stops =
-    among_line format input rows sorted w n wrong h permuted stops
-among_sorted format input rows sorted w (File error) h permuted stops = absurd stops.told
-among_sorted format input rows sorted w (Input error) h permuted stops = tt
-among_sorted format input rows sorted w NoEntries h permuted stops = absurd stops.told
-among_sorted format input rows sorted w SizeTooLarge h permuted stops = absurd stops.told
-among_sorted format input rows sorted w (Refused error) h permuted stops = stops.told
+among_sorted : (format : Format) (input : Option (List ℕ)) (rows sorted : List (ℕ × Entry))
+    (w : TablesWriting) (error : MakeError) → HasRows format input rows
+    → IsSortOf is_row_before rows sorted → StopsAmong sorted w error
+    → StopsInOrder format input w error
+among_sorted format input rows sorted w (Line n wrong) h put stops =
+    among_line format input rows sorted w n wrong h put stops
+among_sorted format input rows sorted w (File error) h put stops = absurd stops.told
+among_sorted format input rows sorted w (Input error) h put stops = tt
+among_sorted format input rows sorted w NoEntries h put stops = absurd stops.told
+among_sorted format input rows sorted w SizeTooLarge h put stops = absurd stops.told
+among_sorted format input rows sorted w (Refused error) h put stops = stops.told
 
-pub told_among : {A R : Type 0} (told : Result R MakeError) (format : Format)
-    (input : Option (List ℕ)) (rows sorted : List (Numbered A)) (w : TablesWriting)
-    → HasRows format input (numbered rows) → IsPermutation rows sorted
-    → IfErr told (StopsAmong (numbered sorted) w) → IfErr told (StopsInOrder format input w)
-told_among (Ok r) format input rows sorted w h permuted stops = tt
-told_among (Err e) format input rows sorted w h permuted stops =
-    among_sorted format input rows sorted w e h permuted stops
+pub told_among : {R : Type 0} (told : Result R MakeError) (format : Format)
+    (input : Option (List ℕ)) (rows sorted : List (ℕ × Entry)) (w : TablesWriting)
+    → HasRows format input rows → IsSortOf is_row_before rows sorted
+    → IfErr told (StopsAmong sorted w) → IfErr told (StopsInOrder format input w)
+told_among (Ok r) format input rows sorted w h put stops = tt
+told_among (Err e) format input rows sorted w h put stops =
+    among_sorted format input rows sorted w e h put stops
 
 reading_line : (format : Format) (input : Option (List ℕ)) (w : TablesWriting) (n : ℕ)
     (wrong : LineFault) → StopsReading format input (Line n wrong)
@@ -217,22 +223,19 @@ reading_first format input w (Refused error) h = h
 -- rows that were put in order, and then taken
 pub sorted_taken : {A E : Type 0} (format : Format) (input : Option (List ℕ))
     (rows sorted : List (Numbered A)) (w m : TablesWriting) (told : Result ℕ E)
-    → HasEntries format input (row_entries rows) → IsPermutation rows sorted
+    → HasEntries format input (row_entries rows)
+    → IsSortOf is_before (row_entries rows) (row_entries sorted)
     → IfOk told (λ n. (n ≡ length sorted) × TookAll w (row_entries sorted) m)
     → IfOk told (λ n. (es : List Entry) × HasEntries format input es × (n ≡ length es)
-    × ((order : List Entry) × IsPermutation es order × TookAll w order m))
-sorted_taken {A} format input rows sorted w m (Ok n) reads permuted all = (
+    × ((order : List Entry) × IsSortOf is_before es order × TookAll w order m))
+sorted_taken {A} format input rows sorted w m (Ok n) reads put all = (
   row_entries rows,
   reads,
-  all.0 ∙ length_permutation rows sorted permuted
-      ∙ sym (length-map rows (λ (r : Numbered A). r.entry)),
-  (
-    row_entries sorted,
-    IsPermutation-map (λ (r : Numbered A). r.entry) rows sorted permuted,
-    all.1,
-  ),
+  all.0 ∙ sym (length-map sorted (λ (r : Numbered A). r.entry))
+      ∙ length_permutation (row_entries rows) (row_entries sorted) put.permuted,
+  (row_entries sorted, put, all.1),
 )
-sorted_taken format input rows sorted w m (Err e) reads permuted all = tt
+sorted_taken format input rows sorted w m (Err e) reads put all = tt
 
 -- ---- the tables of a writer
 
@@ -240,7 +243,7 @@ took_since : (w m n : TablesWriting) (es : List Entry) → IsFreshRun w → Sinc
     → TookAll m es n → Since w n
 took_since w m n [] fresh h same = subst (Since w) (sym same) h
 took_since w m n (e ∷ es) fresh h taken =
-    took_since w (took m e) n es fresh (since_more w m fresh e h taken.0) taken.2
+    took_since w (took m e) n es fresh (since_more w m fresh e h taken.0) taken.3
 
 -- the tables of a writer that took entries are those of these entries
 taken_all : {A : Type 0} (w m : TablesWriting) (es : List Entry) (fs : List (FinishedTable A))

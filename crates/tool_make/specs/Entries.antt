@@ -1,7 +1,7 @@
 -- Lines that spell entries.
 use Rattle.std.specs.Prelude.{◌≡◌, ◌<◌, ℕ, suc, ◌==◌, Bool, true, false, List, [], ◌∷◌, length, map}
-use Rattle.std.specs.Prelude.{IfSome, Option, Some, if◌then◌else◌}
-use Rattle.std.specs.List.{onto_first}
+use Rattle.std.specs.Prelude.{◌≢◌, ◌++◌, IfSome, Option, Some, if◌then◌else◌}
+use Rattle.std.specs.List.{All, onto_first}
 use Rattle.std.specs.Io.KnownBytes.{IsAtEnd}
 use Rattle.std.specs.Io.BufRead.{drop_through, first_piece}
 use Rattle.sst_entries.specs.Entry.{Entry}
@@ -62,3 +62,20 @@ row_entries rows = map (λ row. row.entry) rows
 -- the entries of rows, each with the number of its line
 abbrev pub numbered : {A : Type 0} → List (Numbered A) → List (ℕ × Entry)
 numbered rows = map (λ row. (row.line, row.entry)) rows
+
+-- lines, each behind the one before it and with its end
+abbrev pub lines_text : List (List ℕ) → List ℕ
+lines_text [] = []
+lines_text (line ∷ lines) = line ++ 10 ∷ lines_text lines
+
+-- lines spell these entries in turn, and no byte in one of them ends it
+abbrev pub AreLinesOf : Format → List (List ℕ) → List Entry → Type 0
+AreLinesOf format [] es = es ≡ []
+AreLinesOf format (line ∷ lines) [] = ⊥
+AreLinesOf format (line ∷ lines) (e ∷ es) =
+    All (λ b. b ≢ 10) line × LineSpells format line e × AreLinesOf format lines es
+
+-- an input of lines that spell entries in turn has just these entries
+abbrev pub LinesLaw : Type 0
+LinesLaw = (format : Format) (lines : List (List ℕ)) (es : List Entry)
+    → AreLinesOf format lines es → HasEntries format (Some (lines_text lines)) es

@@ -1,21 +1,23 @@
 -- What is wrong with a line.
 use Rattle.std.specs.Prelude.{◌≡◌, ◌≢◌, ◌-◌, ◌^◌, ℕ, ◌+◌, ◌++◌, ◌∷◌, Bool, true, false, List}
-use Rattle.std.specs.Prelude.{◌⊎◌, IfSome, IsPermutation, Option, Some, length, map, if◌then◌else◌}
+use Rattle.std.specs.Prelude.{◌⊎◌, IfSome, None, Option, Some, length, map, if◌then◌else◌}
 use Rattle.sst_entries.specs.Entry.{Entry}
+use Rattle.sst_entries.specs.Strict.{last_of, may_follow}
 use Rattle.sst_entries.specs.declared.error.Error.TheVariants.{OutOfMemory}
 use Rattle.lsm_writers.specs.Tables.{TablesWriting, all_written, took_fault}
-use Rattle.lsm_writers.specs.Writing.{may_be_written}
 use Rattle.tool_files.specs.declared.file_error.FileError.{FileError}
 use Rattle.tool_files.specs.Files.{is_memory_fault}
+use Rattle.tool_lines.specs.ObjectLine.{IsObjectFault}
 use Rattle.tool_lines.specs.WordLine.{IsWordFault}
 use Rattle.tool_lines.specs.declared.entry_line.Format.{Format}
-use Rattle.tool_lines.specs.declared.entry_line.Format.TheVariants.{Lines}
+use Rattle.tool_lines.specs.declared.entry_line.Format.TheVariants.{Json, Lines}
 use Rattle.tool_lines.specs.declared.entry_line.LineError.TheVariants as spelling
 use Rattle.tool_make.specs.declared.make_error.LineFault.{LineFault}
 use Rattle.tool_make.specs.declared.make_error.LineFault.TheVariants as fault
 use Rattle.tool_make.specs.declared.make_error.MakeError.{MakeError}
 use Rattle.tool_make.specs.declared.make_error.MakeError.TheVariants.{File, Input, Line, Refused}
 use Rattle.tool_make.specs.Entries.{LineSpells, Spell, SpellRows, input_lines}
+use Rattle.tool_make.specs.Sorting.{IsSortOf, is_row_before}
 use Rattle.tool_make.specs.Taken.{TookAll}
 
 -- what is wrong with a file, and no file where memory is wanted
@@ -26,9 +28,9 @@ error_of_file e = if is_memory_fault e.fault then Refused OutOfMemory else File 
 abbrev pub IsWrongEntry : Bool → TablesWriting → Entry → LineFault → Type 0
 IsWrongEntry sorted w e fault.TooHigh = e.seqno ≡ 2 ^ 64 - 1
 IsWrongEntry sorted w e fault.OutOfOrder =
-    (sorted ≡ false) × (may_be_written (all_written w) e.user_key e.seqno ≡ false)
+    (sorted ≡ false) × (may_follow (last_of None (all_written w)) e ≡ false)
 IsWrongEntry sorted w e fault.Repeated =
-    (sorted ≡ true) × (may_be_written (all_written w) e.user_key e.seqno ≡ false)
+    (sorted ≡ true) × (may_follow (last_of None (all_written w)) e ≡ false)
 IsWrongEntry sorted w e (fault.Refused error) =
     (took_fault w e ≡ Some error) × (error ≢ OutOfMemory)
 IsWrongEntry sorted w e (fault.Spelling error) = ⊥
@@ -39,10 +41,12 @@ TellsEntry number sorted w e (Line n wrong) = (n ≡ number) × IsWrongEntry sor
 TellsEntry number sorted w e (Refused error) = error ≡ OutOfMemory
 TellsEntry number sorted w e error = ⊥
 
--- a line spells no entry, and by its words why; want of memory is no fault of a line
+-- a line spells no entry, and why, by its words or as an object; want of memory is no fault of a
+-- line
 abbrev pub IsSpeltWrong : Format → List ℕ → LineFault → Type 0
 IsSpeltWrong format line (fault.Spelling error) =
-    (format ≡ Lines → IsWordFault line error) × (error ≢ spelling.OutOfMemory)
+    (format ≡ Lines → IsWordFault line error) × (format ≡ Json → IsObjectFault line error)
+    × (error ≢ spelling.OutOfMemory)
 IsSpeltWrong format line wrong = ⊥
 
 -- a refusal names a line that spells no entry, or is one of memory
@@ -125,7 +129,7 @@ pub record StopsSorted (format : Format) (lines : List (List ℕ)) (w : TablesWr
   pub rows : List (ℕ × Entry)
   pub spelled : SpellRows format 1 lines rows
   pub sorted : List (ℕ × Entry)
-  pub permuted : IsPermutation rows sorted
+  pub put : IsSortOf is_row_before rows sorted
   pub stops : StopsAmong sorted w error
 
 -- where a refusal names a line of an input that is put in order, it is the first that spells no

@@ -1,11 +1,12 @@
 -- Entries that a writer of tables took.
-use Rattle.std.specs.Prelude.{◌≡◌, ◌++◌, None, List, [], ◌∷◌}
+use Rattle.std.specs.Prelude.{◌≡◌, ◌++◌, None, List, [], ◌∷◌, true}
 use Rattle.sst_entries.specs.Entry.{Entry}
 use Rattle.lsm_writers.specs.Tables.{TablesWriting, all_written, took, took_fault}
+use Rattle.lsm_writers.specs.Writing.{may_be_written}
 
--- a writer took entries one after another, and refused none
+-- a writer took entries one after another, each of which might come next, and refused none
 abbrev pub TookAll : TablesWriting → List Entry → TablesWriting → Type 0
 TookAll w [] m = m ≡ w
 TookAll w (e ∷ es) m =
     (took_fault w e ≡ None) × (all_written (took w e) ≡ all_written w ++ e ∷ [])
-    × TookAll (took w e) es m
+    × (may_be_written (all_written w) e.user_key e.seqno ≡ true) × TookAll (took w e) es m

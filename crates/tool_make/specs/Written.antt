@@ -1,20 +1,21 @@
 -- Tables that are written of lines.
-use Rattle.std.specs.Prelude.{◌≡◌, ◌≤◌, ◌-◌, ◌^◌, ◌++◌, ℕ, None, Bool, true, false}
+use Rattle.std.specs.Prelude.{◌≡◌, ◌≤◌, ℕ, Bool, true, false}
 use Rattle.std.specs.Prelude.{List, [], ◌∷◌, length}
-use Rattle.std.specs.Prelude.{IsPermutation, Option, Some}
+use Rattle.std.specs.Prelude.{Option, Some}
 use Rattle.sst_entries.specs.Entry.{Entry}
-use Rattle.sst_entries.specs.Strict.{IsStrict}
+use Rattle.sst_entries.specs.Strict.{IsStrict, is_before}
 use Rattle.lsm_formats.specs.declared.options.Options.{Options}
 use Rattle.lsm_writers.specs.declared.writer.FinishedTable.{FinishedTable}
 use Rattle.lsm_writers.specs.Tables.{AreFinished, AreInKeyOrder, AreTables, TablesWriting}
-use Rattle.lsm_writers.specs.Tables.{all_written, first_label, new_tables, tables_of, took}
-use Rattle.lsm_writers.specs.Tables.{took_fault, with_options}
+use Rattle.lsm_writers.specs.Tables.{all_written, first_label, new_tables, tables_of}
+use Rattle.lsm_writers.specs.Tables.{with_options}
 use Rattle.lsm_writers.specs.Writing.{IsSmallIndex}
 use Rattle.lsm_compactions.specs.Compacted.{AreWrittenBy}
 use Rattle.logpurple.specs.Words.{default_options}
 use Rattle.tool_files.specs.Targets.{largest_table}
 use Rattle.tool_lines.specs.declared.entry_line.Format.{Format}
 use Rattle.tool_make.specs.Entries.{HasEntries, LineSpells}
+use Rattle.tool_make.specs.Sorting.{IsSortOf}
 use Rattle.tool_make.specs.Taken.{TookAll}
 use Rattle.tool_make.specs.declared.options.WriteOptions.{WriteOptions}
 
@@ -44,7 +45,8 @@ pub record TookLine (format : Format) (line : List ℕ) (w m : TablesWriting) : 
 -- a writer took entries as they stand, or put in order
 abbrev pub TookSorted : Bool → TablesWriting → List Entry → TablesWriting → Type 0
 TookSorted false w es m = TookAll w es m
-TookSorted true w es m = (sorted : List Entry) × IsPermutation es sorted × TookAll w sorted m
+TookSorted true w es m =
+    (sorted : List Entry) × IsSortOf is_before es sorted × TookAll w sorted m
 
 -- the lines of an input spell so many entries, and a writer took them
 pub record TookLines (o : WriteOptions) (input : Option (List ℕ)) (w m : TablesWriting)
@@ -70,7 +72,7 @@ abbrev pub WritesSorted : {A : Type 0} → Bool → TablesWriting → List Entry
     → List (FinishedTable A) → Type 0
 WritesSorted false w es fs = WritesAll w es fs
 WritesSorted true w es fs =
-    (sorted : List Entry) × IsPermutation es sorted × WritesAll w sorted fs
+    (sorted : List Entry) × IsSortOf is_before es sorted × WritesAll w sorted fs
 
 -- the lines of an input spell so many entries, and these are the tables of them
 pub record AreOfLines {A : Type 0} (o : WriteOptions) (input : Option (List ℕ))

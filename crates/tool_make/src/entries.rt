@@ -1,8 +1,9 @@
 //! Entries that are read from lines and written into tables.
 ghost use Rattle.std.specs.Prelude.{◌≡◌, ◌++◌, ◌∷◌, [], IfOk, IsTrue, IsPermutation, List, None};
-ghost use Rattle.std.specs.Prelude.{IfErr, OnOk, length, if◌then◌else◌};
+ghost use Rattle.std.specs.Prelude.{IfErr, OnOk, length, true, if◌then◌else◌};
 ghost use Rattle.std.specs.Io.BufRead.{strip_last};
 ghost use Rattle.sst_entries.specs.Entry.{Entry};
+ghost use Rattle.sst_entries.specs.Strict.{version_cmp};
 ghost use Rattle.lsm_writers.specs.Tables.{all_written, took, took_fault};
 ghost use Rattle.lsm_writers.specs.Writing.{may_be_written};
 ghost use Rattle.tool_make.specs.declared.make_error.LineFault.TheVariants.{OutOfOrder, Repeated};
@@ -10,6 +11,7 @@ ghost use Rattle.tool_make.specs.Entries.{HasEntries, HasRows, LineSpells, Reads
 ghost use Rattle.tool_make.specs.Entries.{numbered, row_entries};
 ghost use Rattle.tool_make.specs.Faults.{IsOfInput, StopsAmong, StopsIn, StopsReading, TellsEntry};
 ghost use Rattle.tool_make.specs.Faults.{TellsLine, TellsSpelling};
+ghost use Rattle.tool_make.specs.Sorting.{IsSortOf, is_row_before};
 ghost use Rattle.tool_make.specs.Taken.{TookAll};
 ghost use Rattle.tool_make.specs.Written.{TookLine};
 
@@ -104,6 +106,8 @@ fn write_entry<A: Allocator + Copy>(
     ensures listed { OnOk result
         (all_written writer.new ≡ all_written writer.old ++ entry.now ∷ []) }
     ensures taken { OnOk result (took_fault writer.old entry.now ≡ None) }
+    ensures follows { OnOk result
+        (may_be_written (all_written writer.old) entry.now.user_key entry.now.seqno ≡ true) }
     ensures refused { IfErr result (λ error.
         TellsEntry number sorted writer.old entry.now error) }
 {
@@ -207,7 +211,9 @@ pub(crate) fn collect_lines<I: BufRead, A: Allocator + Copy>(
 }
 
 // By key upward, then by number downward.
-fn compare_rows<A: Allocator>(left: &Numbered<A>, right: &Numbered<A>) -> Ordering {
+fn compare_rows<A: Allocator>(left: &Numbered<A>, right: &Numbered<A>) -> Ordering
+    ensures { result ≡ version_cmp left.now.entry right.now.entry }
+{
     let (left, right) = (left.entry.as_entry_ref(), right.entry.as_entry_ref());
     left.compare_version(&right)
 }
@@ -215,7 +221,9 @@ fn compare_rows<A: Allocator>(left: &Numbered<A>, right: &Numbered<A>) -> Orderi
 /// Puts entries in order, by key upward and by number downward; of two with one key and number the
 /// one of the earlier line comes first. Refused for want of memory alone.
 pub(crate) fn sort_rows<A: Allocator>(rows: &mut Vec<Numbered<A>, A>) -> Result<(), AllocError>
-    ensures { IsPermutation rows.old.items rows.new.items }
+    ensures rows { IsPermutation rows.old.items rows.new.items }
+    ensures order { OnOk result
+        (IsSortOf is_row_before (numbered rows.old.items) (numbered rows.new.items)) }
 {
     rows.sort_by(compare_rows)
 }

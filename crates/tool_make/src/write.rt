@@ -1,7 +1,8 @@
 //! Tables that are written of lines.
 ghost use Rattle.std.specs.Prelude.{◌≡◌, ◌⊎◌, ◌+◌, ◌<◌, Any, IfErr, IfOk, IsErrAnd};
-ghost use Rattle.std.specs.Prelude.{IsPermutation, List, OnOk, length, map, ℕ};
+ghost use Rattle.std.specs.Prelude.{List, OnOk, length, map, ℕ};
 ghost use Rattle.sst_entries.specs.Entry.{Entry};
+ghost use Rattle.sst_entries.specs.Strict.{is_before};
 ghost use Rattle.lsm_writers.specs.declared.writer.FinishedTable.{FinishedTable};
 ghost use Rattle.tool_files.specs.Files.{path_text};
 ghost use Rattle.tool_files.specs.Numbered.{named_bytes, numbered_path};
@@ -11,6 +12,7 @@ ghost use Rattle.tool_make.specs.declared.make_error.MakeError.TheVariants.{Refu
 ghost use Rattle.tool_make.specs.Entries.{HasEntries};
 ghost use Rattle.tool_make.specs.Faults.{StopsInOrder, StopsLines};
 ghost use Rattle.tool_make.specs.Refusing.{RefusesLines, RefusesToWrite, TellsEnd};
+ghost use Rattle.tool_make.specs.Sorting.{IsSortOf, TellsOrder};
 ghost use Rattle.tool_make.specs.TableFiles.{AreTablesPlaced, IsFreeBehind, RefusesTables};
 ghost use Rattle.tool_make.specs.TableFiles.{StopsPlacing, TellsEarlier, TellsTableFile};
 ghost use Rattle.tool_make.specs.TableFiles.{files_from, table_file_name};
@@ -36,7 +38,7 @@ fn write_sorted<I: BufRead, A: Allocator + Copy>(
 ) -> Result<u64, MakeError<'static>>
     ensures ok { IfOk result (λ n. (es : List Entry) × HasEntries format (I.remaining input.old) es
         × (n ≡ length es)
-        × ((sorted : List Entry) × IsPermutation es sorted
+        × ((sorted : List Entry) × IsSortOf is_before es sorted
         × TookAll writer.old sorted writer.new)) }
     ensures refused { IfErr result
         (StopsInOrder format (I.remaining input.old) writer.old) }
@@ -229,6 +231,9 @@ pub fn write_entries<'a, P: Place, I: Read + Drop, A: Allocator + Copy>(
     // just their files were not placed, or not for good.
     ensures refused { IfErr result (λ e. RefusesToWrite A options.now (I.remaining input) path.now
         (P.there place.old) (P.done place.old) e (P.done place.new)) }
+    // A line that is told as out of order is the first such one. One that is told as repeated is the
+    // first in order that has the key and number of another one, which is of an earlier line.
+    ensures order { IfErr result (TellsOrder options.now.format (I.remaining input)) }
 {
     // What is told of the sizes comes before any want of memory.
     options.check_sizes()?;

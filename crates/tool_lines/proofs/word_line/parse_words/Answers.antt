@@ -1,7 +1,7 @@
 use Rattle.std.proofs.Common.{rules}
-use Rattle.tool_lines.specs.WordLine.{FourWords, IsNumberWord}
+use Rattle.tool_lines.specs.WordLine.{FourWords, IsNumberWord, IsWordFault}
 use Rattle.tool_lines.specs.declared.entry_line.LineError.TheVariants as fault
-use Rattle.tool_lines.proofs.WordLemmas.{fault_by, fault_of, no_kind}
+use Rattle.tool_lines.proofs.WordLemmas.{fault_by, no_kind, passed_on}
 use Rattle.tool_lines.proofs.word_line.parse_words.Goals as goal
 
 pub returns-in_default-parse_number-clause-refused :
@@ -43,8 +43,8 @@ returns-in_err-key-clause-refused g c =
       value = w.value.now;
       are = c.in-Some.ensures.some;
     } in
-    fault_of c.from_residual.result c.args.line.now c.in_err-key.field-0.0 c.from_residual.ensures.1
-    (fault_by c.args.line.now c.in_err-key.field-0.0 fault.Key (λ fine.
+    passed_on (IsWordFault c.args.line.now) c.from_residual.result c.in_err-key.field-0.0 c.from_residual.ensures.1
+    (fault_by (IsWordFault c.args.line.now) c.in_err-key.field-0.0 fault.Key tt (λ fine.
     let told = c.in_err-key.ensures.refused fine in
     (told.0, (four, told.1))))
 
@@ -75,6 +75,6 @@ returns-in-Err-clause-refused g c =
       value = w.value.now;
       are = c.in-Some.ensures.some;
     } in
-    fault_by c.args.line.now c.in-Err.error fault.Value (λ fine.
+    fault_by (IsWordFault c.args.line.now) c.in-Err.error fault.Value tt (λ fine.
     let told = c.in-Err.ensures.refused fine in
     (told.0, (four, told.1)))

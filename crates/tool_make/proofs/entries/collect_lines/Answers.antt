@@ -1,6 +1,4 @@
 use Rattle.std.proofs.Common.{refl, rules, subst, ◌+◌}
-use Rattle.logpurple.specs.Words.{OutOfMemory}
-use Rattle.tool_make.specs.declared.make_error.MakeError.TheVariants.{Refused}
 use Rattle.tool_make.specs.Entries.{numbered, row_entries}
 use Rattle.tool_make.specs.Faults.{StopsReading, TellsSpelling}
 use Rattle.tool_make.proofs.Lines.{at_end, goes_empty, goes_end, goes_row, handed_on, lost, no_items}

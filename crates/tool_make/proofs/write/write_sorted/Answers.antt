@@ -1,19 +1,19 @@
-use Rattle.std.specs.Prelude.{IfErr}
-use Rattle.std.proofs.Common.{refl}
-use Rattle.logpurple.specs.Words.{OutOfMemory}
-use Rattle.tool_make.specs.declared.make_error.MakeError.TheVariants.{Refused}
+use Rattle.tool_make.specs.Entries.{numbered}
 use Rattle.tool_make.specs.Faults.{StopsInOrder}
 use Rattle.tool_make.proofs.Lines.{handed_on}
+use Rattle.tool_make.proofs.Sorting.{row_entries_sorted}
 use Rattle.tool_make.proofs.Taken.{reading_first, sorted_taken, told_among}
 use Rattle.tool_make.proofs.write.write_sorted.Goals as goal
 
 pub returns-clause-ok : goal.returns-clause-ok
 returns-clause-ok g c =
-    sorted_taken c.args.format (g.I.Read.remaining c.args.input.now) c.in_ok-rows.rows.items c.sort_rows.new.rows.items c.args.writer.now c.write_rows.new.writer c.write_rows.result c.in_ok-rows.ensures.entries c.sort_rows.ensures (rw c.deref.ensures.value at c.write_rows.ensures.ok)
+    let rows = c.in_ok-rows.rows.items in
+    let sorted = c.sort_rows.new.rows.items in
+    sorted_taken c.args.format (g.I.Read.remaining c.args.input.now) rows sorted c.args.writer.now c.write_rows.new.writer c.write_rows.result c.in_ok-rows.ensures.entries (row_entries_sorted rows sorted c.in_ok-sort_rows.ensures.order) (rw c.deref.ensures.value at c.write_rows.ensures.ok)
 
 pub returns-clause-refused : goal.returns-clause-refused
 returns-clause-refused g c =
-    told_among c.write_rows.result c.args.format (g.I.Read.remaining c.args.input.now) c.in_ok-rows.rows.items c.sort_rows.new.rows.items c.args.writer.now c.in_ok-rows.ensures.rows c.sort_rows.ensures (rw c.deref.ensures.value at c.write_rows.ensures.refused)
+    told_among c.write_rows.result c.args.format (g.I.Read.remaining c.args.input.now) (numbered c.in_ok-rows.rows.items) (numbered c.sort_rows.new.rows.items) c.args.writer.now c.in_ok-rows.ensures.rows c.in_ok-sort_rows.ensures.order (rw c.deref.ensures.value at c.write_rows.ensures.refused)
 
 pub returns-in_err-rows-clause-refused : goal.returns-in_err-rows-clause-refused
 returns-in_err-rows-clause-refused g c =
