@@ -2,3 +2,6 @@ mod BlockLemmas
 mod DumpLemmas
 mod FileLemmas
 mod Findings
+mod StepLemmas
+mod TextLemmas
+mod TokenLemmas

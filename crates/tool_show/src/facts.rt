@@ -2,7 +2,7 @@
 ghost use Rattle.std.specs.Iterator.{IsFinite};
 
 use crate::blocks::source_of;
-use crate::checks::section_name;
+use crate::names::section_name;
 use lsm_block_indexes::{BlockIndex, BlockIndexIter};
 use lsm_formats::ItemName;
 use lsm_readers::Table;

@@ -6,7 +6,7 @@ ghost use Rattle.sst_sections.specs.Sections.{body_of};
 ghost use Rattle.lsm_readers.specs.Verify.{table_early, table_found};
 ghost use Rattle.tool_show.specs.Faults.{unloaded_at};
 
-use crate::checks::section_name;
+use crate::names::section_name;
 use lsm_readers::{Fault, Finding, Table, VerifyError};
 use sst_blocks::{Error, SectionName};
 use std::alloc::Allocator;
@@ -22,6 +22,11 @@ pub struct BlockPlace {
 }
 
 impl fmt::Display for BlockPlace {
+    ghost use Rattle.std.specs.Prelude.{Some};
+    ghost use Rattle.tool_show.specs.Lines.{place_text};
+
+    ghost output = { λ place. Some (place_text place) };
+
     fn fmt<W: fmt::Write>(&self, f: &mut fmt::Formatter<W>) -> fmt::Result {
         let (section, offset) = (section_name(self.section), self.offset);
         write!(f, "{section} block at {offset}")

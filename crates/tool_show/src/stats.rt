@@ -2,11 +2,11 @@
 ghost use Rattle.std.specs.Prelude.{IfErr};
 ghost use Rattle.tool_show.specs.Failures.{NamesOnly};
 
-use crate::checks::item_name;
 use crate::error::Failure;
 use crate::facts::{
     ITEMS, NamedPlace, Place, Shown, Spread, blocks_of, little_endian, sections_of, spread_of,
 };
+use crate::names::item_name;
 use crate::picture::{print_blocks, print_sections};
 use crate::{NamedTable, ShowError};
 use json::Writer;
