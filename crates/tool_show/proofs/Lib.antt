@@ -1,7 +1,11 @@
 mod BlockLemmas
+mod CheckLemmas
 mod DumpLemmas
+mod EndingLemmas
 mod FileLemmas
 mod Findings
+mod FirstLemmas
+mod NameLemmas
 mod StepLemmas
 mod TextLemmas
 mod TokenLemmas

@@ -5,7 +5,7 @@ use Rattle.std.proofs.lemmas.List.{length-append, map-append}
 use Rattle.std.specs.Prelude.{Option, None, Some}
 use Rattle.lsm_readers.specs.Table.{OpenTable}
 use Rattle.lsm_readers.specs.Verification.{Verifying, bytes_read, steps_of}
-use Rattle.tool_show.specs.Checked.{AreTold, GoesFurther, IsNextOf, Reaches, progress_at}
+use Rattle.tool_show.specs.Checked.{AreTold, IsNextOf, Reaches, ReadsUpTo, progress_at}
 
 -- nothing more is told
 pub told_none : {X : Type 0} (old : Option (List X)) → AreTold old old []
@@ -66,16 +66,42 @@ went_more v w x old left new blocks more went next told counts falls = record {
   left = omega (arith, went.left, falls, length-append went.steps (x ∷ []));
 }
 
--- what a verification went on by
-pub goes_of : (v w : Verifying) (old new : Option (List (ℕ × ℕ))) (blocks : ℕ)
-    → Went v w old new blocks → GoesFurther v old new blocks
-goes_of v w old new blocks went = record {
+-- what a verification went on by, and how it ends
+pub reads_up_to : (v w : Verifying) (old new : Option (List (ℕ × ℕ))) (blocks : ℕ)
+    (Ends : Verifying → Type 0) → Went v w old new blocks → Ends w → ReadsUpTo v old new blocks Ends
+reads_up_to v w old new blocks Ends went ends = record {
   steps = went.steps;
   last = w;
   reached = went.reached;
   told = went.told;
   count = went.count;
+  ends = ends;
 }
+
+-- another end follows
+pub reads_so : (v : Verifying) (old new : Option (List (ℕ × ℕ))) (blocks : ℕ)
+    (One Other : Verifying → Type 0) → ((w : Verifying) → One w → Other w)
+    → ReadsUpTo v old new blocks One → ReadsUpTo v old new blocks Other
+reads_so v old new blocks One Other follows reads = record {
+  steps = reads.steps;
+  last = reads.last;
+  reached = reads.reached;
+  told = reads.told;
+  count = reads.count;
+  ends = follows reads.last reads.ends;
+}
+
+-- what is told of a step is its progress
+pub told_at : (v w x : Verifying) (us : List Verifying) (old new : Option (List (ℕ × ℕ)))
+    (done all : ℕ) → Reaches v us w → x.table ≡ w.table → done ≡ bytes_read x
+    → all ≡ v.table.parts.facts.file_size → AreTold old new ((done, all) ∷ [])
+    → AreTold old new (progress_at x ∷ [])
+told_at v w x us old new done all reached same is size told =
+    let table : v.table ≡ x.table = sym (same ∙ same_table v us w reached) in
+    let whole : all ≡ x.table.parts.facts.file_size =
+    size ∙ ap (λ (t : OpenTable). t.parts.facts.file_size) table in
+    subst (λ (n : ℕ). AreTold old new ((bytes_read x, n) ∷ [])) whole
+    (subst (λ (n : ℕ). AreTold old new ((n, all) ∷ [])) is told)
 
 -- where no step is left, all were made
 pub went_all : (v w : Verifying) (old new : Option (List (ℕ × ℕ))) (blocks : ℕ)

@@ -1,8 +1,25 @@
 -- Texts that are printed one behind another.
 use Rattle.std.proofs.Common.{◌≡◌, refl, sym, ◌∙◌, ap, subst, ℕ, zero, suc, ◌+◌, ◌<◌, List, []}
-use Rattle.std.proofs.Common.{◌∷◌, ◌++◌, length, get_or, take, append_assoc, append-nil, arith}
-use Rattle.std.specs.Prelude.{Err, Ok, OnOk, Option, Result, codes}
+use Rattle.std.proofs.Common.{◌∷◌, ◌++◌, length, get_or, take, append_assoc, append-nil, arith, rules, ◌-◌, ◌^◌}
+use Rattle.std.specs.Prelude.{Bool, Err, None, Ok, OnOk, Option, Result, Some, codes, false, is_some}
+use Rattle.std.specs.Prelude.{count_by, if◌then◌else◌, map, min, option_to_list}
 use Rattle.sst_entries.specs.declared.error.Error.{Error}
+use Rattle.sst_entries.specs.Entry.{Entry}
+use Rattle.sst_sections.specs.Sections.{body_of, trailer_fault}
+use Rattle.lsm_formats.specs.MetaBlock.{name_of}
+use Rattle.lsm_formats.specs.declared.item_name.ItemName.{ItemName}
+use Rattle.lsm_readers.specs.Parts.{places_told}
+use Rattle.lsm_readers.specs.Table.{OpenTable}
+use Rattle.lsm_readers.specs.declared.verify.Fault.TheVariants as fault
+use Rattle.lsm_readers.specs.declared.verify.Finding.{Finding}
+use Rattle.tool_show.specs.Checked.{IsFaultText, IsFirstLine, IsVerifyText, before_text}
+use Rattle.tool_show.specs.Checked.{found_place}
+use Rattle.tool_show.specs.Faults.{begin_of, block_fault, faults_in, further_fault, further_faults}
+use Rattle.tool_show.specs.Faults.{further_of, is_further, is_told, named_blocks, unopened_faults}
+use Rattle.tool_show.specs.declared.blocks.NamedBlock.{NamedBlock}
+use Rattle.tool_show.specs.Printed.{IsAnswer, PrintsFound, loads_text}
+use Rattle.tool_show.specs.declared.gets.GetOptions.{GetOptions}
+use Rattle.tool_show.specs.declared.named.NamedTable.{NamedTable}
 use Rattle.tool_show.specs.Lines.{AreJoined, IsRefusalText, IsUnloadedLine, PrintsText, block_head}
 use Rattle.tool_show.specs.declared.places.BlockPlace.{BlockPlace}
 use Rattle.std.specs.List.{flat_map}
@@ -72,3 +89,113 @@ joined_one Is x old new one =
 pub joined_none : {X : Type 0} (Is : X → List ℕ → Type 0) (old : Option (List ℕ))
     → PrintsText (AreJoined Is []) old old
 joined_none Is old = ([], refl, Appends-nil old)
+
+-- a fault that has the refusal of a block of the filter
+pub unfiltered_text : {E : Type 0} (told : Result (Unit {0}) E) (e : Error) (a b c : Option (List ℕ))
+    → Appends a b (codes "the filter's block of a key: ")
+    → OnOk told (PrintsText (IsRefusalText e) b c)
+    → OnOk told (PrintsText (IsFaultText (fault.Unfiltered e)) a c)
+unfiltered_text (Ok u) e a b c head refusal = (
+  codes "the filter's block of a key: " ++ refusal.0,
+  (refusal.0, refusal.1, refl),
+  Appends-trans a b c (codes "the filter's block of a key: ") refusal.0 head refusal.2,
+)
+unfiltered_text (Err u) e a b c head refusal = tt
+
+-- the line of what is found first, part by part
+pub first_line : {E : Type 0} (told : Result (Unit {0}) E) (name : List ℕ) (f : Finding) (blocks : ℕ)
+    (a b c d : Option (List ℕ)) → Appends a b (block_head name (found_place f))
+    → PrintsText (IsFaultText f.fault) b c → OnOk told (Appends c d (before_text blocks))
+    → OnOk told (PrintsText (IsFirstLine name f blocks) a d)
+first_line (Ok u) name f blocks a b c d head fault end =
+    let before = block_head name (found_place f) in (
+      before ++ (fault.0 ++ before_text blocks),
+      (fault.0, fault.1, refl),
+      Appends-trans a b d before (fault.0 ++ before_text blocks) head
+          (Appends-trans b c d fault.0 (before_text blocks) fault.2 end),
+    )
+first_line (Err u) name f blocks a b c d head fault end = tt
+
+-- what is found first, and what does not load further
+pub verify_text : (t : OpenTable) (name : List ℕ) (blocks : ℕ) (f : Finding) (a b c : Option (List ℕ))
+    → PrintsText (IsFirstLine name f blocks) a b
+    → PrintsText (AreJoined (IsUnloadedLine name)
+    (further_faults (body_of t.bytes) (Some f) (named_blocks (body_of t.bytes) t.parts))) b c
+    → PrintsText (IsVerifyText t name blocks (Err f)) a c
+verify_text t name blocks f a b c first further = (
+  first.0 ++ further.0,
+  (first.0, further.0, first.1, further.1, refl),
+  Appends-trans a b c first.0 further.0 first.2 further.2,
+)
+
+-- an answer, and then the loads
+pub answer_text : {A : Type 0} (o : GetOptions) (fs : List (NamedTable A)) (found : Option Entry)
+    (a b c : Option (List ℕ)) → PrintsFound o.format found a b → Appends b c (loads_text o fs)
+    → PrintsText (IsAnswer o fs found) a c
+answer_text o fs found a b c line loads = (
+  line.0 ++ loads_text o fs,
+  (line.0, line.1, refl),
+  Appends-trans a b c line.0 (loads_text o fs) line.2 loads,
+)
+
+-- a fault that has an item
+pub unborne_text : {E : Type 0} (told : Result (Unit {0}) E) (i : ItemName) (key : List ℕ)
+    (a b c : Option (List ℕ)) → key ≡ name_of i
+    → Appends a b (codes "the entries do not bear out the meta item ") → OnOk told (Appends b c key)
+    → OnOk told (PrintsText (IsFaultText (fault.Unborne i)) a c)
+unborne_text (Ok u) i key a b c is head name = (
+  codes "the entries do not bear out the meta item " ++ key,
+  ap (λ (text : List ℕ). codes "the entries do not bear out the meta item " ++ text) is,
+  Appends-trans a b c (codes "the entries do not bear out the meta item ") key head name,
+)
+unborne_text (Err u) i key a b c is head name = tt
+
+-- a block that does not load, which what was found does not say
+pub further_one : (body : List ℕ) (told : Option Finding) (b : NamedBlock) (e : Error)
+    → is_told told b ≡ false → block_fault body b ≡ Some e
+    → further_fault body told b ≡ (begin_of b, e) ∷ []
+further_one body told b e not is =
+    ap (λ (t : Bool). if t then [] else map (λ (x : Error). (begin_of b, x))
+    (option_to_list (block_fault body b))) not
+    ∙ ap (λ (o : Option Error). map (λ (x : Error). (begin_of b, x)) (option_to_list o)) is
+
+-- the faults of bytes whose trailer can be read, and of those whose cannot
+pub faults_read : (bytes : List ℕ) → trailer_fault bytes ≡ None
+    → faults_in (body_of bytes) (places_told bytes) ≡ unopened_faults bytes
+faults_read bytes none =
+    sym (ap (λ (o : Option Error). if is_some o then [] else faults_in (body_of bytes) (places_told bytes))
+    none)
+
+pub faults_unread : (bytes : List ℕ) (e : Error) → trailer_fault bytes ≡ Some e
+    → [] ≡ unopened_faults bytes
+faults_unread bytes e some =
+    sym (ap (λ (o : Option Error). if is_some o then [] else faults_in (body_of bytes) (places_told bytes))
+    some)
+
+counts_one : {X : Type 0} (p : X → Bool) (x : X) → count_by p (x ∷ []) ≡ (if p x then 1 else 0)
+counts_one p x = search rules
+
+counts_behind : {X : Type 0} (p : X → Bool) (y : X) (xs ys : List X) (n : ℕ)
+    → count_by p xs ≡ count_by p ys + n → count_by p (y ∷ xs) ≡ count_by p (y ∷ ys) + n
+counts_behind p y xs ys n is = grind (arith, is)
+
+-- one more is counted, or not
+count_more : {X : Type 0} (p : X → Bool) (xs : List X) (i : ℕ) (x : X) → i < length xs
+    → x ≡ get_or xs i x
+    → count_by p (take (i + 1) xs) ≡ count_by p (take i xs) + (if p x then 1 else 0)
+count_more p [] i x h is = absurd (omega (arith, h))
+count_more {X} p (y ∷ ys) zero x h is =
+    ap (λ (z : X). count_by p (z ∷ [])) (sym is) ∙ counts_one p x
+count_more p (y ∷ ys) (suc i) x h is =
+    let next : suc i + 1 ≡ suc (i + 1) = omega arith in
+    ap (λ (n : ℕ). count_by p (take n (y ∷ ys))) next
+    ∙ counts_behind p y (take (i + 1) ys) (take i ys) (if p x then 1 else 0)
+    (count_more p ys i x (omega (arith, h)) is)
+
+-- the further blocks that are counted, and their lines
+pub further_more : (body : List ℕ) (told : Option Finding) (bs : List NamedBlock) (i : ℕ)
+    (b : NamedBlock) (n lines m : ℕ) → i < length bs → b ≡ get_or bs i b
+    → n ≡ further_of body told (take i bs) → lines ≡ (if is_further body told b then 1 else 0)
+    → m ≡ min (n + lines) (2 ^ 64 - 1) → m ≡ further_of body told (take (i + 1) bs)
+further_more body told bs i b n lines m h is before some sum =
+    omega (arith, before, some, sum, count_more (is_further body told) bs i b h is)

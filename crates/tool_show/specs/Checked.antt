@@ -1,13 +1,14 @@
 -- What a check of a file prints, and what progress it tells of.
 use Rattle.std.specs.Prelude.{◌≡◌, ◌-◌, ◌^◌, ℕ, List, [], ◌∷◌, ◌++◌, codes, length, map, min}
-use Rattle.std.specs.Prelude.{Option, None, Some, Result, Ok, Err, OnOk}
+use Rattle.std.specs.Prelude.{Option, None, Some, Result, Ok, Err, IfErr}
 use Rattle.std.specs.Fmt.{decimal}
 use Rattle.std.specs.Io.KnownBytes.{Appends}
 use Rattle.sst_entries.specs.declared.error.Error.{Error}
 use Rattle.sst_sections.specs.Sections.{body_of}
 use Rattle.lsm_formats.specs.MetaBlock.{name_of}
 use Rattle.lsm_readers.specs.Table.{OpenTable}
-use Rattle.lsm_readers.specs.Verification.{ReadsNext, Verifying, bytes_read, steps_of, verifying}
+use Rattle.lsm_readers.specs.Verification.{ReadsNext, Verifying, bytes_read, next_found}
+use Rattle.lsm_readers.specs.Verification.{steps_of, verifying}
 use Rattle.lsm_readers.specs.Verify.{table_found}
 use Rattle.lsm_readers.specs.declared.verify.Fault.{Fault}
 use Rattle.lsm_readers.specs.declared.verify.Fault.TheVariants as fault
@@ -95,17 +96,19 @@ AreTold None new xs = Unit {0}
 AreTold (Some old) None xs = ⊥
 AreTold (Some old) (Some new) xs = new ≡ old ++ xs
 
--- a verification went on by so many blocks, and the progress was told at each
-pub record GoesFurther (v : Verifying) (old new : Option (List (ℕ × ℕ))) (blocks : ℕ) : Type 0 where
+-- what is found first in the block that is next, or at the end
+abbrev pub next_of : Verifying → Result (Unit {0}) Finding
+next_of v = next_found (body_of v.table.bytes) v.table.parts v.ahead v.left
+
+-- a verification went on by so many blocks, the progress was told at each, and it ends so
+pub record ReadsUpTo (v : Verifying) (old new : Option (List (ℕ × ℕ))) (blocks : ℕ)
+    (Ends : Verifying → Type 0) : Type 0 where
   pub steps : List Verifying
   pub last : Verifying
   pub reached : Reaches v steps last
   pub told : AreTold old new (map progress_at steps)
   pub count : blocks ≡ min (length steps) (2 ^ 64 - 1)
-
--- a table was read so from its first block on
-abbrev pub ReadsFrom : OpenTable → (old new : Option (List (ℕ × ℕ))) → ℕ → Type 0
-ReadsFrom t old new blocks = GoesFurther (verifying t) old new blocks
+  pub ends : Ends last
 
 -- ---- the whole
 
@@ -120,11 +123,12 @@ IsVerifyText t name blocks (Err f) text = (first : List ℕ) × (further : List 
     (further_faults (body_of t.bytes) (Some f) (named_blocks (body_of t.bytes) t.parts)) further
     × (text ≡ first ++ further)
 
--- a file was read as far as nothing is wrong, and what was found is printed
+-- a file was read from its first block on, as far as nothing is wrong, and what was found is printed
 pub record ChecksFile (t : OpenTable) (name : List ℕ) (before after : Option (List (ℕ × ℕ)))
     (old new : Option (List ℕ)) : Type 0 where
   pub blocks : ℕ
-  pub reads : ReadsFrom t before after blocks
+  pub reads : ReadsUpTo (verifying t) before after blocks
+      (λ v. IfErr (table_found (body_of t.bytes) t.parts) (λ f. next_of v ≡ Err f))
   pub text : List ℕ
   pub is : IsVerifyText t name blocks (table_found (body_of t.bytes) t.parts) text
   pub printed : Appends old new text

@@ -1,7 +1,7 @@
 -- What is printed.
 use denote.Ref.{Bor}
 use Rattle.std.specs.Prelude.{◌≡◌, List, [], ◌∷◌, ◌++◌, codes, ℕ, Bool, false, true, reverse, take}
-use Rattle.std.specs.Prelude.{Option, None, Result, Some, ◌-◌, ◌^◌, if◌then◌else◌}
+use Rattle.std.specs.Prelude.{Option, None, Result, Ok, Err, Some, ◌-◌, ◌^◌, if◌then◌else◌}
 use Rattle.std.specs.List.{flat_map}
 use Rattle.std.specs.Option.{option_map_or}
 use Rattle.std.specs.Io.KnownBytes.{Appends}
@@ -86,6 +86,12 @@ dumped back n xs = take n (in_turn back xs)
 -- an entry, or why it cannot be read
 abbrev pub Outcome : Type 0
 Outcome = Result Entry Error
+
+-- the first error among results
+abbrev pub first_error : {X : Type 0} → List (Result X Error) → Option Error
+first_error [] = None
+first_error (Ok x ∷ rs) = first_error rs
+first_error (Err e ∷ rs) = Some e
 
 -- these results are entries, whose lines are printed
 abbrev pub PrintsResults : Format → List Outcome → (old new : Option (List ℕ)) → Type 0

@@ -8,7 +8,6 @@ ghost use Rattle.tool_show.specs.Lines.{PrintsText};
 
 use crate::BlockPlace;
 use crate::counted::Counted;
-use crate::names::item_name;
 use crate::refusals::{print_head, print_refusal};
 use lsm_formats::ItemName;
 use lsm_readers::{Fault, Finding, Verified};
@@ -105,8 +104,8 @@ fn print_unborne<W: Write>(output: &mut W, item: ItemName) -> io::Result<()>
     ensures { OnOk result (PrintsText (IsFaultText (Unborne item))
         (W.contents output.old) (W.contents output.new)) }
 {
-    let item = item_name(item);
-    write!(output, "the entries do not bear out the meta item {item}")
+    output.write_all(b"the entries do not bear out the meta item ")?;
+    output.write_all(item.key())
 }
 
 // What a fault is that stands without a refusal and an item.

@@ -1,20 +1,20 @@
 //! What is wrong of a file.
 ghost use denote.Ref.{Bor};
 ghost use Rattle.std.specs.Prelude.{◌≡◌, ◌+◌, ◌-◌, ◌^◌, ◌∷◌, [], ℕ, List, IfErr, IfOk, OnOk};
-ghost use Rattle.std.specs.Prelude.{Err, None, Option, Some, min};
+ghost use Rattle.std.specs.Prelude.{Err, None, Option, Some, if◌then◌else◌, min};
 ghost use Rattle.std.specs.Option.{option_map};
 ghost use Rattle.sst_entries.specs.Entry.{Entry};
 ghost use Rattle.sst_sections.specs.Sections.{body_of};
 ghost use Rattle.lsm_readers.specs.Parts.{places_told};
 ghost use Rattle.lsm_readers.specs.Stored.{StoresList};
 ghost use Rattle.lsm_readers.specs.Verification.{steps_of, verifying};
-ghost use Rattle.lsm_readers.specs.Verify.{Finds, table_found};
+ghost use Rattle.lsm_readers.specs.Verify.{Finds, Misses, table_found};
 ghost use Rattle.lsm_readers.specs.declared.verify.Finding.{Finding as FindingValue};
 ghost use Rattle.lsm_readers.specs.declared.verify.Verified.{Verified as Verification};
 ghost use Rattle.lsm_readers.specs.declared.verify.VerifyError.TheVariants.{OutOfMemory};
-ghost use Rattle.tool_show.specs.Checked.{AreTold, ChecksFile, GoesFurther, IsVerifyText, ReadsFrom};
+ghost use Rattle.tool_show.specs.Checked.{AreTold, ChecksFile, IsVerifyText, ReadsUpTo, next_of};
 ghost use Rattle.tool_show.specs.Failures.{NamesNone};
-ghost use Rattle.tool_show.specs.Faults.{begin_of, fault_count, faults_in, further_count};
+ghost use Rattle.tool_show.specs.Faults.{fault_count, faults_in, further_count};
 ghost use Rattle.tool_show.specs.Faults.{further_fault, further_faults, further_of, is_further};
 ghost use Rattle.tool_show.specs.Faults.{named_blocks, unloaded_count, unloaded_in};
 ghost use Rattle.tool_show.specs.Faults.{unopened_faults};
@@ -23,8 +23,9 @@ ghost use Rattle.tool_show.specs.Lines.{AreJoined, IsUnloadedLine, PrintsText};
 
 use crate::blocks::{NamedBlock, is_told, named_blocks, refusal_of, region_blocks, source_of};
 use crate::check_lines::{print_first, print_sound};
+use crate::places::begin_of;
 use crate::refusals::print_unloaded_line;
-use crate::{BlockPlace, NamedTable, ShowError};
+use crate::{NamedTable, ShowError};
 use lsm_readers::{
     Finding, ParsedRegions, Table, TableInner, Verification as Steps, Verified, VerifyError,
 };
@@ -117,8 +118,9 @@ fn print_faults<'a, A: Allocator + Copy, W: Write>(
 
 // Reads a table's blocks.
 fn look_at<A: Allocator + Clone, P: Progress>(table: &Table<A>, progress: &mut P) -> Looked
-    ensures reads { ReadsFrom table.now (P.moves progress.old) (P.moves progress.new)
-        result.blocks }
+    // What is found is wrong in the next block.
+    ensures reads { ReadsUpTo (verifying table.now) (P.moves progress.old) (P.moves progress.new)
+        result.blocks (λ v. IfErr result.verdict (λ e. Misses e (next_of v))) }
     // Of a sound table all blocks are read.
     ensures whole { IfOk result.verdict (λ _.
         result.blocks ≡ min (steps_of (verifying table.now)) (2 ^ 64 - 1)) }
@@ -145,8 +147,8 @@ fn look_on<A: Allocator + Clone, P: Progress>(
     progress: &mut P,
 ) -> Looked
     requires { all ≡ verification.table.parts.facts.file_size }
-    ensures reads { GoesFurther verification (P.moves progress.old) (P.moves progress.new)
-        result.blocks }
+    ensures reads { ReadsUpTo verification (P.moves progress.old) (P.moves progress.new)
+        result.blocks (λ v. IfErr result.verdict (λ e. Misses e (next_of v))) }
     ensures whole { IfOk result.verdict (λ _.
         result.blocks ≡ min (steps_of verification) (2 ^ 64 - 1)) }
     ensures told { let t = verification.table in
@@ -290,47 +292,37 @@ fn print_unloaded<'a, A: Allocator + Copy, W: Write>(
 {
     let mut count = 0u64;
     for block in blocks {
-        if print_block(output, name, finding, source, block)? {
-            count = count.saturating_add(1);
-        }
+        let lines = print_block(output, name, finding, source, block)?;
+        count = count.saturating_add(lines);
     }
     Ok(count)
 }
 
-// Writes a line for a block that does not load, if no finding says it already. Answers whether
-// there is a line.
+// Writes a line for a block that does not load, if no finding says it already. Answers how many
+// lines there are.
 fn print_block<'a, A: Allocator + Clone, W: Write>(
     output: &mut W,
     name: &str,
     finding: Option<&Finding>,
     source: &BlockSource<A>,
     block: &NamedBlock,
-) -> Result<bool, ShowError<'a>>
+) -> Result<u64, ShowError<'a>>
     ensures printed { let told = option_map (λ (f : Bor FindingValue). f.now) finding.entry in
         OnOk result (PrintsText (AreJoined (IsUnloadedLine name.now)
         (further_fault (body_of source.now) told block.now))
         (W.contents output.old) (W.contents output.new)) }
-    ensures told { IfOk result (λ told. told ≡ is_further (body_of source.now)
-        (option_map (λ (f : Bor FindingValue). f.now) finding.entry) block.now) }
+    ensures count { let told = option_map (λ (f : Bor FindingValue). f.now) finding.entry in
+        IfOk result (λ lines. lines ≡
+        (if is_further (body_of source.now) told block.now then 1 else 0)) }
     ensures unnamed { IfErr result NamesNone }
 {
     match refusal_of(source, block) {
-        Ok(None) => Ok(false),
-        Ok(Some(_)) if is_told(finding, block) => Ok(false),
+        Ok(None) => Ok(0),
+        Ok(Some(_)) if is_told(finding, block) => Ok(0),
         Ok(Some(error)) => {
             print_unloaded_line(output, name, begin_of(block), &error)?;
-            Ok(true)
+            Ok(1)
         }
         Err(_) => Err(ShowError::OutOfMemory),
-    }
-}
-
-// Where a named block begins.
-fn begin_of(block: &NamedBlock) -> BlockPlace
-    ensures { result ≡ begin_of block.now }
-{
-    BlockPlace {
-        section: block.section,
-        offset: block.place.offset().0,
     }
 }

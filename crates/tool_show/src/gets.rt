@@ -1,6 +1,6 @@
 //! The version of a key that a reader sees.
-ghost use Rattle.std.specs.Prelude.{◌≡◌, ◌∷◌, [], List, IfErr, IfOk, IfSome, OnOk};
-ghost use Rattle.std.specs.Prelude.{Ok, Option, None, is_some, map};
+ghost use Rattle.std.specs.Prelude.{◌≡◌, ◌∷◌, [], List, IfErr, IfNone, IfOk, IfSome, OnOk};
+ghost use Rattle.std.specs.Prelude.{None, Ok, Option, is_some, map};
 ghost use Rattle.std.specs.Arc.{arc_value};
 ghost use Rattle.std.specs.Io.KnownBytes.{Appends};
 ghost use Rattle.std.specs.List.{AllByRecursion, flat_map};
@@ -11,7 +11,7 @@ ghost use Rattle.lsm_runs.specs.SeveralRuns.{runs_told, union_in};
 ghost use Rattle.sst_entries.specs.Entry.{Entry};
 ghost use Rattle.sst_entries.specs.Point.{point};
 ghost use Rattle.sst_entries.specs.declared.error.Error.TheVariants.{OutOfMemory};
-ghost use Rattle.tool_show.specs.Failures.{BlamesFaulty, NamesFaulty, NamesNone};
+ghost use Rattle.tool_show.specs.Failures.{BlamesFaulty, NamesFaulty, NamesNone, read_refusal};
 ghost use Rattle.tool_show.specs.Files.{runs_in};
 ghost use Rattle.tool_show.specs.Lines.{PrintsText};
 ghost use Rattle.tool_show.specs.Printed.{IsAnswer, PrintsFound, absent_line, file_loads};
@@ -77,9 +77,11 @@ pub fn get<'a, A: Allocator + Copy, W: Write>(
         OnOk result (PrintsText (IsAnswer options.now files.now
         (point (union_in lists) options.now.key.now (seen_below options.now)))
         (W.contents output.old) (W.contents output.new)) }
-    // Where a file is named, it is one of these, whose bytes store no list, and so is the block
-    // that is named: of files of lists none is.
-    ensures named { IfErr result (NamesFaulty files.now) }
+    // Where a file is named, it is the first of these whose table refuses the read, with its
+    // refusal, and the first block that is refused so; its bytes store no list: of files of lists
+    // none is.
+    ensures named { IfErr result
+        (NamesFaulty options.now.key.now (seen_below options.now) files.now) }
     ensures sound { (lists : List (List (List Entry))) → RunsHoldLists (runs_in files.now) lists →
         IfErr result NamesNone }
 {
@@ -87,7 +89,7 @@ pub fn get<'a, A: Allocator + Copy, W: Write>(
     let seqno = seen_below(options);
     let found = match get_runs_counted(&runs, options.key, seqno).0 {
         Ok(found) => found,
-        Err(error) => return Err(refused_in(error, files, options.key, seqno)),
+        Err(error) => return Err(refused_in(alloc, error, files, options.key, seqno)),
     };
     let is_there = found.is_some();
     print_found(alloc, output, found, options.format)?;
@@ -135,19 +137,20 @@ fn run_of<'a, A: Allocator + Copy>(
 
 // A refusal of a read, with the first file whose table refuses it.
 fn refused_in<'a, A: Allocator + Copy>(
+    alloc: A,
     error: Error,
     files: &[NamedTable<'a, A>],
     key: &[u8],
     seqno: SeqNo,
 ) -> ShowError<'a>
-    ensures named { NamesFaulty files.now result }
+    ensures named { NamesFaulty key.now seqno files.now result }
     ensures memory { error ≡ OutOfMemory → NamesNone result }
 {
     if error == Error::OutOfMemory {
         return ShowError::OutOfMemory;
     }
     for file in files {
-        if let Some(refused) = refused_by(file, key, seqno) {
+        if let Some(refused) = refused_by(alloc, file, key, seqno) {
             return refused;
         }
     }
@@ -157,11 +160,13 @@ fn refused_in<'a, A: Allocator + Copy>(
 
 // Why a file's table refuses a read, if it is asked and does.
 fn refused_by<'a, A: Allocator + Copy>(
+    alloc: A,
     file: &NamedTable<'a, A>,
     key: &[u8],
     seqno: SeqNo,
 ) -> Option<ShowError<'a>>
-    ensures { IfSome result (BlamesFaulty file.now) }
+    ensures blamed { IfSome result (BlamesFaulty key.now seqno file.now) }
+    ensures none { IfNone result (read_refusal key.now seqno file.now.table ≡ None) }
 {
     if !file.table.key_range().contains_key(key) {
         return None;
@@ -172,7 +177,7 @@ fn refused_by<'a, A: Allocator + Copy>(
     if error == Error::OutOfMemory {
         return Some(ShowError::OutOfMemory);
     }
-    Some(Failure::Refused(error).of_file(file))
+    Some(Failure::Refused(error).of_file(alloc, file))
 }
 
 fn print_found<'a, A: Allocator + Copy, W: Write>(

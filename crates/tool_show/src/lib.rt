@@ -25,5 +25,5 @@ pub use dumps::{DumpOptions, dump};
 pub use error::ShowError;
 pub use gets::{GetOptions, get};
 pub use named::NamedTable;
-pub use places::{BlockPlace, place_of_refusal};
+pub use places::{BlockPlace, first_refused, place_of_refusal};
 pub use stats::stat;

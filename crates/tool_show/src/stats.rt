@@ -29,11 +29,11 @@ pub fn stat<'a, A: Allocator + Copy, W: Write>(
     format: Format,
 ) -> Result<(), ShowError<'a>>
     // Where a file is named, it is this one, and so is the block that is named.
-    ensures named { IfErr result (NamesOnly file.now) }
+    ensures named { IfErr result (NamesOnly file.now (λ _. Unit {0})) }
 {
     match stat_file(alloc, output, file, format) {
         Ok(()) => Ok(()),
-        Err(failure) => Err(failure.of_file(file)),
+        Err(failure) => Err(failure.of_file(alloc, file)),
     }
 }
 
