@@ -1,6 +1,6 @@
 -- Texts that are printed one behind another.
 use Rattle.std.proofs.Common.{◌≡◌, refl, sym, ◌∙◌, ap, subst, ℕ, zero, suc, ◌+◌, ◌<◌, List, []}
-use Rattle.std.proofs.Common.{◌∷◌, ◌++◌, length, get_or, take, append_assoc, append-nil, arith, rules, ◌-◌, ◌^◌}
+use Rattle.std.proofs.Common.{◌∷◌, ◌++◌, length, get_or, take, append_assoc, append-nil, arith, true, ◌-◌, ◌^◌}
 use Rattle.std.specs.Prelude.{Bool, Err, None, Ok, OnOk, Option, Result, Some, codes, false, is_some}
 use Rattle.std.specs.Prelude.{count_by, if◌then◌else◌, map, min, option_to_list}
 use Rattle.sst_entries.specs.declared.error.Error.{Error}
@@ -24,6 +24,7 @@ use Rattle.tool_show.specs.Lines.{AreJoined, IsRefusalText, IsUnloadedLine, Prin
 use Rattle.tool_show.specs.declared.places.BlockPlace.{BlockPlace}
 use Rattle.std.specs.List.{flat_map}
 use Rattle.std.specs.Io.KnownBytes.{Appends}
+use Rattle.std.proofs.lemmas.List.Sums.{count_by_more_no, count_by_more_yes}
 use Rattle.std.proofs.KnownBytes.{Appends-nil, Appends-trans}
 
 -- the parts of one more
@@ -172,25 +173,18 @@ faults_unread bytes e some =
     sym (ap (λ (o : Option Error). if is_some o then [] else faults_in (body_of bytes) (places_told bytes))
     some)
 
-counts_one : {X : Type 0} (p : X → Bool) (x : X) → count_by p (x ∷ []) ≡ (if p x then 1 else 0)
-counts_one p x = search rules
-
-counts_behind : {X : Type 0} (p : X → Bool) (y : X) (xs ys : List X) (n : ℕ)
-    → count_by p xs ≡ count_by p ys + n → count_by p (y ∷ xs) ≡ count_by p (y ∷ ys) + n
-counts_behind p y xs ys n is = grind (arith, is)
+counts_by : {X : Type 0} (p : X → Bool) (xs : List X) (i : ℕ) (x : X) (b : Bool) → i < length xs
+    → x ≡ get_or xs i x → p x ≡ b
+    → count_by p (take (i + 1) xs) ≡ count_by p (take i xs) + (if b then 1 else 0)
+counts_by p xs i x true h is so = count_by_more_yes p xs i x h (ap p (sym is) ∙ so)
+counts_by p xs i x false h is so =
+    omega (arith, count_by_more_no p xs i x h (ap p (sym is) ∙ so))
 
 -- one more is counted, or not
 count_more : {X : Type 0} (p : X → Bool) (xs : List X) (i : ℕ) (x : X) → i < length xs
     → x ≡ get_or xs i x
     → count_by p (take (i + 1) xs) ≡ count_by p (take i xs) + (if p x then 1 else 0)
-count_more p [] i x h is = absurd (omega (arith, h))
-count_more {X} p (y ∷ ys) zero x h is =
-    ap (λ (z : X). count_by p (z ∷ [])) (sym is) ∙ counts_one p x
-count_more p (y ∷ ys) (suc i) x h is =
-    let next : suc i + 1 ≡ suc (i + 1) = omega arith in
-    ap (λ (n : ℕ). count_by p (take n (y ∷ ys))) next
-    ∙ counts_behind p y (take (i + 1) ys) (take i ys) (if p x then 1 else 0)
-    (count_more p ys i x (omega (arith, h)) is)
+count_more p xs i x h is = counts_by p xs i x (p x) h is refl
 
 -- the further blocks that are counted, and their lines
 pub further_more : (body : List ℕ) (told : Option Finding) (bs : List NamedBlock) (i : ℕ)
