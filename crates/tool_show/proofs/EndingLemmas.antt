@@ -1,6 +1,6 @@
 -- Results that are dealt up to the first error, one after another.
 use Rattle.std.proofs.Common.{◌≡◌, refl, sym, ◌∙◌, ap, subst, Bool, true, false, ℕ, zero, suc}
-use Rattle.std.proofs.Common.{List, [], ◌∷◌, ◌++◌, ◌-◌, ◌<◌, append_assoc, arith, reverse, take}
+use Rattle.std.proofs.Common.{List, [], ◌∷◌, ◌++◌, ◌-◌, ◌<◌, append_assoc, append-nil, arith, reverse, take}
 use Rattle.std.proofs.lemmas.List.{map-append, reverse-reverse}
 use Rattle.std.specs.Prelude.{Option, None, Some, Result, Ok, Err}
 use Rattle.sst_entries.specs.declared.error.Error.{Error}
@@ -157,3 +157,57 @@ module _ {S X : Type 0} (front back : S → Option (Result X Error) → S → Ty
       sym (ap first_error (ap (λ (rs : List (Result X Error)). ok_results before.came ++ rs)
       (sym next) ∙ before.whole))
       ∙ error_behind before.came e (dumped from_end n one.others)
+
+  -- a source that goes on, behind some that came from the front
+  pub record Came (s : S) (all : List (Result X Error)) : Type 0 where
+    pub came : List X
+    pub rest : List (Result X Error)
+    pub deals : EndsUp s rest
+    pub whole : ok_results came ++ rest ≡ all
+
+  pub came_none : (s : S) (xs : List (Result X Error)) → EndsUp s xs
+      → (before : Came s xs) × (before.came ≡ [])
+  came_none s xs d = (record { came = []; rest = xs; deals = d; whole = refl; }, refl)
+
+  pub came_one : (s t : S) (x : X) (all : List (Result X Error)) (before : Came s all)
+      → front s (Some (Ok x)) t
+      → (now : Came t all) × (now.came ≡ before.came ++ x ∷ [])
+  came_one s t x all before step =
+      let one = takes s t false (Ok x) before.rest before.deals refl (λ _. step)
+      (λ not. absurd (let both : false ≡ true = not in cc)) in (
+        record {
+          came = before.came ++ x ∷ [];
+          rest = one.others;
+          deals = one.deals x refl;
+          whole = ap (λ (rs : List (Result X Error)). rs ++ one.others)
+              (map-append (λ (y : X). Ok y) before.came (x ∷ []))
+              ∙ append_assoc (ok_results before.came) (Ok x ∷ []) one.others
+              ∙ ap (λ (rs : List (Result X Error)). ok_results before.came ++ rs) (sym one.taken)
+              ∙ before.whole;
+        },
+        refl,
+      )
+
+  nothing_behind : (rest : List (Result X Error)) → None ≡ first rest → rest ≡ []
+  nothing_behind [] none = refl
+  nothing_behind (x ∷ xs) none = absurd cc
+
+  -- nothing comes any more
+  pub came_all : (s t : S) (all : List (Result X Error)) (before : Came s all) → front s None t
+      → all ≡ ok_results before.came
+  came_all s t all before step =
+      let none = nothing_behind before.rest
+      (ending_front s t before.rest None before.deals step refl).0 in
+      sym before.whole
+      ∙ ap (λ (rs : List (Result X Error)). ok_results before.came ++ rs) none
+      ∙ append-nil (ok_results before.came)
+
+  -- an error comes
+  pub came_error : (s t : S) (e : Error) (all : List (Result X Error)) → is_memory e ≡ false
+      → Came s all → front s (Some (Err e)) t → first_error all ≡ Some e
+  came_error s t e all other before step =
+      let one = takes s t false (Err e) before.rest before.deals other (λ _. step)
+      (λ not. absurd (let both : false ≡ true = not in cc)) in
+      sym (ap first_error (ap (λ (rs : List (Result X Error)). ok_results before.came ++ rs)
+      (sym one.taken) ∙ before.whole))
+      ∙ error_behind before.came e one.others

@@ -6,6 +6,7 @@ mod FileLemmas
 mod Findings
 mod FirstLemmas
 mod NameLemmas
+mod StatLemmas
 mod StepLemmas
 mod TextLemmas
 mod TokenLemmas

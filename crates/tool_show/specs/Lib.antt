@@ -5,3 +5,4 @@ pub mod Files
 pub mod Lines
 pub mod Loads
 pub mod Printed
+pub mod Stats
