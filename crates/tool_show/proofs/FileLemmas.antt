@@ -1,14 +1,15 @@
 -- Files, one after another.
 use Rattle.std.proofs.Common.{◌≡◌, refl, sym, ◌∙◌, ap, ℕ, ◌+◌, ◌<◌, List, [], ◌∷◌, ◌++◌, length, get_or}
-use Rattle.std.proofs.Common.{map, subst, take, true, false}
-use Rattle.std.specs.Prelude.{Bool, Option, Result, Ok, Err, IfErr}
+use Rattle.std.proofs.Common.{arith, map, rules, subst, suc, take, true, false, zero}
+use Rattle.std.specs.Prelude.{Bool, Option, None, Some, Result, Ok, Err, IfErr, cond, find, is_some}
 use Rattle.std.specs.Result.{IsErrAnd}
 use Rattle.sst_entries.specs.declared.error.Error.TheVariants.{OutOfMemory}
 use Rattle.std.proofs.lemmas.List.{map-append, take_more}
 use Rattle.sst_entries.specs.Error.{is_memory}
 use Rattle.sst_entries.specs.declared.error.Error.{Error}
 use Rattle.lsm_readers.specs.Table.{OpenTable}
-use Rattle.tool_show.specs.Failures.{BlamesFaulty, BlamesNoFile, IsPlaceIn, NamesFaulty, NamesNone}
+use Rattle.tool_show.specs.Failures.{BlamesFaulty, BlamesNoFile, FailsAs, IsBlockWith}
+use Rattle.tool_show.specs.Failures.{NamesFaulty, NamesNone, read_refusal, refused_file}
 use Rattle.tool_show.specs.Failures.{NamesOnly, TellsFailure, TellsRefusal}
 use Rattle.tool_show.specs.Files.{IsSoundTable, runs_in}
 use Rattle.tool_show.specs.declared.error.Failure.{Failure}
@@ -30,39 +31,101 @@ runs_more {A} value fs i f rs r h is before one =
     ∙ ap (λ (t : List OpenTable). runs_in (take i fs) ++ t ∷ []) (one ∙ ap table is)
     ∙ sym (ap runs_in (take_more fs i f h) ∙ map-append table (take i fs) (get_or fs i f ∷ []))
 
+-- what is found first, or behind what is passed over
+found_first : {X : Type 0} (p : X → Bool) (y : X) (ys : List X) → p y ≡ true
+    → find p (y ∷ ys) ≡ Some y
+found_first {X} p y ys so = ap (λ (b : Bool). cond b (Some y) (find p ys)) so
+
+none_first : {X : Type 0} (p : X → Bool) (y : X) (ys : List X) → find p ys ≡ None → p y ≡ false
+    → find p (y ∷ ys) ≡ None
+none_first {X} p y ys none not = ap (λ (b : Bool). cond b (Some y) (find p ys)) not ∙ none
+
+passed_by : {X : Type 0} (b : Bool) (y : X) (rest : Option X) → cond b (Some y) rest ≡ None
+    → (b ≡ false) × (rest ≡ None)
+passed_by true y rest none = absurd cc
+passed_by false y rest none = (refl, none)
+
+passed_over : {X : Type 0} (p : X → Bool) (y : X) (ys : List X) → find p (y ∷ ys) ≡ None
+    → (p y ≡ false) × (find p ys ≡ None)
+passed_over p y ys none = passed_by (p y) y (find p ys) none
+
+none_behind : {X : Type 0} (p : X → Bool) (y : X) (ys zs : List X) → find p (y ∷ ys) ≡ None
+    → (find p ys ≡ None → find p zs ≡ None) → find p (y ∷ zs) ≡ None
+none_behind p y ys zs none then =
+    let both = passed_over p y ys none in none_first p y zs (then both.1) both.0
+
+found_behind : {X : Type 0} (p : X → Bool) (y : X) (ys zs : List X) (x : X)
+    → find p (y ∷ ys) ≡ None → (find p ys ≡ None → find p zs ≡ Some x) → find p (y ∷ zs) ≡ Some x
+found_behind {X} p y ys zs x none then =
+    let both = passed_over p y ys none in
+    ap (λ (b : Bool). cond b (Some y) (find p zs)) both.0 ∙ then both.1
+
+-- nothing is found in one more
+pub none_more : {X : Type 0} (p : X → Bool) (xs : List X) (i : ℕ) (x : X) → i < length xs
+    → x ≡ get_or xs i x → find p (take i xs) ≡ None → p x ≡ false
+    → find p (take (i + 1) xs) ≡ None
+none_more p [] i x h is none not = absurd (omega (arith, h))
+none_more p (y ∷ ys) zero x h is none not = none_first p y [] refl (ap p (sym is) ∙ not)
+none_more p (y ∷ ys) (suc i) x h is none not =
+    let next : suc i + 1 ≡ suc (i + 1) = omega arith in
+    ap (λ (n : ℕ). find p (take n (y ∷ ys))) next
+    ∙ none_behind p y (take i ys) (take (i + 1) ys) none
+    (λ before. none_more p ys i x (omega (arith, h)) is before not)
+
+-- the first of those that are not passed over
+pub found_here : {X : Type 0} (p : X → Bool) (xs : List X) (i : ℕ) (x : X) → i < length xs
+    → x ≡ get_or xs i x → find p (take i xs) ≡ None → p x ≡ true → find p xs ≡ Some x
+found_here p [] i x h is none so = absurd (omega (arith, h))
+found_here p (y ∷ ys) zero x h is none so =
+    found_first p y ys (ap p (sym is) ∙ so) ∙ ap Some (sym is)
+found_here p (y ∷ ys) (suc i) x h is none so =
+    found_behind p y (take i ys) ys x none
+    (λ before. found_here p ys i x (omega (arith, h)) is before so)
+
 -- what one of the files is blamed for
-pub one_named : {A : Type 0} (fs : List (NamedTable A)) (i : ℕ) (f : NamedTable A) → i < length fs
-    → f ≡ get_or fs i f → (e : ShowError) → BlamesFaulty f e → NamesFaulty fs e
-one_named fs i f h is (show.Refused name place error) told = (i, f, h, sym is, told)
-one_named fs i f h is (show.Output error) told = tt
-one_named fs i f h is show.OutOfMemory told = tt
-
-refusal_only : {A : Type 0} (f : NamedTable A) (r : Error) (e : ShowError) → TellsRefusal f r e
-    → NamesOnly f e
-refusal_only f r (show.Refused name place error) told = (
-  told.0,
-  subst (λ (x : Error). IsPlaceIn f.table x place) (sym told.1) told.2,
+pub one_named : {A : Type 0} (key : List ℕ) (n : ℕ) (fs : List (NamedTable A)) (i : ℕ)
+    (f : NamedTable A) → i < length fs → f ≡ get_or fs i f
+    → refused_file key n (take i fs) ≡ None → (e : ShowError) → BlamesFaulty key n f e
+    → NamesFaulty key n fs e
+one_named {A} key n fs i f h is before (show.Refused name place error) told = (
+  f,
+  found_here (λ (g : NamedTable A). is_some (read_refusal key n g.table)) fs i f h is before
+      (ap is_some told.0.1),
+  told,
 )
-refusal_only f r (show.Output error) told = tt
-refusal_only f r show.OutOfMemory told = tt
+one_named key n fs i f h is before (show.Output error) told = tt
+one_named key n fs i f h is before show.OutOfMemory told = tt
 
-memory_only : {A : Type 0} (f : NamedTable A) (e : ShowError) → e ≡ show.OutOfMemory → NamesOnly f e
-memory_only f (show.Refused name place error) is = absurd cc
-memory_only f (show.Output error) is = tt
-memory_only f show.OutOfMemory is = tt
+refusal_only : {A : Type 0} (f : NamedTable A) (IsTold : Error → Type 0) (r : Error) (e : ShowError)
+    → IsTold r → TellsRefusal f r e → NamesOnly f IsTold e
+refusal_only f IsTold r (show.Refused name place error) is told = (
+  told.0,
+  subst IsTold (sym told.1) is,
+  subst (λ (x : Error). IsBlockWith f.table x place) (sym told.1) told.2,
+)
+refusal_only f IsTold r (show.Output error) is told = tt
+refusal_only f IsTold r show.OutOfMemory is told = tt
 
-by_memory : {A : Type 0} (f : NamedTable A) (r : Error) (e : ShowError) (b : Bool)
-    → is_memory r ≡ b → TellsFailure (failure.Refused r) f e → NamesOnly f e
-by_memory f r e true so told = memory_only f e (told.0 so)
-by_memory f r e false so told = refusal_only f r e (told.1 so)
+memory_only : {A : Type 0} (f : NamedTable A) (IsTold : Error → Type 0) (e : ShowError)
+    → e ≡ show.OutOfMemory → NamesOnly f IsTold e
+memory_only f IsTold (show.Refused name place error) is = absurd cc
+memory_only f IsTold (show.Output error) is = tt
+memory_only f IsTold show.OutOfMemory is = tt
+
+by_memory : {A : Type 0} (f : NamedTable A) (IsTold : Error → Type 0) (r : Error) (e : ShowError)
+    (b : Bool) → is_memory r ≡ b → FailsAs IsTold (failure.Refused r)
+    → TellsFailure (failure.Refused r) f e → NamesOnly f IsTold e
+by_memory f IsTold r e true so fails told = memory_only f IsTold e (told.0 so)
+by_memory f IsTold r e false so fails told = refusal_only f IsTold r e (fails so) (told.1 so)
 
 -- a failure of a file names it, if any
-pub failure_only : {A : Type 0} (f : NamedTable A) (x : Failure) (e : ShowError)
-    → TellsFailure x f e → NamesOnly f e
-failure_only f (failure.Output error) (show.Refused name place r) told = absurd cc
-failure_only f (failure.Output error) (show.Output r) told = tt
-failure_only f (failure.Output error) show.OutOfMemory told = tt
-failure_only f (failure.Refused error) e told = by_memory f error e (is_memory error) refl told
+pub failure_only : {A : Type 0} (f : NamedTable A) (IsTold : Error → Type 0) (x : Failure)
+    (e : ShowError) → FailsAs IsTold x → TellsFailure x f e → NamesOnly f IsTold e
+failure_only f IsTold (failure.Output error) (show.Refused name place r) fails told = absurd cc
+failure_only f IsTold (failure.Output error) (show.Output r) fails told = tt
+failure_only f IsTold (failure.Output error) show.OutOfMemory fails told = tt
+failure_only f IsTold (failure.Refused error) e fails told =
+    by_memory f IsTold error e (is_memory error) refl fails told
 
 -- a failure that is no file's fault names none
 pub failure_none : {A : Type 0} (f : NamedTable A) (x : Failure) (e : ShowError)
@@ -76,17 +139,25 @@ failure_none f (failure.Refused error) (show.Output r) told none = tt
 failure_none f (failure.Refused error) show.OutOfMemory told none = tt
 
 -- a file that is named and stores no list is blamed
-pub faulty_blamed : {A : Type 0} (f : NamedTable A) (e : ShowError) → NamesOnly f e
-    → (IsSoundTable f.table → ⊥) → BlamesFaulty f e
-faulty_blamed f (show.Refused name place error) named faulty = (named.0, named.1, faulty)
-faulty_blamed f (show.Output error) named faulty = tt
-faulty_blamed f show.OutOfMemory named faulty = tt
+pub faulty_blamed : {A : Type 0} (key : List ℕ) (n : ℕ) (f : NamedTable A) (e : ShowError)
+    → NamesOnly f (λ e. read_refusal key n f.table ≡ Some e) e → (IsSoundTable f.table → ⊥)
+    → BlamesFaulty key n f e
+faulty_blamed key n f (show.Refused name place error) named faulty = (named, faulty)
+faulty_blamed key n f (show.Output error) named faulty = tt
+faulty_blamed key n f show.OutOfMemory named faulty = tt
 
 -- want of memory is no file's fault
 pub memory_blames_none : {X : Type 0} (r : Result X Failure) (e : Error)
     → IsErrAnd r (λ x. x ≡ failure.Refused e) → is_memory e ≡ true → IfErr r BlamesNoFile
 memory_blames_none (Ok x) e is memory = tt
 memory_blames_none (Err x) e is memory = subst BlamesNoFile (sym is) memory
+
+-- what is refused is what a read tells
+pub fails_as : {X : Type 0} (r : Result X Failure) (e : Error) (IsTold : Error → Type 0)
+    → IsErrAnd r (λ x. x ≡ failure.Refused e) → (is_memory e ≡ false → IsTold e)
+    → IfErr r (FailsAs IsTold)
+fails_as (Ok x) e IsTold is told = tt
+fails_as (Err x) e IsTold is told = subst (FailsAs IsTold) (sym is) told
 
 -- a read that is refused, and not for want of memory, is one of a file that stores no list
 pub refused_faulty : {X : Type 0} (r : Result X Error) (e : Error) → r ≡ Err e

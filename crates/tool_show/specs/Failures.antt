@@ -1,12 +1,18 @@
 -- Why something was not shown.
-use Rattle.std.specs.Prelude.{◌≡◌, List, Any, Err, Option, None, Some, false, true}
+use Rattle.std.specs.Prelude.{◌≡◌, ◌≢◌, ◌⊎◌, ℕ, List, [], ◌∷◌, Option, None, Some, false, true}
+use Rattle.std.specs.Prelude.{Ok, Err, find, is_some, if◌then◌else◌}
 use Rattle.sst_entries.specs.Error.{is_memory}
 use Rattle.sst_entries.specs.declared.error.Error.{Error}
 use Rattle.sst_sections.specs.Sections.{body_of}
+use Rattle.lsm_ranges.specs.KeyRange.{has_key}
+use Rattle.lsm_readers.specs.Answer.{table_answer}
+use Rattle.lsm_readers.specs.Scan.{fault_of}
 use Rattle.lsm_readers.specs.Table.{OpenTable}
 use Rattle.lsm_readers.specs.Verify.{table_found}
-use Rattle.tool_show.specs.Faults.{unloaded_at}
+use Rattle.lsm_runs.specs.RunParts.{range_of}
+use Rattle.tool_show.specs.Faults.{begin_of, block_fault, named_blocks, unloaded_at}
 use Rattle.tool_show.specs.Files.{IsSoundTable}
+use Rattle.tool_show.specs.declared.blocks.NamedBlock.{NamedBlock}
 use Rattle.tool_show.specs.declared.error.Failure.{Failure}
 use Rattle.tool_show.specs.declared.error.Failure.TheVariants as failure
 use Rattle.tool_show.specs.declared.error.ShowError.{ShowError}
@@ -19,11 +25,25 @@ abbrev pub IsPlaceIn : OpenTable → Error → Option BlockPlace → Type 0
 IsPlaceIn t e None = Unit {0}
 IsPlaceIn t e (Some place) = table_found (body_of t.bytes) t.parts ≡ Err (unloaded_at place e)
 
--- an error names a file, and what its table refuses
+-- where the first of some blocks begins that does not load with a refusal; nowhere where none of
+-- them is refused so
+abbrev pub IsFirstWith : List ℕ → Error → List NamedBlock → Option BlockPlace → Type 0
+IsFirstWith body e [] place = place ≡ None
+IsFirstWith body e (b ∷ bs) place =
+    ((block_fault body b ≡ Some e) × (place ≡ Some (begin_of b)))
+    ⊎ ((block_fault body b ≢ Some e) × IsFirstWith body e bs place)
+
+-- the same of the blocks of a table, in the order in which a verification reads them
+abbrev pub IsBlockWith : OpenTable → Error → Option BlockPlace → Type 0
+IsBlockWith t e place = IsFirstWith (body_of t.bytes) e (named_blocks (body_of t.bytes) t.parts) place
+
+-- an error names a file, what its table refuses, and the first block that is refused so; or memory
+-- is wanted to find that
 abbrev pub TellsRefusal : {A : Type 0} → NamedTable A → Error → ShowError → Type 0
 TellsRefusal f e (show.Refused name place error) =
-    (name ≡ f.name) × (error ≡ e) × IsPlaceIn f.table e place
-TellsRefusal f e _ = ⊥
+    (name ≡ f.name) × (error ≡ e) × IsBlockWith f.table e place
+TellsRefusal f e show.OutOfMemory = Unit {0}
+TellsRefusal f e (show.Output error) = ⊥
 
 -- it is that of a failure of a file
 abbrev pub TellsFailure : {A : Type 0} → Failure → NamedTable A → ShowError → Type 0
@@ -36,23 +56,39 @@ abbrev pub BlamesNoFile : Failure → Type 0
 BlamesNoFile (failure.Output error) = Unit {0}
 BlamesNoFile (failure.Refused error) = is_memory error ≡ true
 
--- where an error names a file, it is this one, and so is the block that it names
-abbrev pub NamesOnly : {A : Type 0} → NamedTable A → ShowError → Type 0
-NamesOnly f (show.Refused name place error) = (name ≡ f.name) × IsPlaceIn f.table error place
-NamesOnly f _ = Unit {0}
+-- memory aside, what is refused is what a read tells
+abbrev pub FailsAs : (Error → Type 0) → Failure → Type 0
+FailsAs IsTold (failure.Output error) = Unit {0}
+FailsAs IsTold (failure.Refused error) = is_memory error ≡ false → IsTold error
 
--- and its bytes store no list
-abbrev pub BlamesFaulty : {A : Type 0} → NamedTable A → ShowError → Type 0
-BlamesFaulty f (show.Refused name place error) =
-    (name ≡ f.name) × IsPlaceIn f.table error place × (IsSoundTable f.table → ⊥)
-BlamesFaulty f _ = Unit {0}
+-- where an error names a file, it is this one, its refusal is what a read tells, and the block is
+-- named that begins first of those that are refused so
+abbrev pub NamesOnly : {A : Type 0} → NamedTable A → (Error → Type 0) → ShowError → Type 0
+NamesOnly f IsTold (show.Refused name place error) =
+    (name ≡ f.name) × IsTold error × IsBlockWith f.table error place
+NamesOnly f IsTold e = Unit {0}
 
--- where an error names a file, it is one of these, whose bytes store no list, and so is the block
--- that it names
-abbrev pub NamesFaulty : {A : Type 0} → List (NamedTable A) → ShowError → Type 0
-NamesFaulty fs (show.Refused name place error) =
-    Any (λ f. BlamesFaulty f (show.Refused name place error)) fs
-NamesFaulty fs _ = Unit {0}
+-- why a read of a key below a number is refused by a table, if its range has the key and it is
+abbrev pub read_refusal : List ℕ → ℕ → OpenTable → Option Error
+read_refusal key n t =
+    if has_key (range_of t) key then fault_of (table_answer t key n).told else None
+
+-- the first of some files whose table refuses the read
+abbrev pub refused_file : {A : Type 0} → List ℕ → ℕ → List (NamedTable A) → Option (NamedTable A)
+refused_file key n fs = find (λ f. is_some (read_refusal key n f.table)) fs
+
+-- where an error names a file, it is this one, which refuses the read so and stores no list
+abbrev pub BlamesFaulty : {A : Type 0} → List ℕ → ℕ → NamedTable A → ShowError → Type 0
+BlamesFaulty key n f (show.Refused name place error) =
+    NamesOnly f (λ e. read_refusal key n f.table ≡ Some e) (show.Refused name place error)
+    × (IsSoundTable f.table → ⊥)
+BlamesFaulty key n f e = Unit {0}
+
+-- where an error names a file, it is the first of these whose table refuses the read
+abbrev pub NamesFaulty : {A : Type 0} → List ℕ → ℕ → List (NamedTable A) → ShowError → Type 0
+NamesFaulty {A} key n fs (show.Refused name place error) = (f : NamedTable A)
+    × (refused_file key n fs ≡ Some f) × BlamesFaulty key n f (show.Refused name place error)
+NamesFaulty key n fs e = Unit {0}
 
 -- no file is named
 abbrev pub NamesNone : ShowError → Type 0

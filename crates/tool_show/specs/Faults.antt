@@ -1,7 +1,7 @@
 -- What is wrong of a table: what its verification finds first, and which further blocks do not load.
 use Rattle.std.specs.Prelude.{◌+◌, ◌-◌, ◌^◌, ◌==◌, ◌&&◌, ◌++◌, ◌∷◌, [], ℕ, Bool, true, false, not}
 use Rattle.std.specs.Prelude.{List, Option, None, Some, Result, Ok, Err, count_by, is_some, map, min}
-use Rattle.std.specs.Prelude.{if◌then◌else◌}
+use Rattle.std.specs.Prelude.{if◌then◌else◌, option_to_list}
 use Rattle.std.specs.List.{flat_map}
 use Rattle.sst_blocks.specs.Block.{load_told}
 use Rattle.sst_blocks.specs.Handle.{Handle}
@@ -104,6 +104,19 @@ is_told (Some f) b = is_first f b
 abbrev pub is_further : List ℕ → Option Finding → NamedBlock → Bool
 is_further body told b = is_some (block_fault body b) && not (is_told told b)
 
+-- where a named block begins
+abbrev pub begin_of : NamedBlock → BlockPlace
+begin_of b = record { section = b.section; offset = b.place.offset }
+
+-- where a block begins that does not load, and its refusal, unless what was found says it
+abbrev pub further_fault : List ℕ → Option Finding → NamedBlock → List (BlockPlace × Error)
+further_fault body told b = if is_told told b then []
+    else map (λ e. (begin_of b, e)) (option_to_list (block_fault body b))
+
+-- those of some blocks
+abbrev pub further_faults : List ℕ → Option Finding → List NamedBlock → List (BlockPlace × Error)
+further_faults body told bs = flat_map (further_fault body told) bs
+
 -- how many of some blocks are so, as far as that can be counted
 abbrev pub further_of : List ℕ → Option Finding → List NamedBlock → ℕ
 further_of body told bs = min (count_by (is_further body told) bs) (2 ^ 64 - 1)
@@ -119,6 +132,15 @@ unloaded_in body (Err e) = 0
 abbrev pub unloaded_count : List ℕ → ℕ
 unloaded_count bytes = if is_some (trailer_fault bytes) then 0
     else unloaded_in (body_of bytes) (places_told bytes)
+
+-- the blocks that do not load of a file's bytes, as far as these tell where blocks lie
+abbrev pub faults_in : List ℕ → Result ParsedRegions Error → List (BlockPlace × Error)
+faults_in body (Ok regions) = further_faults body None (region_blocks body regions)
+faults_in body (Err e) = []
+
+abbrev pub unopened_faults : List ℕ → List (BlockPlace × Error)
+unopened_faults bytes = if is_some (trailer_fault bytes) then []
+    else faults_in (body_of bytes) (places_told bytes)
 
 -- how many faults a table has, as far as that can be counted: what is found first, and each further
 -- block that does not load

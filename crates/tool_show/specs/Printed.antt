@@ -1,7 +1,9 @@
 -- What is printed.
 use denote.Ref.{Bor}
 use Rattle.std.specs.Prelude.{◌≡◌, List, [], ◌∷◌, ◌++◌, codes, ℕ, Bool, false, true, reverse, take}
-use Rattle.std.specs.Prelude.{Option, None, Result, Some}
+use Rattle.std.specs.Prelude.{Option, None, Result, Ok, Err, Some, ◌-◌, ◌^◌, if◌then◌else◌}
+use Rattle.std.specs.List.{flat_map}
+use Rattle.std.specs.Option.{option_map_or}
 use Rattle.std.specs.Io.KnownBytes.{Appends}
 use Rattle.std.specs.declared.ops.Bound.{Bound}
 use Rattle.std.specs.declared.ops.Bound.TheVariants.{Excluded, Included, Unbounded}
@@ -17,7 +19,10 @@ use Rattle.tool_lines.specs.ObjectLine.{WritesEntry}
 use Rattle.tool_lines.specs.WordLine.{word_line}
 use Rattle.tool_lines.specs.declared.entry_line.Format.{Format}
 use Rattle.tool_lines.specs.declared.entry_line.Format.TheVariants.{Json, Lines}
+use Rattle.tool_show.specs.Loads.{blocks_loaded, loads_line, loads_told}
 use Rattle.tool_show.specs.declared.dumps.DumpOptions.{DumpOptions}
+use Rattle.tool_show.specs.declared.gets.GetOptions.{GetOptions}
+use Rattle.tool_show.specs.declared.named.NamedTable.{NamedTable}
 
 -- an entry's line with its end: its words, or an object that is the entry's
 abbrev pub IsLineOf : Format → Entry → List ℕ → Type 0
@@ -51,6 +56,24 @@ abbrev pub PrintsFound : Format → Option Entry → (old new : Option (List ℕ
 PrintsFound format found old new =
     (line : List ℕ) × IsFoundLine format found line × Appends old new line
 
+-- the number below which a version is seen
+abbrev pub seen_below : GetOptions → ℕ
+seen_below o = option_map_or (λ n. n) o.at (2 ^ 64 - 1)
+
+-- the line of what a read loads of a file
+abbrev pub file_loads : {A : Type 0} → GetOptions → NamedTable A → List ℕ
+file_loads o f = loads_line o.format f.name.now (loads_told f.table o.key.now (seen_below o))
+    (blocks_loaded f.table o.key.now (seen_below o))
+
+-- those of files, where they are asked for
+abbrev pub loads_text : {A : Type 0} → GetOptions → List (NamedTable A) → List ℕ
+loads_text o fs = if o.loads then flat_map (file_loads o) fs else []
+
+-- an answer's line, and then those of the loads
+abbrev pub IsAnswer : {A : Type 0} → GetOptions → List (NamedTable A) → Option Entry → List ℕ → Type 0
+IsAnswer o fs found text =
+    (line : List ℕ) × IsFoundLine o.format found line × (text ≡ line ++ loads_text o fs)
+
 -- in their order, or from the last to the first
 abbrev pub in_turn : {X : Type 0} → Bool → List X → List X
 in_turn false xs = xs
@@ -63,6 +86,12 @@ dumped back n xs = take n (in_turn back xs)
 -- an entry, or why it cannot be read
 abbrev pub Outcome : Type 0
 Outcome = Result Entry Error
+
+-- the first error among results
+abbrev pub first_error : {X : Type 0} → List (Result X Error) → Option Error
+first_error [] = None
+first_error (Ok x ∷ rs) = first_error rs
+first_error (Err e ∷ rs) = Some e
 
 -- these results are entries, whose lines are printed
 abbrev pub PrintsResults : Format → List Outcome → (old new : Option (List ℕ)) → Type 0

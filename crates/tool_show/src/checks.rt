@@ -1,35 +1,46 @@
 //! What is wrong of a file.
 ghost use denote.Ref.{Bor};
-ghost use Rattle.std.specs.Prelude.{◌≡◌, List, IfOk, IfErr};
+ghost use Rattle.std.specs.Prelude.{◌≡◌, ◌+◌, ◌-◌, ◌^◌, ◌∷◌, [], ℕ, List, IfErr, IfOk, OnOk};
+ghost use Rattle.std.specs.Prelude.{Err, None, Option, Some, if◌then◌else◌, min};
 ghost use Rattle.std.specs.Option.{option_map};
 ghost use Rattle.sst_entries.specs.Entry.{Entry};
 ghost use Rattle.sst_sections.specs.Sections.{body_of};
 ghost use Rattle.lsm_readers.specs.Parts.{places_told};
 ghost use Rattle.lsm_readers.specs.Stored.{StoresList};
-ghost use Rattle.lsm_readers.specs.Verify.{Finds, table_found};
+ghost use Rattle.lsm_readers.specs.Verification.{steps_of, verifying};
+ghost use Rattle.lsm_readers.specs.Verify.{Finds, Misses, table_found};
 ghost use Rattle.lsm_readers.specs.declared.verify.Finding.{Finding as FindingValue};
 ghost use Rattle.lsm_readers.specs.declared.verify.Verified.{Verified as Verification};
 ghost use Rattle.lsm_readers.specs.declared.verify.VerifyError.TheVariants.{OutOfMemory};
+ghost use Rattle.tool_show.specs.Checked.{AreTold, ChecksFile, IsVerifyText, ReadsUpTo, next_of};
 ghost use Rattle.tool_show.specs.Failures.{NamesNone};
-ghost use Rattle.tool_show.specs.Faults.{fault_count, further_count, further_of, is_further};
-ghost use Rattle.tool_show.specs.Faults.{unloaded_count, unloaded_in};
+ghost use Rattle.tool_show.specs.Faults.{fault_count, faults_in, further_count};
+ghost use Rattle.tool_show.specs.Faults.{further_fault, further_faults, further_of, is_further};
+ghost use Rattle.tool_show.specs.Faults.{named_blocks, unloaded_count, unloaded_in};
+ghost use Rattle.tool_show.specs.Faults.{unopened_faults};
 ghost use Rattle.tool_show.specs.Files.{IsSoundTable};
+ghost use Rattle.tool_show.specs.Lines.{AreJoined, IsUnloadedLine, PrintsText};
 
 use crate::blocks::{NamedBlock, is_told, named_blocks, refusal_of, region_blocks, source_of};
-use crate::{BlockPlace, NamedTable, ShowError};
-use lsm_formats::ItemName;
+use crate::check_lines::{print_first, print_sound};
+use crate::places::begin_of;
+use crate::refusals::print_unloaded_line;
+use crate::{NamedTable, ShowError};
 use lsm_readers::{
-    Fault, Finding, ParsedRegions, Table, TableInner, Verification as Steps, Verified, VerifyError,
+    Finding, ParsedRegions, Table, TableInner, Verification as Steps, Verified, VerifyError,
 };
-use sst_blocks::{BlockSource, SectionName, Slice};
+use sst_blocks::{BlockSource, Slice};
 use std::alloc::Allocator;
-use std::io::{self, Write};
-use tool_lines::word_for;
+use std::io::Write;
 
 /// Is told how far a verification has come.
 pub trait Progress {
+    // What it was told, where that is known.
+    ghost moves: { Self → Option (List (ℕ × ℕ)) } = { λ _. None };
+
     /// So many bytes of the file's data blocks were read, of so many in all.
-    fn moved(&mut self, done: u64, all: u64);
+    fn moved(&mut self, done: u64, all: u64)
+        ensures told { AreTold (moves self.old) (moves self.new) ((done, all) ∷ []) };
 }
 
 /// Shows no progress.
@@ -59,6 +70,10 @@ pub fn verify<'a, A: Allocator + Copy, W: Write, P: Progress>(
     file: &NamedTable<'a, A>,
     progress: &mut P,
 ) -> Result<u64, ShowError<'a>>
+    // What is printed is what is found, and the progress is told at each block.
+    ensures printed { OnOk result (ChecksFile file.now.table file.now.name.now
+        (P.moves progress.old) (P.moves progress.new)
+        (W.contents output.old) (W.contents output.new)) }
     // No fault is counted exactly where the file's bytes store a list;
     ensures sound { IfOk result (λ faults. faults ≡ 0 → IsSoundTable file.now.table) }
     ensures complete { IsSoundTable file.now.table → IfOk result (λ faults. faults ≡ 0) }
@@ -75,15 +90,40 @@ pub fn verify<'a, A: Allocator + Copy, W: Write, P: Progress>(
         }
         Err(VerifyError::OutOfMemory) => Err(ShowError::OutOfMemory),
         Err(VerifyError::Found(finding)) => {
-            print_first(output, file.name, &finding, looked.blocks)?;
-            let further = print_further(alloc, output, file, &finding)?;
-            Ok(further.saturating_add(1))
+            print_faults(alloc, output, file, &finding, looked.blocks)
         }
     }
 }
 
+// Writes the line of what is found first, and those of the further blocks that do not load. Answers
+// how many lines there are.
+fn print_faults<'a, A: Allocator + Copy, W: Write>(
+    alloc: A,
+    output: &mut W,
+    file: &NamedTable<'a, A>,
+    finding: &Finding,
+    blocks: u64,
+) -> Result<u64, ShowError<'a>>
+    ensures printed { OnOk result (PrintsText
+        (IsVerifyText file.now.table file.now.name.now blocks (Err finding.now))
+        (W.contents output.old) (W.contents output.new)) }
+    ensures count { IfOk result (λ count.
+        count ≡ min (1 + further_count file.now.table finding.now) (2 ^ 64 - 1)) }
+    ensures unnamed { IfErr result NamesNone }
+{
+    print_first(output, file.name, finding, blocks)?;
+    let further = print_further(alloc, output, file, finding)?;
+    Ok(further.saturating_add(1))
+}
+
 // Reads a table's blocks.
 fn look_at<A: Allocator + Clone, P: Progress>(table: &Table<A>, progress: &mut P) -> Looked
+    // What is found is wrong in the next block.
+    ensures reads { ReadsUpTo (verifying table.now) (P.moves progress.old) (P.moves progress.new)
+        result.blocks (λ v. IfErr result.verdict (λ e. Misses e (next_of v))) }
+    // Of a sound table all blocks are read.
+    ensures whole { IfOk result.verdict (λ _.
+        result.blocks ≡ min (steps_of (verifying table.now)) (2 ^ 64 - 1)) }
     ensures told { let t = table.now in
         Finds (λ (v : Verification). v) result.verdict (table_found (body_of t.bytes) t.parts) }
     ensures sound { IfOk result.verdict (λ _.
@@ -106,6 +146,11 @@ fn look_on<A: Allocator + Clone, P: Progress>(
     all: u64,
     progress: &mut P,
 ) -> Looked
+    requires { all ≡ verification.table.parts.facts.file_size }
+    ensures reads { ReadsUpTo verification (P.moves progress.old) (P.moves progress.new)
+        result.blocks (λ v. IfErr result.verdict (λ e. Misses e (next_of v))) }
+    ensures whole { IfOk result.verdict (λ _.
+        result.blocks ≡ min (steps_of verification) (2 ^ 64 - 1)) }
     ensures told { let t = verification.table in
         Finds (λ (v : Verification). v) result.verdict (table_found (body_of t.bytes) t.parts) }
     ensures sound { IfOk result.verdict (λ _.
@@ -136,33 +181,6 @@ fn look_on<A: Allocator + Clone, P: Progress>(
     }
 }
 
-fn print_sound<W: Write>(
-    output: &mut W,
-    name: &str,
-    verified: &Verified,
-    blocks: u64,
-) -> io::Result<()> {
-    let (entries, data) = (verified.item_count, verified.data_block_count);
-    let entry_word = word_for(entries, "entry", "entries");
-    let data_word = word_for(data, "data block", "data blocks");
-    let block_word = word_for(blocks, "block", "blocks");
-    writeln!(
-        output,
-        "{name}: sound, {entries} {entry_word} in {data} {data_word}, {blocks} {block_word} read"
-    )
-}
-
-fn print_first<W: Write>(
-    output: &mut W,
-    name: &str,
-    finding: &Finding,
-    blocks: u64,
-) -> io::Result<()> {
-    print_finding(output, name, finding)?;
-    let word = word_for(blocks, "block before it is", "blocks before it are");
-    writeln!(output, ", {blocks} {word} sound")
-}
-
 // Writes a line for each block that does not load but one of which the finding says it already.
 // Answers how many lines there are.
 fn print_further<'a, A: Allocator + Copy, W: Write>(
@@ -171,6 +189,10 @@ fn print_further<'a, A: Allocator + Copy, W: Write>(
     file: &NamedTable<'a, A>,
     finding: &Finding,
 ) -> Result<u64, ShowError<'a>>
+    ensures printed { let body = body_of file.now.table.bytes in OnOk result (PrintsText
+        (AreJoined (IsUnloadedLine file.now.name.now) (further_faults body (Some finding.now)
+        (named_blocks body file.now.table.parts)))
+        (W.contents output.old) (W.contents output.new)) }
     ensures count { IfOk result (λ count. count ≡ further_count file.now.table finding.now) }
     ensures unnamed { IfErr result NamesNone }
 {
@@ -190,6 +212,10 @@ fn print_named<'a, A: Allocator + Copy, W: Write>(
     source: &BlockSource<A>,
 ) -> Result<u64, ShowError<'a>>
     requires { source.now ≡ file.now.table.bytes }
+    ensures printed { let body = body_of file.now.table.bytes in OnOk result (PrintsText
+        (AreJoined (IsUnloadedLine file.now.name.now) (further_faults body (Some finding.now)
+        (named_blocks body file.now.table.parts)))
+        (W.contents output.old) (W.contents output.new)) }
     ensures count { IfOk result (λ count. count ≡ further_count file.now.table finding.now) }
     ensures unnamed { IfErr result NamesNone }
 {
@@ -210,6 +236,9 @@ pub fn verify_unopened<'a, A: Allocator + Copy, W: Write>(
     name: &str,
     bytes: Slice<A>,
 ) -> Result<u64, ShowError<'a>>
+    ensures printed { OnOk result (PrintsText
+        (AreJoined (IsUnloadedLine name.now) (unopened_faults bytes))
+        (W.contents output.old) (W.contents output.new)) }
     ensures count { IfOk result (λ count. count ≡ unloaded_count bytes) }
     ensures unnamed { IfErr result NamesNone }
 {
@@ -228,6 +257,9 @@ fn print_regions<'a, A: Allocator + Copy, W: Write>(
     name: &str,
     source: &BlockSource<A>,
 ) -> Result<u64, ShowError<'a>>
+    ensures printed { OnOk result (PrintsText (AreJoined (IsUnloadedLine name.now)
+        (faults_in (body_of source.now) (places_told source.now)))
+        (W.contents output.old) (W.contents output.new)) }
     ensures count { IfOk result (λ count. count ≡
         unloaded_in (body_of source.now) (places_told source.now)) }
     ensures unnamed { IfErr result NamesNone }
@@ -250,105 +282,47 @@ fn print_unloaded<'a, A: Allocator + Copy, W: Write>(
     source: &BlockSource<A>,
     blocks: &[NamedBlock],
 ) -> Result<u64, ShowError<'a>>
+    ensures printed { let told = option_map (λ (f : Bor FindingValue). f.now) finding.entry in
+        OnOk result (PrintsText (AreJoined (IsUnloadedLine name.now)
+        (further_faults (body_of source.now) told blocks.now))
+        (W.contents output.old) (W.contents output.new)) }
     ensures count { IfOk result (λ count. count ≡ further_of (body_of source.now)
         (option_map (λ (f : Bor FindingValue). f.now) finding.entry) blocks.now) }
     ensures unnamed { IfErr result NamesNone }
 {
     let mut count = 0u64;
     for block in blocks {
-        if print_block(output, name, finding, source, block)? {
-            count = count.saturating_add(1);
-        }
+        let lines = print_block(output, name, finding, source, block)?;
+        count = count.saturating_add(lines);
     }
     Ok(count)
 }
 
-// Writes a line for a block that does not load, if no finding says it already. Answers whether
-// there is a line.
+// Writes a line for a block that does not load, if no finding says it already. Answers how many
+// lines there are.
 fn print_block<'a, A: Allocator + Clone, W: Write>(
     output: &mut W,
     name: &str,
     finding: Option<&Finding>,
     source: &BlockSource<A>,
     block: &NamedBlock,
-) -> Result<bool, ShowError<'a>>
-    ensures told { IfOk result (λ told. told ≡ is_further (body_of source.now)
-        (option_map (λ (f : Bor FindingValue). f.now) finding.entry) block.now) }
+) -> Result<u64, ShowError<'a>>
+    ensures printed { let told = option_map (λ (f : Bor FindingValue). f.now) finding.entry in
+        OnOk result (PrintsText (AreJoined (IsUnloadedLine name.now)
+        (further_fault (body_of source.now) told block.now))
+        (W.contents output.old) (W.contents output.new)) }
+    ensures count { let told = option_map (λ (f : Bor FindingValue). f.now) finding.entry in
+        IfOk result (λ lines. lines ≡
+        (if is_further (body_of source.now) told block.now then 1 else 0)) }
     ensures unnamed { IfErr result NamesNone }
 {
     match refusal_of(source, block) {
-        Ok(None) => Ok(false),
+        Ok(None) => Ok(0),
+        Ok(Some(_)) if is_told(finding, block) => Ok(0),
         Ok(Some(error)) => {
-            if is_told(finding, block) {
-                return Ok(false);
-            }
-            let place = BlockPlace {
-                section: block.section,
-                offset: block.place.offset().0,
-            };
-            let number = error.number();
-            writeln!(output, "{name}: {place}: {error} ({number})")?;
-            Ok(true)
+            print_unloaded_line(output, name, begin_of(block), &error)?;
+            Ok(1)
         }
         Err(_) => Err(ShowError::OutOfMemory),
-    }
-}
-
-fn print_finding<W: Write>(output: &mut W, name: &str, finding: &Finding) -> io::Result<()> {
-    let place = BlockPlace {
-        section: finding.section,
-        offset: finding.offset,
-    };
-    write!(output, "{name}: {place}: ")?;
-    match &finding.fault {
-        Fault::Unloaded(error) => {
-            let number = error.number();
-            write!(output, "{error} ({number})")
-        }
-        Fault::Unfiltered(error) => {
-            let number = error.number();
-            write!(output, "the filter's block of a key: {error} ({number})")
-        }
-        Fault::Unborne(item) => {
-            let item = item_name(*item);
-            write!(output, "the entries do not bear out the meta item {item}")
-        }
-        fault => output.write_all(fault_text(fault).as_bytes()),
-    }
-}
-
-/// A section's name in a file.
-pub(crate) fn section_name(section: SectionName) -> &'static str {
-    match section {
-        SectionName::Data => "data",
-        SectionName::Index => "index",
-        SectionName::Tli => "tli",
-        SectionName::Filter => "filter",
-        SectionName::FilterTli => "filter_tli",
-        SectionName::TableVersion => "table_version",
-        SectionName::Meta => "meta",
-    }
-}
-
-/// An item's name in a file.
-pub(crate) fn item_name(item: ItemName) -> &'static str {
-    str::from_utf8(item.key()).unwrap_or("of no name")
-}
-
-// What a fault is that stands without a refusal.
-fn fault_text(fault: &Fault) -> &'static str {
-    match fault {
-        Fault::Unloaded(_) => "the block does not load",
-        Fault::Hollow => "no entry, or no handle",
-        Fault::Misplaced => "the block does not begin where the one before it ended",
-        Fault::TooHigh => "an entry has the number 18446744073709551615",
-        Fault::Unordered => "an entry does not follow on the one before it",
-        Fault::Denied => "a key is denied by the filter",
-        Fault::Unfiltered(_) => "a key's block of the filter does not load",
-        Fault::OtherKey => "the block does not end with the key that its handle names",
-        Fault::OtherNumber => "the block does not end with the number that its handle names",
-        Fault::Unborne(_) => "the entries do not bear out an item of the meta block",
-        Fault::Unnamed => "a data block that no handle names",
-        Fault::OtherChecksum => "the file has another checksum than the one that was given",
     }
 }

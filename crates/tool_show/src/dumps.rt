@@ -1,14 +1,15 @@
 //! The entries of files, a line each.
-ghost use Rattle.std.specs.Prelude.{◌≡◌, ◌-◌, IfErr, IfOk, List, OnOk, false, length, true};
+ghost use Rattle.std.specs.Prelude.{◌≡◌, ◌-◌, IfErr, IfOk, List, OnOk, Some, false, length, true};
 ghost use Rattle.sst_entries.specs.Entry.{Entry};
 ghost use Rattle.sst_entries.specs.Point.{within};
 ghost use Rattle.sst_entries.specs.Stream.{CanDeal};
+ghost use Rattle.lsm_block_indexes.specs.Dealt.{DealsEnding};
 ghost use Rattle.lsm_readers.specs.Stored.{StoresList};
 ghost use Rattle.lsm_readers.specs.Words.{lift, range_told};
 ghost use Rattle.lsm_runs.specs.RunLists.{DealsList};
-ghost use Rattle.tool_show.specs.Failures.{BlamesNoFile, NamesNone, NamesOnly};
+ghost use Rattle.tool_show.specs.Failures.{BlamesNoFile, FailsAs, NamesNone, NamesOnly};
 ghost use Rattle.tool_show.specs.Printed.{DealsTo, PrintsLine, PrintsLines, PrintsResults, Outcome};
-ghost use Rattle.tool_show.specs.Printed.{chosen, dumped, from_key, readable, up_to_key};
+ghost use Rattle.tool_show.specs.Printed.{chosen, dumped, first_error, from_key, readable, up_to_key};
 
 use crate::error::Failure;
 use crate::{NamedTable, ShowError};
@@ -54,15 +55,16 @@ pub fn dump<'a, A: Allocator + Copy, W: Write>(
     ensures left { let t = file.now.table in (es : List Entry) → StoresList t.bytes es →
         IfOk result (λ rest. rest ≡
         left - length (dumped options.now.reverse left (chosen options.now t es))) }
-    // Where a file is named, it is this one, and so is the block that is named; and its bytes store
-    // no list.
-    ensures named { IfErr result (NamesOnly file.now) }
+    // Where a file is named, it is this one, with the first refusal of what is read, and the first
+    // block that is refused so; and its bytes store no list.
+    ensures named { let read = dumped options.now.reverse left (readable options.now file.now.table)
+        in IfErr result (NamesOnly file.now (λ e. first_error read ≡ Some e)) }
     ensures sound { (es : List Entry) → StoresList file.now.table.bytes es →
         IfErr result NamesNone }
 {
     match dump_table(alloc, output, &file.table, options, left) {
         Ok(rest) => Ok(rest),
-        Err(failure) => Err(failure.of_file(file)),
+        Err(failure) => Err(failure.of_file(alloc, file)),
     }
 }
 
@@ -84,6 +86,8 @@ fn dump_table<A: Allocator + Copy, W: Write>(
     ensures left { let t = table.now in (es : List Entry) → StoresList t.bytes es →
         IfOk result (λ rest. rest ≡
         left - length (dumped options.now.reverse left (chosen options.now t es))) }
+    ensures refused { let read = dumped options.now.reverse left (readable options.now table.now) in
+        IfErr result (FailsAs (λ e. first_error read ≡ Some e)) }
     ensures sound { (es : List Entry) → StoresList table.now.bytes es →
         IfErr result BlamesNoFile }
 {
@@ -141,6 +145,8 @@ fn dump_range<A: Allocator + Copy, W: Write>(
     ensures left { let t = table.now in (es : List Entry) → StoresList t.bytes es →
         IfOk result (λ rest. rest ≡ lines.left
         - length (dumped reverse lines.left (within bounds.0 bounds.1 (lift es t.global_seqno)))) }
+    ensures refused { let read = range_told table.now bounds.0 bounds.1 in
+        IfErr result (FailsAs (λ e. first_error (dumped reverse lines.left read) ≡ Some e)) }
     ensures sound { (es : List Entry) → StoresList table.now.bytes es →
         IfErr result BlamesNoFile }
 {
@@ -162,6 +168,10 @@ fn dump_items<I: DoubleEndedIterator<Item = IterItem<A>> + Drop, A: Allocator + 
         (W.contents output.old) (W.contents output.new)) }
     ensures left { (rs : List Outcome) → DealsTo I.next_gives I.next_back_gives rs items →
         IfOk result (λ rest. rest ≡ lines.left - length (dumped reverse lines.left rs)) }
+    // A refusal is the first error of what is dealt up to that.
+    ensures refused { (rs : List Outcome) → DealsEnding I.next_gives I.next_back_gives
+        (λ _. Unit {0}) (λ _. Unit {0}) items rs →
+        IfErr result (FailsAs (λ e. first_error (dumped reverse lines.left rs) ≡ Some e)) }
     ensures sound { (es : List Entry) → DealsList I.next_gives I.next_back_gives es items →
         IfErr result BlamesNoFile }
 {

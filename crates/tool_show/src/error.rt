@@ -1,7 +1,7 @@
 //! Why something was not shown.
-ghost use Rattle.tool_show.specs.Failures.{TellsFailure};
+ghost use Rattle.tool_show.specs.Failures.{TellsFailure, TellsRefusal};
 
-use crate::places::place_of_refusal;
+use crate::places::first_refused;
 use crate::{BlockPlace, NamedTable};
 use sst_blocks::Error;
 use std::alloc::{AllocError, AllocFailed, Allocator};
@@ -18,8 +18,8 @@ pub enum ShowError<'a> {
     Refused {
         /// The name of the file.
         name: &'a str,
-        /// The block that does not load with this refusal, where verifying the table finds it
-        /// first.
+        /// The first block that does not load with this refusal, in the order in which a
+        /// verification reads them, where there is one.
         place: Option<BlockPlace>,
         /// The refusal.
         error: Error,
@@ -55,21 +55,36 @@ pub(crate) enum Failure {
 
 impl Failure {
     /// The failure of a file.
-    pub(crate) fn of_file<'a, A: Allocator + Clone>(self, file: &NamedTable<'a, A>) -> ShowError<'a>
+    pub(crate) fn of_file<'a, A: Allocator + Copy>(
+        self,
+        alloc: A,
+        file: &NamedTable<'a, A>,
+    ) -> ShowError<'a>
         ensures { TellsFailure self file.now result }
     {
         match self {
             Failure::Output(error) => ShowError::Output(error),
             Failure::Refused(Error::OutOfMemory) => ShowError::OutOfMemory,
-            Failure::Refused(error) => {
-                let place = place_of_refusal(&file.table, &error);
-                ShowError::Refused {
-                    name: file.name,
-                    place,
-                    error,
-                }
-            }
+            Failure::Refused(error) => refused(alloc, file, error),
         }
+    }
+}
+
+// The refusal of a file, with the first block that is refused so.
+fn refused<'a, A: Allocator + Copy>(
+    alloc: A,
+    file: &NamedTable<'a, A>,
+    error: Error,
+) -> ShowError<'a>
+    ensures { TellsRefusal file.now error result }
+{
+    match first_refused(alloc, &file.table, &error) {
+        Ok(place) => ShowError::Refused {
+            name: file.name,
+            place,
+            error,
+        },
+        Err(_) => ShowError::OutOfMemory,
     }
 }
 

@@ -1,8 +1,16 @@
 //! What a table says of itself, as plain values.
+ghost use Rattle.std.specs.Prelude.{◌≡◌, IfErr, IfOk, List, Ok, Result, Some, false, map};
+ghost use Rattle.sst_blocks.specs.Handle.{Handle};
+ghost use Rattle.sst_entries.specs.Error.{is_memory};
+ghost use Rattle.sst_entries.specs.declared.error.Error.{Error as Refusal};
+ghost use Rattle.sst_entries.specs.declared.error.Error.TheVariants.{OutOfMemory};
+ghost use Rattle.lsm_block_indexes.specs.Dealt.{DealsEnding};
+ghost use Rattle.tool_show.specs.Printed.{first_error};
+ghost use Rattle.tool_show.specs.Stats.{AreDataPlaces, data_handles, lies_at};
 ghost use Rattle.std.specs.Iterator.{IsFinite};
 
 use crate::blocks::source_of;
-use crate::checks::section_name;
+use crate::names::section_name;
 use lsm_block_indexes::{BlockIndex, BlockIndexIter};
 use lsm_formats::ItemName;
 use lsm_readers::Table;
@@ -93,7 +101,9 @@ const SECTIONS: [SectionName; 7] = [
 pub(crate) fn sections_of<A: Allocator + Copy>(
     alloc: A,
     table: &Table<A>,
-) -> Result<Vec<NamedPlace, A>, Error> {
+) -> Result<Vec<NamedPlace, A>, Error>
+    ensures err { IfErr result (λ e. e ≡ OutOfMemory) }
+{
     let toc = source_of(alloc, table)?.toc();
     let mut sections = Vec::new(alloc);
     for name in SECTIONS {
@@ -126,7 +136,11 @@ fn trailer_of(len: usize) -> NamedPlace {
 pub(crate) fn blocks_of<A: Allocator + Copy>(
     alloc: A,
     table: &Table<A>,
-) -> Result<Vec<Place, A>, Error> {
+) -> Result<Vec<Place, A>, Error>
+    ensures all { IfOk result (λ places. AreDataPlaces table.now places.items) }
+    ensures refused { IfErr result (λ e. is_memory e ≡ false →
+        first_error (data_handles table.now) ≡ Some e) }
+{
     let index = table.block_index()?;
     let handles = index.iter();
     drop(index);
@@ -139,6 +153,12 @@ fn collect_places<I: BlockIndexIter<A> + Drop, A: Allocator + Copy>(
 ) -> Result<Vec<Place, A>, Error>
     requires can { I.can_next handles }
     requires finite { IsFinite (I.remaining handles) }
+    ensures all { (rs : List (Result Handle Refusal)) → DealsEnding I.next_gives I.next_back_gives
+        (λ _. Unit {0}) (λ _. Unit {0}) handles rs → IfOk result (λ places.
+        (hs : List Handle) × (rs ≡ map (λ h. Ok h) hs) × (places.items ≡ map lies_at hs)) }
+    ensures refused { (rs : List (Result Handle Refusal)) →
+        DealsEnding I.next_gives I.next_back_gives (λ _. Unit {0}) (λ _. Unit {0}) handles rs →
+        IfErr result (λ e. is_memory e ≡ false → first_error rs ≡ Some e) }
 {
     let mut places = Vec::new(alloc);
     for handle in handles {
@@ -147,7 +167,9 @@ fn collect_places<I: BlockIndexIter<A> + Drop, A: Allocator + Copy>(
     Ok(places)
 }
 
-fn place_of_block<A: Allocator>(handle: &KeyedBlockHandle<A>) -> Place {
+fn place_of_block<A: Allocator>(handle: &KeyedBlockHandle<A>) -> Place
+    ensures { result ≡ lies_at handle.now }
+{
     Place {
         offset: handle.offset().0,
         size: u64::from(handle.size()),

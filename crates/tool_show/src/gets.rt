@@ -1,9 +1,9 @@
 //! The version of a key that a reader sees.
-ghost use Rattle.std.specs.Prelude.{◌≡◌, ◌-◌, ◌^◌, ◌∷◌, [], List, IfErr, IfOk, IfSome, OnOk};
-ghost use Rattle.std.specs.Prelude.{Ok, Option, None, false, is_some, map};
-ghost use Rattle.std.specs.Option.{option_map_or};
+ghost use Rattle.std.specs.Prelude.{◌≡◌, ◌∷◌, [], List, IfErr, IfNone, IfOk, IfSome, OnOk};
+ghost use Rattle.std.specs.Prelude.{None, Ok, Option, is_some, map};
 ghost use Rattle.std.specs.Arc.{arc_value};
-ghost use Rattle.std.specs.List.{AllByRecursion};
+ghost use Rattle.std.specs.Io.KnownBytes.{Appends};
+ghost use Rattle.std.specs.List.{AllByRecursion, flat_map};
 ghost use Rattle.lsm_ranges.specs.Run.{IsInOrder};
 ghost use Rattle.lsm_runs.specs.RunLists.{RunsHoldLists};
 ghost use Rattle.lsm_runs.specs.RunParts.{range_of};
@@ -11,19 +11,22 @@ ghost use Rattle.lsm_runs.specs.SeveralRuns.{runs_told, union_in};
 ghost use Rattle.sst_entries.specs.Entry.{Entry};
 ghost use Rattle.sst_entries.specs.Point.{point};
 ghost use Rattle.sst_entries.specs.declared.error.Error.TheVariants.{OutOfMemory};
-ghost use Rattle.tool_show.specs.Failures.{BlamesFaulty, NamesFaulty, NamesNone};
+ghost use Rattle.tool_show.specs.Failures.{BlamesFaulty, NamesFaulty, NamesNone, read_refusal};
 ghost use Rattle.tool_show.specs.Files.{runs_in};
-ghost use Rattle.tool_show.specs.Printed.{PrintsFound, absent_line};
+ghost use Rattle.tool_show.specs.Lines.{PrintsText};
+ghost use Rattle.tool_show.specs.Printed.{IsAnswer, PrintsFound, absent_line, file_loads};
+ghost use Rattle.tool_show.specs.Printed.{loads_text, seen_below};
 
 use crate::error::Failure;
-use crate::loads::{LoadedPlaces, loaded_places};
-use crate::{BlockPlace, NamedTable, ShowError};
+use crate::load_lines::print_loaded;
+use crate::loads::loaded_by;
+use crate::{NamedTable, ShowError};
 use lsm_ranges::{Ranged, Run};
 use lsm_readers::Table;
 use lsm_runs::get_runs_counted;
-use sst_blocks::{BlockHandle, Error, InternalValue, Opened, SectionName, SeqNo};
+use sst_blocks::{Error, InternalValue, SeqNo};
 use std::alloc::Allocator;
-use std::io::{self, Write};
+use std::io::Write;
 use std::sync::Arc;
 use tool_lines::{Format, append_entry};
 
@@ -52,51 +55,53 @@ pub fn get<'a, A: Allocator + Copy, W: Write>(
     files: &[NamedTable<'a, A>],
     options: &GetOptions<'_>,
 ) -> Result<bool, ShowError<'a>>
-    // Whatever the bytes, where each key range is well-formed it answers what the tables tell, and
-    // prints it: no refusal is passed over.
+    // Whatever the bytes, where each key range is well-formed it answers what the tables tell: no
+    // refusal is passed over.
     ensures told { AllByRecursion (IsInOrder range_of) (runs_in files.now) →
-        let seqno = option_map_or (λ n. n) options.now.at (2 ^ 64 - 1) in
         IfOk result (λ there. (found : Option Entry)
-        × (runs_told options.now.key.now seqno None (runs_in files.now) ≡ Ok found)
-        × (there ≡ is_some found)) }
-    ensures shown { options.now.loads ≡ false →
-        AllByRecursion (IsInOrder range_of) (runs_in files.now) →
-        let seqno = option_map_or (λ n. n) options.now.at (2 ^ 64 - 1) in
+        × (runs_told options.now.key.now (seen_below options.now) None (runs_in files.now)
+        ≡ Ok found) × (there ≡ is_some found)) }
+    // It prints that, and then the loads of each file, where these are asked for.
+    ensures shown { AllByRecursion (IsInOrder range_of) (runs_in files.now) →
         OnOk result ((found : Option Entry)
-        × (runs_told options.now.key.now seqno None (runs_in files.now) ≡ Ok found)
-        × PrintsFound options.now.format found
+        × (runs_told options.now.key.now (seen_below options.now) None (runs_in files.now)
+        ≡ Ok found) × PrintsText (IsAnswer options.now files.now found)
         (W.contents output.old) (W.contents output.new)) }
     // Of files of lists there is one where these lists together have it.
     ensures found { (lists : List (List (List Entry))) →
+        RunsHoldLists (runs_in files.now) lists → IfOk result (λ there.
+        there ≡ is_some (point (union_in lists) options.now.key.now (seen_below options.now))) }
+    // It is printed, or that there is none, and then the loads.
+    ensures printed { (lists : List (List (List Entry))) →
         RunsHoldLists (runs_in files.now) lists →
-        let seqno = option_map_or (λ n. n) options.now.at (2 ^ 64 - 1) in
-        IfOk result (λ there.
-        there ≡ is_some (point (union_in lists) options.now.key.now seqno)) }
-    // It is printed, or that there is none.
-    ensures printed { options.now.loads ≡ false →
-        (lists : List (List (List Entry))) → RunsHoldLists (runs_in files.now) lists →
-        let seqno = option_map_or (λ n. n) options.now.at (2 ^ 64 - 1) in
-        OnOk result (PrintsFound options.now.format
-        (point (union_in lists) options.now.key.now seqno)
+        OnOk result (PrintsText (IsAnswer options.now files.now
+        (point (union_in lists) options.now.key.now (seen_below options.now)))
         (W.contents output.old) (W.contents output.new)) }
-    // Where a file is named, it is one of these, whose bytes store no list, and so is the block
-    // that is named: of files of lists none is.
-    ensures named { IfErr result (NamesFaulty files.now) }
+    // Where a file is named, it is the first of these whose table refuses the read, with its
+    // refusal, and the first block that is refused so; its bytes store no list: of files of lists
+    // none is.
+    ensures named { IfErr result
+        (NamesFaulty options.now.key.now (seen_below options.now) files.now) }
     ensures sound { (lists : List (List (List Entry))) → RunsHoldLists (runs_in files.now) lists →
         IfErr result NamesNone }
 {
     let runs = runs_of(alloc, files)?;
-    let seqno = options.at.unwrap_or(SeqNo::MAX);
+    let seqno = seen_below(options);
     let found = match get_runs_counted(&runs, options.key, seqno).0 {
         Ok(found) => found,
-        Err(error) => return Err(refused_in(error, files, options.key, seqno)),
+        Err(error) => return Err(refused_in(alloc, error, files, options.key, seqno)),
     };
     let is_there = found.is_some();
     print_found(alloc, output, found, options.format)?;
-    if options.loads {
-        print_loads(alloc, output, files, options.key, seqno)?;
-    }
+    print_loads(alloc, output, files, options)?;
     Ok(is_there)
+}
+
+// The number below which a version is seen.
+fn seen_below(options: &GetOptions<'_>) -> SeqNo
+    ensures { result ≡ seen_below options.now }
+{
+    options.at.unwrap_or(SeqNo::MAX)
 }
 
 // Each file as a run.
@@ -132,19 +137,20 @@ fn run_of<'a, A: Allocator + Copy>(
 
 // A refusal of a read, with the first file whose table refuses it.
 fn refused_in<'a, A: Allocator + Copy>(
+    alloc: A,
     error: Error,
     files: &[NamedTable<'a, A>],
     key: &[u8],
     seqno: SeqNo,
 ) -> ShowError<'a>
-    ensures named { NamesFaulty files.now result }
+    ensures named { NamesFaulty key.now seqno files.now result }
     ensures memory { error ≡ OutOfMemory → NamesNone result }
 {
     if error == Error::OutOfMemory {
         return ShowError::OutOfMemory;
     }
     for file in files {
-        if let Some(refused) = refused_by(file, key, seqno) {
+        if let Some(refused) = refused_by(alloc, file, key, seqno) {
             return refused;
         }
     }
@@ -154,11 +160,13 @@ fn refused_in<'a, A: Allocator + Copy>(
 
 // Why a file's table refuses a read, if it is asked and does.
 fn refused_by<'a, A: Allocator + Copy>(
+    alloc: A,
     file: &NamedTable<'a, A>,
     key: &[u8],
     seqno: SeqNo,
 ) -> Option<ShowError<'a>>
-    ensures { IfSome result (BlamesFaulty file.now) }
+    ensures blamed { IfSome result (BlamesFaulty key.now seqno file.now) }
+    ensures none { IfNone result (read_refusal key.now seqno file.now.table ≡ None) }
 {
     if !file.table.key_range().contains_key(key) {
         return None;
@@ -169,7 +177,7 @@ fn refused_by<'a, A: Allocator + Copy>(
     if error == Error::OutOfMemory {
         return Some(ShowError::OutOfMemory);
     }
-    Some(Failure::Refused(error).of_file(file))
+    Some(Failure::Refused(error).of_file(alloc, file))
 }
 
 fn print_found<'a, A: Allocator + Copy, W: Write>(
@@ -205,70 +213,52 @@ fn absent_line(format: Format) -> &'static [u8]
     }
 }
 
-// Which blocks were loaded for each file.
+// Which blocks were loaded for each file, where that is asked for.
 fn print_loads<'a, A: Allocator + Copy, W: Write>(
     alloc: A,
     output: &mut W,
     files: &[NamedTable<'a, A>],
-    key: &[u8],
-    seqno: SeqNo,
+    options: &GetOptions<'_>,
 ) -> Result<(), ShowError<'a>>
-    ensures { IfErr result NamesNone }
+    ensures printed { OnOk result (Appends (W.contents output.old) (W.contents output.new)
+        (loads_text options.now files.now)) }
+    ensures unnamed { IfErr result NamesNone }
 {
-    for file in files {
-        let Ok(places) = loaded_places(alloc, &file.table, key, seqno) else {
-            return Err(ShowError::OutOfMemory);
-        };
-        print_opened(
-            output,
-            file.name,
-            opened_by(&file.table, key, seqno),
-            &places,
-        )?;
+    if options.loads {
+        print_each(alloc, output, files, options)?;
     }
     Ok(())
 }
 
-// How many blocks a read of a table loads, if its range has the key; else it is not asked.
-fn opened_by<A: Allocator + Copy>(table: &Table<A>, key: &[u8], seqno: SeqNo) -> Opened {
-    if table.key_range().contains_key(key) {
-        table.get_counted(key, seqno, Table::<A>::key_hash(key)).1
-    } else {
-        Opened::none()
+// Which blocks were loaded for each file.
+fn print_each<'a, A: Allocator + Copy, W: Write>(
+    alloc: A,
+    output: &mut W,
+    files: &[NamedTable<'a, A>],
+    options: &GetOptions<'_>,
+) -> Result<(), ShowError<'a>>
+    ensures printed { OnOk result (Appends (W.contents output.old) (W.contents output.new)
+        (flat_map (file_loads options.now) files.now)) }
+    ensures unnamed { IfErr result NamesNone }
+{
+    for file in files {
+        print_file(alloc, output, file, options)?;
     }
+    Ok(())
 }
 
-fn print_opened<W: Write>(
+fn print_file<'a, A: Allocator + Copy, W: Write>(
+    alloc: A,
     output: &mut W,
-    name: &str,
-    opened: Opened,
-    places: &LoadedPlaces,
-) -> io::Result<()> {
-    let (data, index) = (opened.data_loads, opened.index_loads);
-    let (filter, meta) = (opened.filter_loads, opened.meta_loads);
-    write!(
-        output,
-        "{name}: loaded data {data}, index {index}, filter {filter}, meta {meta}"
-    )?;
-    print_place(output, SectionName::Filter, filter, places.filter)?;
-    print_place(output, SectionName::Index, index, places.index)?;
-    print_place(output, SectionName::Data, data, places.data)?;
-    output.write_all(b"\n")
-}
-
-// Where a block begins, where it was loaded.
-fn print_place<W: Write>(
-    output: &mut W,
-    section: SectionName,
-    loads: u64,
-    place: Option<BlockHandle>,
-) -> io::Result<()> {
-    match place {
-        Some(place) if loads > 0 => {
-            let offset = place.offset().0;
-            let place = BlockPlace { section, offset };
-            write!(output, "; {place}")
-        }
-        _ => Ok(()),
-    }
+    file: &NamedTable<'a, A>,
+    options: &GetOptions<'_>,
+) -> Result<(), ShowError<'a>>
+    ensures printed { OnOk result (Appends (W.contents output.old) (W.contents output.new)
+        (file_loads options.now file.now)) }
+    ensures unnamed { IfErr result NamesNone }
+{
+    let Ok(loaded) = loaded_by(alloc, &file.table, options.key, seen_below(options)) else {
+        return Err(ShowError::OutOfMemory);
+    };
+    print_loaded(alloc, output, file.name, &loaded, options.format)
 }

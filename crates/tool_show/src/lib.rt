@@ -3,15 +3,21 @@
 #![tactic(auto)]
 
 mod blocks;
+mod check_lines;
 mod checks;
+mod counted;
 mod dumps;
 mod error;
 mod facts;
 mod gets;
+mod load_lines;
 mod loads;
+mod members;
 mod named;
+mod names;
 mod picture;
 mod places;
+mod refusals;
 mod stats;
 
 pub use checks::{NoProgress, Progress, verify, verify_unopened};
@@ -19,5 +25,5 @@ pub use dumps::{DumpOptions, dump};
 pub use error::ShowError;
 pub use gets::{GetOptions, get};
 pub use named::NamedTable;
-pub use places::{BlockPlace, place_of_refusal};
+pub use places::{BlockPlace, first_refused, place_of_refusal};
 pub use stats::stat;

@@ -1,14 +1,17 @@
 //! Where in a table a refusal comes from.
-ghost use Rattle.std.specs.Prelude.{◌≡◌, IfSome, Err, Some};
-ghost use Rattle.std.specs.Option.{IsSomeAnd};
+ghost use Rattle.std.specs.Prelude.{◌≡◌, ◌≢◌, IfErr, IfOk, IfSome, Err, Some};
+ghost use Rattle.std.specs.Bool.{MatchBool};
 ghost use Rattle.sst_entries.specs.declared.error.Error.{Error as Refusal};
 ghost use Rattle.sst_sections.specs.Sections.{body_of};
 ghost use Rattle.lsm_readers.specs.Verify.{table_early, table_found};
-ghost use Rattle.tool_show.specs.Faults.{unloaded_at};
+ghost use Rattle.sst_entries.specs.declared.error.Error.TheVariants.{OutOfMemory};
+ghost use Rattle.tool_show.specs.Failures.{IsBlockWith, IsFirstWith};
+ghost use Rattle.tool_show.specs.Faults.{begin_of, block_fault, unloaded_at};
 
-use crate::checks::section_name;
-use lsm_readers::{Fault, Finding, Table, VerifyError};
-use sst_blocks::{Error, SectionName};
+use crate::blocks::{NamedBlock, named_blocks, refusal_of, source_of};
+use crate::names::section_name;
+use lsm_readers::{Fault, Finding, Table, TableInner, VerifyError};
+use sst_blocks::{BlockSource, Error, SectionName};
 use std::alloc::Allocator;
 use std::fmt;
 
@@ -22,9 +25,74 @@ pub struct BlockPlace {
 }
 
 impl fmt::Display for BlockPlace {
+    ghost use Rattle.std.specs.Prelude.{Some};
+    ghost use Rattle.tool_show.specs.Lines.{place_text};
+
+    ghost output = { λ place. Some (place_text place) };
+
     fn fmt<W: fmt::Write>(&self, f: &mut fmt::Formatter<W>) -> fmt::Result {
         let (section, offset) = (section_name(self.section), self.offset);
         write!(f, "{section} block at {offset}")
+    }
+}
+
+/// Where the first block of a table begins that does not load with this refusal, in the order in
+/// which a verification reads them: those of the filter, of the index and of data. `None` where no
+/// block is refused so. Refused for want of memory alone.
+pub fn first_refused<A: Allocator + Copy>(
+    alloc: A,
+    table: &Table<A>,
+    refusal: &Error,
+) -> Result<Option<BlockPlace>, Error>
+    ensures first { IfOk result (IsBlockWith table.now refusal.now) }
+    ensures err { IfErr result (λ e. e ≡ OutOfMemory) }
+{
+    let source = source_of(alloc, table)?;
+    let inner: &TableInner<A> = table;
+    let blocks = named_blocks(alloc, &source, inner)?;
+    first_of(&source, &blocks, refusal)
+}
+
+// Where the first of some blocks begins that does not load with this refusal.
+fn first_of<A: Allocator + Clone>(
+    source: &BlockSource<A>,
+    blocks: &[NamedBlock],
+    refusal: &Error,
+) -> Result<Option<BlockPlace>, Error>
+    ensures first { IfOk result (IsFirstWith (body_of source.now) refusal.now blocks.now) }
+    ensures err { IfErr result (λ e. e ≡ OutOfMemory) }
+{
+    for block in blocks {
+        if is_refused_so(source, block, refusal)? {
+            return Ok(Some(begin_of(block)));
+        }
+    }
+    Ok(None)
+}
+
+// Whether a block does not load with this refusal.
+fn is_refused_so<A: Allocator + Clone>(
+    source: &BlockSource<A>,
+    block: &NamedBlock,
+    refusal: &Error,
+) -> Result<bool, Error>
+    ensures ok { let fault = block_fault (body_of source.now) block.now in IfOk result (λ so.
+        MatchBool so (fault ≡ Some refusal.now) (fault ≢ Some refusal.now)) }
+    ensures err { IfErr result (λ e. e ≡ OutOfMemory) }
+{
+    match refusal_of(source, block)? {
+        Some(error) => Ok(error == *refusal),
+        None => Ok(false),
+    }
+}
+
+/// Where a named block begins.
+pub(crate) fn begin_of(block: &NamedBlock) -> BlockPlace
+    ensures { result ≡ begin_of block.now }
+{
+    BlockPlace {
+        section: block.section,
+        offset: block.place.offset().0,
     }
 }
 

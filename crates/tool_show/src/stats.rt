@@ -1,12 +1,15 @@
 //! What tables say of themselves.
-ghost use Rattle.std.specs.Prelude.{IfErr};
-ghost use Rattle.tool_show.specs.Failures.{NamesOnly};
+ghost use Rattle.std.specs.Prelude.{◌≡◌, IfErr, IfOk, Some, false};
+ghost use Rattle.sst_entries.specs.Error.{is_memory};
+ghost use Rattle.sst_entries.specs.declared.error.Error.TheVariants.{OutOfMemory};
+ghost use Rattle.tool_show.specs.Failures.{BlamesNoFile, FailsAs, NamesOnly};
+ghost use Rattle.tool_show.specs.Stats.{IsStatRefusal, meta_fault, meta_value};
 
-use crate::checks::item_name;
 use crate::error::Failure;
 use crate::facts::{
     ITEMS, NamedPlace, Place, Shown, Spread, blocks_of, little_endian, sections_of, spread_of,
 };
+use crate::names::item_name;
 use crate::picture::{print_blocks, print_sections};
 use crate::{NamedTable, ShowError};
 use json::Writer;
@@ -28,12 +31,13 @@ pub fn stat<'a, A: Allocator + Copy, W: Write>(
     file: &NamedTable<'a, A>,
     format: Format,
 ) -> Result<(), ShowError<'a>>
-    // Where a file is named, it is this one, and so is the block that is named.
-    ensures named { IfErr result (NamesOnly file.now) }
+    // Where a file is named, it is this one, with what its meta block refuses or its index first,
+    // and the first block that is refused so.
+    ensures named { IfErr result (NamesOnly file.now (IsStatRefusal file.now.table)) }
 {
     match stat_file(alloc, output, file, format) {
         Ok(()) => Ok(()),
-        Err(failure) => Err(failure.of_file(file)),
+        Err(failure) => Err(failure.of_file(alloc, file)),
     }
 }
 
@@ -54,7 +58,9 @@ fn stat_file<A: Allocator + Copy, W: Write>(
     output: &mut W,
     file: &NamedTable<'_, A>,
     format: Format,
-) -> Result<(), Failure> {
+) -> Result<(), Failure>
+    ensures refused { IfErr result (FailsAs (IsStatRefusal file.now.table)) }
+{
     let parts = parts_of(alloc, &file.table)?;
     match format {
         Format::Lines => print_text(alloc, output, file, &parts),
@@ -62,7 +68,9 @@ fn stat_file<A: Allocator + Copy, W: Write>(
     }
 }
 
-fn parts_of<A: Allocator + Copy>(alloc: A, table: &Table<A>) -> Result<Parts<A>, Error> {
+fn parts_of<A: Allocator + Copy>(alloc: A, table: &Table<A>) -> Result<Parts<A>, Error>
+    ensures refused { IfErr result (λ e. is_memory e ≡ false → IsStatRefusal table.now e) }
+{
     let keys = number_of(table, ItemName::KeyCount)?.unwrap_or(0);
     let filter_bytes = filter_bytes(table)?;
     let sections = sections_of(alloc, table)?;
@@ -78,12 +86,28 @@ fn parts_of<A: Allocator + Copy>(alloc: A, table: &Table<A>) -> Result<Parts<A>,
     })
 }
 
-// The number of an item, if there is one.
-fn number_of<A: Allocator + Copy>(table: &Table<A>, item: ItemName) -> Result<Option<u64>, Error> {
+// The value of an item of the meta block, if there is one. Refused as loading that block is.
+fn item_of<A: Allocator + Copy>(
+    table: &Table<A>,
+    item: ItemName,
+) -> Result<Option<Slice<A>>, Error>
+    ensures ok { IfOk result (λ value. value ≡ meta_value table.now item) }
+    ensures refused { IfErr result (λ e. is_memory e ≡ false → meta_fault table.now ≡ Some e) }
+{
     match table.meta_item(item) {
-        Ok(value) => Ok(little_endian(value.as_slice())),
+        Ok(value) => Ok(Some(value)),
         Err(Error::MetaKeyMissing) => Ok(None),
         Err(error) => Err(error),
+    }
+}
+
+// The number of an item, if there is one.
+fn number_of<A: Allocator + Copy>(table: &Table<A>, item: ItemName) -> Result<Option<u64>, Error>
+    ensures refused { IfErr result (λ e. is_memory e ≡ false → meta_fault table.now ≡ Some e) }
+{
+    match item_of(table, item)? {
+        Some(value) => Ok(little_endian(value.as_slice())),
+        None => Ok(None),
     }
 }
 
@@ -105,7 +129,9 @@ fn filter_of<A: Allocator>(table: &Table<A>) -> &'static str {
 
 // How many bytes of bits the filter has: each of its blocks has a header, and a byte that says how
 // many probes are made.
-fn filter_bytes<A: Allocator + Copy>(table: &Table<A>) -> Result<u64, Error> {
+fn filter_bytes<A: Allocator + Copy>(table: &Table<A>) -> Result<u64, Error>
+    ensures refused { IfErr result (λ e. is_memory e ≡ false → meta_fault table.now ≡ Some e) }
+{
     let blocks = number_of(table, ItemName::BlockCountFilter)?.unwrap_or(1);
     let beside = blocks.saturating_mul(Header::serialized_len() as u64 + 1);
     Ok(u64::from(table.filter_size()).saturating_sub(beside))
@@ -116,7 +142,9 @@ fn print_text<A: Allocator + Copy, W: Write>(
     output: &mut W,
     file: &NamedTable<'_, A>,
     parts: &Parts<A>,
-) -> Result<(), Failure> {
+) -> Result<(), Failure>
+    ensures refused { IfErr result (FailsAs (λ e. meta_fault file.now.table ≡ Some e)) }
+{
     let (name, size) = (file.name, parts.size);
     writeln!(output, "{name}: {size} bytes")?;
     for (item, shown) in &ITEMS {
@@ -133,11 +161,12 @@ fn print_item<A: Allocator + Copy, W: Write>(
     table: &Table<A>,
     item: ItemName,
     shown: Shown,
-) -> Result<(), Failure> {
-    match table.meta_item(item) {
-        Ok(value) => print_value(alloc, output, item_name(item), &value, shown),
-        Err(Error::MetaKeyMissing) => Ok(()),
-        Err(error) => Err(Failure::Refused(error)),
+) -> Result<(), Failure>
+    ensures refused { IfErr result (FailsAs (λ e. meta_fault table.now ≡ Some e)) }
+{
+    match item_of(table, item)? {
+        Some(value) => print_value(alloc, output, item_name(item), &value, shown),
+        None => Ok(()),
     }
 }
 
@@ -147,7 +176,9 @@ fn print_value<A: Allocator + Copy, W: Write>(
     name: &str,
     value: &Slice<A>,
     shown: Shown,
-) -> Result<(), Failure> {
+) -> Result<(), Failure>
+    ensures refused { IfErr result BlamesNoFile }
+{
     write!(output, "  {name:<26} ")?;
     let number = number_shown(value.as_slice(), shown);
     if let Some(number) = number {
@@ -202,7 +233,9 @@ fn print_object<A: Allocator + Copy, W: Write>(
     output: &mut W,
     file: &NamedTable<'_, A>,
     parts: &Parts<A>,
-) -> Result<(), Failure> {
+) -> Result<(), Failure>
+    ensures refused { IfErr result (FailsAs (λ e. meta_fault file.now.table ≡ Some e)) }
+{
     let mut writer = Writer::new(Vec::new(alloc));
     write_object(alloc, &mut writer, file, parts)?;
     let mut text = writer.into_inner();
@@ -215,7 +248,10 @@ fn write_object<A: Allocator + Copy>(
     writer: &mut Writer<A>,
     file: &NamedTable<'_, A>,
     parts: &Parts<A>,
-) -> Result<(), Error> {
+) -> Result<(), Error>
+    ensures refused { IfErr result (λ e.
+        is_memory e ≡ false → meta_fault file.now.table ≡ Some e) }
+{
     writer.begin_object()?;
     writer.key("name")?;
     writer.string(file.name)?;
@@ -232,14 +268,14 @@ fn write_items<A: Allocator + Copy>(
     alloc: A,
     writer: &mut Writer<A>,
     table: &Table<A>,
-) -> Result<(), Error> {
+) -> Result<(), Error>
+    ensures refused { IfErr result (λ e. is_memory e ≡ false → meta_fault table.now ≡ Some e) }
+{
     writer.key("meta")?;
     writer.begin_object()?;
     for (item, shown) in &ITEMS {
-        match table.meta_item(*item) {
-            Ok(value) => write_value(alloc, writer, item_name(*item), &value, *shown)?,
-            Err(Error::MetaKeyMissing) => {}
-            Err(error) => return Err(error),
+        if let Some(value) = item_of(table, *item)? {
+            write_value(alloc, writer, item_name(*item), &value, *shown)?;
         }
     }
     Ok(writer.end_object()?)
@@ -251,7 +287,9 @@ fn write_value<A: Allocator + Copy>(
     name: &str,
     value: &Slice<A>,
     shown: Shown,
-) -> Result<(), Error> {
+) -> Result<(), Error>
+    ensures err { IfErr result (λ e. e ≡ OutOfMemory) }
+{
     writer.key(name)?;
     if let Some(number) = number_shown(value.as_slice(), shown) {
         return Ok(writer.u64(number)?);

@@ -1,5 +1,10 @@
-use Rattle.tool_show.proofs.FileLemmas.{failure_none}
+use Rattle.tool_show.proofs.FileLemmas.{failure_none, failure_only}
 use Rattle.tool_show.proofs.dumps.dump.Goals as goal
+
+pub returns-in-Err-clause-named : goal.returns-in-Err-clause-named
+returns-in-Err-clause-named g c =
+    failure_only c.args.file.now _ c.in-Err.failure c.of_file.result c.in-Err.ensures.refused
+    c.of_file.ensures
 
 pub returns-in-Err-clause-sound : goal.returns-in-Err-clause-sound
 returns-in-Err-clause-sound g c = λ es stores.

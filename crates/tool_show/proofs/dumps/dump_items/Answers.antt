@@ -4,13 +4,16 @@ use Rattle.sst_entries.specs.Stream.{ok_results}
 use Rattle.sst_entries.proofs.StreamLemmas.{can_now, can_now_back}
 use Rattle.tool_show.proofs.DumpLemmas.{error_is_memory, may_go_on, prints_all, prints_end}
 use Rattle.tool_show.proofs.DumpLemmas.{prints_none, prints_one}
-use Rattle.tool_show.proofs.FileLemmas.{memory_blames_none}
+use Rattle.tool_show.proofs.EndingLemmas.{comes_error, comes_none, comes_one, ends_up}
+use Rattle.tool_show.proofs.FileLemmas.{fails_as, memory_blames_none}
 use Rattle.tool_show.proofs.dumps.dump_items.Goals as goal
 
 pub loop-left-init : goal.loop-left-init
 loop-left-init g c = (
   c.requires.can,
   λ stops rs deals. prints_none _ _ stops c.args.items c.args.reverse c.args.lines.left _ rs _ deals,
+  λ rs deals. comes_none _ _ c.args.items c.args.reverse c.args.lines.left rs
+      (ends_up _ _ _ _ c.args.items rs deals),
 )
 
 pub take_item-requires-clause-can : goal.take_item-requires-clause-can
@@ -28,6 +31,9 @@ loop-left-preserved g c = (
       c.loop-left.left _ _ c.in-Some.item c.in_ok-item-in-Some.field-0 _ _ _ _
       c.loop-left-test.true c.in_ok-item-in-Some.was (c.loop-left.invariant.1 stops rs deals)
       c.in-Some.ensures.front c.in-Some.ensures.back c.in_ok-print_entry-in-Some.ensures.printed,
+  λ rs deals. comes_one _ _ c.loop-left.items c.take_item.new.items c.args.reverse c.loop-left.left
+      c.in-Some.item c.in_ok-item-in-Some.field-0 _ c.loop-left-test.true c.in_ok-item-in-Some.was
+      (c.loop-left.invariant.2 rs deals) c.in-Some.ensures.front c.in-Some.ensures.back,
 )
 
 pub returns-in-None : goal.returns-in-None
@@ -38,6 +44,7 @@ returns-in-None g c = record {
   left = λ rs deals. (prints_all _ _ (λ _. true) c.loop-left.items c.take_item.new.items
       c.args.reverse c.loop-left.left _ _ _ _ _ (c.loop-left.invariant.1 (λ _. true) rs deals)
       c.in-None.ensures.front c.in-None.ensures.back).1;
+  refused = λ rs deals. tt;
   sound = λ es deals. tt;
 }
 
@@ -49,6 +56,7 @@ returns g c = record {
   left = λ rs deals. (prints_end _ _ (λ _. true) c.loop-left.items c.args.reverse
       c.loop-left.left _ _ _ _ _ c.loop-left-test.false
       (c.loop-left.invariant.1 (λ _. true) rs deals)).1;
+  refused = λ rs deals. tt;
   sound = λ es deals. tt;
 }
 
@@ -60,4 +68,12 @@ returns-in_err-item-in-Some-clause-sound g c = λ es deals.
     c.in-Some.item c.in_err-item-in-Some.field-0.0 es _ _ c.loop-left-test.true
     c.in_err-item-in-Some.was
     (c.loop-left.invariant.1 is_memory (ok_results es) (deals is_memory refl))
+    c.in-Some.ensures.front c.in-Some.ensures.back)
+
+pub returns-in_err-item-in-Some-clause-refused : goal.returns-in_err-item-in-Some-clause-refused
+returns-in_err-item-in-Some-clause-refused g c = λ rs deals.
+    fails_as c.from_residual.result c.in_err-item-in-Some.field-0.0 _ c.from_residual.ensures.1
+    (λ other. comes_error _ _ c.loop-left.items c.take_item.new.items c.args.reverse
+    c.loop-left.left c.in-Some.item c.in_err-item-in-Some.field-0.0 _ c.loop-left-test.true
+    c.in_err-item-in-Some.was other (c.loop-left.invariant.2 rs deals)
     c.in-Some.ensures.front c.in-Some.ensures.back)

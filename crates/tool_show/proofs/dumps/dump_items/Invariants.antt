@@ -2,7 +2,9 @@
 use Rattle.std.proofs.Common.{Bool, List}
 use Rattle.sst_entries.specs.Stream.{CanDeal, Deals, answer_stops}
 use Rattle.sst_entries.specs.declared.error.Error.{Error}
+use Rattle.lsm_block_indexes.specs.Dealt.{DealsEnding}
 use Rattle.tool_show.proofs.DumpLemmas.{Prints}
+use Rattle.tool_show.proofs.EndingLemmas.{Comes}
 use Rattle.tool_show.specs.Printed.{Outcome, dumped}
 use Rattle.tool_show.proofs.dumps.dump_items.Given as goal
 
@@ -16,6 +18,11 @@ invariant-loop-left g l =
     → Prints g.I.Iterator.next_gives g.I.DoubleEndedIterator.next_back_gives stops l.items l.reverse
     l.left l.fn.lines.left l.lines.format (dumped l.reverse l.fn.lines.left rs)
     (g.W.Write.contents l.fn.output) (g.W.Write.contents l.output))
+    × ((rs : List Outcome)
+    → DealsEnding g.I.Iterator.next_gives g.I.DoubleEndedIterator.next_back_gives (λ _. Unit {0})
+    (λ _. Unit {0}) l.fn.items rs
+    → Comes g.I.Iterator.next_gives g.I.DoubleEndedIterator.next_back_gives l.items l.reverse l.left
+    (dumped l.reverse l.fn.lines.left rs))
 
 abbrev pub decreases-loop-left : goal.decreases-loop-left
 decreases-loop-left g l = l.left

@@ -19,3 +19,6 @@ returns-clause-left g c = λ es stores.
 pub returns-clause-sound : goal.returns-clause-sound
 returns-clause-sound g c = λ es stores.
     c.dump_items.ensures.sound _ (c.in_ok-items.ensures.list es stores)
+
+pub returns-clause-refused : goal.returns-clause-refused
+returns-clause-refused g c = c.dump_items.ensures.refused _ c.in_ok-items.ensures.deals

@@ -14,3 +14,8 @@ returns-clause-left g c = λ es stores.
 pub returns-clause-told : goal.returns-clause-told
 returns-clause-told g c =
     rw (sym c.in_ok-bounds.ensures.lower, sym c.in_ok-bounds.ensures.upper) c.dump_range.ensures.told
+
+pub returns-clause-refused : goal.returns-clause-refused
+returns-clause-refused g c =
+    rw (sym c.in_ok-bounds.ensures.lower, sym c.in_ok-bounds.ensures.upper)
+    c.dump_range.ensures.refused
