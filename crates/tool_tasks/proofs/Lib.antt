@@ -1,2 +1,3 @@
 mod Endings
+mod Failures
 mod Files
