@@ -55,6 +55,8 @@ pub fn dump<'a, A: Allocator + Copy, W: Write>(
     ensures left { let t = file.now.table in (es : List Entry) → StoresList t.bytes es →
         IfOk result (λ rest. rest ≡
         left - length (dumped options.now.reverse left (chosen options.now t es))) }
+    ensures rest { IfOk result (λ rest. rest ≡
+        left - length (dumped options.now.reverse left (readable options.now file.now.table))) }
     // Where a file is named, it is this one, with the first refusal of what is read, and the first
     // block that is refused so; and its bytes store no list.
     ensures named { let read = dumped options.now.reverse left (readable options.now file.now.table)
@@ -86,6 +88,8 @@ fn dump_table<A: Allocator + Copy, W: Write>(
     ensures left { let t = table.now in (es : List Entry) → StoresList t.bytes es →
         IfOk result (λ rest. rest ≡
         left - length (dumped options.now.reverse left (chosen options.now t es))) }
+    ensures rest { IfOk result (λ rest. rest ≡
+        left - length (dumped options.now.reverse left (readable options.now table.now))) }
     ensures refused { let read = dumped options.now.reverse left (readable options.now table.now) in
         IfErr result (FailsAs (λ e. first_error read ≡ Some e)) }
     ensures sound { (es : List Entry) → StoresList table.now.bytes es →
@@ -145,6 +149,8 @@ fn dump_range<A: Allocator + Copy, W: Write>(
     ensures left { let t = table.now in (es : List Entry) → StoresList t.bytes es →
         IfOk result (λ rest. rest ≡ lines.left
         - length (dumped reverse lines.left (within bounds.0 bounds.1 (lift es t.global_seqno)))) }
+    ensures rest { IfOk result (λ rest. rest ≡ lines.left
+        - length (dumped reverse lines.left (range_told table.now bounds.0 bounds.1))) }
     ensures refused { let read = range_told table.now bounds.0 bounds.1 in
         IfErr result (FailsAs (λ e. first_error (dumped reverse lines.left read) ≡ Some e)) }
     ensures sound { (es : List Entry) → StoresList table.now.bytes es →

@@ -1,3 +1,4 @@
 mod Endings
 mod Failures
 mod Files
+mod Named

@@ -10,7 +10,8 @@ use Rattle.tool_options.specs.declared.words.Parsed.{Parsed}
 use Rattle.tool_options.specs.declared.words.Parsed.TheVariants as parsed
 use Rattle.tool_tasks.specs.Making.{DoesCompact, DoesWrite}
 use Rattle.tool_tasks.specs.Packing.{DoesPack}
-use Rattle.tool_tasks.specs.Statuses.{status_of_failure}
+use Rattle.tool_tasks.specs.Showing.{DoesDump, DoesGet}
+use Rattle.tool_tasks.specs.Statuses.{status_of_answer, status_of_failure}
 use Rattle.tool_tasks.specs.Verified.{AreSoundFiles}
 use Rattle.tool_tasks.specs.declared.failure.Failure.{Failure}
 
@@ -27,7 +28,12 @@ DoesTask (task.Pack t) input content there known new status old text =
     (status ≡ 0) × (new ≡ known) × DoesPack t content old text
 DoesTask (task.Verify t) input content there known new status old text =
     (new ≡ known) × (status ≡ 0 → AreSoundFiles content t.files.items)
-DoesTask t input content there known new status old text = new ≡ known
+DoesTask (task.Get t) input content there known new status old text = (new ≡ known)
+    × ((found : Bool) × (status ≡ status_of_answer found) × DoesGet t content found old text)
+DoesTask (task.Dump t) input content there known new status old text =
+    (status ≡ 0) × (new ≡ known) × DoesDump t content old text
+DoesTask (task.Stat t) input content there known new status old text =
+    (status ≡ 0) × (new ≡ known)
 
 -- a task is done, and what it printed passed on
 abbrev pub IsDone : Task → Option (List ℕ) → (List ℕ → Option (List ℕ))

@@ -118,9 +118,9 @@ fn perform<'a, R: Files, C: Clock, P: Place, I: Read + Drop, W: Write, E: Write>
 {
     match task {
         Task::Write(task) => make::write(system, place, task, input, output).and(Ok(0)),
-        Task::Dump(task) => show::dump(system, task, output).and(Ok(0)),
-        Task::Get(task) => show::get(system, task, output).map(status_of),
-        Task::Stat(task) => show::stat(system, task, output).and(Ok(0)),
+        Task::Dump(task) => show::dump(system.alloc, place, task, output).and(Ok(0)),
+        Task::Get(task) => show::get(system.alloc, place, task, output).map(status_of),
+        Task::Stat(task) => show::stat(system.alloc, place, task, output).and(Ok(0)),
         Task::Verify(task) => {
             show::verify(system, place, task, output, errors, shows_bar).map(status_of)
         }

@@ -1,10 +1,16 @@
 //! Tables that are shown.
-ghost use Rattle.std.specs.Prelude.{◌≡◌, ◌+◌, ◌-◌, ◌^◌, IfErr, IfOk, false, min, true};
+ghost use Rattle.std.specs.Prelude.{◌≡◌, ◌+◌, ◌-◌, ◌^◌, IfErr, IfOk, OnOk, false, min, true};
+ghost use Rattle.std.specs.Option.{option_map};
 ghost use Rattle.logpurple.specs.Words.{OpenTable};
 ghost use Rattle.tool_show.specs.Faults.{fault_count, unloaded_count};
 ghost use Rattle.tool_show.specs.Files.{IsSoundTable};
 ghost use Rattle.tool_files.specs.Files.{is_memory_fault};
+ghost use Rattle.tool_files.specs.Opened.{HasContent, IsToldByBytes};
+ghost use Rattle.tool_lines.specs.Escapes.{WordMeans};
+ghost use Rattle.tool_lines.specs.declared.entry_line.LineError.{LineError};
+ghost use Rattle.tool_tasks.specs.declared.failure.Failure.TheVariants.{Key};
 ghost use Rattle.tool_tasks.specs.Endings.{EndsVerify};
+ghost use Rattle.tool_tasks.specs.Showing.{AreNamed, DoesDump, DoesGet, DumpsEach, MeansKey};
 ghost use Rattle.tool_tasks.specs.Verified.{AreSoundFiles, IsSoundFile};
 
 use crate::System;
@@ -22,28 +28,39 @@ use tool_show::{DumpOptions, GetOptions, NamedTable, NoProgress};
 
 // Opens a file as a table with its name. Nothing but top levels stays loaded, so a fault of the
 // filter or the index is one of the read that meets it.
-fn open_named<'a, R: Files, C: Clock>(
-    system: System<'_, R, C>,
+fn open_named<'a, P: Place>(
+    alloc: Global,
+    place: &P,
     name: &'a str,
-) -> Result<NamedTable<'a, Global>, Failure<'a>> {
-    let table = open_table(&system.disk(), system.alloc, name, false)?;
+) -> Result<NamedTable<'a, Global>, Failure<'a>>
+    ensures name { IfOk result (λ f. f.name ≡ name.entry) }
+    ensures told { IfOk result (λ f. IsToldByBytes false f.table) }
+    ensures content { IfOk result (λ f. HasContent (P.content place.now name.now) f.table) }
+{
+    let table = open_table(place, alloc, name, false)?;
     Ok(NamedTable { name, table })
 }
 
 // Opens files as tables, each with its name.
-fn open_each<'a, R: Files, C: Clock>(
-    system: System<'_, R, C>,
+fn open_each<'a, P: Place>(
+    alloc: Global,
+    place: &P,
     names: &[&'a str],
-) -> Result<Vec<NamedTable<'a, Global>>, Failure<'a>> {
-    let mut tables = Vec::new(system.alloc);
+) -> Result<Vec<NamedTable<'a, Global>>, Failure<'a>>
+    ensures { IfOk result (λ files. AreNamed (P.content place.now) names.now files.items) }
+{
+    let mut tables = Vec::new(alloc);
     for name in names {
-        tables.push(open_named(system, name)?)?;
+        tables.push(open_named(alloc, place, name)?)?;
     }
     Ok(tables)
 }
 
 // The bytes of a key on the command line.
-fn key_bytes<'a>(alloc: Global, name: KeyWord, word: &str) -> Result<Vec<u8>, Failure<'a>> {
+fn key_bytes<'a>(alloc: Global, name: KeyWord, word: &str) -> Result<Vec<u8>, Failure<'a>>
+    ensures ok { IfOk result (λ bytes. WordMeans word.now bytes.items) }
+    ensures refused { IfErr result (λ e. (error : LineError) × (e ≡ Key name error)) }
+{
     match parse_bytes(alloc, word.as_bytes()) {
         Ok(bytes) => Ok(bytes),
         Err(error) => Err(Failure::Key(name, error)),
@@ -55,7 +72,9 @@ fn bound_bytes<'a>(
     alloc: Global,
     name: KeyWord,
     word: Option<&str>,
-) -> Result<Option<Vec<u8>>, Failure<'a>> {
+) -> Result<Option<Vec<u8>>, Failure<'a>>
+    ensures { IfOk result (λ bytes. MeansKey word.entry (option_map (λ b. b.items) bytes)) }
+{
     match word {
         Some(word) => Ok(Some(key_bytes(alloc, name, word)?)),
         None => Ok(None),
@@ -63,58 +82,83 @@ fn bound_bytes<'a>(
 }
 
 /// Prints the entries of tables.
-pub(crate) fn dump<'a, R: Files, C: Clock, W: Write>(
-    system: System<'_, R, C>,
+pub(crate) fn dump<'a, P: Place, W: Write>(
+    alloc: Global,
+    place: &P,
     task: &DumpTask<'a>,
     output: &mut W,
-) -> Result<(), Failure<'a>> {
-    let from = bound_bytes(system.alloc, KeyWord::From, task.from)?;
-    let to = bound_bytes(system.alloc, KeyWord::To, task.to)?;
+) -> Result<(), Failure<'a>>
+    ensures { OnOk result (DoesDump task.now (P.content place.now) (W.contents output.old)
+        (W.contents output.new)) }
+{
+    let from = bound_bytes(alloc, KeyWord::From, task.from)?;
+    let to = bound_bytes(alloc, KeyWord::To, task.to)?;
     let options = DumpOptions {
         from: from.as_deref(),
         to: to.as_deref(),
         reverse: task.reverse,
         format: format_of(task.json),
     };
-    let mut left = task.limit.unwrap_or(u64::MAX);
-    for name in task.files.as_slice() {
+    let left = task.limit.unwrap_or(u64::MAX);
+    dump_each(alloc, place, task.files.as_slice(), &options, left, output)
+}
+
+// Prints the entries of files, so many at most.
+fn dump_each<'a, P: Place, W: Write>(
+    alloc: Global,
+    place: &P,
+    names: &[&'a str],
+    options: &DumpOptions<'_>,
+    left: u64,
+    output: &mut W,
+) -> Result<(), Failure<'a>>
+    ensures { OnOk result (DumpsEach options.now (P.content place.now) names.now left
+        (W.contents output.old) (W.contents output.new)) }
+{
+    let mut left = left;
+    for name in names {
         if left == 0 {
             return Ok(());
         }
         // One file is held at a time.
-        let file = open_named(system, name)?;
-        left = tool_show::dump(system.alloc, output, &file, &options, left)?;
+        let file = open_named(alloc, place, name)?;
+        left = tool_show::dump(alloc, output, &file, options, left)?;
     }
     Ok(())
 }
 
 /// Prints the version of a key that a reader sees. Answers whether there is one.
-pub(crate) fn get<'a, R: Files, C: Clock, W: Write>(
-    system: System<'_, R, C>,
+pub(crate) fn get<'a, P: Place, W: Write>(
+    alloc: Global,
+    place: &P,
     task: &GetTask<'a>,
     output: &mut W,
-) -> Result<bool, Failure<'a>> {
-    let key = key_bytes(system.alloc, KeyWord::Key, task.key)?;
+) -> Result<bool, Failure<'a>>
+    ensures { IfOk result (λ there. DoesGet task.now (P.content place.now) there
+        (W.contents output.old) (W.contents output.new)) }
+{
+    let key = key_bytes(alloc, KeyWord::Key, task.key)?;
     let options = GetOptions {
         key: key.as_slice(),
         at: task.at,
         loads: task.loads,
         format: format_of(task.json),
     };
-    let tables = open_each(system, task.files.as_slice())?;
-    let found = tool_show::get(system.alloc, output, tables.as_slice(), &options)?;
+    let tables = open_each(alloc, place, task.files.as_slice())?;
+    let found = tool_show::get(alloc, output, tables.as_slice(), &options)?;
     Ok(found)
 }
 
 /// Prints what tables say of themselves.
-pub(crate) fn stat<'a, R: Files, C: Clock, W: Write>(
-    system: System<'_, R, C>,
+pub(crate) fn stat<'a, P: Place, W: Write>(
+    alloc: Global,
+    place: &P,
     task: &StatTask<'a>,
     output: &mut W,
 ) -> Result<(), Failure<'a>> {
     for name in task.files.as_slice() {
-        let file = open_named(system, name)?;
-        tool_show::stat(system.alloc, output, &file, format_of(task.json))?;
+        let file = open_named(alloc, place, name)?;
+        tool_show::stat(alloc, output, &file, format_of(task.json))?;
     }
     Ok(())
 }

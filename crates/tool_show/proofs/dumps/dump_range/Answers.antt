@@ -22,3 +22,7 @@ returns-clause-sound g c = λ es stores.
 
 pub returns-clause-refused : goal.returns-clause-refused
 returns-clause-refused g c = c.dump_items.ensures.refused _ c.in_ok-items.ensures.deals
+
+pub returns-clause-rest : goal.returns-clause-rest
+returns-clause-rest g c =
+    c.dump_items.ensures.left _ (deals_to_error _ _ _ _ _ _ c.in_ok-items.ensures.deals)

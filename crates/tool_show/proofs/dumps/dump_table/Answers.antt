@@ -19,3 +19,7 @@ pub returns-clause-refused : goal.returns-clause-refused
 returns-clause-refused g c =
     rw (sym c.in_ok-bounds.ensures.lower, sym c.in_ok-bounds.ensures.upper)
     c.dump_range.ensures.refused
+
+pub returns-clause-rest : goal.returns-clause-rest
+returns-clause-rest g c =
+    rw (sym c.in_ok-bounds.ensures.lower, sym c.in_ok-bounds.ensures.upper) c.dump_range.ensures.rest

@@ -1,0 +1,53 @@
+use denote.Ref.{Bor}
+use Rattle.std.proofs.Common.{◌≡◌, ℕ, List, refl, subst, sym}
+use Rattle.std.specs.Prelude.{Ok, None, Option, is_some}
+use Rattle.std.specs.List.{AllByRecursion}
+use Rattle.std.specs.Global.{Global}
+use Rattle.lsm_ranges.specs.Run.{IsInOrder}
+use Rattle.lsm_runs.specs.RunParts.{range_of}
+use Rattle.lsm_runs.specs.SeveralRuns.{runs_told}
+use Rattle.logpurple.specs.Words.{Entry}
+use Rattle.tool_lines.specs.Escapes.{WordMeans}
+use Rattle.tool_show.specs.Files.{runs_in}
+use Rattle.tool_show.specs.Lines.{PrintsText}
+use Rattle.tool_show.specs.Printed.{IsAnswer, seen_below}
+use Rattle.tool_show.specs.declared.gets.GetOptions.{GetOptions}
+use Rattle.tool_show.specs.declared.named.NamedTable.{NamedTable}
+use Rattle.tool_tasks.specs.Showing.{AreNamed}
+use Rattle.tool_tasks.proofs.show.get.Goals as goal
+
+pub returns : goal.returns
+returns g c =
+    let task = c.args.task.now in
+    let content = g.P.Place.content c.args.place.now in
+    let old = g.W.Write.contents c.args.output.now in
+    let new = g.W.Write.contents c.get.new.output in
+    let files = c.in_ok-tables.tables.items in
+    let seen = c.as_slice-3.ensures.value in
+    let options : GetOptions = record {
+      key = c.as_slice.result;
+      at = task.at;
+      loads = task.loads;
+      format = c.format_of.result;
+    } in
+    record {
+      options = options;
+      asked = record {
+        key = subst (λ (key : List ℕ). WordMeans task.key.now key) (sym c.as_slice.ensures.value)
+            c.in_ok-key.ensures.ok;
+        at = refl;
+        loads = refl;
+        format = c.format_of.ensures;
+      };
+      files = files;
+      named = subst (λ (names : List (Bor (List ℕ))). AreNamed content names files)
+          c.as_slice-2.ensures.value c.in_ok-tables.ensures;
+      told = subst (λ (fs : List (NamedTable Global)). AllByRecursion (IsInOrder range_of) (runs_in fs)
+          → (found : Option Entry)
+          × (runs_told options.key.now (seen_below options) None (runs_in fs) ≡ Ok found)
+          × (c.in_ok-found.found ≡ is_some found)) seen c.in_ok-found.ensures.told;
+      printed = subst (λ (fs : List (NamedTable Global)).
+          AllByRecursion (IsInOrder range_of) (runs_in fs) → (found : Option Entry)
+          × (runs_told options.key.now (seen_below options) None (runs_in fs) ≡ Ok found)
+          × PrintsText (IsAnswer options fs found) old new) seen c.in_ok-found.ensures.shown;
+    }

@@ -1,0 +1,91 @@
+-- What comes of a command that shows entries.
+use denote.Ref.{Bor}
+use Rattle.std.specs.Prelude.{◌≡◌, ◌⊎◌, ◌-◌, ◌^◌, ℕ, Bool, List, [], ◌∷◌, Option, None, Some, Ok}
+use Rattle.std.specs.Prelude.{false, is_some, length, map}
+use Rattle.std.specs.Option.{option_map, option_map_or}
+use Rattle.std.specs.List.{AllByRecursion}
+use Rattle.std.specs.Global.{Global}
+use Rattle.lsm_ranges.specs.Run.{IsInOrder}
+use Rattle.lsm_runs.specs.RunParts.{range_of}
+use Rattle.lsm_runs.specs.SeveralRuns.{runs_told}
+use Rattle.logpurple.specs.Words.{Entry, OpenTable}
+use Rattle.tool_files.specs.Opened.{AreOpenedFrom, HasContent, IsToldByBytes}
+use Rattle.tool_lines.specs.Escapes.{WordMeans}
+use Rattle.tool_options.specs.declared.tasks.DumpTask.{DumpTask}
+use Rattle.tool_options.specs.declared.tasks.GetTask.{GetTask}
+use Rattle.tool_show.specs.Files.{runs_in}
+use Rattle.tool_show.specs.Lines.{PrintsText}
+use Rattle.tool_show.specs.Printed.{IsAnswer, PrintsResults, dumped, readable, seen_below}
+use Rattle.tool_show.specs.declared.dumps.DumpOptions.{DumpOptions}
+use Rattle.tool_show.specs.declared.gets.GetOptions.{GetOptions}
+use Rattle.tool_show.specs.declared.named.NamedTable.{NamedTable}
+use Rattle.tool_tasks.specs.Options.{format_of}
+
+-- files were opened as tables of their own bytes, in their order, each with its name
+pub record AreNamed (content : List ℕ → Option (List ℕ)) (names : List (Bor (List ℕ)))
+    (files : List (NamedTable Global)) : Type 0 where
+  pub named : map (λ f. f.name) files ≡ names
+  pub opened : AreOpenedFrom false content names (map (λ f. f.table) files)
+
+-- a read is asked for as a task says it
+pub record AsksGet (task : GetTask) (o : GetOptions) : Type 0 where
+  pub key : WordMeans task.key.now o.key.now
+  pub at : o.at ≡ task.at
+  pub loads : o.loads ≡ task.loads
+  pub format : o.format ≡ format_of task.json
+
+-- the files of a task are read as one, and it is told whether the key has a version that is seen;
+-- this is printed, and what was loaded where that is asked for. Of tables whose ranges are turned
+-- nothing is said
+pub record DoesGet (task : GetTask) (content : List ℕ → Option (List ℕ)) (there : Bool)
+    (old new : Option (List ℕ)) : Type 0 where
+  pub options : GetOptions
+  pub asked : AsksGet task options
+  pub files : List (NamedTable Global)
+  pub named : AreNamed content task.files.items files
+  pub told : AllByRecursion (IsInOrder range_of) (runs_in files) → (found : Option Entry)
+      × (runs_told options.key.now (seen_below options) None (runs_in files) ≡ Ok found)
+      × (there ≡ is_some found)
+  pub printed : AllByRecursion (IsInOrder range_of) (runs_in files) → (found : Option Entry)
+      × (runs_told options.key.now (seen_below options) None (runs_in files) ≡ Ok found)
+      × PrintsText (IsAnswer options files found) old new
+
+-- a key that may be left out is what a word means
+abbrev pub MeansKey : Option (Bor (List ℕ)) → Option (List ℕ) → Type 0
+MeansKey None None = Unit {0}
+MeansKey (Some word) (Some key) = WordMeans word.now key
+MeansKey None (Some key) = ⊥
+MeansKey (Some word) None = ⊥
+
+-- a key that is lent
+abbrev pub lent_key : Option (Bor (List ℕ)) → Option (List ℕ)
+lent_key key = option_map (λ k. k.now) key
+
+-- entries are asked for as a task says it
+pub record AsksDump (task : DumpTask) (o : DumpOptions) : Type 0 where
+  pub from : MeansKey task.from (lent_key o.from)
+  pub to : MeansKey task.to (lent_key o.to)
+  pub reverse : o.reverse ≡ task.reverse
+  pub format : o.format ≡ format_of task.json
+
+-- the entries of files are printed that can be read between the keys, so many at most: of each file
+-- as long as any may be printed, and no refusal is passed over
+abbrev pub DumpsEach : DumpOptions → (List ℕ → Option (List ℕ)) → List (Bor (List ℕ)) → ℕ
+    → Option (List ℕ) → Option (List ℕ) → Type 0
+DumpsEach o content [] left old new = new ≡ old
+DumpsEach o content (name ∷ names) left old new = ((left ≡ 0) × (new ≡ old))
+    ⊎ ((t : OpenTable) × IsToldByBytes false t × HasContent (content name.now) t
+    × (between : Option (List ℕ))
+    × PrintsResults o.format (dumped o.reverse left (readable o t)) old between
+    × DumpsEach o content names (left - length (dumped o.reverse left (readable o t))) between new)
+
+-- so many entries as a task says, or all
+abbrev pub most_of : DumpTask → ℕ
+most_of task = option_map_or (λ n. n) task.limit (2 ^ 64 - 1)
+
+-- the entries of a task's files are printed
+pub record DoesDump (task : DumpTask) (content : List ℕ → Option (List ℕ))
+    (old new : Option (List ℕ)) : Type 0 where
+  pub options : DumpOptions
+  pub asked : AsksDump task options
+  pub dumps : DumpsEach options content task.files.items (most_of task) old new
