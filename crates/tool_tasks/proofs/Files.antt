@@ -1,8 +1,12 @@
 -- Files, one after another.
+use denote.Ref.{Bor}
 use Rattle.std.proofs.Common.{◌≡◌, sym, subst, ℕ, ◌+◌, ◌<◌, List, [], ◌∷◌, ◌++◌, get_or, length}
-use Rattle.std.proofs.Common.{take}
+use Rattle.std.proofs.Common.{Bool, append_assoc, append-nil, arith, drop, nat_eq, refl, take, true}
+use Rattle.std.specs.Prelude.{Option}
+use Rattle.std.specs.Io.KnownBytes.{Keeps}
 use Rattle.std.specs.List.{AllByRecursion}
-use Rattle.std.proofs.lemmas.List.{take_more}
+use Rattle.std.proofs.lemmas.List.{drop_more, take_more}
+use Rattle.tool_tasks.specs.Verified.{AreNone, ChecksEach, ChecksName, DoesVerify}
 
 all_more : {A : Type 0} (P : A → Type 0) (xs : List A) (x : A) → AllByRecursion P xs → P x
     → AllByRecursion P (xs ++ x ∷ [])
@@ -15,3 +19,71 @@ pub all_so_far : {A : Type 0} (P : A → Type 0) (xs : List A) (i : ℕ) (d : A)
 all_so_far P xs i d h before one =
     subst (AllByRecursion P) (sym (take_more xs i d h))
     (all_more P (take i xs) (get_or xs i d) before one)
+
+-- ---- files that are looked at, one after another
+
+-- of some files the first were looked at: with what is found in those that are left it is what is
+-- found in all, and so many faults were counted
+pub record LooksSoFar (content : List ℕ → Option (List ℕ)) (names : List (Bor (List ℕ)))
+    (i faults : ℕ) (start now : Option (List ℕ)) : Type 0 where
+  pub counts : List ℕ
+  pub behind : (rest : List ℕ) (new : Option (List ℕ))
+      → ChecksEach content (drop i names) rest now new
+      → ChecksEach content names (counts ++ rest) start new
+  pub none : faults ≡ 0 → AreNone counts
+  pub all : AreNone counts → faults ≡ 0
+
+pub looks_start : (content : List ℕ → Option (List ℕ)) (names : List (Bor (List ℕ)))
+    (text : Option (List ℕ)) → LooksSoFar content names 0 0 text text
+looks_start content names text = record {
+  counts = [];
+  behind = λ rest new checks. checks;
+  none = λ zero. tt;
+  all = λ none. refl;
+}
+
+all_split : {A : Type 0} (P : A → Type 0) (xs : List A) (x : A) → AllByRecursion P (xs ++ x ∷ [])
+    → AllByRecursion P xs × P x
+all_split P [] x all = (tt, all.0)
+all_split P (y ∷ ys) x all = let rest = all_split P ys x all.1 in ((all.0, rest.0), rest.1)
+
+pub looks_more : (content : List ℕ → Option (List ℕ)) (names : List (Bor (List ℕ)))
+    (i : ℕ) (d : Bor (List ℕ)) (faults found more : ℕ) (start now printed passed : Option (List ℕ))
+    → i < length names → LooksSoFar content names i faults start now
+    → ChecksName content (get_or names i d).now found now printed → Keeps printed passed
+    → (more ≡ 0 → faults ≡ 0) → (more ≡ 0 → found ≡ 0) → (faults ≡ 0 → found ≡ 0 → more ≡ 0)
+    → LooksSoFar content names (i + 1) more start passed
+looks_more content names i d faults found more start now printed passed less before looked keeps
+    left right both =
+    let counts = before.counts ++ found ∷ [] in
+    record {
+      counts = counts;
+      behind = λ rest new checks.
+          subst (λ (all : List ℕ). ChecksEach content names all start new)
+          (sym (append_assoc before.counts (found ∷ []) rest))
+          (before.behind (found ∷ rest) new
+          (subst (λ (ns : List (Bor (List ℕ))). ChecksEach content ns (found ∷ rest) now new)
+          (sym (drop_more names i d less)) (printed, passed, looked, keeps, checks)));
+      none = λ zero. all_more (λ (n : ℕ). n ≡ 0) before.counts found (before.none (left zero))
+          (right zero);
+      all = λ none. let parts = all_split (λ (n : ℕ). n ≡ 0) before.counts found none in
+          both (before.all parts.0) parts.1;
+    }
+
+pub looks_end : (content : List ℕ → Option (List ℕ)) (names : List (Bor (List ℕ)))
+    (i faults : ℕ) (sound : Bool) (start now : Option (List ℕ)) → drop i names ≡ []
+    → LooksSoFar content names i faults start now → (sound ≡ true → faults ≡ 0)
+    → (faults ≡ 0 → sound ≡ true) → DoesVerify content names sound start now
+looks_end content names i faults sound start now end all_of zero one = record {
+  counts = all_of.counts;
+  checks = subst (λ (all : List ℕ). ChecksEach content names all start now)
+      (append-nil all_of.counts)
+      (all_of.behind [] now
+      (subst (λ (ns : List (Bor (List ℕ))). ChecksEach content ns [] now now) (sym end) refl));
+  none = λ is. all_of.none (zero is);
+  all = λ none. one (all_of.all none);
+}
+
+-- a number that tests as none is none
+pub none_tested : (n : ℕ) → nat_eq n 0 ≡ true → n ≡ 0
+none_tested n is = grind (arith, is)

@@ -12,7 +12,7 @@ use Rattle.tool_tasks.specs.Making.{DoesCompact, DoesWrite}
 use Rattle.tool_tasks.specs.Packing.{DoesPack}
 use Rattle.tool_tasks.specs.Showing.{DoesDump, DoesGet}
 use Rattle.tool_tasks.specs.Statuses.{status_of_answer, status_of_failure}
-use Rattle.tool_tasks.specs.Verified.{AreSoundFiles}
+use Rattle.tool_tasks.specs.Verified.{AreSoundFiles, DoesVerify}
 use Rattle.tool_tasks.specs.declared.failure.Failure.{Failure}
 
 -- a task is done with a status, on an input, what files have, what has a path and what was done
@@ -28,6 +28,8 @@ DoesTask (task.Pack t) input content there known new status old text =
     (status ≡ 0) × (new ≡ known) × DoesPack t content old text
 DoesTask (task.Verify t) input content there known new status old text =
     (new ≡ known) × (status ≡ 0 → AreSoundFiles content t.files.items)
+    × ((sound : Bool) × (status ≡ status_of_answer sound)
+    × DoesVerify content t.files.items sound old text)
 DoesTask (task.Get t) input content there known new status old text = (new ≡ known)
     × ((found : Bool) × (status ≡ status_of_answer found) × DoesGet t content found old text)
 DoesTask (task.Dump t) input content there known new status old text =

@@ -1,8 +1,13 @@
 -- Files that are verified.
 use denote.Ref.{Bor}
-use Rattle.std.specs.Prelude.{◌≡◌, ℕ, IfSome, List, Option}
+use Rattle.std.specs.Prelude.{◌≡◌, ◌⊎◌, ◌+◌, ◌-◌, ◌^◌, ℕ, Err, IfSome, List, [], ◌∷◌, Option, Bool}
+use Rattle.std.specs.Prelude.{false, min, true}
+use Rattle.std.specs.Io.KnownBytes.{Keeps}
 use Rattle.std.specs.List.{AllByRecursion}
-use Rattle.logpurple.specs.Words.{OpenTable}
+use Rattle.logpurple.specs.Words.{Error, Gives, OpenTable, recovered_told}
+use Rattle.tool_files.specs.Opened.{IsToldByBytes}
+use Rattle.tool_show.specs.Checked.{ChecksFile}
+use Rattle.tool_show.specs.Faults.{fault_count, unloaded_count}
 use Rattle.tool_show.specs.Files.{IsSoundTable}
 
 -- what a file has, where that is known, is a table's bytes that store a list
@@ -13,3 +18,55 @@ IsSoundFile content name =
 -- so each of some files
 abbrev pub AreSoundFiles : (List ℕ → Option (List ℕ)) → List (Bor (List ℕ)) → Type 0
 AreSoundFiles content names = AllByRecursion (λ name. IsSoundFile content name.now) names
+
+-- bytes opened as a table and were read, and what was found is printed
+pub record ChecksTable (bytes name : List ℕ) (found : ℕ) (old new : Option (List ℕ)) : Type 0 where
+  pub table : OpenTable
+  pub are : table.bytes ≡ bytes
+  pub told : IsToldByBytes false table
+  pub before : Option (List (ℕ × ℕ))
+  pub after : Option (List (ℕ × ℕ))
+  pub checks : ChecksFile table name before after old new
+  pub count : found ≡ fault_count table
+
+-- bytes open as no table: that is a fault, and so is each block of them that does not load
+pub record ChecksNoTable (bytes : List ℕ) (found : ℕ) : Type 0 where
+  pub error : Error
+  pub refused : Gives (λ (t : OpenTable). t.parts) (Err error) (recovered_told bytes 0 false false)
+  pub count : found ≡ min (unloaded_count bytes + 1) (2 ^ 64 - 1)
+
+-- some bytes were looked at, in which there are so many faults
+abbrev pub ChecksBytes : (bytes name : List ℕ) → ℕ → (old new : Option (List ℕ)) → Type 0
+ChecksBytes bytes name found old new =
+    ChecksTable bytes name found old new ⊎ ChecksNoTable bytes found
+
+-- a file was looked at: its bytes, or that it cannot be read, which is a fault
+abbrev pub ChecksName : (List ℕ → Option (List ℕ)) → List ℕ → ℕ → (old new : Option (List ℕ))
+    → Type 0
+ChecksName content name found old new =
+    ((bytes : List ℕ) × IfSome (content name) (λ known. bytes ≡ known)
+    × ChecksBytes bytes name found old new)
+    ⊎ (found ≡ 1)
+
+-- each file was looked at, in their order, and so many faults found in each, whatever was found in
+-- those before; what is printed of one is passed on before the next
+abbrev pub ChecksEach : (List ℕ → Option (List ℕ)) → List (Bor (List ℕ)) → List ℕ
+    → (old new : Option (List ℕ)) → Type 0
+ChecksEach content [] [] old new = new ≡ old
+ChecksEach content [] (found ∷ counts) old new = ⊥
+ChecksEach content (name ∷ names) [] old new = ⊥
+ChecksEach content (name ∷ names) (found ∷ counts) old new = (printed passed : Option (List ℕ))
+    × ChecksName content name.now found old printed × Keeps printed passed
+    × ChecksEach content names counts passed new
+
+-- no fault was found
+abbrev pub AreNone : List ℕ → Type 0
+AreNone counts = AllByRecursion (λ found. found ≡ 0) counts
+
+-- each file was looked at, and it is told whether no fault was found
+pub record DoesVerify (content : List ℕ → Option (List ℕ)) (names : List (Bor (List ℕ)))
+    (sound : Bool) (old new : Option (List ℕ)) : Type 0 where
+  pub counts : List ℕ
+  pub checks : ChecksEach content names counts old new
+  pub none : sound ≡ true → AreNone counts
+  pub all : AreNone counts → sound ≡ true

@@ -1,5 +1,6 @@
 //! Tables that are shown.
-ghost use Rattle.std.specs.Prelude.{◌≡◌, ◌+◌, ◌-◌, ◌^◌, IfErr, IfOk, OnOk, false, min, true};
+ghost use Rattle.std.specs.Prelude.{◌≡◌, ◌+◌, ◌-◌, ◌^◌, ℕ, IfErr, IfOk, List, OnOk, Option};
+ghost use Rattle.std.specs.Prelude.{false, min, true};
 ghost use Rattle.std.specs.Option.{option_map};
 ghost use Rattle.logpurple.specs.Words.{OpenTable};
 ghost use Rattle.tool_show.specs.Faults.{fault_count, unloaded_count};
@@ -11,7 +12,9 @@ ghost use Rattle.tool_lines.specs.declared.entry_line.LineError.{LineError};
 ghost use Rattle.tool_tasks.specs.declared.failure.Failure.TheVariants.{Key};
 ghost use Rattle.tool_tasks.specs.Endings.{EndsVerify};
 ghost use Rattle.tool_tasks.specs.Showing.{AreNamed, DoesDump, DoesGet, DumpsEach, MeansKey};
-ghost use Rattle.tool_tasks.specs.Verified.{AreSoundFiles, IsSoundFile};
+ghost use Rattle.tool_show.specs.Checked.{ChecksFile};
+ghost use Rattle.tool_tasks.specs.Verified.{AreSoundFiles, ChecksBytes, ChecksName, DoesVerify};
+ghost use Rattle.tool_tasks.specs.Verified.{IsSoundFile};
 
 use crate::System;
 use crate::bar::{Bar, Work, behind};
@@ -178,7 +181,9 @@ pub(crate) fn verify<'a, R: Files, C: Clock, P: Place, W: Write, E: Write>(
     // Nothing is wrong where the bytes of each file store a list.
     ensures sound { IfOk result (λ sound. sound ≡ true →
         AreSoundFiles (P.content place.now) task.now.files.items) }
-    // What is wrong of a file does not end it.
+    // Each file is looked at, and what was found printed: what is wrong of one does not end it.
+    ensures does { IfOk result (λ sound. DoesVerify (P.content place.now) task.now.files.items sound
+        (W.contents output.old) (W.contents output.new)) }
     ensures goes_on { IfErr result EndsVerify }
 {
     let names = task.files.as_slice();
@@ -209,6 +214,8 @@ fn verify_file<'a, R: Files, C: Clock, P: Place, W: Write, E: Write>(
 ) -> Result<u64, Failure<'a>>
     ensures sound { IfOk result (λ faults. faults ≡ 0 →
         IsSoundFile (P.content place.now) name.now) }
+    ensures checks { IfOk result (λ faults. ChecksName (P.content place.now) name.now faults
+        (W.contents output.old) (W.contents output.new)) }
     ensures goes_on { IfErr result EndsVerify }
 {
     match place.read(system.alloc, name) {
@@ -246,6 +253,8 @@ fn verify_bytes<'a, R: Files, C: Clock, W: Write, E: Write>(
 ) -> Result<u64, Failure<'a>>
     ensures sound { IfOk result (λ faults. faults ≡ 0 →
         (t : OpenTable) × (t.bytes ≡ bytes) × IsSoundTable t) }
+    ensures checks { IfOk result (λ faults. ChecksBytes bytes name.now faults
+        (W.contents output.old) (W.contents output.new)) }
     ensures goes_on { IfErr result EndsVerify }
 {
     let shared = bytes.clone()?;
@@ -289,6 +298,9 @@ fn verify_opened<'a, R: Files, C: Clock, W: Write, E: Write>(
 ) -> Result<u64, Failure<'a>>
     ensures count { IfOk result (λ faults. faults ≡ fault_count file.now.table) }
     ensures sound { IfOk result (λ faults. faults ≡ 0 → IsSoundTable file.now.table) }
+    ensures checks { OnOk result ((before after : Option (List (ℕ × ℕ)))
+        × ChecksFile file.now.table file.now.name.now before after
+        (W.contents output.old) (W.contents output.new)) }
     ensures goes_on { IfErr result EndsVerify }
 {
     match work {
