@@ -1,6 +1,6 @@
 -- A line without a byte spells no entry.
-use Rattle.std.proofs.Common.{◌≡◌, List, [], ◌∷◌, ℕ}
-use Rattle.std.specs.Prelude.{None, Option, Some}
+use Rattle.std.proofs.Common.{◌≡◌, [], ◌∷◌}
+use Rattle.std.specs.Prelude.{Some}
 use Rattle.json.specs.Json.{Json, document, object, value}
 use Rattle.json.specs.Lex.{lex, punctuate}
 use Rattle.sst_entries.specs.Entry.{Entry}

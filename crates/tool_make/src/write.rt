@@ -231,8 +231,8 @@ pub fn write_entries<'a, P: Place, I: Read + Drop, A: Allocator + Copy>(
     // just their files were not placed, or not for good.
     ensures refused { IfErr result (λ e. RefusesToWrite A options.now (I.remaining input) path.now
         (P.there place.old) (P.done place.old) e (P.done place.new)) }
-    // A line that is told as out of order is the first such one. One that is told as repeated is the
-    // first in order that has the key and number of another one, which is of an earlier line.
+    // A line that is told as out of order is the first such one. One that is told as repeated is
+    // the first in order that has the key and number of another one, which is of an earlier line.
     ensures order { IfErr result (TellsOrder options.now.format (I.remaining input)) }
 {
     // What is told of the sizes comes before any want of memory.
