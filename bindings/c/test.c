@@ -115,7 +115,7 @@ static void scan_damaged(sst_handle *table, bool is_sound, uint64_t items) {
   sst_close(&scan);
 }
 
-/* A scan reads no index: it goes on where a partition of the index is damaged, which ranges need. */
+/* A scan reads no index: it goes on where a partition of it is damaged, which a range needs. */
 static void test_scan_alone(const uint8_t *file, size_t len, uint64_t items) {
   sst_handle table = {0}, range = {0};
   sst_facts facts;
@@ -631,7 +631,7 @@ static void test_misuse(const sst_options *options, const uint8_t *file, size_t 
   sst_close(&table);
 }
 
-/* One handle in both places of a call that fills one: nothing is filled, and what it holds stays. */
+/* One handle in both places of a call that fills one: nothing is filled, and it stays. */
 static void fill_from_itself(sst_handle *handle, const sst_options *options, uint32_t code) {
   sst_handle before = *handle;
   sst_entry entry;
