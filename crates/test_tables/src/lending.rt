@@ -100,34 +100,56 @@ impl Lends for RunScanner<Global> {
     }
 }
 
-/// How many entries came, and the number of the refusal behind them, or 0.
-pub type Walk = (usize, u8);
+// What came at a step: an entry, a refusal of some number, or the end.
+#[derive(Clone, Copy, PartialEq, Eq)]
+enum Came {
+    Entry,
+    Refusal(u8),
+    End,
+}
 
-// A walk that is over on both sides, which have loaded as many blocks.
-fn over<G: Gives, L: Lends>(giving: &mut G, lending: &mut L, walk: Walk) -> Option<Walk> {
-    for _ in 0..3 {
-        if giving.gives().is_some() || !lending.lends(&None) {
-            return None;
-        }
+fn what_came(given: &Option<IterItem<Global>>) -> Came {
+    match given {
+        Some(Ok(_)) => Came::Entry,
+        Some(Err(error)) => Came::Refusal(error.number()),
+        None => Came::End,
     }
-    if lending.lent_by() == giving.given_by() {
-        Some(walk)
+}
+
+// What comes of both, which have loaded as many blocks then; `None` where they differ.
+fn step_both<G: Gives, L: Lends>(giving: &mut G, lending: &mut L) -> Option<Came> {
+    let given = giving.gives();
+    let is_same = lending.lends(&given);
+    let came = what_came(&given);
+    drop(given);
+    if is_same && lending.lent_by() == giving.given_by() {
+        Some(came)
     } else {
         None
     }
 }
 
+/// How many entries came, and the number of the refusal behind them, or 0.
+pub type Walk = (usize, u8);
+
+// A walk, if it is over on both sides.
+fn over<G: Gives, L: Lends>(giving: &mut G, lending: &mut L, walk: Walk) -> Option<Walk> {
+    for _ in 0..3 {
+        if step_both(giving, lending) != Some(Came::End) {
+            return None;
+        }
+    }
+    Some(walk)
+}
+
 // What both walk; `None` where they differ, or go on for 20 steps.
 fn walked<G: Gives, L: Lends>(giving: &mut G, lending: &mut L) -> Option<Walk> {
     for entries in 0..20 {
-        let given = giving.gives();
-        if !lending.lends(&given) || lending.lent_by() != giving.given_by() {
-            return None;
-        }
-        match given {
-            Some(Ok(_)) => {}
-            Some(Err(error)) => return over(giving, lending, (entries, error.number())),
-            None => return over(giving, lending, (entries, 0)),
+        match step_both(giving, lending) {
+            Some(Came::Entry) => {}
+            Some(Came::Refusal(number)) => return over(giving, lending, (entries, number)),
+            Some(Came::End) => return over(giving, lending, (entries, 0)),
+            None => return None,
         }
     }
     None
