@@ -1,7 +1,7 @@
 //! Writing and reading tables with each request for memory refused in turn. One function tries them
 //! all, so that its call is proved once.
 use crate::written::Parted;
-use crate::{lists, point_reads, queries, scans};
+use crate::{lists, point_reads, queries, scan_memory};
 use sst_blocks::Error;
 use std::alloc::{Allocator, Global};
 use test_refusing::{Refusing, each_refused};
@@ -22,8 +22,8 @@ fn answer<A: Allocator + Copy>(heap: Global, alloc: A, work: &Work) -> Result<bo
         Work::List => lists::rows_are_read(alloc),
         Work::PointReads => point_reads::are_right(heap, alloc),
         Work::Queries => queries::are_answered(alloc),
-        Work::Scan => scans::sums_up(alloc, Parted::Nothing),
-        Work::PartedScan => scans::sums_up(alloc, Parted::Index),
+        Work::Scan => scan_memory::rows_come(alloc, Parted::Nothing),
+        Work::PartedScan => scan_memory::rows_come(alloc, Parted::Index),
     }
 }
 

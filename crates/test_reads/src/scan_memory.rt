@@ -1,13 +1,13 @@
 //! Scans whose steps are refused memory. What steps through them is generic in them, so that none
 //! of their parts is looked at.
 use crate::read_memory::{is_made, opened};
-use crate::written::in_parts;
+use crate::writing::finds_all;
+use crate::written::{Parted, ROWS, bytes_of};
 use lsm_tables::{Scanner, Table};
 use sst_blocks::{Error, IterItem, Opened, SeqNo};
 use std::alloc::{Allocator, Global};
-use test_refusing::{Refusing, each_refused};
+use test_refusing::Refusing;
 use test_tables::large::asked;
-use test_tables::runs::is_right;
 
 trait Steps {
     // The number of the next entry.
@@ -58,54 +58,52 @@ fn gives<S: Steps>(scan: &mut S) -> Result<bool, Error> {
     Ok(true)
 }
 
-// Whether a scan gives the numbers, or a refusal that is want of memory where it may be; and
-// nothing after either.
-fn gives_or_ends<S: Steps>(scan: &mut S, may_fail: bool) -> bool {
+// Whether a scan gives the numbers, or the refusal of a step; and nothing after either.
+fn gives_or_ends<S: Steps>(scan: &mut S) -> Result<bool, Error> {
     let given = gives(scan);
-    is_right(given, may_fail) && is_over(scan)
+    if is_over(scan) { given } else { Ok(false) }
 }
 
-// Whether a scan is right so, or was refused memory where it may be.
-fn is_scanned<S: Steps + Drop>(scan: Result<S, Error>, may_fail: bool) -> bool {
-    match scan {
-        Ok(mut scan) => gives_or_ends(&mut scan, may_fail),
-        Err(error) => may_fail && error == Error::OutOfMemory,
-    }
+// That of a scan, if there is one.
+fn is_scanned<S: Steps + Drop>(scan: Result<S, Error>) -> Result<bool, Error> {
+    gives_or_ends(&mut scan?)
 }
 
-// The scan of the table of some bytes, which is let go of.
-fn scan_of<A: Allocator + Copy>(alloc: A, bytes: &[u8]) -> Result<Scanner<A>, Error> {
-    asked(opened(alloc, bytes), Table::scan)
-}
-
-// How many requests for memory are made before the first step.
-fn requests_of_scan(alloc: Global, bytes: &[u8]) -> usize {
-    let heap = Refusing::new(alloc, 0);
-    if is_made(scan_of(&heap, bytes)) {
-        heap.requests()
+// The scan of a table that finds all rows. `Source(4)` where it does not.
+fn scan_behind_reads<A: Allocator + Copy>(table: &Table<A>) -> Result<Scanner<A>, Error> {
+    if finds_all(table, ROWS)? {
+        table.scan()
     } else {
-        usize::MAX
+        Err(Error::Source(4))
     }
 }
 
-// How many are made with the steps, each of which may be refused.
-fn scans_refused(alloc: Global, bytes: &[u8]) -> Result<usize, usize> {
-    each_refused(alloc, |heap, may_fail| {
-        is_scanned(scan_of(heap, bytes), may_fail)
-    })
+// The scan of the table of the rows, each in a block of its own, which is let go of; nothing of it
+// stays loaded that need not.
+fn scan_of<A: Allocator + Copy>(alloc: A, parted: Parted) -> Result<Scanner<A>, Error> {
+    let bytes = bytes_of(alloc, parted, ROWS, 0, 0)?;
+    asked(opened(alloc, bytes.as_slice()), scan_behind_reads)
 }
 
-// Whether steps make requests, and give or end with each request refused in turn.
-fn scanned(alloc: Global) -> Result<bool, Error> {
-    let bytes = in_parts(alloc)?;
-    let before = requests_of_scan(alloc, bytes.as_slice());
-    match scans_refused(alloc, bytes.as_slice()) {
-        Ok(requests) => Ok(before < requests),
-        Err(_) => Ok(false),
+/// Whether the rows of a table that is written and opened are found, and a scan gives their numbers;
+/// the refusal of what is refused, if nothing follows it.
+pub(crate) fn rows_come<A: Allocator + Copy>(alloc: A, parted: Parted) -> Result<bool, Error> {
+    is_scanned(scan_of(alloc, parted))
+}
+
+// How many requests for memory are made before the first step, and how many with the steps.
+fn requests(alloc: Global) -> Result<(usize, usize), Error> {
+    let before = Refusing::new(alloc, 0);
+    let whole = Refusing::new(alloc, 0);
+    if is_made(scan_of(&before, Parted::Index)) && rows_come(&whole, Parted::Index)? {
+        Ok((before.requests(), whole.requests()))
+    } else {
+        Err(Error::Source(5))
     }
 }
 
+// What comes of refused ones is a case of all that is refused in turn.
 #[test]
-fn a_step_that_is_refused_memory_ends_a_scan(rt: HostRuntime) {
-    assert!(rt; scanned(rt.alloc()) == Ok(true));
+fn the_steps_of_a_scan_make_requests(rt: HostRuntime) {
+    assert!(rt; requests(rt.alloc()).is_ok_and(|(before, whole)| before < whole));
 }

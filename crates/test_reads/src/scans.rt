@@ -1,12 +1,11 @@
 //! Whole tables, read in order.
-use crate::writing::finds_all;
-use crate::written::{Parted, ROWS, bytes_of, open_in_blocks};
+use crate::written::open_in_blocks;
 use lsm_tables::{Scanner, Table};
-use sst_blocks::{BlockSource, CompressionType, Error, IterItem, SeqNo, Slice, TagName};
+use sst_blocks::{BlockSource, CompressionType, Error, SeqNo, TagName};
 use std::alloc::{Allocator, Global};
 use test_tables::large::{asked, asked_mut, asked_with};
 use test_tables::stored::one_entry;
-use test_tables::tables::{open, overwritten};
+use test_tables::tables::overwritten;
 
 // The number of a refusal, and the tag that it names, or 0.
 type Fault = (u8, u8);
@@ -120,36 +119,4 @@ const LIFTED: [Step; 5] = [Some(Ok(19)), Some(Ok(17)), Some(Ok(15)), Some(Ok(11)
 fn a_scan_reads_each_block_once(rt: HostRuntime) {
     assert!(rt; scanned(rt.alloc(), 0) == Ok((FOUR, [1, 4])));
     assert!(rt; scanned(rt.alloc(), 10) == Ok((LIFTED, [1, 4])));
-}
-
-// The sum with the number of one more entry.
-fn added<A: Allocator>(sum: Result<u64, Error>, item: IterItem<A>) -> Result<u64, Error> {
-    Ok(sum?.saturating_add(item?.key.seqno))
-}
-
-// The sum of the numbers that a scan gives; nothing follows an error.
-fn sum_of<A: Allocator + Copy>(scan: Scanner<A>) -> Result<u64, Error> {
-    let mut sum = Ok(0u64);
-    for item in scan {
-        sum = added(sum, item);
-    }
-    sum
-}
-
-// The sum of the numbers of a table whose rows are all found, 0 where one is not.
-fn sum<A: Allocator + Copy>(table: &Table<A>) -> Result<u64, Error> {
-    if finds_all(table, ROWS)? {
-        sum_of(table.scan()?)
-    } else {
-        Ok(0)
-    }
-}
-
-fn open_parted<A: Allocator + Copy>(alloc: A, parted: Parted) -> Result<Table<A>, Error> {
-    open(alloc, bytes_of(alloc, parted, ROWS, 0, 0)?, 0)
-}
-
-/// Whether the rows of a table that is written and opened are found, and the sum is right.
-pub(crate) fn sums_up<A: Allocator + Copy>(alloc: A, parted: Parted) -> Result<bool, Error> {
-    Ok(asked(open_parted(alloc, parted), sum)? == 22)
 }
