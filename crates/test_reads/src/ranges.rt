@@ -362,11 +362,15 @@ fn all_are_right(alloc: Global, kind: &Kind, block_size: u32) -> bool {
     true
 }
 
-// With a block for each entry, by an index of two levels; and with blocks that entries of the empty
-// key do not fill, by an index on demand.
+// With a block for each entry, by an index of two levels.
 #[test]
-fn all_ranges_of_small_lists(rt: HostRuntime) {
+fn all_ranges_of_small_lists_by_two_levels(rt: HostRuntime) {
     assert!(rt; all_are_right(rt.alloc(), &Kind::TwoLevels, 0));
+}
+
+// With blocks that entries of the empty key do not fill, by an index on demand.
+#[test]
+fn all_ranges_of_small_lists_on_demand(rt: HostRuntime) {
     assert!(rt; all_are_right(rt.alloc(), &Kind::OnDemand, 1));
 }
 
