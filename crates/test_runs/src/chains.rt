@@ -1,5 +1,4 @@
 //! Lists that are written as tables, opened, put in a run and read.
-use crate::memory::{Read, is_right_refused};
 use lsm_ranges::Run;
 use lsm_tables::{Table, read_run_back, write_run};
 use lsm_writers::{TableIds, Timestamp};
@@ -31,14 +30,16 @@ const LONG_ROWS: &[Row<'static>] = &[
     (b"c", 0, ValueType::Value, &LONG),
 ];
 
-// What a list gives that is written as tables, each key in one of its own: at a key below 8, and
-// the ends of a range.
+// What is found at a key below 8, and the ends of a range; nothing of a list without entries.
+type Names = Option<[Option<Name>; 3]>;
+
+// What a list gives that is written as tables, each key in one of its own.
 fn read_rows<A: Allocator + Copy>(
     alloc: A,
     rows: &[Row<'_>],
     global_seqno: SeqNo,
     bounds: Bounds<'_>,
-) -> Result<Option<[Option<Name>; 3]>, Error> {
+) -> Result<Names, Error> {
     let items = list_of(alloc, rows)?;
     let range = owned_range(alloc, bounds)?;
     match read_run_back(alloc, items, 0, global_seqno, b"a", 8, range)? {
@@ -47,78 +48,58 @@ fn read_rows<A: Allocator + Copy>(
     }
 }
 
-// Some rows, the global number, bounds, and the names that are read; none of an empty list.
+/// Whether these names are read, or none where nothing is.
+pub(crate) fn are_read(read: Result<Names, Error>, names: &[Option<Name>]) -> bool {
+    match read {
+        Ok(Some(read)) => read.as_slice() == names,
+        Ok(None) => names.is_empty(),
+        Err(_) => false,
+    }
+}
+
+const WHOLE: &[Option<Name>] = &[Some((b'a', 7)), Some((b'a', 9)), Some((b'b', 1))];
+
+const LIFTED: &[Option<Name>] = &[Some((b'a', 7)), Some((b'a', 11)), Some((b'b', 3))];
+
+const ONE_KEY: &[Option<Name>] = &[Some((b'a', 7)), None, Some((b'a', 9))];
+
+// Some rows, the global number, bounds, and the names that are read.
 type Case = (
     &'static [Row<'static>],
     SeqNo,
     Bounds<'static>,
-    Option<&'static [Option<Name>]>,
+    &'static [Option<Name>],
 );
 
-fn are_named(read: &Option<[Option<Name>; 3]>, names: Option<&[Option<Name>]>) -> bool {
-    match (read, names) {
-        (Some(read), Some(names)) => read.as_slice() == names,
-        (None, None) => true,
-        _ => false,
+const CASES: &[Case] = &[
+    (ROWS, 0, ALL, WHOLE),
+    (ROWS, 2, ALL, LIFTED),
+    (ROWS, 0, BEFORE_B, ONE_KEY),
+    (&[], 0, ALL, &[]),
+];
+
+// The first of the cases that comes out otherwise.
+fn wrong_case(alloc: Global, cases: &[Case]) -> Option<usize> {
+    for (place, (rows, global_seqno, bounds, names)) in cases.iter().enumerate() {
+        if !are_read(read_rows(alloc, rows, *global_seqno, *bounds), names) {
+            return Some(place);
+        }
     }
+    None
 }
-
-fn gives<A: Allocator + Copy>(alloc: A, case: &Case) -> Result<bool, Error> {
-    let read = read_rows(alloc, case.0, case.1, case.2)?;
-    Ok(are_named(&read, case.3))
-}
-
-// Whether a list gives what it should.
-fn is_read(alloc: Global, case: &Case) -> bool {
-    gives(alloc, case) == Ok(true)
-}
-
-const WHOLE: &Case = &(
-    ROWS,
-    0,
-    ALL,
-    Some(&[Some((b'a', 7)), Some((b'a', 9)), Some((b'b', 1))]),
-);
-
-const LIFTED: &Case = &(
-    ROWS,
-    2,
-    ALL,
-    Some(&[Some((b'a', 7)), Some((b'a', 11)), Some((b'b', 3))]),
-);
-
-const ONE_KEY: &Case = &(
-    ROWS,
-    0,
-    BEFORE_B,
-    Some(&[Some((b'a', 7)), None, Some((b'a', 9))]),
-);
-
-const EMPTY: &Case = &(&[], 0, ALL, None);
 
 #[test]
 fn a_list_is_read_back_from_its_run(rt: HostRuntime) {
-    assert!(rt; is_read(rt.alloc(), WHOLE));
-    assert!(rt; is_read(rt.alloc(), LIFTED));
-    assert!(rt; is_read(rt.alloc(), ONE_KEY));
-    assert!(rt; is_read(rt.alloc(), EMPTY));
+    assert!(rt; wrong_case(rt.alloc(), CASES) == None);
+    // A number that passes the largest one refuses the run.
+    let refused = read_rows(rt.alloc(), ROWS, u64::MAX - 8, ALL);
+    assert!(rt; refused == Err(Error::GlobalSeqNoTooLarge));
 }
 
-const TOO_LARGE: &Case = &(ROWS, u64::MAX - 8, ALL, None);
-
-#[test]
-fn a_number_that_passes_the_largest_one_refuses_the_run(rt: HostRuntime) {
-    assert!(rt; gives(rt.alloc(), TOO_LARGE) == Err(Error::GlobalSeqNoTooLarge));
-}
-
-// Whether the list is read back whole.
-pub fn list_is_read<A: Allocator + Copy>(alloc: A) -> Result<bool, Error> {
-    gives(alloc, WHOLE)
-}
-
-#[test]
-fn a_list_is_read_back_with_each_request_refused(rt: HostRuntime) {
-    assert!(rt; is_right_refused(rt.alloc(), &Read::List));
+/// Whether the list is read back whole.
+pub(crate) fn list_is_read<A: Allocator + Copy>(alloc: A) -> Result<bool, Error> {
+    let read = read_rows(alloc, ROWS, 0, ALL)?;
+    Ok(are_read(Ok(read), WHOLE))
 }
 
 // How many entries the table at a place has, 0 where there is none.
@@ -139,13 +120,14 @@ fn entries_of<A: Allocator>(run: &Run<Table<A>, A>) -> [u64; 3] {
     ]
 }
 
-// The entries of the tables of a run with a target of 1,024 bytes, and the id that is drawn next.
-fn written<A: Allocator + Copy>(
-    alloc: A,
-    rows: &[Row<'_>],
-) -> Result<([u64; 3], Option<u64>), Error> {
+// How many entries the tables have that a target cuts, of three at most, and the id that is drawn
+// next.
+type Cut = ([u64; 3], Option<u64>);
+
+fn written<A: Allocator + Copy>(alloc: A, rows: &[Row<'_>], target: u64) -> Result<Cut, Error> {
     let items = list_of(alloc, rows)?;
-    let (run, mut ids) = write_run(alloc, TableIds::new(5), 1024, Timestamp::from(0), items, 0)?;
+    let ids = TableIds::new(5);
+    let (run, mut ids) = write_run(alloc, ids, target, Timestamp::from(0), items, 0)?;
     let next = ids.next();
     match run {
         Some(run) => Ok((entries_of(&run), next)),
@@ -153,18 +135,37 @@ fn written<A: Allocator + Copy>(
     }
 }
 
+// How long the blocks of the versions of `a` are: each has a header of 24 bytes, a count of 4, and
+// for its one entry 17 bytes, its key and its value.
+const OF_A: u64 = 3 * (24 + 4 + 17 + 1 + 8_000);
+
+// Some rows, a target, and how they are cut: a table begins once the blocks have reached the
+// target.
+const CUTS: &[(&[Row<'static>], u64, Cut)] = &[
+    (LONG_ROWS, 1_024, ([3, 1, 2], Some(8))),
+    (LONG_ROWS, OF_A - 1, ([3, 3, 0], Some(7))),
+    (LONG_ROWS, OF_A, ([3, 3, 0], Some(7))),
+    (LONG_ROWS, OF_A + 1, ([4, 2, 0], Some(7))),
+    (LONG_ROWS, 50_000, ([6, 0, 0], Some(6))),
+    (&[], 1_024, ([0, 0, 0], Some(6))),
+];
+
+// The target of the first cut that comes out otherwise.
+fn wrong_cut(alloc: Global, cuts: &[(&[Row<'static>], u64, Cut)]) -> Option<u64> {
+    for (rows, target, cut) in cuts {
+        if written(alloc, rows, *target) != Ok(*cut) {
+            return Some(*target);
+        }
+    }
+    None
+}
+
 #[test]
 fn a_run_has_the_tables_that_the_target_cuts(rt: HostRuntime) {
-    assert!(rt; target_cuts(rt.alloc()) == Ok(true));
-    assert!(rt; written(rt.alloc(), &[]) == Ok(([0, 0, 0], Some(6))));
+    assert!(rt; wrong_cut(rt.alloc(), CUTS) == None);
 }
 
-// Whether the target cuts the list.
-pub fn target_cuts<A: Allocator + Copy>(alloc: A) -> Result<bool, Error> {
-    Ok(written(alloc, LONG_ROWS)? == ([3, 1, 2], Some(8)))
-}
-
-#[test]
-fn a_target_cuts_tables_with_each_request_refused(rt: HostRuntime) {
-    assert!(rt; is_right_refused(rt.alloc(), &Read::CutList));
+/// Whether the target cuts the list.
+pub(crate) fn target_cuts<A: Allocator + Copy>(alloc: A) -> Result<bool, Error> {
+    Ok(written(alloc, LONG_ROWS, 1_024)? == ([3, 1, 2], Some(8)))
 }

@@ -1,11 +1,20 @@
 //! The blocks that a point read of several runs loads.
 use crate::damaged::damaged_runs_of;
-use crate::several::number_of;
 use lsm_tables::get_runs_counted;
-use sst_blocks::{Error, Opened, SeqNo, ValueType};
+use sst_blocks::{Error, InternalValue, Opened, SeqNo, ValueType};
 use std::alloc::{Allocator, Global};
 use test_tables::rows::Row;
 use test_tables::runs::{Lists, Tables, runs_of};
+
+/// The number of what a read finds.
+pub(crate) fn number_of<A: Allocator>(
+    found: Result<Option<InternalValue<A>>, Error>,
+) -> Result<Option<SeqNo>, Error> {
+    match found? {
+        Some(item) => Ok(Some(item.key.seqno)),
+        None => Ok(None),
+    }
+}
 
 const A9_B3: &[Row<'static>] = &[
     (b"a", 9, ValueType::Value, b"x"),

@@ -1,8 +1,8 @@
 //! Runs of which one table is damaged.
-use crate::several::number_in;
+use crate::counted::number_of;
 use crate::walks::{Scan, WHOLE, Walk, reader_of, scanner_of};
 use lsm_ranges::Run;
-use lsm_tables::{Table, read_run};
+use lsm_tables::{Table, get_runs, read_run};
 use sst_blocks::{Direction, Error, SeqNo, ValueType};
 use std::alloc::Allocator;
 use test_tables::large::add;
@@ -157,7 +157,7 @@ const TWO_RUNS: &[Lists] = &[THREE_TABLES, THREE_TABLES];
 // The number that a read of both runs finds.
 fn found<A: Allocator + Copy>(alloc: A, key: &[u8]) -> Result<Option<SeqNo>, Error> {
     let runs = damaged_runs_of(alloc, TWO_RUNS, (0, 1))?;
-    let number = number_in(&runs, key, 1);
+    let number = number_of(get_runs(&runs, key, 1));
     drop(runs);
     number
 }

@@ -1,16 +1,30 @@
-//! Worked examples of runs of tables: tests of what is read from one run, from both ends and by a
-//! scan, from several as one, and of lists that are written as runs; and of rows that are written
-//! and read back whole, of the memory that a read asks for, of scans that are refused memory and
-//! scans that lend, of long keys, of the targets at which tables are cut, and of ranges of numbers.
-//! Nothing here is for use.
+//! Worked examples of runs of tables: tests of what is read from one run and from several as one,
+//! from both ends, by scans, below a number and by age, given and lent; of lists that are written as
+//! runs; of runs that are compacted or packed, all of them or a part, with a filter and without; and
+//! of what stays where memory is refused, an id is wanting or a table is damaged. Nothing here is
+//! for use.
 #![tactic(auto)]
 
 #[cfg(test)]
+mod ages;
+#[cfg(test)]
+mod any_runs;
+#[cfg(test)]
 mod chains;
+#[cfg(test)]
+mod compacted;
+#[cfg(test)]
+mod compacting;
 #[cfg(test)]
 mod counted;
 #[cfg(test)]
 mod damaged;
+#[cfg(test)]
+mod filtered;
+#[cfg(test)]
+mod handed_out;
+#[cfg(test)]
+mod kept;
 #[cfg(test)]
 mod key_ranges;
 #[cfg(test)]
@@ -18,30 +32,30 @@ mod lends;
 #[cfg(test)]
 mod lent_ranges;
 #[cfg(test)]
-mod long_keys;
+mod listed;
 #[cfg(test)]
 mod memory;
 #[cfg(test)]
-mod readers;
+mod new_tables;
 #[cfg(test)]
-mod reads;
+mod observed;
+#[cfg(test)]
+mod packing;
+#[cfg(test)]
+mod part;
+#[cfg(test)]
+mod ranges;
+#[cfg(test)]
+mod readers;
 #[cfg(test)]
 mod refused;
 #[cfg(test)]
-mod rows;
-#[cfg(test)]
 mod run_rows;
 #[cfg(test)]
-mod scans;
+mod spent;
 #[cfg(test)]
-mod several;
+mod stored;
 #[cfg(test)]
-mod table_rows;
-#[cfg(test)]
-mod tables;
-#[cfg(test)]
-mod targets;
+mod to_run;
 #[cfg(test)]
 mod walks;
-#[cfg(test)]
-mod whole;

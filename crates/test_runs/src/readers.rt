@@ -1,9 +1,8 @@
 //! One run, read from both ends and scanned.
-use crate::memory::{Read, is_right_refused};
 use crate::walks::{Scan, Span, WHOLE, Walk, reader_of, scanner_of, span_reader_of};
 use lsm_tables::{RunReader, RunScanner};
 use sst_blocks::{Direction, Error, ValueType};
-use std::alloc::Allocator;
+use std::alloc::{Allocator, Global};
 use std::ops::Bound;
 use test_tables::rows::Row;
 use test_tables::runs::{ALL, Bounds, Name, run_of};
@@ -79,14 +78,25 @@ fn steps_give<W: Walk>(reader: &mut W, steps: &[Step]) -> Result<bool, Error> {
     Ok(true)
 }
 
-// Whether the steps of a reader, which has opened no table yet, give what they should; `None` where
-// there is no reader.
+// Whether nothing is left at either end of a reader.
+fn is_over<W: Walk>(reader: &mut W) -> bool {
+    reader.step(F) == Ok(None) && reader.step(B) == Ok(None)
+}
+
+// Whether a reader gives these steps, and nothing follows from either end; where a step is refused
+// the refusal, if nothing follows it.
+fn gives_or_ends<W: Walk>(reader: &mut W, steps: &[Step]) -> Result<bool, Error> {
+    let given = steps_give(reader, steps);
+    if is_over(reader) { given } else { Ok(false) }
+}
+
+// That of a reader; `None` where there is none.
 fn gives<W: Walk + Drop>(
     reader: Result<Option<W>, Error>,
     steps: &[Step],
 ) -> Result<Option<bool>, Error> {
     match reader? {
-        Some(mut reader) => Ok(Some(steps_give(&mut reader, steps)?)),
+        Some(mut reader) => Ok(Some(gives_or_ends(&mut reader, steps)?)),
         None => Ok(None),
     }
 }
@@ -100,32 +110,12 @@ fn culled<A: Allocator + Copy>(
     span_reader_of(alloc, run_of(alloc, FOUR_TABLES), bounds, span)
 }
 
-// Whether the reader of a span of the four tables gives these steps.
-fn span_reads<A: Allocator + Copy>(
-    alloc: A,
-    bounds: Bounds<'_>,
-    span: Span,
-    steps: &[Step],
-) -> bool {
-    gives(culled(alloc, bounds, span), steps) == Ok(Some(true))
-}
-
 // The reader of the four tables within bounds.
 fn reader_within<A: Allocator + Copy>(
     alloc: A,
     bounds: Bounds<'_>,
 ) -> Result<Option<RunReader<A>>, Error> {
     reader_of(alloc, run_of(alloc, FOUR_TABLES), bounds)
-}
-
-// Whether the reader of the four tables within bounds gives these steps.
-fn reads<A: Allocator + Copy>(alloc: A, bounds: Bounds<'_>, steps: &[Step]) -> bool {
-    gives(reader_within(alloc, bounds), steps) == Ok(Some(true))
-}
-
-// Whether the four tables have no reader within bounds.
-fn has_no_reader<A: Allocator + Copy>(alloc: A, bounds: Bounds<'_>) -> bool {
-    gives(reader_within(alloc, bounds), &[]) == Ok(None)
 }
 
 const IN_TURN: &[Step] = &[
@@ -177,91 +167,6 @@ const BACKWARD: &[Step] = &[
     (B, 0, 4),
 ];
 
-#[test]
-fn a_run_is_read_from_both_ends_in_turn(rt: HostRuntime) {
-    assert!(rt; reads(rt.alloc(), ALL, IN_TURN));
-}
-
-#[test]
-fn a_run_is_read_from_each_end_alone(rt: HostRuntime) {
-    assert!(rt; reads(rt.alloc(), ALL, FORWARD));
-    assert!(rt; reads(rt.alloc(), ALL, BACKWARD));
-}
-
-const FROM_D: &[Step] = &[
-    (F, b'd', 1),
-    (F, b'e', 1),
-    (F, b'f', 1),
-    (F, b'g', 2),
-    (F, b'h', 2),
-    (F, b'i', 2),
-    (F, b'j', 3),
-    (F, b'k', 3),
-    (F, b'l', 3),
-    (F, 0, 3),
-];
-
-#[test]
-fn a_span_is_read_from_its_first_table_on(rt: HostRuntime) {
-    assert!(rt; span_reads(rt.alloc(), ALL, (Some(1), None), FROM_D));
-}
-
-const UP_TO_F: &[Step] = &[
-    (B, b'f', 1),
-    (B, b'e', 1),
-    (B, b'd', 1),
-    (B, b'c', 2),
-    (B, b'b', 2),
-    (B, b'a', 2),
-    (B, 0, 2),
-];
-
-#[test]
-fn a_span_is_read_up_to_its_last_table(rt: HostRuntime) {
-    assert!(rt; span_reads(rt.alloc(), ALL, (None, Some(1)), UP_TO_F));
-}
-
-const BETWEEN: &[Step] = &[
-    (F, b'd', 2),
-    (F, b'e', 2),
-    (F, b'f', 2),
-    (F, b'g', 3),
-    (F, b'h', 3),
-    (F, b'i', 3),
-    (F, 0, 4),
-    (F, 0, 4),
-];
-
-// The two tables at the ends have no key within the bounds; those between are read whole.
-#[test]
-fn tables_between_the_ends_of_a_span_are_read_whole(rt: HostRuntime) {
-    assert!(rt; span_reads(rt.alloc(), FROM_Y, WHOLE, BETWEEN));
-}
-
-const BEFORE_B: &[Step] = &[
-    (B, b'i', 2),
-    (B, b'h', 2),
-    (B, b'g', 2),
-    (F, b'a', 3),
-    (B, b'f', 4),
-    (B, b'e', 4),
-    (B, b'd', 4),
-    (B, 0, 4),
-];
-
-// Of the first table one key is within the bounds, of the last none.
-#[test]
-fn the_first_and_the_last_table_of_a_span_are_read_within_bounds(rt: HostRuntime) {
-    assert!(rt; span_reads(rt.alloc(), UNDER_B, WHOLE, BEFORE_B));
-}
-
-const G_TO_I_ONCE: &[Step] = &[(F, b'g', 1), (B, b'i', 1), (F, b'h', 1), (B, 0, 1)];
-
-#[test]
-fn a_table_that_both_ends_meet_in_is_opened_once(rt: HostRuntime) {
-    assert!(rt; span_reads(rt.alloc(), ALL, (Some(2), Some(2)), G_TO_I_ONCE));
-}
-
 const C_TO_G: &[Step] = &[
     (F, b'c', 1),
     (B, b'g', 2),
@@ -270,11 +175,6 @@ const C_TO_G: &[Step] = &[
     (F, b'e', 3),
     (F, 0, 3),
 ];
-
-#[test]
-fn bounds_in_different_tables_leave_what_lies_between(rt: HostRuntime) {
-    assert!(rt; reads(rt.alloc(), FROM_C_TO_G, C_TO_G));
-}
 
 const FORWARD_FROM_G: &[Step] = &[
     (F, b'g', 1),
@@ -296,40 +196,145 @@ const BACKWARD_TO_G: &[Step] = &[
     (B, 0, 2),
 ];
 
-#[test]
-fn a_run_is_read_from_a_key_on(rt: HostRuntime) {
-    assert!(rt; reads(rt.alloc(), FROM_G, FORWARD_FROM_G));
-    assert!(rt; reads(rt.alloc(), FROM_G, BACKWARD_TO_G));
-}
-
-#[test]
-fn past_the_last_key_of_a_run_there_is_no_reader(rt: HostRuntime) {
-    assert!(rt; has_no_reader(rt.alloc(), FROM_Y));
-    assert!(rt; has_no_reader(rt.alloc(), FROM_Y_TO_Z));
-}
-
 const NOTHING: &[Step] = &[(F, 0, 1), (B, 0, 1)];
 
-// From `e` to `d` both included the table of both is in the span; where `d` is left out none starts
-// before it.
-#[test]
-fn reversed_bounds_give_nothing(rt: HostRuntime) {
-    assert!(rt; reads(rt.alloc(), FROM_E_TO_D, NOTHING));
-    assert!(rt; has_no_reader(rt.alloc(), FROM_E_BEFORE_D));
-    assert!(rt; has_no_reader(rt.alloc(), FROM_K_TO_B));
+// Bounds, and the steps of the reader of the four tables within them, if there is one.
+const WITHIN: &[(Bounds<'static>, Option<&[Step]>)] = &[
+    (ALL, Some(IN_TURN)),
+    (ALL, Some(FORWARD)),
+    (ALL, Some(BACKWARD)),
+    (FROM_C_TO_G, Some(C_TO_G)),
+    (FROM_G, Some(FORWARD_FROM_G)),
+    (FROM_G, Some(BACKWARD_TO_G)),
+    // Past the last key of a run there is no reader.
+    (FROM_Y, None),
+    (FROM_Y_TO_Z, None),
+    // From `e` to `d` both included the table of both is in the span; where `d` is left out none
+    // starts before it.
+    (FROM_E_TO_D, Some(NOTHING)),
+    (FROM_E_BEFORE_D, None),
+    (FROM_K_TO_B, None),
+];
+
+// Whether the reader of the four tables within bounds gives these steps, or there is none.
+fn reads(alloc: Global, bounds: Bounds<'_>, steps: Option<&[Step]>) -> bool {
+    let reader = reader_within(alloc, bounds);
+    match steps {
+        Some(steps) => gives(reader, steps) == Ok(Some(true)),
+        None => gives(reader, &[]) == Ok(None),
+    }
 }
 
-// Whether a scan gives just these keys.
-fn gives_keys<S: Scan>(scanner: &mut S, keys: &[u8]) -> Result<bool, Error> {
+// The first of the bounds that come out otherwise.
+fn wrong_within(alloc: Global, within: &[(Bounds<'_>, Option<&[Step]>)]) -> Option<usize> {
+    for (place, (bounds, steps)) in within.iter().enumerate() {
+        if !reads(alloc, *bounds, *steps) {
+            return Some(place);
+        }
+    }
+    None
+}
+
+#[test]
+fn a_run_is_read_within_bounds_from_both_ends(rt: HostRuntime) {
+    assert!(rt; wrong_within(rt.alloc(), WITHIN) == None);
+}
+
+const FROM_D: &[Step] = &[
+    (F, b'd', 1),
+    (F, b'e', 1),
+    (F, b'f', 1),
+    (F, b'g', 2),
+    (F, b'h', 2),
+    (F, b'i', 2),
+    (F, b'j', 3),
+    (F, b'k', 3),
+    (F, b'l', 3),
+    (F, 0, 3),
+];
+
+const UP_TO_F: &[Step] = &[
+    (B, b'f', 1),
+    (B, b'e', 1),
+    (B, b'd', 1),
+    (B, b'c', 2),
+    (B, b'b', 2),
+    (B, b'a', 2),
+    (B, 0, 2),
+];
+
+const BETWEEN: &[Step] = &[
+    (F, b'd', 2),
+    (F, b'e', 2),
+    (F, b'f', 2),
+    (F, b'g', 3),
+    (F, b'h', 3),
+    (F, b'i', 3),
+    (F, 0, 4),
+    (F, 0, 4),
+];
+
+const BEFORE_B: &[Step] = &[
+    (B, b'i', 2),
+    (B, b'h', 2),
+    (B, b'g', 2),
+    (F, b'a', 3),
+    (B, b'f', 4),
+    (B, b'e', 4),
+    (B, b'd', 4),
+    (B, 0, 4),
+];
+
+const G_TO_I_ONCE: &[Step] = &[(F, b'g', 1), (B, b'i', 1), (F, b'h', 1), (B, 0, 1)];
+
+// Bounds, a span, and the steps of its reader.
+const SPANS: &[(Bounds<'static>, Span, &[Step])] = &[
+    (ALL, (Some(1), None), FROM_D),
+    (ALL, (None, Some(1)), UP_TO_F),
+    // The two tables at the ends have no key within the bounds; those between are read whole.
+    (FROM_Y, WHOLE, BETWEEN),
+    // Of the first table one key is within the bounds, of the last none.
+    (UNDER_B, WHOLE, BEFORE_B),
+    // A table that both ends meet in is opened once.
+    (ALL, (Some(2), Some(2)), G_TO_I_ONCE),
+];
+
+// The first of the spans that come out otherwise.
+fn wrong_span(alloc: Global, spans: &[(Bounds<'_>, Span, &[Step])]) -> Option<usize> {
+    for (place, (bounds, span, steps)) in spans.iter().enumerate() {
+        if gives(culled(alloc, *bounds, *span), steps) != Ok(Some(true)) {
+            return Some(place);
+        }
+    }
+    None
+}
+
+#[test]
+fn a_span_is_read_from_its_first_table_to_its_last(rt: HostRuntime) {
+    assert!(rt; wrong_span(rt.alloc(), SPANS) == None);
+}
+
+// Whether a scan gives these keys first; the refusal of a step that is refused.
+fn first_are<S: Scan>(scanner: &mut S, keys: &[u8]) -> Result<bool, Error> {
     for key in keys {
         if scanner.scan()? != Some((*key, 0)) {
             return Ok(false);
         }
     }
-    Ok(scanner.scan() == Ok(None) && scanner.scan() == Ok(None))
+    Ok(true)
 }
 
-// Whether a scanner, if there is one, gives just these keys.
+// Whether a scan gives just these keys; where a step is refused the refusal, if nothing follows it.
+fn gives_keys<S: Scan>(scanner: &mut S, keys: &[u8]) -> Result<bool, Error> {
+    let given = first_are(scanner, keys);
+    if scanner.scan() == Ok(None) && scanner.scan() == Ok(None) {
+        given
+    } else {
+        Ok(false)
+    }
+}
+
+// That of a scanner, if there is one.
 fn scanner_gives<S: Scan + Drop>(scanner: Result<S, Error>, keys: &[u8]) -> Result<bool, Error> {
     gives_keys(&mut scanner?, keys)
 }
@@ -339,25 +344,30 @@ fn scanner<A: Allocator + Copy>(alloc: A, span: Span) -> Result<RunScanner<A>, E
     scanner_of(run_of(alloc, FOUR_TABLES), span)
 }
 
-// Whether the scanner of a span of the four tables gives just these keys.
-fn scans<A: Allocator + Copy>(alloc: A, span: Span, keys: &[u8]) -> bool {
-    scanner_gives(scanner(alloc, span), keys) == Ok(true)
+// Spans, and the keys that their scanners give.
+const SCANS: &[(Span, &[u8])] = &[
+    (WHOLE, b"abcdefghijkl"),
+    ((Some(1), None), b"defghijkl"),
+    ((None, Some(1)), b"abcdef"),
+    ((Some(2), Some(2)), b"ghi"),
+];
+
+// The first of the spans whose scanner gives other keys.
+fn wrong_scan(alloc: Global, scans: &[(Span, &[u8])]) -> Option<usize> {
+    for (place, (span, keys)) in scans.iter().enumerate() {
+        if scanner_gives(scanner(alloc, *span), keys) != Ok(true) {
+            return Some(place);
+        }
+    }
+    None
 }
 
 #[test]
 fn a_scan_gives_a_span_whole(rt: HostRuntime) {
-    assert!(rt; scans(rt.alloc(), WHOLE, b"abcdefghijkl"));
-    assert!(rt; scans(rt.alloc(), (Some(1), None), b"defghijkl"));
-    assert!(rt; scans(rt.alloc(), (None, Some(1)), b"abcdef"));
-    assert!(rt; scans(rt.alloc(), (Some(2), Some(2)), b"ghi"));
+    assert!(rt; wrong_scan(rt.alloc(), SCANS) == None);
 }
 
 // ---- want of memory
-
-// Whether nothing is left at either end of a reader.
-fn is_over<W: Walk>(reader: &mut W) -> bool {
-    reader.step(F) == Ok(None) && reader.step(B) == Ok(None)
-}
 
 const D_TO_I: &[Step] = &[
     (F, b'd', 1),
@@ -369,73 +379,22 @@ const D_TO_I: &[Step] = &[
     (B, 0, 2),
 ];
 
-// Whether a reader gives these steps, and nothing follows from either end; where a step is refused
-// the refusal, if nothing follows it.
-fn gives_or_ends<W: Walk>(reader: &mut W, steps: &[Step]) -> Result<bool, Error> {
-    let given = steps_give(reader, steps);
-    if is_over(reader) { given } else { Ok(false) }
+/// Whether the reader of the two tables in the middle gives their keys, or ends for good at a
+/// refusal.
+pub(crate) fn span_gives_or_ends<A: Allocator + Copy>(alloc: A) -> Result<bool, Error> {
+    let given = gives(culled(alloc, ALL, (Some(1), Some(2))), D_TO_I);
+    Ok(given? == Some(true))
 }
 
-// Whether there is a reader, and it gives these steps, and nothing follows from either end; where a
-// step is refused the refusal, if nothing follows it.
-fn reader_gives_or_ends<W: Walk + Drop>(
-    reader: Result<Option<W>, Error>,
-    steps: &[Step],
-) -> Result<bool, Error> {
-    match reader? {
-        Some(mut reader) => gives_or_ends(&mut reader, steps),
-        None => Ok(false),
-    }
+/// Whether the reader of the four tables gives their keys from both ends in turn, or ends for good
+/// at a refusal.
+pub(crate) fn run_gives_or_ends<A: Allocator + Copy>(alloc: A) -> Result<bool, Error> {
+    let given = gives(reader_within(alloc, ALL), IN_TURN);
+    Ok(given? == Some(true))
 }
 
-// Whether the reader of the two tables in the middle gives their keys, or ends for good at a
-// refusal.
-pub fn span_gives_or_ends<A: Allocator + Copy>(alloc: A) -> Result<bool, Error> {
-    reader_gives_or_ends(culled(alloc, ALL, (Some(1), Some(2))), D_TO_I)
-}
-
-// Whether the reader of the four tables gives their keys from both ends in turn, or ends for good
-// at a refusal.
-pub fn run_gives_or_ends<A: Allocator + Copy>(alloc: A) -> Result<bool, Error> {
-    reader_gives_or_ends(reader_within(alloc, ALL), IN_TURN)
-}
-
-#[test]
-fn a_run_is_read_with_each_request_refused(rt: HostRuntime) {
-    assert!(rt; is_right_refused(rt.alloc(), &Read::Run));
-}
-
-#[test]
-fn a_span_is_read_with_each_request_refused(rt: HostRuntime) {
-    assert!(rt; is_right_refused(rt.alloc(), &Read::Span));
-}
-
-// Whether a scan gives just these keys; where a step is refused the refusal, if nothing follows it.
-fn gives_keys_or_ends<S: Scan>(scanner: &mut S, keys: &[u8]) -> Result<bool, Error> {
-    let given = gives_keys(scanner, keys);
-    if scanner.scan() == Ok(None) {
-        given
-    } else {
-        Ok(false)
-    }
-}
-
-// Whether a scanner, if there is one, gives just these keys; where a step is refused the refusal,
-// if nothing follows it.
-fn scanner_gives_or_ends<S: Scan + Drop>(
-    scanner: Result<S, Error>,
-    keys: &[u8],
-) -> Result<bool, Error> {
-    gives_keys_or_ends(&mut scanner?, keys)
-}
-
-// Whether the scanner of the four tables but the first gives their keys, or ends for good at a
-// refusal.
-pub fn scan_gives_or_ends<A: Allocator + Copy>(alloc: A) -> Result<bool, Error> {
-    scanner_gives_or_ends(scanner(alloc, (Some(1), None)), b"defghijkl")
-}
-
-#[test]
-fn a_run_is_scanned_with_each_request_refused(rt: HostRuntime) {
-    assert!(rt; is_right_refused(rt.alloc(), &Read::Scan));
+/// Whether the scanner of the four tables but the first gives their keys, or ends for good at a
+/// refusal.
+pub(crate) fn scan_gives_or_ends<A: Allocator + Copy>(alloc: A) -> Result<bool, Error> {
+    scanner_gives(scanner(alloc, (Some(1), None)), b"defghijkl")
 }

@@ -1,10 +1,10 @@
 //! What comes behind a refused step of several runs that are read as one.
-use crate::several::{Answer, answers_of};
-use sst_blocks::{Direction, Error, ValueType};
+use sst_blocks::{Direction, Error, IterItem, ValueType};
 use std::alloc::{Allocator, Global};
 use test_refusing::Refusing;
+use test_tables::lists::answers_within;
 use test_tables::rows::Row;
-use test_tables::runs::{ALL, Lists};
+use test_tables::runs::{ALL, Lists, Name, runs_of};
 
 const F: Direction = Direction::Front;
 
@@ -23,6 +23,40 @@ const B1_AND_D3: &[Row<'static>] = &[
 
 // The first run is of three tables.
 const RUNS: &[Lists] = &[&[A9_ROW, C4_ROW, E2_ROW], &[B1_AND_D3]];
+
+// What a step gives; an error by whether it is want of memory.
+type Answer = Result<Option<Name>, bool>;
+
+// What seven steps give, and nothing where there are fewer.
+type Answers = [Answer; 7];
+
+fn name_in<A: Allocator>(answer: &Option<IterItem<A>>) -> Answer {
+    match answer {
+        Some(Ok(item)) => match item.key.user_key.as_slice() {
+            [byte] => Ok(Some((*byte, item.key.seqno))),
+            _ => Ok(Some((0, item.key.seqno))),
+        },
+        Some(Err(error)) => Err(*error == Error::OutOfMemory),
+        None => Ok(None),
+    }
+}
+
+// The names of some answers.
+fn named<A: Allocator>(answers: &[Option<IterItem<A>>]) -> Answers {
+    let mut names = [Ok(None); 7];
+    for (name, answer) in names.iter_mut().zip(answers.iter()) {
+        *name = name_in(answer);
+    }
+    names
+}
+
+// What both runs give at some ends.
+fn answers_of<A: Allocator + Copy>(alloc: A, ends: &[Direction]) -> Result<Answers, Error> {
+    let runs = runs_of(alloc, RUNS)?;
+    let answers = answers_within(alloc, &runs, ALL, ends);
+    drop(runs);
+    Ok(named(&answers?))
+}
 
 const A9: Answer = Ok(Some((b'a', 9)));
 
@@ -95,7 +129,7 @@ fn place_of(cases: &[&[Answer]], answers: &[Answer]) -> Option<usize> {
 // Which of the answers of a case both runs give, if any; an error where there is no memory for the
 // runs.
 fn which<A: Allocator + Copy>(alloc: A, case: &Case) -> Result<Option<usize>, Error> {
-    let answers = answers_of(alloc, RUNS, ALL, case.0)?;
+    let answers = answers_of(alloc, case.0)?;
     Ok(place_of(case.1, &answers))
 }
 

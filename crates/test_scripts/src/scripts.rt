@@ -28,7 +28,12 @@ fn run<A: Allocator + Clone, B: Allocator + Clone>(
     })
 }
 
-fn gives<A: Allocator + Clone>(alloc: A, script: &[u8], output: &[u8]) -> Result<bool, AllocError> {
+/// Whether a script prints this, and ends at its last line.
+pub(crate) fn gives<A: Allocator + Clone>(
+    alloc: A,
+    script: &[u8],
+    output: &[u8],
+) -> Result<bool, AllocError> {
     let ran = run(alloc.clone()?, alloc, script)?;
     Ok(ran.output.as_slice() == output && ran.errors.is_empty() && ran.status == 0)
 }
@@ -553,6 +558,25 @@ const OVER_TWO_RUNS_OUTPUTS: [&[u8]; 10] = [
     b"tables 1\ntables 1\na 9 V x\nb 1 V y\nc 2 V z\na 5 V o\nrefused 1\n",
 ];
 
+// A script that packs three runs, the newest of which overlaps both others, and what it prints.
+const PACKING: &[u8] =
+    b"entry a 5 V x\ntable\nentry c 3 V x\ntable\nentry a 9 V x\nentry c 9 V x\ntable\npack\n\
+      get a 100\nget c 100\n";
+
+const PACKING_OUTPUTS: [&[u8]; 11] = [
+    b"tables 1\ntables 1\ntables 1\nruns 2\na 9 V x\nc 9 V x\n",
+    b"refused 1\ntables 0\ntables 1\ntables 1\nruns 2\na 9 V x\nc 9 V x\n",
+    b"refused 1\ntables 1\ntables 1\nruns 2\na 9 V x\nc 9 V x\n",
+    b"tables 1\nrefused 1\ntables 0\ntables 1\nruns 2\na 9 V x\nc 9 V x\n",
+    b"tables 1\nrefused 1\ntables 1\nruns 2\na 9 V x\nc 9 V x\n",
+    b"tables 1\ntables 1\nrefused 1\ntables 1\nruns 2\na 5 V x\nc 9 V x\n",
+    b"tables 1\ntables 1\nrefused 1\ntables 1\nruns 2\na 9 V x\nc 3 V x\n",
+    b"tables 1\ntables 1\nrefused 1\nruns 1\na 5 V x\nc 3 V x\n",
+    b"tables 1\ntables 1\ntables 1\nrefused 1\na 9 V x\nc 9 V x\n",
+    b"tables 1\ntables 1\ntables 1\nruns 2\nrefused 1\nc 9 V x\n",
+    b"tables 1\ntables 1\ntables 1\nruns 2\na 9 V x\nrefused 1\n",
+];
+
 // Whether a run of a script is right, where one request for memory may have been refused; the first
 // output is of none refused.
 fn is_right<A: Allocator>(ran: &Ran<A>, outputs: &[&[u8]], may_fail: bool) -> bool {
@@ -586,5 +610,6 @@ fn each_request_refused_in_turn(rt: HostRuntime) -> Result<(), Fail> {
     let alloc = rt.alloc();
     assert!(rt; is_right_in_turn(alloc, FIRST, &REFUSED_OUTPUTS, 40));
     assert!(rt; is_right_in_turn(alloc, OVER_TWO_RUNS, &OVER_TWO_RUNS_OUTPUTS, 40));
+    assert!(rt; is_right_in_turn(alloc, PACKING, &PACKING_OUTPUTS, 40));
     Ok(())
 }

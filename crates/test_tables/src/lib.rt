@@ -3,9 +3,10 @@
 #![tactic(auto)]
 
 pub mod large;
+pub mod lending;
 pub mod lists;
-pub mod pins;
 pub mod rows;
 pub mod runs;
 pub mod stored;
 pub mod tables;
+pub mod whole;

@@ -1,2 +1,0 @@
-pub mod StoredTable
-pub mod FilteredStream

@@ -1,0 +1,55 @@
+//! How many bytes the data blocks of a range take, by each kind of index.
+use crate::pins::open_with;
+use crate::written::{Parted, bytes_of};
+use lsm_tables::Table;
+use sst_blocks::{Error, ValueType};
+use std::alloc::Global;
+use std::ops::Bound;
+use test_tables::rows::Row;
+use test_tables::runs::{ALL, Bounds};
+
+// Each row has a data block of its own, of 46 bytes and the value's.
+const ROWS: &[Row<'static>] = &[
+    (b"b", 3, ValueType::Value, b""),
+    (b"d", 2, ValueType::Value, b"12"),
+    (b"f", 1, ValueType::Value, b"1234"),
+];
+
+// Bounds, and what the blocks between them take.
+const CASES: &[(Bounds<'static>, u64)] = &[
+    (ALL, 144),
+    ((Bound::Included(b"c"), Bound::Unbounded), 98),
+    ((Bound::Unbounded, Bound::Excluded(b"a")), 46),
+    // The block behind `b` may have `b` too, for all that the index says.
+    ((Bound::Included(b"b"), Bound::Included(b"b")), 94),
+    ((Bound::Included(b"e"), Bound::Included(b"e")), 50),
+    ((Bound::Excluded(b"f"), Bound::Unbounded), 50),
+    ((Bound::Included(b"g"), Bound::Unbounded), 0),
+    ((Bound::Included(b"f"), Bound::Included(b"b")), 0),
+];
+
+// The first of the cases whose answer is wrong.
+fn wrong_case(table: &Table) -> Option<usize> {
+    for (place, &((lower, upper), size)) in CASES.iter().enumerate() {
+        if table.approximate_size(lower, upper) != Ok(size) {
+            return Some(place);
+        }
+    }
+    None
+}
+
+// The first case that a table answers otherwise, its index in one block or in a partition for each
+// block of data, kept loaded or not.
+fn wrong_in(alloc: Global, parted: Parted, pin_index: bool) -> Result<Option<usize>, Error> {
+    let bytes = bytes_of(alloc, parted, ROWS, 0, 0)?;
+    let table = open_with(alloc, bytes.as_slice(), (false, pin_index))?;
+    Ok(wrong_case(&table))
+}
+
+#[test]
+fn the_blocks_between_bounds_are_summed(rt: HostRuntime) {
+    let alloc = rt.alloc();
+    assert!(rt; wrong_in(alloc, Parted::Nothing, true) == Ok(None));
+    assert!(rt; wrong_in(alloc, Parted::Nothing, false) == Ok(None));
+    assert!(rt; wrong_in(alloc, Parted::Index, false) == Ok(None));
+}
