@@ -1,10 +1,13 @@
 -- What a table says of itself, and why not.
 use Rattle.std.proofs.Common.{◌≡◌, refl, sym, ◌∙◌, ap, ℕ, zero, suc, ◌+◌, ◌-◌, ◌^◌, List, [], ◌∷◌}
-use Rattle.std.proofs.Common.{◌++◌, length, append-nil, arith, rules, subst}
-use Rattle.std.proofs.lemmas.List.{map-append}
-use Rattle.std.specs.Prelude.{Option, None, Some, Result, Ok, Err, IfErr, false, true, map, replicate}
-use Rattle.std.specs.List.{repeat}
-use Rattle.std.specs.Fmt.{decimal, format_spec, padded_integral, styled_decimal}
+use Rattle.std.proofs.Common.{◌++◌, length, append-nil, append_assoc, arith, rules, subst, get_or, drop, take}
+use Rattle.std.proofs.Common.{◌*◌, ◌<◌, ◌≤◌, Bool, true}
+use Rattle.std.proofs.lemmas.List.{length-append, map-append}
+use Rattle.std.proofs.lemmas.List.{length-take}
+use Rattle.std.specs.Io.KnownBytes.{Appends}
+use Rattle.std.proofs.KnownBytes.{Appends-trans}
+use Rattle.std.specs.List.{flat_map}
+use Rattle.std.specs.Prelude.{Option, None, Some, Result, Ok, Err, IfErr, false, map, nat_lt, if◌then◌else◌}
 use Rattle.sst_blocks.specs.Block.{Loaded, entries_of}
 use Rattle.sst_entries.specs.Entry.{Entry}
 use Rattle.sst_entries.specs.declared.error.Error.{Error}
@@ -14,7 +17,8 @@ use Rattle.lsm_readers.specs.Meta.{item_told, value_told}
 use Rattle.lsm_readers.specs.Read.{◌>>=◌}
 use Rattle.lsm_readers.specs.Scan.{fault_of}
 use Rattle.sst_blocks.specs.Handle.{Handle}
-use Rattle.tool_show.specs.Stats.{is_missing, lies_at, on_right}
+use Rattle.tool_show.specs.Stats.{is_missing, lies_at, low_first, part_line, part_lines}
+use Rattle.tool_show.specs.Stats.{stored_number}
 use Rattle.tool_show.specs.declared.facts.Place.{Place}
 
 missing_by : (o : Option Entry) (e : Error) → value_told o ≡ Err e → e ≡ MetaKeyMissing
@@ -39,13 +43,120 @@ meta_refused (Err x) item e is other = let same : x ≡ e = cc in ap (λ (y : Er
 pub places_one : (ps : List Place) (came : List Handle) (x : Handle) (p : Place) (new : List Place)
     (now : List Handle) → ps ≡ map lies_at came → p ≡ lies_at x → new ≡ ps ++ p ∷ []
     → now ≡ came ++ x ∷ [] → new ≡ map lies_at now
-places_one ps came x p new now before is more then =
+places_one ps came x p new now before is more grown =
     more ∙ ap (λ (qs : List Place). qs ++ p ∷ []) before
     ∙ ap (λ (q : Place). map lies_at came ++ q ∷ []) is
     ∙ sym (map-append lies_at came (x ∷ []))
-    ∙ sym (ap (map lies_at) then)
+    ∙ sym (ap (map lies_at) grown)
 
 -- what holds of a refusal
 pub refused_is : {X : Type 0} (r : Result X Error) (e : Error) (P : Error → Type 0) → r ≡ Err e → P e
     → IfErr r P
 refused_is {X} r e P is holds = subst (λ (q : Result X Error). IfErr q P) (sym is) holds
+
+-- ---- numbers that are stored with the lowest byte first
+
+low_step : (bs : List ℕ) (k : ℕ) → k < length bs
+    → low_first (drop k bs) ≡ get_or bs k 0 + 256 * low_first (drop (k + 1) bs)
+low_step [] k h = absurd (omega (arith, h))
+low_step (b ∷ bs) zero h = refl
+low_step (b ∷ bs) (suc k) h =
+    let next : suc k + 1 ≡ suc (k + 1) = omega arith in
+    low_step bs k (omega (arith, h))
+    ∙ ap (λ (n : ℕ). get_or bs k 0 + 256 * low_first (drop n (b ∷ bs))) (sym next)
+
+low_drop : (bs : List ℕ) (k : ℕ) → low_first (drop k bs) ≤ low_first bs
+low_drop [] zero = omega arith
+low_drop [] (suc k) = omega arith
+low_drop (b ∷ bs) zero = omega arith
+low_drop (b ∷ bs) (suc k) = omega (arith, low_drop bs k)
+
+stored_by : (bs : List ℕ) (n : ℕ) (t : Bool) → nat_lt (low_first bs) (2 ^ 64) ≡ t
+    → stored_number bs ≡ (if t then Some (low_first bs) else None)
+stored_by bs n t is = ap (λ (b : Bool). if b then Some (low_first bs) else None) is
+
+-- one that fits
+pub stored_some : (bs : List ℕ) (n : ℕ) → n ≡ low_first bs → n < 2 ^ 64 → Some n ≡ stored_number bs
+stored_some bs n is fits =
+    let so : nat_lt (low_first bs) (2 ^ 64) ≡ true = grind (arith, is, fits) in
+    ap (λ (m : ℕ). Some m) is ∙ sym (stored_by bs n true so)
+
+-- one that does not
+pub stored_none : (bs : List ℕ) → 2 ^ 64 ≤ low_first bs → None ≡ stored_number bs
+stored_none bs large =
+    let not : nat_lt (low_first bs) (2 ^ 64) ≡ false = grind (arith, large) in
+    sym (stored_by bs 0 false not)
+
+pub too_large : (bs : List ℕ) (k n : ℕ) → 0 < k → k ≤ length bs → n ≡ low_first (drop k bs)
+    → 2 ^ 64 ≤ n * 256 → None ≡ stored_number bs
+too_large bs zero n some within is large = absurd (omega (arith, some))
+too_large bs (suc k) n some within is large =
+    let next : suc k ≡ k + 1 = omega arith in
+    let step = low_step bs k (omega (arith, within)) in
+    let behind : n ≡ low_first (drop (k + 1) bs) = is ∙ ap (λ (m : ℕ). low_first (drop m bs)) next in
+    stored_none bs (omega (arith, step, behind, large, low_drop bs k))
+
+-- ---- parts
+
+nothing_taken : (k : ℕ) → take {A = Place} k [] ≡ []
+nothing_taken zero = refl
+nothing_taken (suc k) = refl
+
+flat_map-append : {X Y : Type 0} (f : X → List Y) (xs ys : List X)
+    → flat_map f (xs ++ ys) ≡ flat_map f xs ++ flat_map f ys
+flat_map-append f [] ys = refl
+flat_map-append {X} {Y} f (x ∷ xs) ys =
+    ap (λ (zs : List Y). f x ++ zs) (flat_map-append f xs ys)
+    ∙ sym (append_assoc (f x) (flat_map f xs) (flat_map f ys))
+
+take_split : (m n : ℕ) (xs : List Place) → m ≤ n → take m xs ++ take (n - m) (drop m xs) ≡ take n xs
+take_split zero n xs h = let same : n - 0 ≡ n = omega arith in ap (λ (k : ℕ). take k xs) same
+take_split (suc m) zero xs h = absurd (omega (arith, h))
+take_split (suc m) (suc n) [] h = nothing_taken (suc n - suc m)
+take_split (suc m) (suc n) (x ∷ xs) h =
+    let same : suc n - suc m ≡ n - m = omega arith in
+    ap (λ (ys : List Place). x ∷ ys)
+    (ap (λ (k : ℕ). take m xs ++ take k (drop m xs)) same ∙ take_split m n xs (omega (arith, h)))
+
+lines_more : (all first : ℕ) (parts : List (List Place)) (ps : List Place)
+    → part_lines all first (parts ++ ps ∷ [])
+    ≡ part_lines all first parts ++ part_line all (first + length (flat_map (λ (x : List Place). x) parts)) ps
+lines_more all first [] ps =
+    let same : first ≡ first + 0 = omega arith in
+    append-nil (part_line all first ps) ∙ ap (λ (n : ℕ). part_line all n ps) same
+lines_more all first (x ∷ parts) ps =
+    let same : first + length x + length (flat_map (λ (y : List Place). y) parts)
+    ≡ first + length (x ++ flat_map (λ (y : List Place). y) parts)
+    = omega (arith, length-append x (flat_map (λ (y : List Place). y) parts)) in
+    ap (λ (text : List ℕ). part_line all first x ++ text) (lines_more all (first + length x) parts ps)
+    ∙ sym (append_assoc (part_line all first x) (part_lines all (first + length x) parts)
+    (part_line all (first + length x + length (flat_map (λ (y : List Place). y) parts)) ps))
+    ∙ ap (λ (n : ℕ). (part_line all first x ++ part_lines all (first + length x) parts)
+    ++ part_line all n ps) same
+
+-- some blocks were printed, in parts
+abbrev pub PrintedTo : ℕ → ℕ → List Place → (old new : Option (List ℕ)) → Type 0
+PrintedTo all n places old new = (parts : List (List Place))
+    × (flat_map (λ (ps : List Place). ps) parts ≡ take n places)
+    × Appends old new (part_lines all 0 parts)
+
+pub printed_more : (all start end : ℕ) (places part : List Place) (old left new : Option (List ℕ))
+    → start ≤ end → end ≤ length places → part ≡ take (end - start) (drop start places)
+    → PrintedTo all start places old left → Appends left new (part_line all start part)
+    → PrintedTo all end places old new
+printed_more all start end places part old left new up within is before more =
+    let parts = before.0 in
+    let long : length (flat_map (λ (ps : List Place). ps) parts) ≡ start =
+    ap length before.1 ∙ length-take start places (omega (arith, up, within)) in
+    let number : start ≡ 0 + length (flat_map (λ (ps : List Place). ps) parts) = omega (arith, long) in (
+      parts ++ part ∷ [],
+      flat_map-append (λ (ps : List Place). ps) parts (part ∷ [])
+          ∙ ap (λ (qs : List Place). flat_map (λ (ps : List Place). ps) parts ++ qs) (append-nil part)
+          ∙ ap (λ (qs : List Place). qs ++ part) before.1
+          ∙ ap (λ (qs : List Place). take start places ++ qs) is
+          ∙ take_split start end places up,
+      subst (Appends old new) (sym (lines_more all 0 parts part))
+          (Appends-trans old left new (part_lines all 0 parts)
+          (part_line all (0 + length (flat_map (λ (ps : List Place). ps) parts)) part) before.2
+          (subst (λ (n : ℕ). Appends left new (part_line all n part)) number more)),
+    )

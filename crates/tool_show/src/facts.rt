@@ -6,7 +6,7 @@ ghost use Rattle.sst_entries.specs.declared.error.Error.{Error as Refusal};
 ghost use Rattle.sst_entries.specs.declared.error.Error.TheVariants.{OutOfMemory};
 ghost use Rattle.lsm_block_indexes.specs.Dealt.{DealsEnding};
 ghost use Rattle.tool_show.specs.Printed.{first_error};
-ghost use Rattle.tool_show.specs.Stats.{AreDataPlaces, data_handles, lies_at};
+ghost use Rattle.tool_show.specs.Stats.{AreDataPlaces, data_handles, lies_at, stored_number};
 ghost use Rattle.std.specs.Iterator.{IsFinite};
 
 use crate::blocks::source_of;
@@ -77,10 +77,16 @@ pub(crate) const ITEMS: [(ItemName, Shown); 29] = [
 ];
 
 /// The number of bytes that are stored with the lowest first, where it is below 2^64.
-pub(crate) fn little_endian(bytes: &[u8]) -> Option<u64> {
+pub(crate) fn little_endian(bytes: &[u8]) -> Option<u64>
+    ensures { result ≡ stored_number bytes.now }
+{
     let mut number = 0u64;
-    for byte in bytes.iter().rev() {
-        number = number.checked_mul(256)?.checked_add(u64::from(*byte))?;
+    let mut index = bytes.len();
+    while index > 0 {
+        index -= 1;
+        number = number
+            .checked_mul(256)?
+            .checked_add(u64::from(bytes[index]))?;
     }
     Some(number)
 }

@@ -1,20 +1,23 @@
 //! What tables say of themselves.
-ghost use Rattle.std.specs.Prelude.{◌≡◌, IfErr, IfOk, Some, false};
+ghost use Rattle.std.specs.Prelude.{◌≡◌, IfErr, IfOk, OnOk, Some, false};
+ghost use Rattle.std.specs.Io.KnownBytes.{Appends};
 ghost use Rattle.sst_entries.specs.Error.{is_memory};
 ghost use Rattle.sst_entries.specs.declared.error.Error.TheVariants.{OutOfMemory};
 ghost use Rattle.tool_show.specs.Failures.{BlamesNoFile, FailsAs, NamesOnly};
-ghost use Rattle.tool_show.specs.Stats.{IsStatRefusal, meta_fault, meta_value};
+ghost use Rattle.tool_show.specs.Stats.{IsStatRefusal, filter_kind_text, item_line, item_text};
+ghost use Rattle.tool_show.specs.Stats.{kind_text, kinds_line, meta_fault, meta_value, number_as};
+ghost use Rattle.tool_show.specs.Stats.{passed_text, spread_line, value_text};
 
 use crate::error::Failure;
 use crate::facts::{
     ITEMS, NamedPlace, Place, Shown, Spread, blocks_of, little_endian, sections_of, spread_of,
 };
 use crate::names::item_name;
-use crate::picture::{print_blocks, print_sections};
+use crate::picture::{print_blocks, print_left, print_sections};
 use crate::{NamedTable, ShowError};
 use json::Writer;
 use lsm_formats::ItemName;
-use lsm_readers::Table;
+use lsm_readers::{ParsedRegions, Table};
 use sst_blocks::{Error, Header, Slice};
 use std::alloc::{AllocError, Allocator};
 use std::io::{self, Write};
@@ -79,7 +82,7 @@ fn parts_of<A: Allocator + Copy>(alloc: A, table: &Table<A>) -> Result<Parts<A>,
         size: table.file_len() as u64,
         entries: table.metadata.item_count,
         index: kind_of(table.regions.index.is_some()),
-        filter: filter_of(table),
+        filter: filter_of(&table.regions),
         spread: spread_of(filter_bytes, keys),
         sections,
         blocks,
@@ -111,7 +114,9 @@ fn number_of<A: Allocator + Copy>(table: &Table<A>, item: ItemName) -> Result<Op
     }
 }
 
-fn kind_of(has_partitions: bool) -> &'static str {
+fn kind_of(has_partitions: bool) -> &'static str
+    ensures { result.now ≡ kind_text has_partitions }
+{
     if has_partitions {
         "partitioned"
     } else {
@@ -119,11 +124,13 @@ fn kind_of(has_partitions: bool) -> &'static str {
     }
 }
 
-fn filter_of<A: Allocator>(table: &Table<A>) -> &'static str {
-    if table.regions.filter.is_none() {
-        "none"
+fn filter_of(regions: &ParsedRegions) -> &'static str
+    ensures { result.now ≡ filter_kind_text regions.now }
+{
+    if regions.filter.is_some() {
+        kind_of(regions.filter_tli.is_some())
     } else {
-        kind_of(table.regions.filter_tli.is_some())
+        "none"
     }
 }
 
@@ -162,10 +169,12 @@ fn print_item<A: Allocator + Copy, W: Write>(
     item: ItemName,
     shown: Shown,
 ) -> Result<(), Failure>
+    ensures printed { OnOk result (Appends (W.contents output.old) (W.contents output.new)
+        (item_line table.now (item, shown))) }
     ensures refused { IfErr result (FailsAs (λ e. meta_fault table.now ≡ Some e)) }
 {
     match item_of(table, item)? {
-        Some(value) => print_value(alloc, output, item_name(item), &value, shown),
+        Some(value) => print_value(alloc, output, item, &value, shown),
         None => Ok(()),
     }
 }
@@ -173,23 +182,42 @@ fn print_item<A: Allocator + Copy, W: Write>(
 fn print_value<A: Allocator + Copy, W: Write>(
     alloc: A,
     output: &mut W,
-    name: &str,
+    item: ItemName,
     value: &Slice<A>,
     shown: Shown,
 ) -> Result<(), Failure>
+    ensures printed { OnOk result (Appends (W.contents output.old) (W.contents output.new)
+        (item_text item shown (Some value.now))) }
     ensures refused { IfErr result BlamesNoFile }
 {
-    write!(output, "  {name:<26} ")?;
-    let number = number_shown(value.as_slice(), shown);
-    if let Some(number) = number {
-        return Ok(writeln!(output, "{number}")?);
-    }
-    let text = append_bytes(Vec::new(alloc), value.as_slice())?;
-    output.write_all(&text)?;
+    output.write_all(b"  ")?;
+    print_left(output, item.key(), 26)?;
+    output.write_all(b" ")?;
+    print_shown(alloc, output, value.as_slice(), shown)?;
     Ok(output.write_all(b"\n")?)
 }
 
-fn number_shown(value: &[u8], shown: Shown) -> Option<u64> {
+// A value as a number, or else as a word.
+fn print_shown<A: Allocator + Copy, W: Write>(
+    alloc: A,
+    output: &mut W,
+    value: &[u8],
+    shown: Shown,
+) -> Result<(), Failure>
+    ensures printed { OnOk result (Appends (W.contents output.old) (W.contents output.new)
+        (value_text shown value.now)) }
+    ensures refused { IfErr result BlamesNoFile }
+{
+    if let Some(number) = number_shown(value, shown) {
+        return Ok(write!(output, "{number}")?);
+    }
+    let text = append_bytes(Vec::new(alloc), value)?;
+    Ok(output.write_all(&text)?)
+}
+
+fn number_shown(value: &[u8], shown: Shown) -> Option<u64>
+    ensures { result ≡ number_as shown value.now }
+{
     match shown {
         Shown::Number => little_endian(value),
         Shown::Bytes => None,
@@ -197,21 +225,37 @@ fn number_shown(value: &[u8], shown: Shown) -> Option<u64> {
 }
 
 fn print_summary<A: Allocator, W: Write>(output: &mut W, parts: &Parts<A>) -> io::Result<()> {
-    let (index, filter) = (parts.index, parts.filter);
-    writeln!(output, "index {index}, filter {filter}")?;
+    print_kinds(output, parts.index, parts.filter)?;
     match parts.spread {
         Some(spread) if parts.filter != "none" => print_spread(output, spread),
         _ => Ok(()),
     }
 }
 
-fn print_spread<W: Write>(output: &mut W, spread: Spread) -> io::Result<()> {
+fn print_kinds<W: Write>(output: &mut W, index: &str, filter: &str) -> io::Result<()>
+    ensures { OnOk result (Appends (W.contents output.old) (W.contents output.new)
+        (kinds_line index.now filter.now)) }
+{
+    writeln!(output, "index {index}, filter {filter}")
+}
+
+fn print_spread<W: Write>(output: &mut W, spread: Spread) -> io::Result<()>
+    ensures { OnOk result (Appends (W.contents output.old) (W.contents output.new)
+        (spread_line spread)) }
+{
     let (bits, tenths) = (spread.tenths / 10, spread.tenths % 10);
-    let (percent, rest) = (spread.passed / 10_000, spread.passed % 10_000 / 100);
-    writeln!(
-        output,
-        "filter {bits}.{tenths} bits a key, about {percent}.{rest:02} % false answers"
-    )
+    write!(output, "filter {bits}.{tenths} bits a key, about ")?;
+    print_passed(output, spread.passed)
+}
+
+// How many of a million keys pass, in hundredths of a hundredth.
+fn print_passed<W: Write>(output: &mut W, passed: u64) -> io::Result<()>
+    ensures { OnOk result (Appends (W.contents output.old) (W.contents output.new)
+        (passed_text passed)) }
+{
+    let (percent, rest) = (passed / 10_000, passed % 10_000 / 100);
+    let (tens, ones) = (rest / 10, rest % 10);
+    writeln!(output, "{percent}.{tens}{ones} % false answers")
 }
 
 fn print_pictures<A: Allocator, W: Write>(output: &mut W, parts: &Parts<A>) -> io::Result<()> {
