@@ -146,9 +146,10 @@ pub printed_more : (all start end : ℕ) (places part : List Place) (old left ne
     → PrintedTo all end places old new
 printed_more all start end places part old left new up within is before more =
     let parts = before.0 in
-    let long : length (flat_map (λ (ps : List Place). ps) parts) ≡ start =
-    ap length before.1 ∙ length-take start places (omega (arith, up, within)) in
-    let number : start ≡ 0 + length (flat_map (λ (ps : List Place). ps) parts) = omega (arith, long) in (
+    let long : length (flat_map (λ (ps : List Place). ps) parts) ≡ length (take start places)
+    = ap length before.1 in
+    let number : start ≡ 0 + length (flat_map (λ (ps : List Place). ps) parts)
+    = omega (arith, long, length-take start places, up, within) in (
       parts ++ part ∷ [],
       flat_map-append (λ (ps : List Place). ps) parts (part ∷ [])
           ∙ ap (λ (qs : List Place). flat_map (λ (ps : List Place). ps) parts ++ qs) (append-nil part)
