@@ -6,7 +6,15 @@ use Rattle.std.proofs.lemmas.List.{length-append, map-append}
 use Rattle.std.proofs.lemmas.List.{length-take}
 use Rattle.std.specs.Io.KnownBytes.{Appends}
 use Rattle.std.proofs.KnownBytes.{Appends-trans}
-use Rattle.std.specs.List.{flat_map}
+use Rattle.std.specs.List.{filter_map, flat_map}
+use Rattle.std.specs.Prelude.{OnOk, codes, option_to_list}
+use Rattle.lsm_readers.specs.Table.{OpenTable}
+use Rattle.tool_show.specs.Lines.{PrintsText}
+use Rattle.tool_show.specs.Stats.{IsBlocksText, IsPartsText, IsPicturesText, data_line, item_line}
+use Rattle.tool_show.specs.Stats.{named_line, shown_items, summary_text, title_line}
+use Rattle.tool_show.specs.declared.facts.NamedPlace.{NamedPlace}
+use Rattle.tool_show.specs.declared.facts.Shown.{Shown}
+use Rattle.tool_show.specs.declared.stats.Parts.{Parts}
 use Rattle.std.specs.Prelude.{Option, None, Some, Result, Ok, Err, IfErr, false, map, nat_lt, if◌then◌else◌}
 use Rattle.sst_blocks.specs.Block.{Loaded, entries_of}
 use Rattle.sst_entries.specs.Entry.{Entry}
@@ -160,4 +168,72 @@ printed_more all start end places part old left new up within is before more =
           (Appends-trans old left new (part_lines all 0 parts)
           (part_line all (0 + length (flat_map (λ (ps : List Place). ps) parts)) part) before.2
           (subst (λ (n : ℕ). Appends left new (part_line all n part)) number more)),
+    )
+
+-- ---- sections
+
+gathered_by : {X Y : Type 0} (h : X → Option Y) (x : X) (xs : List X) (o : Option Y) → h x ≡ o
+    → filter_map h (x ∷ xs) ≡ option_to_list o ++ filter_map h xs
+gathered_by h x xs None is = search (rules, is)
+gathered_by h x xs (Some y) is = search (rules, is)
+
+gathered_last : {X Y : Type 0} (h : X → Option Y) (xs : List X) (n : X)
+    → filter_map h (xs ++ n ∷ []) ≡ filter_map h xs ++ option_to_list (h n)
+gathered_last h [] n = gathered_by h n [] (h n) refl ∙ append-nil (option_to_list (h n))
+gathered_last {X} {Y} h (x ∷ xs) n =
+    gathered_by h x (xs ++ n ∷ []) (h x) refl
+    ∙ ap (λ (ys : List Y). option_to_list (h x) ++ ys) (gathered_last h xs n)
+    ∙ sym (append_assoc (option_to_list (h x)) (filter_map h xs) (option_to_list (h n)))
+    ∙ ap (λ (ys : List Y). ys ++ option_to_list (h n)) (sym (gathered_by h x xs (h x) refl))
+
+-- one more
+pub gathered_more : {X Y : Type 0} (h : X → Option Y) (xs : List X) (n : X) (s t : List Y)
+    → s ≡ filter_map h xs → t ≡ s ++ option_to_list (h n) → t ≡ filter_map h (xs ++ n ∷ [])
+gathered_more {X} {Y} h xs n s t before is =
+    is ∙ ap (λ (ys : List Y). ys ++ option_to_list (h n)) before ∙ sym (gathered_last h xs n)
+
+-- ---- texts
+
+-- the sections and the data blocks
+pub pictures_text : {E : Type 0} (told : Result (Unit {0}) E) (sections seen : List NamedPlace)
+    (places shown : List Place) (count entries all : ℕ) (a b c d e : Option (List ℕ))
+    → seen ≡ sections → shown ≡ places → count ≡ length places
+    → Appends a b (codes "sections           offset        bytes   share\n")
+    → Appends b c (flat_map (λ (s : NamedPlace). named_line all (s.name.now, s.place)) seen)
+    → Appends c d (data_line count entries) → OnOk told (PrintsText (IsBlocksText all shown) d e)
+    → OnOk told (PrintsText (IsPicturesText sections places entries all) a e)
+pictures_text (Err u) sections seen places shown count entries all a b c d e p q r head lines counts blocks = tt
+pictures_text (Ok u) sections seen places shown count entries all a b c d e p q r head lines counts blocks =
+    let Lines = λ (ss : List NamedPlace).
+    flat_map (λ (s : NamedPlace). named_line all (s.name.now, s.place)) ss in
+    let one = codes "sections           offset        bytes   share\n" in
+    let three = data_line (length places) entries in
+    let first = subst (λ (ss : List NamedPlace). Appends b c (Lines ss)) p lines in
+    let second = subst (λ (n : ℕ). Appends c d (data_line n entries)) r counts in
+    let third = subst (λ (ps : List Place). PrintsText (IsBlocksText all ps) d e) q blocks in (
+      one ++ (Lines sections ++ (three ++ third.0)),
+      (third.0, third.1, refl),
+      Appends-trans a b e one (Lines sections ++ (three ++ third.0)) head
+          (Appends-trans b c e (Lines sections) (three ++ third.0) first
+          (Appends-trans c d e three third.0 second third.2)),
+    )
+
+-- all that is printed of values
+pub parts_text : {A : Type 0} (t : OpenTable) (name : List ℕ) (p : Parts A)
+    (items : List (ItemName × Shown)) (a b c d e : Option (List ℕ)) → items ≡ shown_items
+    → Appends a b (title_line name p.size) → Appends b c (flat_map (item_line t) items)
+    → Appends c d (summary_text p.index.now p.filter.now p.spread)
+    → PrintsText (IsPicturesText p.sections.items p.blocks.items p.entries p.size) d e
+    → PrintsText (IsPartsText t name p) a e
+parts_text {A} t name p items a b c d e is title lines summary pictures =
+    let one = title_line name p.size in
+    let two = flat_map (item_line t) shown_items in
+    let three = summary_text p.index.now p.filter.now p.spread in
+    let first = subst (λ (xs : List (ItemName × Shown)). Appends b c (flat_map (item_line t) xs)) is
+    lines in (
+      one ++ (two ++ (three ++ pictures.0)),
+      (pictures.0, pictures.1, refl),
+      Appends-trans a b e one (two ++ (three ++ pictures.0)) title
+          (Appends-trans b c e two (three ++ pictures.0) first
+          (Appends-trans c d e three pictures.0 summary pictures.2)),
     )
