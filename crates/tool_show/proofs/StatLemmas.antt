@@ -10,6 +10,7 @@ use Rattle.std.specs.List.{filter_map, flat_map}
 use Rattle.std.specs.Prelude.{OnOk, codes, option_to_list}
 use Rattle.lsm_readers.specs.Table.{OpenTable}
 use Rattle.tool_show.specs.Lines.{PrintsText}
+use Rattle.tool_show.specs.Stats.{AreValuesOf, IsStatText}
 use Rattle.tool_show.specs.Stats.{IsBlocksText, IsPartsText, IsPicturesText, data_line, item_line}
 use Rattle.tool_show.specs.Stats.{named_line, shown_items, summary_text, title_line}
 use Rattle.tool_show.specs.declared.facts.NamedPlace.{NamedPlace}
@@ -237,3 +238,11 @@ parts_text {A} t name p items a b c d e is title lines summary pictures =
           (Appends-trans b c e two (three ++ pictures.0) first
           (Appends-trans c d e three pictures.0 summary pictures.2)),
     )
+
+-- those of a table's values
+pub stat_text : {E A : Type 0} (told : Result (Unit {0}) E) (t : OpenTable) (name : List ℕ)
+    (p : Parts A) (a b : Option (List ℕ)) → AreValuesOf t p
+    → OnOk told (PrintsText (IsPartsText t name p) a b)
+    → OnOk told (PrintsText (IsStatText A t name) a b)
+stat_text (Ok u) t name p a b are printed = (printed.0, (p, are, printed.1), printed.2)
+stat_text (Err u) t name p a b are printed = tt
