@@ -53,12 +53,7 @@ pub(crate) fn print_blocks<W: Write>(output: &mut W, blocks: &[Place], all: u64)
 }
 
 // The line of some of the data blocks, which begin with the one of this number.
-fn print_part<W: Write>(
-    output: &mut W,
-    first: usize,
-    part: &[Place],
-    all: u64,
-) -> io::Result<()>
+fn print_part<W: Write>(output: &mut W, first: usize, part: &[Place], all: u64) -> io::Result<()>
     ensures { OnOk result (Appends (W.contents output.old) (W.contents output.new)
         (part_line all first part.now)) }
 {

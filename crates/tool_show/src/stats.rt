@@ -118,10 +118,7 @@ fn spread_of_filter<A: Allocator>(table: &Table<A>, bytes: u64, keys: u64) -> Op
 }
 
 // The value of an item of the meta block, if there is one. Refused as loading that block is.
-fn item_of<A: Allocator + Copy>(
-    table: &Table<A>,
-    item: ItemName,
-) -> Result<Option<Slice<A>>, Error>
+fn item_of<A: Allocator + Copy>(table: &Table<A>, item: ItemName) -> Result<Option<Slice<A>>, Error>
     ensures ok { IfOk result (λ value. value ≡ meta_value table.now item) }
     ensures refused { IfErr result (λ e. is_memory e ≡ false → meta_fault table.now ≡ Some e) }
 {
@@ -358,10 +355,7 @@ fn tenths_each(entries: u64, count: u64) -> u64
     ensures { result ≡
         (if count == 0 then 0 else min (entries * 10) (2 ^ 64 - 1) / count) }
 {
-    entries
-        .saturating_mul(10)
-        .checked_div(count)
-        .unwrap_or(0)
+    entries.saturating_mul(10).checked_div(count).unwrap_or(0)
 }
 
 fn print_object<A: Allocator + Copy, W: Write>(
