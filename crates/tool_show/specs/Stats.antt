@@ -1,7 +1,8 @@
 -- What is told of a table by what it says of itself.
-use Rattle.std.specs.Prelude.{◌≡◌, ◌⊎◌, ℕ, ◌+◌, ◌-◌, ◌*◌, ◌/◌, ◌%◌, ◌^◌, ◌==◌, zero, suc, Bool, true, false}
-use Rattle.std.specs.Prelude.{List, [], ◌∷◌, ◌++◌, codes, length, map, min, nat_lt, replicate, sum_by}
-use Rattle.std.specs.Prelude.{Option, None, Some, Result, Ok, Err, if◌then◌else◌, is_some, unwrap_or}
+use Rattle.std.specs.Prelude.{◌≡◌, ◌⊎◌, ℕ, ◌+◌, ◌-◌, ◌*◌, ◌/◌, ◌%◌, ◌^◌, ◌==◌, zero, suc, Bool}
+use Rattle.std.specs.Prelude.{true, false, List, [], ◌∷◌, ◌++◌, codes, length, map, min, nat_lt}
+use Rattle.std.specs.Prelude.{replicate, sum_by, Option, None, Some, Result, Ok, Err, is_some}
+use Rattle.std.specs.Prelude.{if◌then◌else◌, unwrap_or}
 use Rattle.std.specs.Fmt.{decimal}
 use Rattle.std.specs.List.{filter_map, flat_map}
 use Rattle.std.specs.Option.{option_map}
@@ -124,7 +125,8 @@ part_lines all first (ps ∷ parts) =
 -- the lines of data blocks, cut into parts
 abbrev pub IsBlocksText : ℕ → List Place → List ℕ → Type 0
 IsBlocksText all places text =
-    (parts : List (List Place)) × (flat_map (λ ps. ps) parts ≡ places) × (text ≡ part_lines all 0 parts)
+    (parts : List (List Place)) × (flat_map (λ ps. ps) parts ≡ places)
+    × (text ≡ part_lines all 0 parts)
 
 -- ---- the kinds, and how the filter is spread
 
@@ -143,8 +145,8 @@ passed_text passed = let rest = passed % 10000 / 100 in decimal (passed / 10000)
 
 -- tenths of a bit for each key, and how many keys that are not there pass
 abbrev pub spread_line : Spread → List ℕ
-spread_line s = (codes "filter " ++ (decimal (s.tenths / 10) ++ (codes "." ++ (decimal (s.tenths % 10)
-    ++ codes " bits a key, about ")))) ++ passed_text s.passed
+spread_line s = (codes "filter " ++ (decimal (s.tenths / 10) ++ (codes "."
+    ++ (decimal (s.tenths % 10) ++ codes " bits a key, about ")))) ++ passed_text s.passed
 
 -- the kinds of the index and of the filter
 abbrev pub kinds_line : List ℕ → List ℕ → List ℕ
@@ -171,6 +173,7 @@ abbrev pub number_or_word : Option ℕ → List ℕ → List ℕ
 number_or_word None value = bytes_word value
 number_or_word (Some n) value = decimal n
 
+-- a value as it is shown
 abbrev pub value_text : Shown → List ℕ → List ℕ
 value_text shown value = number_or_word (number_as shown value) value
 
@@ -180,6 +183,7 @@ item_text item shown None = []
 item_text item shown (Some value) = codes "  " ++ (on_left 26 (name_of item)
     ++ (codes " " ++ (value_text shown value ++ codes "\n")))
 
+-- the line of an item of a table
 abbrev pub item_line : OpenTable → ItemName × Shown → List ℕ
 item_line t x = item_text x.0 x.1 (meta_value t x.0)
 
@@ -224,6 +228,7 @@ abbrev pub number_in : Option (List ℕ) → Option ℕ
 number_in None = None
 number_in (Some value) = stored_number value
 
+-- that of an item of a table
 abbrev pub item_number : OpenTable → ItemName → Option ℕ
 item_number t i = number_in (meta_value t i)
 
@@ -237,11 +242,12 @@ abbrev pub let_through : ℕ → ℕ
 let_through zero = 1000000
 let_through (suc n) = min (let_through n * 9531) (2 ^ 64 - 1) / 10000
 
+-- how a filter of so many bytes of bits is spread over so many keys
 abbrev pub spread_over : ℕ → ℕ → Spread
 spread_over bytes keys = let tenths = min (min (bytes * 8) (2 ^ 64 - 1) * 10) (2 ^ 64 - 1) / keys in
     record { tenths = tenths; passed = let_through (min tenths 300) }
 
--- how a filter of so many bytes of bits is spread over so many keys, where there is one
+-- the same where there is a key
 abbrev pub spread_by : ℕ → ℕ → Option Spread
 spread_by bytes keys = if keys == 0 then None else Some (spread_over bytes keys)
 
@@ -266,12 +272,15 @@ sections_told bytes = filter_map (section_place bytes) section_names
 
 -- ---- the whole
 
+-- a part of a file, by its name and its place
 abbrev pub named_as : NamedPlace → List ℕ × Place
 named_as s = (s.name.now, s.place)
 
+-- the name of a file and its length
 abbrev pub title_line : List ℕ → ℕ → List ℕ
 title_line name size = name ++ (codes ": " ++ (decimal size ++ codes " bytes\n"))
 
+-- how a filter is spread, where there is one
 abbrev pub spread_text : Option Spread → List ℕ
 spread_text None = []
 spread_text (Some s) = spread_line s

@@ -8,9 +8,9 @@ ghost use Rattle.sst_entries.specs.declared.error.Error.{Error as Refusal};
 ghost use Rattle.sst_entries.specs.declared.error.Error.TheVariants.{OutOfMemory};
 ghost use Rattle.lsm_block_indexes.specs.Dealt.{DealsEnding};
 ghost use Rattle.tool_show.specs.Printed.{first_error};
-ghost use Rattle.tool_show.specs.Stats.{AreDataPlaces, data_handles, let_through, lies_at, named_as};
-ghost use Rattle.tool_show.specs.Stats.{section_place, sections_told, spread_by, stored_number};
-ghost use Rattle.tool_show.specs.Stats.{trailer_told};
+ghost use Rattle.tool_show.specs.Stats.{AreDataPlaces, data_handles, let_through, lies_at};
+ghost use Rattle.tool_show.specs.Stats.{named_as, section_place, sections_told, spread_by};
+ghost use Rattle.tool_show.specs.Stats.{stored_number, trailer_told};
 ghost use Rattle.std.specs.Iterator.{IsFinite};
 
 use crate::blocks::source_of;

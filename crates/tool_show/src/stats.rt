@@ -8,11 +8,11 @@ ghost use Rattle.sst_entries.specs.declared.error.Error.TheVariants.{OutOfMemory
 ghost use Rattle.tool_show.specs.Failures.{BlamesNoFile, FailsAs, NamesOnly};
 ghost use Rattle.tool_show.specs.Lines.{PrintsText};
 ghost use Rattle.tool_show.specs.Stats.{AreValuesOf, IsPartsText, IsPicturesText, IsStatRefusal};
-ghost use Rattle.tool_show.specs.Stats.{IsStatText, data_line, each_text, filter_bits, filter_kind_text};
-ghost use Rattle.tool_show.specs.Stats.{item_line, item_number, item_text, kind_text, kinds_line};
-ghost use Rattle.tool_show.specs.Stats.{meta_fault, meta_value, number_as, passed_text};
-ghost use Rattle.tool_show.specs.Stats.{spread_by, spread_line, summary_text, title_line};
-ghost use Rattle.tool_show.specs.Stats.{value_text};
+ghost use Rattle.tool_show.specs.Stats.{IsStatText, data_line, each_text, filter_bits};
+ghost use Rattle.tool_show.specs.Stats.{filter_kind_text, item_line, item_number, item_text};
+ghost use Rattle.tool_show.specs.Stats.{kind_text, kinds_line, meta_fault, meta_value, number_as};
+ghost use Rattle.tool_show.specs.Stats.{passed_text, spread_by, spread_line, summary_text};
+ghost use Rattle.tool_show.specs.Stats.{title_line, value_text};
 ghost use Rattle.tool_lines.specs.declared.entry_line.Format.TheVariants.{Lines};
 
 use crate::error::Failure;
