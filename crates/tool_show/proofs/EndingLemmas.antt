@@ -21,7 +21,7 @@ module _ {S X : Type 0} (front back : S → Option (Result X Error) → S → Ty
 
   pub ends_up : (may may_back : S → Type 0) (s : S) (xs : List (Result X Error))
       → DealsEnding front back may may_back s xs → EndsUp s xs
-  ends_up may may_back s xs d = record { answers = d.answers; }
+  ends_up may may_back s xs d = record { answers = d.answers }
 
   -- the first of some answers, and those behind an entry
   abbrev head_of : (r : Option (Result X Error)) (rs ys : List (Option (Result X Error)))
@@ -111,7 +111,7 @@ module _ {S X : Type 0} (front back : S → Option (Result X Error) → S → Ty
 
   pub comes_none : (s : S) (from_end : Bool) (n : ℕ) (xs : List (Result X Error)) → EndsUp s xs
       → Comes s from_end n (dumped from_end n xs)
-  comes_none s from_end n xs d = record { came = []; rest = xs; deals = d; whole = refl; }
+  comes_none s from_end n xs d = record { came = []; rest = xs; deals = d; whole = refl }
 
   pub comes_one : (s t : S) (from_end : Bool) (k : ℕ) (r : Result X Error) (x : X)
       (all : List (Result X Error)) → 0 < k → r ≡ Ok x → Comes s from_end k all
@@ -167,7 +167,7 @@ module _ {S X : Type 0} (front back : S → Option (Result X Error) → S → Ty
 
   pub came_none : (s : S) (xs : List (Result X Error)) → EndsUp s xs
       → (before : Came s xs) × (before.came ≡ [])
-  came_none s xs d = (record { came = []; rest = xs; deals = d; whole = refl; }, refl)
+  came_none s xs d = (record { came = []; rest = xs; deals = d; whole = refl }, refl)
 
   pub came_one : (s t : S) (x : X) (all : List (Result X Error)) (before : Came s all)
       → front s (Some (Ok x)) t

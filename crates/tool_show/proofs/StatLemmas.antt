@@ -1,10 +1,22 @@
 -- What a table says of itself, and why not.
 use Rattle.std.proofs.Common.{◌≡◌, refl, sym, ◌∙◌, ap, ℕ, zero, suc, ◌+◌, ◌-◌, ◌^◌, List, [], ◌∷◌}
-use Rattle.std.proofs.Common.{◌++◌, length, append-nil, arith, rules, subst}
-use Rattle.std.proofs.lemmas.List.{map-append}
-use Rattle.std.specs.Prelude.{Option, None, Some, Result, Ok, Err, IfErr, false, true, map, replicate}
-use Rattle.std.specs.List.{repeat}
-use Rattle.std.specs.Fmt.{decimal, format_spec, padded_integral, styled_decimal}
+use Rattle.std.proofs.Common.{◌++◌, length, append-nil, append_assoc, arith, rules, subst, get_or, drop, take}
+use Rattle.std.proofs.Common.{◌*◌, ◌<◌, ◌≤◌, Bool, true}
+use Rattle.std.proofs.lemmas.List.{length-append, map-append}
+use Rattle.std.proofs.lemmas.List.{length-take}
+use Rattle.std.specs.Io.KnownBytes.{Appends}
+use Rattle.std.proofs.KnownBytes.{Appends-trans}
+use Rattle.std.specs.List.{filter_map, flat_map}
+use Rattle.std.specs.Prelude.{OnOk, codes, option_to_list}
+use Rattle.lsm_readers.specs.Table.{OpenTable}
+use Rattle.tool_show.specs.Lines.{PrintsText}
+use Rattle.tool_show.specs.Stats.{AreValuesOf, IsStatText}
+use Rattle.tool_show.specs.Stats.{IsBlocksText, IsPartsText, IsPicturesText, data_line, item_line}
+use Rattle.tool_show.specs.Stats.{named_line, shown_items, summary_text, title_line}
+use Rattle.tool_show.specs.declared.facts.NamedPlace.{NamedPlace}
+use Rattle.tool_show.specs.declared.facts.Shown.{Shown}
+use Rattle.tool_show.specs.declared.stats.Parts.{Parts}
+use Rattle.std.specs.Prelude.{Option, None, Some, Result, Ok, Err, IfErr, false, map, nat_lt, if◌then◌else◌}
 use Rattle.sst_blocks.specs.Block.{Loaded, entries_of}
 use Rattle.sst_entries.specs.Entry.{Entry}
 use Rattle.sst_entries.specs.declared.error.Error.{Error}
@@ -14,7 +26,8 @@ use Rattle.lsm_readers.specs.Meta.{item_told, value_told}
 use Rattle.lsm_readers.specs.Read.{◌>>=◌}
 use Rattle.lsm_readers.specs.Scan.{fault_of}
 use Rattle.sst_blocks.specs.Handle.{Handle}
-use Rattle.tool_show.specs.Stats.{is_missing, lies_at, on_right}
+use Rattle.tool_show.specs.Stats.{is_missing, lies_at, low_first, part_line, part_lines}
+use Rattle.tool_show.specs.Stats.{stored_number}
 use Rattle.tool_show.specs.declared.facts.Place.{Place}
 
 missing_by : (o : Option Entry) (e : Error) → value_told o ≡ Err e → e ≡ MetaKeyMissing
@@ -39,13 +52,197 @@ meta_refused (Err x) item e is other = let same : x ≡ e = cc in ap (λ (y : Er
 pub places_one : (ps : List Place) (came : List Handle) (x : Handle) (p : Place) (new : List Place)
     (now : List Handle) → ps ≡ map lies_at came → p ≡ lies_at x → new ≡ ps ++ p ∷ []
     → now ≡ came ++ x ∷ [] → new ≡ map lies_at now
-places_one ps came x p new now before is more then =
+places_one ps came x p new now before is more grown =
     more ∙ ap (λ (qs : List Place). qs ++ p ∷ []) before
     ∙ ap (λ (q : Place). map lies_at came ++ q ∷ []) is
     ∙ sym (map-append lies_at came (x ∷ []))
-    ∙ sym (ap (map lies_at) then)
+    ∙ sym (ap (map lies_at) grown)
 
 -- what holds of a refusal
 pub refused_is : {X : Type 0} (r : Result X Error) (e : Error) (P : Error → Type 0) → r ≡ Err e → P e
     → IfErr r P
 refused_is {X} r e P is holds = subst (λ (q : Result X Error). IfErr q P) (sym is) holds
+
+-- ---- numbers that are stored with the lowest byte first
+
+low_step : (bs : List ℕ) (k : ℕ) → k < length bs
+    → low_first (drop k bs) ≡ get_or bs k 0 + 256 * low_first (drop (k + 1) bs)
+low_step [] k h = absurd (omega (arith, h))
+low_step (b ∷ bs) zero h = refl
+low_step (b ∷ bs) (suc k) h =
+    let next : suc k + 1 ≡ suc (k + 1) = omega arith in
+    low_step bs k (omega (arith, h))
+    ∙ ap (λ (n : ℕ). get_or bs k 0 + 256 * low_first (drop n (b ∷ bs))) (sym next)
+
+low_drop : (bs : List ℕ) (k : ℕ) → low_first (drop k bs) ≤ low_first bs
+low_drop [] zero = omega arith
+low_drop [] (suc k) = omega arith
+low_drop (b ∷ bs) zero = omega arith
+low_drop (b ∷ bs) (suc k) = omega (arith, low_drop bs k)
+
+stored_by : (bs : List ℕ) (n : ℕ) (t : Bool) → nat_lt (low_first bs) (2 ^ 64) ≡ t
+    → stored_number bs ≡ (if t then Some (low_first bs) else None)
+stored_by bs n t is = ap (λ (b : Bool). if b then Some (low_first bs) else None) is
+
+-- one that fits
+pub stored_some : (bs : List ℕ) (n : ℕ) → n ≡ low_first bs → n < 2 ^ 64 → Some n ≡ stored_number bs
+stored_some bs n is fits =
+    let so : nat_lt (low_first bs) (2 ^ 64) ≡ true = grind (arith, is, fits) in
+    ap (λ (m : ℕ). Some m) is ∙ sym (stored_by bs n true so)
+
+-- one that does not
+pub stored_none : (bs : List ℕ) → 2 ^ 64 ≤ low_first bs → None ≡ stored_number bs
+stored_none bs large =
+    let not : nat_lt (low_first bs) (2 ^ 64) ≡ false = grind (arith, large) in
+    sym (stored_by bs 0 false not)
+
+pub too_large : (bs : List ℕ) (k n : ℕ) → 0 < k → k ≤ length bs → n ≡ low_first (drop k bs)
+    → 2 ^ 64 ≤ n * 256 → None ≡ stored_number bs
+too_large bs zero n some within is large = absurd (omega (arith, some))
+too_large bs (suc k) n some within is large =
+    let next : suc k ≡ k + 1 = omega arith in
+    let step = low_step bs k (omega (arith, within)) in
+    let behind : n ≡ low_first (drop (k + 1) bs) = is ∙ ap (λ (m : ℕ). low_first (drop m bs)) next in
+    stored_none bs (omega (arith, step, behind, large, low_drop bs k))
+
+-- ---- parts
+
+nothing_taken : (k : ℕ) → take {A = Place} k [] ≡ []
+nothing_taken zero = refl
+nothing_taken (suc k) = refl
+
+flat_map-append : {X Y : Type 0} (f : X → List Y) (xs ys : List X)
+    → flat_map f (xs ++ ys) ≡ flat_map f xs ++ flat_map f ys
+flat_map-append f [] ys = refl
+flat_map-append {X} {Y} f (x ∷ xs) ys =
+    ap (λ (zs : List Y). f x ++ zs) (flat_map-append f xs ys)
+    ∙ sym (append_assoc (f x) (flat_map f xs) (flat_map f ys))
+
+take_split : (m n : ℕ) (xs : List Place) → m ≤ n → take m xs ++ take (n - m) (drop m xs) ≡ take n xs
+take_split zero n xs h = let same : n - 0 ≡ n = omega arith in ap (λ (k : ℕ). take k xs) same
+take_split (suc m) zero xs h = absurd (omega (arith, h))
+take_split (suc m) (suc n) [] h = nothing_taken (suc n - suc m)
+take_split (suc m) (suc n) (x ∷ xs) h =
+    let same : suc n - suc m ≡ n - m = omega arith in
+    ap (λ (ys : List Place). x ∷ ys)
+    (ap (λ (k : ℕ). take m xs ++ take k (drop m xs)) same ∙ take_split m n xs (omega (arith, h)))
+
+lines_more : (all first : ℕ) (parts : List (List Place)) (ps : List Place)
+    → part_lines all first (parts ++ ps ∷ [])
+    ≡ part_lines all first parts ++ part_line all (first + length (flat_map (λ (x : List Place). x) parts)) ps
+lines_more all first [] ps =
+    let same : first ≡ first + 0 = omega arith in
+    append-nil (part_line all first ps) ∙ ap (λ (n : ℕ). part_line all n ps) same
+lines_more all first (x ∷ parts) ps =
+    let same : first + length x + length (flat_map (λ (y : List Place). y) parts)
+    ≡ first + length (x ++ flat_map (λ (y : List Place). y) parts)
+    = omega (arith, length-append x (flat_map (λ (y : List Place). y) parts)) in
+    ap (λ (text : List ℕ). part_line all first x ++ text) (lines_more all (first + length x) parts ps)
+    ∙ sym (append_assoc (part_line all first x) (part_lines all (first + length x) parts)
+    (part_line all (first + length x + length (flat_map (λ (y : List Place). y) parts)) ps))
+    ∙ ap (λ (n : ℕ). (part_line all first x ++ part_lines all (first + length x) parts)
+    ++ part_line all n ps) same
+
+-- some blocks were printed, in parts
+abbrev pub PrintedTo : ℕ → ℕ → List Place → (old new : Option (List ℕ)) → Type 0
+PrintedTo all n places old new = (parts : List (List Place))
+    × (flat_map (λ (ps : List Place). ps) parts ≡ take n places)
+    × Appends old new (part_lines all 0 parts)
+
+pub printed_more : (all start end : ℕ) (places part : List Place) (old left new : Option (List ℕ))
+    → start ≤ end → end ≤ length places → part ≡ take (end - start) (drop start places)
+    → PrintedTo all start places old left → Appends left new (part_line all start part)
+    → PrintedTo all end places old new
+printed_more all start end places part old left new up within is before more =
+    let parts = before.0 in
+    let long : length (flat_map (λ (ps : List Place). ps) parts) ≡ length (take start places)
+    = ap length before.1 in
+    let number : start ≡ 0 + length (flat_map (λ (ps : List Place). ps) parts)
+    = omega (arith, long, length-take start places, up, within) in (
+      parts ++ part ∷ [],
+      flat_map-append (λ (ps : List Place). ps) parts (part ∷ [])
+          ∙ ap (λ (qs : List Place). flat_map (λ (ps : List Place). ps) parts ++ qs) (append-nil part)
+          ∙ ap (λ (qs : List Place). qs ++ part) before.1
+          ∙ ap (λ (qs : List Place). take start places ++ qs) is
+          ∙ take_split start end places up,
+      subst (Appends old new) (sym (lines_more all 0 parts part))
+          (Appends-trans old left new (part_lines all 0 parts)
+          (part_line all (0 + length (flat_map (λ (ps : List Place). ps) parts)) part) before.2
+          (subst (λ (n : ℕ). Appends left new (part_line all n part)) number more)),
+    )
+
+-- ---- sections
+
+gathered_by : {X Y : Type 0} (h : X → Option Y) (x : X) (xs : List X) (o : Option Y) → h x ≡ o
+    → filter_map h (x ∷ xs) ≡ option_to_list o ++ filter_map h xs
+gathered_by h x xs None is = search (rules, is)
+gathered_by h x xs (Some y) is = search (rules, is)
+
+gathered_last : {X Y : Type 0} (h : X → Option Y) (xs : List X) (n : X)
+    → filter_map h (xs ++ n ∷ []) ≡ filter_map h xs ++ option_to_list (h n)
+gathered_last h [] n = gathered_by h n [] (h n) refl ∙ append-nil (option_to_list (h n))
+gathered_last {X} {Y} h (x ∷ xs) n =
+    gathered_by h x (xs ++ n ∷ []) (h x) refl
+    ∙ ap (λ (ys : List Y). option_to_list (h x) ++ ys) (gathered_last h xs n)
+    ∙ sym (append_assoc (option_to_list (h x)) (filter_map h xs) (option_to_list (h n)))
+    ∙ ap (λ (ys : List Y). ys ++ option_to_list (h n)) (sym (gathered_by h x xs (h x) refl))
+
+-- one more
+pub gathered_more : {X Y : Type 0} (h : X → Option Y) (xs : List X) (n : X) (s t : List Y)
+    → s ≡ filter_map h xs → t ≡ s ++ option_to_list (h n) → t ≡ filter_map h (xs ++ n ∷ [])
+gathered_more {X} {Y} h xs n s t before is =
+    is ∙ ap (λ (ys : List Y). ys ++ option_to_list (h n)) before ∙ sym (gathered_last h xs n)
+
+-- ---- texts
+
+-- the sections and the data blocks
+pub pictures_text : {E : Type 0} (told : Result (Unit {0}) E) (sections seen : List NamedPlace)
+    (places shown : List Place) (count entries all : ℕ) (a b c d e : Option (List ℕ))
+    → seen ≡ sections → shown ≡ places → count ≡ length places
+    → Appends a b (codes "sections           offset        bytes   share\n")
+    → Appends b c (flat_map (λ (s : NamedPlace). named_line all (s.name.now, s.place)) seen)
+    → Appends c d (data_line count entries) → OnOk told (PrintsText (IsBlocksText all shown) d e)
+    → OnOk told (PrintsText (IsPicturesText sections places entries all) a e)
+pictures_text (Err u) sections seen places shown count entries all a b c d e p q r head lines counts blocks = tt
+pictures_text (Ok u) sections seen places shown count entries all a b c d e p q r head lines counts blocks =
+    let Lines = λ (ss : List NamedPlace).
+    flat_map (λ (s : NamedPlace). named_line all (s.name.now, s.place)) ss in
+    let one = codes "sections           offset        bytes   share\n" in
+    let three = data_line (length places) entries in
+    let first = subst (λ (ss : List NamedPlace). Appends b c (Lines ss)) p lines in
+    let second = subst (λ (n : ℕ). Appends c d (data_line n entries)) r counts in
+    let third = subst (λ (ps : List Place). PrintsText (IsBlocksText all ps) d e) q blocks in (
+      one ++ (Lines sections ++ (three ++ third.0)),
+      (third.0, third.1, refl),
+      Appends-trans a b e one (Lines sections ++ (three ++ third.0)) head
+          (Appends-trans b c e (Lines sections) (three ++ third.0) first
+          (Appends-trans c d e three third.0 second third.2)),
+    )
+
+-- all that is printed of values
+pub parts_text : {A : Type 0} (t : OpenTable) (name : List ℕ) (p : Parts A)
+    (items : List (ItemName × Shown)) (a b c d e : Option (List ℕ)) → items ≡ shown_items
+    → Appends a b (title_line name p.size) → Appends b c (flat_map (item_line t) items)
+    → Appends c d (summary_text p.index.now p.filter.now p.spread)
+    → PrintsText (IsPicturesText p.sections.items p.blocks.items p.entries p.size) d e
+    → PrintsText (IsPartsText t name p) a e
+parts_text {A} t name p items a b c d e is title lines summary pictures =
+    let one = title_line name p.size in
+    let two = flat_map (item_line t) shown_items in
+    let three = summary_text p.index.now p.filter.now p.spread in
+    let first = subst (λ (xs : List (ItemName × Shown)). Appends b c (flat_map (item_line t) xs)) is
+    lines in (
+      one ++ (two ++ (three ++ pictures.0)),
+      (pictures.0, pictures.1, refl),
+      Appends-trans a b e one (two ++ (three ++ pictures.0)) title
+          (Appends-trans b c e two (three ++ pictures.0) first
+          (Appends-trans c d e three pictures.0 summary pictures.2)),
+    )
+
+-- those of a table's values
+pub stat_text : {E A : Type 0} (told : Result (Unit {0}) E) (t : OpenTable) (name : List ℕ)
+    (p : Parts A) (a b : Option (List ℕ)) → AreValuesOf t p
+    → OnOk told (PrintsText (IsPartsText t name p) a b)
+    → OnOk told (PrintsText (IsStatText A t name) a b)
+stat_text (Ok u) t name p a b are printed = (printed.0, (p, are, printed.1), printed.2)
+stat_text (Err u) t name p a b are printed = tt

@@ -193,3 +193,10 @@ pub further_more : (body : List ℕ) (told : Option Finding) (bs : List NamedBlo
     → m ≡ min (n + lines) (2 ^ 64 - 1) → m ≡ further_of body told (take (i + 1) bs)
 further_more body told bs i b n lines m h is before some sum =
     omega (arith, before, some, sum, count_more (is_further body told) bs i b h is)
+
+-- a text, and then the last one
+pub appends_then : {E : Type 0} (told : Result (Unit {0}) E) (a b c : Option (List ℕ))
+    (one two : List ℕ) → Appends a b one → OnOk told (Appends b c two)
+    → OnOk told (Appends a c (one ++ two))
+appends_then (Ok u) a b c one two first last = Appends-trans a b c one two first last
+appends_then (Err u) a b c one two first last = tt

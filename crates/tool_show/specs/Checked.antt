@@ -123,7 +123,8 @@ IsVerifyText t name blocks (Err f) text = (first : List ℕ) × (further : List 
     (further_faults (body_of t.bytes) (Some f) (named_blocks (body_of t.bytes) t.parts)) further
     × (text ≡ first ++ further)
 
--- a file was read from its first block on, as far as nothing is wrong, and what was found is printed
+-- a file was read from its first block on, as far as nothing is wrong, and what was found is
+-- printed
 pub record ChecksFile (t : OpenTable) (name : List ℕ) (before after : Option (List (ℕ × ℕ)))
     (old new : Option (List ℕ)) : Type 0 where
   pub blocks : ℕ

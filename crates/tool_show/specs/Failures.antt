@@ -35,7 +35,8 @@ IsFirstWith body e (b ∷ bs) place =
 
 -- the same of the blocks of a table, in the order in which a verification reads them
 abbrev pub IsBlockWith : OpenTable → Error → Option BlockPlace → Type 0
-IsBlockWith t e place = IsFirstWith (body_of t.bytes) e (named_blocks (body_of t.bytes) t.parts) place
+IsBlockWith t e place =
+    IsFirstWith (body_of t.bytes) e (named_blocks (body_of t.bytes) t.parts) place
 
 -- an error names a file, what its table refuses, and the first block that is refused so; or memory
 -- is wanted to find that

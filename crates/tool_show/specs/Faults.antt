@@ -1,7 +1,8 @@
--- What is wrong of a table: what its verification finds first, and which further blocks do not load.
+-- What is wrong of a table: what its verification finds first, and which further blocks do not
+-- load.
 use Rattle.std.specs.Prelude.{◌+◌, ◌-◌, ◌^◌, ◌==◌, ◌&&◌, ◌++◌, ◌∷◌, [], ℕ, Bool, true, false, not}
-use Rattle.std.specs.Prelude.{List, Option, None, Some, Result, Ok, Err, count_by, is_some, map, min}
-use Rattle.std.specs.Prelude.{if◌then◌else◌, option_to_list}
+use Rattle.std.specs.Prelude.{List, Option, None, Some, Result, Ok, Err, count_by, is_some, map}
+use Rattle.std.specs.Prelude.{if◌then◌else◌, min, option_to_list}
 use Rattle.std.specs.List.{flat_map}
 use Rattle.sst_blocks.specs.Block.{load_told}
 use Rattle.sst_blocks.specs.Handle.{Handle}
@@ -53,8 +54,8 @@ abbrev pub blocks_below : List ℕ → Bool → List Place → List NamedBlock
 blocks_below body true places = flat_map (partition body) places
 blocks_below body false places = map data_at places
 
--- blocks in the order of a verification: those of the filter, the index's block or its top level, and
--- what its handles lead to
+-- blocks in the order of a verification: those of the filter, the index's block or its top level,
+-- and what its handles lead to
 abbrev pub blocks_at : List ℕ → List Place → ParsedRegions → List NamedBlock
 blocks_at body filters regions =
     map filter_at filters ++ named_at section.Tli block.Index regions.tli
@@ -75,8 +76,8 @@ abbrev pub told_tops : List ℕ → Option Place → Option (List Handle)
 told_tops body None = None
 told_tops body (Some place) = Some (told_handles body place)
 
--- the blocks of bytes whose trailer names these regions: the meta block, the top level of the filter,
--- and the others
+-- the blocks of bytes whose trailer names these regions: the meta block, the top level of the
+-- filter, and the others
 abbrev pub region_blocks : List ℕ → ParsedRegions → List NamedBlock
 region_blocks body regions =
     named_at section.Meta block.Meta regions.metadata ∷ (top_blocks regions.filter_tli
@@ -138,6 +139,7 @@ abbrev pub faults_in : List ℕ → Result ParsedRegions Error → List (BlockPl
 faults_in body (Ok regions) = further_faults body None (region_blocks body regions)
 faults_in body (Err e) = []
 
+-- those of a file that does not open as a table
 abbrev pub unopened_faults : List ℕ → List (BlockPlace × Error)
 unopened_faults bytes = if is_some (trailer_fault bytes) then []
     else faults_in (body_of bytes) (places_told bytes)

@@ -75,8 +75,8 @@ blocks_of_loads body regions key low o =
     ++ (block_if section.Index o.index_loads (index_place body regions key low)
     ++ block_if section.Data o.data_loads (data_place body regions key low))
 
--- the blocks that a read of a key below a number loads of a table, whose stored numbers are lower by
--- the global number
+-- the blocks that a read of a key below a number loads of a table, whose stored numbers are lower
+-- by the global number
 abbrev pub blocks_loaded : OpenTable → List ℕ → ℕ → List BlockPlace
 blocks_loaded t key n =
     blocks_of_loads (body_of t.bytes) t.parts.regions key (n - t.global_seqno) (loads_told t key n)
@@ -94,7 +94,8 @@ loads_words name o places = counts_words name o
 
 -- a block as an object
 abbrev pub place_tokens : BlockPlace → List Token
-place_tokens place = Token.begin_object ∷ (text_member (codes "section") (section_text place.section)
+place_tokens place = Token.begin_object
+    ∷ (text_member (codes "section") (section_text place.section)
     ++ (number_member (codes "offset") place.offset ++ Token.end_object ∷ []))
 
 -- the counts as an object

@@ -70,7 +70,8 @@ abbrev pub loads_text : {A : Type 0} → GetOptions → List (NamedTable A) → 
 loads_text o fs = if o.loads then flat_map (file_loads o) fs else []
 
 -- an answer's line, and then those of the loads
-abbrev pub IsAnswer : {A : Type 0} → GetOptions → List (NamedTable A) → Option Entry → List ℕ → Type 0
+abbrev pub IsAnswer : {A : Type 0} → GetOptions → List (NamedTable A) → Option Entry → List ℕ
+    → Type 0
 IsAnswer o fs found text =
     (line : List ℕ) × IsFoundLine o.format found line × (text ≡ line ++ loads_text o fs)
 
@@ -99,7 +100,8 @@ PrintsResults format rs old new =
     (es : List Entry) × (rs ≡ ok_results es) × PrintsLines format es old new
 
 -- up to its first error a source deals these results
-abbrev pub DealsTo : {S : Type 0} (front back : S → Option Outcome → S → Type 0) → List Outcome → S → Type 0
+abbrev pub DealsTo : {S : Type 0} (front back : S → Option Outcome → S → Type 0) → List Outcome → S
+    → Type 0
 DealsTo front back rs s = Deals (answer_stops (λ _. true)) front back s rs
 
 -- from a first key on, and up to a key that is left out

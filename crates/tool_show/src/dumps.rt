@@ -9,7 +9,8 @@ ghost use Rattle.lsm_readers.specs.Words.{lift, range_told};
 ghost use Rattle.lsm_runs.specs.RunLists.{DealsList};
 ghost use Rattle.tool_show.specs.Failures.{BlamesNoFile, FailsAs, NamesNone, NamesOnly};
 ghost use Rattle.tool_show.specs.Printed.{DealsTo, PrintsLine, PrintsLines, PrintsResults, Outcome};
-ghost use Rattle.tool_show.specs.Printed.{chosen, dumped, first_error, from_key, readable, up_to_key};
+ghost use Rattle.tool_show.specs.Printed.{chosen, dumped, first_error, from_key, readable};
+ghost use Rattle.tool_show.specs.Printed.{up_to_key};
 
 use crate::error::Failure;
 use crate::{NamedTable, ShowError};

@@ -1,12 +1,16 @@
 //! What a table says of itself, as plain values.
-ghost use Rattle.std.specs.Prelude.{◌≡◌, IfErr, IfOk, List, Ok, Result, Some, false, map};
+ghost use Rattle.std.specs.Prelude.{◌≡◌, ◌++◌, ℕ, IfErr, IfOk, List, Ok, OnOk, Result, Some};
+ghost use Rattle.std.specs.Prelude.{false, map, option_to_list};
+ghost use Rattle.sst_sections.specs.Sections.{section_in, section_names};
 ghost use Rattle.sst_blocks.specs.Handle.{Handle};
 ghost use Rattle.sst_entries.specs.Error.{is_memory};
 ghost use Rattle.sst_entries.specs.declared.error.Error.{Error as Refusal};
 ghost use Rattle.sst_entries.specs.declared.error.Error.TheVariants.{OutOfMemory};
 ghost use Rattle.lsm_block_indexes.specs.Dealt.{DealsEnding};
 ghost use Rattle.tool_show.specs.Printed.{first_error};
-ghost use Rattle.tool_show.specs.Stats.{AreDataPlaces, data_handles, lies_at};
+ghost use Rattle.tool_show.specs.Stats.{AreDataPlaces, data_handles, let_through, lies_at};
+ghost use Rattle.tool_show.specs.Stats.{named_as, section_place, sections_told, spread_by};
+ghost use Rattle.tool_show.specs.Stats.{stored_number, trailer_told};
 ghost use Rattle.std.specs.Iterator.{IsFinite};
 
 use crate::blocks::source_of;
@@ -15,7 +19,7 @@ use lsm_block_indexes::{BlockIndex, BlockIndexIter};
 use lsm_formats::ItemName;
 use lsm_readers::Table;
 use sst_blocks::{Error, KeyedBlockHandle, SectionName};
-use sst_sections::TRAILER_LEN;
+use sst_sections::{TRAILER_LEN, Toc};
 use std::alloc::Allocator;
 
 /// Where something lies in a file, in bytes.
@@ -77,24 +81,19 @@ pub(crate) const ITEMS: [(ItemName, Shown); 29] = [
 ];
 
 /// The number of bytes that are stored with the lowest first, where it is below 2^64.
-pub(crate) fn little_endian(bytes: &[u8]) -> Option<u64> {
+pub(crate) fn little_endian(bytes: &[u8]) -> Option<u64>
+    ensures { result ≡ stored_number bytes.now }
+{
     let mut number = 0u64;
-    for byte in bytes.iter().rev() {
-        number = number.checked_mul(256)?.checked_add(u64::from(*byte))?;
+    let mut index = bytes.len();
+    while index > 0 {
+        index -= 1;
+        number = number
+            .checked_mul(256)?
+            .checked_add(u64::from(bytes[index]))?;
     }
     Some(number)
 }
-
-// The sections in the order in which they lie.
-const SECTIONS: [SectionName; 7] = [
-    SectionName::Data,
-    SectionName::Index,
-    SectionName::Tli,
-    SectionName::Filter,
-    SectionName::FilterTli,
-    SectionName::TableVersion,
-    SectionName::Meta,
-];
 
 /// The sections of a table, as its trailer tells where they lie, and the trailer. Refused for want
 /// of memory alone.
@@ -102,27 +101,51 @@ pub(crate) fn sections_of<A: Allocator + Copy>(
     alloc: A,
     table: &Table<A>,
 ) -> Result<Vec<NamedPlace, A>, Error>
+    ensures all { IfOk result (λ sections.
+        map named_as sections.items ≡ sections_told table.now.bytes) }
     ensures err { IfErr result (λ e. e ≡ OutOfMemory) }
 {
     let toc = source_of(alloc, table)?.toc();
     let mut sections = Vec::new(alloc);
-    for name in SECTIONS {
-        if let Some(section) = toc.section(name) {
-            sections.push(NamedPlace {
-                name: section_name(name),
-                place: Place {
-                    offset: section.position,
-                    size: section.len,
-                },
-            })?;
-        }
-    }
+    add_section(&mut sections, &toc, SectionName::Data)?;
+    add_section(&mut sections, &toc, SectionName::Index)?;
+    add_section(&mut sections, &toc, SectionName::Tli)?;
+    add_section(&mut sections, &toc, SectionName::Filter)?;
+    add_section(&mut sections, &toc, SectionName::FilterTli)?;
+    add_section(&mut sections, &toc, SectionName::TableVersion)?;
+    add_section(&mut sections, &toc, SectionName::Meta)?;
     sections.push(trailer_of(table.file_len()))?;
     Ok(sections)
 }
 
+// Adds a section, where there is one.
+fn add_section<A: Allocator>(
+    sections: &mut Vec<NamedPlace, A>,
+    toc: &Toc,
+    name: SectionName,
+) -> Result<(), Error>
+    ensures all { (bytes : List ℕ) → toc.now ≡ map (section_in bytes) section_names →
+        OnOk result (map named_as sections.new.items
+        ≡ map named_as sections.old.items ++ option_to_list (section_place bytes name)) }
+    ensures err { IfErr result (λ e. e ≡ OutOfMemory) }
+{
+    if let Some(section) = toc.section(name) {
+        let place = Place {
+            offset: section.position,
+            size: section.len,
+        };
+        sections.push(NamedPlace {
+            name: section_name(name),
+            place,
+        })?;
+    }
+    Ok(())
+}
+
 // The trailer of a file that has so many bytes.
-fn trailer_of(len: usize) -> NamedPlace {
+fn trailer_of(len: usize) -> NamedPlace
+    ensures { named_as result ≡ trailer_told len }
+{
     NamedPlace {
         name: "trailer",
         place: Place {
@@ -186,14 +209,25 @@ pub(crate) struct Spread {
 }
 
 /// How a filter of so many bytes of bits is spread over so many keys; `None` for no keys.
-pub(crate) fn spread_of(bytes: u64, keys: u64) -> Option<Spread> {
+pub(crate) fn spread_of(bytes: u64, keys: u64) -> Option<Spread>
+    ensures { result ≡ spread_by bytes keys }
+{
     let bits = bytes.saturating_mul(8);
     let tenths = bits.saturating_mul(10).checked_div(keys)?;
+    Some(Spread {
+        tenths,
+        passed: let_through(tenths.min(300)),
+    })
+}
+
+// How many of a million keys pass so many tenths of a bit. With the best number of probes each bit
+// lets a share of 0.6185 of the keys through, and each tenth of a bit one of 0.9531.
+fn let_through(tenths: u64) -> u64
+    ensures { result ≡ let_through tenths }
+{
     let mut passed = 1_000_000u64;
-    // With the best number of probes each bit lets a share of 0.6185 of the keys through, and each
-    // tenth of a bit one of 0.9531.
-    for _ in 0..tenths.min(300) {
+    for _done in 0..tenths {
         passed = passed.saturating_mul(9531) / 10_000;
     }
-    Some(Spread { tenths, passed })
+    passed
 }

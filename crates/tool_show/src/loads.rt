@@ -73,9 +73,24 @@ fn places_of_loads<A: Allocator + Copy>(
         ++ block_if Data opened.data_loads asked.now.data)) }
 {
     let mut places = Vec::new(alloc);
-    add_loaded(&mut places, SectionName::Filter, opened.filter_loads, asked.filter)?;
-    add_loaded(&mut places, SectionName::Index, opened.index_loads, asked.index)?;
-    add_loaded(&mut places, SectionName::Data, opened.data_loads, asked.data)?;
+    add_loaded(
+        &mut places,
+        SectionName::Filter,
+        opened.filter_loads,
+        asked.filter,
+    )?;
+    add_loaded(
+        &mut places,
+        SectionName::Index,
+        opened.index_loads,
+        asked.index,
+    )?;
+    add_loaded(
+        &mut places,
+        SectionName::Data,
+        opened.data_loads,
+        asked.data,
+    )?;
     Ok(places)
 }
 

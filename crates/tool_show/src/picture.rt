@@ -1,9 +1,12 @@
 //! Sizes as lines of text.
-ghost use Rattle.std.specs.Prelude.{◌≡◌, OnOk, replicate};
+ghost use Rattle.std.specs.Prelude.{◌≡◌, ◌-◌, ◌^◌, OnOk, min, replicate, sum_by};
+ghost use Rattle.std.specs.List.{flat_map};
 ghost use Rattle.std.specs.Io.KnownBytes.{Appends};
 ghost use Rattle.std.specs.Fmt.{decimal};
 ghost use Rattle.tool_show.specs.Stats.{bar_text, on_right, share_told, share_text, sizes_line};
-ghost use Rattle.tool_show.specs.Stats.{sizes_text};
+ghost use Rattle.tool_show.specs.Stats.{IsBlocksText, named_line, on_left, part_line, sizes_text};
+ghost use Rattle.tool_show.specs.Stats.{together_at};
+ghost use Rattle.tool_show.specs.Lines.{PrintsText};
 
 use crate::facts::{NamedPlace, Place};
 use std::io::{self, Write};
@@ -14,38 +17,83 @@ pub(crate) fn print_sections<W: Write>(
     output: &mut W,
     sections: &[NamedPlace],
     all: u64,
-) -> io::Result<()> {
+) -> io::Result<()>
+    ensures { OnOk result (Appends (W.contents output.old) (W.contents output.new)
+        (flat_map (λ s. named_line all (s.name.now, s.place)) sections.now)) }
+{
     for section in sections {
-        write!(output, "  {:<13}", section.name)?;
-        print_place(output, section.place, all)?;
+        print_section(output, *section, all)?;
     }
     Ok(())
+}
+
+fn print_section<W: Write>(output: &mut W, section: NamedPlace, all: u64) -> io::Result<()>
+    ensures { OnOk result (Appends (W.contents output.old) (W.contents output.new)
+        (named_line all (section.name.now, section.place))) }
+{
+    output.write_all(b"  ")?;
+    print_left(output, section.name.as_bytes(), 13)?;
+    print_place(output, section.place, all)
 }
 
 /// Writes a line for each data block, or, where there are more than 32, for each of 32 parts of
 /// them at most: the first of its blocks, where it begins, its length, share and bar.
-pub(crate) fn print_blocks<W: Write>(output: &mut W, blocks: &[Place], all: u64) -> io::Result<()> {
+pub(crate) fn print_blocks<W: Write>(output: &mut W, blocks: &[Place], all: u64) -> io::Result<()>
+    ensures { OnOk result (PrintsText (IsBlocksText all blocks.now)
+        (W.contents output.old) (W.contents output.new)) }
+{
     let each = blocks.len().div_ceil(32).max(1);
     let mut first = 0usize;
-    for part in blocks.chunks(each) {
-        write!(output, "  {first:<13}")?;
-        print_place(output, together(part), all)?;
-        first = first.saturating_add(part.len());
+    while first < blocks.len() {
+        let end = first.saturating_add(each).min(blocks.len());
+        print_part(output, first, &blocks[first..end], all)?;
+        first = end;
     }
     Ok(())
 }
 
+// The line of some of the data blocks, which begin with the one of this number.
+fn print_part<W: Write>(output: &mut W, first: usize, part: &[Place], all: u64) -> io::Result<()>
+    ensures { OnOk result (Appends (W.contents output.old) (W.contents output.new)
+        (part_line all first part.now)) }
+{
+    let mut buffer = itoa::Buffer::new();
+    output.write_all(b"  ")?;
+    print_left(output, buffer.format(first).as_bytes(), 13)?;
+    print_place(output, together(part), all)
+}
+
 // Where blocks that follow on each other lie together.
-fn together(blocks: &[Place]) -> Place {
+fn together(blocks: &[Place]) -> Place
+    ensures { result ≡ together_at blocks.now }
+{
+    match blocks.first() {
+        Some(block) => Place {
+            offset: block.offset,
+            size: size_of(blocks),
+        },
+        None => Place { offset: 0, size: 0 },
+    }
+}
+
+// The length of some blocks together.
+fn size_of(blocks: &[Place]) -> u64
+    ensures { result ≡ min (sum_by (λ q. q.size) blocks.now) (2 ^ 64 - 1) }
+{
     let mut size = 0u64;
     for block in blocks {
         size = size.saturating_add(block.size);
     }
-    let offset = match blocks.first() {
-        Some(block) => block.offset,
-        None => 0,
-    };
-    Place { offset, size }
+    size
+}
+
+/// Writes a text, and spaces behind it up to a width.
+pub(crate) fn print_left<W: Write>(output: &mut W, text: &[u8], width: usize) -> io::Result<()>
+    ensures { OnOk result (Appends (W.contents output.old) (W.contents output.new)
+        (on_left width text.now)) }
+{
+    output.write_all(text)?;
+    print_repeated(output, b' ', width.saturating_sub(text.len()) as u64)
 }
 
 // Where something begins, its length, its share of the file, and a bar of that.
