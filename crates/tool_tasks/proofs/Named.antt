@@ -1,17 +1,19 @@
 -- Files that are opened, each with its name.
 use denote.Ref.{Bor}
 use Rattle.std.proofs.Common.{◌≡◌, sym, ◌∙◌, ap, subst, ℕ, ◌+◌, ◌<◌, List, [], ◌∷◌, ◌++◌}
-use Rattle.std.proofs.Common.{◌-◌, drop, false, get_or, inl, inr, length, refl, take}
+use Rattle.std.proofs.Common.{◌-◌, Bool, drop, false, get_or, inl, inr, length, refl, take}
 use Rattle.std.specs.Prelude.{OnOk, Option, Result, Ok, Err, map}
 use Rattle.std.specs.Global.{Global}
 use Rattle.std.proofs.lemmas.List.{drop_more, take_more}
 use Rattle.logpurple.specs.Words.{OpenTable}
 use Rattle.tool_files.specs.Opened.{AreOpenedFrom, HasContent, IsToldByBytes}
 use Rattle.tool_files.proofs.Opened.{opened_more}
+use Rattle.tool_show.specs.Lines.{PrintsText}
 use Rattle.tool_show.specs.Printed.{PrintsResults, dumped, readable}
+use Rattle.tool_show.specs.Stats.{IsStatText}
 use Rattle.tool_show.specs.declared.dumps.DumpOptions.{DumpOptions}
 use Rattle.tool_show.specs.declared.named.NamedTable.{NamedTable}
-use Rattle.tool_tasks.specs.Showing.{AreNamed, DumpsEach}
+use Rattle.tool_tasks.specs.Showing.{AreNamed, DumpsEach, StatsEach}
 
 mapped_more : {A B : Type 0} (f : A → B) (xs : List A) (x : A)
     → map f (xs ++ x ∷ []) ≡ map f xs ++ f x ∷ []
@@ -63,3 +65,14 @@ module _ (o : DumpOptions) (content : List ℕ → Option (List ℕ)) where
       (sym (drop_more names i d less))
       (inr (t, told, has, between, prints,
       subst (λ (n : ℕ). DumpsEach o content (drop (i + 1) names) n between new) is behind))
+
+-- what a table tells is printed, and then what those of the files behind it tell
+pub stats_next : (json : Bool) (content : List ℕ → Option (List ℕ)) (names : List (Bor (List ℕ)))
+    (i : ℕ) (d : Bor (List ℕ)) (t : OpenTable) (old between new : Option (List ℕ))
+    → i < length names → IsToldByBytes false t → HasContent (content (get_or names i d).now) t
+    → (json ≡ false → PrintsText (IsStatText Global t (get_or names i d).now) old between)
+    → StatsEach json content (drop (i + 1) names) between new
+    → StatsEach json content (drop i names) old new
+stats_next json content names i d t old between new less told has prints behind =
+    subst (λ (ns : List (Bor (List ℕ))). StatsEach json content ns old new)
+    (sym (drop_more names i d less)) (t, told, has, between, prints, behind)

@@ -16,6 +16,7 @@ use Rattle.tool_options.specs.declared.tasks.GetTask.{GetTask}
 use Rattle.tool_show.specs.Files.{runs_in}
 use Rattle.tool_show.specs.Lines.{PrintsText}
 use Rattle.tool_show.specs.Printed.{IsAnswer, PrintsResults, dumped, readable, seen_below}
+use Rattle.tool_show.specs.Stats.{IsStatText}
 use Rattle.tool_show.specs.declared.dumps.DumpOptions.{DumpOptions}
 use Rattle.tool_show.specs.declared.gets.GetOptions.{GetOptions}
 use Rattle.tool_show.specs.declared.named.NamedTable.{NamedTable}
@@ -89,3 +90,12 @@ pub record DoesDump (task : DumpTask) (content : List ℕ → Option (List ℕ))
   pub options : DumpOptions
   pub asked : AsksDump task options
   pub dumps : DumpsEach options content task.files.items (most_of task) old new
+
+-- as text is printed what the table of each file tells, in their order; as JSON nothing is said
+abbrev pub StatsEach : Bool → (List ℕ → Option (List ℕ)) → List (Bor (List ℕ))
+    → (old new : Option (List ℕ)) → Type 0
+StatsEach json content [] old new = new ≡ old
+StatsEach json content (name ∷ names) old new = (t : OpenTable) × IsToldByBytes false t
+    × HasContent (content name.now) t × (between : Option (List ℕ))
+    × (json ≡ false → PrintsText (IsStatText Global t name.now) old between)
+    × StatsEach json content names between new

@@ -10,7 +10,7 @@ use Rattle.tool_options.specs.declared.words.Parsed.{Parsed}
 use Rattle.tool_options.specs.declared.words.Parsed.TheVariants as parsed
 use Rattle.tool_tasks.specs.Making.{DoesCompact, DoesWrite}
 use Rattle.tool_tasks.specs.Packing.{DoesPack}
-use Rattle.tool_tasks.specs.Showing.{DoesDump, DoesGet}
+use Rattle.tool_tasks.specs.Showing.{DoesDump, DoesGet, StatsEach}
 use Rattle.tool_tasks.specs.Statuses.{status_of_answer, status_of_failure}
 use Rattle.tool_tasks.specs.Verified.{AreSoundFiles, DoesVerify}
 use Rattle.tool_tasks.specs.declared.failure.Failure.{Failure}
@@ -35,7 +35,7 @@ DoesTask (task.Get t) input content there known new status old text = (new ≡ k
 DoesTask (task.Dump t) input content there known new status old text =
     (status ≡ 0) × (new ≡ known) × DoesDump t content old text
 DoesTask (task.Stat t) input content there known new status old text =
-    (status ≡ 0) × (new ≡ known)
+    (status ≡ 0) × (new ≡ known) × StatsEach t.json content t.files.items old text
 
 -- a task is done, and what it printed passed on
 abbrev pub IsDone : Task → Option (List ℕ) → (List ℕ → Option (List ℕ))

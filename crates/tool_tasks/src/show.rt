@@ -12,6 +12,7 @@ ghost use Rattle.tool_lines.specs.declared.entry_line.LineError.{LineError};
 ghost use Rattle.tool_tasks.specs.declared.failure.Failure.TheVariants.{Key};
 ghost use Rattle.tool_tasks.specs.Endings.{EndsVerify};
 ghost use Rattle.tool_tasks.specs.Showing.{AreNamed, DoesDump, DoesGet, DumpsEach, MeansKey};
+ghost use Rattle.tool_tasks.specs.Showing.{StatsEach};
 ghost use Rattle.tool_show.specs.Checked.{ChecksFile};
 ghost use Rattle.tool_tasks.specs.Verified.{AreSoundFiles, ChecksBytes, ChecksName, DoesVerify};
 ghost use Rattle.tool_tasks.specs.Verified.{IsSoundFile};
@@ -158,7 +159,10 @@ pub(crate) fn stat<'a, P: Place, W: Write>(
     place: &P,
     task: &StatTask<'a>,
     output: &mut W,
-) -> Result<(), Failure<'a>> {
+) -> Result<(), Failure<'a>>
+    ensures { OnOk result (StatsEach task.now.json (P.content place.now) task.now.files.items
+        (W.contents output.old) (W.contents output.new)) }
+{
     for name in task.files.as_slice() {
         let file = open_named(alloc, place, name)?;
         tool_show::stat(alloc, output, &file, format_of(task.json))?;
