@@ -3,7 +3,6 @@ use Rattle.std.specs.Prelude.{◌≡◌, ◌-◌, ◌^◌, ℕ, List, [], ◌∷
 use Rattle.std.specs.Prelude.{Option, None, Some, Result, Ok, Err, IfErr}
 use Rattle.std.specs.Fmt.{decimal}
 use Rattle.std.specs.Io.KnownBytes.{Appends}
-use Rattle.sst_entries.specs.declared.error.Error.{Error}
 use Rattle.sst_sections.specs.Sections.{body_of}
 use Rattle.lsm_formats.specs.MetaBlock.{name_of}
 use Rattle.lsm_readers.specs.Table.{OpenTable}

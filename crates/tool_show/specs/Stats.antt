@@ -1,7 +1,7 @@
 -- What is told of a table by what it says of itself.
 use Rattle.std.specs.Prelude.{◌≡◌, ◌⊎◌, ℕ, ◌+◌, ◌-◌, ◌*◌, ◌/◌, ◌%◌, ◌^◌, ◌==◌, zero, suc, Bool}
 use Rattle.std.specs.Prelude.{true, false, List, [], ◌∷◌, ◌++◌, codes, length, map, min, nat_lt}
-use Rattle.std.specs.Prelude.{replicate, sum_by, Option, None, Some, Result, Ok, Err, is_some}
+use Rattle.std.specs.Prelude.{replicate, sum_by, Option, None, Some, Result, Ok, is_some}
 use Rattle.std.specs.Prelude.{if◌then◌else◌, unwrap_or}
 use Rattle.std.specs.Fmt.{decimal}
 use Rattle.std.specs.List.{filter_map, flat_map}

@@ -48,7 +48,8 @@ type Runs<A> = Vec<Arc<Run<Table<A>, A>, A>, A>;
 
 /// Writes the version of a key that a reader sees over all files, or that there is none (`none`,
 /// and as JSON `null`), and answers whether there is one. Then, if asked for, a line for each file:
-/// how many blocks of which kind were loaded for it, and where these begin.
+/// how many blocks of which kind were loaded for it, and where these begin; as JSON an object,
+/// `{"name":"a.sst","loaded":{"data":1,..},"blocks":[{"section":"data","offset":0},..]}`.
 pub fn get<'a, A: Allocator + Copy, W: Write>(
     alloc: A,
     output: &mut W,

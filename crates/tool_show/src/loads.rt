@@ -3,7 +3,7 @@ ghost use Rattle.std.specs.Prelude.{◌≡◌, ◌++◌, IfErr, IfOk, OnOk};
 ghost use Rattle.sst_entries.specs.declared.error.Error.TheVariants.{OutOfMemory};
 ghost use Rattle.sst_sections.specs.Sections.{body_of};
 ghost use Rattle.sst_sections.specs.declared.section.SectionName.TheVariants.{Data, Filter, Index};
-ghost use Rattle.tool_show.specs.Loads.{block_if, blocks_loaded, blocks_of_loads, data_by};
+ghost use Rattle.tool_show.specs.Loads.{block_if, blocks_loaded, data_by};
 ghost use Rattle.tool_show.specs.Loads.{data_place, filter_place, index_place, loads_told};
 ghost use Rattle.tool_show.specs.Loads.{reached};
 
