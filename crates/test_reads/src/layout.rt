@@ -201,8 +201,8 @@ fn sections_of_partitioned_indexes_and_filters(rt: HostRuntime) {
     assert!(rt; is_laid(alloc, written(alloc, ONE_ROW), &OF_ONE));
 }
 
-// The stored tables: of one entry, without a filter and with one, and of four, with the index in two
-// levels, and with a filter in parts.
+// The stored tables: of one entry, without a filter and with one, and of four, with the index in
+// two levels, and with a filter in parts.
 const OF_STORED_ONE: Laid = (
     [
         Some((0, 45)),

@@ -85,8 +85,8 @@ fn scan_of<A: Allocator + Copy>(alloc: A, parted: Parted) -> Result<Scanner<A>, 
     asked(opened(alloc, bytes.as_slice()), scan_behind_reads)
 }
 
-/// Whether the rows of a table that is written and opened are found, and a scan gives their numbers;
-/// the refusal of what is refused, if nothing follows it.
+/// Whether the rows of a table that is written and opened are found, and a scan gives their
+/// numbers; the refusal of what is refused, if nothing follows it.
 pub(crate) fn rows_come<A: Allocator + Copy>(alloc: A, parted: Parted) -> Result<bool, Error> {
     is_scanned(scan_of(alloc, parted))
 }

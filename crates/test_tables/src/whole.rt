@@ -1,5 +1,6 @@
-//! Rows of each kind, with different values; and ranges, scans and readers of runs, whose entries are
-//! compared whole with the rows that they were written from. What walks them is generic in them, so that none of their parts is looked at.
+//! Rows of each kind, with different values; and ranges, scans and readers of runs, whose entries
+//! are compared whole with the rows that they were written from. What walks them is generic in
+//! them, so that none of their parts is looked at.
 use crate::rows::Row;
 use lsm_tables::{Iter, RunReader, RunScanner, Scanner};
 use sst_blocks::{Direction, Error, InternalValue, IterItem, ValueType};
