@@ -14,7 +14,7 @@ pub enum FileFault {
     Folder,
     /// What stands in the file's place is no plain file, and not to be replaced.
     NotPlain,
-    /// Something has the path of a folder that is to be made.
+    /// Something has the path of a folder that is to be made, or of a file in it.
     Taken,
     /// The file would stand behind those that are written, as if it were one of them.
     Left,
