@@ -63,8 +63,14 @@ module _ (o : DumpOptions) (content : List ℕ → Option (List ℕ)) where
   dumps_next names i d t left rest old between new less told has prints is behind =
       subst (λ (ns : List (Bor (List ℕ))). DumpsEach o content ns left old new)
       (sym (drop_more names i d less))
-      (inr (t, told, has, between, prints,
-      subst (λ (n : ℕ). DumpsEach o content (drop (i + 1) names) n between new) is behind))
+      (inr (
+        t,
+        told,
+        has,
+        between,
+        prints,
+        subst (λ (n : ℕ). DumpsEach o content (drop (i + 1) names) n between new) is behind,
+      ))
 
 -- what a table tells is printed, and then what those of the files behind it tell
 pub stats_next : (json : Bool) (content : List ℕ → Option (List ℕ)) (names : List (Bor (List ℕ)))

@@ -18,8 +18,10 @@ returns-in_err-made-clause-refused g c =
     let options = c.compact_options-options.result in
     let e = c.in_err-made.field-0.0 in
     passed_failure (λ (f : Failure). RefusesCompact task content there known f new)
-    c.from_residual.result (failure.Compact e) c.from_residual.ensures.1
-    (options, c.compact_options-options.ensures,
-    subst (λ (files : List (Bor (List ℕ))). RefusesToCompact Global options content files
-    task.folder.now (there task.folder.now) known e new) c.as_slice-files.ensures.value
-    c.in_err-made.ensures.refused)
+    c.from_residual.result (failure.Compact e) c.from_residual.ensures.1 (
+      options,
+      c.compact_options-options.ensures,
+      subst (λ (files : List (Bor (List ℕ))). RefusesToCompact Global options content files
+          task.folder.now (there task.folder.now) known e new) c.as_slice-files.ensures.value
+          c.in_err-made.ensures.refused,
+    )
