@@ -17,7 +17,7 @@ use Rattle.tool_files.specs.Ended.{behind_front, files_left, moved_by, path_behi
 use Rattle.tool_files.specs.Files.{path_text}
 use Rattle.tool_files.specs.NewFolders.{IsBesideFolder, IsEmptied, IsFolderGivenUp, IsFolderNotPlaced}
 use Rattle.tool_files.specs.NewFolders.{IsFolderPlaced, IsNamingFault, IsNotFilled, IsStemOf}
-use Rattle.tool_files.specs.NewFolders.{IsWithin, IsWritingFault, LiesElsewhere, MaySyncNames}
+use Rattle.tool_files.specs.NewFolders.{LiesWithin, IsWritingFault, LiesElsewhere, MaySyncNames}
 use Rattle.tool_files.specs.NewFolders.{StopsWithin, TellsGivenUp, giving_up, naming_folder}
 use Rattle.tool_files.specs.NewFolders.{numbered_within, path_within}
 use Rattle.tool_files.specs.NewFolders.{removing_folder, writing_files}
@@ -91,10 +91,10 @@ module _ {X : Type 0} (bytes_of : X → List ℕ) where
       (t : X) (number : ℕ) (bytes : List ℕ) (old new : List (List ℕ))
       (known now after : Option (List Step)) → i < length tables → t ≡ get_or tables i t
       → number ≡ 1 + i → bytes ≡ bytes_of t
-      → IsWithin (numbered_within folder (map bytes_of (take i tables))) old known now
+      → LiesWithin (numbered_within folder (map bytes_of (take i tables))) old known now
       → new ≡ old ++ path_within folder number ∷ []
       → after ≡ then_done now (Wrote (path_within folder number) bytes ∷ [])
-      → IsWithin (numbered_within folder (map bytes_of (take (i + 1) tables))) new known after
+      → LiesWithin (numbered_within folder (map bytes_of (take (i + 1) tables))) new known after
   wrote_within folder tables i t number bytes old new known now after less here counted held
       so_far added done =
       let files : List (List ℕ × List ℕ) =
@@ -118,7 +118,7 @@ module _ {X : Type 0} (bytes_of : X → List ℕ) where
   pub stops_writing : (folder beside : List ℕ) (tables : List X) (i number : ℕ)
       (old new : List (List ℕ)) (known now after : Option (List Step)) (e : FileError)
       → i < length tables
-      → IsWithin (numbered_within beside (map bytes_of (take i tables))) old known now
+      → LiesWithin (numbered_within beside (map bytes_of (take i tables))) old known now
       → new ≡ old → after ≡ now → number ≡ 1 + i → path_text e.name ≡ path_within folder number
       → IsWritingFault e.fault
       → StopsWithin folder beside (map bytes_of tables) new known e after
@@ -148,7 +148,7 @@ module _ {X : Type 0} (bytes_of : X → List ℕ) where
 -- all were written, and the folder did not get its name
 pub stops_naming : (folder beside : List ℕ) (all paths : List (List ℕ))
     (known now after : Option (List Step)) (e : FileError) (steps : List Step)
-    → IsWithin (numbered_within beside all) paths known now → path_text e.name ≡ folder
+    → LiesWithin (numbered_within beside all) paths known now → path_text e.name ≡ folder
     → IsNamingFault e.fault → MaySyncNames beside steps → after ≡ then_done now steps
     → StopsWithin folder beside all paths known e after
 stops_naming folder beside all paths known now after e steps wrote named fault may done =

@@ -140,9 +140,9 @@ pub record StopsWithin (folder beside : List ℕ) (all paths : List (List ℕ))
       ≡ then_done known (writing_files (numbered_within beside (take written all)) ++ synced)
 
 -- just these files were written: their paths, and what was done
-abbrev pub IsWithin : List (List ℕ × List ℕ) → List (List ℕ) → Option (List Step)
+abbrev pub LiesWithin : List (List ℕ × List ℕ) → List (List ℕ) → Option (List Step)
     → Option (List Step) → Type 0
-IsWithin files paths known new =
+LiesWithin files paths known new =
     (paths ≡ map (λ f. f.0) files) × (new ≡ then_done known (writing_files files))
 
 -- all that was written in a folder beside a name was removed again, and the folder

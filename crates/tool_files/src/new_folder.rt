@@ -2,7 +2,8 @@
 ghost use Rattle.std.specs.Prelude.{◌≡◌, ◌∷◌, ◌++◌, [], IfErr, IfOk, List, OnErr, OnOk, map};
 ghost use Rattle.std.specs.Prelude.{string_bytes};
 ghost use Rattle.tool_files.specs.NewFolders.{IsBesideFolder, IsFolderNotPlaced, IsFolderPlaced};
-ghost use Rattle.tool_files.specs.NewFolders.{IsMakingFault, IsNamingFault, IsNotFilled, IsWithin};
+ghost use Rattle.tool_files.specs.NewFolders.{IsMakingFault, IsNamingFault, IsNotFilled};
+ghost use Rattle.tool_files.specs.NewFolders.{LiesWithin};
 ghost use Rattle.tool_files.specs.NewFolders.{IsStemOf, IsWritingFault, MaySyncNames, StopsWithin};
 ghost use Rattle.tool_files.specs.NewFolders.{naming_folder, numbered_within, path_within};
 ghost use Rattle.tool_files.specs.NewFolders.{writing_files};
@@ -146,7 +147,7 @@ fn write_within<'a, P: Place, A: Allocator + Copy>(
 ) -> Result<(), FileError<'a>>
     requires { written.old.items ≡ [] }
     ensures all { OnOk result (let files = numbered_within beside.now
-        (map (λ t. t.bytes) tables.now) in IsWithin files (map string_bytes written.new.items)
+        (map (λ t. t.bytes) tables.now) in LiesWithin files (map string_bytes written.new.items)
         (P.done place.old) (P.done place.new)) }
     ensures refused { IfErr result (λ e. StopsWithin folder.now beside.now
         (map (λ t. t.bytes) tables.now) (map string_bytes written.new.items)

@@ -9,7 +9,7 @@ use Rattle.sst_entries.specs.Entry.{Entry}
 use Rattle.tool_lines.specs.declared.entry_line.Format.{Format}
 use Rattle.tool_lines.specs.declared.entry_line.Format.TheVariants.{Json, Lines}
 use Rattle.tool_lines.proofs.EmptyLine.{empty_no_object, empty_no_words}
-use Rattle.tool_make.specs.Entries.{AreLinesOf, HasEntries, LineSpells, Spell, input_lines}
+use Rattle.tool_make.specs.Entries.{SpellInTurn, HasEntries, LineSpells, Spell, input_lines}
 use Rattle.tool_make.specs.Entries.{lines_text}
 
 no_end_by : (b : ℕ) (t : Bool) → (b == 10) ≡ t → b ≢ 10 → t ≡ false
@@ -37,7 +37,7 @@ spell_more format [] lines e es h k = absurd (none_empty format e h)
 spell_more format (b ∷ line) lines e es h k = (h, k)
 
 pub lines_read : (format : Format) (lines : List (List ℕ)) (es : List Entry)
-    → AreLinesOf format lines es → HasEntries format (Some (lines_text lines)) es
+    → SpellInTurn format lines es → HasEntries format (Some (lines_text lines)) es
 lines_read format [] es h = h
 lines_read format (line ∷ lines) [] h = absurd h
 lines_read format (line ∷ lines) (e ∷ es) h =

@@ -26,7 +26,7 @@ use Rattle.tool_make.specs.declared.options.WriteOptions.{WriteOptions}
 use Rattle.tool_make.specs.Entries.{HasEntries, input_lines}
 use Rattle.tool_make.specs.Faults.{StopsLines}
 use Rattle.tool_make.specs.Refusing.{RefusesLines, TellsEnd, TellsSizes}
-use Rattle.tool_make.specs.Sorting.{TellsOrder}
+use Rattle.tool_make.specs.Sorting.{TellsLineOrder}
 use Rattle.tool_make.specs.Written.{AreOfLines, TookLines, WritesAll, WritesSorted}
 use Rattle.tool_make.specs.Written.{writer_by}
 use Rattle.tool_make.proofs.Sorting.{first_out_of_order, first_repeated}
@@ -143,7 +143,7 @@ none_spelled {A} o input fs count h none =
 
 repeated_line : (sort : Bool) (format : Format) (input : Option (List ℕ)) (w : TablesWriting)
     (n : ℕ) → all_written w ≡ [] → StopsLines sort format input w (Line n fault.Repeated)
-    → TellsOrder format input (Line n fault.Repeated)
+    → TellsLineOrder format input (Line n fault.Repeated)
 repeated_line true format None w n fresh h = tt
 repeated_line false format None w n fresh h = tt
 repeated_line true format (Some bytes) w n fresh (inl h) = absurd h.told.1
@@ -154,7 +154,7 @@ repeated_line false format (Some bytes) w n fresh h =
 
 order_line : (sort : Bool) (format : Format) (input : Option (List ℕ)) (w : TablesWriting)
     (n : ℕ) → all_written w ≡ [] → StopsLines sort format input w (Line n fault.OutOfOrder)
-    → TellsOrder format input (Line n fault.OutOfOrder)
+    → TellsLineOrder format input (Line n fault.OutOfOrder)
 order_line true format None w n fresh h = tt
 order_line false format None w n fresh h = tt
 order_line true format (Some bytes) w n fresh (inl h) = absurd h.told.1
@@ -164,7 +164,7 @@ order_line false format (Some bytes) w n fresh h =
     first_out_of_order format (input_lines bytes) w n fresh h
 
 pub told_order : (o : WriteOptions) (input : Option (List ℕ)) (error : MakeError)
-    → RefusesLines o input error → TellsOrder o.format input error
+    → RefusesLines o input error → TellsLineOrder o.format input error
 told_order o input (Line n fault.Repeated) h =
     repeated_line o.sort o.format input (writer_by o) n
     (nothing_yet (writer_by o) (refl, (refl, refl, refl), refl)) h

@@ -69,13 +69,13 @@ lines_text [] = []
 lines_text (line ∷ lines) = line ++ 10 ∷ lines_text lines
 
 -- lines spell these entries in turn, and no byte in one of them ends it
-abbrev pub AreLinesOf : Format → List (List ℕ) → List Entry → Type 0
-AreLinesOf format [] es = es ≡ []
-AreLinesOf format (line ∷ lines) [] = ⊥
-AreLinesOf format (line ∷ lines) (e ∷ es) =
-    All (λ b. b ≢ 10) line × LineSpells format line e × AreLinesOf format lines es
+abbrev pub SpellInTurn : Format → List (List ℕ) → List Entry → Type 0
+SpellInTurn format [] es = es ≡ []
+SpellInTurn format (line ∷ lines) [] = ⊥
+SpellInTurn format (line ∷ lines) (e ∷ es) =
+    All (λ b. b ≢ 10) line × LineSpells format line e × SpellInTurn format lines es
 
 -- an input of lines that spell entries in turn has just these entries
 abbrev pub LinesLaw : Type 0
 LinesLaw = (format : Format) (lines : List (List ℕ)) (es : List Entry)
-    → AreLinesOf format lines es → HasEntries format (Some (lines_text lines)) es
+    → SpellInTurn format lines es → HasEntries format (Some (lines_text lines)) es

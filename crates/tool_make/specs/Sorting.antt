@@ -54,9 +54,9 @@ pub record IsFirstOutOfOrder (format : Format) (lines : List (List ℕ)) (number
 
 -- a line that is told as repeated is the first such one of all lines, put in order; one that is
 -- told as out of order is the first such one
-abbrev pub TellsOrder : Format → Option (List ℕ) → MakeError → Type 0
-TellsOrder format input (Line n Repeated) = IfSome input (λ bytes. (rows : List (ℕ × Entry))
+abbrev pub TellsLineOrder : Format → Option (List ℕ) → MakeError → Type 0
+TellsLineOrder format input (Line n Repeated) = IfSome input (λ bytes. (rows : List (ℕ × Entry))
     × SpellRows format 1 (input_lines bytes) rows × IsFirstRepeated rows n)
-TellsOrder format input (Line n OutOfOrder) =
+TellsLineOrder format input (Line n OutOfOrder) =
     IfSome input (λ bytes. IsFirstOutOfOrder format (input_lines bytes) n)
-TellsOrder format input error = Unit {0}
+TellsLineOrder format input error = Unit {0}

@@ -12,7 +12,7 @@ ghost use Rattle.tool_make.specs.declared.make_error.MakeError.TheVariants.{Refu
 ghost use Rattle.tool_make.specs.Entries.{HasEntries};
 ghost use Rattle.tool_make.specs.Faults.{StopsInOrder, StopsLines};
 ghost use Rattle.tool_make.specs.Refusing.{RefusesLines, RefusesToWrite, TellsEnd};
-ghost use Rattle.tool_make.specs.Sorting.{IsSortOf, TellsOrder};
+ghost use Rattle.tool_make.specs.Sorting.{IsSortOf, TellsLineOrder};
 ghost use Rattle.tool_make.specs.TableFiles.{AreTablesPlaced, IsFreeBehind, RefusesTables};
 ghost use Rattle.tool_make.specs.TableFiles.{StopsPlacing, TellsEarlier, TellsTableFile};
 ghost use Rattle.tool_make.specs.TableFiles.{files_from, table_file_name};
@@ -233,7 +233,7 @@ pub fn write_entries<'a, P: Place, I: Read + Drop, A: Allocator + Copy>(
         (P.there place.old) (P.done place.old) e (P.done place.new)) }
     // A line that is told as out of order is the first such one. One that is told as repeated is
     // the first in order that has the key and number of another one, which is of an earlier line.
-    ensures order { IfErr result (TellsOrder options.now.format (I.remaining input)) }
+    ensures order { IfErr result (TellsLineOrder options.now.format (I.remaining input)) }
 {
     // What is told of the sizes comes before any want of memory.
     options.check_sizes()?;

@@ -5,7 +5,7 @@ use Rattle.std.proofs.lemmas.List.{length-append, map-append}
 use Rattle.std.specs.Prelude.{Option, None, Some}
 use Rattle.lsm_readers.specs.Table.{OpenTable}
 use Rattle.lsm_readers.specs.Verification.{Verifying, bytes_read, steps_of}
-use Rattle.tool_show.specs.Checked.{AreTold, IsNextOf, Reaches, ReadsUpTo, progress_at}
+use Rattle.tool_show.specs.Checked.{AreTold, IsNextOf, Reaches, ReadsUpTo, progress_of}
 
 -- nothing more is told
 pub told_none : {X : Type 0} (old : Option (List X)) → AreTold old old []
@@ -38,7 +38,7 @@ same_table v (u ∷ us) w there = same_table u us w there.1 ∙ there.0.0
 pub record Went (v w : Verifying) (old new : Option (List (ℕ × ℕ))) (blocks : ℕ) : Type 0 where
   pub steps : List Verifying
   pub reached : Reaches v steps w
-  pub told : AreTold old new (map progress_at steps)
+  pub told : AreTold old new (map progress_of steps)
   pub count : blocks ≡ min (length steps) (2 ^ 64 - 1)
   pub left : steps_of v ≡ length steps + steps_of w
 
@@ -55,13 +55,13 @@ went_none v old = record {
 -- by one more
 pub went_more : (v w x : Verifying) (old left new : Option (List (ℕ × ℕ))) (blocks more : ℕ)
     → Went v w old left blocks → IsNextOf w x
-    → AreTold left new (progress_at x ∷ []) → more ≡ min (blocks + 1) (2 ^ 64 - 1)
+    → AreTold left new (progress_of x ∷ []) → more ≡ min (blocks + 1) (2 ^ 64 - 1)
     → steps_of w ≡ 1 + steps_of x → Went v x old new more
 went_more v w x old left new blocks more went next told counts falls = record {
   steps = went.steps ++ x ∷ [];
   reached = reaches_more v went.steps w x went.reached next;
-  told = subst (AreTold old new) (sym (map-append progress_at went.steps (x ∷ [])))
-      (told_more old left new (map progress_at went.steps) (progress_at x ∷ []) went.told told);
+  told = subst (AreTold old new) (sym (map-append progress_of went.steps (x ∷ [])))
+      (told_more old left new (map progress_of went.steps) (progress_of x ∷ []) went.told told);
   count = omega (arith, counts, went.count, length-append went.steps (x ∷ []));
   left = omega (arith, went.left, falls, length-append went.steps (x ∷ []));
 }
@@ -95,7 +95,7 @@ reads_so v old new blocks One Other follows reads = record {
 pub told_at : (v w x : Verifying) (us : List Verifying) (old new : Option (List (ℕ × ℕ)))
     (done all : ℕ) → Reaches v us w → x.table ≡ w.table → done ≡ bytes_read x
     → all ≡ v.table.parts.facts.file_size → AreTold old new ((done, all) ∷ [])
-    → AreTold old new (progress_at x ∷ [])
+    → AreTold old new (progress_of x ∷ [])
 told_at v w x us old new done all reached same is size told =
     let table : v.table ≡ x.table = sym (same ∙ same_table v us w reached) in
     let whole : all ≡ x.table.parts.facts.file_size =

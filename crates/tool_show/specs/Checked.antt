@@ -86,8 +86,8 @@ Reaches v [] w = w ≡ v
 Reaches v (u ∷ us) w = IsNextOf v u × Reaches u us w
 
 -- so many bytes of the data blocks were read, of so many
-abbrev pub progress_at : Verifying → ℕ × ℕ
-progress_at v = (bytes_read v, v.table.parts.facts.file_size)
+abbrev pub progress_of : Verifying → ℕ × ℕ
+progress_of v = (bytes_read v, v.table.parts.facts.file_size)
 
 -- what was told before, where it is known, and then some more
 abbrev pub AreTold : {X : Type 0} → Option (List X) → Option (List X) → List X → Type 0
@@ -105,7 +105,7 @@ pub record ReadsUpTo (v : Verifying) (old new : Option (List (ℕ × ℕ))) (blo
   pub steps : List Verifying
   pub last : Verifying
   pub reached : Reaches v steps last
-  pub told : AreTold old new (map progress_at steps)
+  pub told : AreTold old new (map progress_of steps)
   pub count : blocks ≡ min (length steps) (2 ^ 64 - 1)
   pub ends : Ends last
 

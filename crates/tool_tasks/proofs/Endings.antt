@@ -9,7 +9,7 @@ use Rattle.tool_options.specs.declared.tasks.Task.{Task}
 use Rattle.tool_options.specs.declared.words.Parsed.{Parsed}
 use Rattle.tool_options.specs.declared.words.Parsed.TheVariants as parsed
 use Rattle.tool_tasks.specs.Statuses.{status_of_failure}
-use Rattle.tool_tasks.specs.Tasks.{IsDone, Runs, RunsAs, status_of_done}
+use Rattle.tool_tasks.specs.Tasks.{EndsTask, Runs, RunsAs, status_of_done}
 use Rattle.tool_tasks.specs.declared.failure.Failure.{Failure}
 
 -- what a report answers is the status of what was done
@@ -29,7 +29,7 @@ runs_as {E} words input asked p status old new asks is runs =
 pub runs_task : {E : Type 0} (words : List (List ℕ)) (input : Option (List ℕ))
     (asked : Result Parsed E) (t : Task) (done : Result ℕ Failure) (status : ℕ)
     (old new : Option (List ℕ)) → IfOk asked (AsksFrom words) → asked ≡ Ok (parsed.Task t)
-    → IfOk done (λ s. IsDone t input (λ _. None) (λ _. None) None None s old new)
+    → IfOk done (λ s. EndsTask t input (λ _. None) (λ _. None) None None s old new)
     → MatchResult done (λ s. status ≡ s) (λ e. status ≡ status_of_failure e)
     → Runs words input status old new
 runs_task words input asked t done status old new asks is does told =

@@ -51,7 +51,8 @@ pub record CompactsTables (task : CompactTask) (content : List ℕ → Option (L
     (known new : Option (List Step)) : Type 0 where
   pub options : CompactOptions
   pub asked : options ≡ compact_by task options
-  pub compacts : CompactsFiles Global options content task.files.items task.folder.now made known new
+  pub compacts :
+      CompactsFiles Global options content task.files.items task.folder.now made known new
 
 -- a command that compacts did so, and a line tells how many tables and entries there are
 pub record DoesCompact (task : CompactTask) (content : List ℕ → Option (List ℕ))

@@ -38,10 +38,10 @@ DoesTask (task.Stat t) input content there known new status old text =
     (status ≡ 0) × (new ≡ known) × StatsEach t.json content t.files.items old text
 
 -- a task is done, and what it printed passed on
-abbrev pub IsDone : Task → Option (List ℕ) → (List ℕ → Option (List ℕ))
+abbrev pub EndsTask : Task → Option (List ℕ) → (List ℕ → Option (List ℕ))
     → (List ℕ → Option Bool) → (known new : Option (List Step)) → (status : ℕ)
     → (old_text new_text : Option (List ℕ)) → Type 0
-IsDone t input content there known new status old text = (printed : Option (List ℕ))
+EndsTask t input content there known new status old text = (printed : Option (List ℕ))
     × DoesTask t input content there known new status old printed × Keeps printed text
 
 -- the status with which something ends
@@ -54,7 +54,7 @@ status_of_done (Err e) = status_of_failure e
 abbrev pub RunsAs : Parsed → Option (List ℕ) → (status : ℕ) → (old_text new_text : Option (List ℕ))
     → Type 0
 RunsAs (parsed.Task t) input status old text = (done : Result ℕ Failure)
-    × IfOk done (λ s. IsDone t input (λ _. None) (λ _. None) None None s old text)
+    × IfOk done (λ s. EndsTask t input (λ _. None) (λ _. None) None None s old text)
     × (status ≡ status_of_done done)
 RunsAs (parsed.Shown shown) input status old text =
     (status ≡ 0 → Appends old text (string_bytes shown)) × (status ≤ 1)

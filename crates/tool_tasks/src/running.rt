@@ -2,7 +2,7 @@
 ghost use Rattle.std.specs.Prelude.{◌≡◌, ◌≤◌, IfErr, IfOk, MatchResult, OnOk, map};
 ghost use Rattle.std.specs.Io.KnownBytes.{Appends};
 ghost use Rattle.tool_tasks.specs.Statuses.{status_of_answer, status_of_failure};
-ghost use Rattle.tool_tasks.specs.Tasks.{DoesTask, IsDone, Runs};
+ghost use Rattle.tool_tasks.specs.Tasks.{DoesTask, EndsTask, Runs};
 
 use crate::failure::Failure;
 use crate::{System, make, show};
@@ -90,7 +90,7 @@ fn execute<'a, R: Files, C: Clock, P: Place, I: Read + Drop, W: Write, E: Write>
     shows_bar: bool,
 ) -> Result<u8, Failure<'a>>
     ensures small { IfOk result (λ status. status ≤ 1) }
-    ensures does { IfOk result (λ status. IsDone task.now (I.remaining input)
+    ensures does { IfOk result (λ status. EndsTask task.now (I.remaining input)
         (P.content place.old) (P.there place.old) (P.done place.old) (P.done place.new) status
         (W.contents output.old) (W.contents output.new)) }
 {

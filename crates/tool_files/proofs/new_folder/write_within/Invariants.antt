@@ -1,9 +1,9 @@
 use Rattle.std.proofs.Common.{take}
 use Rattle.std.specs.Prelude.{map, string_bytes}
-use Rattle.tool_files.specs.NewFolders.{IsWithin, numbered_within}
+use Rattle.tool_files.specs.NewFolders.{LiesWithin, numbered_within}
 use Rattle.tool_files.proofs.new_folder.write_within.Given as goal
 
 abbrev pub invariant-loop-at : goal.invariant-loop-at
 invariant-loop-at g l =
-    IsWithin (numbered_within l.beside (map (λ t. t.bytes) (take l.at l.tables)))
+    LiesWithin (numbered_within l.beside (map (λ t. t.bytes) (take l.at l.tables)))
     (map string_bytes l.written.items) (g.P.Place.done l.fn.place) (g.P.Place.done l.place)
