@@ -185,7 +185,7 @@ pub(crate) fn verify<'a, R: Files, C: Clock, P: Place, W: Write, E: Write>(
     // Nothing is wrong where the bytes of each file store a list.
     ensures sound { IfOk result (λ sound. sound ≡ true →
         AreSoundFiles (P.content place.now) task.now.files.items) }
-    // Each file is looked at, and what was found printed: what is wrong of one does not end it.
+    // Of each file what is found in its bytes is printed, or it counts as one that is not read.
     ensures does { IfOk result (λ sound. DoesVerify (P.content place.now) task.now.files.items sound
         (W.contents output.old) (W.contents output.new)) }
     ensures goes_on { IfErr result EndsVerify }
