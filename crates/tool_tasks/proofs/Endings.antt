@@ -9,7 +9,8 @@ use Rattle.tool_options.specs.declared.tasks.Task.{Task}
 use Rattle.tool_options.specs.declared.words.Parsed.{Parsed}
 use Rattle.tool_options.specs.declared.words.Parsed.TheVariants as parsed
 use Rattle.tool_tasks.specs.Statuses.{status_of_failure}
-use Rattle.tool_tasks.specs.Tasks.{EndsTask, Runs, RunsAs, status_of_done}
+use Rattle.tool_tasks.specs.Tasks.{EndsTask, RefusesTask, Runs, RunsAs}
+use Rattle.tool_tasks.specs.Tasks.{status_of_done}
 use Rattle.tool_tasks.specs.declared.failure.Failure.{Failure}
 
 -- what a report answers is the status of what was done
@@ -30,11 +31,12 @@ pub runs_task : {E : Type 0} (words : List (List ℕ)) (input : Option (List ℕ
     (asked : Result Parsed E) (t : Task) (done : Result ℕ Failure) (status : ℕ)
     (old new : Option (List ℕ)) → IfOk asked (AsksFrom words) → asked ≡ Ok (parsed.Task t)
     → IfOk done (λ s. EndsTask t input (λ _. None) (λ _. None) None None s old new)
+    → IfErr done (λ e. RefusesTask t input (λ _. None) (λ _. None) None e None)
     → MatchResult done (λ s. status ≡ s) (λ e. status ≡ status_of_failure e)
     → Runs words input status old new
-runs_task words input asked t done status old new asks is does told =
+runs_task words input asked t done status old new asks is does refused told =
     runs_as words input asked (parsed.Task t) status old new asks is
-    (done, does, ended done status told)
+    (done, does, refused, ended done status told)
 
 -- 0 where the output took a text, else 1
 shown : {P : Type 0} (printed : Result ℕ Failure) (status : ℕ) → IfOk printed (λ s. s ≡ 0)

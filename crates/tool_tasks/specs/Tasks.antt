@@ -1,5 +1,5 @@
 -- What comes of a task, and of the words of a command line.
-use Rattle.std.specs.Prelude.{◌≡◌, ◌≤◌, ◌⊎◌, ℕ, Bool, List, Option, None, IfOk}
+use Rattle.std.specs.Prelude.{◌≡◌, ◌≤◌, ◌⊎◌, ℕ, Bool, List, Option, None, IfErr, IfOk}
 use Rattle.std.specs.Prelude.{Result, Ok, Err, string_bytes}
 use Rattle.std.specs.Io.KnownBytes.{Appends, Keeps}
 use Rattle.tool_files.specs.Steps.{Step}
@@ -8,8 +8,9 @@ use Rattle.tool_options.specs.declared.tasks.Task.TheVariants as task
 use Rattle.tool_options.specs.Asks.{AsksFrom}
 use Rattle.tool_options.specs.declared.words.Parsed.{Parsed}
 use Rattle.tool_options.specs.declared.words.Parsed.TheVariants as parsed
-use Rattle.tool_tasks.specs.Making.{DoesCompact, DoesWrite}
-use Rattle.tool_tasks.specs.Packing.{DoesPack}
+use Rattle.tool_tasks.specs.Endings.{EndsVerify}
+use Rattle.tool_tasks.specs.Making.{DoesCompact, DoesWrite, RefusesCompact, RefusesWrite}
+use Rattle.tool_tasks.specs.Packing.{DoesPack, RefusesPack}
 use Rattle.tool_tasks.specs.Showing.{DoesDump, DoesGet, StatsEach}
 use Rattle.tool_tasks.specs.Statuses.{status_of_answer, status_of_failure}
 use Rattle.tool_tasks.specs.Verified.{AreSoundFiles, DoesVerify}
@@ -37,6 +38,18 @@ DoesTask (task.Dump t) input content there known new status old text =
 DoesTask (task.Stat t) input content there known new status old text =
     (status ≡ 0) × (new ≡ known) × StatsEach t.json content t.files.items old text
 
+-- a task is refused with a failure, and this is done then: where nothing makes files, nothing
+abbrev pub RefusesTask : Task → Option (List ℕ) → (List ℕ → Option (List ℕ))
+    → (List ℕ → Option Bool) → (known : Option (List Step)) → Failure
+    → (new : Option (List Step)) → Type 0
+RefusesTask (task.Write t) input content there known e new = RefusesWrite t input there known e new
+RefusesTask (task.Compact t) input content there known e new =
+    RefusesCompact t content there known e new
+RefusesTask (task.Pack t) input content there known e new =
+    (new ≡ known) × RefusesPack t content e
+RefusesTask (task.Verify t) input content there known e new = (new ≡ known) × EndsVerify e
+RefusesTask t input content there known e new = new ≡ known
+
 -- a task is done, and what it printed passed on
 abbrev pub EndsTask : Task → Option (List ℕ) → (List ℕ → Option (List ℕ))
     → (List ℕ → Option Bool) → (known new : Option (List Step)) → (status : ℕ)
@@ -55,6 +68,7 @@ abbrev pub RunsAs : Parsed → Option (List ℕ) → (status : ℕ) → (old_tex
     → Type 0
 RunsAs (parsed.Task t) input status old text = (done : Result ℕ Failure)
     × IfOk done (λ s. EndsTask t input (λ _. None) (λ _. None) None None s old text)
+    × IfErr done (λ e. RefusesTask t input (λ _. None) (λ _. None) None e None)
     × (status ≡ status_of_done done)
 RunsAs (parsed.Shown shown) input status old text =
     (status ≡ 0 → Appends old text (string_bytes shown)) × (status ≤ 1)

@@ -2,7 +2,7 @@
 ghost use Rattle.std.specs.Prelude.{◌≡◌, ◌≤◌, IfErr, IfOk, MatchResult, OnOk, map};
 ghost use Rattle.std.specs.Io.KnownBytes.{Appends};
 ghost use Rattle.tool_tasks.specs.Statuses.{status_of_answer, status_of_failure};
-ghost use Rattle.tool_tasks.specs.Tasks.{DoesTask, EndsTask, Runs};
+ghost use Rattle.tool_tasks.specs.Tasks.{DoesTask, EndsTask, RefusesTask, Runs};
 
 use crate::failure::Failure;
 use crate::{System, make, show};
@@ -93,6 +93,8 @@ fn execute<'a, R: Files, C: Clock, P: Place, I: Read + Drop, W: Write, E: Write>
     ensures does { IfOk result (λ status. EndsTask task.now (I.remaining input)
         (P.content place.old) (P.there place.old) (P.done place.old) (P.done place.new) status
         (W.contents output.old) (W.contents output.new)) }
+    ensures refused { IfErr result (λ e. RefusesTask task.now (I.remaining input)
+        (P.content place.old) (P.there place.old) (P.done place.old) e (P.done place.new)) }
 {
     let done = perform(system, place, task, input, output, errors, shows_bar);
     let flushed: io::Result<()> = output.flush();
@@ -115,6 +117,8 @@ fn perform<'a, R: Files, C: Clock, P: Place, I: Read + Drop, W: Write, E: Write>
     ensures does { IfOk result (λ status. DoesTask task.now (I.remaining input)
         (P.content place.old) (P.there place.old) (P.done place.old) (P.done place.new) status
         (W.contents output.old) (W.contents output.new)) }
+    ensures refused { IfErr result (λ e. RefusesTask task.now (I.remaining input)
+        (P.content place.old) (P.there place.old) (P.done place.old) e (P.done place.new)) }
 {
     match task {
         Task::Write(task) => make::write(system, place, task, input, output).and(Ok(0)),

@@ -10,7 +10,8 @@ returns-in-Ok-Task-clause-runs g c =
     runs_task (map g.S.AsStr.text c.args.words.now) (g.I.Read.remaining c.args.input)
     c.parse.result c.in-Ok-Task.task c.execute-done.result c.report.result _ _ c.parse.ensures
     (subst (λ (p : Parsed). c.parse.result ≡ Ok p) c.in-Ok-Task.field-0-is c.in-Ok-Task.is)
-    c.execute-done.ensures.does c.report.ensures
+    c.execute-done.ensures.does
+    c.execute-done.ensures.refused c.report.ensures
 
 pub returns-in-Ok-Shown-clause-runs : goal.returns-in-Ok-Shown-clause-runs
 returns-in-Ok-Shown-clause-runs g c =
