@@ -44,7 +44,8 @@ pub use Rattle.lsm_readers.specs.Verification.{bytes_read, steps_of, verifying}
 pub use Rattle.lsm_runs.specs.RunLists.{DealWithin, DealsList, HoldLists, HoldsList, RunsHoldLists}
 pub use Rattle.lsm_runs.specs.RunLists.{DealTogether, single}
 pub use Rattle.lsm_runs.specs.RunParts.{range_of}
-pub use Rattle.lsm_runs.specs.SeveralRuns.{leading_of, runs_told, union_in}
+pub use Rattle.lsm_runs.specs.SeveralRuns.{runs_told, union_in}
+pub use Rattle.lsm_sorted.specs.Leading.{leading_of}
 pub use Rattle.lsm_compactions.specs.AnyRuns.{AreTablesBy, BeginsWith, CameInOrder, CameOf}
 pub use Rattle.lsm_compactions.specs.AnyRuns.{GoesThrough, HasMade, LeavesOrder, RefusesOf}
 pub use Rattle.lsm_compactions.specs.AnyRuns.{WritesSome, scans_of}

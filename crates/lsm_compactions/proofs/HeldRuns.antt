@@ -25,7 +25,7 @@ use Rattle.lsm_readers.specs.Stored.{StoresList}
 use Rattle.lsm_readers.specs.Table.{IsOpen, OpenTable}
 use Rattle.lsm_readers.proofs.Ends.{keys_within}
 use Rattle.lsm_readers.proofs.FileStored.{open_stores}
-use Rattle.lsm_readers.proofs.Recovered.{range_is}
+use Rattle.lsm_points.proofs.Recovered.{range_is}
 use Rattle.lsm_readers.proofs.StoredParts.{bears_out}
 use Rattle.lsm_compactions.specs.Chain.{IsRunOfList}
 use Rattle.lsm_runs.specs.RunLists.{HoldLists}

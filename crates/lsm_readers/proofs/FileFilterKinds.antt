@@ -43,10 +43,10 @@ use Rattle.sst_sections.specs.declared.section.SectionName.TheVariants.{FilterTl
 use Rattle.sst_filters.specs.KeyHash.{hash_of}
 use Rattle.sst_entries.specs.declared.error.Error.{Error}
 use Rattle.sst_blocks.specs.Place.{Place, place_of}
-use Rattle.lsm_readers.specs.declared.regions.ParsedRegions.{ParsedRegions}
-use Rattle.lsm_readers.specs.Answer.{filter_admits, part_admits}
+use Rattle.lsm_points.specs.declared.regions.ParsedRegions.{ParsedRegions}
+use Rattle.lsm_points.specs.Answer.{filter_admits, part_admits}
 use Rattle.lsm_readers.specs.OfList.{filter_said, filter_tops_said, place_from}
-use Rattle.lsm_readers.specs.Parts.{filter_told, pinned_filter, tops_told}
+use Rattle.lsm_points.specs.Parts.{filter_told, pinned_filter, tops_told}
 use Rattle.lsm_readers.specs.Stored.{FiltersLoad, LoadsAs}
 
 -- ---- it loads

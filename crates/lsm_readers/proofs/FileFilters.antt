@@ -35,7 +35,7 @@ use Rattle.lsm_formats.specs.Partitions.{handles_block, tops_from}
 use Rattle.lsm_formats.proofs.KeyLaws.{key_end}
 use Rattle.lsm_formats.proofs.FilterLaws.{wide, is_built}
 use Rattle.sst_blocks.specs.Place.{place_of}
-use Rattle.lsm_readers.specs.Read.{◌>>=◌}
+use Rattle.lsm_points.specs.Read.{◌>>=◌}
 use Rattle.lsm_readers.specs.Stored.{LoadsAs}
 use Rattle.lsm_readers.proofs.FileIndexes.{LoadsHandles, handles_load}
 use Rattle.lsm_readers.proofs.FileLengths.{longest_short}

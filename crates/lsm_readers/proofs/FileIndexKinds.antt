@@ -30,8 +30,8 @@ use Rattle.sst_sections.specs.declared.section.SectionName.TheVariants.{FilterTl
 use Rattle.sst_sections.specs.declared.section.SectionName.TheVariants.{Index as IndexSection, Tli}
 use Rattle.sst_sections.specs.declared.section.SectionName.TheVariants.{Meta as MetaSection}
 use Rattle.sst_blocks.specs.Place.{Place}
-use Rattle.lsm_readers.specs.declared.regions.ParsedRegions.{ParsedRegions}
-use Rattle.lsm_readers.specs.IndexKinds.{index_said, index_told, handles_told}
+use Rattle.lsm_points.specs.declared.regions.ParsedRegions.{ParsedRegions}
+use Rattle.lsm_points.specs.IndexKinds.{index_said, index_told, handles_told}
 use Rattle.lsm_readers.specs.Stored.{HasPartitions, IndexHas, NamesPart}
 use Rattle.lsm_readers.specs.OfList.{place_from}
 

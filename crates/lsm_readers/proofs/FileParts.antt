@@ -25,13 +25,13 @@ use Rattle.lsm_formats.specs.Table.{IsTable}
 use Rattle.lsm_formats.specs.declared.label.Label.{Label}
 use Rattle.lsm_formats.specs.declared.options.Options.{Options}
 use Rattle.lsm_formats.proofs.KeyLaws.{key_end, keys_strict}
-use Rattle.lsm_readers.specs.declared.regions.ParsedRegions.{ParsedRegions}
-use Rattle.lsm_readers.specs.Meta.{Facts, facts_said, facts_told, meta_told}
+use Rattle.lsm_points.specs.declared.regions.ParsedRegions.{ParsedRegions}
+use Rattle.lsm_points.specs.Meta.{Facts, facts_said, facts_told, meta_told}
 use Rattle.lsm_readers.specs.OfList.{filter_said, filter_tops_said, list_told, no_place, parts_said}
 use Rattle.lsm_readers.specs.OfList.{pinned_said, place_from, regions_said}
-use Rattle.lsm_readers.specs.IndexKinds.{index_said, index_told}
-use Rattle.lsm_readers.specs.Parts.{Parts, Pinned, filter_told, parts_told, pinned_filter}
-use Rattle.lsm_readers.specs.Parts.{pinned_told, places_told, recovered_told, tops_told}
+use Rattle.lsm_points.specs.IndexKinds.{index_said, index_told}
+use Rattle.lsm_points.specs.Parts.{Parts, Pinned, filter_told, parts_told, pinned_filter}
+use Rattle.lsm_points.specs.Parts.{pinned_told, places_told, recovered_told, tops_told}
 use Rattle.lsm_readers.proofs.FileContent.{body_short, entries_fit, facts_fit, filter_within}
 use Rattle.lsm_readers.proofs.FileContent.{first_short, handles_fit, handles_line, index_within}
 use Rattle.lsm_readers.proofs.FileContent.{last_short, longest_below, meta_block_short, meta_short}
@@ -44,7 +44,7 @@ use Rattle.lsm_readers.proofs.FileSections.{index_at, meta_items_read, regions_r
 use Rattle.lsm_readers.proofs.FileSections.{the_filter, the_index, the_items, top_at, written}
 use Rattle.lsm_readers.proofs.MetaBlocks.{meta_reads}
 use Rattle.lsm_readers.proofs.MetaReads.{facts_read, interval_read, written_facts}
-use Rattle.lsm_readers.proofs.Recovered.{Steps, ok_same, steps}
+use Rattle.lsm_points.proofs.Recovered.{Steps, ok_same, steps}
 
 abbrev pub written_parts : TableVersion → Label → Options → Content → Bool → Bool → Parts
 written_parts v label options c pin_filter pin_index =

@@ -14,8 +14,8 @@ use Rattle.sst_blocks.specs.Place.{Place}
 use Rattle.lsm_formats.specs.Fits.{SectionFits}
 use Rattle.lsm_formats.specs.Layout.{Sections, bytes_in, starts_from}
 use Rattle.lsm_readers.specs.OfList.{place_from}
-use Rattle.lsm_readers.specs.Read.{◌>>=◌}
-use Rattle.lsm_readers.specs.Regions.{needed_told, optional_told, region_told}
+use Rattle.lsm_points.specs.Read.{◌>>=◌}
+use Rattle.lsm_points.specs.Regions.{needed_told, optional_told, region_told}
 
 -- where a section of a name lies among some, the first of them at a position
 abbrev pub section_from : ℕ → Sections → SectionName → Option Section

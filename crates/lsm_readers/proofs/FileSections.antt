@@ -41,10 +41,10 @@ use Rattle.lsm_formats.specs.Kinds.{filter_sections}
 use Rattle.lsm_formats.specs.Layout.{Sections, bytes_in, laid}
 use Rattle.lsm_formats.specs.MetaBlock.{meta_entries, version_number}
 use Rattle.sst_filters.specs.Filter.{BloomFilter}
-use Rattle.lsm_readers.specs.declared.regions.ParsedRegions.{ParsedRegions}
-use Rattle.lsm_readers.specs.Meta.{facts_told, meta_told}
+use Rattle.lsm_points.specs.declared.regions.ParsedRegions.{ParsedRegions}
+use Rattle.lsm_points.specs.Meta.{facts_told, meta_told}
 use Rattle.lsm_readers.specs.OfList.{no_place, place_from, regions_laid, regions_said}
-use Rattle.lsm_readers.specs.Regions.{regions_told, section_named}
+use Rattle.lsm_points.specs.Regions.{regions_told, section_named}
 use Rattle.lsm_readers.proofs.FileIndexKinds.{index_none, top_lies, top_place}
 use Rattle.lsm_readers.proofs.FileRegions.{bytes_append, laid_ascending, needed_by, place_append}
 use Rattle.lsm_readers.proofs.FileRegions.{section_from, section_told, sections_laid}

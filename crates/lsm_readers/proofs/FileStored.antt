@@ -29,11 +29,11 @@ use Rattle.lsm_formats.specs.declared.options.FilterKind.TheVariants.{
   Partitioned as PartitionedFilter,
 }
 use Rattle.lsm_formats.specs.declared.options.Options.{Options}
-use Rattle.lsm_readers.specs.declared.regions.ParsedRegions.{ParsedRegions}
-use Rattle.lsm_readers.specs.Answer.{filter_admits}
+use Rattle.lsm_points.specs.declared.regions.ParsedRegions.{ParsedRegions}
+use Rattle.lsm_points.specs.Answer.{filter_admits}
 use Rattle.lsm_readers.specs.OfList.{filter_said, filter_tops_said, regions_said}
 use Rattle.lsm_readers.specs.Stored.{Admits, BearsOut, FilterHas, IndexHas, NamesChunk, StoresList}
-use Rattle.lsm_readers.specs.Table.{IsOpen, OpenTable}
+use Rattle.lsm_points.specs.Table.{IsOpen, OpenTable}
 use Rattle.lsm_readers.proofs.FileChunks.{all_read, chunk_sizes, chunks_laid, chunks_named}
 use Rattle.lsm_readers.proofs.FileChunks.{empty_refused}
 use Rattle.lsm_readers.proofs.FileContent.{all_some, entries_fit, handles_fit, handles_line}

@@ -1,11 +1,3 @@
-pub mod Steps
-pub mod Loads
-pub mod Recovered
-pub mod IndexKinds
-pub mod ReadLaws
-pub mod FewLoads
-pub mod Points
-pub mod AskedReads
 pub mod ChunkReads
 pub mod PartReads
 pub mod FilterReads
@@ -39,9 +31,7 @@ pub mod StoredOne
 pub mod FileStored
 pub mod TableRanges
 pub mod Sizes
-pub mod ManyReads
 pub mod ManyOfList
-pub mod BatchReads
 pub mod ByKey
 pub mod OneIndex
 pub mod VerifySteps

@@ -26,10 +26,10 @@ use Rattle.byteorder.specs.Numbers.{little_number-reads_back}
 use Rattle.sst_entries.specs.declared.error.Error.TheVariants.{UnsupportedTableVersion}
 use Rattle.sst_entries.specs.declared.error.Error.TheVariants.{UnsupportedIndexInterval}
 use Rattle.lsm_ranges.specs.KeyRange.{interval}
-use Rattle.lsm_readers.specs.Meta.{Facts, facts_said, item_told, u64_told, version_told, kinds_told}
-use Rattle.lsm_readers.specs.Meta.{byte_told, first_told, compressions_told, created_told}
-use Rattle.lsm_readers.specs.Meta.{keys_told, seqnos_told, numbers_said, numbers_told, rest_told}
-use Rattle.lsm_readers.specs.Meta.{facts_told}
+use Rattle.lsm_points.specs.Meta.{Facts, facts_said, item_told, u64_told, version_told, kinds_told}
+use Rattle.lsm_points.specs.Meta.{byte_told, first_told, compressions_told, created_told}
+use Rattle.lsm_points.specs.Meta.{keys_told, seqnos_told, numbers_said, numbers_told, rest_told}
+use Rattle.lsm_points.specs.Meta.{facts_told}
 
 -- a number that was written is read
 pub u64_read : (es : List Entry) (name : ItemName) (n : ℕ) → item_told es name ≡ Ok (le8 n)

@@ -12,7 +12,7 @@ use Rattle.lsm_formats.specs.Table.{IsTable}
 use Rattle.lsm_formats.proofs.OneCut.{one_cut}
 use Rattle.lsm_readers.specs.BlockIndexes.{AreCutAlike, NamesBlocksOf, TellAlike, table_index}
 use Rattle.lsm_readers.specs.Stored.{StoresList}
-use Rattle.lsm_readers.specs.Table.{IsOpen, OpenTable}
+use Rattle.lsm_points.specs.Table.{IsOpen, OpenTable}
 use Rattle.lsm_readers.proofs.FileStored.{open_stores}
 use Rattle.lsm_readers.proofs.StoredParts.{stored_index}
 

@@ -22,8 +22,8 @@ use Rattle.sst_blocks.proofs.Reaching.{above_reaches, reaches_after}
 use Rattle.lsm_formats.specs.Parts.{joined_parts}
 use Rattle.lsm_formats.specs.Partitions.{last_end}
 use Rattle.lsm_block_indexes.specs.Index.{between, block_between, parts_between}
-use Rattle.lsm_readers.specs.IndexKinds.{handles_told}
-use Rattle.lsm_readers.specs.Read.{◌>>=◌}
+use Rattle.lsm_points.specs.IndexKinds.{handles_told}
+use Rattle.lsm_points.specs.Read.{◌>>=◌}
 use Rattle.lsm_readers.specs.Stored.{NamesPart}
 use Rattle.lsm_readers.proofs.Windows.{AllCut, AllTell, Rises, Tells, parts_cut, to_here, to_later}
 

@@ -17,10 +17,10 @@ use Rattle.lsm_block_indexes.specs.Index.{Index}
 use Rattle.lsm_block_indexes.specs.Left.{Left, LeftGives}
 use Rattle.lsm_iters.specs.Bounds.{lower_edge, upper_edge}
 use Rattle.lsm_readers.specs.BlockIndexes.{table_index}
-use Rattle.lsm_readers.specs.Read.{◌>>=◌}
+use Rattle.lsm_points.specs.Read.{◌>>=◌}
 use Rattle.lsm_readers.specs.Sizes.{dealt, size_of, size_told, size_within, sizes_told}
 use Rattle.lsm_readers.specs.Stored.{BearsOut, StoresList}
-use Rattle.lsm_readers.specs.Table.{IsOpen, OpenTable}
+use Rattle.lsm_points.specs.Table.{IsOpen, OpenTable}
 use Rattle.lsm_readers.proofs.StoredParts.{stored_index}
 
 -- ---- a sum that stops at the largest number

@@ -15,13 +15,13 @@ use Rattle.sst_blocks.specs.Block.{Loaded, load_told}
 use Rattle.sst_blocks.specs.Handle.{Handle}
 use Rattle.sst_blocks.specs.Handles.{reaches}
 use Rattle.sst_blocks.specs.Place.{Place, place_of}
-use Rattle.lsm_readers.specs.Answer.{block_admits, filter_admits, part_admits}
-use Rattle.lsm_readers.specs.Parts.{filter_told, tops_told}
-use Rattle.lsm_readers.specs.Read.{◌>>=◌}
+use Rattle.lsm_points.specs.Answer.{block_admits, filter_admits, part_admits}
+use Rattle.lsm_points.specs.Parts.{filter_told, tops_told}
+use Rattle.lsm_points.specs.Read.{◌>>=◌}
 use Rattle.lsm_readers.specs.Stored.{Admits, FilterHas, FiltersLoad, LoadsAs}
 use Rattle.lsm_readers.proofs.FileFilters.{Asked}
 use Rattle.lsm_readers.proofs.FilterReads.{has_key, in_front, in_rest}
-use Rattle.lsm_readers.proofs.Recovered.{ok_same}
+use Rattle.lsm_points.proofs.Recovered.{ok_same}
 
 -- ---- keys of a list
 

@@ -10,11 +10,11 @@ use Rattle.sst_blocks.specs.Handle.{Handle}
 use Rattle.sst_blocks.specs.Place.{Place, place_of}
 use Rattle.lsm_formats.specs.Chunks.{joined}
 use Rattle.lsm_formats.specs.Parts.{joined_parts}
-use Rattle.lsm_readers.specs.declared.regions.ParsedRegions.{ParsedRegions}
-use Rattle.lsm_readers.specs.IndexKinds.{handles_told}
-use Rattle.lsm_readers.specs.Parts.{places_told}
+use Rattle.lsm_points.specs.declared.regions.ParsedRegions.{ParsedRegions}
+use Rattle.lsm_points.specs.IndexKinds.{handles_told}
+use Rattle.lsm_points.specs.Parts.{places_told}
 use Rattle.lsm_readers.specs.Stored.{IndexHas, NamesChunk, NamesPart, StoresList}
-use Rattle.lsm_readers.proofs.Recovered.{ok_same}
+use Rattle.lsm_points.proofs.Recovered.{ok_same}
 
 -- of each of some items there is one
 zip_one : {X Y : Type 0} (P : X → Y → Type 0)

@@ -24,23 +24,23 @@ use Rattle.lsm_formats.specs.Filters.{keys_of}
 use Rattle.lsm_iters.specs.Bounds.{lower_edge, upper_edge}
 use Rattle.lsm_iters.specs.Lift.{lift}
 use Rattle.lsm_iters.specs.Rows.{Bounded, rows}
-use Rattle.lsm_readers.specs.declared.regions.ParsedRegions.{ParsedRegions}
-use Rattle.lsm_readers.specs.Answer.{answer, filter_admits}
-use Rattle.lsm_readers.specs.IndexKinds.{index_over}
-use Rattle.lsm_readers.specs.Meta.{Facts, meta_told}
-use Rattle.lsm_readers.specs.Parts.{Parts, Pinned, facts_fitting, parts_told, pinned_told}
-use Rattle.lsm_readers.specs.Parts.{places_told, recovered_told}
+use Rattle.lsm_points.specs.declared.regions.ParsedRegions.{ParsedRegions}
+use Rattle.lsm_points.specs.Answer.{answer, filter_admits}
+use Rattle.lsm_points.specs.IndexKinds.{index_over}
+use Rattle.lsm_points.specs.Meta.{Facts, meta_told}
+use Rattle.lsm_points.specs.Parts.{Parts, Pinned, facts_fitting, parts_told, pinned_told}
+use Rattle.lsm_points.specs.Parts.{places_told, recovered_told}
 use Rattle.lsm_readers.specs.Scan.{LendsList, Scan, ScansLent, ScansList, ScansNext, fault_of}
 use Rattle.lsm_readers.specs.Scan.{scan_told}
 use Rattle.lsm_readers.specs.Stored.{BearsOut, FilterHas, IndexHas, StoresList, fits_told}
 use Rattle.lsm_readers.proofs.FileFilters.{Asked}
-use Rattle.lsm_readers.proofs.Recovered.{PinnedSteps, Steps, ok_same, pinned_steps, steps}
+use Rattle.lsm_points.proofs.Recovered.{PinnedSteps, Steps, ok_same, pinned_steps, steps}
 use Rattle.lsm_readers.proofs.StoredChunks.{handles_strict}
 use Rattle.lsm_readers.proofs.StoredFilters.{filter_asked, filter_opens}
 use Rattle.lsm_readers.proofs.StoredIndex.{TellsHandles, index_opens, index_tells}
 use Rattle.lsm_readers.proofs.StoredPoints.{reads_first}
 use Rattle.lsm_readers.proofs.StoredRanges.{LeavesRoom, window_rows}
-use Rattle.lsm_readers.proofs.Steps.{same_fault}
+use Rattle.lsm_points.proofs.Steps.{same_fault}
 use Rattle.lsm_readers.proofs.StoredScans.{Scans, chunks_scan, lends_list, scan_opens}
 
 -- something, or the refusal of a number that is too large

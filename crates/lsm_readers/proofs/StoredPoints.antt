@@ -20,10 +20,10 @@ use Rattle.sst_blocks.specs.Place.{Place, place_of}
 use Rattle.lsm_formats.specs.Chunks.{joined}
 use Rattle.lsm_formats.specs.Facts.{lowest_seqno}
 use Rattle.lsm_formats.specs.Filters.{keys_of}
-use Rattle.lsm_readers.specs.Answer.{answer, filter_admits, handle_for, lift, lifted, match_at}
-use Rattle.lsm_readers.specs.Answer.{match_in}
-use Rattle.lsm_readers.specs.Parts.{Parts}
-use Rattle.lsm_readers.specs.Read.{◌>>=◌, known, read_then}
+use Rattle.lsm_points.specs.Answer.{answer, filter_admits, handle_for, lift, lifted, match_at}
+use Rattle.lsm_points.specs.Answer.{match_in}
+use Rattle.lsm_points.specs.Parts.{Parts}
+use Rattle.lsm_points.specs.Read.{◌>>=◌, known, read_then}
 use Rattle.lsm_readers.specs.Stored.{NamesChunk}
 use Rattle.lsm_readers.proofs.ChunkReads.{chunk_here, chunk_passed}
 use Rattle.lsm_readers.proofs.FileFilters.{Asked}

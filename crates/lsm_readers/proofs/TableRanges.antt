@@ -32,7 +32,7 @@ use Rattle.lsm_readers.specs.BlockIndexes.{table_index}
 use Rattle.lsm_readers.specs.Ranges.{DealsAll, DealsWithin, IsRangeOf, LoadsAtMost, blocks_within}
 use Rattle.lsm_readers.specs.Ranges.{bounded, index_within, range_told}
 use Rattle.lsm_readers.specs.Stored.{StoresList}
-use Rattle.lsm_readers.specs.Table.{IsOpen, OpenTable}
+use Rattle.lsm_points.specs.Table.{IsOpen, OpenTable}
 use Rattle.lsm_readers.proofs.StoredParts.{stored_blocks, stored_rows}
 
 abbrev R : Type 0

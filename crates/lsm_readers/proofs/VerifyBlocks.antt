@@ -20,8 +20,8 @@ use Rattle.lsm_formats.specs.Parts.{joined_parts}
 use Rattle.lsm_readers.specs.declared.verify.Counts.{Counts}
 use Rattle.lsm_readers.specs.Findings.{BlockComes, ComesBehindParts, ComesWithin, IsFirstFinding}
 use Rattle.lsm_readers.specs.Findings.{PartComes, Reads, ReadsBlocks, in_block, in_index, in_part}
-use Rattle.lsm_readers.specs.IndexKinds.{handles_told}
-use Rattle.lsm_readers.specs.Parts.{Parts}
+use Rattle.lsm_points.specs.IndexKinds.{handles_told}
+use Rattle.lsm_points.specs.Parts.{Parts}
 use Rattle.lsm_readers.specs.Stored.{AreLaid, IndexHas, NamesChunk, NamesPart}
 use Rattle.lsm_readers.specs.declared.verify.Finding.{Finding}
 use Rattle.lsm_readers.specs.Verify.{◌>>=◌, Unread, block_found, block_spent, blocks_found}

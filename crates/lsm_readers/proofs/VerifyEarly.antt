@@ -29,7 +29,7 @@ use Rattle.lsm_readers.specs.declared.verify.Finding.{Finding}
 use Rattle.lsm_readers.specs.declared.verify.VerifyError.{VerifyError}
 use Rattle.lsm_readers.specs.declared.verify.VerifyError.TheVariants.{Found, OutOfMemory}
 use Rattle.lsm_readers.specs.Verify.{FindsFirst, early_at, early_filters, early_from}
-use Rattle.lsm_readers.specs.Parts.{Parts}
+use Rattle.lsm_points.specs.Parts.{Parts}
 use Rattle.lsm_readers.specs.Verify.{Finds, Misses, Unread, finding, is_found, load_refusal}
 use Rattle.lsm_readers.specs.Verification.{StepsCalmly, chunk_early, found_or, in_index}
 use Rattle.lsm_readers.specs.Verification.{step_early}

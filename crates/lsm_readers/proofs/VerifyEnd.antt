@@ -17,7 +17,7 @@ use Rattle.lsm_formats.specs.Index.{last_entry}
 use Rattle.lsm_ranges.specs.KeyRange.{Interval, interval}
 use Rattle.lsm_readers.specs.declared.verify.Counts.{Counts}
 use Rattle.lsm_readers.specs.OfList.{ends_of}
-use Rattle.lsm_readers.specs.Parts.{Parts}
+use Rattle.lsm_points.specs.Parts.{Parts}
 use Rattle.lsm_readers.specs.Stored.{FiltersLoad, HasNoBlock, LoadsAs}
 use Rattle.lsm_readers.specs.Verify.{counts_found, filter_found, filters_by}
 use Rattle.lsm_readers.specs.Verify.{located, passed, range_found, tops_found}

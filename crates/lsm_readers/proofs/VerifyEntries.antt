@@ -11,7 +11,7 @@ use Rattle.lsm_formats.specs.Facts.{is_weak, lowest_seqno, one_if, starts_key}
 use Rattle.lsm_formats.specs.Filters.{keys_after}
 use Rattle.lsm_readers.specs.declared.verify.Counts.{Counts}
 use Rattle.lsm_readers.specs.Findings.{IsFirst, Reads, StartsAt}
-use Rattle.lsm_readers.specs.Parts.{Parts}
+use Rattle.lsm_points.specs.Parts.{Parts}
 use Rattle.lsm_readers.specs.Stored.{Admits}
 use Rattle.lsm_readers.specs.Verify.{Unread, admitted, asked_found, entries_found, entry_found}
 use Rattle.lsm_readers.specs.Verify.{entry_spent, entry_tested, key_found}

@@ -21,7 +21,7 @@ use Rattle.sst_entries.specs.Strict.{last_of}
 use Rattle.sst_blocks.specs.Handle.{Handle}
 use Rattle.sst_blocks.specs.Handles.{end_of}
 use Rattle.sst_blocks.specs.Place.{Place, place_of}
-use Rattle.lsm_readers.specs.Parts.{Parts}
+use Rattle.lsm_points.specs.Parts.{Parts}
 use Rattle.lsm_readers.specs.Verify.{◌>>=◌, Finds, Unread, Misses, block_found, load_refusal}
 use Rattle.lsm_readers.specs.Verify.{blocks_found, end_named, entries_found, entry_found}
 use Rattle.lsm_readers.specs.Verify.{filter_found, finding, last_named, located, part_found}

@@ -13,7 +13,7 @@ use Rattle.lsm_readers.specs.declared.verify.Counts.{Counts}
 use Rattle.lsm_readers.specs.declared.verify.Finding.{Finding}
 use Rattle.lsm_readers.specs.declared.verify.VerifyError.{VerifyError}
 use Rattle.lsm_readers.specs.declared.verify.VerifyError.TheVariants.{Found}
-use Rattle.lsm_readers.specs.Parts.{Parts}
+use Rattle.lsm_points.specs.Parts.{Parts}
 use Rattle.lsm_readers.specs.Verify.{◌>>=◌, Misses, Unread, block_found, chunk_found}
 use Rattle.lsm_readers.specs.Verify.{contents_found, counted_found, early_at, handles_found}
 use Rattle.lsm_readers.specs.Verify.{is_found, top_named}

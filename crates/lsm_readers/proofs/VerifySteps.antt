@@ -13,7 +13,7 @@ use Rattle.sst_blocks.specs.Handle.{Handle}
 use Rattle.lsm_formats.specs.declared.item_name.ItemName.{ItemName}
 use Rattle.lsm_readers.specs.declared.verify.Finding.{Finding}
 use Rattle.lsm_readers.specs.Findings.{IsFirst}
-use Rattle.lsm_readers.specs.Parts.{Parts}
+use Rattle.lsm_points.specs.Parts.{Parts}
 use Rattle.lsm_readers.specs.Verify.{◌>>=◌, asked_found, end_named, first_found, key_same}
 use Rattle.lsm_readers.specs.Verify.{located, order_found, place_found, same_found}
 use Rattle.lsm_readers.specs.Verify.{some_found, spent, tested}

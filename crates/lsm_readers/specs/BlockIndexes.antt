@@ -1,15 +1,14 @@
 -- The index of an opened table.
-use Rattle.std.specs.Prelude.{◌≡◌, ℕ, Bool, List, Option, Ok}
+use Rattle.std.specs.Prelude.{◌≡◌, ℕ, List, Option}
 use Rattle.sst_entries.specs.Entry.{Entry}
 use Rattle.sst_entries.specs.Stream.{ok_results}
 use Rattle.sst_blocks.specs.Handles.{window}
 use Rattle.sst_sections.specs.Sections.{body_of}
 use Rattle.lsm_formats.specs.Table.{IsTable}
 use Rattle.lsm_block_indexes.specs.Index.{Index}
-use Rattle.lsm_readers.specs.IndexKinds.{index_over}
-use Rattle.lsm_readers.specs.Parts.{recovered_told}
+use Rattle.lsm_points.specs.IndexKinds.{index_over}
 use Rattle.lsm_readers.specs.Stored.{StoresList}
-use Rattle.lsm_readers.specs.Table.{OpenTable}
+use Rattle.lsm_points.specs.Table.{OpenTable}
 
 -- the index of the kind that opening the table chose
 abbrev pub table_index : OpenTable → Index
@@ -33,8 +32,3 @@ pub record AreCutAlike {a b : List ℕ} {es : List Entry} (t : IsTable a es) (u 
 abbrev pub TellAlike : Index → Index → Type 0
 TellAlike one other = (lower : Option (List ℕ × ℕ)) (upper : Option (List ℕ)) →
     one.told lower upper ≡ other.told lower upper
-
--- a table was opened with these pins, that of the filter and that of the index
-abbrev pub OpenedWith : OpenTable → Bool → Bool → Type 0
-OpenedWith t pin_filter pin_index =
-    recovered_told t.bytes t.global_seqno pin_filter pin_index ≡ Ok t.parts

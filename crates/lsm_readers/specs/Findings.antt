@@ -14,8 +14,8 @@ use Rattle.lsm_formats.specs.Filters.{keys_after}
 use Rattle.lsm_formats.specs.Parts.{joined_parts}
 use Rattle.lsm_readers.specs.declared.verify.Counts.{Counts}
 use Rattle.lsm_readers.specs.declared.verify.Finding.{Finding}
-use Rattle.lsm_readers.specs.IndexKinds.{handles_told}
-use Rattle.lsm_readers.specs.Parts.{Parts}
+use Rattle.lsm_points.specs.IndexKinds.{handles_told}
+use Rattle.lsm_points.specs.Parts.{Parts}
 use Rattle.lsm_readers.specs.Stored.{Admits, AreLaid, IndexHas, NamesChunk, NamesPart}
 use Rattle.lsm_readers.specs.Verify.{◌>>=◌, Unread, block_found, end_found, filters_found}
 use Rattle.lsm_readers.specs.Verify.{handles_found, top_named, unread_of}

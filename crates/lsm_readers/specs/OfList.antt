@@ -29,10 +29,10 @@ use Rattle.lsm_formats.specs.declared.options.FilterKind.TheVariants.{
 use Rattle.lsm_formats.specs.declared.options.Options.{Options}
 use Rattle.lsm_formats.specs.declared.label.Label.{Label}
 use Rattle.lsm_formats.specs.Table.{IsTable}
-use Rattle.lsm_readers.specs.declared.regions.ParsedRegions.{ParsedRegions}
-use Rattle.lsm_readers.specs.IndexKinds.{index_said}
-use Rattle.lsm_readers.specs.Meta.{facts_said}
-use Rattle.lsm_readers.specs.Parts.{Parts, Pinned}
+use Rattle.lsm_points.specs.declared.regions.ParsedRegions.{ParsedRegions}
+use Rattle.lsm_points.specs.IndexKinds.{index_said}
+use Rattle.lsm_points.specs.Meta.{facts_said}
+use Rattle.lsm_points.specs.Parts.{Parts, Pinned}
 
 -- the first and the last key of a list
 abbrev pub ends_of : List Entry → Interval

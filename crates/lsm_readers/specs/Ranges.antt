@@ -19,7 +19,7 @@ use Rattle.lsm_iters.specs.Range.{Range, left_in, opened_in}
 use Rattle.lsm_iters.specs.Rows.{Bounded, rows}
 use Rattle.lsm_readers.specs.BlockIndexes.{table_index}
 use Rattle.lsm_readers.specs.Stored.{StoresList}
-use Rattle.lsm_readers.specs.Table.{OpenTable}
+use Rattle.lsm_points.specs.Table.{OpenTable}
 
 -- a table's bytes before the trailer, its global number, and two bounds
 abbrev pub bounded : OpenTable → Bound (List ℕ) → Bound (List ℕ) → Bounded

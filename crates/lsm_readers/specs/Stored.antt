@@ -20,12 +20,12 @@ use Rattle.lsm_formats.specs.Filters.{keys_of}
 use Rattle.lsm_formats.specs.Index.{last_entry}
 use Rattle.lsm_formats.specs.Partitions.{last_end}
 use Rattle.lsm_formats.specs.Parts.{joined_parts}
-use Rattle.lsm_readers.specs.declared.regions.ParsedRegions.{ParsedRegions}
-use Rattle.lsm_readers.specs.Answer.{filter_admits}
-use Rattle.lsm_readers.specs.IndexKinds.{handles_told}
-use Rattle.lsm_readers.specs.Meta.{Facts, meta_told}
+use Rattle.lsm_points.specs.declared.regions.ParsedRegions.{ParsedRegions}
+use Rattle.lsm_points.specs.Answer.{filter_admits}
+use Rattle.lsm_points.specs.IndexKinds.{handles_told}
+use Rattle.lsm_points.specs.Meta.{Facts, meta_told}
 use Rattle.lsm_readers.specs.OfList.{ends_of}
-use Rattle.lsm_readers.specs.Parts.{places_told, tops_told}
+use Rattle.lsm_points.specs.Parts.{places_told, tops_told}
 
 -- ---- data blocks
 

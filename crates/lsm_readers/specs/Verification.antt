@@ -16,8 +16,8 @@ use Rattle.lsm_readers.specs.declared.verify.Finding.{Finding}
 use Rattle.lsm_readers.specs.declared.verify.Verified.{Verified}
 use Rattle.lsm_readers.specs.declared.verify.steps.Stage.{Stage}
 use Rattle.lsm_readers.specs.declared.verify.steps.Stage.TheVariants as stage
-use Rattle.lsm_readers.specs.Parts.{Parts}
-use Rattle.lsm_readers.specs.Table.{OpenTable}
+use Rattle.lsm_points.specs.Parts.{Parts}
+use Rattle.lsm_points.specs.Table.{OpenTable}
 use Rattle.lsm_readers.specs.Verify.{◌>>=◌, Unread, block_found, blocks_found, counted_found}
 use Rattle.lsm_readers.specs.Verify.{counts_found}
 use Rattle.lsm_readers.specs.Verify.{early_at, end_found, filter_found, filter_places}

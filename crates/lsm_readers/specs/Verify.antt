@@ -29,11 +29,11 @@ use Rattle.lsm_readers.specs.declared.verify.Finding.{Finding}
 use Rattle.lsm_readers.specs.declared.verify.Verified.{Verified}
 use Rattle.lsm_readers.specs.declared.verify.VerifyError.{VerifyError}
 use Rattle.lsm_readers.specs.declared.verify.VerifyError.TheVariants.{Found, OutOfMemory}
-use Rattle.lsm_readers.specs.Answer.{filter_admits}
-use Rattle.lsm_readers.specs.IndexKinds.{handles_told}
-use Rattle.lsm_readers.specs.Meta.{Facts}
-use Rattle.lsm_readers.specs.Parts.{Parts}
-pub use Rattle.lsm_readers.specs.Read.{◌>>=◌}
+use Rattle.lsm_points.specs.Answer.{filter_admits}
+use Rattle.lsm_points.specs.IndexKinds.{handles_told}
+use Rattle.lsm_points.specs.Meta.{Facts}
+use Rattle.lsm_points.specs.Parts.{Parts}
+pub use Rattle.lsm_points.specs.Read.{◌>>=◌}
 
 -- ---- findings
 

@@ -2,7 +2,7 @@
 ghost use Rattle.std.specs.Prelude.{◌≡◌, ◌≢◌, IfErr, IfOk};
 ghost use Rattle.sst_sections.specs.Fnv.{fnv1a};
 ghost use Rattle.sst_sections.specs.Sections.{body_of};
-ghost use Rattle.lsm_readers.specs.Table.{parts_of};
+ghost use Rattle.lsm_points.specs.Table.{parts_of};
 ghost use Rattle.sst_blocks.specs.declared.block_type.BlockType.TheVariants.{Index};
 ghost use Rattle.sst_sections.specs.declared.section.SectionName.TheVariants.{Tli};
 ghost use Rattle.lsm_readers.specs.Verify.{Finds, FindsFirst, all_found, early_at, finding};

@@ -20,8 +20,9 @@ use Rattle.lsm_readers.specs.Read.{◌>>=◌}
 use Rattle.lsm_readers.specs.Table.{OpenTable}
 use Rattle.lsm_readers.proofs.StoredParts.{bears_out}
 use Rattle.lsm_runs.specs.RunLists.{HoldLists, HoldsList, RunsHoldLists}
-use Rattle.lsm_runs.specs.RunParts.{range_of, ranges_of}
-use Rattle.lsm_runs.specs.SeveralRuns.{highest_number, is_older, leading_of, run_read_behind}
+use Rattle.lsm_run_parts.specs.RunParts.{range_of, ranges_of}
+use Rattle.lsm_runs.specs.SeveralRuns.{highest_number, is_older, run_read_behind}
+use Rattle.lsm_sorted.specs.Leading.{leading_of}
 use Rattle.lsm_runs.specs.SeveralRuns.{runs_read_by_age, table_read, union_in, worth_asking}
 use Rattle.lsm_runs.proofs.Leading.{IsOfKey, leading_assoc, leading_last, leading_of_key}
 use Rattle.lsm_runs.proofs.Leading.{leading_sorted, leads_older, point_of_key}

@@ -15,7 +15,7 @@ use Rattle.sst_entries.proofs.OrderLemmas.{less_of}
 use Rattle.lsm_merge.specs.Union.{AtMost, Ascends, insert_sorted, item_cmp, sort_entries}
 use Rattle.lsm_merge.proofs.MergedLemmas.{at_most_chain, item_total}
 use Rattle.lsm_merge.proofs.UnionLemmas.{ascends_in_order}
-use Rattle.lsm_runs.specs.SeveralRuns.{leading_of}
+use Rattle.lsm_sorted.specs.Leading.{leading_of}
 use Rattle.lsm_runs.proofs.Rising.{at_most_of}
 use Rattle.lsm_sorted.proofs.EntryKeyLemmas.{lt_reverse}
 

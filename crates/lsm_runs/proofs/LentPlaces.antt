@@ -25,7 +25,7 @@ use Rattle.lsm_sorted.proofs.BelowLemmas.{deals_in_front}
 use Rattle.lsm_runs.specs.LentBelow.{LendsBelow, MayLendBelow}
 use Rattle.lsm_runs.specs.LentNewestRuns.{LendsNewest, LendsResults, runs_told_within, span_told}
 use Rattle.lsm_runs.specs.LentRun.{LendingRun, RunLends}
-use Rattle.lsm_runs.specs.RunParts.{RunSpan}
+use Rattle.lsm_run_parts.specs.RunParts.{RunSpan}
 use Rattle.lsm_runs.specs.RunRange.{IsRunOf, RunRange, run_left, run_size}
 use Rattle.lsm_runs.specs.SpansRead.{spans_within}
 use Rattle.lsm_runs.proofs.LentRunLaws.{lending_deals}

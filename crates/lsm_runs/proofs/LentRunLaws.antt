@@ -13,7 +13,7 @@ use Rattle.lsm_readers.specs.Table.{OpenTable}
 use Rattle.lsm_readers.proofs.TableRanges.{deals_values}
 use Rattle.lsm_runs.specs.LentRun.{LendingRun, RunLends}
 use Rattle.lsm_runs.specs.RunLists.{DealsList, HoldLists}
-use Rattle.lsm_runs.specs.RunParts.{ranges_of, span_of}
+use Rattle.lsm_run_parts.specs.RunParts.{ranges_of, span_of}
 use Rattle.lsm_runs.specs.RunRange.{IsRunEnded, IsRunOf, run_left}
 use Rattle.lsm_runs.proofs.RunLaws.{nothing}
 use Rattle.lsm_runs.proofs.RunLists.{new_left}

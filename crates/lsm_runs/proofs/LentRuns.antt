@@ -19,8 +19,8 @@ use Rattle.lsm_iters.proofs.RangeLaws.{range_step}
 use Rattle.lsm_runs.specs.LentRun.{LentTables, ReaderLends, RunLends, Stands}
 use Rattle.lsm_runs.specs.LentRun.{lending_run, lent_of_reader, lent_of_tables, over_run}
 use Rattle.lsm_runs.specs.LentRun.{range_of_reader, walk_of_tables}
-use Rattle.lsm_runs.specs.RunRange.{Unopened}
-use Rattle.lsm_runs.specs.Tables.{KeepsTables, coming_tables, none_unopened}
+use Rattle.lsm_run_parts.specs.Tables.{Unopened}
+use Rattle.lsm_run_parts.specs.Tables.{KeepsTables, coming_tables, none_unopened}
 use Rattle.lsm_runs.proofs.RunSteps.{R, run_gives}
 
 abbrev given : Option Entry → Option R

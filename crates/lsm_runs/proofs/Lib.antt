@@ -1,10 +1,8 @@
-pub mod Places
 pub mod RunSteps
 pub mod RunLaws
 pub mod RunWithin
 pub mod OneList
 pub mod SpanLists
-pub mod Opens
 pub mod Unions
 pub mod RunLists
 pub mod Rising

@@ -23,7 +23,7 @@ use Rattle.lsm_ranges.proofs.IntervalLemmas.{le_then_lt, lt_then_le}
 use Rattle.lsm_ranges.proofs.RunLemmas.{parts}
 use Rattle.lsm_readers.specs.Table.{OpenTable}
 use Rattle.lsm_runs.specs.RunLists.{HoldLists, HoldsList}
-use Rattle.lsm_runs.specs.RunParts.{range_of, ranges_of}
+use Rattle.lsm_run_parts.specs.RunParts.{range_of, ranges_of}
 use Rattle.lsm_runs.proofs.RunWithin.{Keys, held_keys}
 
 -- ---- one list

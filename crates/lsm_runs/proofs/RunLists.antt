@@ -12,9 +12,10 @@ use Rattle.lsm_iters.specs.Range.{Range}
 use Rattle.lsm_ranges.specs.Run.{ArePlacesOf, are_in_order, overlap_indexes}
 use Rattle.lsm_readers.specs.Table.{OpenTable}
 use Rattle.lsm_runs.specs.RunLists.{DealsList, HoldLists, span_list}
-use Rattle.lsm_runs.specs.RunParts.{RunSpan, span_parts_from, ranges_of, span_of, span_parts}
+use Rattle.lsm_run_parts.specs.RunParts.{RunSpan, span_parts_from, ranges_of, span_of, span_parts}
 use Rattle.lsm_runs.specs.RunRange.{IsRunOf, OpensAtMost, RunGives, RunRange, back_tables}
-use Rattle.lsm_runs.specs.RunRange.{front_tables, left_of_reader, run_parts_told, run_left}
+use Rattle.lsm_run_parts.specs.Tables.{run_parts_told}
+use Rattle.lsm_runs.specs.RunRange.{front_tables, left_of_reader, run_left}
 use Rattle.lsm_runs.proofs.RunLaws.{few_between, opens_few, run_deals}
 use Rattle.lsm_runs.proofs.RunSteps.{R}
 use Rattle.lsm_runs.proofs.RunWithin.{span_deals}

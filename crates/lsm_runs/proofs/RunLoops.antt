@@ -3,7 +3,7 @@ use Rattle.std.proofs.Common.{◌≡◌, refl, sym, ◌∙◌, ap, subst, ℕ, z
 use Rattle.std.proofs.Common.{◌++◌, get_or, length, take, arith}
 use Rattle.std.specs.Prelude.{Some, map}
 use Rattle.std.specs.List.{AllByRecursion, AllZip, slice_get}
-use Rattle.lsm_runs.proofs.Places.{take_push}
+use Rattle.lsm_run_parts.proofs.Places.{take_push}
 
 module _ {X Y : Type 0} (f : X → Y) where
   -- what holds of all holds at a place

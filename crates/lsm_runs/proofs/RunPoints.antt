@@ -23,8 +23,9 @@ use Rattle.lsm_readers.specs.Read.{◌>>=◌}
 use Rattle.lsm_readers.specs.Table.{OpenTable}
 use Rattle.lsm_readers.proofs.StoredParts.{stored_answers}
 use Rattle.lsm_runs.specs.RunLists.{HoldLists, HoldsList, RunsHoldLists}
-use Rattle.lsm_runs.specs.RunParts.{range_of, ranges_of}
-use Rattle.lsm_runs.specs.SeveralRuns.{leading_of, run_read, runs_told, table_read, union_in}
+use Rattle.lsm_run_parts.specs.RunParts.{range_of, ranges_of}
+use Rattle.lsm_runs.specs.SeveralRuns.{run_read, runs_told, table_read, union_in}
+use Rattle.lsm_sorted.specs.Leading.{leading_of}
 use Rattle.lsm_runs.proofs.Leading.{leading_assoc, leading_last, leading_sorted}
 use Rattle.lsm_runs.proofs.Rising.{ascends_of, run_strict}
 use Rattle.lsm_runs.proofs.RunWithin.{Keys, held_keys}

@@ -19,10 +19,11 @@ use Rattle.lsm_readers.specs.Parts.{Parts}
 use Rattle.lsm_readers.specs.Read.{DoesRead, Read, opened_by}
 use Rattle.lsm_readers.specs.Table.{OpenTable}
 use Rattle.lsm_readers.specs.Words.{BloomFilter}
-use Rattle.lsm_readers.proofs.IndexKinds.{index_one}
-use Rattle.lsm_readers.proofs.ReadLaws.{does_known, then_fails, then_goes}
-use Rattle.lsm_runs.specs.RunParts.{range_of}
-use Rattle.lsm_runs.specs.SeveralRuns.{LoadsEach, leading_of, loads_together, run_read}
+use Rattle.lsm_points.proofs.IndexKinds.{index_one}
+use Rattle.lsm_points.proofs.ReadLaws.{does_known, then_fails, then_goes}
+use Rattle.lsm_run_parts.specs.RunParts.{range_of}
+use Rattle.lsm_runs.specs.SeveralRuns.{LoadsEach, loads_together, run_read}
+use Rattle.lsm_sorted.specs.Leading.{leading_of}
 use Rattle.lsm_runs.specs.SeveralRuns.{runs_read_by, sum_within}
 
 -- ---- counts together

@@ -15,12 +15,16 @@ use Rattle.lsm_walks.specs.Walks.{Ended, WalkGives, WalkTakes, needed_at, walk_l
 use Rattle.lsm_walks.proofs.AtEnds.{map_seen, no_items, shortens}
 use Rattle.lsm_walks.proofs.Instances.{loads_one, positive}
 use Rattle.lsm_iters.specs.Range.{Range, range_remains}
-use Rattle.lsm_runs.specs.RunParts.{Part, part_loads, part_told}
-use Rattle.lsm_runs.specs.RunRange.{CountsTables, IsRunEnded, RunGives, Unopened}
-use Rattle.lsm_runs.specs.RunRange.{left_of_reader, parts_loads, run_left}
-use Rattle.lsm_runs.specs.RunRange.{run_parts_told, run_size, tables_at, tables_needed}
-use Rattle.lsm_runs.specs.Tables.{EndsTables, KeepsTables, coming_tables, run_of}
-use Rattle.lsm_runs.specs.Tables.{table_named}
+use Rattle.lsm_run_parts.specs.RunParts.{Part, part_loads, part_told}
+use Rattle.lsm_run_parts.specs.Tables.{Unopened}
+use Rattle.lsm_runs.specs.RunRange.{CountsTables, IsRunEnded, RunGives}
+use Rattle.lsm_run_parts.specs.Tables.{parts_loads}
+use Rattle.lsm_runs.specs.RunRange.{left_of_reader, run_left}
+use Rattle.lsm_run_parts.specs.Tables.{run_parts_told}
+use Rattle.lsm_runs.specs.RunRange.{run_size, tables_at, tables_needed}
+use Rattle.lsm_run_parts.specs.Tables.{EndsTables, KeepsTables, coming_tables}
+use Rattle.lsm_runs.specs.RunRange.{run_of}
+use Rattle.lsm_run_parts.specs.Tables.{table_named}
 
 abbrev pub R : Type 0
 R = Result Entry Error

@@ -28,11 +28,11 @@ use Rattle.lsm_readers.specs.Ranges.{range_told}
 use Rattle.lsm_readers.specs.Table.{OpenTable}
 use Rattle.lsm_readers.proofs.Ends.{keys_within, nothing_within}
 use Rattle.lsm_readers.proofs.StoredParts.{bears_out, stored_rows}
-use Rattle.lsm_readers.proofs.Recovered.{range_is}
+use Rattle.lsm_points.proofs.Recovered.{range_is}
 use Rattle.lsm_runs.specs.RunLists.{HoldLists, HoldsList}
-use Rattle.lsm_runs.specs.RunParts.{Part, RunSpan, is_edge, span_part_at, part_told}
-use Rattle.lsm_runs.specs.RunParts.{span_parts_from, range_of, ranges_of, span_of, span_parts}
-use Rattle.lsm_runs.specs.RunRange.{run_parts_told}
+use Rattle.lsm_run_parts.specs.RunParts.{Part, RunSpan, is_edge, span_part_at, part_told}
+use Rattle.lsm_run_parts.specs.RunParts.{span_parts_from, range_of, ranges_of, span_of, span_parts}
+use Rattle.lsm_run_parts.specs.Tables.{run_parts_told}
 use Rattle.lsm_runs.proofs.RunSteps.{R}
 
 -- ---- one table

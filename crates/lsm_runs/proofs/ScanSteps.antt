@@ -33,7 +33,7 @@ use Rattle.lsm_runs.specs.RunScan.{RunScansNext, ScansItem, left_of_scan, lent_o
 use Rattle.lsm_runs.specs.RunScan.{lent_of_scan, over_scan, run_scan_left}
 use Rattle.lsm_runs.specs.RunScan.{run_scan_size, size_of_scan, table_scan}
 use Rattle.lsm_runs.specs.RunScan.{table_size, tables_between, tables_scan, tables_size}
-use Rattle.lsm_runs.proofs.Places.{first_between, none_between, table_at}
+use Rattle.lsm_run_parts.proofs.Places.{first_between, none_between, table_at}
 use Rattle.lsm_runs.proofs.RunSteps.{R}
 
 -- ---- results up to the first error

@@ -12,9 +12,9 @@ use Rattle.sst_entries.specs.Stream.{ok_results}
 use Rattle.lsm_formats.specs.Chunks.{joined}
 use Rattle.lsm_readers.specs.Table.{OpenTable}
 use Rattle.lsm_runs.specs.RunLists.{HoldLists, HoldsList, list_at, lists_at}
-use Rattle.lsm_runs.specs.RunParts.{Part, RunSpan, is_edge, span_part_at, part_told}
-use Rattle.lsm_runs.specs.RunParts.{span_parts_from}
-use Rattle.lsm_runs.specs.RunRange.{run_parts_told}
+use Rattle.lsm_run_parts.specs.RunParts.{Part, RunSpan, is_edge, span_part_at, part_told}
+use Rattle.lsm_run_parts.specs.RunParts.{span_parts_from}
+use Rattle.lsm_run_parts.specs.Tables.{run_parts_told}
 use Rattle.lsm_iters.proofs.Cuts.{all_within}
 use Rattle.lsm_runs.proofs.RunSteps.{R}
 use Rattle.lsm_runs.proofs.RunWithin.{held_told}

@@ -8,7 +8,7 @@ use Rattle.std.proofs.lemmas.List.{map-append, take_all, take_more}
 use Rattle.std.proofs.lemmas.List.Concat.{flat_map-append}
 use Rattle.lsm_ranges.specs.Run.{IsInOrder, overlap_indexes}
 use Rattle.lsm_readers.specs.Table.{OpenTable}
-use Rattle.lsm_runs.specs.RunParts.{RunSpan, range_of, ranges_of, span_of}
+use Rattle.lsm_run_parts.specs.RunParts.{RunSpan, range_of, ranges_of, span_of}
 use Rattle.lsm_runs.specs.RunRange.{IsRunOf, RunRange}
 use Rattle.lsm_runs.specs.SpansRead.{span_at, spans_within}
 use Rattle.lsm_runs.proofs.RunLoops.{all_at}

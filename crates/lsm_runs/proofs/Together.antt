@@ -23,7 +23,7 @@ use Rattle.lsm_ranges.specs.Run.{IsInOrder}
 use Rattle.lsm_readers.specs.Table.{OpenTable}
 use Rattle.lsm_sorted.specs.NewestLaws.{DealsNewest}
 use Rattle.lsm_runs.specs.RunLists.{DealTogether, DealsList, HoldLists, RunsHoldLists}
-use Rattle.lsm_runs.specs.RunParts.{range_of}
+use Rattle.lsm_run_parts.specs.RunParts.{range_of}
 use Rattle.lsm_runs.specs.SeveralRuns.{union_in}
 use Rattle.lsm_runs.proofs.Rising.{ascends_of, run_strict, strict_within}
 use Rattle.lsm_runs.proofs.RunLoops.{mapped_at, take_next, zip_at}

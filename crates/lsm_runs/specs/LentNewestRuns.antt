@@ -10,8 +10,8 @@ use Rattle.lsm_merge.specs.MergeLaws.{DealSorted}
 use Rattle.lsm_merge.specs.Union.{all_errors, newest, union_of}
 use Rattle.lsm_readers.specs.Table.{OpenTable}
 use Rattle.lsm_sorted.specs.LentNewest.{newest_results}
-use Rattle.lsm_runs.specs.RunParts.{RunSpan, span_parts}
-use Rattle.lsm_runs.specs.RunRange.{run_parts_told}
+use Rattle.lsm_run_parts.specs.RunParts.{RunSpan, span_parts}
+use Rattle.lsm_run_parts.specs.Tables.{run_parts_told}
 use Rattle.lsm_runs.specs.SpansRead.{spans_within}
 
 -- where want of memory stops its reader, of what sorted sources have together the newest version of

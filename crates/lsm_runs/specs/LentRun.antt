@@ -12,8 +12,10 @@ use Rattle.lsm_walks.specs.Parts.{LoadGives}
 use Rattle.lsm_iters.specs.Lending.{LendingRange, unlent_range}
 use Rattle.lsm_iters.specs.Lift.{lifted_told}
 use Rattle.lsm_iters.specs.Range.{Range, range_remains}
-use Rattle.lsm_runs.specs.RunRange.{RunGives, RunRange, Unopened, front_tables}
-use Rattle.lsm_runs.specs.Tables.{KeepsTables, coming_tables, none_unopened, run_of}
+use Rattle.lsm_run_parts.specs.Tables.{Unopened}
+use Rattle.lsm_runs.specs.RunRange.{RunGives, RunRange, front_tables}
+use Rattle.lsm_run_parts.specs.Tables.{KeepsTables, coming_tables, none_unopened}
+use Rattle.lsm_runs.specs.RunRange.{run_of}
 
 -- ---- the reader of one table
 

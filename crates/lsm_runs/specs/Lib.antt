@@ -1,6 +1,4 @@
-pub mod RunParts
 pub mod RunRange
-pub mod Tables
 pub mod RunLists
 pub mod RunScan
 pub mod SeveralRuns
@@ -9,3 +7,4 @@ pub mod LentRun
 pub mod LentBelow
 pub mod LentNewestRuns
 pub mod Words
+pub use Rattle.lsm_run_parts.specs.RunParts

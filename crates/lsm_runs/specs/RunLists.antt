@@ -14,7 +14,7 @@ use Rattle.lsm_merge.specs.Union.{Ascends}
 use Rattle.lsm_ranges.specs.Run.{IsInOrder}
 use Rattle.lsm_readers.specs.Stored.{StoresList}
 use Rattle.lsm_readers.specs.Table.{IsOpen, OpenTable}
-use Rattle.lsm_runs.specs.RunParts.{RunSpan, is_edge, range_of}
+use Rattle.lsm_run_parts.specs.RunParts.{RunSpan, is_edge, range_of}
 
 -- an opened table whose bytes store a list, which it gives lifted
 pub record HoldsList (t : OpenTable) (es : List Entry) : Type 0 where

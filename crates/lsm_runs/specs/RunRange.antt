@@ -1,7 +1,6 @@
 -- What a reader of a run still deals, and one call of it.
 use Rattle.std.specs.Prelude.{◌≡◌, ℕ, suc, ◌+◌, ◌≤◌, false, List, [], ◌∷◌, ◌++◌, length, reverse}
 use Rattle.std.specs.Prelude.{Option, Some, None, Result, Ok, Err, MatchOption, MatchResult}
-use Rattle.std.specs.List.{flat_map, sum_by}
 use Rattle.sst_entries.specs.declared.error.Error.{Error}
 use Rattle.sst_entries.specs.declared.stream.Direction.{Direction}
 use Rattle.sst_entries.specs.declared.stream.Direction.TheVariants.{Front, Back}
@@ -10,20 +9,22 @@ use Rattle.sst_entries.specs.Error.{is_memory}
 use Rattle.sst_entries.specs.Stream.{Lowers, Runs, answer_stops}
 use Rattle.lsm_walks.specs.Ends.{remains_in}
 use Rattle.lsm_walks.specs.Parts.{none_behind}
+use Rattle.lsm_walks.specs.declared.walk.Walk.{Walk}
 use Rattle.lsm_iters.specs.Range.{Range, range_remains}
 use Rattle.lsm_readers.specs.Table.{OpenTable}
-use Rattle.lsm_runs.specs.RunParts.{Part, RunSpan, part_loads, part_told, span_parts}
+use Rattle.lsm_run_parts.specs.RunParts.{Part, RunSpan, part_told, span_parts}
+use Rattle.lsm_run_parts.specs.Tables.{Unopened, parts_loads, run_parts_told}
 
--- the tables that are not opened, and how many were
-pub record Unopened : Type 0 where
-  pub parts : List Part
-  pub opened : ℕ
-
--- and the readers of the tables at the front and at the back, where one is opened there
+-- the tables that are not opened, with how many were, and the readers of the tables at the front
+-- and at the back, where one is opened there
 pub record RunRange (A : Type 0) : Type 0 where
   pub unopened : Unopened
   pub front : Option (Range A)
   pub back : Option (Range A)
+
+-- a walk over such tables is a reader of a run
+abbrev pub run_of : {A : Type 0} → Walk Unopened (Range A) → RunRange A
+run_of w = record { unopened = w.parts; front = w.front; back = w.back }
 
 -- the results that a reader still deals, and how many loads it may make for them
 abbrev pub left_of_reader : {A : Type 0} → Option (Range A) → List (Result Entry Error)
@@ -31,13 +32,6 @@ left_of_reader reader = (remains_in range_remains reader).results
 
 abbrev pub loads_of_reader : {A : Type 0} → Option (Range A) → ℕ
 loads_of_reader reader = (remains_in range_remains reader).loads
-
--- those of tables that are not opened
-abbrev pub run_parts_told : List Part → List (Result Entry Error)
-run_parts_told ps = flat_map part_told ps
-
-abbrev pub parts_loads : List Part → ℕ
-parts_loads ps = sum_by part_loads ps
 
 -- the results still to be dealt, and how many loads the readers may make for them
 abbrev pub run_left : {A : Type 0} → RunRange A → List (Result Entry Error)

@@ -1,18 +1,18 @@
 -- What several runs answer together.
 use Rattle.std.specs.Prelude.{◌≡◌, ℕ, ◌+◌, ◌-◌, ◌^◌, ◌≤◌, Bool, false, nat_lt, List, [], ◌∷◌, map}
 use Rattle.std.specs.Prelude.{min, Option, Some, None, Result, if◌then◌else◌}
-use Rattle.std.specs.Ordering.{is_lt}
 use Rattle.sst_entries.specs.declared.error.Error.{Error}
 use Rattle.sst_entries.specs.Entry.{Entry}
 use Rattle.sst_entries.specs.Stream.{ok_results}
 use Rattle.sst_blocks.specs.declared.opened.Opened.{Opened}
 use Rattle.lsm_formats.specs.Chunks.{joined}
-use Rattle.lsm_merge.specs.Union.{item_cmp, union_of}
+use Rattle.lsm_merge.specs.Union.{union_of}
 use Rattle.lsm_ranges.specs.Run.{table_of_key}
 use Rattle.lsm_readers.specs.Answer.{table_answer}
 use Rattle.lsm_readers.specs.Read.{Read, known, read_then}
 use Rattle.lsm_readers.specs.Table.{OpenTable}
-use Rattle.lsm_runs.specs.RunParts.{range_of}
+use Rattle.lsm_sorted.specs.Leading.{leading_of}
+use Rattle.lsm_run_parts.specs.RunParts.{range_of}
 
 -- a point read of a table, where there is one: what it tells, and which blocks it loads
 abbrev pub table_read : List ℕ → ℕ → Option OpenTable → Read (Option Entry)
@@ -22,12 +22,6 @@ table_read key bound (Some t) = table_answer t key bound
 -- a point read of a run: of the one table whose range has the key
 abbrev pub run_read : List ℕ → ℕ → List OpenTable → Read (Option Entry)
 run_read key bound tables = table_read key bound (table_of_key range_of key tables)
-
--- of two entries that may be there the one that stands before the other, or the first
-abbrev pub leading_of : Option Entry → Option Entry → Option Entry
-leading_of None y = y
-leading_of (Some x) None = Some x
-leading_of (Some x) (Some y) = if is_lt (item_cmp y x) then Some y else Some x
 
 -- point reads of several runs, one behind another, behind what was found: the entry that stands
 -- before the others, or the refusal of the earliest run that has one

@@ -15,7 +15,7 @@ use Rattle.lsm_sorted.specs.Below.{below_of}
 use Rattle.lsm_sorted.specs.NewestLaws.{AnswersNewest, IsNewestOf}
 use Rattle.lsm_sorted.specs.declared.below.Below.{Below}
 use Rattle.lsm_sorted.specs.declared.mvcc_stream.MvccStream.{MvccStream}
-use Rattle.lsm_runs.specs.RunParts.{RunSpan, ranges_of, span_of}
+use Rattle.lsm_run_parts.specs.RunParts.{RunSpan, ranges_of, span_of}
 use Rattle.lsm_runs.specs.RunRange.{IsRunOf, RunGives, RunRange, back_tables, front_tables}
 use Rattle.lsm_runs.specs.RunRange.{run_left}
 

@@ -18,9 +18,10 @@ pub use Rattle.lsm_readers.specs.Read.{DoesRead, Opens}
 pub use Rattle.lsm_readers.specs.Table.{OpenTable}
 pub use Rattle.lsm_walks.specs.Ends.{taken_at}
 pub use Rattle.lsm_sorted.specs.Below.{DealsBelow, below_of, below_told, numbered_below}
+pub use Rattle.lsm_sorted.specs.Leading.{leading_of}
 pub use Rattle.lsm_sorted.specs.LentNewest.{newest_results}
 pub use Rattle.lsm_sorted.specs.NewestLaws.{AnswersNewest, CanAskNewest, DealsNewest, IsNewestOf}
-pub use Rattle.lsm_runs.specs.RunParts.{ends_given, range_of, span_of}
+pub use Rattle.lsm_run_parts.specs.RunParts.{ends_given, range_of, span_of}
 pub use Rattle.lsm_runs.specs.RunRange.{IsRunOf, OpensAtMost, RunGives, back_tables, front_tables}
 pub use Rattle.lsm_runs.specs.RunRange.{run_left, run_size, tables_at}
 pub use Rattle.lsm_runs.specs.RunLists.{DealTogether, DealWithin, DealsList, HoldLists}
@@ -31,7 +32,7 @@ pub use Rattle.lsm_runs.specs.RunScan.{run_scan_size, scan_fault}
 pub use Rattle.lsm_runs.specs.RunScan.{tables_between, tables_scan}
 pub use Rattle.lsm_runs.specs.SpansRead.{IsOverSourcesBelow, IsOverSpans, IsOverSpansBelow}
 pub use Rattle.lsm_runs.specs.SpansRead.{spans_within, with_readers}
-pub use Rattle.lsm_runs.specs.SeveralRuns.{LoadsEach, is_older, leading_of, loads_together}
+pub use Rattle.lsm_runs.specs.SeveralRuns.{LoadsEach, is_older, loads_together}
 pub use Rattle.lsm_runs.specs.SeveralRuns.{run_read, run_read_behind, runs_read, runs_read_by_age}
 pub use Rattle.lsm_runs.specs.SeveralRuns.{runs_told, union_in, worth_asking}
 pub use Rattle.lsm_runs.specs.LentRun.{LendingRun, LendsOfAtMost, ReaderLends, RunLends}

@@ -9,7 +9,8 @@ ghost use Rattle.sst_entries.specs.declared.error.Error.{Error};
 ghost use Rattle.lsm_iters.specs.Lending.{unlent_range};
 ghost use Rattle.lsm_iters.specs.Range.{range_remains};
 ghost use Rattle.lsm_walks.specs.Walks.{WalkTakes};
-ghost use Rattle.lsm_runs.specs.Tables.{KeepsTables, coming_tables, run_of};
+ghost use Rattle.lsm_run_parts.specs.Tables.{KeepsTables, coming_tables};
+ghost use Rattle.lsm_runs.specs.RunRange.{run_of};
 ghost use Rattle.lsm_runs.specs.Words.{ArePlacesOf, DealsEnding, DealsList, Entry, HoldLists};
 ghost use Rattle.lsm_runs.specs.Words.{IsInOrder, IsRunOf, LendsOfAtMost, OpensNext, ReaderLends};
 ghost use Rattle.lsm_runs.specs.Words.{RunLends, Stands, came};
@@ -19,10 +20,10 @@ ghost use Rattle.lsm_runs.specs.Words.{run_left, run_size, span_of, unlent_run, 
 ghost use Rattle.lsm_runs.specs.Words.{within};
 
 use crate::RunReader;
-use crate::unopened::Unopened;
 use lsm_iters::{Iter, LendingIter};
 use lsm_ranges::{Ranged, Run};
 use lsm_readers::Table;
+use lsm_run_parts::Unopened;
 use lsm_walks::{Parts, Walk};
 use sst_blocks::{EntryRef, Error, Lending, UserKey};
 use sst_entries::Direction;

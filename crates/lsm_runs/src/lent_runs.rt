@@ -11,12 +11,12 @@ ghost use Rattle.lsm_runs.specs.Words.{newest, newest_results, nowhere, numbered
 ghost use Rattle.lsm_runs.specs.Words.{overlap_indexes, range_of, runs_told_within, span_of};
 ghost use Rattle.lsm_runs.specs.Words.{spans_within, union_in, within};
 
-use crate::bounds::share;
 use crate::lending_below::each_lending_below;
 use crate::{LendingBelow, LendingRunReader};
 use lsm_merge::LendingMerger;
 use lsm_ranges::Run;
 use lsm_readers::Table;
+use lsm_run_parts::share;
 use lsm_sorted::LendingNewest;
 use sst_blocks::{Error, Lending, SeqNo, UserKey};
 use std::alloc::Allocator;

@@ -1,7 +1,6 @@
 //! Reading runs of tables: one run from both ends or in one pass, and several runs as one.
 #![tactic(auto)]
 
-mod bounds;
 mod lending_below;
 mod lending_reader;
 mod lent_runs;
@@ -9,13 +8,11 @@ mod run_reader;
 mod run_scanner;
 mod runs;
 mod sources;
-mod spans;
-mod unopened;
 
-pub use bounds::share;
 pub use lending_below::{LendingBelow, each_lending_below};
 pub use lending_reader::LendingRunReader;
 pub use lent_runs::{LentNewestOf, LentNewestOfRunsAt, lend_runs_at};
+pub use lsm_run_parts::share;
 pub use run_reader::RunReader;
 pub use run_scanner::RunScanner;
 pub use runs::{

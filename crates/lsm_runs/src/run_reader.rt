@@ -11,11 +11,10 @@ ghost use Rattle.lsm_runs.specs.Words.{overlap_indexes, run_left, run_size, span
 ghost use Rattle.lsm_runs.specs.Words.{nowhere, tables_at, taken_at, unlent_run, within};
 
 use crate::LendingRunReader;
-use crate::spans::{ends_in, places_within};
-use crate::unopened::Unopened;
 use lsm_iters::Iter;
 use lsm_ranges::{Ranged, Run};
 use lsm_readers::Table;
+use lsm_run_parts::{Unopened, ends_in, places_within};
 use lsm_walks::{Ends, Walk};
 use sst_blocks::{Error, IterItem, Lending, UserKey};
 use sst_entries::Direction;
@@ -36,7 +35,7 @@ pub struct RunReader<A: Allocator = Global> {
 
 impl<A: Allocator> Model for RunReader<A> {
     ghost use Rattle.lsm_runs.specs.RunRange.{RunRange};
-    ghost use Rattle.lsm_runs.specs.Tables.{run_of};
+    ghost use Rattle.lsm_runs.specs.RunRange.{run_of};
 
     ghost Value = { RunRange A };
 

@@ -13,9 +13,9 @@ ghost use Rattle.lsm_runs.specs.Words.{run_scan_size, scan_fault, tables_between
 ghost use Rattle.lsm_runs.specs.Words.{tables_scan};
 ghost use Rattle.sst_entries.specs.declared.error.Error.TheVariants.{OutOfMemory};
 
-use crate::spans::{ends_in, place_behind};
 use lsm_ranges::Run;
 use lsm_readers::{Scanner, Table};
+use lsm_run_parts::{ends_in, place_behind};
 use sst_blocks::{EntryRef, Error, IterItem, Lending};
 use std::alloc::{Allocator, Global};
 use std::marker::Model;

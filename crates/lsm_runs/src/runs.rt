@@ -3,25 +3,26 @@ ghost use Rattle.std.specs.Prelude.{◌≡◌, ◌<◌, ℕ, [], All, IfErr, IfO
 ghost use Rattle.std.specs.Prelude.{None, Ok, Option, Some, length, map};
 ghost use Rattle.std.specs.Arc.{arc_value};
 ghost use Rattle.std.specs.List.{AllByRecursion, AllZip};
-ghost use Rattle.std.specs.Ordering.{is_lt};
 ghost use Rattle.sst_entries.specs.declared.error.Error.TheVariants.{OutOfMemory};
 ghost use Rattle.sst_filters.specs.KeyHash.{hash_of};
 ghost use Rattle.lsm_runs.specs.Words.{AnswersNewest, CanAskNewest, CanDeal, DealTogether};
 ghost use Rattle.lsm_runs.specs.Words.{DealsList, DealsNewest, DoesRead, Entry, FaultsFirst, Gives};
 ghost use Rattle.lsm_runs.specs.Words.{HoldLists, IsInOrder, IsNewestOf, IsOverSpans};
 ghost use Rattle.lsm_runs.specs.Words.{IsOverSpansBelow, IsRunOf, LoadsEach, Opens};
-ghost use Rattle.lsm_runs.specs.Words.{RunsHoldLists, is_older, item_cmp, joined, leading_of};
+ghost use Rattle.lsm_runs.specs.Words.{RunsHoldLists, is_older, joined};
 ghost use Rattle.lsm_runs.specs.Words.{loads_together, newest, none_opened, numbered_below};
 ghost use Rattle.lsm_runs.specs.Words.{overlap_indexes, point, range_of, run_read};
 ghost use Rattle.lsm_runs.specs.Words.{run_read_behind, runs_read, runs_read_by_age, runs_told};
 ghost use Rattle.lsm_runs.specs.Words.{span_of, spans_within, union_in, within};
 
 use crate::RunReader;
-use crate::bounds::share;
 use lsm_merge::Merger;
 use lsm_ranges::Run;
 use lsm_readers::Table;
-use lsm_sorted::{Below, MvccStream, NewestOf, each_below, newest_from_both_ends, newest_of};
+use lsm_run_parts::share;
+use lsm_sorted::{
+    Below, MvccStream, NewestOf, each_below, leading, newest_from_both_ends, newest_of,
+};
 use sst_blocks::{Error, InternalValue, IterItem, Opened, SeqNo, UserKey};
 use std::alloc::Allocator;
 use std::ops::Bound;
@@ -281,33 +282,6 @@ fn get_run_behind_counted<A: Allocator + Clone>(
         return (Ok(None), Opened::none());
     }
     table.get_counted(key, seqno, key_hash)
-}
-
-// Whether an entry stands before another.
-fn stands_before<A: Allocator>(x: &InternalValue<A>, y: &InternalValue<A>) -> bool
-    ensures { result ≡ is_lt (item_cmp x.now y.now) }
-{
-    x.key < y.key
-}
-
-// Of two entries that may be there the one that stands before the other, or the first.
-fn leading<A: Allocator>(
-    first: Option<InternalValue<A>>,
-    second: Option<InternalValue<A>>,
-) -> Option<InternalValue<A>>
-    ensures { result ≡ leading_of first second }
-{
-    match (first, second) {
-        (Some(first), Some(second)) => {
-            if stands_before(&second, &first) {
-                Some(second)
-            } else {
-                Some(first)
-            }
-        }
-        (Some(first), None) => Some(first),
-        (None, second) => second,
-    }
 }
 
 /// The first entry of a key numbered below `seqno`, of what several runs have together, with how

@@ -3,6 +3,7 @@ pub mod Outlook
 pub mod Hears
 pub mod Peeked
 pub mod Newest
+pub mod Leading
 pub mod LentFaults
 pub mod LentNewest
 pub mod Mvcc

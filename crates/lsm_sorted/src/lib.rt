@@ -6,6 +6,7 @@
 mod ahead;
 mod below;
 pub mod compaction;
+mod found;
 mod gap;
 mod give_up;
 mod lending_newest;
@@ -14,6 +15,7 @@ mod newest;
 mod peeked;
 
 pub use below::{Below, each_below};
+pub use found::leading;
 pub use gap::up_to_gap;
 pub use lending_newest::LendingNewest;
 pub use lsm_merge::{IntervalHeap, Merger, Tournament, from_both_ends};

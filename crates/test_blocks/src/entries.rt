@@ -1,46 +1,36 @@
 //! Entries by themselves: their shares, their order, and bytes that are compared with a slice.
-use crate::payloads::{beside, both, is_answer};
 use sst_blocks::{Error, InternalValue, SeqNo, Slice, ValueType};
 use std::alloc::{AllocError, Global};
 
 // A value `v` of a key and a number.
 fn entry(alloc: Global, key: &[u8], seqno: SeqNo) -> Result<InternalValue, Error> {
-    let (key, value) = beside(Slice::from(alloc, key)?, Slice::from(alloc, b"v"))?;
-    Ok(InternalValue::from_components(key, value, seqno, ValueType::Value))
+    let key = Slice::from(alloc, key)?;
+    Ok(InternalValue::from_components(key, Slice::from_static(b"v"), seqno, ValueType::Value))
 }
 
 // Whether what was made is like a value. It is generic in it, so that none of its parts is looked
 // at.
-fn is_like<T: PartialEq + Drop>(made: Result<T, AllocError>, value: &T) -> Result<bool, Error> {
-    let made = made?;
-    Ok(made == *value)
+fn is_like<T: PartialEq + Drop>(made: Result<T, AllocError>, value: &T) -> bool {
+    match made {
+        Ok(made) => made == *value,
+        Err(_) => false,
+    }
 }
 
 // Whether a share of an entry and one of its key are as they are.
-fn shares_are_alike(item: &InternalValue) -> Result<bool, Error> {
-    Ok(is_like(item.clone(), item)? && is_like(item.key.clone(), &item.key)?)
+fn shares_are_alike(made: Result<InternalValue, Error>) -> bool {
+    match made {
+        Ok(item) => is_like(item.clone(), &item) && is_like(item.key.clone(), &item.key),
+        Err(_) => false,
+    }
 }
 
-// Whether a share of a@2, and one of its key, are alike.
-fn is_shared(alloc: Global) -> Result<bool, Error> {
-    let item = entry(alloc, b"a", 2)?;
-    let are_alike = shares_are_alike(&item);
-    drop(item);
-    are_alike
-}
-
-// Whether one value is less than another, or the refusal of one. It is generic in them too.
-fn is_less<T: PartialOrd + Drop>(
-    one: Result<T, Error>,
-    other: Result<T, Error>,
-) -> Result<bool, Error> {
-    let (one, other) = both(one, other)?;
-    Ok(one < other)
-}
-
-// Whether a key with a number stands before another.
-fn stands_before(alloc: Global, one: (&[u8], SeqNo), other: (&[u8], SeqNo)) -> Result<bool, Error> {
-    is_less(entry(alloc, one.0, one.1), entry(alloc, other.0, other.1))
+// Whether one value is less than another. It is generic in them too.
+fn is_less<T: PartialOrd + Drop>(one: Result<T, Error>, other: Result<T, Error>) -> bool {
+    match (one, other) {
+        (Ok(one), Ok(other)) => one < other,
+        _ => false,
+    }
 }
 
 // Two keys with their numbers, and whether the first stands before the second.
@@ -52,23 +42,23 @@ const ORDERS: &[((&[u8], SeqNo), (&[u8], SeqNo), bool)] = &[
 
 #[test]
 fn an_entry_is_shared_and_ordered_by_key_upward_and_number_downward(rt: HostRuntime) {
-    assert!(rt; is_answer(is_shared(rt.alloc()), true));
+    assert!(rt; shares_are_alike(entry(rt.alloc(), b"a", 2)));
     for &(one, other, expected) in ORDERS {
-        assert!(rt; is_answer(stands_before(rt.alloc(), one, other), expected));
+        let is_less = is_less(
+            entry(rt.alloc(), one.0, one.1),
+            entry(rt.alloc(), other.0, other.1),
+        );
+        assert!(rt; is_less == expected);
     }
 }
 
-// Whether a slice of `ab` is some bytes.
-fn is_ab(alloc: Global, bytes: &[u8]) -> Result<bool, Error> {
-    let slice = Slice::from(alloc, b"ab")?;
-    let equals = slice.equals(bytes);
-    drop(slice);
-    Ok(equals)
-}
+// Some bytes, and whether a slice of `ab` equals them.
+const EQUAL: &[(&[u8], bool)] = &[(b"ab", true), (b"aa", false), (b"a", false)];
 
 #[test]
 fn a_slice_is_compared_with_bytes(rt: HostRuntime) {
-    assert!(rt; is_answer(is_ab(rt.alloc(), b"ab"), true));
-    assert!(rt; is_answer(is_ab(rt.alloc(), b"aa"), false));
-    assert!(rt; is_answer(is_ab(rt.alloc(), b"a"), false));
+    let slice = Slice::<Global>::from_static(b"ab");
+    for &(bytes, expected) in EQUAL {
+        assert!(rt; slice.equals(bytes) == expected);
+    }
 }

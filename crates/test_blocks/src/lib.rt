@@ -9,6 +9,14 @@ mod entries;
 #[cfg(test)]
 mod index_blocks;
 #[cfg(test)]
+mod large;
+#[cfg(test)]
+mod loads;
+#[cfg(test)]
+mod memory;
+#[cfg(test)]
 mod payloads;
 #[cfg(test)]
-mod room;
+mod walks;
+#[cfg(test)]
+mod written;

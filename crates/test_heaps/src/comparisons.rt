@@ -1,5 +1,5 @@
 //! How many comparisons a merge through a queue makes, counted where they are made.
-ghost use Rattle.std.specs.Prelude.{◌≡◌};
+ghost use Rattle.std.specs.Prelude.{◌≡◌, ℕ};
 ghost use Rattle.std.proofs.Common.{refl};
 ghost use Rattle.std.specs.Cmp.{partial_order_from_total, partial_equiv_from_equiv};
 ghost use Rattle.std.specs.Cmp.{eq_by_cmp_equiv, on_total, nat_cmp_total};
@@ -10,6 +10,7 @@ use sst_entries::Error;
 use std::alloc::Global;
 use std::cell::Cell;
 use std::cmp::Ordering;
+use std::marker::Model;
 
 // An entry by its key, its source and its place there. Each comparison of two entries is counted.
 #[derive(Drop)]
@@ -62,7 +63,6 @@ impl<'a> Eq for Counted<'a> {
 
 // In which order the entries of all sources come: one of each source in turn, in the order of the
 // sources or in another one each time, or source after source.
-#[derive(Clone, Copy, Debug)]
 enum Order {
     InTurn,
     Mixed,
@@ -70,7 +70,6 @@ enum Order {
 }
 
 // So many sources, a power of two, of so many entries each.
-#[derive(Clone, Copy, Debug)]
 struct Sources {
     count: u64,
     each: u64,
@@ -90,123 +89,106 @@ impl Sources {
             Order::OneAfterAnother => source.wrapping_mul(self.each).wrapping_add(place),
         }
     }
-
-    fn entries(&self) -> u64 {
-        self.count.saturating_mul(self.each)
-    }
 }
 
-// Puts an entry of a source in, where the source has it.
-fn push_entry<'a>(
-    queue: &mut LazyTournament<Counted<'a>>,
+// A merge of sources through a queue with room for two entries a source, as a merger has.
+#[derive(Drop)]
+struct Merge<'a> {
+    queue: LazyTournament<Counted<'a>>,
     room: usize,
-    sources: &Sources,
-    source: u64,
-    place: u64,
+    sources: &'a Sources,
     made: &'a Cell<u64>,
-)
-    requires { queue.old.room ≡ room }
-    ensures { queue.new.room ≡ room }
-{
-    if place < sources.each && queue.len() < room {
-        let key = sources.key_of(source, place);
-        queue.push(Counted {
-            key,
-            source,
-            place,
-            made,
-        });
-    }
 }
 
-// Takes the least entry out and the next of its source in, as a merger does: the key.
-fn take_next<'a>(
-    queue: &mut LazyTournament<Counted<'a>>,
-    room: usize,
-    sources: &Sources,
-    made: &'a Cell<u64>,
-) -> Option<u64>
-    requires { queue.old.room ≡ room }
-    ensures { queue.new.room ≡ room }
-{
-    let entry = queue.pop_min()?;
-    let next = entry.place.wrapping_add(1);
-    push_entry(queue, room, sources, entry.source, next, made);
-    Some(entry.key)
+impl<'a> Model for Merge<'a> {
+    ghost Value = { ℕ };
+
+    ghost view = { λ m. m.room };
+
+    ghost invariant = { λ m. m.queue.room ≡ m.room };
 }
 
-// Puts the first entry of each source in.
-fn push_first<'a>(
-    queue: &mut LazyTournament<Counted<'a>>,
-    room: usize,
-    sources: &Sources,
-    made: &'a Cell<u64>,
-)
-    requires { queue.old.room ≡ room }
-    ensures { queue.new.room ≡ room }
-{
-    for source in 0..sources.count {
-        push_entry(queue, room, sources, source, 0, made);
-    }
-}
-
-// Takes all entries out: how many came in the order of their keys.
-fn take_all<'a>(
-    queue: &mut LazyTournament<Counted<'a>>,
-    room: usize,
-    sources: &Sources,
-    made: &'a Cell<u64>,
-) -> u64
-    requires { queue.old.room ≡ room }
-{
-    let mut ascended = 0u64;
-    let mut least = 0;
-    'entries: for _ in 0..sources.entries() {
-        let key = take_next(queue, room, sources, made).unwrap_or(0);
-        if key >= least {
-            ascended = ascended.wrapping_add(1);
+impl<'a> Merge<'a> {
+    // Puts an entry of a source in, where the source has it.
+    fn push(&mut self, source: u64, place: u64) {
+        if place < self.sources.each && self.queue.len() < self.room {
+            let key = self.sources.key_of(source, place);
+            self.queue.push(Counted {
+                key,
+                source,
+                place,
+                made: self.made,
+            });
         }
-        least = key;
     }
-    ascended
+
+    // Takes the least entry out and puts the next of its source in, as a merger does: the key.
+    fn next(&mut self) -> u64 {
+        match self.queue.pop_min() {
+            Some(entry) => {
+                self.push(entry.source, entry.place.wrapping_add(1));
+                entry.key
+            }
+            None => 0,
+        }
+    }
+
+    // Takes so many entries out: how many came in the order of their keys.
+    fn ascended(&mut self, entries: u64) -> u64 {
+        let mut ascended = 0u64;
+        let mut least = 0;
+        for _ in 0..entries {
+            let key = self.next();
+            if key >= least {
+                ascended = ascended.wrapping_add(1);
+            }
+            least = key;
+        }
+        ascended
+    }
 }
 
-// What a merge of sources comes to: how many entries came in order, how many are left, how many
+// What a merge comes to: how many of so many entries came in order, how many are left, how many
 // comparisons were made, and how many the queue counted.
-fn merged<'a>(
-    mut queue: LazyTournament<Counted<'a>>,
-    room: usize,
-    sources: &Sources,
-    made: &'a Cell<u64>,
-) -> (u64, usize, u64, u64)
-    requires { queue.room ≡ room }
-{
-    push_first(&mut queue, room, sources, made);
-    let ascended = take_all(&mut queue, room, sources, made);
-    (ascended, queue.len(), made.get(), queue.steps())
+fn merged(mut merge: Merge<'_>, entries: u64) -> (u64, usize, u64, u64) {
+    for source in 0..merge.sources.count {
+        merge.push(source, 0);
+    }
+    let ascended = merge.ascended(entries);
+    (
+        ascended,
+        merge.queue.len(),
+        merge.made.get(),
+        merge.queue.steps(),
+    )
 }
 
-// What a merge of sources comes to through a queue with room for two entries a source, as a merger
-// has: how many entries came in order, how many are left, how many comparisons were made, and how
-// many the queue counted.
-fn merges(alloc: Global, sources: &Sources, room: usize) -> Result<(u64, usize, u64, u64), Error> {
+// What a merge of so many entries of sources comes to.
+fn told(
+    alloc: Global,
+    sources: &Sources,
+    room: usize,
+    entries: u64,
+) -> Result<(u64, usize, u64, u64), Error> {
     let made = Cell::new(0);
     let queue = LazyTournament::with_capacity(alloc, room)?;
-    Ok(merged(queue, room, sources, &made))
+    let merge = Merge {
+        queue,
+        room,
+        sources,
+        made: &made,
+    };
+    Ok(merged(merge, entries))
 }
 
 // Whether all entries come in order, the comparisons are those that the queue counts, and they are
 // so many, and at most so many an entry.
 fn makes(alloc: Global, sources: &Sources, room: usize, an_entry: u64, comparisons: u64) -> bool {
-    let entries = sources.entries();
-    let bound = entries.saturating_mul(an_entry);
-    match merges(alloc, sources, room) {
-        Ok((ascended, left, made, steps)) => {
-            ascended == entries
-                && left == 0
-                && made == steps
-                && made == comparisons
-                && made <= bound
+    let entries = sources.count.saturating_mul(sources.each);
+    match told(alloc, sources, room, entries) {
+        Ok(told) => {
+            told == (entries, 0, comparisons, comparisons)
+                && comparisons <= entries.saturating_mul(an_entry)
         }
         Err(_) => false,
     }
@@ -282,6 +264,6 @@ const COMPARISONS: &[(Sources, usize, u64, u64)] = &[
 fn an_entry_takes_as_many_comparisons_as_its_slot_has_matches(rt: HostRuntime) {
     for (sources, room, an_entry, comparisons) in COMPARISONS {
         let is_so = makes(rt.alloc(), sources, *room, *an_entry, *comparisons);
-        assert!(rt; is_so, "{sources:?}");
+        assert!(rt; is_so, "{comparisons}");
     }
 }

@@ -1,81 +1,170 @@
-//! The priority queues against a count of each number, and what they take of memory.
-ghost use Rattle.std.specs.Prelude.{◌≡◌, ◌≤◌, [], IfOk, Ok};
+//! The priority queues against a count of each number, the matches that they play, and what they
+//! take of memory.
 
-use lsm_merge::{IntervalHeap, LazyTournament, Tournament};
-use sst_entries::Error;
-use std::alloc::{Allocator, Global};
+use crate::queues::{Counts, Queue, interval_heap, lazy_tournament, tournament};
+use sst_entries::{Direction, Error};
+use std::alloc::Global;
 use test_refusing::{Refusing, each_refused};
 
-// Some of the numbers 0 to 2, as how often each is there.
-#[derive(Drop)]
-struct Counts {
-    of: [usize; 3],
+// Which queue is asked.
+#[derive(Clone, Copy, Debug)]
+enum Kind {
+    Tournament,
+    IntervalHeap,
+    Lazy,
 }
 
-impl Counts {
-    fn put(&mut self, number: u8) {
-        if let Some(count) = self.of.get_mut(number as usize) {
-            *count = count.saturating_add(1);
-        }
-    }
+const KINDS: &[Kind] = &[Kind::Tournament, Kind::IntervalHeap, Kind::Lazy];
 
-    fn take(&mut self, number: usize) -> bool {
-        match self.of.get_mut(number) {
-            Some(count) if *count > 0 => {
-                *count -= 1;
+// What is done at a step: a number is added, or the least or the greatest is taken out.
+enum Turn {
+    Add,
+    Least,
+    Greatest,
+}
+
+// What is done, the number that is added or taken out, and how many numbers there are then and how
+// many steps were made.
+type Step = (Turn, u8, usize, u64);
+
+// What is asked of a queue: to give up these numbers, the least and the greatest in turn as the
+// pattern has it; to add and give up numbers as the digits of a code have it, in so many turns; and
+// to take these steps.
+#[derive(Drop)]
+enum Asked<'a> {
+    All(&'a [u8], u32),
+    Turns(u32, u8),
+    Steps(&'a [Step]),
+}
+
+// Whether a queue gives up the number that is counted as the least, or the greatest, or none.
+fn gives_up_so<Q: Queue>(queue: &mut Q, counts: &mut Counts, least: bool) -> bool {
+    let end = if least {
+        Direction::Front
+    } else {
+        Direction::Back
+    };
+    queue.take(end) == counts.take(end)
+}
+
+// Adds some numbers.
+fn add_all<Q: Queue>(queue: &mut Q, counts: &mut Counts, numbers: &[u8]) {
+    for number in numbers {
+        queue.add(*number);
+        counts.add(*number);
+    }
+}
+
+// Whether a queue gives up so many numbers as the pattern has it.
+fn gives_up_by<Q: Queue>(queue: &mut Q, counts: &mut Counts, times: usize, pattern: u32) -> bool {
+    let mut pattern = pattern;
+    let mut is_so = true;
+    for _ in 0..times {
+        is_so &= gives_up_so(queue, counts, pattern % 2 == 0);
+        pattern /= 2;
+    }
+    is_so
+}
+
+// Whether a queue gives up all numbers that are added to it as the pattern has it, and then none.
+fn gives_up_all<Q: Queue>(queue: &mut Q, numbers: &[u8], pattern: u32) -> bool {
+    let mut counts = Counts::new();
+    add_all(queue, &mut counts, numbers);
+    let has_all = counts.len() == numbers.len() && queue.state().0 == numbers.len();
+    let gives_up = gives_up_by(queue, &mut counts, numbers.len(), pattern);
+    let gives_none = queue.take(Direction::Front).is_none()
+        && queue.take(Direction::Back).is_none();
+    has_all && gives_up && gives_none && counts.len() == 0 && queue.state().0 == 0
+}
+
+// Adds a number to a queue, where the digit is 0 and it has room. Else a number is given up:
+// whether it is the one that is counted, the least where the digit is 1.
+fn turns_so<Q: Queue>(
+    queue: &mut Q,
+    counts: &mut Counts,
+    room: usize,
+    digit: u32,
+    number: u8,
+) -> bool {
+    if digit != 0 || counts.len() >= room {
+        return gives_up_so(queue, counts, digit == 1);
+    }
+    queue.add(number);
+    counts.add(number);
+    true
+}
+
+// Whether a queue gives up what is counted, while numbers are added and given up as the digits of
+// the code have it.
+fn follows<Q: Queue>(queue: &mut Q, room: usize, code: u32, turns: u8) -> bool {
+    let mut counts = Counts::new();
+    let mut code = code;
+    let mut is_so = true;
+    for turn in 0..turns {
+        is_so &= turns_so(queue, &mut counts, room, code % 3, turn % 3);
+        code /= 3;
+    }
+    is_so && queue.state().0 == counts.len()
+}
+
+// Whether a queue takes these steps.
+fn takes_steps<Q: Queue>(queue: &mut Q, steps: &[Step]) -> bool {
+    let mut is_so = true;
+    for (turn, number, count, made) in steps {
+        is_so &= match turn {
+            Turn::Add => {
+                queue.add(*number);
                 true
             }
-            _ => false,
+            Turn::Least => queue.take(Direction::Front) == Some(*number),
+            Turn::Greatest => queue.take(Direction::Back) == Some(*number),
+        };
+        is_so &= queue.state() == (*count, *made);
+    }
+    is_so
+}
+
+// Whether a queue answers what is asked.
+fn answers<Q: Queue>(queue: &mut Q, room: usize, asked: &Asked<'_>) -> bool {
+    match asked {
+        Asked::All(numbers, pattern) => gives_up_all(queue, numbers, *pattern),
+        Asked::Turns(code, turns) => follows(queue, room, *code, *turns),
+        Asked::Steps(steps) => takes_steps(queue, steps),
+    }
+}
+
+// Whether a queue that is made answers what is asked, and takes no memory for it; or is refused,
+// where it is to be.
+fn answers_once_made<Q: Queue + Drop>(
+    heap: &Refusing,
+    made: Result<Q, Error>,
+    room: usize,
+    asked: &Asked<'_>,
+    fails: bool,
+) -> bool {
+    match made {
+        Ok(mut queue) => {
+            let requests = heap.requests();
+            answers(&mut queue, room, asked) && heap.requests() == requests && !fails
         }
-    }
-
-    fn is_empty(&self) -> bool {
-        self.of == [0; 3]
-    }
-
-    fn take_least(&mut self) -> Option<u8> {
-        (0..3u8).find(|number| self.take(*number as usize))
-    }
-
-    fn take_greatest(&mut self) -> Option<u8> {
-        (0..3u8).rev().find(|number| self.take(*number as usize))
+        Err(error) => fails && error == Error::OutOfMemory,
     }
 }
 
-// Whether something was found to hold, and nothing was refused.
-fn holds(answer: Result<bool, Error>) -> bool {
-    matches!(answer, Ok(true))
-}
-
-// Two values, or the refusal of the first that is refused.
-fn both<T: Drop, U: Drop>(
-    first: Result<T, Error>,
-    second: Result<U, Error>,
-) -> Result<(T, U), Error>
-    ensures first { IfOk result (λ made. first ≡ Ok made.0) }
-    ensures second { IfOk result (λ made. second ≡ Ok made.1) }
-{
-    Ok((first?, second?))
-}
-
-fn tournament_of(alloc: Global, items: &[u8]) -> Result<Tournament<u8>, Error> {
-    let mut queue = Tournament::with_capacity(alloc, items.len())?;
-    for item in items {
-        if queue.len() < items.len() {
-            queue.push(*item);
+// Whether a queue of a kind answers so.
+fn is_so(heap: &Refusing, kind: Kind, room: usize, asked: &Asked<'_>, fails: bool) -> bool {
+    match kind {
+        Kind::Tournament => answers_once_made(heap, tournament(heap, room), room, asked, fails),
+        Kind::IntervalHeap => {
+            answers_once_made(heap, interval_heap(heap, room), room, asked, fails)
         }
+        Kind::Lazy => answers_once_made(heap, lazy_tournament(heap, room), room, asked, fails),
     }
-    Ok(queue)
 }
 
-fn interval_heap_of(alloc: Global, items: &[u8]) -> Result<IntervalHeap<u8>, Error> {
-    let mut queue = IntervalHeap::with_capacity(alloc, items.len())?;
-    for item in items {
-        if queue.len() < items.len() {
-            queue.push(*item);
-        }
-    }
-    Ok(queue)
+// Whether a queue of a kind answers so where no memory is refused.
+fn is_so_unrefused(alloc: Global, kind: Kind, room: usize, asked: &Asked<'_>) -> bool {
+    is_so(&Refusing::new(alloc, 0), kind, room, asked, false)
 }
 
 // The digits of a number in base 3, the lowest first.
@@ -88,89 +177,41 @@ fn digits(mut code: u32) -> [u8; 6] {
     digits
 }
 
-// Whether both queues give up the number that is counted as the least, or the greatest, or none.
-fn pop_alike(
-    queue: &mut Tournament<u8>,
-    heap: &mut IntervalHeap<u8>,
-    counts: &mut Counts,
-    least: bool,
-) -> bool
-    ensures queue { queue.new.room ≡ queue.old.room }
-    ensures heap { heap.new.room ≡ heap.old.room }
-{
-    let (want, first, second) = if least {
-        (counts.take_least(), queue.pop_min(), heap.pop_min())
-    } else {
-        (counts.take_greatest(), queue.pop_max(), heap.pop_max())
-    };
-    first == want && second == want
-}
-
-// Whether both queues are empty, and give up nothing.
-fn give_up_nothing(mut queue: Tournament<u8>, mut heap: IntervalHeap<u8>) -> bool {
-    let are_empty = queue.len() == 0 && heap.len() == 0;
-    let queue_gives = queue.pop_min().is_some() | queue.pop_max().is_some();
-    let heap_gives = heap.pop_min().is_some() | heap.pop_max().is_some();
-    are_empty && !queue_gives && !heap_gives
-}
-
-// How often each of some numbers is there.
-fn counts_of(items: &[u8]) -> Counts {
-    let mut counts = Counts { of: [0; 3] };
-    for item in items {
-        counts.put(*item);
-    }
-    counts
-}
-
-// Whether both queues, which hold some numbers, give up the least and the greatest in turn as the
-// pattern has it, and then none.
-fn pop_all_alike(
-    mut tournament: Tournament<u8>,
-    mut heap: IntervalHeap<u8>,
-    items: &[u8],
-    mut pattern: u32,
-) -> bool {
-    let mut counts = counts_of(items);
-    let mut are_alike = true;
-    for _ in items {
-        let least = pattern % 2 == 0;
-        are_alike &= !counts.is_empty();
-        are_alike &= pop_alike(&mut tournament, &mut heap, &mut counts, least);
-        pattern /= 2;
-    }
-    give_up_nothing(tournament, heap) && are_alike
-}
-
-// Whether a tournament and an interval heap that are made of some numbers give up the least and the
-// greatest in turn as the pattern has it, and then none.
-fn agree(alloc: Global, items: &[u8], pattern: u32) -> Result<bool, Error> {
-    let (tournament, heap) = both(tournament_of(alloc, items), interval_heap_of(alloc, items))?;
-    Ok(pop_all_alike(tournament, heap, items, pattern))
-}
-
-// The first of so many patterns by which the queues do not agree.
-fn first_to_disagree(alloc: Global, items: &[u8], patterns: u32) -> Option<u32> {
+// The first of so many patterns by which a queue of some numbers does not answer so.
+fn first_pattern(alloc: Global, kind: Kind, numbers: &[u8], patterns: u32) -> Option<u32> {
     for pattern in 0..patterns {
-        if !holds(agree(alloc, items, pattern)) {
+        let asked = Asked::All(numbers, pattern);
+        if !is_so_unrefused(alloc, kind, numbers.len(), &asked) {
             return Some(pattern);
         }
     }
     None
 }
 
-// The first of so many lists of some numbers, by its code, and the pattern by which the queues do
-// not agree.
-fn first_list_to_disagree(
+// How many numbers there are, how many lists of them, and how many patterns.
+const LISTS: &[(usize, u32, u32)] = &[
+    (0, 1, 1),
+    (1, 3, 2),
+    (2, 9, 4),
+    (3, 27, 8),
+    (4, 81, 16),
+    (5, 243, 32),
+    (6, 729, 64),
+];
+
+// The first of so many lists of so many numbers, by its code, and the pattern by which a queue does
+// not answer so.
+fn first_list(
     alloc: Global,
+    kind: Kind,
     count: usize,
     lists: u32,
     patterns: u32,
-) -> Option<(u32, u32)>
-    requires { count ≤ 6 }
-{
+) -> Option<(u32, u32)> {
     for code in 0..lists {
-        if let Some(pattern) = first_to_disagree(alloc, &digits(code)[..count], patterns) {
+        let digits = digits(code);
+        let numbers = digits.get(..count).unwrap_or(&[]);
+        if let Some(pattern) = first_pattern(alloc, kind, numbers, patterns) {
             return Some((code, pattern));
         }
     }
@@ -179,362 +220,102 @@ fn first_list_to_disagree(
 
 #[test]
 fn each_list_of_six_in_each_pattern_of_pops(rt: HostRuntime) {
-    let mut lists = 1;
-    let mut patterns = 1;
-    for count in 0..=6usize {
-        let first = first_list_to_disagree(rt.alloc(), count, lists, patterns);
-        assert!(rt; first.is_none(), "{count} {first:?}");
-        lists = u32::saturating_mul(lists, 3);
-        patterns = u32::saturating_mul(patterns, 2);
+    for &(count, lists, patterns) in LISTS {
+        for kind in KINDS {
+            let first = first_list(rt.alloc(), *kind, count, lists, patterns);
+            assert!(rt; first.is_none(), "{kind:?} {count} {first:?}");
+        }
     }
-    assert!(rt; lists == 2187 && patterns == 128);
-}
-
-// Pushes a number to both queues, which have room for four, where the digit is 0 and they are not
-// full. Else they are popped: whether they give up the same then, the least where the digit is 1.
-fn agree_in_turn(
-    tournament: &mut Tournament<u8>,
-    heap: &mut IntervalHeap<u8>,
-    counts: &mut Counts,
-    digit: u32,
-    number: u8,
-) -> bool
-    requires tournament { tournament.old.room ≡ 4 }
-    requires heap { heap.old.room ≡ 4 }
-    ensures tournament { tournament.new.room ≡ 4 }
-    ensures heap { heap.new.room ≡ 4 }
-{
-    if digit != 0 || tournament.len() >= 4 || heap.len() >= 4 {
-        return pop_alike(tournament, heap, counts, digit == 1);
-    }
-    tournament.push(number);
-    heap.push(number);
-    counts.put(number);
-    true
-}
-
-// Whether both queues, with room for four, agree while they are pushed to and popped, as the digits
-// of the code have it.
-fn agree_by_digits(
-    mut tournament: Tournament<u8>,
-    mut heap: IntervalHeap<u8>,
-    mut code: u32,
-    turns: u8,
-) -> bool
-    requires tournament { tournament.room ≡ 4 }
-    requires heap { heap.room ≡ 4 }
-{
-    let mut counts = Counts { of: [0; 3] };
-    let mut agreed = true;
-    for turn in 0..turns {
-        agreed &= agree_in_turn(&mut tournament, &mut heap, &mut counts, code % 3, turn % 3);
-        code /= 3;
-    }
-    agreed && tournament.len() == heap.len()
-}
-
-// Whether a tournament and an interval heap with room for four agree, while they are pushed to and
-// popped as the digits of the code have it.
-fn agree_in_turns(alloc: Global, code: u32, turns: u8) -> Result<bool, Error> {
-    let tournament = Tournament::with_capacity(alloc, 4);
-    let (tournament, heap) = both(tournament, IntervalHeap::with_capacity(alloc, 4))?;
-    Ok(agree_by_digits(tournament, heap, code, turns))
 }
 
 #[test]
 fn pushes_and_pops_in_turns(rt: HostRuntime) {
     for code in 0..6561 {
-        assert!(rt; holds(agree_in_turns(rt.alloc(), code, 8)), "{code}");
-    }
-}
-
-// Pushes a number to a lazy tournament with room for four, where the digit is 0 and it is not full.
-// Else it is popped: whether it gives up what is counted then, the least where the digit is 1.
-fn is_counted_in_turn(
-    queue: &mut LazyTournament<u8>,
-    counts: &mut Counts,
-    digit: u32,
-    number: u8,
-) -> bool
-    requires { queue.old.room ≡ 4 }
-    ensures { queue.new.room ≡ 4 }
-{
-    match digit {
-        0 if queue.len() < 4 => {
-            queue.push(number);
-            counts.put(number);
-            true
+        for kind in KINDS {
+            let is_so = is_so_unrefused(rt.alloc(), *kind, 4, &Asked::Turns(code, 8));
+            assert!(rt; is_so, "{kind:?} {code}");
         }
-        1 => queue.pop_min() == counts.take_least(),
-        _ => queue.pop_max() == counts.take_greatest(),
     }
 }
 
-// Whether a lazy tournament with room for four gives up what is counted, while it is pushed to and
-// popped as the digits of the code have it.
-fn is_counted_by_digits(mut queue: LazyTournament<u8>, mut code: u32, turns: u8) -> bool
-    requires { queue.room ≡ 4 }
-{
-    let mut counts = Counts { of: [0; 3] };
-    let mut counted = true;
-    for turn in 0..turns {
-        counted &= is_counted_in_turn(&mut queue, &mut counts, code % 3, turn % 3);
-        code /= 3;
-    }
-    counted
-}
-
-// Whether a lazy tournament, made with room for four, gives up what is counted, while it is pushed
-// to and popped as the digits of the code have it.
-fn is_counted_in_turns(alloc: Global, code: u32, turns: u8) -> Result<bool, Error> {
-    let queue = LazyTournament::with_capacity(alloc, 4)?;
-    Ok(is_counted_by_digits(queue, code, turns))
-}
-
-#[test]
-fn lazy_pushes_and_pops_in_turns(rt: HostRuntime) {
-    for code in 0..6561 {
-        assert!(rt; holds(is_counted_in_turns(rt.alloc(), code, 8)), "{code}");
-    }
-}
-
-// Pushes to one with room for four, and says how many steps were made.
-fn push_to_four(queue: &mut Tournament<char>, item: char) -> u64
-    requires { queue.old.room ≡ 4 }
-    ensures { queue.new.room ≡ 4 }
-{
-    if queue.len() < 4 {
-        queue.push(item);
-    }
-    queue.steps()
-}
-
-// Pushes four letters to one with room for four, and answers the steps after each, and how many
-// items there are.
-fn push_four(queue: &mut Tournament<char>) -> ([u64; 4], usize)
-    requires { queue.old.room ≡ 4 }
-{
-    let steps = [
-        push_to_four(queue, 'd'),
-        push_to_four(queue, 'b'),
-        push_to_four(queue, 'c'),
-        push_to_four(queue, 'a'),
-    ];
-    (steps, queue.len())
-}
-
-// What pushing four letters answers, and then what is given up of them, from the front and then
-// from the back, and the steps after each.
-fn four_pushed_and_popped(
-    mut queue: Tournament<char>,
-) -> ([u64; 4], usize, [(Option<char>, u64); 2])
-    requires { queue.room ≡ 4 }
-{
-    let (steps, count) = push_four(&mut queue);
-    let first = (queue.pop_min(), queue.steps());
-    let last = (queue.pop_max(), queue.steps());
-    (steps, count, [first, last])
-}
-
-// Whether pushing four letters and popping two takes the steps that it should.
-fn four_take_their_steps(alloc: Global) -> Result<bool, Error> {
-    let (pushed, count, popped) = four_pushed_and_popped(Tournament::with_capacity(alloc, 4)?);
+// A kind, the room that it has, and the steps that it takes.
+const STEPS: &[(Kind, usize, &[Step])] = &[
     // Each match is played for the least and for the greatest, but not above one that another slot
     // wins as before: the last push leaves the final of the greatest as it is. The matches above an
     // emptied slot are played at the next call.
-    Ok(pushed == [0, 2, 4, 7] && count == 4 && popped == [(Some('a'), 7), (Some('d'), 8)])
-}
-
-// The steps after one letter is pushed, what is given up, and then the steps and how many items
-// there are.
-fn one_pushed_and_popped(mut queue: Tournament<char>) -> (u64, Option<char>, u64, usize)
-    requires room { queue.room ≡ 1 }
-    requires empty { queue.items ≡ [] }
-{
-    queue.push('a');
-    (queue.steps(), queue.pop_max(), queue.steps(), queue.len())
-}
-
-// Whether pushing one letter and popping it takes no step.
-fn one_takes_no_step(alloc: Global) -> Result<bool, Error> {
-    let answers = one_pushed_and_popped(Tournament::with_capacity(alloc, 1)?);
-    Ok(answers == (0, Some('a'), 0, 0))
-}
-
-// Pushes to a lazy one with room for four, and says how many steps were made.
-fn push_to_lazy(queue: &mut LazyTournament<char>, item: char) -> u64
-    requires { queue.old.room ≡ 4 }
-    ensures { queue.new.room ≡ 4 }
-{
-    if queue.len() < 4 {
-        queue.push(item);
-    }
-    queue.steps()
-}
-
-// Pushes four letters to a lazy one with room for four, and says how many steps were made.
-fn push_four_to_lazy(queue: &mut LazyTournament<char>) -> u64
-    requires { queue.old.room ≡ 4 }
-{
-    push_to_lazy(queue, 'd');
-    push_to_lazy(queue, 'b');
-    push_to_lazy(queue, 'c');
-    push_to_lazy(queue, 'a')
-}
-
-// How many steps pushing four letters to a lazy one makes; and what it gives up of them, at the
-// front twice, at the back and at the front, and the steps after each pop.
-fn lazily_popped(mut queue: LazyTournament<char>) -> (u64, [(Option<char>, u64); 4])
-    requires { queue.room ≡ 4 }
-{
-    let pushed = push_four_to_lazy(&mut queue);
-    let popped = [
-        (queue.pop_min(), queue.steps()),
-        (queue.pop_min(), queue.steps()),
-        (queue.pop_max(), queue.steps()),
-        (queue.pop_min(), queue.steps()),
-    ];
-    (pushed, popped)
-}
-
-// Whether a lazy one plays a match only where an end is asked that needs it.
-fn plays_where_it_is_asked(alloc: Global) -> Result<bool, Error> {
-    let (pushed, popped) = lazily_popped(LazyTournament::with_capacity(alloc, 4)?);
-    // Three matches at the first pop, and one after 'a' has gone. Then one more for the least,
-    // after 'b' has gone, and one for the greatest: the others have no opponent. None at the last.
-    let want = [
-        (Some('a'), 3),
-        (Some('b'), 4),
-        (Some('d'), 6),
-        (Some('c'), 6),
-    ];
-    Ok(pushed == 0 && popped == want)
-}
-
-#[test]
-fn an_end_that_is_not_asked_plays_no_match(rt: HostRuntime) {
-    assert!(rt; holds(plays_where_it_is_asked(rt.alloc())));
-}
+    (
+        Kind::Tournament,
+        4,
+        &[
+            (Turn::Add, b'd', 1, 0),
+            (Turn::Add, b'b', 2, 2),
+            (Turn::Add, b'c', 3, 4),
+            (Turn::Add, b'a', 4, 7),
+            (Turn::Least, b'a', 3, 7),
+            (Turn::Greatest, b'd', 2, 8),
+        ],
+    ),
+    // One number takes no step.
+    (
+        Kind::Tournament,
+        1,
+        &[(Turn::Add, b'a', 1, 0), (Turn::Greatest, b'a', 0, 0)],
+    ),
+    // An end that is not asked plays no match: three at the first pop, and one after 'a' has gone.
+    // Then one more for the least, after 'b' has gone, and one for the greatest: the others have no
+    // opponent. None at the last.
+    (
+        Kind::Lazy,
+        4,
+        &[
+            (Turn::Add, b'd', 1, 0),
+            (Turn::Add, b'b', 2, 0),
+            (Turn::Add, b'c', 3, 0),
+            (Turn::Add, b'a', 4, 0),
+            (Turn::Least, b'a', 3, 3),
+            (Turn::Least, b'b', 2, 4),
+            (Turn::Greatest, b'd', 1, 6),
+            (Turn::Least, b'c', 0, 6),
+        ],
+    ),
+];
 
 #[test]
 fn steps_are_the_matches_played(rt: HostRuntime) {
-    assert!(rt; holds(one_takes_no_step(rt.alloc())));
-    assert!(rt; holds(four_take_their_steps(rt.alloc())));
-}
-
-// Pushes and pops in a tournament with room for two, over and over.
-fn reuse_tournament<A: Allocator>(queue: &mut Tournament<u8, A>) -> bool
-    requires { queue.old.room ≡ 2 }
-{
-    for number in 0..5 {
-        if queue.len() < 2 {
-            queue.push(number);
-        }
-        if queue.len() < 2 {
-            queue.push(number);
-        }
-        if (queue.pop_max(), queue.pop_min()) != (Some(number), Some(number)) {
-            return false;
-        }
-    }
-    queue.len() == 0
-}
-
-// Whether an interval heap with room for two is filled and emptied over and over.
-fn reuse_interval_heap<A: Allocator>(queue: &mut IntervalHeap<u8, A>) -> bool
-    requires { queue.old.room ≡ 2 }
-{
-    for number in 0..5 {
-        if queue.len() < 2 {
-            queue.push(number);
-        }
-        if queue.len() < 2 {
-            queue.push(number);
-        }
-        if (queue.pop_max(), queue.pop_min()) != (Some(number), Some(number)) {
-            return false;
-        }
-    }
-    queue.len() == 0
-}
-
-// Whether a tournament with room for three is made, and empty, where no memory is refused, and else
-// is refused.
-fn makes_tournament<A: Allocator + Clone>(memory: A, may_fail: bool) -> bool {
-    match Tournament::<u8, A>::with_capacity(memory, 3) {
-        Ok(queue) => !may_fail && queue.len() == 0,
-        Err(error) => may_fail && error == Error::OutOfMemory,
+    for &(kind, room, steps) in STEPS {
+        let is_so = is_so_unrefused(rt.alloc(), kind, room, &Asked::Steps(steps));
+        assert!(rt; is_so, "{kind:?} {room}");
     }
 }
 
-// Whether an interval heap with room for three is made, and empty, where no memory is refused, and
-// else is refused.
-fn makes_interval_heap<A: Allocator>(memory: A, may_fail: bool) -> bool {
-    match IntervalHeap::<u8, A>::with_capacity(memory, 3) {
-        Ok(queue) => !may_fail && queue.len() == 0,
-        Err(error) => may_fail && error == Error::OutOfMemory,
-    }
+// Two numbers are added, and the greatest and the least given up, five times.
+const FIVE_TIMES: Asked<'static> = Asked::Turns(45 * (1 + 81 + 6561 + 531441 + 43046721), 20);
+
+// How many requests for memory a queue makes, each of which may be refused, while it is filled and
+// emptied over and over.
+fn requests(alloc: Global, kind: Kind, room: usize) -> Result<usize, usize> {
+    each_refused(
+        alloc,
+        move |heap, fails| is_so(heap, kind, room, &FIVE_TIMES, fails),
+    )
 }
 
-// How many requests for memory a tournament makes, each of which may be refused.
-fn tournaments_refused(alloc: Global) -> Result<usize, usize> {
-    each_refused(alloc, |memory, may_fail| makes_tournament(memory, may_fail))
-}
-
-// How many requests for memory an interval heap makes, each of which may be refused.
-fn interval_heaps_refused(alloc: Global) -> Result<usize, usize> {
-    each_refused(alloc, |memory, may_fail| {
-        makes_interval_heap(memory, may_fail)
-    })
-}
-
-// How many requests for memory are made for a tournament with room for two, and whether it is used
-// over and over.
-fn used_tournament(memory: &Refusing) -> Result<(usize, bool), Error> {
-    let mut queue = Tournament::with_capacity(memory, 2)?;
-    let requests = memory.requests();
-    Ok((requests, reuse_tournament(&mut queue)))
-}
-
-// How many requests for memory are made for an interval heap with room for two, and whether it is
-// used over and over.
-fn used_interval_heap(memory: &Refusing) -> Result<(usize, bool), Error> {
-    let mut queue = IntervalHeap::with_capacity(memory, 2)?;
-    let requests = memory.requests();
-    Ok((requests, reuse_interval_heap(&mut queue)))
-}
-
-// Whether a tournament with room for two makes so many requests for memory, all before it is used
-// over and over.
-fn tournament_makes(alloc: Global, requests: usize) -> Result<bool, Error> {
-    let memory = Refusing::new(alloc, 0);
-    let used = used_tournament(&memory)?;
-    Ok(used == (requests, true) && memory.requests() == requests)
-}
-
-// Whether an interval heap with room for two makes so many requests for memory, all before it is
-// used over and over.
-fn interval_heap_makes(alloc: Global, requests: usize) -> Result<bool, Error> {
-    let memory = Refusing::new(alloc, 0);
-    let used = used_interval_heap(&memory)?;
-    Ok(used == (requests, true) && memory.requests() == requests)
-}
-
-// Whether a tournament without room gives up nothing from either end.
-fn gives_up_nothing(mut none: Tournament<u8>) -> bool {
-    none.pop_min().is_none() & none.pop_max().is_none()
-}
-
-// Whether a tournament that is made without room gives up nothing from either end.
-fn gives_up_nothing_without_room(alloc: Global) -> Result<bool, Error> {
-    Ok(gives_up_nothing(Tournament::with_capacity(alloc, 0)?))
-}
+// A kind, the room that it has, and the requests that it makes for it.
+const MADE: &[(Kind, usize, usize)] = &[
+    (Kind::Tournament, 2, 4),
+    (Kind::Tournament, 3, 4),
+    (Kind::IntervalHeap, 2, 1),
+    (Kind::IntervalHeap, 3, 1),
+    (Kind::Lazy, 2, 4),
+    (Kind::Lazy, 3, 4),
+];
 
 #[test]
 fn memory_is_taken_at_first_alone(rt: HostRuntime) {
-    assert!(rt; tournaments_refused(rt.alloc()) == Ok(4));
-    assert!(rt; interval_heaps_refused(rt.alloc()) == Ok(1));
-    assert!(rt; holds(tournament_makes(rt.alloc(), 4)));
-    assert!(rt; holds(interval_heap_makes(rt.alloc(), 1)));
-    assert!(rt; holds(gives_up_nothing_without_room(rt.alloc())));
+    for &(kind, room, wanted) in MADE {
+        assert!(rt;
+            requests(rt.alloc(), kind, room) == Ok(wanted),
+            "{kind:?} {room}"
+        );
+    }
 }

@@ -7,6 +7,6 @@ mod comparisons;
 #[cfg(test)]
 mod heaps;
 #[cfg(test)]
-mod lending;
+mod queues;
 #[cfg(test)]
 mod refusals;

@@ -3,21 +3,6 @@
 use std::alloc::{Allocator, Global};
 use test_refusing::{Refusing, each_refused};
 
-// Makes a list with room for one number, which is one request, and for two, which is one more.
-fn grows<A: Allocator>(memory: A) -> (bool, bool) {
-    let Ok(mut list) = Vec::with_capacity(memory, 1) else {
-        return (false, false);
-    };
-    let first = list.push(1u8).is_ok();
-    let second = list.push(2u8).is_ok();
-    (first, second)
-}
-
-// Whether a list with room for one number is made.
-fn is_made<A: Allocator>(memory: A) -> bool {
-    Vec::<u8, A>::with_capacity(memory, 1).is_ok()
-}
-
 // How many of so many requests are granted before one is refused, and how many in all; and whether
 // each is counted.
 fn granted(memory: &Refusing, requests: usize) -> (usize, usize, bool) {
@@ -26,7 +11,7 @@ fn granted(memory: &Refusing, requests: usize) -> (usize, usize, bool) {
     let mut are_counted = true;
     for made in 0..requests {
         are_counted &= memory.requests() == made;
-        if is_made(memory) {
+        if Vec::<u8, &Refusing>::with_capacity(memory, 1).is_ok() {
             before = before.saturating_add(usize::from(all == made));
             all = all.saturating_add(1);
         }
@@ -34,21 +19,34 @@ fn granted(memory: &Refusing, requests: usize) -> (usize, usize, bool) {
     (before, all, are_counted && memory.requests() == requests)
 }
 
-// What is granted of six requests where the one with this number is refused.
-fn granted_of_six(alloc: Global, nth: usize) -> (usize, usize, bool) {
-    granted(&Refusing::new(alloc, nth), 6)
-}
+// Which request is refused, how many of six are granted before it, and how many in all.
+const OF_SIX: &[(usize, usize, usize)] = &[
+    (0, 6, 6),
+    (1, 0, 5),
+    (2, 1, 5),
+    (3, 2, 5),
+    (4, 3, 5),
+    (5, 4, 5),
+    (6, 5, 5),
+    (7, 6, 6),
+];
 
 #[test]
 fn the_request_that_it_is_told_to_is_refused_and_no_other(rt: HostRuntime) {
-    assert!(rt; granted_of_six(rt.alloc(), 0) == (6, 6, true));
-    for nth in 1..=6usize {
-        assert!(rt;
-            granted_of_six(rt.alloc(), nth) == (nth - 1, 5, true),
-            "{nth}"
-        );
+    for &(nth, before, all) in OF_SIX {
+        let told = granted(&Refusing::new(rt.alloc(), nth), 6);
+        assert!(rt; told == (before, all, true), "{nth}");
     }
-    assert!(rt; granted_of_six(rt.alloc(), 7) == (6, 6, true));
+}
+
+// Makes a list with room for one number, which is one request, and for two, which is one more.
+fn grows<A: Allocator>(memory: A) -> (bool, bool) {
+    let Ok(mut list) = Vec::with_capacity(memory, 1) else {
+        return (false, false);
+    };
+    let first = list.push(1u8).is_ok();
+    let second = list.push(2u8).is_ok();
+    (first, second)
 }
 
 // Whether a list is made, and grows, where this request is refused; and how many requests that

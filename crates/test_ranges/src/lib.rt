@@ -7,6 +7,6 @@ mod packing;
 #[cfg(test)]
 mod ranges;
 #[cfg(test)]
-mod refusals;
+mod runs;
 #[cfg(test)]
 mod tables;

@@ -4,9 +4,10 @@ ghost use Rattle.std.specs.Prelude.{◌≡◌};
 use lsm_ranges::{KeyRange, Ranged, Run};
 use sst_entries::{Error, Slice};
 use std::alloc::{AllocError, Allocator, Global};
+use std::ops::Bound;
 
 #[derive(Drop)]
-#[derive_where(Debug, PartialEq)]
+#[derive_where(PartialEq)]
 pub struct FakeTable<A: Allocator = Global> {
     pub id: u64,
     pub range: KeyRange<A>,
@@ -43,86 +44,71 @@ impl<A: Allocator> Clone for FakeTable<A> {
     }
 }
 
-// Two values, or the refusal of the first that is refused. It is generic, so that no part of the
-// values is looked at.
-pub fn both<T: Drop, U: Drop>(
-    first: Result<T, Error>,
-    second: Result<U, Error>,
-) -> Result<(T, U), Error> {
-    Ok((first?, second?))
+// The ends of a range.
+pub type Ends = (&'static str, &'static str);
+
+// The id of a table, and the ends of its range.
+pub type Row = (u64, &'static str, &'static str);
+
+pub fn range_of<A: Allocator>(ends: Ends) -> KeyRange<A> {
+    let min = Slice::from_static(ends.0.as_bytes());
+    let max = Slice::from_static(ends.1.as_bytes());
+    KeyRange::new((min, max))
 }
 
-// Whether something was found to hold, and nothing was refused.
-pub fn holds(answer: Result<bool, Error>) -> bool {
-    matches!(answer, Ok(true))
+pub fn table_of<A: Allocator>(row: &Row) -> FakeTable<A> {
+    let (id, min, max) = *row;
+    FakeTable {
+        id,
+        range: range_of((min, max)),
+    }
 }
 
-pub fn range_of<A: Allocator + Copy>(alloc: A, min: &str, max: &str) -> Result<KeyRange<A>, Error> {
-    let min = Slice::from(alloc, min.as_bytes());
-    let max = Slice::from(alloc, max.as_bytes());
-    Ok(KeyRange::new(both(min, max)?))
+pub fn tables_of<A: Allocator>(alloc: A, rows: &[Row]) -> Result<Vec<FakeTable<A>, A>, Error> {
+    let mut tables = Vec::new(alloc);
+    for row in rows {
+        tables.push(table_of(row))?;
+    }
+    Ok(tables)
 }
 
-pub fn table_of<A: Allocator + Copy>(
-    alloc: A,
-    table: &(u64, &str, &str),
-) -> Result<FakeTable<A>, Error> {
-    let (id, min, max) = *table;
-    let range = range_of(alloc, min, max)?;
-    Ok(FakeTable { id, range })
+// A run of some tables. One of none is a run of a table that is emptied.
+pub fn run_of<A: Allocator>(alloc: A, rows: &[Row]) -> Result<Run<FakeTable<A>, A>, Error> {
+    let one: &[Row] = &[(0, "a", "b")];
+    let tables = tables_of(alloc, if rows.is_empty() { one } else { rows })?;
+    match Run::new(tables) {
+        Some(mut run) => {
+            if rows.is_empty() {
+                run.inner_mut().clear();
+            }
+            Ok(run)
+        }
+        None => Err(Error::Source(0)),
+    }
 }
 
-pub fn tables_of<A: Allocator + Copy>(
-    alloc: A,
-    tables: &[(u64, &str, &str)],
-) -> Result<Vec<FakeTable<A>, A>, Error> {
-    tables
-        .iter()
-        .map(|table| table_of(alloc, table))
-        .try_collect(alloc)
-}
-
-pub fn run_of<A: Allocator + Copy>(
-    alloc: A,
-    tables: &[(u64, &str, &str)],
-) -> Result<Run<FakeTable<A>, A>, Error> {
-    Run::new(tables_of(alloc, tables)?).ok_or(Error::Source(0))
-}
-
-pub fn runs_of<A: Allocator + Copy>(
-    alloc: A,
-    runs: &[&[(u64, &str, &str)]],
-) -> Result<Vec<Run<FakeTable<A>, A>, A>, Error> {
-    runs.iter()
-        .map(|tables| run_of(alloc, tables))
-        .try_collect(alloc)
-}
-
+// Whether some tables have these ids.
 pub fn has_ids<A: Allocator>(tables: &[FakeTable<A>], ids: &[u64]) -> bool {
-    tables.len() == ids.len() && tables.iter().zip(ids).all(|(table, id)| table.id == *id)
+    let mut has_them = tables.len() == ids.len();
+    for (table, id) in tables.iter().zip(ids) {
+        has_them &= table.id == *id;
+    }
+    has_them
 }
 
-pub fn have_ids<A: Allocator>(runs: &[Run<FakeTable<A>, A>], ids: &[&[u64]]) -> bool {
-    runs.len() == ids.len()
-        && runs
-            .iter()
-            .zip(ids)
-            .all(|(run, ids)| has_ids(run.as_slice(), ids))
+pub fn bytes_of(bound: Bound<&str>) -> Bound<&[u8]> {
+    match bound {
+        Bound::Included(key) => Bound::Included(key.as_bytes()),
+        Bound::Excluded(key) => Bound::Excluded(key.as_bytes()),
+        Bound::Unbounded => Bound::Unbounded,
+    }
 }
 
-pub const FOUR: &[(u64, &str, &str)] = &[
-    (0, "a", "d"),
-    (1, "e", "j"),
-    (2, "k", "o"),
-    (3, "p", "z"),
-];
-
-// The run of four tables.
-pub fn four<A: Allocator + Copy>(alloc: A) -> Result<Run<FakeTable<A>, A>, Error> {
-    run_of(alloc, FOUR)
-}
-
-// Whether a run is that of four tables.
-pub fn is_four<A: Allocator + Copy>(alloc: A, run: &Run<FakeTable<A>, A>) -> Result<bool, Error> {
-    Ok(four(alloc)? == *run)
+// Whether what was made is like a value. It is generic in it, so that none of its parts is looked
+// at.
+pub fn is_like<T: PartialEq + Drop, E: Drop>(made: Result<T, E>, value: &T) -> bool {
+    match made {
+        Ok(made) => made == *value,
+        Err(_) => false,
+    }
 }

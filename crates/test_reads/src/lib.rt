@@ -6,66 +6,28 @@
 #![tactic(auto)]
 
 #[cfg(test)]
-mod belittled;
-#[cfg(test)]
-mod changed;
-#[cfg(test)]
-mod changed_meta;
-#[cfg(test)]
-mod each_kind;
-#[cfg(test)]
-mod handles;
-#[cfg(test)]
-mod index_kinds;
-#[cfg(test)]
-mod index_seeks;
-#[cfg(test)]
-mod kept;
-#[cfg(test)]
-mod largest_numbers;
-#[cfg(test)]
-mod layout;
+mod indexes;
 #[cfg(test)]
 mod lending;
 #[cfg(test)]
-mod lent_scans;
-#[cfg(test)]
 mod lists;
 #[cfg(test)]
-mod long_block;
-#[cfg(test)]
-mod long_keys;
-#[cfg(test)]
-mod longest_keys;
+mod long;
 #[cfg(test)]
 mod memory;
 #[cfg(test)]
 mod one_answer;
 #[cfg(test)]
-mod pins;
-#[cfg(test)]
-mod point_reads;
+mod points;
 #[cfg(test)]
 mod queries;
 #[cfg(test)]
-mod ranges;
-#[cfg(test)]
-mod read_memory;
-#[cfg(test)]
-mod scan_memory;
-#[cfg(test)]
-mod scans;
+mod reads;
 #[cfg(test)]
 mod sizes;
 #[cfg(test)]
-mod surface;
+mod tables;
 #[cfg(test)]
-mod table_rows;
-#[cfg(test)]
-mod versions;
+mod verified;
 #[cfg(test)]
 mod walks;
-#[cfg(test)]
-mod writing;
-#[cfg(test)]
-mod written;

@@ -1,12 +1,17 @@
-//! Lists that are written as one table, opened and read.
+//! Lists that are written as one table, opened and read, and what the tables say of themselves.
+use example_calling::write_and_find;
+use lsm_formats::ItemName;
+use lsm_ranges::Ranged;
 use lsm_tables::{Scanner, Table, read_back, write_and_open};
-use lsm_writers::{FinishedTable, Timestamp, write_list};
+use lsm_writers::Timestamp;
 use sst_blocks::{Error, InternalValue, SeqNo, ValueType};
 use std::alloc::{Allocator, Global};
 use std::ops::Bound;
-use test_tables::large::asked_if_any;
+use test_tables::large::{asked_if_any, asked_mut};
 use test_tables::lists::list_of;
 use test_tables::rows::Row;
+use test_tables::runs::Bounds;
+use test_tables::tables::open;
 
 const ROWS: &[Row<'static>] = &[
     (b"a", 9, ValueType::Value, b"x"),
@@ -17,38 +22,28 @@ const ROWS: &[Row<'static>] = &[
 
 const B1: Row<'static> = (b"b", 1, ValueType::Value, b"z");
 
-// The number of the next entry of a scan; 0 where nothing comes.
-fn next_number<A: Allocator + Copy>(scanner: &mut Scanner<A>) -> Result<SeqNo, Error> {
-    match scanner.next() {
-        Some(Ok(item)) => Ok(item.key.seqno),
-        Some(Err(error)) => Err(error),
-        None => Ok(0),
-    }
-}
+// What a read finds, and the numbers that a scan gives, four at most; 0 where nothing comes.
+type Numbers = (Option<SeqNo>, [SeqNo; 5]);
 
-// The numbers that a scan gives, four at most; 0 where nothing comes.
 fn numbers<A: Allocator + Copy>(scanner: &mut Scanner<A>) -> Result<[SeqNo; 5], Error> {
     let mut numbers = [0; 5];
     for slot in numbers.iter_mut() {
-        *slot = next_number(scanner)?;
+        match scanner.next() {
+            Some(Ok(item)) => *slot = item.key.seqno,
+            Some(Err(error)) => return Err(error),
+            None => {}
+        }
     }
     Ok(numbers)
-}
-
-// The number of the entry that is found, and the numbers of a scan.
-type Numbers = (Option<SeqNo>, [SeqNo; 5]);
-
-fn number_of<A: Allocator>(found: &Option<InternalValue<A>>) -> Option<SeqNo> {
-    match found {
-        Some(item) => Some(item.key.seqno),
-        None => None,
-    }
 }
 
 fn all_numbers<A: Allocator + Copy>(
     read: &mut (Option<InternalValue<A>>, Scanner<A>),
 ) -> Result<Numbers, Error> {
-    let found = number_of(&read.0);
+    let found = match &read.0 {
+        Some(item) => Some(item.key.seqno),
+        None => None,
+    };
     Ok((found, numbers(&mut read.1)?))
 }
 
@@ -124,51 +119,130 @@ pub(crate) fn rows_are_read<A: Allocator + Copy>(alloc: A) -> Result<bool, Error
     Ok(read == Some((Some(7), [9, 7, 5, 1, 0])))
 }
 
-// What a table says: its id, its entries, its tombstones and its highest number; and whether it may
-// have keys from `c` on, and from `b` on.
-type Facts = ([u64; 4], (bool, bool));
+// ---- what is found by a key alone
 
-fn facts_of(table: &mut Table) -> Result<Facts, Error> {
-    table.tells_its_list();
-    let facts = [
+// The number of the entry of a key below 8, in a list that is written and opened.
+fn found_below_8(alloc: Global, key: &[u8]) -> Result<Option<SeqNo>, Error> {
+    match write_and_find(alloc, list_of(alloc, ROWS)?, key, 8)? {
+        Some(Some(item)) => Ok(Some(item.key.seqno)),
+        _ => Ok(None),
+    }
+}
+
+#[test]
+fn what_is_written_is_found(rt: HostRuntime) {
+    assert!(rt; found_below_8(rt.alloc(), b"a") == Ok(Some(7)));
+    assert!(rt; found_below_8(rt.alloc(), b"c") == Ok(None));
+}
+
+// ---- what a table says
+
+// What a table says: its id, how many entries, tombstones, weak ones, values behind those and keys
+// it has, and its lowest, its highest and, with the global number, its highest number; the ends of
+// its keys; and whether it may have keys within some bounds.
+type Facts = ([u64; 9], [u8; 2], [bool; 6]);
+
+const BOUNDS: [Bounds<'static>; 6] = [
+    (Bound::Unbounded, Bound::Unbounded),
+    (Bound::Included(b"b"), Bound::Unbounded),
+    (Bound::Included(b"b"), Bound::Included(b"c")),
+    (Bound::Included(b"c"), Bound::Unbounded),
+    (Bound::Excluded(b"b"), Bound::Unbounded),
+    (Bound::Unbounded, Bound::Excluded(b"a")),
+];
+
+fn numbers_of(table: &Table) -> Result<[u64; 9], Error> {
+    let keys = table.meta_item(ItemName::KeyCount)?;
+    let (lowest, highest) = table.metadata.seqnos;
+    Ok([
         table.id(),
         table.metadata.item_count,
         table.tombstone_count(),
+        table.weak_tombstone_count(),
+        table.weak_tombstone_reclaimable(),
+        u64::from(keys.as_slice().first().copied().unwrap_or(0)),
+        lowest,
+        highest,
         table.get_highest_seqno(),
-    ];
-    let overlaps = (
-        table.check_key_range_overlap(&(Bound::Included(b"c"), Bound::Unbounded)),
-        table.check_key_range_overlap(&(Bound::Included(b"b"), Bound::Unbounded)),
-    );
-    Ok((facts, overlaps))
+    ])
 }
 
-// What a table of the rows says.
-fn says(alloc: Global, global_seqno: SeqNo) -> Result<Option<Facts>, Error> {
-    let items = list_of(alloc, ROWS)?;
+fn ends_of(table: &Table) -> [u8; 2] {
+    let range = table.key_range();
+    [
+        range.min().as_slice().first().copied().unwrap_or(0),
+        range.max().as_slice().first().copied().unwrap_or(0),
+    ]
+}
+
+fn facts_of(table: &mut Table) -> Result<Facts, Error> {
+    table.tells_its_list();
+    let mut overlaps = [false; 6];
+    for (slot, bounds) in overlaps.iter_mut().zip(BOUNDS.iter()) {
+        *slot = table.check_key_range_overlap(bounds);
+    }
+    Ok((numbers_of(table)?, ends_of(table), overlaps))
+}
+
+// Whether a table shows its id.
+fn shows_its_id(alloc: Global, table: &Table) -> Result<bool, Error> {
+    Ok(format!(in alloc; "{table:?}")?.starts_with("Table:3("))
+}
+
+// What a table says, if it shows its id, and one says the same that is opened from its bytes.
+// `Source(4)` where that is not so.
+fn facts_again(alloc: Global, table: &mut Table, global_seqno: SeqNo) -> Result<Facts, Error> {
+    let facts = facts_of(table)?;
+    let again = asked_mut(open(alloc, table.bytes()?, global_seqno), facts_of)?;
+    if again == facts && shows_its_id(alloc, table)? {
+        Ok(facts)
+    } else {
+        Err(Error::Source(4))
+    }
+}
+
+// What a table of some rows says.
+fn says(alloc: Global, rows: &[Row<'_>], global_seqno: SeqNo) -> Result<Option<Facts>, Error> {
+    let items = list_of(alloc, rows)?;
     let table = write_and_open(alloc, 3, Timestamp::from(5), items, global_seqno);
-    asked_if_any(table, facts_of)
+    asked_if_any(table, |table| facts_again(alloc, table, global_seqno))
 }
 
-// Past its last key it has no entry.
+const TOMBSTONES: &[Row<'static>] = &[
+    (b"a", 9, ValueType::WeakTombstone, b""),
+    (b"a", 8, ValueType::Value, b"x"),
+    (b"b", 7, ValueType::Tombstone, b""),
+    (b"c", 6, ValueType::WeakTombstone, b""),
+    (b"d", 5, ValueType::Indirection, b"far"),
+];
+
+const ROWS_OVERLAP: [bool; 6] = [true, true, true, false, false, false];
+
+const UP_TO_D: [bool; 6] = [true, true, true, true, true, false];
+
+// Rows, a global number, and what the table of them says.
+const SAYS: &[(&[Row<'static>], SeqNo, Facts)] = &[
+    (ROWS, 0, ([3, 4, 1, 0, 0, 2, 1, 9, 9], *b"ab", ROWS_OVERLAP)),
+    (
+        ROWS,
+        10,
+        ([3, 4, 1, 0, 0, 2, 1, 9, 19], *b"ab", ROWS_OVERLAP),
+    ),
+    (
+        ROWS,
+        u64::MAX - 9,
+        ([3, 4, 1, 0, 0, 2, 1, 9, u64::MAX], *b"ab", ROWS_OVERLAP),
+    ),
+    (
+        TOMBSTONES,
+        0,
+        ([3, 5, 3, 2, 1, 4, 5, 9, 9], *b"ad", UP_TO_D),
+    ),
+];
+
 #[test]
 fn an_opened_table_says_what_the_list_says(rt: HostRuntime) {
-    assert!(rt; says(rt.alloc(), 10) == Ok(Some(([3, 4, 1, 19], (false, true)))));
-    assert!(rt; says(rt.alloc(), 0) == Ok(Some(([3, 4, 1, 9], (false, true)))));
-}
-
-fn id_of(table: &mut FinishedTable) -> Result<u64, Error> {
-    Ok(table.id)
-}
-
-// The id of a list's table.
-fn written_id(alloc: Global, rows: &[Row<'_>]) -> Result<Option<u64>, Error> {
-    let table = write_list(alloc, 3, 0, Timestamp::from(5), list_of(alloc, rows)?);
-    asked_if_any(table, id_of)
-}
-
-#[test]
-fn a_list_without_entries_has_no_table(rt: HostRuntime) {
-    assert!(rt; written_id(rt.alloc(), ROWS) == Ok(Some(3)));
-    assert!(rt; written_id(rt.alloc(), &[]) == Ok(None));
+    for (rows, global_seqno, facts) in SAYS {
+        assert!(rt; says(rt.alloc(), rows, *global_seqno) == Ok(Some(*facts)));
+    }
 }

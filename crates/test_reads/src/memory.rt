@@ -1,7 +1,7 @@
-//! Writing and reading tables with each request for memory refused in turn. One function tries them
-//! all, so that its call is proved once.
-use crate::written::Parted;
-use crate::{lists, point_reads, queries, scan_memory};
+//! Writing, opening and reading tables with each request for memory refused in turn. One function
+//! tries them all, so that its call is proved once.
+use crate::tables::{Changed, Of, opened};
+use crate::{lists, points, queries};
 use sst_blocks::Error;
 use std::alloc::{Allocator, Global};
 use test_refusing::{Refusing, each_refused};
@@ -10,51 +10,58 @@ use test_tables::runs::is_right;
 // What is done.
 enum Work {
     List,
-    PointReads,
+    Points,
     Queries,
-    Scan,
-    PartedScan,
+    Fault,
+}
+
+// The stored table of one entry with another kind of checksum.
+const OTHER_CHECKSUMS: Changed<'static> = (
+    Of::One,
+    &[(113, &[234, 43, 49, 196, 235, 40, 248, 53]), (273, &[2])],
+    (true, true),
+    0,
+);
+
+// Whether opening a table of a kind of checksum that is not known is refused so.
+fn is_refused<A: Allocator + Copy>(alloc: A) -> Result<bool, Error> {
+    match opened(alloc, &OTHER_CHECKSUMS).map(drop) {
+        Err(Error::UnsupportedChecksumType) => Ok(true),
+        Err(error) => Err(error),
+        Ok(()) => Ok(false),
+    }
 }
 
 // Whether what is named is done right.
-fn answer<A: Allocator + Copy>(heap: Global, alloc: A, work: &Work) -> Result<bool, Error> {
+fn answer<A: Allocator + Copy>(alloc: A, work: &Work) -> Result<bool, Error> {
     match work {
         Work::List => lists::rows_are_read(alloc),
-        Work::PointReads => point_reads::are_right(heap, alloc),
+        Work::Points => points::are_right(alloc),
         Work::Queries => queries::are_answered(alloc),
-        Work::Scan => scan_memory::rows_come(alloc, Parted::Nothing),
-        Work::PartedScan => scan_memory::rows_come(alloc, Parted::Index),
+        Work::Fault => is_refused(alloc),
     }
 }
 
-// Whether what is named makes more than 20 requests, and is done right with nothing refused and
-// with each request refused in turn.
-fn is_right_refused(alloc: Global, work: &Work) -> bool {
-    let requests = each_refused(alloc, |heap: &Refusing, may_fail: bool| {
-        is_right(answer(alloc, heap, work), may_fail)
-    });
-    requests.is_ok_and(|requests| requests > 20)
-}
-
-const WORKS: &[Work] = &[
-    Work::List,
-    Work::PointReads,
-    Work::Queries,
-    Work::Scan,
-    Work::PartedScan,
+// What is done, and how many requests it makes at least.
+const WORKS: &[(Work, usize)] = &[
+    (Work::List, 20),
+    (Work::Points, 20),
+    (Work::Queries, 20),
+    (Work::Fault, 2),
 ];
 
-// The place of the first work that is done otherwise.
-fn wrong_work(alloc: Global, works: &[Work]) -> Option<usize> {
-    for (place, work) in works.iter().enumerate() {
-        if !is_right_refused(alloc, work) {
-            return Some(place);
-        }
-    }
-    None
+// Whether what is named makes so many requests, and is done right with nothing refused and with
+// each request refused in turn.
+fn is_right_refused(alloc: Global, work: &Work, least: usize) -> bool {
+    let requests = each_refused(alloc, |heap: &Refusing, may_fail: bool| {
+        is_right(answer(heap, work), may_fail)
+    });
+    requests.is_ok_and(|requests| requests > least)
 }
 
 #[test]
 fn tables_are_written_and_read_with_each_request_refused(rt: HostRuntime) {
-    assert!(rt; wrong_work(rt.alloc(), WORKS) == None);
+    for (work, least) in WORKS {
+        assert!(rt; is_right_refused(rt.alloc(), work, *least));
+    }
 }

@@ -1,10 +1,10 @@
 //! How many bytes the data blocks of a range take, by each kind of index.
-use crate::pins::open_with;
-use crate::written::{Parted, bytes_of};
+use crate::tables::{Parted, open_with, written};
 use lsm_tables::Table;
 use sst_blocks::{Error, ValueType};
 use std::alloc::Global;
 use std::ops::Bound;
+use test_tables::large::asked;
 use test_tables::rows::Row;
 use test_tables::runs::{ALL, Bounds};
 
@@ -29,27 +29,31 @@ const CASES: &[(Bounds<'static>, u64)] = &[
 ];
 
 // The first of the cases whose answer is wrong.
-fn wrong_case(table: &Table) -> Option<usize> {
+fn wrong_case(table: &Table) -> Result<Option<usize>, Error> {
     for (place, &((lower, upper), size)) in CASES.iter().enumerate() {
-        if table.approximate_size(lower, upper) != Ok(size) {
-            return Some(place);
+        if table.approximate_size(lower, upper)? != size {
+            return Ok(Some(place));
         }
     }
-    None
+    Ok(None)
 }
 
 // The first case that a table answers otherwise, its index in one block or in a partition for each
 // block of data, kept loaded or not.
 fn wrong_in(alloc: Global, parted: Parted, pin_index: bool) -> Result<Option<usize>, Error> {
-    let bytes = bytes_of(alloc, parted, ROWS, 0, 0)?;
-    let table = open_with(alloc, bytes.as_slice(), (false, pin_index))?;
-    Ok(wrong_case(&table))
+    let bytes = written(alloc, parted, ROWS, 0, 0)?;
+    asked(open_with(alloc, bytes, (false, pin_index), 0), wrong_case)
 }
+
+const INDEXES: [(Parted, bool); 3] = [
+    (Parted::Nothing, true),
+    (Parted::Nothing, false),
+    (Parted::Index, false),
+];
 
 #[test]
 fn the_blocks_between_bounds_are_summed(rt: HostRuntime) {
-    let alloc = rt.alloc();
-    assert!(rt; wrong_in(alloc, Parted::Nothing, true) == Ok(None));
-    assert!(rt; wrong_in(alloc, Parted::Nothing, false) == Ok(None));
-    assert!(rt; wrong_in(alloc, Parted::Index, false) == Ok(None));
+    for (parted, pin_index) in INDEXES {
+        assert!(rt; wrong_in(rt.alloc(), parted, pin_index) == Ok(None));
+    }
 }

@@ -1,71 +1,39 @@
 //! Ranges of numbers as keys, and reversed bounds.
-use crate::walks::both;
 use lsm_ranges::KeyRange;
 use sst_blocks::{Error, Slice};
 use std::alloc::Global;
 use std::ops::Bound;
-use test_tables::large::add;
+use test_tables::large::{add, asked_with};
 use test_tables::runs::Bounds;
 
 fn range_of(alloc: Global, min: &[u8], max: &[u8]) -> Result<KeyRange, Error> {
-    let min = Slice::from(alloc, min);
-    let max = Slice::from(alloc, max);
-    Ok(KeyRange::new(both(min, max)?))
+    let min = Slice::from(alloc, min)?;
+    Ok(KeyRange::new((min, Slice::from(alloc, max)?)))
 }
 
-// The range from a number to a number, whose eight bytes stand as keys, the greatest first.
-fn of_numbers(alloc: Global, ends: (u64, u64)) -> Result<KeyRange, Error> {
-    range_of(alloc, &ends.0.to_be_bytes(), &ends.1.to_be_bytes())
-}
-
+// The ranges from a number to a number, whose eight bytes stand as keys, the greatest first.
 fn ranges_of(alloc: Global, ends: &[(u64, u64)]) -> Result<Vec<KeyRange>, Error> {
     let mut ranges = Vec::new(alloc);
-    for pair in ends {
-        add(&mut ranges, of_numbers(alloc, *pair))?;
+    for (min, max) in ends {
+        add(
+            &mut ranges,
+            range_of(alloc, &min.to_be_bytes(), &max.to_be_bytes()),
+        )?;
     }
     Ok(ranges)
 }
 
-// Whether a range is this one.
-fn is_range(found: KeyRange, wanted: &KeyRange) -> bool {
-    found == *wanted
-}
-
-// Whether some ranges are disjoint, and whether their aggregate is another.
-fn taken_together(
-    alloc: Global,
-    ranges: &[KeyRange],
-    aggregate: &KeyRange,
-) -> Result<(bool, bool), Error> {
+// Whether some ranges are disjoint, and whether their aggregate reaches from one number to another.
+fn together(ranges: &Vec<KeyRange>, by: (Global, (u64, u64))) -> Result<(bool, bool), Error> {
+    let (alloc, (min, max)) = by;
     let all: Vec<&KeyRange> = ranges.iter().collect(alloc)?;
     let is_disjoint = KeyRange::is_disjoint(&all);
     let found = KeyRange::aggregate(&all);
     drop(all);
-    Ok((is_disjoint, is_range(found?, aggregate)))
-}
-
-// Both answers about ranges that are let go of.
-fn all_taken_together(
-    alloc: Global,
-    ranges: Vec<KeyRange>,
-    aggregate: KeyRange,
-) -> Result<(bool, bool), Error> {
-    taken_together(alloc, &ranges, &aggregate)
-}
-
-fn reach_together(
-    alloc: Global,
-    ends: &[(u64, u64)],
-    reach: (u64, u64),
-) -> Result<(bool, bool), Error> {
-    let (ranges, aggregate) = both(ranges_of(alloc, ends), of_numbers(alloc, reach))?;
-    all_taken_together(alloc, ranges, aggregate)
-}
-
-// Whether ranges with these ends are disjoint or not as wanted, and reach from one number to
-// another.
-fn is_reached(alloc: Global, ends: &[(u64, u64)], is_disjoint: bool, reach: (u64, u64)) -> bool {
-    reach_together(alloc, ends, reach) == Ok((is_disjoint, true))
+    let found = found?;
+    let is_min = found.min().as_slice() == min.to_be_bytes().as_slice();
+    let is_max = found.max().as_slice() == max.to_be_bytes().as_slice();
+    Ok((is_disjoint, is_min && is_max))
 }
 
 // The ends of ranges, whether they are disjoint, and the ends of their aggregate. As decimal digits
@@ -79,11 +47,10 @@ const AGGREGATES: &[(&[(u64, u64)], bool, (u64, u64))] = &[
 
 #[test]
 fn ranges_of_numbers_reach_from_the_least_to_the_greatest(rt: HostRuntime) {
+    let alloc = rt.alloc();
     for &(ends, is_disjoint, reach) in AGGREGATES {
-        assert!(rt;
-            is_reached(rt.alloc(), ends, is_disjoint, reach),
-            "{ends:?}"
-        );
+        let found = asked_with(ranges_of(alloc, ends), (alloc, reach), together);
+        assert!(rt; found == Ok((is_disjoint, true)), "{ends:?}");
     }
 }
 

@@ -11,34 +11,20 @@ const KEYS: &[&[u8]] = &[b"", b"a", b"b", b"bb", b"c", b"d"];
 
 const RUNS: u64 = 3;
 
-fn kind_of(number: u64) -> ValueType {
-    match number % 4 {
-        0 => ValueType::Tombstone,
-        1 => ValueType::WeakTombstone,
-        _ => ValueType::Value,
-    }
-}
-
-// Some versions of a key, the newest first, whose numbers are those of one run.
-fn add_versions(
-    rows: &mut Vec<Row<'static>>,
-    key: &'static [u8],
-    seed: &mut u64,
-    run: u64,
-) -> Result<(), Error> {
-    for version in (0..random(seed) % 4).rev() {
-        let kind = kind_of(random(seed));
-        let seqno = version.wrapping_mul(RUNS).wrapping_add(run);
-        rows.push((key, seqno, kind, b""))?;
-    }
-    Ok(())
-}
-
-// Rows of a run that look random, and a last one, so that there is one.
+// Rows of a run that look random, and a last one, so that there is one. The versions of a key come
+// the newest first, and their numbers are those of one run.
 fn rows_of(alloc: Global, seed: &mut u64, run: u64) -> Result<Vec<Row<'static>>, Error> {
     let mut rows = Vec::new(alloc);
     for key in KEYS {
-        add_versions(&mut rows, *key, seed, run)?;
+        for version in (0..random(seed) % 4).rev() {
+            let kind = match random(seed) % 4 {
+                0 => ValueType::Tombstone,
+                1 => ValueType::WeakTombstone,
+                _ => ValueType::Value,
+            };
+            let seqno = version.wrapping_mul(RUNS).wrapping_add(run);
+            rows.push((*key, seqno, kind, b"".as_slice()))?;
+        }
     }
     rows.push((b"e", run, ValueType::Value, b""))?;
     Ok(rows)

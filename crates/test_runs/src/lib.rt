@@ -6,56 +6,26 @@
 #![tactic(auto)]
 
 #[cfg(test)]
-mod ages;
-#[cfg(test)]
-mod any_runs;
-#[cfg(test)]
-mod chains;
-#[cfg(test)]
-mod compacted;
-#[cfg(test)]
-mod compacting;
-#[cfg(test)]
-mod counted;
-#[cfg(test)]
-mod damaged;
-#[cfg(test)]
-mod filtered;
-#[cfg(test)]
-mod handed_out;
-#[cfg(test)]
-mod kept;
+mod compactions;
 #[cfg(test)]
 mod key_ranges;
 #[cfg(test)]
-mod lends;
-#[cfg(test)]
 mod lent_ranges;
 #[cfg(test)]
-mod listed;
+mod lists;
 #[cfg(test)]
 mod memory;
-#[cfg(test)]
-mod new_tables;
-#[cfg(test)]
-mod observed;
 #[cfg(test)]
 mod packing;
 #[cfg(test)]
 mod part;
 #[cfg(test)]
-mod ranges;
+mod points;
 #[cfg(test)]
-mod readers;
+mod several;
 #[cfg(test)]
-mod refused;
-#[cfg(test)]
-mod run_rows;
-#[cfg(test)]
-mod spent;
+mod sources;
 #[cfg(test)]
 mod stored;
-#[cfg(test)]
-mod to_run;
 #[cfg(test)]
 mod walks;

@@ -1,19 +1,17 @@
-//! Reading, packing and compacting runs with each request for memory refused in turn. One function
-//! tries them all, so that its call is proved once.
-use crate::{chains, compacted, new_tables, part, readers};
+//! Reading and compacting runs with each request for memory refused in turn. One function tries
+//! them all, so that its call is proved once.
+use crate::{compactions, lists, part, walks};
 use sst_blocks::Error;
 use std::alloc::{Allocator, Global};
 use test_refusing::{Refusing, each_refused};
 use test_tables::runs::is_right;
 
-// What is done.
+// What is done: a case of a table at its place, or a work of its own.
+#[derive(Clone, Copy)]
 enum Work {
-    List,
+    Walk(usize),
+    List(usize),
     CutList,
-    Run,
-    Span,
-    Scan,
-    Kept,
     Part,
     NewTables,
 }
@@ -22,24 +20,21 @@ enum Work {
 fn answer<A: Allocator + Copy>(
     alloc: A,
     plenty: A,
-    work: &Work,
+    work: Work,
     may_fail: bool,
 ) -> Result<bool, Error> {
     match work {
-        Work::List => chains::list_is_read(alloc),
-        Work::CutList => chains::target_cuts(alloc),
-        Work::Run => readers::run_gives_or_ends(alloc),
-        Work::Span => readers::span_gives_or_ends(alloc),
-        Work::Scan => readers::scan_gives_or_ends(alloc),
-        Work::Kept => compacted::list_is_kept(alloc),
+        Work::Walk(place) => walks::case_is_read(alloc, place),
+        Work::List(place) => lists::case_is_read(alloc, place),
+        Work::CutList => lists::target_cuts(alloc),
         Work::Part => part::zeroed_is_found(alloc, plenty),
-        Work::NewTables => Ok(new_tables::leaves_its_runs(alloc, plenty, may_fail) == Ok(true)),
+        Work::NewTables => Ok(compactions::leaves_its_runs(alloc, plenty, may_fail) == Ok(true)),
     }
 }
 
 // Whether what is named makes more than 20 requests, and is done right with nothing refused and
 // with each request refused in turn.
-fn is_right_refused(alloc: Global, work: &Work) -> bool {
+fn is_right_refused(alloc: Global, work: Work) -> bool {
     let requests = each_refused(alloc, |heap: &Refusing, may_fail: bool| {
         let plenty = Refusing::new(alloc, 0);
         is_right(answer(heap, &plenty, work, may_fail), may_fail)
@@ -47,28 +42,22 @@ fn is_right_refused(alloc: Global, work: &Work) -> bool {
     requests.is_ok_and(|requests| requests > 20)
 }
 
+// A run is read by its reader, by that of a span, and by a scan; a list as it is, and what is kept
+// of one.
 const WORKS: &[Work] = &[
-    Work::List,
+    Work::Walk(walks::IN_TURN_WITHIN),
+    Work::Walk(walks::IN_TURN_BY_SPAN),
+    Work::Walk(walks::BY_SCAN),
+    Work::List(lists::AS_IT_IS),
+    Work::List(lists::KEPT_OF_IT),
     Work::CutList,
-    Work::Run,
-    Work::Span,
-    Work::Scan,
-    Work::Kept,
     Work::Part,
     Work::NewTables,
 ];
 
-// The place of the first work that is done otherwise.
-fn wrong_work(alloc: Global, works: &[Work]) -> Option<usize> {
-    for (place, work) in works.iter().enumerate() {
-        if !is_right_refused(alloc, work) {
-            return Some(place);
-        }
-    }
-    None
-}
-
 #[test]
 fn runs_are_read_and_compacted_with_each_request_refused(rt: HostRuntime) {
-    assert!(rt; wrong_work(rt.alloc(), WORKS) == None);
+    for work in WORKS {
+        assert!(rt; is_right_refused(rt.alloc(), *work));
+    }
 }

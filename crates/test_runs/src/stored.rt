@@ -1,4 +1,5 @@
-//! A run of a table that was stored in version 3 and of one that is written now.
+//! A run of a table that was stored in version 3 and of one that is written now, which may be
+//! compacted: it is proved that the stored bytes are a table of their entries.
 ghost use Rattle.std.specs.Prelude.{[], ◌∷◌, IfOk, List};
 ghost use Rattle.std.specs.Arc.{arc_value};
 ghost use Rattle.sst_entries.specs.Entry.{Entry};
@@ -7,25 +8,17 @@ ghost use Rattle.lsm_compactions.specs.Compacted.{AreCompactable};
 ghost use Rattle.lsm_runs.specs.RunLists.{HoldsList};
 ghost use Rattle.test_runs.specs.Stored.{new_entries, stored_entries};
 
-use crate::compacting::{V, compacted};
-use crate::listed::{NONE, Version, are, asked_all, newest_in, scanned, version_of};
+use crate::compactions::{Listed, Version, are, entries_of};
 use lsm_ranges::Run;
-use lsm_tables::{Rules, RunReader, Table};
-use lsm_writers::{Timestamp, write_list};
-use sst_blocks::{Checksum, Error, InternalValue, Slice};
+use lsm_tables::{Table, compact_runs};
+use lsm_writers::{MultiWriter, TableIds, Timestamp, write_list};
+use sst_blocks::{Checksum, Error, InternalValue, Slice, ValueType};
 use std::alloc::Global;
 use std::sync::Arc;
-use test_tables::large::{add, asked, asked_if_any};
-use test_tables::runs::{ALL, Tables, owned_range};
+use test_tables::runs::Tables;
 use test_tables::stored::two_levels;
 
-const ENTRIES: [Version; 5] = [
-    (b'a', 9, V),
-    (b'a', 7, V),
-    (b'a', 5, V),
-    (b'b', 1, V),
-    (b'c', 2, V),
-];
+const V: ValueType = ValueType::Value;
 
 // The bytes of the stored table. They are a table of its entries.
 fn stored_bytes(alloc: Global) -> Result<Slice, Error>
@@ -86,87 +79,28 @@ fn run(alloc: Global) -> Result<Tables<Global>, Error>
     Ok(Arc::new(alloc, both)?)
 }
 
-// Whether tables are of these versions.
-fn has_versions(tables: &[Table<Global>], versions: &[u8]) -> bool {
-    for (table, version) in tables.iter().zip(versions.iter()) {
-        if table.metadata.table_version != *version {
-            return false;
-        }
-    }
-    tables.len() == versions.len()
+// What is kept of the run at threshold 0.
+fn kept(alloc: Global) -> Result<Listed, Error> {
+    let runs = [run(alloc)?];
+    let writer = MultiWriter::new(alloc, TableIds::new(1), 0, 0, Timestamp::from(0))?;
+    let (tables, _) = compact_runs(alloc, &runs, 0, false, false, writer)?;
+    entries_of(alloc, tables)
 }
 
-// The version of the next entry, if any.
-fn next_of(reader: &mut RunReader<Global>) -> Result<Option<Version>, Error> {
-    match reader.next() {
-        Some(Ok(item)) => Ok(Some(version_of(&item))),
-        Some(Err(error)) => Err(error),
-        None => Ok(None),
-    }
+// Whether that is this list.
+fn is_kept(alloc: Global, entries: &[Version]) -> Result<bool, Error> {
+    Ok(are(&kept(alloc)?, entries))
 }
 
-// Whether a reader gives all entries and then nothing.
-fn gives_all(reader: &mut RunReader<Global>) -> Result<bool, Error> {
-    for version in &ENTRIES {
-        if next_of(reader)? != Some(*version) {
-            return Ok(false);
-        }
-    }
-    Ok(next_of(reader)? == None)
-}
-
-// The reader of the run, if there is one.
-fn reader(alloc: Global) -> Result<Option<RunReader<Global>>, Error> {
-    let range = owned_range(alloc, ALL)?;
-    RunReader::new(run(alloc)?, range)
-}
-
-// The run, in a list.
-fn runs(alloc: Global) -> Result<Vec<Tables<Global>>, Error> {
-    let mut runs = Vec::new(alloc);
-    add(&mut runs, run(alloc))?;
-    Ok(runs)
-}
-
-// Whether the newest versions of the run are these.
-fn has_newest(alloc: Global, versions: &[Version]) -> Result<bool, Error> {
-    let newest = asked_all(runs(alloc), alloc, newest_in)?;
-    Ok(are(&newest, versions))
-}
-
-const NEWEST: [Version; 3] = [(b'a', 9, V), (b'b', 1, V), (b'c', 2, V)];
+const ENTRIES: [Version; 5] = [
+    (b'a', 9, V),
+    (b'a', 7, V),
+    (b'a', 5, V),
+    (b'b', 1, V),
+    (b'c', 2, V),
+];
 
 #[test]
-fn a_stored_table_and_a_new_one_are_read_as_one_run(rt: HostRuntime) {
-    assert!(rt; asked_if_any(reader(rt.alloc()), gives_all) == Ok(Some(true)));
-    assert!(rt; has_newest(rt.alloc(), &NEWEST) == Ok(true));
-}
-
-const AT_0: Rules = Rules {
-    watermark: 0,
-    evict: false,
-    zeroing: false,
-};
-
-// The tables of what is kept of the run at watermark 0.
-fn kept(alloc: Global) -> Result<Vec<Table>, Error> {
-    compacted(alloc, &[run(alloc)?], AT_0)
-}
-
-// Whether these are of version 4, and have these entries.
-fn are_kept(tables: &[Table<Global>], entries: &[Version]) -> Result<(bool, bool), Error> {
-    let versions = scanned(tables, NONE)?;
-    Ok((has_versions(tables, &[4, 4, 4]), are(&versions, entries)))
-}
-
-// Whether the tables of the run are of version 3 and of version 4.
-fn has_both_versions(run: &Tables<Global>) -> Result<bool, Error> {
-    Ok(has_versions(run.as_slice(), &[3, 4]))
-}
-
-#[test]
-fn a_stored_table_is_compacted_into_tables_of_version_4(rt: HostRuntime) {
-    assert!(rt; asked(run(rt.alloc()), has_both_versions) == Ok(true));
-    let kept = asked_all(kept(rt.alloc()), ENTRIES.as_slice(), are_kept);
-    assert!(rt; kept == Ok((true, true)));
+fn a_stored_table_and_a_new_one_are_compacted(rt: HostRuntime) {
+    assert!(rt; is_kept(rt.alloc(), &ENTRIES) == Ok(true));
 }

@@ -1,28 +1,55 @@
-//! Readers and scanners of one run. What walks them is generic in them, so that none of their parts
-//! is looked at.
+//! Readers and scanners of one run: within bounds and of a span, from both ends, whole entries of
+//! each kind, with a damaged table, and lent. What walks them is generic in them, so that none of
+//! their parts is looked at.
 ghost use Rattle.std.specs.Prelude.{◌≡◌, ◌-◌, ◌<◌, ◌≤◌, true, IfOk, length, unwrap_or};
 ghost use Rattle.std.specs.Arc.{arc_value};
 ghost use Rattle.lsm_ranges.specs.Run.{ArePlacesOf};
 
 use lsm_tables::{RunReader, RunScanner};
-use sst_blocks::{Direction, Error};
-use std::alloc::Allocator;
-use test_tables::runs::{Bounds, Name, Tables, name_of, owned_range};
+use sst_blocks::{Direction, Error, IterItem, ValueType};
+use std::alloc::{Allocator, Global};
+use std::ops::Bound;
+use test_tables::lending::walk_both;
+use test_tables::rows::Row;
+use test_tables::runs::{ALL, Bounds, Lists, Tables, damaged_run_of, owned_range};
+use test_tables::whole::{A7, A9, B6, B8, C5, D2, D3, is_answer};
 
-/// What is walked from both ends.
-pub trait Walk {
-    /// The name of the entry at an end.
-    fn step(&mut self, end: Direction) -> Result<Option<Name>, Error>;
+/// What a step gives: the entry of a row, nothing, or a refusal.
+pub(crate) type Answer = Result<Option<Row<'static>>, Error>;
 
-    /// How many tables were opened.
+/// Whether a step gave what is wanted.
+pub(crate) fn is_given<A: Allocator>(given: &Option<IterItem<A>>, wanted: &Answer) -> bool {
+    match (given, wanted) {
+        (Some(Err(error)), Err(refusal)) => *error == *refusal,
+        (_, Ok(row)) => is_answer(given, row.as_ref()),
+        (_, Err(_)) => false,
+    }
+}
+
+// That; the step's refusal, where another answer is wanted.
+fn answers<A: Allocator>(given: Option<IterItem<A>>, wanted: &Answer) -> Result<bool, Error> {
+    let is_wanted = is_given(&given, wanted);
+    match given {
+        Some(Err(error)) => { if is_wanted { Ok(true) } else { Err(error) } }
+        Some(Ok(_)) | None => Ok(is_wanted),
+    }
+}
+
+// What is walked.
+trait Walk {
+    // Whether the step at an end gives what is wanted, as `answers` says it. A scan has nothing at
+    // the back.
+    fn gives(&mut self, end: Direction, wanted: &Answer) -> Result<bool, Error>;
+
+    // How many tables were opened; a scan does not say so.
     fn opened(&self) -> usize;
 }
 
 impl<A: Allocator + Copy> Walk for RunReader<A> {
-    fn step(&mut self, end: Direction) -> Result<Option<Name>, Error> {
+    fn gives(&mut self, end: Direction, wanted: &Answer) -> Result<bool, Error> {
         match end {
-            Direction::Front => name_of(self.next()),
-            Direction::Back => name_of(self.next_back()),
+            Direction::Front => answers(self.next(), wanted),
+            Direction::Back => answers(self.next_back(), wanted),
         }
     }
 
@@ -31,41 +58,91 @@ impl<A: Allocator + Copy> Walk for RunReader<A> {
     }
 }
 
-/// What is walked from the front alone.
-pub trait Scan {
-    /// The name of the next entry.
-    fn scan(&mut self) -> Result<Option<Name>, Error>;
-}
+impl<A: Allocator + Copy> Walk for RunScanner<A> {
+    fn gives(&mut self, end: Direction, wanted: &Answer) -> Result<bool, Error> {
+        match end {
+            Direction::Front => answers(self.next(), wanted),
+            Direction::Back => answers::<A>(None, wanted),
+        }
+    }
 
-impl<A: Allocator + Copy> Scan for RunScanner<A> {
-    fn scan(&mut self) -> Result<Option<Name>, Error> {
-        name_of(self.next())
+    fn opened(&self) -> usize {
+        0
     }
 }
 
-/// Both of two values. Generic in them, so that neither is looked at where the other is not.
-pub fn both<T: Drop, U: Drop>(
-    first: Result<T, Error>,
-    second: Result<U, Error>,
-) -> Result<(T, U), Error> {
-    let first = first?;
-    Ok((first, second?))
+// The steps of a walk, three bytes each: `F` for the front or `B` for the back, a letter for the
+// row that is given, by its place in all tables, `.` for nothing or `!` for the refusal of a
+// damaged block, and how many tables were opened then.
+type Steps = &'static [u8];
+
+// The row at a place in all tables.
+fn row_at(tables: Lists, place: u8) -> Option<Row<'static>> {
+    let mut left = usize::from(place);
+    for rows in tables {
+        match rows.get(left) {
+            Some(row) => return Some(*row),
+            None => left = left.saturating_sub(rows.len()),
+        }
+    }
+    None
 }
 
-/// The reader of a run within bounds.
-pub fn reader_of<A: Allocator + Copy>(
-    alloc: A,
-    run: Result<Tables<A>, Error>,
-    bounds: Bounds<'_>,
-) -> Result<Option<RunReader<A>>, Error> {
-    let (run, range) = both(run, owned_range(alloc, bounds))?;
-    RunReader::new(run, range)
+// What a letter stands for.
+fn wanted_at(tables: Lists, letter: u8) -> Answer {
+    match letter {
+        b'.' => Ok(None),
+        b'!' => Err(Error::ChecksumMismatch),
+        _ => Ok(row_at(tables, letter.saturating_sub(b'a'))),
+    }
 }
 
-/// A first and a last place, where they are not those of all tables.
-pub type Span = (Option<usize>, Option<usize>);
+// Whether no table was opened yet, and the steps of a walk give what they should.
+fn steps_give<W: Walk>(walk: &mut W, tables: Lists, steps: Steps) -> Result<bool, Error> {
+    if walk.opened() != 0 {
+        return Ok(false);
+    }
+    for step in steps.chunks(3) {
+        let &[end, letter, opened] = step else {
+            return Ok(false);
+        };
+        let end = if end == b'F' { F } else { B };
+        let is_given = walk.gives(end, &wanted_at(tables, letter))?;
+        if !is_given || walk.opened() != usize::from(opened.saturating_sub(b'0')) {
+            return Ok(false);
+        }
+    }
+    Ok(true)
+}
 
-pub const WHOLE: Span = (None, None);
+// Whether nothing is left at either end of a walk.
+fn is_over<W: Walk>(walk: &mut W) -> bool {
+    walk.gives(F, &NOTHING) == Ok(true) && walk.gives(B, &NOTHING) == Ok(true)
+}
+
+// Whether a walk gives these steps, and nothing follows from either end; where a step is refused
+// otherwise the refusal, if nothing follows it.
+fn gives_or_ends<W: Walk>(walk: &mut W, tables: Lists, steps: Steps) -> Result<bool, Error> {
+    let given = steps_give(walk, tables, steps);
+    if is_over(walk) { given } else { Ok(false) }
+}
+
+// Whether there is a walk that gives these steps, or none where there are to be none.
+fn gives<W: Walk + Drop>(
+    walk: Result<Option<W>, Error>,
+    tables: Lists,
+    steps: Option<Steps>,
+) -> Result<bool, Error> {
+    match walk? {
+        Some(mut walk) => gives_or_ends(&mut walk, tables, steps.unwrap_or(b"")),
+        None => Ok(steps.is_none()),
+    }
+}
+
+// A first and a last place, where they are not those of all tables.
+type Span = (Option<usize>, Option<usize>);
+
+const WHOLE: Span = (None, None);
 
 // Whether some tables have a span.
 fn has_span(count: usize, span: Span) -> bool
@@ -92,27 +169,271 @@ fn spanned<A: Allocator>(run: Result<Tables<A>, Error>, span: Span) -> Result<Ta
     }
 }
 
+// How a run is read: by what lies within bounds, by a span of it within bounds, or by a scan of a
+// span.
+#[derive(Clone, Copy)]
+enum How {
+    Within,
+    Span(Span),
+    Scan(Span),
+}
+
+// The tables of a run, and which of them is damaged.
+type Given = (Lists, usize);
+
+// Bounds, how a run is read, and the steps that are given, if it can be read so.
+type Case = (Bounds<'static>, How, Option<Steps>);
+
+// The reader of what lies within bounds, if any table may have it.
+fn reader_of<A: Allocator + Copy>(
+    alloc: A,
+    given: Given,
+    bounds: Bounds<'_>,
+) -> Result<Option<RunReader<A>>, Error> {
+    let range = owned_range(alloc, bounds)?;
+    RunReader::new(damaged_run_of(alloc, given.0, given.1)?, range)
+}
+
+// The reader of a span within bounds. `Source(3)` where there is no such span.
+fn span_reader_of<A: Allocator + Copy>(
+    alloc: A,
+    given: Given,
+    bounds: Bounds<'_>,
+    span: Span,
+) -> Result<RunReader<A>, Error> {
+    let run = spanned(damaged_run_of(alloc, given.0, given.1), span)?;
+    let range = owned_range(alloc, bounds)?;
+    RunReader::culled(run, range, span)
+}
+
+// The scanner of a span. `Source(3)` where there is no such span.
+fn scanner_of<A: Allocator + Copy>(
+    alloc: A,
+    given: Given,
+    span: Span,
+) -> Result<RunScanner<A>, Error> {
+    RunScanner::culled(
+        spanned(damaged_run_of(alloc, given.0, given.1), span)?,
+        span,
+    )
+}
+
 // A value that there is, if any.
 fn some<T: Drop>(made: Result<T, Error>) -> Result<Option<T>, Error> {
     Ok(Some(made?))
 }
 
-/// The reader of a span of a run within bounds. `Source(3)` where it has no such span.
-pub fn span_reader_of<A: Allocator + Copy>(
-    alloc: A,
-    run: Result<Tables<A>, Error>,
-    bounds: Bounds<'_>,
-    span: Span,
-) -> Result<Option<RunReader<A>>, Error> {
-    let run = spanned(run, span)?;
-    let range = owned_range(alloc, bounds)?;
-    some(RunReader::culled(run, range, span))
+// Whether a run is read as a case says; a refusal that it does not name, if nothing follows it.
+fn reads<A: Allocator + Copy>(alloc: A, given: Given, case: &Case) -> Result<bool, Error> {
+    let &(bounds, how, steps) = case;
+    match how {
+        How::Within => gives(reader_of(alloc, given, bounds), given.0, steps),
+        How::Span(span) => gives(
+            some(span_reader_of(alloc, given, bounds, span)),
+            given.0,
+            steps,
+        ),
+        How::Scan(span) => gives(some(scanner_of(alloc, given, span)), given.0, steps),
+    }
 }
 
-/// The scanner of a span of a run. `Source(3)` where it has no such span.
-pub fn scanner_of<A: Allocator + Copy>(
-    run: Result<Tables<A>, Error>,
-    span: Span,
-) -> Result<RunScanner<A>, Error> {
-    RunScanner::culled(spanned(run, span)?, span)
+// The place of the first case that is read otherwise.
+fn wrong_case(alloc: Global, given: Given, cases: &[Case]) -> Option<usize> {
+    for (place, case) in cases.iter().enumerate() {
+        if reads(alloc, given, case) != Ok(true) {
+            return Some(place);
+        }
+    }
+    None
+}
+
+const F: Direction = Direction::Front;
+
+const B: Direction = Direction::Back;
+
+const NOTHING: Answer = Ok(None);
+
+const A0: Row<'static> = (b"a", 0, ValueType::Value, b"x");
+
+const B0: Row<'static> = (b"b", 0, ValueType::Value, b"x");
+
+const C0: Row<'static> = (b"c", 0, ValueType::Value, b"x");
+
+const D0: Row<'static> = (b"d", 0, ValueType::Value, b"x");
+
+const E0: Row<'static> = (b"e", 0, ValueType::Value, b"x");
+
+const F0: Row<'static> = (b"f", 0, ValueType::Value, b"x");
+
+const G0: Row<'static> = (b"g", 0, ValueType::Value, b"x");
+
+const H0: Row<'static> = (b"h", 0, ValueType::Value, b"x");
+
+const I0: Row<'static> = (b"i", 0, ValueType::Value, b"x");
+
+const J0: Row<'static> = (b"j", 0, ValueType::Value, b"x");
+
+const K0: Row<'static> = (b"k", 0, ValueType::Value, b"x");
+
+const L0: Row<'static> = (b"l", 0, ValueType::Value, b"x");
+
+const UNDER_B: Bounds<'static> = (Bound::Unbounded, Bound::Excluded(b"b"));
+
+const FROM_G: Bounds<'static> = (Bound::Included(b"g"), Bound::Unbounded);
+
+const FROM_Y: Bounds<'static> = (Bound::Included(b"y"), Bound::Unbounded);
+
+const FROM_C_TO_G: Bounds<'static> = (Bound::Included(b"c"), Bound::Included(b"g"));
+
+const FROM_Y_TO_Z: Bounds<'static> = (Bound::Included(b"y"), Bound::Included(b"z"));
+
+const FROM_E_TO_D: Bounds<'static> = (Bound::Included(b"e"), Bound::Included(b"d"));
+
+const FROM_E_BEFORE_D: Bounds<'static> = (Bound::Included(b"e"), Bound::Excluded(b"d"));
+
+const FROM_K_TO_B: Bounds<'static> = (Bound::Included(b"k"), Bound::Included(b"b"));
+
+const FOUR_TABLES: Lists = &[&[A0, B0, C0], &[D0, E0, F0], &[G0, H0, I0], &[J0, K0, L0]];
+
+const OF_FOUR: &[Case] = &[
+    (
+        ALL,
+        How::Within,
+        Some(b"Fa1Bl2Fb2Bk2Fc2Bj2Fd3Bi4Fe4Bh4Ff4Bg4F.4B.4"),
+    ),
+    (
+        ALL,
+        How::Span((Some(1), Some(2))),
+        Some(b"Fd1Bi2Fe2Ff2Bh2Fg2B.2"),
+    ),
+    (
+        ALL,
+        How::Scan((Some(1), None)),
+        Some(b"Fd0Fe0Ff0Fg0Fh0Fi0Fj0Fk0Fl0F.0"),
+    ),
+    (
+        ALL,
+        How::Within,
+        Some(b"Fa1Fb1Fc1Fd2Fe2Ff2Fg3Fh3Fi3Fj4Fk4Fl4F.4"),
+    ),
+    (
+        ALL,
+        How::Within,
+        Some(b"Bl1Bk1Bj1Bi2Bh2Bg2Bf3Be3Bd3Bc4Bb4Ba4B.4"),
+    ),
+    (FROM_C_TO_G, How::Within, Some(b"Fc1Bg2Bf3Fd3Fe3F.3")),
+    (FROM_G, How::Within, Some(b"Fg1Fh1Fi1Fj2Fk2Fl2F.2")),
+    (FROM_G, How::Within, Some(b"Bl1Bk1Bj1Bi2Bh2Bg2B.2")),
+    // Past the last key of a run there is no reader.
+    (FROM_Y, How::Within, None),
+    (FROM_Y_TO_Z, How::Within, None),
+    // From `e` to `d` both included the table of both is in the span; where `d` is left out none
+    // starts before it.
+    (FROM_E_TO_D, How::Within, Some(b"F.1B.1")),
+    (FROM_E_BEFORE_D, How::Within, None),
+    (FROM_K_TO_B, How::Within, None),
+    (
+        ALL,
+        How::Span((Some(1), None)),
+        Some(b"Fd1Fe1Ff1Fg2Fh2Fi2Fj3Fk3Fl3F.3"),
+    ),
+    (
+        ALL,
+        How::Span((None, Some(1))),
+        Some(b"Bf1Be1Bd1Bc2Bb2Ba2B.2"),
+    ),
+    // The two tables at the ends have no key within the bounds; those between are read whole.
+    (FROM_Y, How::Span(WHOLE), Some(b"Fd2Fe2Ff2Fg3Fh3Fi3F.4F.4")),
+    // Of the first table one key is within the bounds, of the last none.
+    (UNDER_B, How::Span(WHOLE), Some(b"Bi2Bh2Bg2Fa3Bf4Be4Bd4B.4")),
+    // A table that both ends meet in is opened once.
+    (ALL, How::Span((Some(2), Some(2))), Some(b"Fg1Bi1Fh1B.1")),
+    (
+        ALL,
+        How::Scan(WHOLE),
+        Some(b"Fa0Fb0Fc0Fd0Fe0Ff0Fg0Fh0Fi0Fj0Fk0Fl0F.0"),
+    ),
+    (
+        ALL,
+        How::Scan((None, Some(1))),
+        Some(b"Fa0Fb0Fc0Fd0Fe0Ff0F.0"),
+    ),
+    (ALL, How::Scan((Some(2), Some(2))), Some(b"Fg0Fh0Fi0F.0")),
+];
+
+// Entries of each kind, which come whole.
+const EACH_KIND: Lists = &[&[A9, A7, B8, B6], &[C5, D3, D2]];
+
+const OF_EACH_KIND: &[Case] = &[
+    (ALL, How::Within, Some(b"Fa1Fb1Fc1Fd1Fe2Ff2Fg2F.2")),
+    (ALL, How::Within, Some(b"Bg1Bf1Be1Bd2Bc2Bb2Ba2B.2")),
+    (ALL, How::Scan(WHOLE), Some(b"Fa0Fb0Fc0Fd0Fe0Ff0Fg0F.0")),
+];
+
+const THREE_TABLES: Lists = &[&[A0, B0], &[C0, D0], &[E0, F0]];
+
+// The second is damaged, which ends a reader at both ends, and a scan; the others have entries
+// left.
+const OF_A_DAMAGED_ONE: &[Case] = &[
+    (ALL, How::Within, Some(b"Fa1Fb1F!2F.2B.2")),
+    (ALL, How::Within, Some(b"Bf1Fa2Be2B!3F.3")),
+    (ALL, How::Scan(WHOLE), Some(b"Fa0Fb0F!0F.0F.0")),
+];
+
+/// The place of the case of a reader that is asked at both ends in turn.
+pub(crate) const IN_TURN_WITHIN: usize = 0;
+
+/// That of a reader of a span.
+pub(crate) const IN_TURN_BY_SPAN: usize = 1;
+
+/// That of a scan.
+pub(crate) const BY_SCAN: usize = 2;
+
+/// Whether a run is read as the case at a place says, or ends for good at a refusal.
+pub(crate) fn case_is_read<A: Allocator + Copy>(alloc: A, place: usize) -> Result<bool, Error> {
+    match OF_FOUR.get(place) {
+        Some(case) => reads(alloc, (FOUR_TABLES, 4), case),
+        None => Ok(false),
+    }
+}
+
+// A damaged first table refuses the scan.
+const REFUSED_SCAN: Case = (ALL, How::Scan(WHOLE), None);
+
+#[test]
+fn a_run_is_read_within_bounds_and_by_spans(rt: HostRuntime) {
+    let alloc = rt.alloc();
+    assert!(rt; wrong_case(alloc, (FOUR_TABLES, 4), OF_FOUR) == None);
+    assert!(rt; wrong_case(alloc, (EACH_KIND, 2), OF_EACH_KIND) == None);
+    assert!(rt; wrong_case(alloc, (THREE_TABLES, 1), OF_A_DAMAGED_ONE) == None);
+    let refused = reads(alloc, (THREE_TABLES, 0), &REFUSED_SCAN);
+    assert!(rt; refused == Err(Error::ChecksumMismatch));
+}
+
+const LENT_TABLES: Lists = &[
+    &[
+        (b"a", 2, ValueType::Value, b"x"),
+        (b"a", 1, ValueType::Value, b"y"),
+    ],
+    &[(b"b", 3, ValueType::Tombstone, b"")],
+    &[
+        (b"c", 5, ValueType::Value, b"z"),
+        (b"d", 4, ValueType::Value, b""),
+    ],
+];
+
+// What a scan of a run that gives its entries and one that lends them walk, the table at a place
+// damaged.
+fn lent(alloc: Global, damaged: usize) -> Result<Option<(usize, u8)>, Error> {
+    walk_both(
+        scanner_of(alloc, (LENT_TABLES, damaged), WHOLE),
+        scanner_of(alloc, (LENT_TABLES, damaged), WHOLE),
+    )
+}
+
+#[test]
+fn a_scan_of_a_run_lends_what_it_gives(rt: HostRuntime) {
+    for (damaged, walk) in [(3, (5, 0)), (2, (3, 5)), (1, (2, 5))] {
+        assert!(rt; lent(rt.alloc(), damaged) == Ok(Some(walk)));
+    }
 }

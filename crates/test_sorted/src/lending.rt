@@ -1,5 +1,9 @@
-//! Newest versions and compactions that lend, beside those by value, over the same lists.
+//! Newest versions, compactions and mergers that lend, beside those by value, over the same lists.
+ghost use Rattle.std.specs.Prelude.{IfOk};
+ghost use Rattle.sst_entries.specs.Stream.{CanDeal, nowhere};
+
 use crate::words::{lends_so, results_of};
+use lsm_merge::{LendingMerger, Merger};
 use lsm_sorted::compaction::Rules;
 use lsm_sorted::compaction::lending::LendingCompaction;
 use lsm_sorted::compaction::stream::CompactionStream;
@@ -18,19 +22,20 @@ fn kind_of(number: u64) -> ValueType {
     }
 }
 
-// A sorted list: of each key some versions, the newest first.
-fn list_of(alloc: Global, mut seed: u64, count: u8) -> Result<Vec<IterItem>, Error> {
+// A sorted list: of each key some versions, the newest first, which may tie, also with those of
+// other lists. The first value is the one given.
+fn list_of(alloc: Global, mut seed: u64, count: u8, value: u8) -> Result<Vec<IterItem>, Error> {
     let mut list = Vec::new(alloc);
     let mut key = 0u8;
     let mut seqno = 30u64;
     for place in 0..count {
-        seqno = seqno.saturating_sub(1 + random(&mut seed) % 4);
+        seqno = seqno.saturating_sub(random(&mut seed) % 5);
         if seqno == 0 || random(&mut seed) % 3 == 0 {
             key = key.wrapping_add(1);
             seqno = 1 + random(&mut seed) % 30;
         }
         let kind = kind_of(random(&mut seed));
-        list.push(Ok(entry_of(alloc, key, seqno, kind, place)?))?;
+        list.push(Ok(entry_of(alloc, key, seqno, kind, value.wrapping_add(place))?))?;
     }
     Ok(list)
 }
@@ -45,7 +50,10 @@ fn both<T: Drop>(one: Result<T, Error>, other: Result<T, Error>) -> Result<(T, T
 
 // A list, twice.
 fn two_lists(alloc: Global, seed: u64, count: u8) -> Result<(Vec<IterItem>, Vec<IterItem>), Error> {
-    both(list_of(alloc, seed, count), list_of(alloc, seed, count))
+    both(
+        list_of(alloc, seed, count, 0),
+        list_of(alloc, seed, count, 0),
+    )
 }
 
 // Whether the newest versions of a list are the same.
@@ -59,18 +67,6 @@ fn newest_agree(alloc: Global, seed: u64, count: u8) -> Result<bool, Error> {
     )
 }
 
-#[test]
-fn newest_versions_that_lend_are_those_by_value(rt: HostRuntime) {
-    for count in [0u8, 1, 2, 7, 60] {
-        for seed in 1..=8u64 {
-            assert!(rt;
-                matches!(newest_agree(rt.alloc(), seed, count), Ok(true)),
-                "{count} entries by {seed}"
-            );
-        }
-    }
-}
-
 // Whether a compaction of a list keeps the same.
 fn compactions_agree(alloc: Global, seed: u64, count: u8, rules: Rules) -> Result<bool, Error> {
     let (list, lent) = two_lists(alloc, seed, count)?;
@@ -81,69 +77,151 @@ fn compactions_agree(alloc: Global, seed: u64, count: u8, rules: Rules) -> Resul
     agree(by_value, lending, usize::from(count) + 2)
 }
 
+// So many lists.
+fn lists_of(alloc: Global, seed: u64, count: u8) -> Result<Vec<Vec<IterItem>>, Error> {
+    let mut lists = Vec::new(alloc);
+    for place in 0..count {
+        let value = place.wrapping_mul(41);
+        lists.push(list_of(alloc, seed.wrapping_add(u64::from(place)), 40, value)?)?;
+    }
+    Ok(lists)
+}
+
+fn merger_of(alloc: Global, lists: Vec<Vec<IterItem>>) -> Result<Merger<IntoIter<IterItem>>, Error>
+    ensures can { IfOk result (CanDeal ⟦<Merger<IntoIter<IterItem>> as Iterator>⟧.next_gives nowhere
+        ⟦<Merger<IntoIter<IterItem>> as Iterator>⟧.can_next
+        ⟦<Merger<IntoIter<IterItem>> as Iterator>⟧.can_next) }
+{
+    let mut sources = Vec::new(alloc);
+    for list in lists {
+        sources.push(list.into_iter())?;
+    }
+    Merger::new(alloc, sources)
+}
+
+fn lending_merger_of(
+    alloc: Global,
+    lists: Vec<Vec<IterItem>>,
+) -> Result<LendingMerger<LentList>, Error>
+    ensures can { IfOk result (CanDeal ⟦<LendingMerger<LentList> as Lending>⟧.advances nowhere
+        ⟦<LendingMerger<LentList> as Lending>⟧.can_advance
+        ⟦<LendingMerger<LentList> as Lending>⟧.can_advance) }
+{
+    let mut sources = Vec::new(alloc);
+    for list in lists {
+        sources.push(lent_list(list))?;
+    }
+    LendingMerger::new(alloc, sources)
+}
+
+// Whether mergers of so many lists give the same.
+fn mergers_agree(alloc: Global, seed: u64, count: u8) -> Result<bool, Error> {
+    let by_value = merger_of(alloc, lists_of(alloc, seed, count)?)?;
+    let lending = lending_merger_of(alloc, lists_of(alloc, seed, count)?)?;
+    agree(by_value, lending, 40 * usize::from(count) + 2)
+}
+
+// What lends is compared: the newest versions of a list; what a compaction keeps of it, for a
+// threshold, and whether it evicts tombstones and zeroes numbers; and what several lists have
+// together.
+#[derive(Clone, Copy)]
+enum Kind {
+    Newest,
+    Compacted(u64, bool, bool),
+    Merged,
+}
+
+// Whether what lends gives the same as by value, of so many entries or lists.
+fn kinds_agree(alloc: Global, kind: Kind, seed: u64, count: u8) -> Result<bool, Error> {
+    match kind {
+        Kind::Newest => newest_agree(alloc, seed, count),
+        Kind::Compacted(watermark, evict, zeroing) => {
+            let rules = Rules {
+                watermark,
+                evict,
+                zeroing,
+            };
+            compactions_agree(alloc, seed, count, rules)
+        }
+        Kind::Merged => mergers_agree(alloc, seed, count),
+    }
+}
+
+const AGREEING: &[(Kind, u8)] = &[
+    (Kind::Newest, 0),
+    (Kind::Newest, 1),
+    (Kind::Newest, 2),
+    (Kind::Newest, 7),
+    (Kind::Newest, 60),
+    (Kind::Compacted(0, false, false), 60),
+    (Kind::Compacted(0, true, false), 60),
+    (Kind::Compacted(0, false, true), 60),
+    (Kind::Compacted(0, true, true), 60),
+    (Kind::Compacted(8, false, false), 60),
+    (Kind::Compacted(8, true, false), 60),
+    (Kind::Compacted(8, false, true), 60),
+    (Kind::Compacted(8, true, true), 60),
+    (Kind::Compacted(16, false, false), 60),
+    (Kind::Compacted(16, true, false), 60),
+    (Kind::Compacted(16, false, true), 60),
+    (Kind::Compacted(16, true, true), 60),
+    (Kind::Compacted(40, false, false), 60),
+    (Kind::Compacted(40, true, false), 60),
+    (Kind::Compacted(40, false, true), 60),
+    (Kind::Compacted(40, true, true), 60),
+    (Kind::Merged, 0),
+    (Kind::Merged, 1),
+    (Kind::Merged, 2),
+    (Kind::Merged, 3),
+    (Kind::Merged, 8),
+    (Kind::Merged, 33),
+];
+
 #[test]
-fn compactions_that_lend_keep_what_those_by_value_keep(rt: HostRuntime) {
-    for watermark in [0u64, 8, 16, 40] {
-        for flags in 0..4u8 {
-            for seed in 1..=6u64 {
-                let rules = Rules {
-                    watermark,
-                    evict: flags & 1 != 0,
-                    zeroing: flags & 2 != 0,
-                };
-                assert!(rt;
-                    matches!(compactions_agree(rt.alloc(), seed, 60, rules), Ok(true)),
-                    "{watermark} {flags} by {seed}"
-                );
-            }
+fn what_lends_gives_what_is_given_by_value(rt: HostRuntime) {
+    for &(kind, count) in AGREEING {
+        for seed in 1..=8u64 {
+            let agree = kinds_agree(rt.alloc(), kind, seed, count);
+            assert!(rt; matches!(agree, Ok(true)), "{count} by {seed}");
         }
     }
 }
 
-const EVICT: u8 = 1;
-
-const ZERO: u8 = 2;
-
-// Whether a compaction for readers at 5 lends so of the results that a text spells.
-fn compacts(alloc: Global, results: &str, flags: u8, wanted: &str) -> Result<bool, Error> {
-    let rules = Rules {
-        watermark: 5,
-        evict: flags & EVICT != 0,
-        zeroing: flags & ZERO != 0,
-    };
-    let source = lent_list(results_of(alloc, results)?);
-    Ok(lends_so(LendingCompaction::new(alloc, source, rules)?, wanted))
+// The lists that a text spells, each up to a `/`.
+fn spelled(alloc: Global, text: &'static str) -> Result<Vec<Vec<IterItem>>, Error> {
+    let mut lists = Vec::new(alloc);
+    for part in text.split_terminator('/') {
+        lists.push(results_of(alloc, part)?)?;
+    }
+    Ok(lists)
 }
 
-// Results, how they are compacted, and what is lent of them.
-const COMPACTED: &[(&str, u8, &str)] = &[
-    ("", 0, "- -"),
-    ("aV9 aV4 aV3 bV1", 0, "aV9 aV4 bV1 - -"),
-    ("aV9 aV4 aV3 bV1", ZERO, "aV9 aV0 bV0 -"),
-    // An error stands behind the entry before it, and hides nothing.
-    ("aV9 aV4 !7 aV3 bV1", 0, "aV9 aV4 !7 aV3 bV1 -"),
-    // A weak tombstone goes where it hides a value, and stays before any other version.
-    ("aW4 aV3 aV2 bV1", 0, "bV1 -"),
-    ("aW4 aT3 aV2 bV1", 0, "aW4 bV1 -"),
-    ("aW4 bV1", 0, "aW4 bV1 -"),
-    ("aW4 bV1", EVICT, "bV1 -"),
-    ("aW4x bV1", ZERO, "aW0x bV0 -"),
-    // It waits for what follows, so an error takes its place.
-    ("aW4 !7 aV3", 0, "!7 aV3 -"),
-    // Under eviction a tombstone goes where no version follows it, or where it hides them.
-    ("aT4 aV3 bV1", EVICT, "bV1 -"),
-    ("aT9 aV4 bV1", EVICT, "aT9 aV4 bV1 -"),
-    ("aT9 bV1", EVICT, "bV1 -"),
-    ("aT9 !7 bV1", EVICT, "!7 bV1 -"),
-    ("aT9 aT8 aT7", EVICT, "aT9 aT8 -"),
+// Whether a merger of the sources that a text spells lends so.
+fn merges(alloc: Global, text: &'static str, wanted: &str) -> Result<bool, Error> {
+    let mut lending = lending_merger_of(alloc, spelled(alloc, text)?)?;
+    Ok(lending.entry().is_none() && lends_so(&mut lending, wanted))
+}
+
+// Sources, and what is lent of them.
+const LENT: &[(&str, &str)] = &[
+    ("", ""),
+    ("aV1 dV1 / bV1 / cV1 /", "aV1 bV1 cV1 dV1"),
+    // An error stands right behind the entry before it, and nothing follows it.
+    ("aV1 dV1 !7 / bV1 / cV1 eV1 /", "aV1 bV1 cV1 dV1 !7"),
+    ("aV1 dV1 / bV1 !7 fV1 / cV1 /", "aV1 bV1 !7"),
+    ("aV1 cV1 !7 / bV1 !7 / eV1 /", "aV1 bV1 !7"),
+    ("aV1 aV1 !7 / aV1 bV1 /", "aV1 aV1 !7"),
+    ("aV1 bV1 / aV1 !7 /", "aV1 aV1 !7"),
+    // At the head of a source it is the first answer.
+    ("aV1 / !7 bV1 / !7 /", "!7"),
 ];
 
 #[test]
-fn lends_what_is_kept_and_errors_in_their_places(rt: HostRuntime) {
-    for &(results, flags, wanted) in COMPACTED {
+fn an_error_is_answered_right_behind_the_entry_before_it(rt: HostRuntime) {
+    for &(text, wanted) in LENT {
         assert!(rt;
-            matches!(compacts(rt.alloc(), results, flags, wanted), Ok(true)),
-            "{results} by {flags}"
+            matches!(merges(rt.alloc(), text, wanted), Ok(true)),
+            "{text}"
         );
     }
 }

@@ -16,14 +16,8 @@ use test_lent::go_on;
 /// value. What is not there is 0.
 pub type Said = (u8, u8, u64, u8);
 
-fn slice_of<A: Allocator + Copy>(alloc: A, byte: u8) -> Result<Slice<A>, Error> {
-    if byte == 0 {
-        return Ok(Slice::empty());
-    }
-    Slice::from(alloc, &[byte])
-}
-
-fn byte_of(bytes: &[u8]) -> u8 {
+/// The first of some bytes, or 0.
+pub fn byte_of(bytes: &[u8]) -> u8 {
     match bytes {
         [byte, ..] => *byte,
         [] => 0,
@@ -56,14 +50,6 @@ pub fn said_by(word: &str) -> Said {
     }
 }
 
-// Two values, or the refusal of the first that is refused.
-fn both<T: Drop, U: Drop>(
-    first: Result<T, Error>,
-    second: Result<U, Error>,
-) -> Result<(T, U), Error> {
-    Ok((first?, second?))
-}
-
 // The kind of a letter.
 fn kind_of(letter: u8) -> ValueType {
     match letter {
@@ -73,64 +59,35 @@ fn kind_of(letter: u8) -> ValueType {
     }
 }
 
-// The result that gives the entry of which this is said.
-fn entry_of<A: Allocator + Copy>(alloc: A, said: Said) -> Result<IterItem<A>, Error> {
-    let (key, kind, number, value) = said;
-    let (key, value) = both(slice_of(alloc, key), slice_of(alloc, value))?;
-    let entry = InternalValue::from_components(key, value, number, kind_of(kind));
-    Ok(Ok(entry))
-}
-
-// The result that a word stands for.
-fn result_of<A: Allocator + Copy>(alloc: A, word: &str) -> Result<IterItem<A>, Error> {
-    let said = said_by(word);
-    match said.0 {
-        b'!' => Ok(Err(Error::Source(said.2))),
-        b'?' => Ok(Err(Error::OutOfMemory)),
-        _ => entry_of(alloc, said),
+// The result that a word stands for. Its key and value stay in the text.
+fn result_of<A: Allocator>(word: &'static str) -> IterItem<A> {
+    let (sign, kind, number, byte) = said_by(word);
+    match sign {
+        b'!' => return Err(Error::Source(number)),
+        b'?' => return Err(Error::OutOfMemory),
+        _ => {}
     }
-}
-
-/// Adds a value to a list, where it was made.
-pub fn push_made<T: Drop, A: Allocator>(
-    list: &mut Vec<T, A>,
-    made: Result<T, Error>,
-) -> Result<(), Error> {
-    Ok(list.push(made?)?)
-}
-
-/// A value, once what was done with it is not refused.
-pub fn once_done<T: Drop>(value: T, done: Result<(), Error>) -> Result<T, Error> {
-    done?;
-    Ok(value)
-}
-
-// Adds the results that the words of a text stand for.
-fn put_results<A: Allocator + Copy>(
-    alloc: A,
-    results: &mut Vec<IterItem<A>, A>,
-    text: &str,
-) -> Result<(), Error> {
-    for word in text.split_whitespace() {
-        push_made(results, result_of(alloc, word))?;
-    }
-    Ok(())
+    let bytes = word.as_bytes();
+    let (key, rest) = bytes.split_at(bytes.len().min(1));
+    let value = match rest {
+        _ if byte == 0 => &[],
+        [.., last] if *last == byte => rest.get(rest.len() - 1..).unwrap_or(&[]),
+        _ => key,
+    };
+    let (key, value) = (Slice::from_static(key), Slice::from_static(value));
+    Ok(InternalValue::from_components(key, value, number, kind_of(kind)))
 }
 
 /// The results that the words of a text stand for.
-pub fn results_of<A: Allocator + Copy>(alloc: A, text: &str) -> Result<Vec<IterItem<A>, A>, Error> {
+pub fn results_of<A: Allocator>(
+    alloc: A,
+    text: &'static str,
+) -> Result<Vec<IterItem<A>, A>, Error> {
     let mut results = Vec::new(alloc);
-    let done = put_results(alloc, &mut results, text);
-    once_done(results, done)
-}
-
-// The end that a letter stands for.
-fn end_of(letter: u8) -> Direction {
-    if letter == b'B' {
-        Direction::Back
-    } else {
-        Direction::Front
+    for word in text.split_whitespace() {
+        results.push(result_of(word))?;
     }
+    Ok(results)
 }
 
 // The letter of a kind.
@@ -153,11 +110,6 @@ pub fn said_of_lent(entry: &EntryRef<'_>) -> Said {
     )
 }
 
-/// What is said of an entry.
-pub fn said_of_entry<A: Allocator>(entry: &InternalValue<A>) -> Said {
-    said_of_lent(&entry.as_entry_ref())
-}
-
 // What is said of an error.
 fn said_of_error(error: &Error) -> Said {
     match error {
@@ -166,62 +118,41 @@ fn said_of_error(error: &Error) -> Said {
     }
 }
 
+// What is said where there is no answer.
+const NOTHING: Said = (b'-', 0, 0, 0);
+
 // What is said of an answer.
-fn said_of<A: Allocator>(answer: &Option<IterItem<A>>) -> Said {
+fn said_of<A: Allocator>(answer: Option<IterItem<A>>) -> Said {
     match answer {
-        Some(Ok(entry)) => said_of_entry(entry),
-        Some(Err(error)) => said_of_error(error),
-        None => (b'-', 0, 0, 0),
+        Some(Ok(entry)) => said_of_lent(&entry.as_entry_ref()),
+        Some(Err(error)) => said_of_error(&error),
+        None => NOTHING,
     }
 }
 
-// What is said of the answer of what lends.
-fn said_of_step(more: Result<bool, Error>, lent: Option<EntryRef<'_>>) -> Said {
-    match (more, lent) {
-        (Err(error), _) => said_of_error(&error),
-        (Ok(_), Some(entry)) => said_of_lent(&entry),
-        (Ok(_), None) => (b'-', 0, 0, 0),
+// What is said of the next answer of what lends.
+fn said_next<L: Lending>(source: &mut L) -> Said
+    requires { CanDeal L.advances nowhere L.can_advance L.can_advance source.old }
+    ensures can { CanDeal L.advances nowhere L.can_advance L.can_advance source.new }
+{
+    match go_on(source) {
+        Ok(_) => match source.entry() {
+            Some(entry) => said_of_lent(&entry),
+            None => NOTHING,
+        },
+        Err(error) => said_of_error(&error),
     }
 }
 
-/// Whether what lends answers so next.
-pub fn lends_next<L: Lending>(source: &mut L, wanted: &str) -> bool
+/// Whether what lends answers so next, and then nothing.
+pub fn lends_so<L: Lending>(source: &mut L, wanted: &str) -> bool
     requires { CanDeal L.advances nowhere L.can_advance L.can_advance source.old }
 {
     let mut is_right = true;
     for word in wanted.split_whitespace() {
-        let more = go_on(source);
-        is_right &= said_by(word) == said_of_step(more, source.entry());
+        is_right &= said_next(source) == said_by(word);
     }
-    is_right
-}
-
-/// Whether what lends, which is let go of, answers so first.
-pub fn lends_so<L: Lending + Drop>(mut source: L, wanted: &str) -> bool
-    requires { CanDeal L.advances nowhere L.can_advance L.can_advance source }
-{
-    lends_next(&mut source, wanted)
-}
-
-// Whether there is a word, which says an answer.
-fn is_said<A: Allocator>(answer: Option<IterItem<A>>, word: Option<&str>) -> bool {
-    let said = said_of(&answer);
-    drop(answer);
-    word.is_some_and(|word| said_by(word) == said)
-}
-
-/// Whether something was found to hold, and nothing was refused.
-pub fn holds(answer: Result<bool, Error>) -> bool {
-    matches!(answer, Ok(true))
-}
-
-/// Whether something was found to hold, or memory was refused where it may be.
-pub fn holds_or_wants_memory(answer: Result<bool, Error>, may_fail: bool) -> bool {
-    match answer {
-        Ok(answer) => answer,
-        Err(Error::OutOfMemory) => may_fail,
-        Err(_) => false,
-    }
+    said_next(source) == NOTHING && is_right
 }
 
 /// Whether a stream answers so at the ends that `F` and `B` stand for.
@@ -235,22 +166,34 @@ pub fn answers_so<A: Allocator, I: DoubleEndedIterator<Item = IterItem<A>> + Dro
     let mut words = wanted.split_whitespace();
     let mut is_right = true;
     for letter in ends.bytes() {
-        let answer = answer_at(&mut stream, end_of(letter));
-        is_right &= is_said(answer, words.next());
+        let end = if letter == b'B' {
+            Direction::Back
+        } else {
+            Direction::Front
+        };
+        let answer = answer_at(&mut stream, end);
+        is_right &= said_of(answer) == said_by(words.next().unwrap_or(""));
     }
     is_right && words.next().is_none()
 }
 
-/// Whether a stream answers so first.
-pub fn begins_so<I: Iterator<Item = IterItem> + Drop>(mut stream: I, wanted: &str) -> bool
-    requires { CanDeal I.next_gives nowhere I.can_next I.can_next stream }
+// What is said of the next answer of a stream.
+fn said_first<A: Allocator, I: Iterator<Item = IterItem<A>>>(stream: &mut I) -> Said
+    requires { CanDeal I.next_gives nowhere I.can_next I.can_next stream.old }
+    ensures can { CanDeal I.next_gives nowhere I.can_next I.can_next stream.new }
+{
+    said_of(stream.next())
+}
+
+/// Whether a stream answers so next, and then nothing.
+pub fn gives_so<A: Allocator, I: Iterator<Item = IterItem<A>>>(stream: &mut I, wanted: &str) -> bool
+    requires { CanDeal I.next_gives nowhere I.can_next I.can_next stream.old }
 {
     let mut is_right = true;
     for word in wanted.split_whitespace() {
-        let answer = stream.next();
-        is_right &= is_said(answer, Some(word));
+        is_right &= said_first(stream) == said_by(word);
     }
-    is_right
+    said_first(stream) == NOTHING && is_right
 }
 
 /// Whether a stream gives these results to its end.
@@ -264,18 +207,7 @@ pub fn gives_all<A: Allocator, I: Iterator<Item = IterItem<A>>>(
     let mut words = wanted.split_whitespace();
     let mut is_right = true;
     while let Some(item) = stream.next() {
-        is_right &= is_said(Some(item), words.next());
+        is_right &= said_of(Some(item)) == said_by(words.next().unwrap_or(""));
     }
     is_right && words.next().is_none()
-}
-
-/// Whether a stream, which is let go of, gives these results to its end.
-pub fn gives_so<A: Allocator, I: Iterator<Item = IterItem<A>> + Drop>(
-    mut stream: I,
-    wanted: &str,
-) -> bool
-    requires can { I.can_next stream }
-    requires finite { IsFinite (I.remaining stream) }
-{
-    gives_all(&mut stream, wanted)
 }

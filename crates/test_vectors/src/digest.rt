@@ -1,5 +1,5 @@
 //! Checksums of answers.
-use sst_blocks::{Error, InternalValue, IterItem, Opened};
+use sst_blocks::{Error, InternalValue, IterItem, KeyedBlockHandle, Opened};
 use sst_sections::fnv::Fnv1a;
 use std::alloc::Allocator;
 
@@ -43,11 +43,18 @@ impl Digest {
         self.put_number(u64::from(error.number()));
     }
 
-    /// What a point read answers: a 0 for none.
-    pub fn put_found<A: Allocator>(&mut self, found: &Result<Option<InternalValue<A>>, Error>) {
+    /// What a point read finds: a 0 for none.
+    pub fn put_found<A: Allocator>(&mut self, found: &Option<InternalValue<A>>) {
         match found {
-            Ok(Some(item)) => self.put_entry(item),
-            Ok(None) => self.put_number(0),
+            Some(item) => self.put_entry(item),
+            None => self.put_number(0),
+        }
+    }
+
+    /// What a point read answers.
+    pub fn put_answer<A: Allocator>(&mut self, answer: &Result<Option<InternalValue<A>>, Error>) {
+        match answer {
+            Ok(found) => self.put_found(found),
             Err(error) => self.put_error(error),
         }
     }
@@ -62,10 +69,36 @@ impl Digest {
         step.is_some()
     }
 
+    /// What a step over the index answers: a 2, the end key, its number, and the block's position
+    /// and length; `false` at the end, which counts as a 0.
+    pub fn put_handle<A: Allocator>(
+        &mut self,
+        step: &Option<Result<KeyedBlockHandle<A>, Error>>,
+    ) -> bool {
+        match step {
+            Some(Ok(handle)) => {
+                self.put_number(2);
+                self.put_bytes(handle.end_key().as_slice());
+                self.put_number(handle.seqno());
+                self.put_number(handle.offset().0);
+                self.put_number(u64::from(handle.size()));
+            }
+            Some(Err(error)) => self.put_error(error),
+            None => self.put_number(0),
+        }
+        step.is_some()
+    }
+
     /// How many blocks of data, index and filter were loaded.
     pub fn put_opened(&mut self, opened: &Opened) {
         self.put_number(opened.data_loads);
         self.put_number(opened.index_loads);
         self.put_number(opened.filter_loads);
+    }
+
+    /// How many blocks of each kind were loaded, the meta block last.
+    pub fn put_loads(&mut self, opened: &Opened) {
+        self.put_opened(opened);
+        self.put_number(opened.meta_loads);
     }
 }

@@ -16,18 +16,26 @@
 //! - `read FILTER INDEX`: opens the table, 1 for what stays loaded. Prints the checksum of all that
 //!   it says and reads, with the loads of each point read;
 //! - `damage FILTER INDEX POSITION BYTE ..`: opens the table with some bytes changed, or none.
-//!   Prints why it is refused, or the checksum of what the point reads and a walk answer.
+//!   Prints why it is refused, or the checksum of what the point reads and a walk answer;
+//! - `sweep FILTER INDEX GLOBAL ..`: opens the table as it is under each of these global numbers,
+//!   and then, under 0, with each byte in turn set to 0, to 255 and to its complement, where that
+//!   is another one. Prints how many were opened, how many of these were not refused, and three
+//!   checksums: of what was changed, and the refusal or what the table says of itself; of what the
+//!   point reads answer and load; and of what walks answer and load.
 #![tactic(auto)]
 
 mod digest;
 mod reading;
 mod script;
+mod sweeping;
+mod walking;
 mod words;
 mod writing;
 
 use script::{Answer, Script};
 use std::alloc::Allocator;
 use std::io::{self, BufRead, BufReader, BufWriter, Write};
+use sweeping::Swept;
 
 // Reads the next line, without its end; `false` where there is none.
 fn read_line<R: BufRead, A: Allocator>(input: &mut R, line: &mut Vec<u8, A>) -> io::Result<bool> {
@@ -39,12 +47,20 @@ fn read_line<R: BufRead, A: Allocator>(input: &mut R, line: &mut Vec<u8, A>) -> 
     Ok(length > 0)
 }
 
+fn print_sweep<W: Write>(output: &mut W, sweep: &Swept) -> io::Result<()> {
+    let Swept { opens, taken, .. } = *sweep;
+    let (opened, read) = (sweep.opened.finish(), sweep.read.finish());
+    let walked = sweep.walked.finish();
+    writeln!(output, "sweep {opens} {taken} {opened} {read} {walked}")
+}
+
 // Prints what a command came to.
 fn print_answer<W: Write>(output: &mut W, answer: &Answer) -> io::Result<()> {
     match answer {
         Answer::Silent => Ok(()),
         Answer::Written { is_same, checksum } => writeln!(output, "written {is_same} {checksum}"),
         Answer::Read(checksum) => writeln!(output, "read {checksum}"),
+        Answer::Swept(sweep) => print_sweep(output, sweep),
         Answer::Refused(number) => writeln!(output, "refused {number}"),
         Answer::Unknown => writeln!(output, "unknown"),
     }

@@ -1,15 +1,9 @@
 //! What tables say of themselves, and what is read of them.
 use crate::digest::Digest;
-use lsm_readers::{ParsedMeta, Scanner, Table};
+use crate::walking::{ALL, BACKS, FRONTS, put_steps};
+use lsm_readers::{ParsedMeta, Query, Table};
 use sst_blocks::{Checksum, Error, Opened, SeqNo, Slice};
 use std::alloc::Allocator;
-
-/// A point read.
-#[derive(Drop)]
-pub struct PointRead<A: Allocator> {
-    pub key: Slice<A>,
-    pub bound: SeqNo,
-}
 
 /// What stays loaded while a table is open.
 #[derive(Clone, Copy)]
@@ -18,15 +12,26 @@ pub struct Pins {
     pub index: bool,
 }
 
-/// More steps than a table here has entries.
-const ALL: u64 = 1_000;
-
 /// How many steps a walk over a damaged table makes at most.
-const SOME: u64 = 80;
+const SOME: usize = 80;
 
-fn open<A: Allocator + Copy>(alloc: A, bytes: &[u8], pins: Pins) -> Result<Table<A>, Error> {
+/// Opens a table, whose numbers have the global number added.
+pub fn open<A: Allocator + Copy>(
+    alloc: A,
+    bytes: &[u8],
+    pins: Pins,
+    global_seqno: SeqNo,
+) -> Result<Table<A>, Error> {
     let bytes = Slice::from(alloc, bytes)?;
-    Table::recover(alloc, bytes, Checksum(0), 0, 0, pins.filter, pins.index)
+    Table::recover(
+        alloc,
+        bytes,
+        Checksum(0),
+        global_seqno,
+        0,
+        pins.filter,
+        pins.index,
+    )
 }
 
 /// What is asked of a large value and of another, or why there is no large one, which is let go of
@@ -54,8 +59,8 @@ fn put_counts<A: Allocator>(digest: &mut Digest, meta: &ParsedMeta<A>) {
     digest.put_number(meta.file_size);
 }
 
-// The ends of a meta block, and the sizes of what stays loaded.
-fn put_facts<A: Allocator>(digest: &mut Digest, table: &Table<A>) {
+/// What a table says of itself: what its meta block says, and the sizes of what stays loaded.
+pub fn put_facts<A: Allocator>(digest: &mut Digest, table: &Table<A>) {
     let meta = &table.metadata;
     put_counts(digest, meta);
     digest.put_number(meta.seqnos.0);
@@ -67,15 +72,15 @@ fn put_facts<A: Allocator>(digest: &mut Digest, table: &Table<A>) {
     digest.put_number(table.pinned_block_index_size() as u64);
 }
 
-// The answer of a point read; what it loads.
-fn put_read<A: Allocator + Copy>(
+/// The answer of a point read; what it loads.
+pub fn put_read<A: Allocator + Copy>(
     digest: &mut Digest,
     table: &Table<A>,
-    read: &PointRead<A>,
+    read: &Query<A>,
 ) -> Opened {
     let key = read.key.as_slice();
-    let (found, opened) = table.get_counted(key, read.bound, Table::<A>::key_hash(key));
-    digest.put_found(&found);
+    let (found, opened) = table.get_counted(key, read.seqno, Table::<A>::key_hash(key));
+    digest.put_answer(&found);
     opened
 }
 
@@ -83,7 +88,7 @@ fn put_read<A: Allocator + Copy>(
 fn put_reads<A: Allocator + Copy>(
     digest: &mut Digest,
     table: &Table<A>,
-    reads: &[PointRead<A>],
+    reads: &[Query<A>],
     with_loads: bool,
 ) {
     for read in reads {
@@ -94,69 +99,24 @@ fn put_reads<A: Allocator + Copy>(
     }
 }
 
-// What a walk answers, up to its end or to some number of steps. Generic in it, so that none of its
-// parts is looked at.
-fn put_steps<W: Drop, F: Fn(&mut W, &mut Digest) -> bool + Drop>(
-    digest: &mut Digest,
-    walk: Result<W, Error>,
-    steps: u64,
-    step: F,
-) -> Result<(), Error>
-    requires { F.IsAlwaysCallable step }
-{
-    let mut walk = walk?;
-    for _ in 0..steps {
-        if !step(&mut walk, digest) {
-            break;
-        }
-    }
-    Ok(())
-}
-
-// The entries from the front, up to some number of steps.
-fn put_walk<A: Allocator + Copy>(
+// The entries from some ends, up to some number of steps.
+fn put_entries<A: Allocator + Copy>(
     digest: &mut Digest,
     table: &Table<A>,
-    steps: u64,
+    ends: [bool; 2],
+    steps: usize,
 ) -> Result<(), Error> {
-    put_steps(
-        digest,
-        table.iter(),
-        steps,
-        |iter, digest| digest.put_step(&iter.next()),
-    )
-}
-
-// The entries from the back.
-fn put_walk_back<A: Allocator + Copy>(digest: &mut Digest, table: &Table<A>) -> Result<(), Error> {
-    put_steps(
-        digest,
-        table.iter(),
-        ALL,
-        |iter, digest| digest.put_step(&iter.next_back()),
-    )
-}
-
-fn scan_step<A: Allocator + Copy>(scan: &mut Scanner<A>, digest: &mut Digest) -> bool {
-    digest.put_step(&scan.next())
-}
-
-// The entries as a scan gives them.
-fn put_scan<A: Allocator + Copy>(digest: &mut Digest, table: &Table<A>) -> Result<(), Error> {
-    put_steps(digest, table.scan(), ALL, scan_step)
+    put_steps(digest, table.iter(), ends, steps)
 }
 
 // All that a table says and reads.
-fn digest_of_all<A: Allocator + Copy>(
-    table: &Table<A>,
-    reads: &[PointRead<A>],
-) -> Result<u64, Error> {
+fn digest_of_all<A: Allocator + Copy>(table: &Table<A>, reads: &[Query<A>]) -> Result<u64, Error> {
     let mut digest = Digest::new();
     put_facts(&mut digest, table);
     put_reads(&mut digest, table, reads, true);
-    put_walk(&mut digest, table, ALL)?;
-    put_walk_back(&mut digest, table)?;
-    put_scan(&mut digest, table)?;
+    put_entries(&mut digest, table, FRONTS, ALL)?;
+    put_entries(&mut digest, table, BACKS, ALL)?;
+    put_steps(&mut digest, table.scan(), FRONTS, ALL)?;
     Ok(digest.finish())
 }
 
@@ -165,24 +125,24 @@ pub fn read_all<A: Allocator + Copy>(
     alloc: A,
     bytes: &[u8],
     pins: Pins,
-    reads: &[PointRead<A>],
+    reads: &[Query<A>],
 ) -> Result<u64, Error> {
-    asked(open(alloc, bytes, pins), reads, digest_of_all)
+    asked(open(alloc, bytes, pins, 0), reads, digest_of_all)
 }
 
 // What point reads of a damaged table and a walk over it answer.
 fn digest_of_damaged<A: Allocator + Copy>(
     table: &Table<A>,
-    reads: &[PointRead<A>],
+    reads: &[Query<A>],
 ) -> Result<u64, Error> {
     let mut digest = Digest::new();
     put_reads(&mut digest, table, reads, false);
-    put_walk(&mut digest, table, SOME)?;
+    put_entries(&mut digest, table, FRONTS, SOME)?;
     Ok(digest.finish())
 }
 
-// Some bytes, of which some are changed: each two numbers are a position and a byte.
-fn changed<A: Allocator>(alloc: A, bytes: &[u8], changes: &[u64]) -> Result<Vec<u8, A>, Error> {
+/// Some bytes, of which some are changed: each two numbers are a position and a byte.
+pub fn changed<A: Allocator>(alloc: A, bytes: &[u8], changes: &[u64]) -> Result<Vec<u8, A>, Error> {
     let mut bytes = Vec::from_slice(alloc, bytes)?;
     let mut position = None;
     for number in changes {
@@ -205,8 +165,8 @@ pub fn read_damaged<A: Allocator + Copy>(
     bytes: &[u8],
     pins: Pins,
     changes: &[u64],
-    reads: &[PointRead<A>],
+    reads: &[Query<A>],
 ) -> Result<u64, Error> {
     let bytes = changed(alloc, bytes, changes)?;
-    asked(open(alloc, &bytes, pins), reads, digest_of_damaged)
+    asked(open(alloc, &bytes, pins, 0), reads, digest_of_damaged)
 }

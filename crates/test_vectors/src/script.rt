@@ -1,7 +1,9 @@
 //! The commands, and what was told so far.
-use crate::reading::{Pins, PointRead, asked, read_all, read_damaged};
+use crate::reading::{Pins, asked, read_all, read_damaged};
+use crate::sweeping::{Subject, Swept, sweep};
 use crate::words::{bytes_of, number_of, numbers_of, split_word};
 use crate::writing::{Choices, write_table};
+use lsm_readers::Query;
 use lsm_writers::FinishedTable;
 use sst_blocks::{Error, InternalValue, Slice, ValueType};
 use std::alloc::Allocator;
@@ -14,6 +16,7 @@ pub enum Answer {
     /// Whether the bytes are those of the table, and their checksum.
     Written { is_same: bool, checksum: u128 },
     Read(u64),
+    Swept(Swept),
     Refused(u8),
     Unknown,
 }
@@ -24,7 +27,7 @@ pub struct Script<A: Allocator> {
     alloc: A,
     table: Vec<u8, A>,
     items: Vec<InternalValue<A>, A>,
-    reads: Vec<PointRead<A>, A>,
+    reads: Vec<Query<A>, A>,
 }
 
 // A number of a list, or 0 where it is shorter.
@@ -99,11 +102,11 @@ fn item_of<A: Allocator + Copy>(alloc: A, line: &[u8]) -> Result<InternalValue<A
 }
 
 // The read of the words behind `query`.
-fn read_of<A: Allocator + Copy>(alloc: A, line: &[u8]) -> Result<PointRead<A>, Error> {
+fn read_of<A: Allocator + Copy>(alloc: A, line: &[u8]) -> Result<Query<A>, Error> {
     let (key, bound) = split_word(line);
-    Ok(PointRead {
+    Ok(Query {
         key: slice_of(alloc, key)?,
-        bound: number_of(bound),
+        seqno: number_of(bound),
     })
 }
 
@@ -151,6 +154,7 @@ impl<A: Allocator + Copy> Script<A> {
             b"write" => self.write(words),
             b"read" => self.read(words),
             b"damage" => self.damage(words),
+            b"sweep" => self.sweep(words),
             _ => self.note(name, words),
         }
     }
@@ -196,5 +200,16 @@ impl<A: Allocator + Copy> Script<A> {
         let checksum = read_damaged(self.alloc, &self.table, pins, changes, &self.reads);
         drop(numbers);
         Ok(Answer::Read(checksum?))
+    }
+
+    fn sweep(&self, words: &[u8]) -> Result<Answer, Error> {
+        let numbers = numbers_of(self.alloc, words)?;
+        let subject = Subject {
+            alloc: self.alloc,
+            bytes: &self.table,
+            pins: pins_of(&numbers),
+            reads: &self.reads,
+        };
+        Ok(Answer::Swept(sweep(&subject, numbers.get(2..).unwrap_or(&[]))))
     }
 }

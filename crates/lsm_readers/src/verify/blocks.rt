@@ -16,8 +16,8 @@ ghost use Rattle.lsm_readers.specs.Verify.{top_named};
 use super::entries::{read_entries, spend};
 use super::{Counts, Fault, Unread, VerifyError, found, unloaded};
 use crate::Inner;
-use crate::pinned::load_handles;
 use lsm_formats::ItemName;
+use lsm_points::load_handles;
 use sst_blocks::{
     BlockHandle, BlockSource, BlockType, DataBlock, IndexBlock, InternalValue, KeyedBlockHandle,
     Opened, SectionName, SeqNo,

@@ -6,7 +6,7 @@ use Rattle.lsm_walks.proofs.Reaching.{smaller}
 use Rattle.lsm_iters.specs.Lending.{unlent_range}
 use Rattle.lsm_iters.specs.Range.{range_remains}
 use Rattle.lsm_runs.specs.LentRun.{OpensNext}
-use Rattle.lsm_runs.specs.Tables.{KeepsTables, coming_tables}
+use Rattle.lsm_run_parts.specs.Tables.{KeepsTables, coming_tables}
 use Rattle.lsm_runs.proofs.LentRuns.{comes_first, comes_on, lends_entry, lends_fault, lends_item, lends_last, none_there}
 use Rattle.lsm_runs.proofs.lending_reader.step.Goals as goal
 

@@ -1,5 +1,5 @@
 use Rattle.std.proofs.Common.{length}
-use Rattle.lsm_runs.specs.Tables.{coming_tables}
+use Rattle.lsm_run_parts.specs.Tables.{coming_tables}
 use Rattle.lsm_runs.proofs.LentRuns.{Comes}
 use Rattle.lsm_runs.proofs.lending_reader.step.Given as goal
 

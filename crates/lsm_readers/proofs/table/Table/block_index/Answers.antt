@@ -7,9 +7,9 @@ use Rattle.lsm_block_indexes.specs.declared.kinds.BlockIndexImpl.{BlockIndexImpl
 use Rattle.lsm_block_indexes.specs.Kinds.{index_of}
 use Rattle.lsm_block_indexes.specs.Index.{Index}
 use Rattle.lsm_readers.specs.BlockIndexes.{NamesBlocksOf, table_index}
-use Rattle.lsm_readers.specs.IndexKinds.{Kind, kind_kept, index_kind_of}
-use Rattle.lsm_readers.specs.Table.{IsOpen, OpenTable, table_of}
-use Rattle.lsm_readers.proofs.IndexKinds.{opened_kind}
+use Rattle.lsm_points.specs.IndexKinds.{Kind, kind_kept, index_kind_of}
+use Rattle.lsm_points.specs.Table.{IsOpen, OpenTable, table_of}
+use Rattle.lsm_points.proofs.IndexKinds.{opened_kind}
 use Rattle.lsm_readers.proofs.OneIndex.{names_blocks}
 use Rattle.lsm_readers.proofs.table.Table.block_index.Goals as goal
 

@@ -5,7 +5,7 @@ use Rattle.sst_entries.specs.Entry.{Entry}
 use Rattle.sst_blocks.specs.Handle.{Handle}
 use Rattle.sst_blocks.specs.Place.{Place, place_of}
 use Rattle.lsm_readers.specs.declared.verify.Counts.{Counts}
-use Rattle.lsm_readers.specs.Table.{parts_of}
+use Rattle.lsm_points.specs.Table.{parts_of}
 use Rattle.lsm_readers.specs.Verify.{Misses, Unread, block_found, chunk_found, contents_found}
 use Rattle.lsm_readers.specs.Verify.{counted_found}
 use Rattle.lsm_readers.proofs.VerifyLoops.{passes}

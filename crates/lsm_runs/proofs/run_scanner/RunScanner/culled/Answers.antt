@@ -6,9 +6,9 @@ use Rattle.sst_entries.specs.declared.error.Error.{Error}
 use Rattle.sst_entries.specs.Error.{is_memory}
 use Rattle.sst_entries.specs.Stream.{first}
 use Rattle.lsm_readers.specs.Table.{OpenTable}
-use Rattle.lsm_runs.specs.RunParts.{ends_given}
+use Rattle.lsm_run_parts.specs.RunParts.{ends_given}
 use Rattle.lsm_runs.specs.RunScan.{early_scan_fault, scan_fault, tables_between, tables_scan}
-use Rattle.lsm_runs.proofs.Places.{table_at}
+use Rattle.lsm_run_parts.proofs.Places.{table_at}
 use Rattle.lsm_runs.proofs.ScanSteps.{begun, fault_passed, first_passed, lists_deal, passed_on, scan_deals, span_refused}
 use Rattle.lsm_runs.proofs.run_scanner.RunScanner.culled.Goals as goal
 

@@ -1,0 +1,10 @@
+pub mod Steps
+pub mod Loads
+pub mod Recovered
+pub mod IndexKinds
+pub mod ReadLaws
+pub mod FewLoads
+pub mod Points
+pub mod AskedReads
+pub mod ManyReads
+pub mod BatchReads

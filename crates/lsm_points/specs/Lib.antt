@@ -1,0 +1,11 @@
+pub mod Read
+pub mod Regions
+pub mod Meta
+pub mod IndexKinds
+pub mod Parts
+pub mod Table
+pub mod Answer
+pub mod Many
+pub mod Batch
+pub mod Keeping
+pub mod Words

@@ -1,0 +1,67 @@
+//! Spans of runs: some tables that stand together, by the first and the last place.
+ghost use Rattle.std.specs.Prelude.{◌≡◌, ◌+◌, ◌<◌, ◌≤◌, ◌==◌, ◌||◌, IfSome, length};
+ghost use Rattle.lsm_ranges.specs.Run.{ArePlacesOf, IsInOrder, overlap_indexes};
+ghost use Rattle.lsm_run_parts.specs.RunParts.{ends_given, range_of, ranges_of};
+ghost use Rattle.lsm_run_parts.specs.Tables.{place_taken};
+
+use crate::bounds::edge;
+use lsm_ranges::Run;
+use lsm_readers::Table;
+use sst_blocks::UserKey;
+use sst_entries::Direction;
+use std::alloc::Allocator;
+use std::ops::Bound;
+
+/// The first and the last place of the tables whose ranges reach past both bounds, of a run that is
+/// in order. Of any other run, some first and last place or none.
+pub fn places_within<A: Allocator>(
+    run: &Run<Table<A>, A>,
+    range: &(Bound<UserKey<A>>, Bound<UserKey<A>>),
+) -> Option<(usize, usize)>
+    ensures found { IsInOrder range_of run.now →
+        result ≡ overlap_indexes range.now.0 range.now.1 (ranges_of run.now) }
+    ensures within { IfSome result (λ ends. ArePlacesOf run.now ends) }
+{
+    run.range_overlap_indexes(edge(&range.0), edge(&range.1))
+}
+
+/// A first and a last place, where they are not given those of all tables.
+pub fn ends_in<A: Allocator>(
+    tables: &[Table<A>],
+    span: (Option<usize>, Option<usize>),
+) -> (usize, usize)
+    requires { 0 < length tables.now }
+    ensures { result ≡ ends_given tables.now span }
+{
+    (span.0.unwrap_or(0), span.1.unwrap_or(tables.len() - 1))
+}
+
+/// Whether a span begins or ends at a place.
+pub(crate) fn is_end(place: usize, ends: (usize, usize)) -> bool
+    ensures { result ≡ ((place == ends.0) || (place == ends.1)) }
+{
+    place == ends.0 || place == ends.1
+}
+
+/// The place behind a place of some tables.
+pub fn place_behind<T>(tables: &[T], place: usize) -> usize
+    requires { place < length tables.now }
+    ensures { result ≡ place + 1 }
+{
+    place + 1
+}
+
+/// The place at an end of those from one up to another, and the places that are left.
+pub(crate) fn place_at_end(lo: usize, hi: usize, at: Direction) -> (usize, usize, usize)
+    requires { lo < hi }
+    ensures is { result ≡ place_taken at lo hi }
+    ensures within { (lo ≤ result.0) × (result.0 < hi) }
+    ensures fewer { result.2 + lo + 1 ≡ hi + result.1 }
+    ensures order { result.1 ≤ result.2 }
+    ensures behind { result.2 ≤ hi }
+{
+    match at {
+        Direction::Front => (lo, lo + 1, hi),
+        Direction::Back => (hi - 1, lo, hi - 1),
+    }
+}

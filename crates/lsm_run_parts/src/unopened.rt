@@ -1,0 +1,146 @@
+//! The tables of a run that are not opened yet.
+ghost use Rattle.std.specs.Prelude.{◌≡◌, ◌+◌, ◌<◌, Some, IfOk, IfErr, length, slice_get};
+ghost use Rattle.std.specs.Arc.{arc_value};
+ghost use Rattle.sst_entries.specs.declared.error.Error.TheVariants.{OutOfMemory};
+ghost use Rattle.lsm_ranges.specs.Run.{ArePlacesOf};
+ghost use Rattle.lsm_readers.specs.Ranges.{IsRangeOf};
+ghost use Rattle.lsm_readers.specs.Table.{OpenTable};
+ghost use Rattle.lsm_iters.specs.Range.{range_remains};
+ghost use Rattle.lsm_walks.specs.Parts.{LoadGives};
+ghost use Rattle.lsm_run_parts.specs.RunParts.{span_part_at, span_of, span_parts};
+ghost use Rattle.lsm_run_parts.specs.Tables.{EndsTables, KeepsTables, coming_tables, opened_tables};
+
+use crate::bounds::share;
+use crate::spans::{is_end, place_at_end, place_behind};
+use lsm_iters::Iter;
+use lsm_ranges::Run;
+use lsm_readers::Table;
+use lsm_walks::Parts;
+use sst_blocks::{Error, UserKey};
+use sst_entries::Direction;
+use std::alloc::Allocator;
+use std::marker::Model;
+use std::ops::Bound;
+use std::sync::Arc;
+
+/// The tables of a span of a run that have no reader yet, and how many readers were made.
+#[derive(Drop)]
+pub struct Unopened<A: Allocator> {
+    run: Arc<Run<Table<A>, A>, A>,
+    range: (Bound<UserKey<A>>, Bound<UserKey<A>>),
+    // the first and the last place of the span, whose tables are read within the bounds
+    ends: (usize, usize),
+    // the place of the first table that is not opened, and that behind the last
+    lo: usize,
+    hi: usize,
+    opened: usize,
+}
+
+impl<A: Allocator> Model for Unopened<A> {
+    ghost use Rattle.std.specs.Prelude.{◌≤◌, ◌+◌, length};
+    ghost use Rattle.std.specs.Arc.{arc_value};
+    ghost use Rattle.lsm_run_parts.specs.RunParts.{span_parts_between, span_of};
+    ghost use Rattle.lsm_run_parts.specs.Tables.{Unopened};
+
+    ghost Value = { Unopened };
+
+    ghost view = { λ u. record {
+      parts = span_parts_between (span_of u.ends u.range.0 u.range.1) (arc_value u.run) u.lo u.hi;
+      opened = u.opened;
+    } };
+
+    ghost invariant = { λ u. (u.lo ≤ u.hi) × (u.hi ≤ length (arc_value u.run)) ×
+        (u.opened + u.hi ≤ length (arc_value u.run) + u.lo) };
+}
+
+/// The reader of the table at a place: within the bounds where the span begins or ends there, else
+/// of the whole table.
+fn reader_at<A: Allocator + Clone>(
+    tables: &[Table<A>],
+    place: usize,
+    ends: (usize, usize),
+    range: &(Bound<UserKey<A>>, Bound<UserKey<A>>),
+) -> Result<Iter<A>, Error>
+    requires { place < length tables.now }
+    ensures ok { let span = span_of ends range.now.0 range.now.1 in
+        (t : OpenTable) → slice_get tables.now place ≡ Some t → let p = span_part_at span place t in
+        IfOk result (λ reader. IsRangeOf p.table p.low p.high reader) }
+    ensures err { IfErr result (λ e. e ≡ OutOfMemory) }
+{
+    let table = &tables[place];
+    if is_end(place, ends) {
+        table.range(share(&range.0)?, share(&range.1)?)
+    } else {
+        table.iter()
+    }
+}
+
+impl<A: Allocator> Unopened<A> {
+    /// All tables from the first place of a span to its last.
+    pub fn new(
+        run: Arc<Run<Table<A>, A>, A>,
+        range: (Bound<UserKey<A>>, Bound<UserKey<A>>),
+        ends: (usize, usize),
+    ) -> Unopened<A>
+        requires { ArePlacesOf (arc_value run) ends }
+        ensures { let span = span_of ends range.0 range.1 in
+            result ≡ record { parts = span_parts span (arc_value run); opened = 0 } }
+    {
+        let hi = place_behind(run.as_slice(), ends.1);
+        Unopened {
+            run,
+            range,
+            ends,
+            lo: ends.0,
+            hi,
+            opened: 0,
+        }
+    }
+
+    /// How many readers were made.
+    pub fn opened(&self) -> usize
+        ensures { result ≡ self.now.opened }
+    {
+        self.opened
+    }
+}
+
+impl<A: Allocator + Clone> Parts for Unopened<A> {
+    type Part = Iter<A>;
+
+    ghost coming = { coming_tables };
+
+    ghost keeps = { KeepsTables };
+
+    ghost ends = { EndsTables };
+
+    /// Opens the table at an end, and counts it. Where that is refused nothing is counted, and none
+    /// is to come any more.
+    #[inline(never)]
+    fn load(&mut self, at: Direction) -> Option<Result<Iter<A>, Error>>
+        ensures gives { let remains = range_remains {A = A} in
+            LoadGives remains coming_tables KeepsTables at self.old result self.new }
+        ensures counted { self.new.opened ≡ opened_tables result + self.old.opened }
+    {
+        if self.lo == self.hi {
+            return None;
+        }
+        let (place, lo, hi) = place_at_end(self.lo, self.hi, at);
+        match reader_at(self.run.as_slice(), place, self.ends, &self.range) {
+            Ok(reader) => {
+                self.lo = lo;
+                self.hi = hi;
+                self.opened += 1;
+                Some(Ok(reader))
+            }
+            Err(refusal) => {
+                self.end();
+                Some(Err(refusal))
+            }
+        }
+    }
+
+    fn end(&mut self) {
+        self.lo = self.hi;
+    }
+}

@@ -1,0 +1,36 @@
+//! The first of entries that were found.
+ghost use Rattle.std.specs.Prelude.{◌≡◌};
+ghost use Rattle.std.specs.Ordering.{is_lt};
+ghost use Rattle.lsm_merge.specs.Union.{item_cmp};
+ghost use Rattle.lsm_sorted.specs.Leading.{leading_of};
+
+use sst_entries::InternalValue;
+use std::alloc::Allocator;
+
+// Whether an entry stands before another.
+fn stands_before<A: Allocator>(x: &InternalValue<A>, y: &InternalValue<A>) -> bool
+    ensures { result ≡ is_lt (item_cmp x.now y.now) }
+{
+    x.key < y.key
+}
+
+/// Of two entries that may be there the one that stands before the other: of one key that with the
+/// higher number. The first, where neither does.
+pub fn leading<A: Allocator>(
+    first: Option<InternalValue<A>>,
+    second: Option<InternalValue<A>>,
+) -> Option<InternalValue<A>>
+    ensures { result ≡ leading_of first second }
+{
+    match (first, second) {
+        (Some(first), Some(second)) => {
+            if stands_before(&second, &first) {
+                Some(second)
+            } else {
+                Some(first)
+            }
+        }
+        (Some(first), None) => Some(first),
+        (None, second) => second,
+    }
+}

@@ -1,0 +1,180 @@
+//! The priority queues over numbers, each with what room it was made with, and a count of the
+//! numbers that are in one.
+ghost use Rattle.std.specs.Prelude.{◌≡◌, ℕ};
+
+use lsm_merge::{IntervalHeap, LazyTournament, Tournament};
+use sst_entries::{Direction, Error};
+use std::alloc::Allocator;
+use std::marker::Model;
+
+/// A queue of numbers, which has room for some.
+pub(crate) trait Queue {
+    /// Adds a number, where there is room.
+    fn add(&mut self, number: u8);
+
+    /// Takes the least number out, or the greatest.
+    fn take(&mut self, end: Direction) -> Option<u8>;
+
+    /// How many numbers there are, and how many steps were made, where they are counted.
+    fn state(&self) -> (usize, u64);
+}
+
+#[derive(Drop)]
+pub(crate) struct Played<A: Allocator> {
+    queue: Tournament<u8, A>,
+    room: usize,
+}
+
+impl<A: Allocator> Model for Played<A> {
+    ghost Value = { ℕ };
+
+    ghost view = { λ q. q.room };
+
+    ghost invariant = { λ q. q.queue.room ≡ q.room };
+}
+
+pub(crate) fn tournament<A: Allocator + Clone>(alloc: A, room: usize) -> Result<Played<A>, Error> {
+    let queue = Tournament::with_capacity(alloc, room)?;
+    Ok(Played { queue, room })
+}
+
+impl<A: Allocator> Queue for Played<A> {
+    fn add(&mut self, number: u8) {
+        if self.queue.len() < self.room {
+            self.queue.push(number);
+        }
+    }
+
+    fn take(&mut self, end: Direction) -> Option<u8> {
+        match end {
+            Direction::Front => self.queue.pop_min(),
+            Direction::Back => self.queue.pop_max(),
+        }
+    }
+
+    fn state(&self) -> (usize, u64) {
+        (self.queue.len(), self.queue.steps())
+    }
+}
+
+#[derive(Drop)]
+pub(crate) struct Heaped<A: Allocator> {
+    queue: IntervalHeap<u8, A>,
+    room: usize,
+}
+
+impl<A: Allocator> Model for Heaped<A> {
+    ghost Value = { ℕ };
+
+    ghost view = { λ q. q.room };
+
+    ghost invariant = { λ q. q.queue.room ≡ q.room };
+}
+
+pub(crate) fn interval_heap<A: Allocator>(alloc: A, room: usize) -> Result<Heaped<A>, Error> {
+    let queue = IntervalHeap::with_capacity(alloc, room)?;
+    Ok(Heaped { queue, room })
+}
+
+impl<A: Allocator> Queue for Heaped<A> {
+    fn add(&mut self, number: u8) {
+        if self.queue.len() < self.room {
+            self.queue.push(number);
+        }
+    }
+
+    fn take(&mut self, end: Direction) -> Option<u8> {
+        match end {
+            Direction::Front => self.queue.pop_min(),
+            Direction::Back => self.queue.pop_max(),
+        }
+    }
+
+    fn state(&self) -> (usize, u64) {
+        (self.queue.len(), 0)
+    }
+}
+
+#[derive(Drop)]
+pub(crate) struct Lazy<A: Allocator> {
+    queue: LazyTournament<u8, A>,
+    room: usize,
+}
+
+impl<A: Allocator> Model for Lazy<A> {
+    ghost Value = { ℕ };
+
+    ghost view = { λ q. q.room };
+
+    ghost invariant = { λ q. q.queue.room ≡ q.room };
+}
+
+pub(crate) fn lazy_tournament<A: Allocator + Clone>(
+    alloc: A,
+    room: usize,
+) -> Result<Lazy<A>, Error> {
+    let queue = LazyTournament::with_capacity(alloc, room)?;
+    Ok(Lazy { queue, room })
+}
+
+impl<A: Allocator> Queue for Lazy<A> {
+    fn add(&mut self, number: u8) {
+        if self.queue.len() < self.room {
+            self.queue.push(number);
+        }
+    }
+
+    fn take(&mut self, end: Direction) -> Option<u8> {
+        match end {
+            Direction::Front => self.queue.pop_min(),
+            Direction::Back => self.queue.pop_max(),
+        }
+    }
+
+    fn state(&self) -> (usize, u64) {
+        (self.queue.len(), self.queue.steps())
+    }
+}
+
+/// Some of the numbers 0 to 2, as how often each is there.
+#[derive(Drop)]
+pub(crate) struct Counts {
+    of: [usize; 3],
+}
+
+impl Counts {
+    /// No numbers.
+    pub(crate) fn new() -> Counts {
+        Counts { of: [0; 3] }
+    }
+
+    /// Counts a number that is added.
+    pub(crate) fn add(&mut self, number: u8) {
+        if let Some(count) = self.of.get_mut(number as usize) {
+            *count = count.saturating_add(1);
+        }
+    }
+
+    /// Takes the least number out, or the greatest.
+    pub(crate) fn take(&mut self, end: Direction) -> Option<u8> {
+        let numbers = match end {
+            Direction::Front => [0u8, 1, 2],
+            Direction::Back => [2, 1, 0],
+        };
+        for number in numbers {
+            if let Some(count) = self.of.get_mut(number as usize) {
+                if *count > 0 {
+                    *count -= 1;
+                    return Some(number);
+                }
+            }
+        }
+        None
+    }
+
+    /// How many numbers there are.
+    pub(crate) fn len(&self) -> usize {
+        let [zeros, ones, twos] = self.of;
+        zeros.saturating_add(ones).saturating_add(twos)
+    }
+}

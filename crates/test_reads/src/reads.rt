@@ -1,0 +1,757 @@
+//! What opening a table and reading it answers: tables that an independent program stored, as they
+//! are and with some of their bytes changed, where each read that rests on the damage is refused,
+//! and no other; and written ones, with what each read loads. `test_vectors` changes each byte in
+//! turn, and compares all that is read.
+use crate::tables::{
+    ALL_PINS, BELITTLED, Changed, Changes, Of, Parted, Pins, Sought, cloned, counted_read, opened,
+};
+use lsm_tables::Table;
+use sst_blocks::{Error, SeqNo, TagName};
+use std::alloc::Global;
+use test_tables::large::{asked, asked_with};
+
+// What stays loaded.
+const BOTH: Pins = (true, true);
+
+const NO_FILTER: Pins = (false, true);
+
+const NO_INDEX: Pins = (true, false);
+
+const NEITHER: Pins = (false, false);
+
+// A refusal to open, or what a read then answers: the number found, if any, and how many blocks of
+// data, of the index and of the filter it loads.
+type Answer = Result<(Result<Option<SeqNo>, Error>, [u64; 3]), Error>;
+
+// What a read of a table that was opened answers.
+fn answer_of(table: &Table, sought: Sought) -> Answer {
+    Ok(counted_read(table, sought.0, sought.1))
+}
+
+// What a read of a clone of a table answers, once the table itself is gone; or why that is not
+// opened.
+fn answer(alloc: Global, changed: &Changed<'_>, sought: Sought) -> Answer {
+    asked_with(asked(opened(alloc, changed), cloned), sought, answer_of)
+}
+
+// ---- refusals to open
+
+const FF: [u8; 16] = [0xff; 16];
+
+// What the trailer of the table of one entry says of the index and of the meta block.
+const TLI_SLOT: [u8; 16] = [45, 0, 0, 0, 0, 0, 0, 0, 51, 0, 0, 0, 0, 0, 0, 0];
+
+const META_SLOT: [u8; 16] = [97, 0, 0, 0, 0, 0, 0, 0, 0x11, 4, 0, 0, 0, 0, 0, 0];
+
+// The slots of the trailer begin at 1,138: that of the data, then, 32 bytes on, of the index, and
+// 64 bytes on of the meta block.
+const DATA_AT: usize = 1138;
+
+const TLI_AT: usize = 1170;
+
+const META_AT: usize = 1234;
+
+// Changes of the table of one entry, and the fault.
+const FAULTS: &[(Changes<'static>, Error)] = &[
+    (
+        &[(TLI_AT, &META_SLOT), (META_AT, &TLI_SLOT)],
+        Error::InvalidTag(TagName::BlockType, 1),
+    ),
+    (&[(TLI_AT, &FF)], Error::MissingSection),
+    (&[(META_AT, &FF)], Error::MissingSection),
+    // a length of 2^32
+    (&[(TLI_AT + 8, &[0, 0, 0, 0, 1])], Error::InvalidTrailer),
+    // a length of 23, and one that is a byte too short
+    (&[(META_AT + 8, &[23, 0])], Error::Truncated),
+    (&[(TLI_AT + 8, &[23])], Error::Truncated),
+    (&[(META_AT + 8, &[0x10])], Error::InvalidHeader),
+    // a position in the byte of the version
+    (&[(META_AT, &[96])], Error::InvalidHeader),
+    // the mark, the kind, the compression and the payload of the meta block and of the index
+    (&[(97, b"l")], Error::InvalidHeader),
+    (&[(101, &[2])], Error::InvalidTag(TagName::BlockType, 2)),
+    (&[(102, &[1])], Error::UnsupportedCompression),
+    (&[(121, &[30])], Error::ChecksumMismatch),
+    (&[(50, &[1])], Error::UnsupportedCompression),
+    // of two faults the first: a section that is missing, then the meta block, then the index
+    (&[(TLI_AT, &FF), (121, &[30])], Error::MissingSection),
+    (&[(121, &[30]), (50, &[1])], Error::ChecksumMismatch),
+    (&[(1250, b"l"), (META_AT, &FF)], Error::InvalidTrailer),
+];
+
+// The place of the first fault that is not told.
+fn wrong_fault(alloc: Global, faults: &[(Changes<'static>, Error)]) -> Option<usize> {
+    for (place, (changes, fault)) in faults.iter().enumerate() {
+        let changed = (Of::One, *changes, BOTH, 0);
+        if answer(alloc, &changed, BELOW_2).err().as_ref() != Some(fault) {
+            return Some(place);
+        }
+    }
+    None
+}
+
+#[test]
+fn the_first_fault_of_sections_and_blocks(rt: HostRuntime) {
+    assert!(rt; wrong_fault(rt.alloc(), FAULTS) == None);
+}
+
+// Changes of the meta block of that table, with its checksum, and the fault. Where a value is
+// shorter, that of an item which is not read is longer.
+const ITEM_FAULTS: &[(Changes<'static>, Error)] = &[
+    // one item with another value; a length is told where it is read as a number
+    (
+        &[(113, &[117, 94, 140, 178, 166, 191, 24, 178]), (970, &[5])],
+        Error::UnsupportedTableVersion,
+    ),
+    (
+        &[(113, &[242, 179, 26, 48, 98, 228, 109, 91]), (517, &[2])],
+        Error::UnsupportedHashType,
+    ),
+    (
+        &[(113, &[234, 43, 49, 196, 235, 40, 248, 53]), (273, &[2])],
+        Error::UnsupportedChecksumType,
+    ),
+    (
+        &[(113, &[212, 225, 25, 10, 118, 63, 27, 186]), (846, &[2])],
+        Error::UnsupportedIndexInterval,
+    ),
+    (
+        &[(113, &[20, 162, 150, 90, 197, 85, 91, 209]), (305, &[1])],
+        Error::UnsupportedCompression,
+    ),
+    (
+        &[(113, &[58, 126, 191, 198, 65, 35, 198, 50]), (338, &[1])],
+        Error::UnsupportedCompression,
+    ),
+    (
+        &[
+            (113, &[139, 166, 19, 26, 44, 226, 82, 114]),
+            (595, &[7]),
+            (
+                625,
+                &[7, 0, 1, 0, 0, 0, 107, 101, 121, 35, 109, 97, 120, 97, 0],
+            ),
+            (
+                648,
+                &[7, 0, 1, 0, 0, 0, 107, 101, 121, 35, 109, 105, 110, 97, 0],
+            ),
+            (
+                671,
+                &[
+                    9, 0, 9, 0, 0, 0, 107, 101, 121, 95, 99, 111, 117, 110, 116, 1, 0,
+                ],
+            ),
+        ],
+        Error::InvalidMetaValue,
+    ),
+    (
+        &[
+            (113, &[239, 109, 67, 102, 55, 82, 206, 218]),
+            (317, &[0]),
+            (
+                347,
+                &[
+                    13, 0, 7, 0, 0, 0, 99, 114, 97, 116, 101, 95, 118, 101, 114, 115, 105, 111,
+                    110, 51, 46, 49, 46, 49, 48, 32,
+                ],
+            ),
+        ],
+        Error::InvalidMetaValue,
+    ),
+    (
+        &[
+            (113, &[32, 222, 7, 88, 253, 195, 76, 43]),
+            (256, &[0]),
+            (273, &[0]),
+            (
+                282,
+                &[
+                    16, 0, 1, 0, 0, 0, 99, 111, 109, 112, 114, 101, 115, 115, 105, 111, 110, 35,
+                    100, 97, 116, 97, 0,
+                ],
+            ),
+            (
+                314,
+                &[
+                    17, 0, 1, 0, 0, 0, 99, 111, 109, 112, 114, 101, 115, 115, 105, 111, 110, 35,
+                    105, 110, 100, 101, 120, 0,
+                ],
+            ),
+            (
+                347,
+                &[
+                    13, 0, 7, 0, 0, 0, 99, 114, 97, 116, 101, 95, 118, 101, 114, 115, 105, 111,
+                    110, 51, 46, 49, 46, 49, 48, 32,
+                ],
+            ),
+        ],
+        Error::UnsupportedChecksumType,
+    ),
+    // of two faults the first
+    (
+        &[
+            (113, &[142, 209, 40, 219, 161, 189, 104, 236]),
+            (487, LARGEST),
+            (970, &[2]),
+        ],
+        Error::UnsupportedTableVersion,
+    ),
+    (
+        &[
+            (113, &[143, 152, 229, 14, 85, 242, 253, 125]),
+            (273, &[2]),
+            (517, &[2]),
+        ],
+        Error::UnsupportedHashType,
+    ),
+    (
+        &[
+            (113, &[114, 108, 169, 88, 222, 168, 152, 219]),
+            (273, &[2]),
+            (810, LARGEST),
+        ],
+        Error::UnsupportedChecksumType,
+    ),
+    (
+        &[
+            (113, &[252, 32, 229, 250, 179, 213, 94, 163]),
+            (846, &[2]),
+            (912, LARGEST),
+        ],
+        Error::UnsupportedIndexInterval,
+    ),
+    (
+        &[
+            (113, &[19, 163, 55, 93, 91, 102, 3, 109]),
+            (595, &[7]),
+            (
+                625,
+                &[7, 0, 1, 0, 0, 0, 107, 101, 121, 35, 109, 97, 120, 97, 0],
+            ),
+            (
+                648,
+                &[7, 0, 1, 0, 0, 0, 107, 101, 121, 35, 109, 105, 110, 97, 0],
+            ),
+            (
+                671,
+                &[
+                    9, 0, 9, 0, 0, 0, 107, 101, 121, 95, 99, 111, 117, 110, 116, 1, 0,
+                ],
+            ),
+            (912, LARGEST),
+        ],
+        Error::MetaKeyMissing,
+    ),
+    (
+        &[
+            (113, &[205, 48, 25, 228, 127, 246, 46, 208]),
+            (305, &[2]),
+            (848, LARGEST),
+        ],
+        Error::MetaKeyMissing,
+    ),
+    // an item that is read has the largest number, below which items are looked for
+    (
+        &[
+            (113, &[79, 42, 223, 161, 69, 142, 167, 138]),
+            (126, LARGEST),
+        ],
+        Error::MetaKeyMissing,
+    ),
+    (
+        &[(113, &[79, 90, 68, 61, 55, 249, 1, 14]), (165, LARGEST)],
+        Error::MetaKeyMissing,
+    ),
+    (
+        &[
+            (113, &[47, 83, 245, 162, 106, 167, 134, 19]),
+            (206, LARGEST),
+        ],
+        Error::MetaKeyMissing,
+    ),
+    (
+        &[(113, &[79, 15, 242, 84, 221, 128, 59, 45]), (246, LARGEST)],
+        Error::MetaKeyMissing,
+    ),
+    (
+        &[(113, &[255, 184, 27, 203, 84, 229, 63, 56]), (275, LARGEST)],
+        Error::MetaKeyMissing,
+    ),
+    (
+        &[(113, &[111, 22, 128, 207, 89, 99, 3, 41]), (307, LARGEST)],
+        Error::MetaKeyMissing,
+    ),
+    (
+        &[
+            (113, &[175, 225, 88, 138, 17, 112, 102, 24]),
+            (374, LARGEST),
+        ],
+        Error::MetaKeyMissing,
+    ),
+    (
+        &[
+            (113, &[159, 141, 196, 152, 218, 59, 169, 3]),
+            (455, LARGEST),
+        ],
+        Error::MetaKeyMissing,
+    ),
+    (
+        &[
+            (113, &[127, 148, 146, 227, 5, 186, 137, 109]),
+            (487, LARGEST),
+        ],
+        Error::MetaKeyMissing,
+    ),
+    (
+        &[
+            (113, &[207, 130, 110, 171, 226, 94, 225, 202]),
+            (585, LARGEST),
+        ],
+        Error::MetaKeyMissing,
+    ),
+    (
+        &[
+            (113, &[47, 165, 179, 200, 107, 157, 103, 63]),
+            (618, LARGEST),
+        ],
+        Error::MetaKeyMissing,
+    ),
+    (
+        &[(113, &[63, 154, 164, 31, 166, 91, 31, 91]), (641, LARGEST)],
+        Error::MetaKeyMissing,
+    ),
+    (
+        &[(113, &[95, 101, 35, 11, 68, 51, 120, 120]), (810, LARGEST)],
+        Error::MetaKeyMissing,
+    ),
+    (
+        &[(113, &[47, 155, 154, 242, 96, 98, 41, 109]), (848, LARGEST)],
+        Error::MetaKeyMissing,
+    ),
+    (
+        &[
+            (113, &[175, 252, 174, 190, 226, 127, 166, 13]),
+            (880, LARGEST),
+        ],
+        Error::MetaKeyMissing,
+    ),
+    (
+        &[(113, &[223, 81, 174, 74, 41, 34, 242, 141]), (912, LARGEST)],
+        Error::MetaKeyMissing,
+    ),
+    (
+        &[
+            (113, &[191, 40, 90, 38, 167, 130, 188, 162]),
+            (943, LARGEST),
+        ],
+        Error::MetaKeyMissing,
+    ),
+    (
+        &[
+            (113, &[239, 243, 152, 224, 174, 151, 232, 89]),
+            (972, LARGEST),
+        ],
+        Error::MetaKeyMissing,
+    ),
+    (
+        &[(113, &[47, 201, 42, 173, 7, 57, 1, 159]), (1047, LARGEST)],
+        Error::MetaKeyMissing,
+    ),
+    (
+        &[
+            (113, &[223, 14, 162, 94, 144, 55, 216, 20]),
+            (1090, LARGEST),
+        ],
+        Error::MetaKeyMissing,
+    ),
+];
+
+// How each item is read, with any length of its value, the tests in Python have.
+#[test]
+fn the_first_fault_of_items(rt: HostRuntime) {
+    assert!(rt; wrong_fault(rt.alloc(), ITEM_FAULTS) == None);
+}
+
+// ---- reads
+
+// A read of a@1 in the table of one entry, and its answer.
+const BELOW_2: Sought = (b"a", 2);
+
+const FINDS_1: Answer = Ok((Ok(Some(1)), [1, 0, 0]));
+
+const MISMATCH: Error = Error::ChecksumMismatch;
+
+// The last byte of the second partition of the index.
+const PART_OF_INDEX: Changed<'static> = (Of::Levels, &[(277, b"?")], BOTH, 0);
+
+// The last byte of the whole index.
+const WHOLE_INDEX: Changed<'static> = (Of::One, &[(95, b"?")], NO_INDEX, 0);
+
+// The last byte of the whole filter.
+const WHOLE_FILTER: Changed<'static> = (Of::Filtered, &[(128, b"?")], NO_FILTER, 0);
+
+// The last byte of the first partition of the filter.
+const PART_OF_FILTER: Changed<'static> = (Of::FilterParts, &[(328, b"?")], BOTH, 0);
+
+// The last byte of each of four blocks of data of 44 bytes but the second.
+const THREE_BLOCKS: Changes<'static> = &[(43, b"?"), (131, b"?"), (175, b"?")];
+
+const IN_FILTER_PARTS: Changed<'static> = (Of::FilterParts, THREE_BLOCKS, BOTH, 0);
+
+const IN_LEVELS: Changed<'static> = (Of::Levels, THREE_BLOCKS, BOTH, 0);
+
+// The largest number.
+const LARGEST: &[u8] = &[0xff; 8];
+
+const UNCHANGED: Changed<'static> = (Of::FilterParts, &[], BOTH, 0);
+
+// The first handle of the filter's top level, that of `a`, gets the largest number, and the block
+// its checksum.
+const LARGEST_AT_FIRST: Changed<'static> = (
+    Of::FilterParts,
+    &[
+        (378, &[0x49, 0x67, 0x3a, 0xbd, 0xbd, 0x01, 0xfe, 0xe5]),
+        (390, LARGEST),
+    ],
+    BOTH,
+    0,
+);
+
+// The last handle of the filter's top level, that of `b`, gets the largest number, and the block
+// its checksum.
+const LARGEST_AT_LAST: Changed<'static> = (
+    Of::FilterParts,
+    &[
+        (378, &[0x49, 0x1d, 0x37, 0xb0, 0x80, 0x97, 0xf3, 0xf4]),
+        (413, LARGEST),
+    ],
+    BOTH,
+    0,
+);
+
+const READS: &[(Changed<'static>, Sought, Answer)] = &[
+    // changes that opening does not see: none; no data section; another version behind the index
+    ((Of::One, &[], BOTH, 0), BELOW_2, FINDS_1),
+    ((Of::One, &[(DATA_AT, &FF)], BOTH, 0), BELOW_2, FINDS_1),
+    ((Of::One, &[(96, &[9])], BOTH, 0), BELOW_2, FINDS_1),
+    // an item of the meta block is read below the largest number, and whatever its tag is
+    (
+        (
+            Of::One,
+            &[
+                (113, &[242, 66, 123, 10, 63, 159, 186, 194]),
+                (912, &[254, 255, 255, 255, 255, 255, 255, 255]),
+            ],
+            BOTH,
+            0,
+        ),
+        BELOW_2,
+        FINDS_1,
+    ),
+    (
+        (
+            Of::One,
+            &[(113, &[224, 241, 228, 160, 42, 102, 54, 2]), (911, &[1])],
+            BOTH,
+            0,
+        ),
+        BELOW_2,
+        FINDS_1,
+    ),
+    // the value, and the compression of the data block
+    (
+        (Of::One, &[(44, b"y")], BOTH, 0),
+        BELOW_2,
+        Ok((Err(MISMATCH), [1, 0, 0])),
+    ),
+    (
+        (Of::One, &[(5, &[1])], BOTH, 0),
+        BELOW_2,
+        Ok((Err(Error::UnsupportedCompression), [1, 0, 0])),
+    ),
+    // the global number is tested between the meta block and the index
+    (
+        (Of::One, &[], BOTH, SeqNo::MAX),
+        BELOW_2,
+        Err(Error::GlobalSeqNoTooLarge),
+    ),
+    (
+        (Of::One, &[], BOTH, SeqNo::MAX - 1),
+        BELOW_2,
+        Ok((Ok(None), [0, 0, 0])),
+    ),
+    (
+        (Of::One, &[(121, &[30])], BOTH, SeqNo::MAX),
+        BELOW_2,
+        Err(MISMATCH),
+    ),
+    (
+        (Of::One, &[(50, &[1])], BOTH, SeqNo::MAX),
+        BELOW_2,
+        Err(Error::GlobalSeqNoTooLarge),
+    ),
+    // opening loads a whole index and a whole filter that are to stay loaded
+    ((Of::One, &[(95, b"?")], BOTH, 0), BELOW_2, Err(MISMATCH)),
+    (
+        (Of::Filtered, &[(128, b"?")], BOTH, 0),
+        BELOW_2,
+        Err(MISMATCH),
+    ),
+    // and a top level, which stays loaded in any case
+    (
+        (Of::Levels, &[(499, b"?")], NEITHER, 0),
+        BELOW_2,
+        Err(MISMATCH),
+    ),
+    (
+        (Of::FilterParts, &[(435, b"?")], BOTH, 0),
+        BELOW_2,
+        Err(MISMATCH),
+    ),
+    (
+        (Of::FilterParts, &[(435, b"?")], NO_FILTER, 0),
+        BELOW_2,
+        Err(MISMATCH),
+    ),
+    (
+        (Of::FilterParts, &[(435, b"?")], NO_INDEX, 0),
+        BELOW_2,
+        Err(MISMATCH),
+    ),
+    (
+        (Of::FilterParts, &[(435, b"?")], NEITHER, 0),
+        BELOW_2,
+        Err(MISMATCH),
+    ),
+    // the read behind the damaged partition of the index alone
+    (PART_OF_INDEX, (b"a", 8), Ok((Err(MISMATCH), [0, 1, 0]))),
+    (PART_OF_INDEX, (b"a", 10), Ok((Ok(Some(9)), [1, 1, 0]))),
+    (PART_OF_INDEX, (b"a", 6), Ok((Ok(Some(5)), [1, 1, 0]))),
+    (PART_OF_INDEX, (b"b", 2), Ok((Ok(Some(1)), [1, 1, 0]))),
+    (PART_OF_INDEX, (b"c", 8), Ok((Ok(None), [0, 0, 0]))),
+    // each read that comes to the index
+    (WHOLE_INDEX, (b"a", 2), Ok((Err(MISMATCH), [0, 1, 0]))),
+    (WHOLE_INDEX, (b"c", 2), Ok((Err(MISMATCH), [0, 1, 0]))),
+    (WHOLE_INDEX, (b"a", 1), Ok((Ok(None), [0, 0, 0]))),
+    // each read that comes to the filter; a bound at the lowest number asks nothing
+    (WHOLE_FILTER, (b"a", 2), Ok((Err(MISMATCH), [0, 0, 1]))),
+    (WHOLE_FILTER, (b"c", 2), Ok((Err(MISMATCH), [0, 0, 1]))),
+    (WHOLE_FILTER, (b"a", 1), Ok((Ok(None), [0, 0, 0]))),
+    // the reads of the damaged partition's keys alone; behind the last partition nothing is asked
+    (PART_OF_FILTER, (b"a", 8), Ok((Err(MISMATCH), [0, 0, 1]))),
+    (PART_OF_FILTER, (b"", 8), Ok((Err(MISMATCH), [0, 0, 1]))),
+    (PART_OF_FILTER, (b"b", 2), Ok((Ok(Some(1)), [1, 0, 1]))),
+    (PART_OF_FILTER, (b"a", 1), Ok((Ok(None), [0, 0, 0]))),
+    (PART_OF_FILTER, (b"c", 8), Ok((Ok(None), [0, 0, 0]))),
+    // a damaged block of data refuses its own reads
+    (IN_FILTER_PARTS, (b"a", 8), Ok((Ok(Some(7)), [1, 0, 1]))),
+    (IN_FILTER_PARTS, (b"a", 10), Ok((Err(MISMATCH), [1, 0, 1]))),
+    (IN_FILTER_PARTS, (b"a", 6), Ok((Err(MISMATCH), [1, 0, 1]))),
+    (IN_FILTER_PARTS, (b"a", 5), Ok((Err(MISMATCH), [1, 0, 1]))),
+    (IN_FILTER_PARTS, (b"b", 2), Ok((Err(MISMATCH), [1, 0, 1]))),
+    (IN_LEVELS, (b"a", 8), Ok((Ok(Some(7)), [1, 1, 0]))),
+    (IN_LEVELS, (b"a", 10), Ok((Err(MISMATCH), [1, 1, 0]))),
+    (IN_LEVELS, (b"a", 6), Ok((Err(MISMATCH), [1, 1, 0]))),
+    (IN_LEVELS, (b"a", 5), Ok((Err(MISMATCH), [1, 1, 0]))),
+    (IN_LEVELS, (b"b", 2), Ok((Err(MISMATCH), [1, 1, 0]))),
+    // which partition of a filter a read asks: that of the first handle whose end key is greater,
+    // or equal and numbered below `u64::MAX`
+    (UNCHANGED, (b"a", 10), Ok((Ok(Some(9)), [1, 0, 1]))),
+    (UNCHANGED, (b"b", 2), Ok((Ok(Some(1)), [1, 0, 1]))),
+    // the partition of `b` is asked, and does not have `a`
+    (LARGEST_AT_FIRST, (b"a", 10), Ok((Ok(None), [0, 0, 1]))),
+    (
+        LARGEST_AT_FIRST,
+        (b"a", SeqNo::MAX),
+        Ok((Ok(None), [0, 0, 1])),
+    ),
+    (LARGEST_AT_FIRST, (b"b", 2), Ok((Ok(Some(1)), [1, 0, 1]))),
+    // no partition is left that could have `b`
+    (LARGEST_AT_LAST, (b"b", 2), Ok((Ok(None), [0, 0, 0]))),
+    (
+        LARGEST_AT_LAST,
+        (b"b", SeqNo::MAX),
+        Ok((Ok(None), [0, 0, 0])),
+    ),
+    (LARGEST_AT_LAST, (b"a", 10), Ok((Ok(Some(9)), [1, 0, 1]))),
+    // the global number is added, up to the largest number, which is below no bound
+    (
+        (Of::Numbered(SeqNo::MAX - 1), &[], BOTH, 0),
+        (b"a", SeqNo::MAX),
+        Ok((Ok(Some(SeqNo::MAX - 1)), [1, 0, 0])),
+    ),
+    (
+        (Of::Numbered(SeqNo::MAX - 1), &[], BOTH, 1),
+        (b"a", SeqNo::MAX),
+        Ok((Ok(None), [0, 0, 0])),
+    ),
+    (
+        (Of::Numbered(SeqNo::MAX - 1), &[], BOTH, 2),
+        (b"a", SeqNo::MAX),
+        Err(Error::GlobalSeqNoTooLarge),
+    ),
+    (
+        (Of::Numbered(0), &[], BOTH, SeqNo::MAX - 1),
+        (b"a", SeqNo::MAX),
+        Ok((Ok(Some(SeqNo::MAX - 1)), [1, 0, 0])),
+    ),
+    (
+        (Of::Numbered(0), &[], BOTH, SeqNo::MAX),
+        (b"a", SeqNo::MAX),
+        Ok((Ok(None), [0, 0, 0])),
+    ),
+    (
+        (Of::Numbered(1), &[], BOTH, SeqNo::MAX),
+        (b"a", SeqNo::MAX),
+        Err(Error::GlobalSeqNoTooLarge),
+    ),
+    (
+        (Of::Numbered(3), &[], BOTH, SeqNo::MAX - 3),
+        (b"a", SeqNo::MAX),
+        Ok((Ok(None), [0, 0, 0])),
+    ),
+    (
+        (Of::Numbered(3), &[], BOTH, SeqNo::MAX - 2),
+        (b"a", SeqNo::MAX),
+        Err(Error::GlobalSeqNoTooLarge),
+    ),
+    (
+        (Of::Numbered(3), &[], BOTH, 10),
+        (b"a", 14),
+        Ok((Ok(Some(13)), [1, 0, 0])),
+    ),
+    (
+        (Of::Numbered(3), &[], BOTH, 10),
+        (b"a", 13),
+        Ok((Ok(None), [0, 0, 0])),
+    ),
+    (
+        (Of::Numbered(3), &[], BOTH, 10),
+        (b"a", 10),
+        Ok((Ok(None), [0, 0, 0])),
+    ),
+    // no handle is numbered below the bound less the global number, whatever the meta block says
+    (BELITTLED, (b"a", SeqNo::MAX), Ok((Ok(None), [0, 0, 0]))),
+    // an index with an interval of two is written, and not opened
+    (
+        (Of::Interval, &[], BOTH, 0),
+        BELOW_2,
+        Err(Error::UnsupportedIndexInterval),
+    ),
+];
+
+// The place of the first read that is answered otherwise.
+fn wrong_read(alloc: Global, reads: &[(Changed<'static>, Sought, Answer)]) -> Option<usize> {
+    for (place, (changed, sought, expected)) in reads.iter().enumerate() {
+        if answer(alloc, changed, *sought) != *expected {
+            return Some(place);
+        }
+    }
+    None
+}
+
+#[test]
+fn what_does_not_rest_on_the_damage_is_read(rt: HostRuntime) {
+    assert!(rt; wrong_read(rt.alloc(), READS) == None);
+}
+
+// ---- each pair of pins
+
+// The length of the filter, and how many bytes of it and of the index are pinned.
+type Sizes = (u32, usize, usize);
+
+// A key, a bound, the number that is found, if any, and how many data, index and filter blocks
+// are loaded under each pair of pins.
+type Pinned = (&'static [u8], SeqNo, Option<SeqNo>, [[u64; 3]; 4]);
+
+const NOTHING: [[u64; 3]; 4] = [[0; 3]; 4];
+
+const A_PART: [[u64; 3]; 4] = [[1, 0, 1], [1, 1, 1], [1, 0, 1], [1, 1, 1]];
+
+const UNFILTERED: [[u64; 3]; 4] = [[1, 0, 0], [1, 1, 0], [1, 0, 0], [1, 1, 0]];
+
+const NO_HANDLE: [[u64; 3]; 4] = [[0, 0, 0], [0, 1, 0], [0, 0, 0], [0, 1, 0]];
+
+// Reads of a@9, a@7, a@5 and b@1 in a block each, by one index block and without a filter.
+const OF_FOUR_BLOCKS: [Pinned; 5] = [
+    (b"a", 10, Some(9), UNFILTERED),
+    (b"a", 8, Some(7), UNFILTERED),
+    (b"a", 5, None, UNFILTERED),
+    (b"b", 2, Some(1), UNFILTERED),
+    (b"c", 100, None, NO_HANDLE),
+];
+
+// Reads of these by one index block, with a partition of the filter for each key.
+const OF_FILTER_PARTS: [Pinned; 8] = [
+    (b"", 2, None, [[0, 0, 1]; 4]),
+    (b"a", 1, None, NOTHING),
+    (b"a", 2, None, A_PART),
+    (b"a", 6, Some(5), A_PART),
+    (b"a", 8, Some(7), A_PART),
+    (b"aa", SeqNo::MAX, None, [[0, 0, 1]; 4]),
+    (b"b", 100, Some(1), A_PART),
+    // no part of the filter reaches the key
+    (b"c", 100, None, NOTHING),
+];
+
+// Whether a table has these sizes, and answers some reads under the pair of pins at a place.
+fn answers(table: &Table, by: (&Sizes, &[Pinned], usize)) -> Result<bool, Error> {
+    let sizes = (
+        table.filter_size(),
+        table.pinned_filter_size(),
+        table.pinned_block_index_size(),
+    );
+    for (key, seqno, found, loads) in by.1 {
+        let loads = loads.get(by.2).copied().unwrap_or_default();
+        if counted_read(table, key, *seqno) != (Ok(*found), loads) {
+            return Ok(false);
+        }
+    }
+    Ok(sizes == *by.0)
+}
+
+// Whether a table does so under each pair of pins.
+fn all_answer(alloc: Global, of: Of, all: &[Sizes; 4], reads: &[Pinned]) -> bool {
+    for (at, (sizes, pins)) in all.iter().zip(ALL_PINS).enumerate() {
+        let table = opened(alloc, &(of, &[], pins, 0));
+        if asked_with(table, (sizes, reads, at), answers) != Ok(true) {
+            return false;
+        }
+    }
+    true
+}
+
+const OF_FOUR: [Sizes; 4] = [(0, 0, 104), (0, 0, 0), (0, 0, 104), (0, 0, 0)];
+
+const OF_PARTS: [Sizes; 4] = [(66, 0, 104), (66, 0, 0), (66, 0, 104), (66, 0, 0)];
+
+// The top level of an index of one partition has a count of 4, and a key of one byte with 24 for
+// its handle; the partition of a filter has 33 bytes.
+const OF_FORGETTING: [Sizes; 4] = [(33, 0, 29); 4];
+
+const BY_ONE_PARTITION: [Pinned; 2] = [
+    (b"a", 8, Some(7), [[1, 1, 1]; 4]),
+    (b"c", 100, None, NOTHING),
+];
+
+// `test_vectors` has such reads of other tables.
+#[test]
+fn tables_are_read_under_each_pair_of_pins(rt: HostRuntime) {
+    assert!(rt;
+        all_answer(
+            rt.alloc(),
+            Of::Rows(Parted::Nothing),
+            &OF_FOUR,
+            &OF_FOUR_BLOCKS
+        )
+    );
+    assert!(rt; all_answer(rt.alloc(), Of::Keys, &OF_PARTS, &OF_FILTER_PARTS));
+    assert!(rt;
+        all_answer(
+            rt.alloc(),
+            Of::Forgetting,
+            &OF_FORGETTING,
+            &BY_ONE_PARTITION
+        )
+    );
+}

@@ -1,0 +1,248 @@
+//! The tables that are read: tables that an independent program stored, as they are and with some
+//! of their bytes changed, and tables of a few rows under each kind of index and of filter.
+ghost use Rattle.lsm_writers.specs.Filtering.{IsSmallFilter};
+ghost use Rattle.lsm_writers.specs.Writing.{IsSmallIndex};
+
+use lsm_tables::Table;
+use lsm_writers::{BloomConstructionPolicy, FilterKind, IndexKind, Options, Writer};
+use sst_blocks::{Checksum, Error, InternalValue, SeqNo, Slice, ValueType};
+use std::alloc::Allocator;
+use test_tables::rows::{Row, fill, new_writer};
+use test_tables::stored::{filter_parts, one_entry, one_entry_filtered, two_levels};
+use test_tables::tables::overwritten;
+
+/// Three versions of `a` and one of `b`.
+pub(crate) const ROWS: &[Row<'static>] = &[
+    (b"a", 9, ValueType::Value, b""),
+    (b"a", 7, ValueType::Value, b""),
+    (b"a", 5, ValueType::Value, b""),
+    (b"b", 1, ValueType::Value, b""),
+];
+
+/// What is in partitions, of a handle or a key each.
+#[derive(Clone, Copy)]
+pub(crate) enum Parted {
+    Nothing,
+    Index,
+    Filter,
+    Both,
+}
+
+fn index_kind(parted: Parted) -> IndexKind
+    ensures { IsSmallIndex result }
+{
+    match parted {
+        Parted::Index | Parted::Both => IndexKind::Partitioned(1),
+        Parted::Nothing | Parted::Filter => IndexKind::Full,
+    }
+}
+
+fn filter_kind(parted: Parted) -> FilterKind
+    ensures { IsSmallFilter result }
+{
+    match parted {
+        Parted::Filter | Parted::Both => FilterKind::Partitioned(1),
+        Parted::Nothing | Parted::Index => FilterKind::Full,
+    }
+}
+
+// A writer of blocks of a size, of 4,096 at most, and of a filter of some tenths of a bit for a
+// key.
+fn writer_of<A: Allocator + Copy>(
+    alloc: A,
+    parted: Parted,
+    bits: u32,
+    block_size: u32,
+) -> Result<Writer<A>, Error> {
+    let options = Options {
+        data_block_restart_interval: 16,
+        index_block_restart_interval: 1,
+        data_block_hash_ratio: 0,
+        data_block_size: block_size.min(4_096),
+        index_kind: index_kind(parted),
+        filter_kind: filter_kind(parted),
+        bloom_policy: BloomConstructionPolicy::BitsPerKey(bits),
+    };
+    Ok(new_writer(alloc)?.use_options(options))
+}
+
+/// The bytes of a table of some rows, by the filter's tenths of a bit for a key, and the size of a
+/// block of data, of 4,096 at most.
+pub(crate) fn written<A: Allocator + Copy>(
+    alloc: A,
+    parted: Parted,
+    rows: &[Row<'_>],
+    bits: u32,
+    block_size: u32,
+) -> Result<Slice<A>, Error> {
+    let writer = writer_of(alloc, parted, bits, block_size)?;
+    Ok(fill(writer, alloc, rows)?.bytes)
+}
+
+// Those of a table of a@1 whose index has an interval of two.
+fn written_with_interval<A: Allocator + Copy>(alloc: A) -> Result<Slice<A>, Error> {
+    let rows: [Row<'static>; 1] = [(b"a", 1, ValueType::Value, b"x")];
+    let writer = new_writer(alloc)?.use_index_block_restart_interval(2);
+    Ok(fill(writer, alloc, &rows)?.bytes)
+}
+
+// Those of a table of [`ROWS`], each in a block of its own, where a size of partitions is
+// forgotten, as partitions are asked for after it.
+fn written_forgetting<A: Allocator + Copy>(alloc: A) -> Result<Slice<A>, Error> {
+    let writer = new_writer(alloc)?
+        .use_data_block_size(0)
+        .use_bloom_policy(BloomConstructionPolicy::BitsPerKey(100))
+        .use_meta_partition_size(1)
+        .use_partitioned_index()
+        .use_partitioned_filter();
+    Ok(fill(writer, alloc, ROWS)?.bytes)
+}
+
+/// A table: a stored one, of one entry, without a filter and with one, and of four, with the index
+/// in two levels and with a filter in parts; or one that is written.
+#[derive(Clone, Copy)]
+pub(crate) enum Of {
+    One,
+    Filtered,
+    Levels,
+    FilterParts,
+    /// Of [`ROWS`], each in a block of its own, without a filter.
+    Rows(Parted),
+    /// Of these, with a filter of a partition for each key.
+    Keys,
+    /// Of these, with an index and a filter in a partition each, for which a smaller size was set
+    /// before they were asked for.
+    Forgetting,
+    /// Of these, all in one block, without a filter.
+    Block,
+    /// Of `a` with a number and the value `x`.
+    Numbered(SeqNo),
+    /// Of one whose index has an interval of two.
+    Interval,
+}
+
+// The bytes of a stored table.
+fn stored(of: Of) -> &'static [u8] {
+    match of {
+        Of::One => &one_entry::BYTES,
+        Of::Filtered => &one_entry_filtered::BYTES,
+        Of::Levels => &two_levels::BYTES,
+        Of::FilterParts => &filter_parts::BYTES,
+        _ => &[],
+    }
+}
+
+/// The bytes of a table.
+pub(crate) fn bytes_of<A: Allocator + Copy>(alloc: A, of: Of) -> Result<Slice<A>, Error> {
+    match of {
+        Of::Rows(parted) => written(alloc, parted, ROWS, 0, 0),
+        Of::Keys => written(alloc, Parted::Filter, ROWS, 100, 0),
+        Of::Forgetting => written_forgetting(alloc),
+        Of::Block => written(alloc, Parted::Nothing, ROWS, 0, 4_096),
+        Of::Numbered(number) => {
+            let rows: [Row<'_>; 1] = [(b"a", number, ValueType::Value, b"x")];
+            written(alloc, Parted::Nothing, &rows, 0, 4_096)
+        }
+        Of::Interval => written_with_interval(alloc),
+        _ => Ok(Slice::from(alloc, stored(of))?),
+    }
+}
+
+/// Some bytes, from where and by what they are overwritten.
+pub(crate) type Changes<'a> = &'a [(usize, &'a [u8])];
+
+/// Whether the filter and the index are pinned.
+pub(crate) type Pins = (bool, bool);
+
+/// Each pair of pins.
+pub(crate) const ALL_PINS: [Pins; 4] = [(true, true), (true, false), (false, true), (false, false)];
+
+/// A table, the changes of its bytes, what stays loaded, and a global number.
+pub(crate) type Changed<'a> = (Of, Changes<'a>, Pins, SeqNo);
+
+/// The table of some bytes.
+pub(crate) fn open_with<A: Allocator + Copy>(
+    alloc: A,
+    bytes: Slice<A>,
+    pins: Pins,
+    global_seqno: SeqNo,
+) -> Result<Table<A>, Error> {
+    Table::recover(alloc, bytes, Checksum(0), global_seqno, 0, pins.0, pins.1)
+}
+
+/// The bytes of a table, some of them changed.
+pub(crate) fn changed_bytes<A: Allocator + Copy>(
+    alloc: A,
+    changed: &Changed<'_>,
+) -> Result<Slice<A>, Error> {
+    let bytes = bytes_of(alloc, changed.0)?;
+    overwritten(alloc, bytes.as_slice(), changed.1)
+}
+
+/// The table of them.
+pub(crate) fn opened<A: Allocator + Copy>(
+    alloc: A,
+    changed: &Changed<'_>,
+) -> Result<Table<A>, Error> {
+    let bytes = changed_bytes(alloc, changed)?;
+    open_with(alloc, bytes, changed.2, changed.3)
+}
+
+/// The table of the rows, each in a block of its own, with an index that stays loaded, that is
+/// loaded by each reader, that has two levels, and that has two as an earlier version stored it.
+pub(crate) const KINDS: &[Changed<'static>] = &[LOADED, ON_DEMAND, TWO_LEVELS, OLDER];
+
+/// With an index that stays loaded.
+pub(crate) const LOADED: Changed<'static> = (Of::Rows(Parted::Nothing), &[], (false, true), 0);
+
+/// With one that each reader loads.
+pub(crate) const ON_DEMAND: Changed<'static> = (Of::Rows(Parted::Nothing), &[], (false, false), 0);
+
+/// With one of two levels.
+pub(crate) const TWO_LEVELS: Changed<'static> = (Of::Rows(Parted::Index), &[], (false, true), 0);
+
+/// With one of two levels, as an earlier version stored it.
+pub(crate) const OLDER: Changed<'static> = (Of::Levels, &[], (false, true), 0);
+
+/// The table of a@1 whose meta block says that its numbers are 0, and the largest number is added
+/// to each.
+pub(crate) const BELITTLED: Changed<'static> = (
+    Of::One,
+    &[
+        (113, &[95, 193, 214, 191, 185, 119, 42, 72]),
+        (871, &[0]),
+        (903, &[0]),
+    ],
+    (true, true),
+    SeqNo::MAX,
+);
+
+/// A key and a bound.
+pub(crate) type Sought = (&'static [u8], SeqNo);
+
+/// What a read answers, and how many blocks of data, of the index and of the filter it loads.
+pub(crate) fn counted_read<A: Allocator + Copy>(
+    table: &Table<A>,
+    key: &[u8],
+    seqno: SeqNo,
+) -> (Result<Option<SeqNo>, Error>, [u64; 3]) {
+    let (found, opened) = table.get_counted(key, seqno, Table::<A>::key_hash(key));
+    let loads = [opened.data_loads, opened.index_loads, opened.filter_loads];
+    (number_of(found), loads)
+}
+
+/// A clone of a table.
+pub(crate) fn cloned(table: &Table) -> Result<Table, Error> {
+    Ok(table.clone()?)
+}
+
+/// The number of what a read found, if any.
+pub(crate) fn number_of<A: Allocator>(
+    found: Result<Option<InternalValue<A>>, Error>,
+) -> Result<Option<SeqNo>, Error> {
+    match found {
+        Ok(Some(item)) => Ok(Some(item.key.seqno)),
+        Ok(None) => Ok(None),
+        Err(error) => Err(error),
+    }
+}

@@ -1,0 +1,611 @@
+//! Compactions of runs that nobody has verified: what the new tables have, the ids that are drawn,
+//! what a filter changes, what a callback and an observer are told, and runs that stay.
+use crate::points::number_of;
+use lsm_sorted::compaction::stream::{
+    DroppedKvCallback, NoCallback, NoFilter, StreamFilter, StreamFilterVerdict,
+};
+use lsm_tables::{
+    CompactionObserver, CompactionOutcome, CompactionProgress, NoObserver, OpenOptions, Rules,
+    Scanner, compact_any_runs_with, compact_to_run_with, compaction_law, get_runs,
+};
+use lsm_writers::{FinishedTable, MultiWriter, TableId, TableIds, Timestamp};
+use sst_blocks::{Error, InternalValue, IterItem, SeqNo, Slice, UserValue, ValueType};
+use std::alloc::{Allocator, Global};
+use test_tables::rows::Row;
+use test_tables::runs::{Lists, Tables, runs_of};
+use test_tables::tables::open;
+
+/// A key of one byte, 0 for any other, a number and a kind.
+pub(crate) type Version = (u8, SeqNo, ValueType);
+
+/// The first ten versions of a list, and how many it has.
+pub(crate) type Listed = ([Option<Version>; 10], usize);
+
+const NONE: Listed = ([None; 10], 0);
+
+// Puts an entry behind the others.
+fn put<A: Allocator>(listed: &mut Listed, item: &InternalValue<A>) {
+    let key = match item.key.user_key.as_slice() {
+        [byte] => *byte,
+        _ => 0,
+    };
+    let (versions, count) = listed;
+    if let Some(slot) = versions.get_mut(*count) {
+        *slot = Some((key, item.key.seqno, item.key.value_type));
+    }
+    *count = count.saturating_add(1);
+}
+
+/// Whether a list is of just these versions, ten at most.
+pub(crate) fn are(listed: &Listed, versions: &[Version]) -> bool {
+    let (slots, count) = listed;
+    for (slot, version) in slots.iter().zip(versions.iter()) {
+        if *slot != Some(*version) {
+            return false;
+        }
+    }
+    *count == versions.len()
+}
+
+// Puts an entry behind the others; nothing follows a refusal.
+fn put_next<A: Allocator>(
+    listed: Result<Listed, Error>,
+    item: IterItem<A>,
+) -> Result<Listed, Error> {
+    let mut listed = listed?;
+    put(&mut listed, &item?);
+    Ok(listed)
+}
+
+// A list with what a scan gives.
+fn with_scan(listed: Listed, scan: Scanner<Global>) -> Result<Listed, Error> {
+    let mut listed = Ok(listed);
+    for item in scan {
+        listed = put_next(listed, item);
+    }
+    listed
+}
+
+// A list with the entries of a finished table.
+fn with_table(alloc: Global, listed: Listed, table: FinishedTable) -> Result<Listed, Error> {
+    let table = open(alloc, table.bytes, 0)?;
+    with_scan(listed, table.scan()?)
+}
+
+/// The entries of finished tables.
+pub(crate) fn entries_of(alloc: Global, tables: Vec<FinishedTable>) -> Result<Listed, Error> {
+    let mut listed = NONE;
+    for table in tables {
+        listed = with_table(alloc, listed, table)?;
+    }
+    Ok(listed)
+}
+
+// Drops the version of one number, makes that of another a tombstone, and keeps all others.
+#[derive(Clone, Copy)]
+struct DropsAndHides {
+    dropped: SeqNo,
+    hidden: SeqNo,
+}
+
+impl<A: Allocator> StreamFilter<A> for DropsAndHides {
+    ghost gives = { λ f x v g. Unit {0} };
+
+    fn filter_item(&mut self, item: &InternalValue<A>) -> Result<StreamFilterVerdict<A>, Error> {
+        let seqno = item.key.seqno;
+        if seqno == self.dropped {
+            Ok(StreamFilterVerdict::Drop)
+        } else if seqno == self.hidden {
+            let nothing: UserValue<A> = Slice::empty();
+            Ok(StreamFilterVerdict::Replace((ValueType::Tombstone, nothing)))
+        } else {
+            Ok(StreamFilterVerdict::Keep)
+        }
+    }
+}
+
+// Remembers what it received.
+#[derive(Clone, Copy)]
+struct Received {
+    reports: Listed,
+}
+
+impl<A: Allocator> DroppedKvCallback<A> for Received {
+    ghost gets = { λ c x d. Unit {0} };
+
+    fn on_dropped(&mut self, kv: &InternalValue<A>) {
+        put(&mut self.reports, kv);
+    }
+}
+
+// How many tables are finished, and how many entries they have; none where nothing was told.
+type Progress = (u64, u64);
+
+// Remembers what it is told, three times at most, and stops the compaction at one of these.
+#[derive(Clone, Copy)]
+struct Told {
+    progress: [Progress; 3],
+    count: usize,
+    stop: usize,
+}
+
+impl CompactionObserver for Told {
+    ghost says = { λ o progress goes q. Unit {0} };
+
+    fn goes_on(&mut self, progress: CompactionProgress) -> bool {
+        let place = self.count;
+        if let Some(slot) = self.progress.get_mut(place) {
+            *slot = (progress.tables, progress.entries);
+        }
+        self.count = place.saturating_add(1);
+        place != self.stop
+    }
+}
+
+// How runs are compacted: a threshold, a target, the first id, the numbers that the filter drops
+// and hides, and where the observer stops it. Tombstones and numbers stay.
+type How = (SeqNo, u64, TableId, SeqNo, SeqNo, usize);
+
+// What a compaction comes to.
+#[derive(Clone, Copy, PartialEq, Eq)]
+enum Came {
+    Tables,
+    OutOfOrder,
+    Stopped,
+}
+
+// What it comes to, or its refusal; the entries of the new tables, their ids and the next one; what
+// the callback received; and what the observer was told, three times at most.
+type Wanted = (
+    Result<Came, Error>,
+    &'static [Version],
+    &'static [TableId],
+    Option<TableId>,
+    &'static [Version],
+    &'static [Progress],
+);
+
+// Whether tables have these ids.
+fn have_ids(tables: &[FinishedTable], ids: &[TableId]) -> bool {
+    for (table, id) in tables.iter().zip(ids.iter()) {
+        if table.id != *id {
+            return false;
+        }
+    }
+    tables.len() == ids.len()
+}
+
+// What a compaction came to, if its tables, if any, are those that are wanted.
+fn came_of(
+    alloc: Global,
+    outcome: CompactionOutcome,
+    wanted: &Wanted,
+) -> Result<Option<Came>, Error> {
+    match outcome {
+        CompactionOutcome::Tables(tables, mut left) => {
+            let is_next = have_ids(&tables, wanted.2) && left.next() == wanted.3;
+            let entries = entries_of(alloc, tables)?;
+            Ok((is_next && are(&entries, wanted.1)).then_some(Came::Tables))
+        }
+        CompactionOutcome::OutOfOrder => Ok(Some(Came::OutOfOrder)),
+        CompactionOutcome::Stopped => Ok(Some(Came::Stopped)),
+    }
+}
+
+fn rules_of(watermark: SeqNo) -> Rules {
+    Rules {
+        watermark,
+        evict: false,
+        zeroing: false,
+    }
+}
+
+// What a compaction of some runs came to, if it and what was told on the way are as is wanted.
+fn compacted(
+    alloc: Global,
+    runs: &[Tables<Global>],
+    how: How,
+    wanted: &Wanted,
+) -> Result<Option<Came>, Error> {
+    let (watermark, target, first, dropped, hidden, stop) = how;
+    let mut observer = Told {
+        progress: [(0, 0); 3],
+        count: 0,
+        stop,
+    };
+    let writer = MultiWriter::new(alloc, TableIds::new(first), target, 0, Timestamp::from(0))?;
+    let (outcome, callback) = compact_any_runs_with(
+        alloc,
+        runs,
+        rules_of(watermark),
+        writer,
+        DropsAndHides { dropped, hidden },
+        Received { reports: NONE },
+        &mut observer,
+    )?;
+    let came = came_of(alloc, outcome, wanted)?;
+    let is_told = are(&callback.reports, wanted.4) && observer.progress.as_slice() == wanted.5;
+    Ok(if is_told { came } else { None })
+}
+
+// What a compaction of some runs into one came to that has no filter and no observer, if it and its
+// run are as is wanted.
+fn compacted_to_run(
+    alloc: Global,
+    runs: &[Tables<Global>],
+    how: How,
+    wanted: &Wanted,
+) -> Result<Option<Came>, Error> {
+    let opening = OpenOptions::default();
+    let writer = MultiWriter::new(alloc, TableIds::new(how.2), how.1, 0, Timestamp::from(0))?;
+    let (outcome, run) = compact_to_run_with(alloc, runs, rules_of(how.0), writer, &opening)?;
+    let count = match run {
+        Some(run) => run.as_slice().len(),
+        None => 0,
+    };
+    let came = came_of(alloc, outcome, wanted)?;
+    Ok(if count == wanted.2.len() { came } else { None })
+}
+
+// Whether that is the answer, or the refusal.
+fn is_wanted(came: Result<Option<Came>, Error>, wanted: &Wanted) -> bool {
+    match (&came, &wanted.0) {
+        (Ok(Some(came)), Ok(wanted)) => *came == *wanted,
+        (Err(error), Err(wanted)) => *error == *wanted,
+        _ => false,
+    }
+}
+
+// What reads of `a`, `b` and `c` find.
+type Numbers = [Option<SeqNo>; 3];
+
+// What they find in some runs.
+fn numbers_in<A: Allocator + Copy>(runs: &[Tables<A>]) -> Result<Numbers, Error> {
+    let a = number_of(get_runs(runs, b"a", SeqNo::MAX))?;
+    let b = number_of(get_runs(runs, b"b", SeqNo::MAX))?;
+    Ok([a, b, number_of(get_runs(runs, b"c", SeqNo::MAX))?])
+}
+
+// A number that no entry has.
+const NO: SeqNo = SeqNo::MAX;
+
+// How often an observer is told at most that stops nothing.
+const OFTEN: usize = 9;
+
+// Whether compactions of some runs come to what is wanted, one into a run only where nothing is
+// filtered and nothing stopped, and whether reads of the runs find the same before and after.
+fn comes(alloc: Global, lists: &[Lists], how: How, wanted: &Wanted) -> Result<[bool; 3], Error> {
+    let runs = runs_of(alloc, lists)?;
+    let before = numbers_in(&runs);
+    let is_right = is_wanted(compacted(alloc, &runs, how, wanted), wanted);
+    let is_plain = how.3 == NO && how.4 == NO && how.5 == OFTEN;
+    let is_run = !is_plain || is_wanted(compacted_to_run(alloc, &runs, how, wanted), wanted);
+    let after = numbers_in(&runs);
+    drop(runs);
+    Ok([is_right, is_run, before? == after?])
+}
+
+const V: ValueType = ValueType::Value;
+
+const T: ValueType = ValueType::Tombstone;
+
+const W: ValueType = ValueType::WeakTombstone;
+
+const A10: Row<'static> = (b"a", 10, V, b"x");
+
+const A10_W: Row<'static> = (b"a", 10, W, b"");
+
+const A4: Row<'static> = (b"a", 4, V, b"x");
+
+const A3: Row<'static> = (b"a", 3, V, b"x");
+
+const B9: Row<'static> = (b"b", 9, V, b"x");
+
+// A value that fills a block, and reaches a target of 1,024 bytes.
+const LONG: [u8; 8000] = [b'v'; 8000];
+
+// `a`, `d` and `e` fill a block each; `b` and `c` go into that of `d`.
+const THREE_RUNS: &[Lists] = &[
+    &[&[(b"a", 9, V, &LONG), (b"b", 6, V, b"x"), (b"d", 4, V, &LONG)]],
+    &[&[(b"a", 5, V, b"x"), (b"c", 7, T, b""), (b"e", 1, V, &LONG)]],
+    &[&[(b"b", 2, V, b"x"), (b"c", 3, V, b"x"), (b"d", 2, V, b"x")]],
+];
+
+// At threshold 5 what follows d@4 goes.
+const KEPT: &[Version] = &[
+    (b'a', 9, V),
+    (b'a', 5, V),
+    (b'b', 6, V),
+    (b'b', 2, V),
+    (b'c', 7, T),
+    (b'c', 3, V),
+    (b'd', 4, V),
+    (b'e', 1, V),
+];
+
+const D2: &[Version] = &[(b'd', 2, V)];
+
+const VERSIONS_OF_A: &[Lists] = &[&[&[
+    (b"a", 4, V, &LONG),
+    (b"a", 3, V, &LONG),
+    (b"a", 2, V, &LONG),
+    (b"a", 1, V, &LONG),
+    (b"a", 0, V, &LONG),
+]]];
+
+const VERSIONS_OF_THREE: &[Lists] = &[&[&[
+    (b"a", 2, V, &LONG),
+    (b"a", 1, V, &LONG),
+    (b"a", 0, V, &LONG),
+    (b"b", 0, V, &LONG),
+    (b"c", 1, V, &LONG),
+    (b"c", 0, V, &LONG),
+]]];
+
+// The newer run and the older one.
+const TWO_RUNS: &[Lists] = &[
+    &[&[(b"a", 9, V, b"x"), (b"b", 8, V, b"x")]],
+    &[&[(b"a", 7, V, b"x"), (b"c", 6, V, b"x")]],
+];
+
+const OF_TWO: &[Version] = &[(b'a', 9, V), (b'a', 7, V), (b'b', 8, V), (b'c', 6, V)];
+
+const UNTOLD: &[Progress] = &[(0, 0), (0, 0), (0, 0)];
+
+const SPENT: Wanted = (Err(Error::TableIdsSpent), &[], &[], None, &[], UNTOLD);
+
+const OUT_OF_ORDER: Wanted = (Ok(Came::OutOfOrder), &[], &[], None, &[], UNTOLD);
+
+const CASES: &[(&[Lists], How, Wanted)] = &[
+    (
+        &[],
+        (0, 0, 1, NO, NO, OFTEN),
+        (Ok(Came::Tables), &[], &[], Some(2), &[], UNTOLD),
+    ),
+    // At target 0 the first table stays without entries, and its id is drawn.
+    (
+        THREE_RUNS,
+        (5, 0, 5, NO, NO, OFTEN),
+        (
+            Ok(Came::Tables),
+            KEPT,
+            &[6, 7, 8, 9, 10],
+            Some(11),
+            D2,
+            &[(1, 2), (2, 4), (3, 6)],
+        ),
+    ),
+    (
+        THREE_RUNS,
+        (5, 1_024, 5, NO, NO, OFTEN),
+        (
+            Ok(Came::Tables),
+            KEPT,
+            &[5, 6, 7],
+            Some(8),
+            D2,
+            &[(1, 2), (2, 7), (0, 0)],
+        ),
+    ),
+    // The versions of a key stay in one table.
+    (
+        VERSIONS_OF_A,
+        (0, 1_024, 1, NO, NO, OFTEN),
+        (
+            Ok(Came::Tables),
+            &[
+                (b'a', 4, V),
+                (b'a', 3, V),
+                (b'a', 2, V),
+                (b'a', 1, V),
+                (b'a', 0, V),
+            ],
+            &[1],
+            Some(2),
+            &[],
+            UNTOLD,
+        ),
+    ),
+    (
+        VERSIONS_OF_THREE,
+        (0, 1_024, 1, NO, NO, OFTEN),
+        (
+            Ok(Came::Tables),
+            &[
+                (b'a', 2, V),
+                (b'a', 1, V),
+                (b'a', 0, V),
+                (b'b', 0, V),
+                (b'c', 1, V),
+                (b'c', 0, V),
+            ],
+            &[1, 2, 3],
+            Some(4),
+            &[],
+            &[(1, 3), (2, 4), (0, 0)],
+        ),
+    ),
+    // The tables of a run stand in the wrong order.
+    (
+        &[&[&[(b"b", 1, V, b"")], &[(b"a", 2, V, b"")]]],
+        (0, 0, 1, NO, NO, OFTEN),
+        OUT_OF_ORDER,
+    ),
+    // Two runs have a key under one number.
+    (
+        &[&[&[(b"a", 5, V, b"x")]], &[&[(b"a", 5, V, b"y")]]],
+        (0, 0, 1, NO, NO, OFTEN),
+        OUT_OF_ORDER,
+    ),
+    // What is dropped hides nothing: the version after it is kept.
+    (
+        &[&[&[A10, A3]]],
+        (5, 0, 1, 10, 9, OFTEN),
+        (
+            Ok(Came::Tables),
+            &[(b'a', 3, V)],
+            &[2],
+            Some(3),
+            &[(b'a', 10, V)],
+            UNTOLD,
+        ),
+    ),
+    // What takes its place hides what is older; what is replaced by a tombstone is told and
+    // written.
+    (
+        &[&[&[A10, A4, A3, B9]]],
+        (5, 0, 1, 10, 9, OFTEN),
+        (
+            Ok(Came::Tables),
+            &[(b'a', 4, V), (b'b', 9, T)],
+            &[2, 3],
+            Some(4),
+            &[(b'a', 10, V), (b'a', 3, V), (b'b', 9, V)],
+            &[(1, 1), (0, 0), (0, 0)],
+        ),
+    ),
+    // The filter is not asked of a weak tombstone.
+    (
+        &[&[&[A10_W, A3]]],
+        (5, 0, 1, 10, 9, OFTEN),
+        (
+            Ok(Came::Tables),
+            &[(b'a', 10, W), (b'a', 3, V)],
+            &[2],
+            Some(3),
+            &[],
+            UNTOLD,
+        ),
+    ),
+    // Where all is dropped there is no table.
+    (
+        &[&[&[A10]]],
+        (5, 0, 1, 10, 9, OFTEN),
+        (
+            Ok(Came::Tables),
+            &[],
+            &[],
+            Some(2),
+            &[(b'a', 10, V)],
+            UNTOLD,
+        ),
+    ),
+    // The version that is dropped is in one run, and the older one in the next.
+    (
+        &[&[&[A10]], &[&[A3]]],
+        (5, 0, 1, 10, 9, OFTEN),
+        (
+            Ok(Came::Tables),
+            &[(b'a', 3, V)],
+            &[2],
+            Some(3),
+            &[(b'a', 10, V)],
+            UNTOLD,
+        ),
+    ),
+    // The observer is told between two tables, and may stop there.
+    (
+        TWO_RUNS,
+        (5, 0, 1, NO, NO, OFTEN),
+        (
+            Ok(Came::Tables),
+            OF_TWO,
+            &[2, 3, 4],
+            Some(5),
+            &[],
+            &[(1, 2), (2, 3), (0, 0)],
+        ),
+    ),
+    (
+        TWO_RUNS,
+        (5, 0, 1, NO, NO, 1),
+        (
+            Ok(Came::Stopped),
+            &[],
+            &[],
+            None,
+            &[],
+            &[(1, 2), (2, 3), (0, 0)],
+        ),
+    ),
+    (
+        TWO_RUNS,
+        (5, 0, 1, NO, NO, 0),
+        (
+            Ok(Came::Stopped),
+            &[],
+            &[],
+            None,
+            &[],
+            &[(1, 2), (0, 0), (0, 0)],
+        ),
+    ),
+    // There are too few ids, and just enough.
+    (THREE_RUNS, (0, 0, TableId::MAX - 1, NO, NO, OFTEN), SPENT),
+    (THREE_RUNS, (0, 0, TableId::MAX, NO, NO, OFTEN), SPENT),
+    (
+        THREE_RUNS,
+        (5, 0, TableId::MAX - 5, NO, NO, OFTEN),
+        (
+            Ok(Came::Tables),
+            KEPT,
+            &[
+                TableId::MAX - 4,
+                TableId::MAX - 3,
+                TableId::MAX - 2,
+                TableId::MAX - 1,
+                TableId::MAX,
+            ],
+            None,
+            D2,
+            &[(1, 2), (2, 4), (3, 6)],
+        ),
+    ),
+];
+
+#[test]
+fn runs_that_nobody_verified_are_compacted(rt: HostRuntime) {
+    compaction_law();
+    for (lists, how, wanted) in CASES {
+        assert!(rt; comes(rt.alloc(), lists, *how, wanted) == Ok([true; 3]));
+    }
+}
+
+// How many tables a compaction makes that nothing is asked of. `Source(9)` where it makes none.
+fn count_of<A: Allocator + Copy>(alloc: A, runs: &[Tables<A>]) -> Result<usize, Error> {
+    let writer = MultiWriter::new(alloc, TableIds::new(5), 0, 0, Timestamp::from(0))?;
+    let (outcome, _) = compact_any_runs_with(
+        alloc,
+        runs,
+        rules_of(0),
+        writer,
+        NoFilter,
+        NoCallback,
+        &mut NoObserver,
+    )?;
+    match outcome {
+        CompactionOutcome::Tables(tables, _) => Ok(tables.len()),
+        CompactionOutcome::OutOfOrder | CompactionOutcome::Stopped => Err(Error::Source(9)),
+    }
+}
+
+const TWO_KEYS: &[Lists] = &[
+    &[&[(b"a", 9, V, b"x")]],
+    &[&[(b"a", 5, V, b"y"), (b"c", 7, T, b"")]],
+];
+
+/// Whether a compaction answers right, and its runs, whose memory is plenty, are read as before.
+pub(crate) fn leaves_its_runs<A: Allocator + Copy>(
+    alloc: A,
+    plenty: A,
+    may_fail: bool,
+) -> Result<bool, Error> {
+    let runs = runs_of(plenty, TWO_KEYS)?;
+    let is_right = match count_of(alloc, &runs) {
+        Ok(tables) => tables == 2,
+        Err(error) => may_fail && error == Error::OutOfMemory,
+    };
+    let read = numbers_in(&runs);
+    drop(runs);
+    Ok(is_right && read? == [Some(9), None, Some(7)])
+}

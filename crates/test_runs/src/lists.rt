@@ -1,0 +1,293 @@
+//! Lists that are written as runs, which are read as they are or compacted first, and how a target
+//! cuts them.
+use lsm_ranges::Run;
+use lsm_tables::{
+    MultiWriter, OpenOptions, Rules, Table, compact_run_back, read_run_back, write_run_with,
+};
+use lsm_writers::{TableId, TableIds, Timestamp};
+use sst_blocks::{Error, SeqNo, ValueType};
+use std::alloc::{Allocator, Global};
+use std::ops::Bound;
+use test_tables::lists::{list_of, read_names};
+use test_tables::rows::Row;
+use test_tables::runs::{ALL, Bounds, Name, owned_range};
+
+// How a list is read: as it is, with a global number, or as it is compacted.
+#[derive(Clone, Copy)]
+enum How {
+    Written(SeqNo),
+    Kept(Rules),
+}
+
+// Rows, how they are read, a key and a bound, bounds, and the names that are read: what is found,
+// and the ends of the range; or nothing.
+type Case = (
+    &'static [Row<'static>],
+    How,
+    (&'static [u8], SeqNo),
+    Bounds<'static>,
+    &'static [Option<Name>],
+);
+
+// What is read; nothing where there is no table.
+type Names = Option<[Option<Name>; 3]>;
+
+// What rows give that are written as tables, each key in one of its own.
+fn read_written<A: Allocator + Copy>(
+    alloc: A,
+    case: &Case,
+    global_seqno: SeqNo,
+) -> Result<Names, Error> {
+    let items = list_of(alloc, case.0)?;
+    let range = owned_range(alloc, case.3)?;
+    let (key, seqno) = case.2;
+    match read_run_back(alloc, items, 0, global_seqno, key, seqno, range)? {
+        Some(read) => Ok(Some(read_names(alloc, read)?)),
+        None => Ok(None),
+    }
+}
+
+// What is kept of rows that are written so.
+fn read_kept<A: Allocator + Copy>(alloc: A, case: &Case, rules: Rules) -> Result<Names, Error> {
+    let items = list_of(alloc, case.0)?;
+    let range = owned_range(alloc, case.3)?;
+    let (key, seqno) = case.2;
+    match compact_run_back(alloc, items, 0, rules, key, seqno, range)? {
+        Some(read) => Ok(Some(read_names(alloc, read)?)),
+        None => Ok(None),
+    }
+}
+
+// Whether a case's rows are read as it says.
+fn reads<A: Allocator + Copy>(alloc: A, case: &Case) -> Result<bool, Error> {
+    let read = match case.1 {
+        How::Written(global_seqno) => read_written(alloc, case, global_seqno),
+        How::Kept(rules) => read_kept(alloc, case, rules),
+    };
+    match read? {
+        Some(names) => Ok(names.as_slice() == case.4),
+        None => Ok(case.4.is_empty()),
+    }
+}
+
+const VALUE: ValueType = ValueType::Value;
+
+const ROWS: &[Row<'static>] = &[
+    (b"a", 9, VALUE, b"x"),
+    (b"a", 7, ValueType::Tombstone, b""),
+    (b"a", 5, VALUE, b"y"),
+    (b"b", 1, VALUE, b"z"),
+];
+
+const VALUES: &[Row<'static>] = &[(b"a", 10, VALUE, b"x"), (b"a", 3, VALUE, b"y")];
+
+const TOMBSTONE: &[Row<'static>] = &[(b"a", 4, ValueType::Tombstone, b"")];
+
+const THREE_KEYS: &[Row<'static>] = &[
+    (b"a", 10, VALUE, b"x"),
+    (b"b", 4, VALUE, b"y"),
+    (b"b", 2, VALUE, b"y"),
+    (b"c", 6, VALUE, b"z"),
+];
+
+// Threshold 5; tombstones and numbers stay.
+const KEPT: How = How::Kept(Rules {
+    watermark: 5,
+    evict: false,
+    zeroing: false,
+});
+
+// Threshold 5; tombstones are evicted.
+const EVICTED: How = How::Kept(Rules {
+    watermark: 5,
+    evict: true,
+    zeroing: false,
+});
+
+// Threshold 5; numbers below it become 0.
+const ZEROED: How = How::Kept(Rules {
+    watermark: 5,
+    evict: false,
+    zeroing: true,
+});
+
+// Threshold 100; tombstones and numbers stay.
+const KEPT_AT_100: How = How::Kept(Rules {
+    watermark: 100,
+    evict: false,
+    zeroing: false,
+});
+
+const BEFORE_B: Bounds<'static> = (Bound::Unbounded, Bound::Excluded(b"b"));
+
+const FROM_B: Bounds<'static> = (Bound::Included(b"b"), Bound::Unbounded);
+
+const BEFORE_C: Bounds<'static> = (Bound::Unbounded, Bound::Excluded(b"c"));
+
+const JUST_B: Bounds<'static> = (Bound::Included(b"b"), Bound::Included(b"b"));
+
+const BEHIND_C: Bounds<'static> = (Bound::Excluded(b"c"), Bound::Unbounded);
+
+const A11: Option<Name> = Some((b'a', 11));
+
+const A10: Option<Name> = Some((b'a', 10));
+
+const A9: Option<Name> = Some((b'a', 9));
+
+const A7: Option<Name> = Some((b'a', 7));
+
+const A4: Option<Name> = Some((b'a', 4));
+
+const A3: Option<Name> = Some((b'a', 3));
+
+const B3: Option<Name> = Some((b'b', 3));
+
+const B1: Option<Name> = Some((b'b', 1));
+
+const B0: Option<Name> = Some((b'b', 0));
+
+const C6: Option<Name> = Some((b'c', 6));
+
+const CASES: &[Case] = &[
+    (ROWS, How::Written(0), (b"a", 8), ALL, &[A7, A9, B1]),
+    // Versions stay that a reader may see.
+    (VALUES, KEPT, (b"a", 7), ALL, &[A3, None, A10]),
+    (VALUES, KEPT, (b"a", 11), ALL, &[A10, None, A10]),
+    (VALUES, KEPT, (b"a", 3), ALL, &[None, None, A10]),
+    (VALUES, KEPT_AT_100, (b"a", 7), ALL, &[None, None, A10]),
+    (VALUES, KEPT_AT_100, (b"a", 11), ALL, &[A10, None, A10]),
+    // The numbers are lifted, and the range is within its bounds.
+    (ROWS, How::Written(2), (b"a", 8), ALL, &[A7, A11, B3]),
+    (ROWS, How::Written(0), (b"a", 8), BEFORE_B, &[A7, None, A9]),
+    (&[], How::Written(0), (b"a", 8), ALL, &[]),
+    // A tombstone goes or stays, and small numbers become 0.
+    (TOMBSTONE, EVICTED, (b"a", 7), ALL, &[]),
+    (TOMBSTONE, KEPT, (b"a", 7), ALL, &[A4, None, A4]),
+    (&[], KEPT, (b"a", 7), ALL, &[]),
+    (THREE_KEYS, ZEROED, (b"b", 1), ALL, &[B0, A10, C6]),
+    // What is kept is read within bounds.
+    (THREE_KEYS, ZEROED, (b"a", 11), FROM_B, &[A10, B0, C6]),
+    (THREE_KEYS, ZEROED, (b"a", 11), BEFORE_C, &[A10, A10, B0]),
+    (THREE_KEYS, ZEROED, (b"a", 11), JUST_B, &[A10, None, B0]),
+    (THREE_KEYS, ZEROED, (b"a", 11), BEHIND_C, &[A10, None, None]),
+];
+
+/// The place of the case of a list that is read as it is.
+pub(crate) const AS_IT_IS: usize = 0;
+
+/// That of one that is compacted first.
+pub(crate) const KEPT_OF_IT: usize = 1;
+
+/// Whether the list at a place is read as its case says.
+pub(crate) fn case_is_read<A: Allocator + Copy>(alloc: A, place: usize) -> Result<bool, Error> {
+    match CASES.get(place) {
+        Some(case) => reads(alloc, case),
+        None => Ok(false),
+    }
+}
+
+// A number that passes the largest one refuses the run.
+const TOO_HIGH: Case = (ROWS, How::Written(u64::MAX - 8), (b"a", 8), ALL, &[]);
+
+#[test]
+fn a_list_is_read_back_from_its_run(rt: HostRuntime) {
+    for case in CASES {
+        assert!(rt; reads(rt.alloc(), case) == Ok(true));
+    }
+    assert!(rt; reads(rt.alloc(), &TOO_HIGH) == Err(Error::GlobalSeqNoTooLarge));
+}
+
+// A value that fills a block, and reaches a target of 1,024 bytes.
+const LONG: [u8; 8000] = [b'v'; 8000];
+
+const LONG_ROWS: &[Row<'static>] = &[
+    (b"a", 2, VALUE, &LONG),
+    (b"a", 1, VALUE, &LONG),
+    (b"a", 0, VALUE, &LONG),
+    (b"b", 0, VALUE, &LONG),
+    (b"c", 1, VALUE, &LONG),
+    (b"c", 0, VALUE, &LONG),
+];
+
+// Some rows, a target and a global number; and how many tables are handed out, how many entries
+// each table of the run has and what its highest number is, of three, and the id that is drawn
+// next.
+type Cut = (
+    &'static [Row<'static>],
+    u64,
+    SeqNo,
+    usize,
+    &'static [(u64, SeqNo)],
+    Option<TableId>,
+);
+
+// How many entries each table of a run has, and its highest number, of three.
+fn told<A: Allocator + Clone>(run: &Option<Run<Table<A>, A>>) -> [(u64, SeqNo); 3] {
+    let mut all = [(0, 0); 3];
+    if let Some(run) = run {
+        for (slot, table) in all.iter_mut().zip(run.as_slice().iter()) {
+            *slot = (table.metadata.item_count, table.get_highest_seqno());
+        }
+    }
+    all
+}
+
+// Whether rows are cut so that are written from the id 5 on.
+fn is_cut<A: Allocator + Copy>(alloc: A, cut: &Cut) -> Result<bool, Error> {
+    let &(rows, target, global_seqno, count, entries, next) = cut;
+    let how = OpenOptions {
+        global_seqno,
+        tree_id: 3,
+        pin_filter: false,
+        pin_index: true,
+    };
+    let items = list_of(alloc, rows)?;
+    let writer = MultiWriter::new(alloc, TableIds::new(5), target, 0, Timestamp::from(0))?;
+    let (tables, run, mut ids) = write_run_with(alloc, writer, items, &how)?;
+    Ok(tables.len() == count && told(&run).as_slice() == entries && ids.next() == next)
+}
+
+// How long the blocks of the versions of `a` are: each has a header of 24 bytes, a count of 4, and
+// for its one entry 17 bytes, its key and its value.
+const OF_A: u64 = 3 * (24 + 4 + 17 + 1 + 8_000);
+
+// A table begins once the blocks have reached the target.
+const CUTS: &[Cut] = &[
+    (LONG_ROWS, 1_024, 0, 3, &[(3, 2), (1, 0), (2, 1)], Some(8)),
+    (
+        LONG_ROWS,
+        OF_A - 1,
+        0,
+        2,
+        &[(3, 2), (3, 1), (0, 0)],
+        Some(7),
+    ),
+    (LONG_ROWS, OF_A, 0, 2, &[(3, 2), (3, 1), (0, 0)], Some(7)),
+    (
+        LONG_ROWS,
+        OF_A + 1,
+        0,
+        2,
+        &[(4, 2), (2, 1), (0, 0)],
+        Some(7),
+    ),
+    (LONG_ROWS, 50_000, 0, 1, &[(6, 2), (0, 0), (0, 0)], Some(6)),
+    (&[], 1_024, 0, 0, &[(0, 0), (0, 0), (0, 0)], Some(6)),
+    // The numbers are lifted. At target 0 the first id is drawn for a table without entries.
+    (THREE_KEYS, 0, 10, 3, &[(1, 20), (2, 14), (1, 16)], Some(9)),
+];
+
+#[test]
+fn a_run_has_the_tables_that_the_target_cuts(rt: HostRuntime) {
+    for cut in CUTS {
+        assert!(rt; is_cut(rt.alloc(), cut) == Ok(true));
+    }
+}
+
+/// Whether the first target cuts its rows.
+pub(crate) fn target_cuts<A: Allocator + Copy>(alloc: A) -> Result<bool, Error> {
+    match CUTS.first() {
+        Some(cut) => is_cut(alloc, cut),
+        None => Ok(false),
+    }
+}

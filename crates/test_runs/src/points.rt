@@ -1,0 +1,192 @@
+//! Point reads of several runs, of all of them and by age, and of one: what they find, the blocks
+//! that they load, and what they are refused where a table is damaged.
+use lsm_ranges::Run;
+use lsm_tables::{
+    Table, get_runs, get_runs_by_age, get_runs_by_age_counted, get_runs_counted, read_run,
+};
+use sst_blocks::{Error, InternalValue, Opened, SeqNo, ValueType};
+use std::alloc::{Allocator, Global};
+use test_tables::large::add;
+use test_tables::rows::Row;
+use test_tables::runs::{ALL, Lists, Tables, damaged_run_of, owned_range};
+
+// Some runs, and a table of one of them that is damaged.
+type DamagedRuns = (&'static [Lists], (usize, usize));
+
+// The runs.
+fn damaged_runs_of(alloc: Global, runs: DamagedRuns) -> Result<Vec<Tables<Global>>, Error> {
+    let (lists, (run, table)) = runs;
+    let mut all = Vec::new(alloc);
+    for (place, tables) in lists.iter().enumerate() {
+        let damaged = if place == run { table } else { tables.len() };
+        add(&mut all, damaged_run_of(alloc, tables, damaged))?;
+    }
+    Ok(all)
+}
+
+/// The number of what a read finds.
+pub(crate) fn number_of<A: Allocator>(
+    found: Result<Option<InternalValue<A>>, Error>,
+) -> Result<Option<SeqNo>, Error> {
+    match found? {
+        Some(item) => Ok(Some(item.key.seqno)),
+        None => Ok(None),
+    }
+}
+
+// What a read finds.
+type Found = Result<Option<SeqNo>, Error>;
+
+// What a read finds, and how many blocks of data it loads.
+type Read = (Found, u64);
+
+// A key, a bound, and the reads of all runs and of runs by age.
+type Case = (&'static [u8], SeqNo, Read, Read);
+
+// Whether a read is so, and loads no other blocks.
+fn is_so(read: (Result<Option<InternalValue>, Error>, Opened), wanted: &Read) -> bool {
+    let (found, opened) = read;
+    let others = (opened.index_loads, opened.filter_loads, opened.meta_loads);
+    number_of(found) == wanted.0 && opened.data_loads == wanted.1 && others == (0, 0, 0)
+}
+
+// Whether runs are read as a case says, with the loads counted and without.
+fn is_read(runs: &[Tables<Global>], case: &Case) -> bool {
+    let (key, bound, of_all, by_age) = (case.0, case.1, &case.2, &case.3);
+    is_so(get_runs_counted(runs, key, bound), of_all)
+        && is_so(get_runs_by_age_counted(runs, key, bound), by_age)
+        && number_of(get_runs(runs, key, bound)) == of_all.0
+        && number_of(get_runs_by_age(runs, key, bound)) == by_age.0
+}
+
+// The place of the first case that is read otherwise.
+fn wrong_case(alloc: Global, runs: DamagedRuns, cases: &[Case]) -> Result<Option<usize>, Error> {
+    let runs = damaged_runs_of(alloc, runs)?;
+    for (place, case) in cases.iter().enumerate() {
+        if !is_read(&runs, case) {
+            return Ok(Some(place));
+        }
+    }
+    Ok(None)
+}
+
+const VALUE: ValueType = ValueType::Value;
+
+const A9_B3: &[Row<'static>] = &[(b"a", 9, VALUE, b"x"), (b"b", 3, VALUE, b"x")];
+
+const A5_C2: &[Row<'static>] = &[(b"a", 5, VALUE, b"x"), (b"c", 2, VALUE, b"x")];
+
+const D1: &[Row<'static>] = &[(b"d", 1, VALUE, b"x")];
+
+// The second run is of two tables.
+const TWO_RUNS: &[Lists] = &[&[A9_B3], &[A5_C2, D1]];
+
+// The newer run, and the older one.
+const BY_AGE: &[Lists] = &[
+    &[&[
+        (b"a", 9, VALUE, b""),
+        (b"a", 7, VALUE, b""),
+        (b"b", 3, ValueType::Tombstone, b""),
+    ]],
+    &[&[(b"a", 2, VALUE, b""), (b"c", 5, VALUE, b"")]],
+];
+
+const THREE_TABLES: Lists = &[
+    &[(b"a", 0, VALUE, b"x"), (b"b", 0, VALUE, b"x")],
+    &[(b"c", 0, VALUE, b"x"), (b"d", 0, VALUE, b"x")],
+    &[(b"e", 0, VALUE, b"x"), (b"f", 0, VALUE, b"x")],
+];
+
+const TWICE: &[Lists] = &[THREE_TABLES, THREE_TABLES];
+
+const DAMAGED: Found = Err(Error::ChecksumMismatch);
+
+const READS: &[(DamagedRuns, &[Case])] = &[
+    (
+        (TWO_RUNS, (2, 0)),
+        &[
+            // Both runs have a table for the key: each is asked, also where the first one answers;
+            // by age the second one is not, where all that it has is older than the answer.
+            (b"a", 10, (Ok(Some(9)), 2), (Ok(Some(9)), 1)),
+            (b"a", 9, (Ok(Some(5)), 2), (Ok(Some(5)), 2)),
+            (b"b", 10, (Ok(Some(3)), 2), (Ok(Some(3)), 2)),
+            // Only the second run has one.
+            (b"c", 10, (Ok(Some(2)), 1), (Ok(Some(2)), 1)),
+            (b"d", 10, (Ok(Some(1)), 1), (Ok(Some(1)), 1)),
+            // No run has one.
+            (b"e", 10, (Ok(None), 0), (Ok(None), 0)),
+            // A table without a number below the bound loads nothing.
+            (b"a", 3, (Ok(None), 1), (Ok(None), 1)),
+            (b"a", 2, (Ok(None), 0), (Ok(None), 0)),
+        ],
+    ),
+    ((&[], (0, 0)), &[(b"a", 10, (Ok(None), 0), (Ok(None), 0))]),
+    (
+        (BY_AGE, (2, 0)),
+        &[
+            // All that the older run has is older than what the newer one answers.
+            (b"a", SeqNo::MAX, (Ok(Some(9)), 2), (Ok(Some(9)), 1)),
+            (b"a", 8, (Ok(Some(7)), 2), (Ok(Some(7)), 1)),
+            // The newer run has the key, and no number below the bound.
+            (b"a", 3, (Ok(Some(2)), 1), (Ok(Some(2)), 1)),
+            // The older run may have a newer version of the key.
+            (b"b", SeqNo::MAX, (Ok(Some(3)), 2), (Ok(Some(3)), 2)),
+            // The older run alone has a table for the key.
+            (b"c", SeqNo::MAX, (Ok(Some(5)), 1), (Ok(Some(5)), 1)),
+            (b"d", SeqNo::MAX, (Ok(None), 0), (Ok(None), 0)),
+        ],
+    ),
+    // The load that is refused counts, and those behind it are not made.
+    (
+        (TWO_RUNS, (0, 0)),
+        &[(b"a", 10, (DAMAGED, 1), (DAMAGED, 1))],
+    ),
+    (
+        (TWO_RUNS, (1, 0)),
+        &[
+            (b"b", 10, (DAMAGED, 2), (DAMAGED, 2)),
+            // What is not asked is not refused.
+            (b"a", 10, (DAMAGED, 2), (Ok(Some(9)), 1)),
+            (b"d", 10, (Ok(Some(1)), 1), (Ok(Some(1)), 1)),
+        ],
+    ),
+    // A damaged table refuses the reads of its keys.
+    (
+        (TWICE, (0, 1)),
+        &[
+            (b"b", 1, (Ok(Some(0)), 2), (Ok(Some(0)), 2)),
+            (b"c", 1, (DAMAGED, 1), (DAMAGED, 1)),
+        ],
+    ),
+];
+
+#[test]
+fn reads_of_runs_load_a_block_of_each_table_that_is_asked(rt: HostRuntime) {
+    for &(runs, cases) in READS {
+        assert!(rt; wrong_case(rt.alloc(), runs, cases) == Ok(None));
+    }
+}
+
+// A run of the same tables that is not shared. `Source(2)` where there are none.
+fn unshared(alloc: Global, run: &Tables<Global>) -> Result<Run<Table>, Error> {
+    let mut tables = Vec::new(alloc);
+    for table in run.as_slice() {
+        tables.push(table.clone()?)?;
+    }
+    Run::new(tables).ok_or(Error::Source(2))
+}
+
+// The number that a point read finds of a run alone, whose second table is damaged.
+fn found_alone(alloc: Global, key: &[u8]) -> Found {
+    let range = owned_range(alloc, ALL)?;
+    let run = unshared(alloc, &damaged_run_of(alloc, THREE_TABLES, 1)?)?;
+    let (found, stream) = read_run(alloc, run, key, 1, range)?;
+    drop(stream);
+    Ok(found.map(|item| item.key.seqno))
+}
+
+#[test]
+fn a_run_of_a_damaged_table_is_read_beside_it(rt: HostRuntime) {
+    assert!(rt; found_alone(rt.alloc(), b"b") == Ok(Some(0)));
+    assert!(rt; found_alone(rt.alloc(), b"c") == DAMAGED);
+}

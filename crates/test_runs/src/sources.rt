@@ -1,0 +1,69 @@
+//! Ranges of two runs and a table in memory, below a number.
+ghost use Rattle.std.specs.Iterator.{IsFinite};
+
+use lsm_tables::range_sources_at;
+use sst_blocks::{Error, IterItem, SeqNo, ValueType};
+use std::alloc::{Allocator, Global};
+use test_tables::rows::{Row, entry};
+use test_tables::runs::{ALL, Lists, owned_range, runs_of};
+
+const V: ValueType = ValueType::Value;
+
+// The newer run and the older one.
+const RUNS: &[Lists] = &[
+    &[&[
+        (b"a", 9, V, b""),
+        (b"a", 7, V, b""),
+        (b"b", 3, ValueType::Tombstone, b""),
+    ]],
+    &[&[(b"a", 2, V, b""), (b"c", 5, V, b"")]],
+];
+
+// What the table in memory has.
+const MEMORY: &[Row<'static>] = &[(b"a", 11, V, b""), (b"c", 6, V, b"")];
+
+// The entries of a stream, from the front on: each with its key of one byte, by its place in the
+// alphabet, and its number, as three digits.
+fn codes<I: Iterator<Item = IterItem<A>> + Drop, A: Allocator>(items: I) -> Result<u64, Error>
+    requires can { I.can_next items }
+    requires finite { IsFinite (I.remaining items) }
+{
+    let mut all = 0u64;
+    for item in items {
+        let item = item?;
+        let letter = match item.key.user_key.as_slice() {
+            [byte] => u64::from(byte.saturating_sub(96)),
+            _ => 0,
+        };
+        let code = (letter * 100).saturating_add(item.key.seqno);
+        all = all.saturating_mul(1000).saturating_add(code);
+    }
+    Ok(all)
+}
+
+// The entries of the table in memory, as a source gives them.
+fn in_memory(alloc: Global) -> Result<Vec<IterItem<Global>, Global>, Error> {
+    let mut items = Vec::new(alloc);
+    for row in MEMORY {
+        items.push(Ok(entry(alloc, row)?))?;
+    }
+    Ok(items)
+}
+
+// What both runs and the table in memory have below a number.
+fn together(alloc: Global, seqno: SeqNo) -> Result<u64, Error> {
+    let runs = runs_of(alloc, RUNS)?;
+    let mut sources = Vec::new(alloc);
+    sources.push(in_memory(alloc)?.into_iter())?;
+    let range = owned_range(alloc, ALL)?;
+    let stream = range_sources_at(alloc, &runs, sources, range, seqno)?;
+    codes(stream)
+}
+
+#[test]
+fn a_table_in_memory_is_merged_into_a_range(rt: HostRuntime) {
+    for (seqno, wanted) in [(6, 102_203_305), (7, 102_203_306), (12, 111_203_306)] {
+        let found = together(rt.alloc(), seqno);
+        assert!(rt; found.is_ok_and(|codes| codes == wanted));
+    }
+}

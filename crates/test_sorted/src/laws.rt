@@ -1,0 +1,79 @@
+//! What the public laws say together of sources that are taken from the front alone, whatever
+//! errors are among them.
+ghost use Rattle.std.specs.Prelude.{◌≡◌, Bool, List, [], IfOk};
+ghost use Rattle.sst_entries.specs.Stream.{Deals, nowhere, answer_stops, ok_results};
+ghost use Rattle.sst_entries.specs.declared.error.Error.{Error};
+ghost use Rattle.lsm_merge.specs.Ends.{R};
+ghost use Rattle.lsm_merge.specs.Union.{all_errors, union_of};
+ghost use Rattle.lsm_merge.specs.MergeLaws.{CanMerge, DealSorted, every_error};
+ghost use Rattle.lsm_sorted.specs.Compaction.{kept, unfiltered};
+ghost use Rattle.lsm_sorted.specs.CompactionState.{rules_of};
+ghost use Rattle.lsm_sorted.specs.Gap.{GivesUpToGap};
+
+use lsm_sorted::compaction::stream::{CompactionStream, NoCallback, NoFilter};
+use lsm_sorted::{Merger, from_both_ends, up_to_gap};
+use sst_entries::{Error, IterItem, SeqNo, from_the_front};
+use std::alloc::{Allocator, Global};
+use std::vec::IntoIter;
+
+// What readers at the threshold need of several sources. The proof cites clauses of the calls
+// alone.
+fn compaction_of<I: Iterator<Item = IterItem<A>>, A: Allocator + Clone>(
+    alloc: A,
+    iterators: Vec<I, A>,
+    threshold: SeqNo,
+) -> Result<CompactionStream<Merger<I, A>, NoFilter, NoCallback>, Error>
+    ensures kept { IfOk result (λ s. (stops : Error → Bool) (lists : List (List R)) →
+        DealSorted I.next_gives nowhere stops iterators.items lists →
+        all_errors lists ≡ [] →
+        Deals (answer_stops stops)
+        ⟦<CompactionStream<Merger<I, A>, NoFilter, NoCallback> as Iterator>⟧.next_gives nowhere s
+        (ok_results (kept (rules_of s) (unfiltered (union_of lists))))) }
+    // With errors among it: of the entries up to the first error that is met, and this error.
+    ensures past { IfOk result (λ s.
+        GivesUpToGap I.next_gives nowhere iterators.items (rules_of s)
+        ⟦<CompactionStream<Merger<I, A>, NoFilter, NoCallback> as Iterator>⟧.next_gives s) }
+{
+    let merger = Merger::new(alloc, iterators)?;
+    up_to_gap(&merger);
+    let stream = CompactionStream::new(merger, threshold);
+    stream.unfiltered_run();
+    Ok(stream)
+}
+
+// A merger of sources of two ends that is taken from the front alone: as long as no answer is an
+// error it deals what they have together. The proof cites clauses of the calls alone.
+fn merged_from_the_front<I: DoubleEndedIterator<Item = IterItem<A>>, A: Allocator + Clone>(
+    alloc: A,
+    iterators: Vec<I, A>,
+) -> Result<Merger<I, A>, Error>
+    ensures deals { IfOk result (λ m. (stops : Error → Bool) (lists : List (List R)) →
+        DealSorted I.next_gives I.next_back_gives stops iterators.items lists →
+        Deals (answer_stops every_error) ⟦<Merger<I, A> as Iterator>⟧.next_gives nowhere m
+        (ok_results (union_of lists))) }
+    ensures can { IfOk result (λ m.
+        CanMerge I.next_gives nowhere I.can_next I.can_next I.remaining iterators.items
+        ⟦<Merger<I, A> as Iterator>⟧.next_gives nowhere ⟦<Merger<I, A> as Iterator>⟧.can_next
+        ⟦<Merger<I, A> as Iterator>⟧.can_next m) }
+{
+    let merger = Merger::new(alloc, iterators)?;
+    from_both_ends(&merger);
+    from_the_front(&merger);
+    Ok(merger)
+}
+
+// Whether a value is made, of which nothing more is asked.
+fn is_made<T: Drop>(made: Result<T, Error>) -> bool {
+    made.is_ok()
+}
+
+// Whether no sources are merged from the front, and compacted.
+fn compose(alloc: Global) -> bool {
+    is_made(compaction_of(alloc, Vec::<IntoIter<IterItem>>::new(alloc), 5))
+        && is_made(merged_from_the_front(alloc, Vec::<IntoIter<IterItem>>::new(alloc)))
+}
+
+#[test]
+fn no_sources_may_be_merged_and_compacted_from_the_front(rt: HostRuntime) {
+    assert!(rt; compose(rt.alloc()));
+}

@@ -1,0 +1,96 @@
+//! Walks: over entries and over the handles of the index, from both ends, and block by block.
+use crate::digest::Digest;
+use lsm_block_indexes::{BlockIndexIter, BlockIndexIterImpl};
+use lsm_iters::Iter;
+use lsm_readers::Scanner;
+use sst_blocks::{Error, Opened};
+use std::alloc::Allocator;
+
+/// What is walked. What does so is generic in it, so that none of its parts is looked at.
+pub trait Walk {
+    /// Takes what a step from an end answers. Tells whether there was something left, and which
+    /// blocks were loaded so far.
+    fn put_step(&mut self, digest: &mut Digest, is_back: bool) -> (bool, Opened);
+}
+
+impl<A: Allocator + Copy> Walk for Iter<A> {
+    fn put_step(&mut self, digest: &mut Digest, is_back: bool) -> (bool, Opened) {
+        let step = if is_back {
+            self.next_back()
+        } else {
+            self.next()
+        };
+        (digest.put_step(&step), self.opened())
+    }
+}
+
+impl<A: Allocator + Copy> Walk for BlockIndexIterImpl<A> {
+    fn put_step(&mut self, digest: &mut Digest, is_back: bool) -> (bool, Opened) {
+        let step = if is_back {
+            self.next_back()
+        } else {
+            self.next()
+        };
+        (digest.put_handle(&step), self.opened())
+    }
+}
+
+// A scan has one end alone.
+impl<A: Allocator + Copy> Walk for Scanner<A> {
+    fn put_step(&mut self, digest: &mut Digest, _: bool) -> (bool, Opened) {
+        (digest.put_step(&self.next()), self.opened())
+    }
+}
+
+/// From which ends each two steps are made, `true` for the back.
+pub const FRONTS: [bool; 2] = [false, false];
+
+pub const BACKS: [bool; 2] = [true, true];
+
+pub const IN_TURN: [bool; 2] = [false, true];
+
+/// More steps than a table here has entries.
+pub const ALL: usize = 1_000;
+
+/// What a walk answers, up to its end or to some number of steps.
+pub fn put_steps<W: Walk + Drop>(
+    digest: &mut Digest,
+    made: Result<W, Error>,
+    ends: [bool; 2],
+    steps: usize,
+) -> Result<(), Error> {
+    let mut walk = made?;
+    for step in 0..steps {
+        if !walk.put_step(digest, ends[step % 2]).0 {
+            break;
+        }
+    }
+    Ok(())
+}
+
+/// How often nothing is answered before a walk is left: at its end, and twice more from each.
+const NOTHING: u64 = 5;
+
+// What a walk answers and has loaded by each step, to its end and behind it.
+fn put_to_end<W: Walk>(digest: &mut Digest, walk: &mut W, ends: [bool; 2]) {
+    let mut nothing = 0u64;
+    for step in 0..ALL {
+        let ends = if nothing == 0 { ends } else { IN_TURN };
+        let (is_some, opened) = walk.put_step(digest, ends[step % 2]);
+        digest.put_loads(&opened);
+        if !is_some {
+            nothing = nothing.saturating_add(1);
+        }
+        if nothing == NOTHING {
+            break;
+        }
+    }
+}
+
+/// What a walk answers and has loaded by each step, to its end and behind it; or why there is none.
+pub fn put_walk<W: Walk + Drop>(digest: &mut Digest, made: Result<W, Error>, ends: [bool; 2]) {
+    match made {
+        Ok(mut walk) => put_to_end(digest, &mut walk, ends),
+        Err(error) => digest.put_error(&error),
+    }
+}
