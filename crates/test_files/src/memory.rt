@@ -142,6 +142,8 @@ impl Place for Memory {
 
     ghost content = { λ _ _. None };
 
+    ghost modes = { λ _ _. None };
+
     fn read<A: Allocator + Copy>(&self, alloc: A, path: &str) -> Result<Slice<A>, FileFault> {
         match self.bytes_of(path) {
             Some(bytes) => Ok(Slice::from(alloc, bytes)?),

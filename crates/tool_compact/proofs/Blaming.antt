@@ -64,4 +64,4 @@ found_by there (Refused error) (inr system) = absurd system
 pub found_memory : (there : Option Bool) (e : FileFault) → TellsFound Taken there e
     → is_memory_fault e ≡ false
 found_memory there e (inl taken) = found_by there e (inl taken.0)
-found_memory there e (inr system) = found_by there e (inr system)
+found_memory there e (inr system) = found_by there e (inr system.0)

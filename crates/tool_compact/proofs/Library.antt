@@ -1,7 +1,7 @@
 -- Which refusal of the library's is told.
 use denote.Ref.{Bor}
 use Rattle.std.proofs.Common.{◌≡◌, sym, ◌∙◌, ap, subst, ℕ, zero, suc, ◌+◌, ◌^◌, ◌<◌, List}
-use Rattle.std.proofs.Common.{[], ◌∷◌, ◌⊎◌, inl, inr, arith, false, length, true≢false}
+use Rattle.std.proofs.Common.{[], ◌∷◌, inl, inr, arith, false, length}
 use Rattle.std.specs.Prelude.{Option, Some, None}
 use Rattle.std.specs.List.{AllByRecursion, slice_get}
 use Rattle.std.proofs.lemmas.List.{length-map}
@@ -22,7 +22,7 @@ use Rattle.lsm_compactions.specs.declared.any_runs.CompactionOutcome.TheVariants
 use Rattle.tool_compact.specs.declared.compact_error.CompactError.{CompactError}
 use Rattle.tool_compact.specs.declared.compact_error.CompactError.TheVariants as error
 use Rattle.tool_compact.specs.declared.compact_options.CompactOptions.{CompactOptions}
-use Rattle.tool_compact.specs.Blamed.{IsBlame, KeepsRefusal, NamesBlame}
+use Rattle.tool_compact.specs.Blamed.{BlamesNoneForMemory, IsBlame, KeepsRefusal, NamesBlame}
 use Rattle.tool_compact.specs.Compacted.{HasNoTables, TellsLibrary, compactor_by}
 use Rattle.tool_compact.specs.Compacted.{each_alone}
 use Rattle.tool_compact.specs.Printed.{path_or_mark}
@@ -75,22 +75,15 @@ no_blame paths tables e one able =
 -- ---- what is told
 
 -- the first fault, memory aside
-told_by : (told : Option Error) (fault f : Error) → (f ≡ fault) ⊎ (f ≡ OutOfMemory)
+told_by : (told : Option Error) (fault f : Error) → f ≡ fault
     → (is_memory fault ≡ false → told ≡ Some fault) → is_memory f ≡ false → told ≡ Some f
-told_by told fault f (inl same) refused other =
+told_by told fault f same refused other =
     refused (ap is_memory (sym same) ∙ other) ∙ ap (λ (g : Error). Some g) (sym same)
-told_by told fault f (inr memory) refused other =
-    absurd (true≢false (sym (ap is_memory memory) ∙ other))
-
--- want of memory alone
-taken_by : (fault f : Error) → (f ≡ fault) ⊎ (f ≡ OutOfMemory) → fault ≡ OutOfMemory
-    → f ≡ OutOfMemory
-taken_by fault f (inl same) memory = same ∙ memory
-taken_by fault f (inr other) memory = other
 
 -- a refusal
 pub refused_so : (o : CompactOptions) (paths : List (Bor (List ℕ))) (opened : List OpenTable)
     (fault : Error) (e : CompactError) → KeepsRefusal fault e → IsBlame paths opened e
+    → (fault ≡ OutOfMemory → e ≡ error.Refused OutOfMemory) → BlamesNoneForMemory e
     → (AreCompactable (each_alone opened) → (lists : List (List (List Entry)))
     → RunsHoldLists (each_alone opened) lists → is_memory fault ≡ false
     → run_with_fault (compactor_by o) (kept_in o.rules lists) 0 ≡ Some fault)
@@ -98,26 +91,31 @@ pub refused_so : (o : CompactOptions) (paths : List (Bor (List ℕ))) (opened : 
     → RunsHoldLists (each_alone opened) lists → FitsBy (compactor_by o) (kept_in o.rules lists)
     → highest_seqno (kept_in o.rules lists) + 0 < 2 ^ 64 → fault ≡ OutOfMemory)
     → TellsLibrary o opened e
-refused_so o paths opened fault (error.Refused f) kept blame refused taken =
+refused_so o paths opened fault (error.Refused f) kept blame memory other refused taken =
     λ able lists hold. record {
       told = told_by (run_with_fault (compactor_by o) (kept_in o.rules lists) 0) fault f kept
           (refused able lists hold);
-      taken = λ fits low.
-          ap (λ (g : Error). error.Refused g)
-          (taken_by fault f kept (taken able lists hold fits low));
+      taken = λ fits low. memory (taken able lists hold fits low);
     }
-refused_so o paths opened fault (error.File e) kept (inl none) refused taken = absurd none
-refused_so o paths opened fault (error.File e) kept (inr one) refused taken =
-    λ able lists hold. absurd (no_blame paths opened (error.File e)
+refused_so o paths opened fault (error.Unplaced f) kept blame memory other refused taken =
+    λ able lists hold. record {
+      told = told_by (run_with_fault (compactor_by o) (kept_in o.rules lists) 0) fault f kept
+          (refused able lists hold) other;
+      taken = λ fits low. memory (taken able lists hold fits low);
+    }
+refused_so o paths opened fault (error.Unreadable name at e) kept (inl none) memory other refused
+    taken = absurd none
+refused_so o paths opened fault (error.Unreadable name at e) kept (inr one) memory other refused
+    taken =
+    λ able lists hold. absurd (no_blame paths opened (error.Unreadable name at e)
     (one.0, one.1, one.2, one.3, one.4) able)
-refused_so o paths opened fault (error.Block name place e) kept (inl none) refused taken =
-    absurd none
-refused_so o paths opened fault (error.Block name place e) kept (inr one) refused taken =
-    λ able lists hold. absurd (no_blame paths opened (error.Block name place e)
-    (one.0, one.1, one.2, one.3, one.4) able)
-refused_so o paths opened fault (error.OutOfOrder path) kept blame refused taken = absurd kept
-refused_so o paths opened fault error.Repeated kept blame refused taken = absurd kept
-refused_so o paths opened fault (error.Range name) kept blame refused taken = absurd kept
+refused_so o paths opened fault (error.File e) kept blame memory other refused taken = absurd kept
+refused_so o paths opened fault (error.OutOfOrder path) kept blame memory other refused taken =
+    absurd kept
+refused_so o paths opened fault error.Repeated kept blame memory other refused taken = absurd kept
+refused_so o paths opened fault error.Unordered kept blame memory other refused taken = absurd kept
+refused_so o paths opened fault (error.Range name) kept blame memory other refused taken =
+    absurd kept
 
 -- entries that come out of order
 pub none_so : {A : Type 0} (o : CompactOptions) (opened : List OpenTable)

@@ -1,7 +1,8 @@
 -- Entries that are read one after another.
 use Rattle.std.proofs.Common.{◌≡◌, refl, sym, ◌∙◌, ap, subst, ℕ, ◌+◌, Bool, true, false, List, []}
 use Rattle.std.proofs.Common.{◌∷◌, ◌<◌, inl, inr, arith, length, true≢false}
-use Rattle.std.specs.Prelude.{◌≢◌, ◌&&◌, IfOk, IfSome, OnOk, Option, Some, None, Result, Ok, Err}
+use Rattle.std.specs.Prelude.{◌≢◌, ◌&&◌, IfOk, IfSome, IsOk, OnOk, Option, Some, None, Result, Ok}
+use Rattle.std.specs.Prelude.{Err, is_ok}
 use Rattle.std.specs.List.{AllByRecursion}
 use Rattle.std.proofs.lemmas.Bool.{cases_Bool}
 use Rattle.sst_sections.specs.Sections.{body_of}
@@ -21,7 +22,8 @@ use Rattle.lsm_readers.specs.Answer.{lift}
 use Rattle.lsm_readers.specs.Stored.{StoresList}
 use Rattle.lsm_readers.specs.Table.{OpenTable}
 use Rattle.lsm_readers.proofs.Scans.{fault_left}
-use Rattle.lsm_runs.specs.RunScan.{scan_fault, table_scan}
+use Rattle.lsm_readers.proofs.VerifyEarly.{position_want}
+use Rattle.lsm_runs.specs.RunScan.{early_scan_fault, scan_fault, table_scan}
 use Rattle.lsm_compactions.specs.AnyRuns.{DealsResults}
 use Rattle.tool_compact.specs.Scanned.{IsFirstRefusal, StoresNoEntries, StoresNone, come_in_order}
 
@@ -216,6 +218,36 @@ pub stored_strict : (bytes : List ℕ) (es : List Entry) (g : ℕ) → StoresLis
     → IsStrict (lift es g)
 stored_strict bytes es g h =
     from_pairs (lift es g) (lift_strict es g (as_pairs es h.strict))
+
+-- ---- what is found before memory is taken
+
+-- a first block that is refused then is no want of memory
+early_want : (t : OpenTable) (e : Error) → early_scan_fault t ≡ Some e → is_memory e ≡ false
+early_want t e h = position_want (body_of t.bytes) 0 _ e h
+
+-- nor is the refusal that is told for it
+pub early_fine : (t : OpenTable) (e f : Error) → early_scan_fault t ≡ Some e → Some e ≡ Some f
+    → is_memory f ≡ false
+early_fine t e f h told = ap is_memory (sym (same_some e f told)) ∙ early_want t e h
+
+none_early : (o : Option Error) → ((e : Error) → o ≡ Some e → ⊥) → o ≡ None
+none_early None h = refl
+none_early (Some e) h = absurd (h e refl)
+
+-- so where memory is wanted no fault was found before
+pub unread_early : (t : OpenTable) (told : Option Error)
+    → ((e : Error) → early_scan_fault t ≡ Some e → told ≡ Some e) → told ≡ Some OutOfMemory
+    → early_scan_fault t ≡ None
+unread_early t told early is = none_early (early_scan_fault t) (λ e h.
+    let memory : OutOfMemory ≡ e = same_some OutOfMemory e (sym is ∙ early e h) in
+    true≢false (ap is_memory memory ∙ early_want t e h))
+
+pub unordered_early : (t : OpenTable) (told : Result Bool Error) (f : Error)
+    → ((e : Error) → early_scan_fault t ≡ Some e → IsOk told) → told ≡ Err f
+    → early_scan_fault t ≡ None
+unordered_early t told f early is = none_early (early_scan_fault t) (λ e h.
+    let ok : is_ok told ≡ true = early e h in
+    true≢false (sym ok ∙ ap is_ok is))
 
 -- ---- what stores no list
 

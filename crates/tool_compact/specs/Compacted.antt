@@ -60,6 +60,7 @@ HasNoTables _ = Unit {0}
 abbrev pub IfOutOfOrder : CompactError → Type 0 → Type 0
 IfOutOfOrder (error.OutOfOrder path) P = P
 IfOutOfOrder error.Repeated P = P
+IfOutOfOrder error.Unordered P = P
 IfOutOfOrder _ P = Unit {0}
 
 -- where tables of lists are said to have entries out of order, one of what is kept of all together
@@ -72,6 +73,7 @@ TellsOrder o opened e = (lists : List (List (List Entry))) → RunsHoldLists (ea
 -- memory aside, an error is this refusal of the library, and names no file
 abbrev pub IsRefusalWith : Option Error → CompactError → Type 0
 IsRefusalWith told (error.Refused f) = is_memory f ≡ false → told ≡ Some f
+IsRefusalWith told (error.Unplaced f) = told ≡ Some f
 IsRefusalWith told e = ⊥
 
 -- memory aside, an error is the first fault of writing a list and opening its tables; where they

@@ -9,7 +9,7 @@ use Rattle.sst_entries.specs.Strict.{is_strict_after}
 use Rattle.sst_entries.specs.declared.error.Error.{Error}
 use Rattle.lsm_merge.specs.Ends.{R}
 use Rattle.lsm_merge.specs.Union.{entries_among, errors_among}
-use Rattle.lsm_runs.specs.RunScan.{table_scan}
+use Rattle.lsm_runs.specs.RunScan.{early_scan_fault, table_scan}
 use Rattle.tool_compact.specs.declared.compact_error.CompactError.{CompactError}
 use Rattle.tool_compact.specs.declared.compact_error.CompactError.TheVariants as error
 use Rattle.tool_compact.specs.Printed.{path_or_mark}
@@ -32,6 +32,12 @@ IsFirstRefusal rs (Some e) = is_memory e ≡ false → first (errors_among rs) �
 abbrev pub ReadsWhole : OpenTable → Type 0
 ReadsWhole t = errors_among (table_scan t) ≡ []
 
+-- tables are so up to one of which that was not found out for want of memory: its first block has
+-- no fault that is found before memory is taken
+abbrev pub AreSoUpTo : (OpenTable → Type 0) → List OpenTable → Type 0
+AreSoUpTo IsSo tables = (place : ℕ) × (t : OpenTable) × (slice_get tables place ≡ Some t)
+    × (early_scan_fault t ≡ None) × AllByRecursion IsSo (take place tables)
+
 -- whether results come in order, up to the first refusal
 abbrev pub come_in_order : List R → Bool
 come_in_order rs = is_strict_after None (entries_among (up_to_error rs))
@@ -41,11 +47,13 @@ abbrev pub ComesInOrder : OpenTable → Type 0
 ComesInOrder t = come_in_order (table_scan t) ≡ true
 
 -- where a file is told to be out of order, it is the first whose entries do not come in order, and
--- the bytes of its table store no list; where none is told, each comes in order
+-- the bytes of its table store no list; where none is told, each comes in order, or as far as there
+-- was memory to find that out
 abbrev pub NamesOrder : List (Bor (List ℕ)) → List OpenTable → CompactError → Type 0
 NamesOrder paths tables (error.OutOfOrder path) = (place : ℕ) × (t : OpenTable)
     × (slice_get tables place ≡ Some t) × (path.now ≡ path_or_mark (slice_get paths place))
     × StoresNone t × (come_in_order (table_scan t) ≡ false)
     × AllByRecursion ComesInOrder (take place tables)
 NamesOrder paths tables error.Repeated = AllByRecursion ComesInOrder tables
+NamesOrder paths tables error.Unordered = AreSoUpTo ComesInOrder tables
 NamesOrder paths tables e = Unit {0}

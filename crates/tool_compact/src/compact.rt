@@ -30,8 +30,8 @@ use logpurple::{
 };
 use std::alloc::Allocator;
 use std::sync::Arc;
-use tool_files::{FileError, FileFault, FileName, Made, Place, open_tables};
-use tool_show::place_of_refusal;
+use tool_files::{Made, Place, open_tables};
+use tool_show::refused_at;
 
 // Runs of tables.
 type Runs<A> = Vec<Arc<Run<Table<A>, A>, A>, A>;
@@ -76,8 +76,9 @@ fn count_entries<A: Allocator>(tables: &[Table<A>]) -> u64
     count
 }
 
-// Which file a refusal comes from, where that is known.
+// Which file a refusal comes from, as far as there is memory to find it.
 fn blame<'a, A: Allocator + Copy>(
+    alloc: A,
     paths: &[&'a str],
     tables: &[Table<A>],
     error: Error,
@@ -99,15 +100,16 @@ fn blame<'a, A: Allocator + Copy>(
         match refusal_of(table) {
             None => {}
             // Which file it is stays unknown.
-            Some(Error::OutOfMemory) => return CompactError::Refused(Error::OutOfMemory),
-            Some(error) => return blame_file(path_at(paths, place), table, error),
+            Some(Error::OutOfMemory) => return CompactError::Unplaced(error),
+            Some(error) => return blame_file(alloc, path_at(paths, place), table, error),
         }
     }
     CompactError::Refused(error)
 }
 
-// A file and its refusal, with the block, if verifying the file finds that first.
+// A file and its refusal, with the block that is refused so.
 fn blame_file<'a, A: Allocator + Copy>(
+    alloc: A,
     path: &'a str,
     table: &Table<A>,
     error: Error,
@@ -117,16 +119,11 @@ fn blame_file<'a, A: Allocator + Copy>(
     ensures order { IfOutOfOrder result ⊥ }
     ensures memory { BlamesNoneForMemory result }
 {
-    match place_of_refusal(table, &error) {
-        Some(place) => CompactError::Block {
-            name: path,
-            place,
-            error,
-        },
-        None => CompactError::File(FileError {
-            name: FileName::Plain(path),
-            fault: FileFault::Refused(error),
-        }),
+    let at = refused_at(alloc, table, &error);
+    CompactError::Unreadable {
+        name: path,
+        at,
+        error,
     }
 }
 
@@ -144,7 +141,7 @@ fn blame_order<'a, A: Allocator + Copy>(paths: &[&'a str], tables: &[Table<A>]) 
             Ok(true) => {}
             Ok(false) => return CompactError::OutOfOrder(path_at(paths, place)),
             // Which file it is stays unknown.
-            Err(error) => return CompactError::Refused(error),
+            Err(_) => return CompactError::Unordered,
         }
     }
     CompactError::Repeated
@@ -229,7 +226,7 @@ fn compact_opened<'a, A: Allocator + Copy>(
 {
     let (outcome, entries) = match compact_tables(alloc, tables, options) {
         Ok(outcome) => outcome,
-        Err(error) => return Err(blame(paths, tables, error)),
+        Err(error) => return Err(blame(alloc, paths, tables, error)),
     };
     match finished(outcome) {
         Some(tables) => Ok(NewTables { tables, entries }),

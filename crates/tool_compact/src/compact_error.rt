@@ -3,45 +3,57 @@ use logpurple::Error;
 use std::alloc::{AllocError, AllocFailed};
 use std::fmt;
 use tool_files::FileError;
-use tool_show::BlockPlace;
+use tool_show::RefusedAt;
 
 /// Why files were not compacted or packed: shown as a sentence.
 #[derive(Debug, Drop)]
 pub enum CompactError<'a> {
-    /// A file could not be read, opened or written, for another reason than want of memory.
+    /// A file could not be opened or written, for another reason than want of memory.
     File(FileError<'a>),
-    /// A block of a file does not load.
-    Block {
+    /// A file that was opened cannot be read to its end.
+    Unreadable {
         /// The name of the file.
         name: &'a str,
-        /// The block, which verifying the file finds first.
-        place: BlockPlace,
-        /// Why it does not load.
+        /// The block that is refused so, as far as it was sought.
+        at: RefusedAt,
+        /// What reading it meets first.
         error: Error,
     },
     /// The entries of a file are out of order.
     OutOfOrder(&'a str),
     /// A key has one number twice in the files.
     Repeated,
+    /// Entries are out of order. Whether those of a file are, or a key has one number twice, was
+    /// not found out for want of memory.
+    Unordered,
     /// The first key of a file is above its last one.
     Range(&'a str),
     /// The library refused, or memory was.
     Refused(Error),
+    /// The library refused, for another reason than want of memory. Which file this comes from was
+    /// not found out for want of memory.
+    Unplaced(Error),
 }
 
 impl<'a> fmt::Display for CompactError<'a> {
     fn fmt<W: fmt::Write>(&self, f: &mut fmt::Formatter<W>) -> fmt::Result {
         match self {
             CompactError::File(error) => write!(f, "{error}"),
-            CompactError::Block { name, place, error } => {
+            CompactError::Unreadable { name, at, error } => {
                 let number = error.number();
-                write!(f, "{name}: {place}: {error} ({number})")
+                match at {
+                    RefusedAt::Block(place) => write!(f, "{name}: {place}: {error} ({number})"),
+                    RefusedAt::NoBlock | RefusedAt::NotSought => {
+                        write!(f, "{name}: {error} ({number})")
+                    }
+                }
             }
             CompactError::OutOfOrder(path) => write!(f, "{path}: entries out of order"),
             CompactError::Repeated => write!(f, "a key has one number twice in these files"),
+            CompactError::Unordered => write!(f, "entries out of order"),
             CompactError::Range(path) => write!(f, "{path}: the first key is above the last"),
             CompactError::Refused(Error::OutOfMemory) => write!(f, "out of memory"),
-            CompactError::Refused(error) => {
+            CompactError::Refused(error) | CompactError::Unplaced(error) => {
                 let number = error.number();
                 write!(f, "{error} ({number})")
             }

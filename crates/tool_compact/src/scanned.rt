@@ -1,9 +1,11 @@
 //! Tables that are read whole, to find which is at fault.
-ghost use Rattle.std.specs.Prelude.{◌≡◌, ◌<◌, IfErr, IfOk, IfSome, List, OnOk, false, length, true};
+ghost use Rattle.std.specs.Prelude.{◌≡◌, ◌<◌, IfErr, IfOk, IfSome, IsOk, List, OnOk, Some, false};
+ghost use Rattle.std.specs.Prelude.{length, true};
 ghost use Rattle.std.specs.Iterator.{IsFinite};
 ghost use Rattle.lsm_compactions.specs.AnyRuns.{DealsResults};
 ghost use Rattle.lsm_merge.specs.Ends.{R};
-ghost use Rattle.lsm_runs.specs.RunScan.{table_scan};
+ghost use Rattle.lsm_runs.specs.RunScan.{early_scan_fault, table_scan};
+ghost use Rattle.sst_entries.specs.declared.error.Error.{Error as Refusal};
 ghost use Rattle.logpurple.specs.Words.{Entry, OutOfMemory, StoresList, is_memory};
 ghost use Rattle.tool_compact.specs.Scanned.{IsFirstRefusal, come_in_order};
 
@@ -32,6 +34,7 @@ fn ended_by(error: Error) -> Result<bool, Error>
     ensures fault { OnOk result (is_memory error ≡ false) }
     ensures order { IfOk result (λ b. b ≡ true) }
     ensures memory { IfErr result (λ e. e ≡ OutOfMemory) }
+    ensures known { is_memory error ≡ false → IsOk result }
 {
     if error == Error::OutOfMemory {
         return Err(error);
@@ -71,6 +74,8 @@ pub(crate) fn refusal_of<A: Allocator + Copy>(table: &Table<A>) -> Option<Error>
     // Where its bytes store a list that has an entry, there is none but want of memory.
     ensures list { (es : List Entry) → StoresList table.now.bytes es → 0 < length es →
         IfSome result (λ e. e ≡ OutOfMemory) }
+    // What is found before memory is taken is told whatever memory there is.
+    ensures early { (e : Refusal) → early_scan_fault table.now ≡ Some e → result ≡ Some e }
 {
     match table.scan() {
         Ok(items) => first_refusal(items),
@@ -86,6 +91,8 @@ pub(crate) fn has_order<A: Allocator + Copy>(table: &Table<A>) -> Result<bool, E
     ensures list { (es : List Entry) → StoresList table.now.bytes es →
         IfOk result (λ b. b ≡ true) }
     ensures memory { IfErr result (λ e. e ≡ OutOfMemory) }
+    // Where a fault of the first block is found before memory is taken, none is wanted.
+    ensures early { (e : Refusal) → early_scan_fault table.now ≡ Some e → IsOk result }
 {
     match table.scan() {
         Ok(items) => is_in_order(items),

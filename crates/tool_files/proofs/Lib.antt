@@ -1,4 +1,6 @@
 pub mod FilesMore
+pub mod Modes
 pub mod NewFolders
 pub mod Opened
 pub mod Steps
+pub mod There

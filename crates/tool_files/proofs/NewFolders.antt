@@ -1,9 +1,9 @@
 -- New folders: what was written in them, and where it ends up.
 use Rattle.std.proofs.Common.{◌≡◌, refl, sym, ◌∙◌, ap, subst, ℕ, suc, ◌+◌, ◌-◌, ◌<◌, List, [], ◌∷◌}
 use Rattle.std.proofs.Common.{◌++◌, append-nil, append_assoc, arith, drop, get_or, inl, inr, length}
-use Rattle.std.proofs.Common.{take}
+use Rattle.std.proofs.Common.{length-append, take}
 use Rattle.std.specs.Prelude.{◌≢◌, IfErr, IfSome, OnOk, Option, None, Some, Result, Ok, Err, codes}
-use Rattle.std.specs.Prelude.{Bool, if◌then◌else◌, map}
+use Rattle.std.specs.Prelude.{Bool, false, if◌then◌else◌, map}
 use Rattle.std.specs.Fmt.{decimal}
 use Rattle.std.specs.List.{AllByRecursion}
 use Rattle.std.specs.Path.{slash}
@@ -13,18 +13,25 @@ use Rattle.std.proofs.lemmas.List.{append_cancel_left, drop_all, length-map, len
 use Rattle.std.proofs.lemmas.List.{take-append-drop, take-map, take_all, take_more}
 use Rattle.std.proofs.lemmas.Str.Pattern.{drop_at_char}
 use Rattle.tool_files.specs.declared.file_error.FileError.{FileError}
+use Rattle.tool_files.specs.declared.file_error.FileFault.{FileFault}
+use Rattle.tool_files.specs.declared.file_error.FileFault.TheVariants.{AfterOthers, CutShort, Folder}
+use Rattle.tool_files.specs.declared.file_error.FileFault.TheVariants.{Io, Left, NamesTaken, NotPlain}
+use Rattle.tool_files.specs.declared.file_error.FileFault.TheVariants.{NotSynced, Refused, Taken}
 use Rattle.tool_files.specs.Ended.{behind_front, files_left, moved_by, path_behind, path_moved}
 use Rattle.tool_files.specs.Files.{path_text}
 use Rattle.tool_files.specs.NewFolders.{IsBesideFolder, IsEmptied, IsFolderGivenUp, IsFolderNotPlaced}
 use Rattle.tool_files.specs.NewFolders.{IsFolderPlaced, IsNamingFault, IsNotFilled, IsStemOf}
-use Rattle.tool_files.specs.NewFolders.{LiesWithin, IsWritingFault, LiesElsewhere, MaySyncNames}
+use Rattle.tool_files.specs.NewFolders.{IsMakingFault, IsWritingFault, LiesWithin, MaySyncNames}
+use Rattle.tool_files.specs.NewFolders.{TellsNameTaken, TellsStemTaken, TellsTaken}
 use Rattle.tool_files.specs.NewFolders.{StopsWithin, TellsGivenUp, giving_up, naming_folder}
 use Rattle.tool_files.specs.NewFolders.{numbered_within, path_within}
 use Rattle.tool_files.specs.NewFolders.{removing_folder, writing_files}
 use Rattle.tool_files.specs.Numbered.{numbered_files}
+use Rattle.tool_files.specs.Placed.{IsNotSynced, TellsFound}
 use Rattle.tool_files.specs.Steps.{Step, then_done}
 use Rattle.tool_files.specs.Steps.Step.{MadeFolder, Removed, RemovedFolder, Synced}
 use Rattle.tool_files.specs.Steps.Step.{Wrote}
+use Rattle.tool_files.specs.There.{LiesElsewhere, SameButBehind, SameElsewhere}
 use Rattle.tool_files.proofs.FilesMore.{files_behind}
 use Rattle.tool_files.proofs.Steps.{then_more}
 
@@ -93,7 +100,7 @@ module _ {X : Type 0} (bytes_of : X → List ℕ) where
       → number ≡ 1 + i → bytes ≡ bytes_of t
       → LiesWithin (numbered_within folder (map bytes_of (take i tables))) old known now
       → new ≡ old ++ path_within folder number ∷ []
-      → after ≡ then_done now (Wrote (path_within folder number) bytes ∷ [])
+      → after ≡ then_done now (Wrote (path_within folder number) bytes None ∷ [])
       → LiesWithin (numbered_within folder (map bytes_of (take (i + 1) tables))) new known after
   wrote_within folder tables i t number bytes old new known now after less here counted held
       so_far added done =
@@ -106,12 +113,14 @@ module _ {X : Type 0} (bytes_of : X → List ℕ) where
             ∙ ap (λ (n : ℕ). map (λ f. f.0) files ++ path_within folder n ∷ []) counted
             ∙ sym (map-append (λ f. f.0) files (one ∷ []))
             ∙ ap (map (λ f. f.0)) (sym more),
-        done ∙ ap (λ (n : ℕ). then_done now (Wrote (path_within folder n) bytes ∷ [])) counted
-            ∙ ap (λ (b : List ℕ). then_done now (Wrote (path_within folder (1 + i)) b ∷ [])) held
-            ∙ ap (λ (k : Option (List Step)). then_done k (Wrote one.0 one.1 ∷ [])) so_far.1
-            ∙ then_more known (writing_files files) (Wrote one.0 one.1 ∷ [])
+        done ∙ ap (λ (n : ℕ). then_done now (Wrote (path_within folder n) bytes None ∷ [])) counted
+            ∙ ap (λ (b : List ℕ). then_done now (Wrote (path_within folder (1 + i)) b None ∷ []))
+            held
+            ∙ ap (λ (k : Option (List Step)). then_done k (Wrote one.0 one.1 None ∷ [])) so_far.1
+            ∙ then_more known (writing_files files) (Wrote one.0 one.1 None ∷ [])
             ∙ ap (then_done known)
-            (sym (map-append (λ f. Wrote f.0 f.1) files (one ∷ [])) ∙ ap writing_files (sym more)),
+            (sym (map-append (λ f. Wrote f.0 f.1 None) files (one ∷ []))
+            ∙ ap writing_files (sym more)),
       )
 
   -- one that was not written
@@ -427,3 +436,187 @@ refused_folder (Ok r) folder text beside all known one new same named made h = t
 refused_folder (Err e) folder text beside all known one new same named made h =
     not_filled folder beside all known one new e named made
     (subst (λ (t : List ℕ). IsNotFilled folder t all one e new) same h)
+
+-- ---- the folder's name, while it is filled
+
+-- a folder's name does not begin with one beside it
+apart_beside : (folder beside : List ℕ) → IsBesideFolder folder beside → (rest : List ℕ)
+    → folder ≢ beside ++ rest
+apart_beside folder beside named rest same =
+    let stem : List ℕ = named.0 in
+    let slashes : List ℕ = named.1.0 in
+    let kept : folder ≡ stem ++ slashes = named.1.1 in
+    let are : AllByRecursion (λ c. c ≡ slash) slashes = named.1.2 in
+    let mark : List ℕ = decimal named.2.0 ++ codes ".tmp" in
+    let split : beside ++ rest ≡ stem ++ (codes "." ++ (mark ++ rest)) =
+    ap (λ (l : List ℕ). l ++ rest) named.2.1
+    ∙ append_assoc stem (codes "." ++ mark) rest
+    ∙ ap (λ (l : List ℕ). stem ++ l) (append_assoc (codes ".") mark rest) in
+    dot_no_slash slashes (mark ++ rest) are
+    (append_cancel_left stem (codes "." ++ (mark ++ rest)) slashes (sym split ∙ sym same ∙ kept))
+
+-- so it is as free as before where the folder beside it is made, and where files are made in that
+pub name_made : (folder beside : List ℕ) (old new : List ℕ → Option Bool)
+    → IsBesideFolder folder beside → SameElsewhere beside old new → new folder ≡ old folder
+name_made folder beside old new named same =
+    same folder (
+      λ e. apart_beside folder beside named [] (e ∙ sym (append-nil beside)),
+      λ rest. apart_beside folder beside named (codes "/" ++ rest),
+    )
+
+pub name_filled : (folder beside : List ℕ) (old new : List ℕ → Option Bool)
+    → IsBesideFolder folder beside → SameButBehind beside old new → new folder ≡ old folder
+name_filled folder beside old new named same = same folder (apart_beside folder beside named)
+
+-- a file in a folder begins with the folder's name
+pub same_behind : (folder path : List ℕ) (number : ℕ) (old new : List ℕ → Option Bool)
+    → path ≡ path_within folder number → SameElsewhere path old new → SameButBehind folder old new
+same_behind folder path number old new is same other apart =
+    let end : List ℕ = codes "/" ++ (decimal number ++ codes ".sst") in (same other (
+      λ e. apart end (e ∙ is),
+      λ rest e. apart (end ++ (codes "/" ++ rest))
+          (e ∙ ap (λ (l : List ℕ). l ++ (codes "/" ++ rest)) is
+          ∙ append_assoc folder end (codes "/" ++ rest)),
+    ))
+
+pub behind_more : (text : List ℕ) (old mid new : List ℕ → Option Bool)
+    → SameButBehind text old mid → SameButBehind text mid new → SameButBehind text old new
+behind_more text old mid new one two other apart = two other apart ∙ one other apart
+
+-- what was free then was free before
+pub free_before : {R E : Type 0} (told : Result R E) (old new : Option Bool) → new ≡ old
+    → OnOk told (IfSome new (λ b. b ≡ false)) → OnOk told (IfSome old (λ b. b ≡ false))
+free_before {R} {E} told old new same h =
+    subst (λ (k : Option Bool). OnOk told (IfSome k (λ b. b ≡ false))) same h
+
+-- ---- what is told as taken
+
+pub taken_before : {R : Type 0} (told : Result R FileError) (folder : List ℕ)
+    (old new : List ℕ → Option Bool) → new folder ≡ old folder
+    → IfErr told (TellsNameTaken new folder) → IfErr told (TellsNameTaken old folder)
+taken_before (Ok r) folder old new same h = tt
+taken_before (Err e) folder old new same h =
+    λ named. subst (TellsTaken e.fault) same (h named)
+
+-- what was found has the name
+found_taken : (fault : FileFault) (there : Option Bool) → TellsFound Taken there fault
+    → TellsTaken fault there
+found_taken fault there (inl h) =
+    subst (λ (f : FileFault). TellsTaken f there) (sym h.0) h.1
+found_taken Folder there (inr h) = tt
+found_taken Taken there (inr h) = absurd h.0
+found_taken NotPlain there (inr h) = tt
+found_taken Left there (inr h) = tt
+found_taken (CutShort read size) there (inr h) = tt
+found_taken NamesTaken there (inr h) = tt
+found_taken (AfterOthers renamed error) there (inr h) = tt
+found_taken (NotSynced error) there (inr h) = tt
+found_taken (Io error) there (inr h) = tt
+found_taken (Refused error) there (inr h) = tt
+
+pub name_found : {R : Type 0} (told : Result R FileFault) (old new : Option Bool) → new ≡ old
+    → IfErr told (TellsFound Taken new) → IfErr told (λ fault. TellsTaken fault old)
+name_found (Ok r) old new same h = tt
+name_found (Err fault) old new same h =
+    subst (TellsTaken fault) same (found_taken fault new h)
+
+-- a file in the folder has another name
+pub within_taken : (folder : List ℕ) (number : ℕ) (fault : FileFault) (there : Option Bool)
+    → path_within folder number ≡ folder → TellsTaken fault there
+within_taken folder number fault there same =
+    let rest : List ℕ = decimal number ++ codes ".sst" in
+    let end : List ℕ = codes "/" ++ rest in
+    let one : length (codes "/") ≡ 1 = refl in
+    let long : length folder ≡ length (folder ++ end) = ap length (sym same) in
+    absurd (omega (arith, one, long, length-append folder end, length-append (codes "/") rest))
+
+-- none is told where no folder is made, nor where it may not last
+pub making_taken : (fault : FileFault) (there : Option Bool) → IsMakingFault fault
+    → TellsTaken fault there
+making_taken Folder there h = tt
+making_taken Taken there h = absurd h
+making_taken NotPlain there h = tt
+making_taken Left there h = tt
+making_taken (CutShort read size) there h = tt
+making_taken NamesTaken there h = tt
+making_taken (AfterOthers renamed error) there h = tt
+making_taken (NotSynced error) there h = tt
+making_taken (Io error) there h = tt
+making_taken (Refused error) there h = tt
+
+pub synced_taken : (fault : FileFault) (there : Option Bool) → IsNotSynced fault
+    → TellsTaken fault there
+synced_taken Folder there h = tt
+synced_taken Taken there h = absurd h
+synced_taken NotPlain there h = tt
+synced_taken Left there h = tt
+synced_taken (CutShort read size) there h = tt
+synced_taken NamesTaken there h = tt
+synced_taken (AfterOthers renamed error) there h = tt
+synced_taken (NotSynced error) there h = tt
+synced_taken (Io error) there h = tt
+synced_taken (Refused error) there h = tt
+
+-- nor are the names beside it, once it is made
+writing_stem : (there : List ℕ → Option Bool) (folder : List ℕ) (fault : FileFault)
+    → IsWritingFault fault → TellsStemTaken there folder fault
+writing_stem there folder Folder h = tt
+writing_stem there folder Taken h = tt
+writing_stem there folder NotPlain h = tt
+writing_stem there folder Left h = tt
+writing_stem there folder (CutShort read size) h = tt
+writing_stem there folder NamesTaken h = absurd h
+writing_stem there folder (AfterOthers renamed error) h = tt
+writing_stem there folder (NotSynced error) h = tt
+writing_stem there folder (Io error) h = tt
+writing_stem there folder (Refused error) h = tt
+
+naming_stem : (there : List ℕ → Option Bool) (folder : List ℕ) (fault : FileFault)
+    → IsNamingFault fault → TellsStemTaken there folder fault
+naming_stem there folder Folder h = tt
+naming_stem there folder Taken h = tt
+naming_stem there folder NotPlain h = tt
+naming_stem there folder Left h = tt
+naming_stem there folder (CutShort read size) h = tt
+naming_stem there folder NamesTaken h = absurd h
+naming_stem there folder (AfterOthers renamed error) h = tt
+naming_stem there folder (NotSynced error) h = tt
+naming_stem there folder (Io error) h = tt
+naming_stem there folder (Refused error) h = tt
+
+synced_stem : (there : List ℕ → Option Bool) (folder : List ℕ) (fault : FileFault)
+    → IsNotSynced fault → TellsStemTaken there folder fault
+synced_stem there folder Folder h = tt
+synced_stem there folder Taken h = tt
+synced_stem there folder NotPlain h = tt
+synced_stem there folder Left h = tt
+synced_stem there folder (CutShort read size) h = tt
+synced_stem there folder NamesTaken h = absurd h
+synced_stem there folder (AfterOthers renamed error) h = tt
+synced_stem there folder (NotSynced error) h = tt
+synced_stem there folder (Io error) h = tt
+synced_stem there folder (Refused error) h = tt
+
+given_stem : (there : List ℕ → Option Bool) (folder beside : List ℕ) (all : List (List ℕ))
+    (written : ℕ) (synced : List Step) (e : FileError)
+    → TellsGivenUp folder beside all written synced e → TellsStemTaken there folder e.fault
+given_stem there folder beside all written synced e (inl file) =
+    writing_stem there folder e.fault file.2
+given_stem there folder beside all written synced e (inr name) =
+    naming_stem there folder e.fault name.2
+
+filled_stem : (there : List ℕ → Option Bool) (folder beside : List ℕ) (all : List (List ℕ))
+    (known new : Option (List Step)) (e : FileError) → IsNotFilled folder beside all known e new
+    → TellsStemTaken there folder e.fault
+filled_stem there folder beside all known new e (inl gone) =
+    given_stem there folder beside all gone.written gone.synced e gone.told
+filled_stem there folder beside all known new e (inr told) =
+    synced_stem there folder e.fault told.1
+
+pub stem_told : {R : Type 0} (told : Result R FileError) (there : List ℕ → Option Bool)
+    (folder beside : List ℕ) (all : List (List ℕ)) (known new : Option (List Step))
+    → IfErr told (λ e. IsNotFilled folder beside all known e new)
+    → IfErr told (λ e. TellsStemTaken there folder e.fault)
+stem_told (Ok r) there folder beside all known new h = tt
+stem_told (Err e) there folder beside all known new h =
+    filled_stem there folder beside all known new e h

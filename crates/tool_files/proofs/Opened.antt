@@ -1,7 +1,7 @@
 -- Tables that are opened.
 use denote.Ref.{Bor}
 use Rattle.std.proofs.Common.{◌≡◌, sym, ◌∙◌, ap, subst, ℕ, ◌+◌, ◌<◌, List, [], ◌∷◌, ◌++◌}
-use Rattle.std.proofs.Common.{Bool, true, true≢false, get_or, length, take, drop}
+use Rattle.std.proofs.Common.{Bool, true, false, true≢false, get_or, length, refl, take, drop}
 use Rattle.std.specs.Prelude.{IfErr, IfOk, IfSome, Option, Some, None, Result, Ok, Err}
 use Rattle.std.specs.Result.{IsErrAnd}
 use Rattle.std.proofs.lemmas.List.{get_or_default, take_more}
@@ -39,29 +39,30 @@ memory_told pinned (Some bytes) e memory = λ other. absurd (true≢false (sym m
 pub told_memory : (pinned : Bool) (known : Option (List ℕ)) (fault : FileFault)
     → is_memory_fault fault ≡ true → TellsRefused pinned known fault
 told_memory pinned known (Refused e) h = memory_told pinned known e h
-told_memory pinned known Folder h = tt
+told_memory pinned known Folder h = absurd cc
 told_memory pinned known Taken h = absurd cc
 told_memory pinned known NotPlain h = absurd cc
 told_memory pinned known Left h = absurd cc
-told_memory pinned known (CutShort read size) h = tt
+told_memory pinned known (CutShort read size) h = absurd cc
 told_memory pinned known NamesTaken h = absurd cc
 told_memory pinned known (AfterOthers renamed error) h = absurd cc
 told_memory pinned known (NotSynced error) h = absurd cc
-told_memory pinned known (Io error) h = tt
+told_memory pinned known (Io error) h = absurd cc
 
--- nor does a file that is not read
+-- nor does a file that is not read, whose bytes are not known
 pub told_read : (pinned : Bool) (known : Option (List ℕ)) (fault : FileFault)
-    → IsReadFault fault → TellsRefused pinned known fault
-told_read pinned known (Refused e) h = memory_told pinned known e (ap is_memory h)
-told_read pinned known Folder h = h
-told_read pinned known Taken h = h
-told_read pinned known NotPlain h = h
-told_read pinned known Left h = h
-told_read pinned known (CutShort read size) h = h
-told_read pinned known NamesTaken h = h
-told_read pinned known (AfterOthers renamed error) h = h
-told_read pinned known (NotSynced error) h = h
-told_read pinned known (Io error) h = h
+    → IsReadFault fault → (is_memory_fault fault ≡ false → known ≡ None)
+    → TellsRefused pinned known fault
+told_read pinned known (Refused e) h none = memory_told pinned known e (ap is_memory h)
+told_read pinned known Folder h none = (h, none refl)
+told_read pinned known Taken h none = absurd h
+told_read pinned known NotPlain h none = absurd h
+told_read pinned known Left h none = absurd h
+told_read pinned known (CutShort read size) h none = (h, none refl)
+told_read pinned known NamesTaken h none = absurd h
+told_read pinned known (AfterOthers renamed error) h none = absurd h
+told_read pinned known (NotSynced error) h none = absurd h
+told_read pinned known (Io error) h none = (h, none refl)
 
 -- what the bytes that were read tell, the file's bytes tell
 pub refused_told : (pinned : Bool) (known : Option (List ℕ)) (bytes : List ℕ) (e : Error)

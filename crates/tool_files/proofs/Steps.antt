@@ -15,13 +15,17 @@ use Rattle.tool_files.specs.declared.write.Beside.{Beside}
 use Rattle.tool_files.specs.declared.write.NewFile.{NewFile}
 use Rattle.tool_files.specs.Placed.{AreBeside, AreNotPlaced, AreNotPut, ArePlaced, IsEarly}
 use Rattle.tool_files.specs.Placed.{IsNotSynced, Standing, StandsBeside, StopSyncing}
-use Rattle.tool_files.specs.Placed.{StopsRenamingAt, StopsBefore, TellsRenamed}
+use Rattle.tool_files.specs.Placed.{SameButBeside, StopsRenamingAt, StopsBefore, TellsAllTaken}
+use Rattle.tool_files.specs.Placed.{TellsRenamed}
 use Rattle.tool_files.specs.Files.{path_text}
 use Rattle.tool_files.specs.Placed.{IfLeft, TellsLeft, removing, renaming, syncing, writing}
-use Rattle.tool_files.specs.Standing.{IsAdded, standing_in, standing_of}
+use Rattle.tool_files.specs.Modes.{KeepsMode}
+use Rattle.tool_files.specs.Placed.{StandsNowhere}
+use Rattle.tool_files.specs.Standing.{HaveModesKept, IsAdded, standing_in, standing_of}
 use Rattle.std.proofs.Common.{Bool, true, false}
 use Rattle.tool_files.specs.Steps.{Step, then_done, written_if}
 use Rattle.tool_files.specs.Steps.Step.{Renamed, Wrote}
+use Rattle.tool_files.specs.There.{LiesElsewhere}
 
 -- no step
 pub then_none : (known : Option (List Step)) → then_done known [] ≡ known
@@ -62,12 +66,13 @@ all_behind (y ∷ ys) x all one = (all.0, all_behind ys x all.1 one)
 
 -- one more file was written beside its name
 pub beside_more : {A : Type 0} (wanted : List NewFile) (i : ℕ) (file : NewFile)
-    (old new : List (Beside A)) (known after : Option (List Step))
+    (old new : List (Beside A)) (there by_then : List ℕ → Option Bool)
+    (modes last : List ℕ → Option (Option ℕ)) (known after : Option (List Step))
     → i < length wanted → file ≡ get_or wanted i file
     → AreBeside (take i wanted) (standing_in old)
-    → IsAdded file (standing_in old) (standing_in new) known after
+    → IsAdded file (standing_in old) (standing_in new) there by_then modes last known after
     → AreBeside (take (i + 1) wanted) (standing_in new)
-beside_more {A} wanted i file old new known after less here so_far one =
+beside_more {A} wanted i file old new there by_then modes last known after less here so_far one =
     let more : take (i + 1) wanted ≡ take i wanted ++ file ∷ [] =
     take_more wanted i file less ∙ ap (λ (x : NewFile). take i wanted ++ x ∷ []) (sym here) in
     let files : map (λ (s : Standing). s.file) (standing_in new)
@@ -84,43 +89,117 @@ beside_more {A} wanted i file old new known after less here so_far one =
 
 -- and so it was done
 pub written_more : {A : Type 0} (file : NewFile) (old new : List (Beside A))
-    (known now after : Option (List Step))
-    → now ≡ then_done known (writing (standing_in old))
-    → IsAdded file (standing_in old) (standing_in new) now after
+    (there by_then : List ℕ → Option Bool) (modes last : List ℕ → Option (Option ℕ))
+    (known now after : Option (List Step)) → now ≡ then_done known (writing (standing_in old))
+    → IsAdded file (standing_in old) (standing_in new) there by_then modes last now after
     → after ≡ then_done known (writing (standing_in new))
-written_more {A} file old new known now after so_far one =
-    let bytes : Wrote one.one.beside file.bytes.now
-    ≡ Wrote one.one.beside one.one.file.bytes.now =
-    ap (λ (f : NewFile). Wrote one.one.beside f.bytes.now) (sym one.written.file_is) in
+written_more {A} file old new there by_then modes last known now after so_far one =
+    let bytes : Wrote one.one.beside file.bytes.now one.one.mode
+    ≡ Wrote one.one.beside one.one.file.bytes.now one.one.mode =
+    ap (λ (f : NewFile). Wrote one.one.beside f.bytes.now one.one.mode)
+    (sym one.written.file_is) in
     let steps : writing (standing_in new)
-    ≡ writing (standing_in old) ++ Wrote one.one.beside one.one.file.bytes.now ∷ [] =
+    ≡ writing (standing_in old)
+    ++ Wrote one.one.beside one.one.file.bytes.now one.one.mode ∷ [] =
     ap writing one.added
-    ∙ map-append (λ (s : Standing). Wrote s.beside s.file.bytes.now) (standing_in old)
+    ∙ map-append (λ (s : Standing). Wrote s.beside s.file.bytes.now s.mode) (standing_in old)
     (one.one ∷ []) in
     one.written.done
     ∙ ap (λ (s : Step). then_done now (s ∷ [])) bytes
     ∙ ap (λ (k : Option (List Step)).
-    then_done k (Wrote one.one.beside one.one.file.bytes.now ∷ [])) so_far
+    then_done k (Wrote one.one.beside one.one.file.bytes.now one.one.mode ∷ [])) so_far
     ∙ then_more known (writing (standing_in old))
-    (Wrote one.one.beside one.one.file.bytes.now ∷ [])
+    (Wrote one.one.beside one.one.file.bytes.now one.one.mode ∷ [])
     ∙ ap (then_done known) (sym steps)
+
+-- the first of a list and one behind them
+all_before : (P : Standing → Type 0) (xs : List Standing) (x : Standing)
+    → AllByRecursion P (xs ++ x ∷ []) → AllByRecursion P xs
+all_before P [] x all = tt
+all_before P (y ∷ ys) x all = (all.0, all_before P ys x all.1)
+
+last_of : (P : Standing → Type 0) (xs : List Standing) (x : Standing)
+    → AllByRecursion P (xs ++ x ∷ []) → P x
+last_of P [] x all = all.0
+last_of P (y ∷ ys) x all = last_of P ys x all.1
+
+-- what has other names stays
+pub same_more : {A : Type 0} (file : NewFile) (old new : List (Beside A))
+    (there now by_then : List ℕ → Option Bool) (modes last : List ℕ → Option (Option ℕ))
+    (known after : Option (List Step)) → SameButBeside (standing_in old) there now
+    → IsAdded file (standing_in old) (standing_in new) now by_then modes last known after
+    → SameButBeside (standing_in new) there by_then
+same_more {A} file old new there now by_then modes last known after so_far one other apart =
+    let P : Standing → Type 0 = λ s. LiesElsewhere s.beside other in
+    let all : AllByRecursion P (standing_in old ++ one.one ∷ []) =
+    subst (AllByRecursion P) one.added apart in
+    one.written.same other (last_of P (standing_in old) one.one all)
+    ∙ so_far other (all_before P (standing_in old) one.one all)
+
+-- nor does the mode of what has other names change
+pub left_more : {A : Type 0} (file : NewFile) (old new : List (Beside A))
+    (there by_then : List ℕ → Option Bool) (modes now last : List ℕ → Option (Option ℕ))
+    (known after : Option (List Step)) → SameButBeside (standing_in old) modes now
+    → IsAdded file (standing_in old) (standing_in new) there by_then now last known after
+    → SameButBeside (standing_in new) modes last
+left_more {A} file old new there by_then modes now last known after so_far one other apart =
+    let P : Standing → Type 0 = λ s. LiesElsewhere s.beside other in
+    let all : AllByRecursion P (standing_in old ++ one.one ∷ []) =
+    subst (AllByRecursion P) one.added apart in
+    one.written.left other (last_of P (standing_in old) one.one all)
+    ∙ so_far other (all_before P (standing_in old) one.one all)
+
+-- what holds of each file among some holds among more
+kept_among : (modes : List ℕ → Option (Option ℕ)) (all : List Standing) (one : Standing)
+    (some : List Standing) → HaveModesKept modes all some → HaveModesKept modes (all ++ one ∷ []) some
+kept_among modes all one [] h = tt
+kept_among modes all one (s ∷ some) h = (
+  λ apart. h.0 (all_before (λ t. LiesElsewhere t.beside s.path) all one apart),
+  kept_among modes all one some h.1,
+)
+
+-- and of one more
+kept_behind : (modes : List ℕ → Option (Option ℕ)) (all : List Standing) (one : Standing)
+    (some : List Standing) → HaveModesKept modes all some
+    → (StandsNowhere all one.path → KeepsMode (modes one.path) one.mode)
+    → HaveModesKept modes all (some ++ one ∷ [])
+kept_behind modes all one [] h last = (last, tt)
+kept_behind modes all one (s ∷ some) h last = (h.0, kept_behind modes all one some h.1 last)
+
+-- one more file has the mode of what had its name before
+pub kept_more : {A : Type 0} (file : NewFile) (old new : List (Beside A))
+    (there by_then : List ℕ → Option Bool) (modes now last : List ℕ → Option (Option ℕ))
+    (known after : Option (List Step)) → HaveModesKept modes (standing_in old) (standing_in old)
+    → SameButBeside (standing_in old) modes now
+    → IsAdded file (standing_in old) (standing_in new) there by_then now last known after
+    → HaveModesKept modes (standing_in new) (standing_in new)
+kept_more {A} file old new there by_then modes now last known after so_far same one =
+    let all : List Standing = standing_in old in
+    let mine : StandsNowhere (all ++ one.one ∷ []) one.one.path
+    → KeepsMode (modes one.one.path) one.one.mode = λ apart.
+    subst (λ (k : Option (Option ℕ)). KeepsMode k one.one.mode)
+    (same one.one.path (all_before (λ (t : Standing). LiesElsewhere t.beside one.one.path) all
+    one.one apart)) one.written.kept in
+    subst (λ (l : List Standing). HaveModesKept modes l l) (sym one.added)
+    (kept_behind modes (all ++ one.one ∷ []) one.one all
+    (kept_among modes all one.one all so_far) mine)
 
 -- a file was written under a name that was free
 pub wrote_new : (known now after : Option (List Step)) (free : Bool) (path text bytes : List ℕ)
-    → now ≡ known → free ≡ true → path ≡ text
-    → after ≡ then_done now (written_if free path bytes)
-    → after ≡ then_done known (Wrote text bytes ∷ [])
-wrote_new known now after free path text bytes same was is done =
-    done ∙ ap (λ (b : Bool). then_done now (written_if b path bytes)) was
-    ∙ ap (λ (p : List ℕ). then_done now (Wrote p bytes ∷ [])) is
-    ∙ ap (λ (k : Option (List Step)). then_done k (Wrote text bytes ∷ [])) same
+    (mode : Option ℕ) → now ≡ known → free ≡ true → path ≡ text
+    → after ≡ then_done now (written_if free path bytes mode)
+    → after ≡ then_done known (Wrote text bytes mode ∷ [])
+wrote_new known now after free path text bytes mode same was is done =
+    done ∙ ap (λ (b : Bool). then_done now (written_if b path bytes mode)) was
+    ∙ ap (λ (p : List ℕ). then_done now (Wrote p bytes mode ∷ [])) is
+    ∙ ap (λ (k : Option (List Step)). then_done k (Wrote text bytes mode ∷ [])) same
 
 -- none was, under one that was not
 pub passed_over : (known now after : Option (List Step)) (free : Bool) (path bytes : List ℕ)
-    → now ≡ known → free ≡ false → after ≡ then_done now (written_if free path bytes)
-    → after ≡ known
-passed_over known now after free path bytes same was done =
-    done ∙ ap (λ (b : Bool). then_done now (written_if b path bytes)) was
+    (mode : Option ℕ) → now ≡ known → free ≡ false
+    → after ≡ then_done now (written_if free path bytes mode) → after ≡ known
+passed_over known now after free path bytes mode same was done =
+    done ∙ ap (λ (b : Bool). then_done now (written_if b path bytes mode)) was
     ∙ then_none now ∙ same
 
 -- one more file was renamed
@@ -159,11 +238,13 @@ standing_at {A} bs i b less here =
     ∙ map-append standing_of (take i bs) (b ∷ drop (i + 1) bs)
 
 -- files that were to be written, up to one that was not
-pub stops_before : {A : Type 0} (wanted : List NewFile) (i : ℕ) (file : NewFile)
-    (bs : List (Beside A)) (e : FileError) → i < length wanted → file ≡ get_or wanted i file
-    → AreBeside (take i wanted) (standing_in bs) → e.name ≡ file.name → IsEarly e.fault
-    → StopsBefore wanted (standing_in bs) e
-stops_before {A} wanted i file bs e less here are named early = record {
+pub stops_before : {A : Type 0} (there by_then : List ℕ → Option Bool) (wanted : List NewFile)
+    (i : ℕ) (file : NewFile) (bs : List (Beside A)) (e : FileError) → i < length wanted
+    → file ≡ get_or wanted i file → AreBeside (take i wanted) (standing_in bs)
+    → e.name ≡ file.name → IsEarly e.fault → SameButBeside (standing_in bs) there by_then
+    → TellsAllTaken by_then (path_text file.name) e.fault
+    → StopsBefore there wanted (standing_in bs) e
+stops_before {A} there by_then wanted i file bs e less here are named early same taken = record {
   before = take i wanted;
   file = file;
   behind = drop (i + 1) wanted;
@@ -171,6 +252,9 @@ stops_before {A} wanted i file bs e less here are named early = record {
   are = are;
   named = named;
   early = early;
+  by_then = by_then;
+  same = same;
+  taken = taken;
 }
 
 -- one that was not renamed
@@ -222,11 +306,11 @@ placed known one new wanted all are written done =
     }
 
 -- some were written, and these removed
-pub stop_writing : (known one new : Option (List Step)) (wanted : List NewFile)
-    (all : List Standing) (e : FileError) → StopsBefore wanted all e
-    → one ≡ then_done known (writing all) → new ≡ then_done one (removing all)
-    → AreNotPlaced known wanted e new
-stop_writing known one new wanted all e stops written removed =
+pub stop_writing : (there : List ℕ → Option Bool) (known one new : Option (List Step))
+    (wanted : List NewFile) (all : List Standing) (e : FileError)
+    → StopsBefore there wanted all e → one ≡ then_done known (writing all)
+    → new ≡ then_done one (removing all) → AreNotPlaced there known wanted e new
+stop_writing there known one new wanted all e stops written removed =
     inl record {
       all = all;
       stops = stops;
@@ -235,11 +319,11 @@ stop_writing known one new wanted all e stops written removed =
     }
 
 -- all were written, and not all put in their places
-pub stop_putting : (known one new : Option (List Step)) (wanted : List NewFile)
-    (all : List Standing) (e : FileError) → AreBeside wanted all
+pub stop_putting : (there : List ℕ → Option Bool) (known one new : Option (List Step))
+    (wanted : List NewFile) (all : List Standing) (e : FileError) → AreBeside wanted all
     → one ≡ then_done known (writing all) → AreNotPut one all e new
-    → AreNotPlaced known wanted e new
-stop_putting known one new wanted all e are written stops =
+    → AreNotPlaced there known wanted e new
+stop_putting there known one new wanted all e are written stops =
     inr record {
       all = all;
       are = are;
@@ -292,9 +376,10 @@ file_at wanted all before one behind e are split named =
     one.file (map (λ (s : Standing). s.file) behind) (sym named))
 
 -- the file that was not written
-pub names_unwritten : (wanted : List NewFile) (all : List Standing) (e : FileError)
-    → StopsBefore wanted all e → Any (λ (file : NewFile). file.name ≡ e.name) wanted
-names_unwritten wanted all e stops =
+pub names_unwritten : (there : List ℕ → Option Bool) (wanted : List NewFile)
+    (all : List Standing) (e : FileError) → StopsBefore there wanted all e
+    → Any (λ (file : NewFile). file.name ≡ e.name) wanted
+names_unwritten there wanted all e stops =
     subst (Any (λ (file : NewFile). file.name ≡ e.name)) (sym stops.split)
     (any_at (λ (file : NewFile). file.name ≡ e.name) stops.before stops.file stops.behind
     (sym stops.named))
@@ -312,15 +397,17 @@ names_unput known new wanted all e are (inr stop) =
 -- ---- what a call tells
 
 -- one of a list that is read by its place
-pub stopped_before : {A : Type 0} (wanted : List NewFile) (i : ℕ) (d : NewFile)
-    (old new : List (Beside A)) (e : FileError) → i < length wanted
-    → AreBeside (take i wanted) (standing_in old) → new ≡ old
+pub stopped_before : {A : Type 0} (there by_then : List ℕ → Option Bool)
+    (wanted : List NewFile) (i : ℕ) (d : NewFile) (old new : List (Beside A)) (e : FileError)
+    → i < length wanted → AreBeside (take i wanted) (standing_in old) → new ≡ old
     → e.name ≡ (get_or wanted i d).name → IsEarly e.fault
-    → StopsBefore wanted (standing_in new) e
-stopped_before {A} wanted i d old new e less are kept named early =
-    subst (λ (bs : List (Beside A)). StopsBefore wanted (standing_in bs) e) (sym kept)
-    (stops_before wanted i (get_or wanted i d) old e less
-    (get_or_default wanted i d (get_or wanted i d) less) are named early)
+    → SameButBeside (standing_in old) there by_then
+    → TellsAllTaken by_then (path_text (get_or wanted i d).name) e.fault
+    → StopsBefore there wanted (standing_in new) e
+stopped_before {A} there by_then wanted i d old new e less are kept named early same taken =
+    subst (λ (bs : List (Beside A)). StopsBefore there wanted (standing_in bs) e) (sym kept)
+    (stops_before there by_then wanted i (get_or wanted i d) old e less
+    (get_or_default wanted i d (get_or wanted i d) less) are named early same taken)
 
 -- the same of one that was not renamed
 pub stopped_at : {A : Type 0} (bs : List (Beside A)) (i : ℕ) (d : Beside A) (e : FileError)
@@ -330,14 +417,15 @@ stopped_at {A} bs i d e less named counted =
     stops_at bs i (get_or bs i d) e less (get_or_default bs i d (get_or bs i d) less) named counted
 
 -- putting files in their places is refused
-pub put_refused : {A R : Type 0} (told : Result R FileError) (known one new : Option (List Step))
-    (wanted : List NewFile) (bs named : List (Beside A)) → AreBeside wanted (standing_in bs)
-    → named ≡ bs → one ≡ then_done known (writing (standing_in bs))
+pub put_refused : {A R : Type 0} (told : Result R FileError) (there : List ℕ → Option Bool)
+    (known one new : Option (List Step)) (wanted : List NewFile) (bs named : List (Beside A))
+    → AreBeside wanted (standing_in bs) → named ≡ bs
+    → one ≡ then_done known (writing (standing_in bs))
     → IfErr told (λ e. AreNotPut one (standing_in named) e new)
-    → IfErr told (λ e. AreNotPlaced known wanted e new)
-put_refused (Ok r) known one new wanted bs named are same written h = tt
-put_refused {A} (Err e) known one new wanted bs named are same written h =
-    stop_putting known one new wanted (standing_in bs) e are written
+    → IfErr told (λ e. AreNotPlaced there known wanted e new)
+put_refused (Ok r) there known one new wanted bs named are same written h = tt
+put_refused {A} (Err e) there known one new wanted bs named are same written h =
+    stop_putting there known one new wanted (standing_in bs) e are written
     (subst (λ (l : List (Beside A)). AreNotPut one (standing_in l) e new) same h)
 
 pub put_names : {A R : Type 0} (told : Result R FileError) (one new : Option (List Step))
@@ -416,14 +504,16 @@ unput_none : (known new : Option (List Step)) (all : List Standing) (e : FileErr
 unput_none known new all e (inl stop) = renamed_none e.fault stop.renamed stop.stops.counted
 unput_none known new all e (inr stop) = synced_none e.fault stop.told
 
-placed_none : (known new : Option (List Step)) (wanted : List NewFile) (e : FileError)
-    → AreNotPlaced known wanted e new → IfLeft e.fault ⊥
-placed_none known new wanted e (inl stop) = early_none e.fault stop.stops.early
-placed_none known new wanted e (inr stop) =
+placed_none : (there : List ℕ → Option Bool) (known new : Option (List Step))
+    (wanted : List NewFile) (e : FileError) → AreNotPlaced there known wanted e new
+    → IfLeft e.fault ⊥
+placed_none there known new wanted e (inl stop) = early_none e.fault stop.stops.early
+placed_none there known new wanted e (inr stop) =
     unput_none (then_done known (writing stop.all)) new stop.all e stop.stops
 
-pub none_left : {R : Type 0} (told : Result R FileError) (known new : Option (List Step))
-    (wanted : List NewFile) → IfErr told (λ e. AreNotPlaced known wanted e new)
+pub none_left : {R : Type 0} (told : Result R FileError) (there : List ℕ → Option Bool)
+    (known new : Option (List Step)) (wanted : List NewFile)
+    → IfErr told (λ e. AreNotPlaced there known wanted e new)
     → IfErr told (λ e. IfLeft e.fault ⊥)
-none_left (Ok r) known new wanted h = tt
-none_left (Err e) known new wanted h = placed_none known new wanted e h
+none_left (Ok r) there known new wanted h = tt
+none_left (Err e) there known new wanted h = placed_none there known new wanted e h

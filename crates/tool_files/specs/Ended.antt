@@ -40,5 +40,5 @@ path_behind (step ∷ steps) path = path_behind steps path
 -- one that was asked to be removed is still among them, since the system may not have done it
 abbrev pub files_left : List Step → List (List ℕ × List ℕ)
 files_left [] = []
-files_left (Wrote path bytes ∷ steps) = (path_behind steps path, bytes) ∷ files_left steps
+files_left (Wrote path bytes mode ∷ steps) = (path_behind steps path, bytes) ∷ files_left steps
 files_left (step ∷ steps) = files_left steps

@@ -4,7 +4,8 @@ use Rattle.std.specs.Prelude.{IfSome, codes, length}
 use Rattle.std.specs.Fmt.{decimal}
 use Rattle.logpurple.specs.Words.{OutOfMemory, is_memory}
 use Rattle.tool_files.specs.declared.file_error.FileFault.{FileFault}
-use Rattle.tool_files.specs.declared.file_error.FileFault.TheVariants.{CutShort, Folder, Io, Refused}
+use Rattle.tool_files.specs.declared.file_error.FileFault.TheVariants.{CutShort, Folder, Io}
+use Rattle.tool_files.specs.declared.file_error.FileFault.TheVariants.{Refused}
 use Rattle.tool_files.specs.declared.file_name.FileName.{FileName}
 use Rattle.tool_files.specs.declared.file_name.FileName.TheVariants.{Part, Plain, Within}
 
@@ -14,10 +15,13 @@ path_text (Plain path) = path.now
 path_text (Part path number) = path.now ++ (codes "." ++ decimal number)
 path_text (Within folder number) = folder.now ++ (codes "/" ++ (decimal number ++ codes ".sst"))
 
--- a path beside another one: behind it stand a number and an end of its own
+-- a name beside a path: behind it stand a number and an end of its own
+abbrev pub beside_name : List ℕ → ℕ → List ℕ
+beside_name path number = path ++ (codes "." ++ (decimal number ++ codes ".tmp"))
+
+-- a path beside another one
 abbrev pub IsBeside : List ℕ → List ℕ → Type 0
-IsBeside path text =
-    (number : ℕ) × (text ≡ path ++ (codes "." ++ (decimal number ++ codes ".tmp")))
+IsBeside path text = (number : ℕ) × (text ≡ beside_name path number)
 
 -- a file ended before it had as many bytes
 abbrev pub IsCutShort : FileFault → Option ℕ → Type 0

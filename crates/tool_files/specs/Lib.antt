@@ -3,9 +3,11 @@ pub mod Files
 pub mod Folders
 pub mod Made
 pub mod NewFolders
+pub mod Modes
 pub mod Numbered
 pub mod Opened
 pub mod Placed
 pub mod Standing
 pub mod Steps
 pub mod Targets
+pub mod There

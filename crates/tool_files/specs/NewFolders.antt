@@ -1,6 +1,6 @@
 -- New folders of files: written beside their names, then renamed.
-use Rattle.std.specs.Prelude.{◌≡◌, ◌≢◌, ◌<◌, ◌⊎◌, ℕ, ◌+◌, List, [], ◌∷◌, ◌++◌, Option, codes}
-use Rattle.std.specs.Prelude.{length, map, take}
+use Rattle.std.specs.Prelude.{◌≡◌, ◌≢◌, ◌<◌, ◌⊎◌, ℕ, ◌+◌, Bool, List, [], ◌∷◌, ◌++◌}
+use Rattle.std.specs.Prelude.{IfSome, None, Option, codes, length, map, take, true}
 use Rattle.std.specs.List.{AllByRecursion}
 use Rattle.std.specs.Fmt.{decimal}
 use Rattle.std.specs.Path.{slash}
@@ -13,6 +13,7 @@ use Rattle.tool_files.specs.Ended.{files_left}
 use Rattle.tool_files.specs.Files.{IsBeside, path_text}
 use Rattle.tool_files.specs.Numbered.{numbered_files}
 use Rattle.tool_files.specs.Placed.{IsNotSynced}
+use Rattle.tool_files.specs.There.{AreAllTaken, LiesElsewhere}
 use Rattle.tool_files.specs.Steps.{Step, then_done}
 use Rattle.tool_files.specs.Steps.Step.{MadeFolder, Removed, RemovedFolder, RenamedFolder}
 use Rattle.tool_files.specs.Steps.Step.{SyncedNames, Wrote}
@@ -34,14 +35,9 @@ IsStemOf stem path = (slashes : List ℕ) × (path ≡ stem ++ slashes)
 abbrev pub IsBesideFolder : List ℕ → List ℕ → Type 0
 IsBesideFolder folder text = (stem : List ℕ) × IsStemOf stem folder × IsBeside stem text
 
--- a path is not that of a folder, nor that of anything in it
-abbrev pub LiesElsewhere : List ℕ → List ℕ → Type 0
-LiesElsewhere folder path =
-    (path ≢ folder) × ((rest : List ℕ) → path ≢ folder ++ (codes "/" ++ rest))
-
 -- new files are written whole and synced, one after another
 abbrev pub writing_files : List (List ℕ × List ℕ) → List Step
-writing_files files = map (λ f. Wrote f.0 f.1) files
+writing_files files = map (λ f. Wrote f.0 f.1 None) files
 
 -- files are asked to be removed, and then their folder
 abbrev pub removing_folder : List ℕ → List (List ℕ × List ℕ) → List Step
@@ -91,6 +87,21 @@ abbrev pub IsNamingFault : FileFault → Type 0
 IsNamingFault Taken = Unit {0}
 IsNamingFault (Io error) = Unit {0}
 IsNamingFault fault = ⊥
+
+-- where a name is told as taken, something has it, as far as that is known
+abbrev pub TellsTaken : FileFault → Option Bool → Type 0
+TellsTaken Taken there = IfSome there (λ b. b ≡ true)
+TellsTaken fault there = Unit {0}
+
+-- where a folder's own name is told as taken, something has it
+abbrev pub TellsNameTaken : (List ℕ → Option Bool) → List ℕ → FileError → Type 0
+TellsNameTaken there folder e = path_text e.name ≡ folder → TellsTaken e.fault (there folder)
+
+-- where all names beside a folder's are told as taken, they are, as far as that is known
+abbrev pub TellsStemTaken : (List ℕ → Option Bool) → List ℕ → FileFault → Type 0
+TellsStemTaken there folder NamesTaken =
+    (stem : List ℕ) × IsStemOf stem folder × AreAllTaken there stem
+TellsStemTaken there folder fault = Unit {0}
 
 -- a folder may have been synced, and nothing else was done
 abbrev pub MaySyncNames : List ℕ → List Step → Type 0

@@ -1,6 +1,6 @@
 -- Tables that are opened.
 use denote.Ref.{Bor}
-use Rattle.std.specs.Prelude.{◌≡◌, ℕ, Bool, List, [], ◌∷◌, ◌++◌, Option, IfSome, Ok, Err}
+use Rattle.std.specs.Prelude.{◌≡◌, ℕ, Bool, List, [], ◌∷◌, ◌++◌, Option, None, IfSome, Ok, Err}
 use Rattle.logpurple.specs.Words.{Gives, OpenTable, recovered_told}
 use Rattle.tool_files.specs.declared.file_error.FileError.{FileError}
 use Rattle.tool_files.specs.declared.file_error.FileFault.{FileFault}
@@ -28,12 +28,13 @@ AreOpenedFrom pinned content (path ∷ paths) (t ∷ ts) =
     (IsToldByBytes pinned t × HasContent (content path.now) t)
     × AreOpenedFrom pinned content paths ts
 
--- where a file is refused as a table, its bytes tell so, where these are known, or memory is wanted
+-- where a file is refused as a table, its bytes tell so, where these are known, or memory is
+-- wanted; or it is not read, which no file is refused whose bytes are known
 abbrev pub TellsRefused : Bool → Option (List ℕ) → FileFault → Type 0
 TellsRefused pinned known (Refused e) =
     IfSome known (λ bytes. Gives (λ (u : OpenTable). u.parts) (Err e)
     (recovered_told bytes 0 pinned pinned))
-TellsRefused pinned known fault = IsReadFault fault
+TellsRefused pinned known fault = IsReadFault fault × (known ≡ None)
 
 -- files were opened up to one that was refused, which is named
 pub record StopsOpening (pinned : Bool) (content : List ℕ → Option (List ℕ))

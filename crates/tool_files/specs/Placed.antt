@@ -1,7 +1,9 @@
 -- Files that are placed: written beside their names, then renamed.
-use Rattle.std.specs.Prelude.{Bool, IfSome, true}
+use Rattle.std.specs.Prelude.{Bool, IfSome, None, true}
 use Rattle.std.specs.Prelude.{◌≡◌, ◌<◌, ◌⊎◌, ℕ, List, ◌∷◌, ◌++◌, Option, drop, length, map, take}
+use Rattle.std.specs.Fs.{IsDir, IsFile, file_type}
 use Rattle.std.specs.List.{AllByRecursion}
+use Rattle.std.specs.declared.fs.attrs.Metadata.{Metadata}
 use Rattle.logpurple.specs.Words.{OutOfMemory}
 use Rattle.tool_files.specs.declared.file_error.FileError.{FileError}
 use Rattle.tool_files.specs.declared.file_error.FileFault.{FileFault}
@@ -12,13 +14,15 @@ use Rattle.tool_files.specs.declared.write.NewFile.{NewFile}
 use Rattle.tool_files.specs.Files.{IsBeside, path_text}
 use Rattle.tool_files.specs.Steps.{Step, then_done}
 use Rattle.tool_files.specs.Steps.Step.{Removed, Renamed, Synced, Wrote}
+use Rattle.tool_files.specs.There.{AreAllTaken, LiesElsewhere}
 
--- a file that is wanted, the path that it is to have, and the one under which it stands whole until
--- it is renamed
+-- a file that is wanted, the path that it is to have, the one under which it stands whole until it
+-- is renamed, and the mode that was asked for, if one was
 pub record Standing : Type 0 where
   pub file : NewFile
   pub path : List ℕ
   pub beside : List ℕ
+  pub mode : Option ℕ
 
 -- it is to have its own path, and stands beside that
 abbrev pub StandsBeside : Standing → Type 0
@@ -26,7 +30,7 @@ StandsBeside s = (s.path ≡ path_text s.file.name) × IsBeside s.path s.beside
 
 -- each is written and synced
 abbrev pub writing : List Standing → List Step
-writing all = map (λ s. Wrote s.beside s.file.bytes.now) all
+writing all = map (λ s. Wrote s.beside s.file.bytes.now s.mode) all
 
 -- each is renamed
 abbrev pub renaming : List Standing → List Step
@@ -62,8 +66,28 @@ IsEarly (Io error) = Unit {0}
 IsEarly (Refused e) = e ≡ OutOfMemory
 IsEarly fault = ⊥
 
--- files of a list were written up to one that was not
-pub record StopsBefore (wanted : List NewFile) (all : List Standing) (e : FileError) : Type 0 where
+-- what has a file's place and is no plain file is told as what it is
+abbrev pub TellsKind : FileFault → Metadata → Type 0
+TellsKind Folder m = IsDir (file_type m)
+TellsKind NotPlain m = (¬ IsDir (file_type m)) × ¬ IsFile (file_type m)
+TellsKind fault m = ⊥
+
+-- where all names beside a path are told as taken, they are, as far as that is known
+abbrev pub TellsAllTaken : (List ℕ → Option Bool) → List ℕ → FileFault → Type 0
+TellsAllTaken there path NamesTaken = AreAllTaken there path
+TellsAllTaken there path fault = Unit {0}
+
+-- no file stands beside its name at a path, nor above it
+abbrev pub StandsNowhere : List Standing → List ℕ → Type 0
+StandsNowhere all path = AllByRecursion (λ (s : Standing). LiesElsewhere s.beside path) all
+
+-- what is known of each path is the same as before, but where files stand beside their names
+abbrev pub SameButBeside : {X : Type 0} → List Standing → (List ℕ → X) → (List ℕ → X) → Type 0
+SameButBeside all old new = (other : List ℕ) → StandsNowhere all other → new other ≡ old other
+
+-- files of a list were written up to one that was not, for what has the names beside it by then
+pub record StopsBefore (there : List ℕ → Option Bool) (wanted : List NewFile)
+    (all : List Standing) (e : FileError) : Type 0 where
   pub before : List NewFile
   pub file : NewFile
   pub behind : List NewFile
@@ -71,12 +95,15 @@ pub record StopsBefore (wanted : List NewFile) (all : List Standing) (e : FileEr
   pub are : AreBeside before all
   pub named : e.name ≡ file.name
   pub early : IsEarly e.fault
+  pub by_then : List ℕ → Option Bool
+  pub same : SameButBeside all there by_then
+  pub taken : TellsAllTaken by_then (path_text file.name) e.fault
 
 -- one file was not written, those before it were and are removed again, and nothing else was done
-pub record StopWriting (known : Option (List Step)) (wanted : List NewFile) (e : FileError)
-    (new : Option (List Step)) : Type 0 where
+pub record StopWriting (there : List ℕ → Option Bool) (known : Option (List Step))
+    (wanted : List NewFile) (e : FileError) (new : Option (List Step)) : Type 0 where
   pub all : List Standing
-  pub stops : StopsBefore wanted all e
+  pub stops : StopsBefore there wanted all e
   pub done : new ≡ then_done known (writing all ++ removing all)
 
 -- how many were renamed before one that was not
@@ -133,9 +160,10 @@ pub record StopPutting (known : Option (List Step)) (wanted : List NewFile) (e :
   pub stops : AreNotPut (then_done known (writing all)) all e new
 
 -- files are not placed, or not for good
-abbrev pub AreNotPlaced : Option (List Step) → List NewFile → FileError → Option (List Step)
-    → Type 0
-AreNotPlaced known wanted e new = StopWriting known wanted e new ⊎ StopPutting known wanted e new
+abbrev pub AreNotPlaced : (List ℕ → Option Bool) → Option (List Step) → List NewFile → FileError
+    → Option (List Step) → Type 0
+AreNotPlaced there known wanted e new =
+    StopWriting there known wanted e new ⊎ StopPutting known wanted e new
 
 -- the system's own refusal
 abbrev pub IsOfSystem : FileFault → Type 0
@@ -155,16 +183,16 @@ TellsLeft e next there known new =
     IfLeft e.fault ((path_text e.name ≡ next) × IfSome there (λ b. b ≡ true) × (new ≡ known))
 
 -- a path that was to be free is not, and this is told of what has it, as far as that is known; or
--- the system does not tell
+-- the system does not tell, which it does where that is known
 abbrev pub TellsFound : FileFault → Option Bool → FileFault → Type 0
 TellsFound taken there fault =
-    ((fault ≡ taken) × IfSome there (λ b. b ≡ true)) ⊎ IsOfSystem fault
+    ((fault ≡ taken) × IfSome there (λ b. b ≡ true)) ⊎ (IsOfSystem fault × (there ≡ None))
 
--- a fault of looking whether a name is free: something has it, as far as that is known, the system
--- refuses to tell, or memory is wanted
+-- a fault of looking whether a name is free: something has it, as far as that is known, or the
+-- system refuses to tell, where that is not known, or memory is wanted
 abbrev pub IsLookFault : FileFault → Option Bool → Type 0
 IsLookFault Left there = IfSome there (λ b. b ≡ true)
-IsLookFault (Io error) there = Unit {0}
+IsLookFault (Io error) there = there ≡ None
 IsLookFault (Refused e) there = e ≡ OutOfMemory
 IsLookFault fault there = ⊥
 

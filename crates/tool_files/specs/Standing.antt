@@ -1,10 +1,15 @@
 -- Files that stand beside their names, as the code holds them.
-use Rattle.std.specs.Prelude.{◌≡◌, List, [], ◌∷◌, ◌++◌, Option, map, string_bytes}
+use Rattle.std.specs.Prelude.{◌≡◌, ℕ, Bool, List, [], ◌∷◌, ◌++◌, Option, map, string_bytes}
+use Rattle.std.specs.Fs.{permissions_mode}
+use Rattle.std.specs.List.{AllByRecursion}
+use Rattle.std.specs.Option.{option_map}
 use Rattle.tool_files.specs.declared.write.Beside.{Beside}
 use Rattle.tool_files.specs.declared.write.NewFile.{NewFile}
-use Rattle.tool_files.specs.Placed.{Standing, StandsBeside}
+use Rattle.tool_files.specs.Placed.{Standing, StandsBeside, StandsNowhere}
+use Rattle.tool_files.specs.Modes.{KeepsMode}
 use Rattle.tool_files.specs.Steps.{Step, then_done}
 use Rattle.tool_files.specs.Steps.Step.{Wrote}
+use Rattle.tool_files.specs.There.{SameElsewhere}
 
 -- a file that stands beside its name
 abbrev pub standing_of : {A : Type 0} → Beside A → Standing
@@ -12,21 +17,32 @@ standing_of b = record {
   file = b.file;
   path = string_bytes b.path;
   beside = string_bytes b.temporary;
+  mode = option_map permissions_mode b.permissions;
 }
 
 abbrev pub standing_in : {A : Type 0} → List (Beside A) → List Standing
 standing_in bs = map standing_of bs
 
 -- a file was written beside its name
-pub record IsWritten (file : NewFile) (one : Standing) (known new : Option (List Step))
-    : Type 0 where
+pub record IsWritten (file : NewFile) (one : Standing) (there by_then : List ℕ → Option Bool)
+    (modes last : List ℕ → Option (Option ℕ)) (known new : Option (List Step)) : Type 0 where
   pub file_is : one.file ≡ file
   pub stands : StandsBeside one
-  pub done : new ≡ then_done known (Wrote one.beside file.bytes.now ∷ [])
+  pub done : new ≡ then_done known (Wrote one.beside file.bytes.now one.mode ∷ [])
+  pub same : SameElsewhere one.beside there by_then
+  pub kept : KeepsMode (modes one.path) one.mode
+  pub left : SameElsewhere one.beside modes last
 
 -- it is one more behind others
-pub record IsAdded (file : NewFile) (old new : List Standing) (known after : Option (List Step))
-    : Type 0 where
+pub record IsAdded (file : NewFile) (old new : List Standing)
+    (there by_then : List ℕ → Option Bool) (modes last : List ℕ → Option (Option ℕ))
+    (known after : Option (List Step)) : Type 0 where
   pub one : Standing
-  pub written : IsWritten file one known after
+  pub written : IsWritten file one there by_then modes last known after
   pub added : new ≡ old ++ one ∷ []
+
+-- of files that stand beside their names each keeps the mode of what had its name before, if none
+-- of them stands there
+abbrev pub HaveModesKept : (List ℕ → Option (Option ℕ)) → List Standing → List Standing → Type 0
+HaveModesKept modes all some = AllByRecursion (λ (s : Standing).
+    StandsNowhere all s.path → KeepsMode (modes s.path) s.mode) some

@@ -2,11 +2,11 @@
 use Rattle.std.specs.Prelude.{ℕ, Bool, true, false, List, [], ◌∷◌, ◌++◌, Option}
 use Rattle.std.specs.Option.{option_map}
 
--- a new file was written whole and synced; a file was renamed; one was asked to be removed; the
--- folder of one was synced; a new folder was made; one was asked to be removed if it is empty; one
--- was renamed with all that lies in it; one was synced
+-- a new file was written whole and synced, with a mode if one was asked for; a file was renamed;
+-- one was asked to be removed; the folder of one was synced; a new folder was made; one was asked
+-- to be removed if it is empty; one was renamed with all that lies in it; one was synced
 pub data Step : Type 0 where
-  Wrote : (path bytes : List ℕ) → Step
+  Wrote : (path bytes : List ℕ) (mode : Option ℕ) → Step
   Renamed : (from to : List ℕ) → Step
   Removed : (path : List ℕ) → Step
   Synced : (path : List ℕ) → Step
@@ -20,6 +20,6 @@ abbrev pub then_done : Option (List Step) → List Step → Option (List Step)
 then_done known steps = option_map (λ done. done ++ steps) known
 
 -- the step that writes a new file, if its name was free
-abbrev pub written_if : Bool → List ℕ → List ℕ → List Step
-written_if true path bytes = Wrote path bytes ∷ []
-written_if false path bytes = []
+abbrev pub written_if : Bool → List ℕ → List ℕ → Option ℕ → List Step
+written_if true path bytes mode = Wrote path bytes mode ∷ []
+written_if false path bytes mode = []

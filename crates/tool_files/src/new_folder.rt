@@ -1,21 +1,25 @@
 //! New folders of tables, written beside their names.
-ghost use Rattle.std.specs.Prelude.{◌≡◌, ◌∷◌, ◌++◌, [], IfErr, IfOk, List, OnErr, OnOk, map};
-ghost use Rattle.std.specs.Prelude.{string_bytes};
+ghost use Rattle.std.specs.Prelude.{◌≡◌, ◌∷◌, ◌++◌, ◌↔◌, [], IfErr, IfOk, IfSome, IsTrue, List};
+ghost use Rattle.std.specs.Prelude.{None, OnErr, OnOk, false, map, string_bytes};
+ghost use Rattle.std.specs.IoError.{error_kind};
 ghost use Rattle.tool_files.specs.NewFolders.{IsBesideFolder, IsFolderNotPlaced, IsFolderPlaced};
 ghost use Rattle.tool_files.specs.NewFolders.{IsMakingFault, IsNamingFault, IsNotFilled};
 ghost use Rattle.tool_files.specs.NewFolders.{LiesWithin};
 ghost use Rattle.tool_files.specs.NewFolders.{IsStemOf, IsWritingFault, MaySyncNames, StopsWithin};
+ghost use Rattle.tool_files.specs.NewFolders.{TellsNameTaken, TellsStemTaken, TellsTaken};
 ghost use Rattle.tool_files.specs.NewFolders.{naming_folder, numbered_within, path_within};
 ghost use Rattle.tool_files.specs.NewFolders.{writing_files};
 ghost use Rattle.tool_files.specs.Files.{path_text};
 ghost use Rattle.tool_files.specs.Placed.{IsNotSynced};
 ghost use Rattle.tool_files.specs.Steps.{Step, then_done};
 ghost use Rattle.tool_files.specs.Steps.Step.{MadeFolder, Removed, Synced, Wrote};
+ghost use Rattle.tool_files.specs.There.{SameButBehind, SameElsewhere};
 
 use crate::write::{NAMES, path_of};
 use crate::{FileError, FileFault, FileName, Place, check_free};
 use logpurple::FinishedTable;
 use std::alloc::Allocator;
+use std::io;
 use std::io::ErrorKind;
 
 /// Writes tables into a new folder: the files `1.sst`, `2.sst` and so on. The folder is made beside
@@ -36,10 +40,16 @@ pub fn place_folder<'a, P: Place, A: Allocator + Copy>(
     // then synced; and just the tables' files lie in the folder, with their bytes.
     ensures placed { OnOk result (IsFolderPlaced folder.now (map (λ t. t.bytes) tables.now)
         (Synced folder.now ∷ []) (P.done place.old) (P.done place.new)) }
+    // Nothing had the folder's name before.
+    ensures free { OnOk result (IfSome (P.there place.old folder.now) (λ b. b ≡ false)) }
     // Where it is refused, this was done and no more; and no file has the folder's name or lies
     // under it, or all do.
     ensures refused { IfErr result (λ e. IsFolderNotPlaced folder.now
         (map (λ t. t.bytes) tables.now) (P.done place.old) e (P.done place.new)) }
+    // Where the folder's name is told as taken, or each name beside it, so it was before.
+    ensures taken { IfErr result (TellsNameTaken (P.there place.old) folder.now) }
+    ensures beside { IfErr result (λ e.
+        TellsStemTaken (P.there place.old) folder.now e.fault) }
 {
     match make_beside(place, alloc, folder) {
         Ok(beside) => fill_beside(place, alloc, folder, beside.as_str(), tables),
@@ -61,17 +71,27 @@ fn make_beside<P: Place, A: Allocator + Copy>(
         ≡ then_done (P.done place.old) (MadeFolder (string_bytes b) ∷ [])) }
     ensures fault { IfErr result IsMakingFault }
     ensures nothing { OnErr result (P.done place.new ≡ P.done place.old) }
+    ensures elsewhere { IfOk result (λ b.
+        SameElsewhere (string_bytes b) (P.there place.old) (P.there place.new)) }
+    ensures taken { IfErr result (TellsStemTaken (P.there place.old) folder.now) }
 {
     let stem = without_slashes(folder);
     for number in 1..=NAMES {
         let beside = format!(in alloc; "{stem}.{number}.tmp")?;
         match place.make_folder(beside.as_str()) {
             Ok(()) => return Ok(beside),
-            Err(error) if error.kind() == ErrorKind::AlreadyExists => {}
+            Err(error) if is_taken(&error) => {}
             Err(error) => return Err(FileFault::Io(error)),
         }
     }
     Err(FileFault::NamesTaken)
+}
+
+// Whether a path was refused since something has it.
+fn is_taken(error: &io::Error) -> bool
+    ensures { IsTrue result ↔ (error_kind error.now ≡ ErrorKind.AlreadyExists) }
+{
+    error.kind() == ErrorKind::AlreadyExists
 }
 
 // A path without the slashes at its end.
@@ -90,11 +110,14 @@ fn fill_beside<'a, P: Place, A: Allocator + Copy>(
     beside: &str,
     tables: &[FinishedTable<A>],
 ) -> Result<(), FileError<'a>>
+    requires { IsBesideFolder folder.now beside.now }
     ensures filled { OnOk result (let all = map (λ t. t.bytes) tables.now in P.done place.new
         ≡ then_done (P.done place.old) ((writing_files (numbered_within beside.now all)
         ++ naming_folder beside.now folder.now) ++ Synced folder.now ∷ [])) }
     ensures refused { IfErr result (λ e. IsNotFilled folder.now beside.now
         (map (λ t. t.bytes) tables.now) (P.done place.old) e (P.done place.new)) }
+    ensures free { OnOk result (IfSome (P.there place.old folder.now) (λ b. b ≡ false)) }
+    ensures taken { IfErr result (TellsNameTaken (P.there place.old) folder.now) }
 {
     let mut written = Vec::new(alloc);
     match fill_and_name(place, alloc, folder, beside, tables, &mut written) {
@@ -117,13 +140,16 @@ fn fill_and_name<'a, P: Place, A: Allocator + Copy>(
     tables: &[FinishedTable<A>],
     written: &mut Vec<String<A>, A>,
 ) -> Result<(), FileError<'a>>
-    requires { written.old.items ≡ [] }
+    requires empty { written.old.items ≡ [] }
+    requires beside { IsBesideFolder folder.now beside.now }
     ensures named { OnOk result (let all = map (λ t. t.bytes) tables.now in P.done place.new
         ≡ then_done (P.done place.old) (writing_files (numbered_within beside.now all)
         ++ naming_folder beside.now folder.now)) }
     ensures refused { IfErr result (λ e. StopsWithin folder.now beside.now
         (map (λ t. t.bytes) tables.now) (map string_bytes written.new.items)
         (P.done place.old) e (P.done place.new)) }
+    ensures free { OnOk result (IfSome (P.there place.old folder.now) (λ b. b ≡ false)) }
+    ensures taken { IfErr result (TellsNameTaken (P.there place.old) folder.now) }
 {
     write_within(place, alloc, folder, beside, tables, written)?;
     match give_name(place, beside, folder) {
@@ -152,6 +178,9 @@ fn write_within<'a, P: Place, A: Allocator + Copy>(
     ensures refused { IfErr result (λ e. StopsWithin folder.now beside.now
         (map (λ t. t.bytes) tables.now) (map string_bytes written.new.items)
         (P.done place.old) e (P.done place.new)) }
+    ensures elsewhere { OnOk result
+        (SameButBehind beside.now (P.there place.old) (P.there place.new)) }
+    ensures taken { IfErr result (TellsNameTaken (P.there place.old) folder.now) }
 {
     for (at, table) in tables.iter().enumerate() {
         let number = (at as u64).saturating_add(1);
@@ -178,10 +207,14 @@ fn add_within<P: Place, A: Allocator + Copy>(
     ensures added { OnOk result (map string_bytes written.new.items
         ≡ map string_bytes written.old.items ++ path_within folder.now number ∷ []) }
     ensures done { OnOk result (P.done place.new ≡ then_done (P.done place.old)
-        (Wrote (path_within folder.now number) bytes.now ∷ [])) }
+        (Wrote (path_within folder.now number) bytes.now None ∷ [])) }
     ensures fault { IfErr result IsWritingFault }
+    ensures taken { IfErr result (λ fault.
+        TellsTaken fault (P.there place.old (path_within folder.now number))) }
     ensures kept { OnErr result (written.new.items ≡ written.old.items) }
     ensures nothing { OnErr result (P.done place.new ≡ P.done place.old) }
+    ensures elsewhere { OnOk result
+        (SameButBehind folder.now (P.there place.old) (P.there place.new)) }
 {
     // Room for it is there before it is.
     written.reserve(1)?;
@@ -197,7 +230,9 @@ fn add_within<P: Place, A: Allocator + Copy>(
 fn give_name<P: Place>(place: &mut P, beside: &str, folder: &str) -> Result<(), FileFault>
     ensures named { OnOk result (P.done place.new
         ≡ then_done (P.done place.old) (naming_folder beside.now folder.now)) }
+    ensures free { OnOk result (IfSome (P.there place.old folder.now) (λ b. b ≡ false)) }
     ensures fault { IfErr result IsNamingFault }
+    ensures taken { IfErr result (λ fault. TellsTaken fault (P.there place.old folder.now)) }
     ensures refused { OnErr result ((steps : List Step) × MaySyncNames beside.now steps
         × (P.done place.new ≡ then_done (P.done place.old) steps)) }
 {

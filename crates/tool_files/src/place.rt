@@ -1,12 +1,16 @@
 //! What is done to files, one step after another.
 ghost use Rattle.std.specs.Prelude.{◌≡◌, ◌∷◌, [], ℕ, Bool, IfErr, IfOk, IfSome, List, None, OnErr};
-ghost use Rattle.std.specs.Prelude.{OnOk, Option, is_some};
+ghost use Rattle.std.specs.Prelude.{OnOk, Option, false, is_some, not, true};
+ghost use Rattle.std.specs.Fs.{metadata_mode, permissions_mode};
+ghost use Rattle.std.specs.IoError.{error_kind};
+ghost use Rattle.std.specs.Option.{option_copied, option_map};
 ghost use Rattle.std.specs.Io.KnownBytes.{Appends};
-ghost use Rattle.tool_files.specs.Files.{IsReadFault};
+ghost use Rattle.tool_files.specs.Files.{IsReadFault, is_memory_fault};
 ghost use Rattle.tool_files.specs.Folders.{folder_of, or_here};
 ghost use Rattle.tool_files.specs.Steps.{Step, then_done, written_if};
 ghost use Rattle.tool_files.specs.Steps.Step.{MadeFolder, Removed, RemovedFolder, Renamed};
 ghost use Rattle.tool_files.specs.Steps.Step.{RenamedFolder, Synced, SyncedNames};
+ghost use Rattle.tool_files.specs.There.{SameElsewhere};
 
 use crate::FileFault;
 use crate::read::read_path;
@@ -31,20 +35,30 @@ pub trait Place {
     // What the file at a path has, where it is known.
     ghost content: { Self → List ℕ → Option (List ℕ) };
 
-    /// All bytes of a file. Refused where it cannot be read whole, and for want of memory.
+    // The mode of what has a path, if anything has, where it is known: its kind and permissions.
+    ghost modes: { Self → List ℕ → Option (Option ℕ) };
+
+    /// All bytes of a file. Refused where it cannot be read whole, and for want of memory; a file
+    /// whose bytes are known is refused for want of memory alone.
     fn read<A: Allocator + Copy>(&self, alloc: A, path: &str) -> Result<Slice<A>, FileFault>
         ensures bytes { IfOk result (λ bytes.
             IfSome (content self.now path.now) (λ known. bytes ≡ known)) }
-        ensures refused { IfErr result IsReadFault };
+        ensures refused { IfErr result IsReadFault }
+        ensures known { IfErr result (λ fault.
+            is_memory_fault fault ≡ false → content self.now path.now ≡ None) };
 
-    /// What has a path, if anything has; of a link that of itself.
+    /// What has a path, if anything has; of a link that of itself. Refused as the system refuses to
+    /// tell: never where it is known whether anything has the path.
     fn look(&self, path: &str) -> io::Result<Option<Metadata>>
-        ensures { IfOk result (λ m.
-            IfSome (there self.now path.now) (λ known. is_some m ≡ known)) };
+        ensures found { IfOk result (λ m.
+            IfSome (there self.now path.now) (λ known. is_some m ≡ known)) }
+        ensures mode { IfOk result (λ m.
+            IfSome (modes self.now path.now) (λ known. option_map metadata_mode m ≡ known)) }
+        ensures told { OnErr result (there self.now path.now ≡ None) };
 
     /// Writes a new file whole, with these permissions if they are given, and syncs it. Answers
-    /// `false` where something has the path. Where it is refused no file is left, as far as the
-    /// system removes what was written of it.
+    /// `false` where something has the path: then nothing is changed. Where it is refused no file
+    /// is left, as far as the system removes what was written of it.
     fn write_new(
         &mut self,
         path: &str,
@@ -52,8 +66,15 @@ pub trait Place {
         permissions: Option<&Permissions>,
     ) -> io::Result<bool>
         ensures written { IfOk result (λ free. done self.new
-            ≡ then_done (done self.old) (written_if free path.now bytes.now)) }
-        ensures refused { OnErr result (done self.new ≡ done self.old) };
+            ≡ then_done (done self.old) (written_if free path.now bytes.now
+            (option_map permissions_mode (option_copied permissions.entry)))) }
+        ensures refused { OnErr result (done self.new ≡ done self.old) }
+        ensures free { IfOk result (λ free.
+            IfSome (there self.old path.now) (λ known. free ≡ not known)) }
+        ensures kept { IfOk result (λ free. free ≡ false → there self.new ≡ there self.old) }
+        ensures elsewhere { SameElsewhere path.now (there self.old) (there self.new) }
+        ensures same { IfOk result (λ free. free ≡ false → modes self.new ≡ modes self.old) }
+        ensures beside { SameElsewhere path.now (modes self.old) (modes self.new) };
 
     /// Renames a file, which takes the place of the one that has the name. Refused as the system
     /// refuses: then nothing is changed.
@@ -71,7 +92,11 @@ pub trait Place {
     fn make_folder(&mut self, path: &str) -> io::Result<()>
         ensures made { OnOk result
             (done self.new ≡ then_done (done self.old) (MadeFolder path.now ∷ [])) }
-        ensures refused { OnErr result (done self.new ≡ done self.old) };
+        ensures refused { OnErr result (done self.new ≡ done self.old) }
+        ensures taken { IfErr result (λ e. error_kind e ≡ ErrorKind.AlreadyExists
+            → IfSome (there self.old path.now) (λ known. known ≡ true)) }
+        ensures kept { OnErr result (there self.new ≡ there self.old) }
+        ensures elsewhere { SameElsewhere path.now (there self.old) (there self.new) };
 
     /// Removes a folder, as far as the system does it, and only where nothing is in it.
     fn remove_folder(&mut self, path: &str)
@@ -88,7 +113,8 @@ pub trait Place {
     fn sync_names(&mut self, folder: &str) -> io::Result<()>
         ensures synced { OnOk result
             (done self.new ≡ then_done (done self.old) (SyncedNames folder.now ∷ [])) }
-        ensures refused { OnErr result (done self.new ≡ done self.old) };
+        ensures refused { OnErr result (done self.new ≡ done self.old) }
+        ensures kept { there self.new ≡ there self.old };
 
     /// Syncs the folder in which a file or a folder lies, so that its name lasts.
     fn sync_folder(&mut self, path: &str) -> io::Result<()>
@@ -110,6 +136,8 @@ impl<'r, R: Files> Place for Disk<'r, R> {
     ghost there = { λ _ _. None };
 
     ghost content = { λ _ _. None };
+
+    ghost modes = { λ _ _. None };
 
     fn read<A: Allocator + Copy>(&self, alloc: A, path: &str) -> Result<Slice<A>, FileFault> {
         read_path(self.files, alloc, path)

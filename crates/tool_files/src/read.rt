@@ -1,7 +1,10 @@
 //! Reading whole files.
-ghost use Rattle.std.specs.Prelude.{◌≡◌, ◌≤◌, IfErr, IfOk, IfSome, OnOk, length};
+ghost use Rattle.std.specs.Prelude.{◌≡◌, ◌≤◌, IfErr, IfOk, IfSome, None, OnOk, Some, false, length};
+ghost use Rattle.std.specs.Fs.{IsDir, IsFile, file_type, metadata_len};
 ghost use Rattle.std.specs.Io.KnownBytes.{IsAtEnd};
-ghost use Rattle.tool_files.specs.Files.{IsCutBehind, IsCutShort, IsReadFault, path_text};
+ghost use Rattle.tool_files.specs.Files.{IsCutBehind, IsCutShort, IsReadFault, is_memory_fault};
+ghost use Rattle.tool_files.specs.Files.{path_text};
+ghost use Rattle.tool_files.specs.declared.file_error.FileFault.TheVariants.{Folder};
 
 use crate::{FileError, FileFault, FileName, Place};
 use logpurple::Slice;
@@ -23,6 +26,9 @@ pub fn read_file<'a, P: Place, A: Allocator + Copy>(
     // A refusal names the file.
     ensures named { IfErr result (λ e. path_text e.name ≡ path.now) }
     ensures refused { IfErr result (λ e. IsReadFault e.fault) }
+    // Where its bytes are known, memory is wanted.
+    ensures known { IfErr result (λ e.
+        is_memory_fault e.fault ≡ false → P.content place.now path.now ≡ None) }
 {
     match place.read(alloc, path) {
         Ok(bytes) => Ok(bytes),
@@ -50,7 +56,12 @@ pub(crate) fn read_path<R: Files, A: Allocator + Copy>(
 
 // How many bytes a file has; none is known of what is no plain file. A folder is refused.
 fn size_of(metadata: &Metadata) -> Result<Option<u64>, FileFault>
-    ensures { IfErr result IsReadFault }
+    ensures refused { IfErr result IsReadFault }
+    ensures folder { IfErr result (λ fault. (fault ≡ Folder) × IsDir (file_type metadata.now)) }
+    ensures file { OnOk result (¬ IsDir (file_type metadata.now)) }
+    ensures plain { IfOk result (λ size.
+        IsFile (file_type metadata.now) → size ≡ Some (metadata_len metadata.now)) }
+    ensures other { IfOk result (λ size. ¬ IsFile (file_type metadata.now) → size ≡ None) }
 {
     if metadata.is_dir() {
         return Err(FileFault::Folder);

@@ -1,16 +1,20 @@
 //! Writing files beside their names.
 ghost use Rattle.std.specs.Prelude.{◌≡◌, ◌<◌, ◌∷◌, [], Any, IfErr, IfOk, IfSome, OnErr, OnOk, drop};
-ghost use Rattle.std.specs.Prelude.{◌⊎◌, false, length, string_bytes, take};
-ghost use Rattle.std.specs.Option.{option_map};
+ghost use Rattle.std.specs.Prelude.{◌⊎◌, IsSomeAnd, false, length, string_bytes, take};
+ghost use Rattle.std.specs.Option.{option_copied, option_map};
 ghost use Rattle.std.specs.Fs.{IsFile, file_type, metadata_mode, permissions_mode};
 ghost use Rattle.tool_files.specs.Files.{IsBeside, path_text};
 ghost use Rattle.tool_files.specs.Placed.{AreBeside, AreNotPlaced, AreNotPut, ArePlaced, IfLeft};
 ghost use Rattle.tool_files.specs.Placed.{IsEarly, IsLookFault, StopLooking, StopSyncing};
-ghost use Rattle.tool_files.specs.Placed.{StopsBefore, StopsRenamingAt, TellsLeft, TellsRenamed};
+ghost use Rattle.tool_files.specs.Placed.{StopsBefore, StopsRenamingAt, TellsAllTaken, TellsKind};
+ghost use Rattle.tool_files.specs.Placed.{TellsLeft, TellsRenamed};
 ghost use Rattle.tool_files.specs.Placed.{removing, renaming, syncing, writing};
-ghost use Rattle.tool_files.specs.Standing.{IsAdded, IsWritten, standing_in, standing_of};
+ghost use Rattle.tool_files.specs.Modes.{AreModesKept};
+ghost use Rattle.tool_files.specs.Standing.{HaveModesKept, IsAdded, IsWritten, standing_in};
+ghost use Rattle.tool_files.specs.Standing.{standing_of};
 ghost use Rattle.tool_files.specs.Steps.{then_done};
 ghost use Rattle.tool_files.specs.Steps.Step.{Wrote};
+ghost use Rattle.tool_files.specs.There.{SameElsewhere};
 
 use crate::{FileError, FileFault, FileName, Place, check_free};
 use std::alloc::{AllocError, Allocator};
@@ -38,6 +42,8 @@ struct Beside<'a, 'b, A: Allocator> {
     path: String<A>,
     // the path that it has
     temporary: String<A>,
+    // its permissions, if any were asked for
+    permissions: Option<Permissions>,
 }
 
 /// Writes files that are numbered, as [`place_files`] does. `next` is the name behind the last.
@@ -55,6 +61,8 @@ pub fn place_series<'a, P: Place, A: Allocator + Copy>(
     ensures free { OnOk result
         (IfSome (P.there place.old (path_text next.entry)) (λ there. there ≡ false)) }
     ensures placed { OnOk result (ArePlaced (P.done place.old) wanted.now (P.done place.new)) }
+    ensures kept { OnOk result
+        (AreModesKept (P.modes place.old) (P.done place.old) (P.done place.new)) }
     // Where it is refused for what has that name, this is told, and nothing was done.
     ensures left { IfErr result (λ e. TellsLeft e (path_text next.entry)
         (P.there place.old (path_text next.entry)) (P.done place.old) (P.done place.new)) }
@@ -64,7 +72,7 @@ pub fn place_series<'a, P: Place, A: Allocator + Copy>(
     ensures refused { IfErr result (λ e.
         StopLooking (P.done place.old) (path_text next.entry)
         (P.there place.old (path_text next.entry)) e (P.done place.new)
-        ⊎ AreNotPlaced (P.done place.old) wanted.now e (P.done place.new)) }
+        ⊎ AreNotPlaced (P.there place.old) (P.done place.old) wanted.now e (P.done place.new)) }
 {
     match check_next(place, alloc, &next) {
         Ok(()) => place_files(place, alloc, wanted),
@@ -104,9 +112,12 @@ pub fn place_files<'a, P: Place, A: Allocator + Copy>(
 ) -> Result<(), FileError<'a>>
     // Where it answers, all were written, then renamed, then synced.
     ensures placed { OnOk result (ArePlaced (P.done place.old) wanted.now (P.done place.new)) }
+    // Each has the permissions of the plain file that it replaces, and replaces nothing else.
+    ensures kept { OnOk result
+        (AreModesKept (P.modes place.old) (P.done place.old) (P.done place.new)) }
     // Where it is refused, this was done and no more, and a refusal says which file it was.
     ensures refused { IfErr result (λ e.
-        AreNotPlaced (P.done place.old) wanted.now e (P.done place.new)) }
+        AreNotPlaced (P.there place.old) (P.done place.old) wanted.now e (P.done place.new)) }
     // That names one of the files, and tells none of an earlier write.
     ensures named { IfErr result (λ e. Any (λ file. file.name ≡ e.name) wanted.now) }
     ensures left { IfErr result (λ e. IfLeft e.fault ⊥) }
@@ -130,8 +141,10 @@ fn write_each<'a, 'b, P: Place, A: Allocator + Copy>(
 ) -> Result<(), FileError<'a>>
     requires { written.old.items ≡ [] }
     ensures all { OnOk result (AreBeside wanted.now (standing_in written.new.items)) }
+    ensures kept { OnOk result (HaveModesKept (P.modes place.old) (standing_in written.new.items)
+        (standing_in written.new.items)) }
     ensures refused { IfErr result (λ e.
-        StopsBefore wanted.now (standing_in written.new.items) e) }
+        StopsBefore (P.there place.old) wanted.now (standing_in written.new.items) e) }
     ensures done { P.done place.new
         ≡ then_done (P.done place.old) (writing (standing_in written.new.items)) }
 {
@@ -154,8 +167,11 @@ fn add_beside<'a, 'b, P: Place, A: Allocator + Copy>(
     written: &mut Vec<Beside<'a, 'b, A>, A>,
 ) -> Result<(), FileFault>
     ensures added { OnOk result (IsAdded file.now (standing_in written.old.items)
-        (standing_in written.new.items) (P.done place.old) (P.done place.new)) }
+        (standing_in written.new.items) (P.there place.old) (P.there place.new)
+        (P.modes place.old) (P.modes place.new) (P.done place.old) (P.done place.new)) }
     ensures early { IfErr result IsEarly }
+    ensures taken { IfErr result
+        (TellsAllTaken (P.there place.old) (path_text file.now.name)) }
     ensures kept { OnErr result (written.new.items ≡ written.old.items) }
     ensures nothing { OnErr result (P.done place.new ≡ P.done place.old) }
 {
@@ -172,9 +188,12 @@ fn write_beside<'a, 'b, P: Place, A: Allocator + Copy>(
     alloc: A,
     file: &NewFile<'a, 'b>,
 ) -> Result<Beside<'a, 'b, A>, FileFault>
-    ensures written { IfOk result (λ b.
-        IsWritten file.now (standing_of b) (P.done place.old) (P.done place.new)) }
+    ensures written { IfOk result (λ b. IsWritten file.now (standing_of b)
+        (P.there place.old) (P.there place.new) (P.modes place.old) (P.modes place.new)
+        (P.done place.old) (P.done place.new)) }
     ensures early { IfErr result IsEarly }
+    ensures taken { IfErr result
+        (TellsAllTaken (P.there place.old) (path_text file.now.name)) }
     ensures nothing { OnErr result (P.done place.new ≡ P.done place.old) }
 {
     let path = path_of(alloc, &file.name)?;
@@ -185,6 +204,7 @@ fn write_beside<'a, 'b, P: Place, A: Allocator + Copy>(
         file: *file,
         path,
         temporary,
+        permissions,
     })
 }
 
@@ -204,7 +224,7 @@ fn kept(there: Option<Metadata>) -> Result<Option<Permissions>, FileFault>
     ensures same { IfOk result (λ p.
         option_map permissions_mode p ≡ option_map metadata_mode there) }
     ensures plain { OnOk result (IfSome there (λ m. IsFile (file_type m))) }
-    ensures other { OnErr result (IfSome there (λ m. ¬ IsFile (file_type m))) }
+    ensures other { IfErr result (λ fault. IsSomeAnd there (TellsKind fault)) }
     ensures early { IfErr result IsEarly }
 {
     match there {
@@ -225,8 +245,14 @@ fn write_under<P: Place, A: Allocator + Copy>(
 ) -> Result<String<A>, FileFault>
     ensures beside { IfOk result (λ t. IsBeside path.now (string_bytes t)) }
     ensures written { IfOk result (λ t. P.done place.new
-        ≡ then_done (P.done place.old) (Wrote (string_bytes t) bytes.now ∷ [])) }
+        ≡ then_done (P.done place.old) (Wrote (string_bytes t) bytes.now
+        (option_map permissions_mode (option_copied permissions.entry)) ∷ [])) }
+    ensures elsewhere { IfOk result (λ t.
+        SameElsewhere (string_bytes t) (P.there place.old) (P.there place.new)) }
+    ensures same { IfOk result (λ t.
+        SameElsewhere (string_bytes t) (P.modes place.old) (P.modes place.new)) }
     ensures early { IfErr result IsEarly }
+    ensures taken { IfErr result (TellsAllTaken (P.there place.old) path.now) }
     ensures nothing { OnErr result (P.done place.new ≡ P.done place.old) }
 {
     for number in 1..=NAMES {

@@ -2,13 +2,13 @@
 use Rattle.std.proofs.Common.{◌≡◌, refl, sym, ◌∙◌, ap, subst, inl, inr, ℕ, suc, ◌+◌, ◌*◌, ◌<◌, ◌/◌}
 use Rattle.std.proofs.Common.{◌%◌, Bool, true, false, List, [], ◌∷◌, ◌++◌, ◌⊎◌, length, arith}
 use Rattle.std.proofs.Common.{append_assoc, lit<}
-use Rattle.std.specs.Prelude.{Result, Ok, Err, IfErr, if◌then◌else◌, nat_eq, ◌==◌}
+use Rattle.std.specs.Prelude.{Result, Ok, Err, IfErr, IfOk, if◌then◌else◌, nat_eq, ◌==◌}
 use Rattle.std.specs.Char.{digit_char}
 use Rattle.std.specs.Cmp.Lexicographic.{pointwise}
 use Rattle.std.proofs.lemmas.Bool.{eqb-true}
 use Rattle.std.proofs.lemmas.Bool.Decides.{nat_tests}
 use Rattle.sst_entries.proofs.KeyLemmas.{same_is}
-use Rattle.tool_lines.specs.Escapes.{AreBytes, AreCodes, Begins, WordMeans}
+use Rattle.tool_lines.specs.Escapes.{AreBytes, AreCodes, Begins, BeginsSome, WordMeans}
 use Rattle.tool_lines.specs.Escapes.{codes_of, escaped, is_plain, bytes_word}
 use Rattle.tool_lines.specs.Faults.{lacks_memory}
 use Rattle.tool_lines.specs.declared.entry_line.LineError.{LineError}
@@ -131,9 +131,21 @@ pub record Reading (word bytes rest : List ℕ) : Type 0 where
   pub adds : (bs : List ℕ) → AreCodes rest bs → AreCodes word (bytes ++ bs)
   pub parts : (bs : List ℕ) → AreCodes word bs
       → (tail : List ℕ) × (bs ≡ bytes ++ tail) × AreCodes rest tail
+  pub begun : (rest ≡ word) ⊎ BeginsSome word
 
 pub reading_starts : (word : List ℕ) → Reading word [] word
-reading_starts word = record { adds = λ bs h. h; parts = λ bs h. (bs, refl, h) }
+reading_starts word = record {
+  adds = λ bs h. h;
+  parts = λ bs h. (bs, refl, h);
+  begun = inl refl;
+}
+
+-- a word of which something was read, or is read next, begins with it
+pub begins_with : (word rest behind : List ℕ) (b : ℕ) → Begins rest b behind
+    → (rest ≡ word) ⊎ BeginsSome word → BeginsSome word
+begins_with word rest behind b begins (inl all) =
+    (b, behind, subst (λ (w : List ℕ). Begins w b behind) all begins)
+begins_with word rest behind b begins (inr begun) = begun
 
 tail_step : (bytes bs tail rest behind : List ℕ) (b : ℕ) → Begins rest b behind
     → bs ≡ bytes ++ tail → AreCodes rest tail
@@ -155,7 +167,31 @@ reading_goes word bytes rest behind b begins r = record {
   parts = λ bs h.
       let p = r.parts bs h in
       tail_step bytes bs p.0 rest behind b begins p.1 p.2;
+  begun = inr (begins_with word rest behind b begins r.begun);
 }
+
+-- a word that stands for bytes begins with a byte's code
+pub means_begins : (word bs : List ℕ) → WordMeans word bs → BeginsSome word
+means_begins word [] h =
+    subst BeginsSome (sym h) (45, [], (lit< tt, inl (refl, refl)))
+means_begins word (b ∷ bs) h = (b, h.1.0, h.1.1)
+
+-- one that begins with none is refused so
+pub none_begins : {X : Type 0} (view : X → List ℕ) (r : Result X LineError) (word : List ℕ)
+    (fault : LineError) → IfOk r (λ x. WordMeans word (view x))
+    → IfErr r (λ e. (e ≡ fault) ⊎ BeginsSome word) → (BeginsSome word → ⊥) → r ≡ Err fault
+none_begins view (Ok x) word fault means told none =
+    absurd (none (means_begins word (view x) means))
+none_begins view (Err e) word fault means told none = elim told [
+  | inl is ↦ ap Err is
+  | inr begins ↦ absurd (none begins)
+]
+
+-- what begins so
+pub begun_err : {X : Type 0} (r : Result X LineError) (word : List ℕ) (fault : LineError)
+    → BeginsSome word → IfErr r (λ e. (e ≡ fault) ⊎ BeginsSome word)
+begun_err (Ok x) word fault h = tt
+begun_err (Err e) word fault h = inr h
 
 stops_by : (rest tail : List ℕ) → (rest ≡ [] → ⊥)
     → ((b : ℕ) (r : List ℕ) → Begins rest b r → ⊥) → AreCodes rest tail → ⊥

@@ -13,8 +13,9 @@ use Rattle.json.specs.Written.{Written}
 use Rattle.json.specs.declared.value.Value.{Object, Value, the_lemmas}
 use Rattle.sst_entries.specs.Entry.{Entry}
 use Rattle.tool_lines.specs.Faults.{lacks_memory}
-use Rattle.tool_lines.specs.ObjectLine.{FourMembers, HasMore, IsEntryObject, IsObjectFault}
-use Rattle.tool_lines.specs.ObjectLine.{IsStrictLine, LacksMembers, MeansBytes, MeansNumber}
+use Rattle.tool_lines.specs.ObjectLine.{FourMembers, HasMore, IsBytesMember, IsEntryObject}
+use Rattle.tool_lines.specs.ObjectLine.{IsObjectFault, IsStrictLine, LacksMembers, MeansBytes}
+use Rattle.tool_lines.specs.ObjectLine.{MeansNumber}
 use Rattle.tool_lines.specs.ObjectLine.{SpellsObject, StandsInDigits, WritesBytes, WritesEntry}
 use Rattle.tool_lines.specs.ObjectLine.{kind_name}
 use Rattle.tool_lines.specs.declared.entry_line.LineError.{LineError}
@@ -186,14 +187,24 @@ no_object_fault line e fault.Kind h k = absurd k
 no_object_fault line e fault.Value h k = absurd k
 no_object_fault line e fault.Json h k = absurd (k h.members.members h.members.strict)
 no_object_fault line e fault.Members h k = absurd (k.1 h.members)
-no_object_fault line e fault.KeyMember h k = absurd (k.1 e.user_key
-    (subst (λ (j : Json). MeansBytes j e.user_key) (four_once line h.members k.0).0 h.key_is))
-no_object_fault line e fault.NumberMember h k = absurd (k.1 e.seqno
-    (subst (λ (j : Json). MeansNumber j e.seqno) (four_once line h.members k.0).1 h.seqno_is))
+no_object_fault line e fault.KeyMember h k = absurd (k.3 (
+  e.user_key,
+  subst (λ (j : Json). MeansBytes j e.user_key) (four_once line h.members k.0).0 h.key_is,
+))
+no_object_fault line e fault.NumberMember h k = absurd (k.1 (
+  e.seqno,
+  subst (λ (j : Json). MeansNumber j e.seqno) (four_once line h.members k.0).1 h.seqno_is,
+))
 no_object_fault line e fault.KindMember h k =
-    absurd (k.1 e.kind (sym (four_once line h.members k.0).2 ∙ h.kind_is))
-no_object_fault line e fault.ValueMember h k = absurd (k.1 e.value
-    (subst (λ (j : Json). MeansBytes j e.value) (four_once line h.members k.0).3 h.value_is))
+    absurd (k.2 (e.kind, sym (four_once line h.members k.0).2 ∙ h.kind_is))
+no_object_fault line e fault.ValueMember h k = absurd (k.4 (
+  e.value,
+  subst (λ (j : Json). MeansBytes j e.value) (four_once line h.members k.0).3 h.value_is,
+))
+
+-- what stands for no bytes
+pub no_bytes : (json : Json) → ((bytes : List ℕ) → ¬ MeansBytes json bytes) → ¬ IsBytesMember json
+no_bytes json none h = none h.0 h.1
 
 -- so a line that has one spells none
 pub spells_no_object : {X : Type 0} (told : Result X LineError) (line : List ℕ)

@@ -24,15 +24,17 @@ use Rattle.sst_entries.specs.Entry.{Entry, entry}
 use Rattle.sst_entries.specs.declared.value_type.ValueType.{ValueType}
 use Rattle.sst_entries.specs.declared.value_type.ValueType.TheVariants.{Value, Tombstone}
 use Rattle.sst_entries.specs.declared.value_type.ValueType.TheVariants.{WeakTombstone, Indirection}
-use Rattle.tool_lines.specs.Escapes.{AreCodes, WordMeans, escaped, is_plain, bytes_word}
+use Rattle.tool_lines.specs.Escapes.{AreCodes, BeginsSome, IsBytesWord, WordMeans, escaped}
+use Rattle.tool_lines.specs.Escapes.{bytes_word, is_plain}
 use Rattle.tool_lines.specs.Faults.{lacks_memory}
-use Rattle.tool_lines.specs.WordLine.{SpellsNumber, FourWords, IsWordFault, SpellsEntry, kind_letter}
-use Rattle.tool_lines.specs.WordLine.{word_line, line_words_behind, line_words}
+use Rattle.tool_lines.specs.WordLine.{FourWords, IsEarlyFault, IsKindWord, IsNumberWord, IsWordFault}
+use Rattle.tool_lines.specs.WordLine.{SpellsEntry, SpellsNumber, kind_letter, line_words}
+use Rattle.tool_lines.specs.WordLine.{line_words_behind, word_line}
 use Rattle.tool_lines.specs.declared.entry_line.LineError.{LineError}
 use Rattle.tool_lines.specs.declared.entry_line.LineError.TheVariants.{OutOfMemory, Words, Key}
 use Rattle.tool_lines.specs.declared.entry_line.LineError.TheVariants.{Number, Kind, Json, Members}
 use Rattle.tool_lines.specs.declared.entry_line.LineError.TheVariants as fault
-use Rattle.tool_lines.proofs.EscapeLemmas.{stands_once}
+use Rattle.tool_lines.proofs.EscapeLemmas.{means_begins, stands_once}
 
 abbrev pub is_space : ℕ → Bool
 is_space b = b == 32
@@ -230,13 +232,18 @@ pub no_fault : (line : List ℕ) (e : Entry) (f : LineError) → SpellsEntry lin
     → f ≡ OutOfMemory
 no_fault line e OutOfMemory h k = refl
 no_fault line e Words h k = absurd (k (ap length h.words.are))
-no_fault line e Key h k = absurd (k.1 e.user_key
-    (subst (λ (w : List ℕ). WordMeans w e.user_key) (words_once line h.words k.0).0 h.key_is))
-no_fault line e Number h k = absurd (k.1 e.seqno
-    (subst (λ (w : List ℕ). SpellsNumber w e.seqno) (words_once line h.words k.0).1 h.seqno_is))
-no_fault line e Kind h k = absurd (k.1 e.kind (sym (words_once line h.words k.0).2 ∙ h.kind_is))
-no_fault line e (fault.Value) h k = absurd (k.1 e.value
-    (subst (λ (w : List ℕ). WordMeans w e.value) (words_once line h.words k.0).3 h.value_is))
+no_fault line e Key h k = absurd (k.3 (
+  e.user_key,
+  subst (λ (w : List ℕ). WordMeans w e.user_key) (words_once line h.words k.0).0 h.key_is,
+))
+no_fault line e Number h k =
+    absurd (k.1 (subst IsNumberWord (words_once line h.words k.0).1 h.seqno_is.number))
+no_fault line e Kind h k =
+    absurd (k.2 (e.kind, sym (words_once line h.words k.0).2 ∙ h.kind_is))
+no_fault line e (fault.Value) h k = absurd (k.4 (
+  e.value,
+  subst (λ (w : List ℕ). WordMeans w e.value) (words_once line h.words k.0).3 h.value_is,
+))
 no_fault line e Json h k = absurd k
 no_fault line e Members h k = absurd k
 no_fault line e (fault.KeyMember) h k = absurd k
@@ -295,6 +302,124 @@ pub passed_on : {X : Type 0} (P : LineError → Type 0) (r : Result X LineError)
     → IsErrAnd r (λ y. y ≡ e) → P e → IfErr r P
 passed_on P (Ok x) e is h = absurd is
 passed_on P (Err y) e is h = subst P (sym is) h
+
+-- ---- which fault is told
+
+-- how far a line is right where it is refused
+data Stage (line : List ℕ) (e : LineError) : Type 0 where
+  at_words : e ≡ Words → (length (line_words line) ≡ 4 → ⊥) → Stage line e
+  at_number : e ≡ Number → (w : FourWords line) → (IsNumberWord w.number → ⊥) → Stage line e
+  at_kind : e ≡ Kind → (w : FourWords line) → IsNumberWord w.number → (IsKindWord w.kind → ⊥)
+      → Stage line e
+  at_key : e ≡ Key → (w : FourWords line) → IsNumberWord w.number → IsKindWord w.kind → Stage line e
+  at_later : (w : FourWords line) → IsNumberWord w.number → IsKindWord w.kind → BeginsSome w.key
+      → Stage line e
+
+stage_of : (line : List ℕ) (e : LineError) → IsWordFault line e → Stage line e
+stage_of line OutOfMemory h = at_later h.0 h.1 h.2 h.3
+stage_of line Words h = at_words refl h
+stage_of line Number h = at_number refl h.0 h.1
+stage_of line Kind h = at_kind refl h.0 h.1 h.2
+stage_of line Key h = at_key refl h.0 h.1 h.2
+stage_of line (fault.Value) h = at_later h.0 h.1 h.2 (means_begins h.0.key h.3.0 h.3.1)
+stage_of line Json h = absurd h
+stage_of line Members h = absurd h
+stage_of line (fault.KeyMember) h = absurd h
+stage_of line (fault.NumberMember) h = absurd h
+stage_of line (fault.KindMember) h = absurd h
+stage_of line (fault.ValueMember) h = absurd h
+
+module _ (line : List ℕ) (w v : FourWords line) where
+  same_number : IsNumberWord w.number → IsNumberWord v.number
+  same_number h = subst IsNumberWord (words_once line w v).1 h
+
+  same_kind : IsKindWord w.kind → IsKindWord v.kind
+  same_kind h = subst IsKindWord (words_once line w v).2 h
+
+  same_key : BeginsSome w.key → BeginsSome v.key
+  same_key h = subst BeginsSome (words_once line w v).0 h
+
+-- a fault that is found before memory is wanted is the one that is told
+early_at : (line : List ℕ) (f e : LineError) → IsEarlyFault line f → Stage line e → e ≡ f
+early_at line Words e h (at_words is none) = is
+early_at line Words e h (at_number is w none) = absurd (h (ap length w.are))
+early_at line Words e h (at_kind is w good none) = absurd (h (ap length w.are))
+early_at line Words e h (at_key is w good letter) = absurd (h (ap length w.are))
+early_at line Words e h (at_later w good letter some) = absurd (h (ap length w.are))
+early_at line Number e h (at_words is none) = absurd (none (ap length h.0.are))
+early_at line Number e h (at_number is w none) = is
+early_at line Number e h (at_kind is w good none) = absurd (h.1 (same_number line w h.0 good))
+early_at line Number e h (at_key is w good letter) = absurd (h.1 (same_number line w h.0 good))
+early_at line Number e h (at_later w good letter some) = absurd (h.1 (same_number line w h.0 good))
+early_at line Kind e h (at_words is none) = absurd (none (ap length h.0.are))
+early_at line Kind e h (at_number is w none) = absurd (none (same_number line h.0 w h.1))
+early_at line Kind e h (at_kind is w good none) = is
+early_at line Kind e h (at_key is w good letter) = absurd (h.2 (same_kind line w h.0 letter))
+early_at line Kind e h (at_later w good letter some) = absurd (h.2 (same_kind line w h.0 letter))
+early_at line Key e h (at_words is none) = absurd (none (ap length h.0.are))
+early_at line Key e h (at_number is w none) = absurd (none (same_number line h.0 w h.1))
+early_at line Key e h (at_kind is w good none) = absurd (none (same_kind line h.0 w h.2))
+early_at line Key e h (at_key is w good letter) = is
+early_at line Key e h (at_later w good letter some) = absurd (h.3 (same_key line w h.0 some))
+early_at line OutOfMemory e h stage = absurd h
+early_at line (fault.Value) e h stage = absurd h
+early_at line Json e h stage = absurd h
+early_at line Members e h stage = absurd h
+early_at line (fault.KeyMember) e h stage = absurd h
+early_at line (fault.NumberMember) e h stage = absurd h
+early_at line (fault.KindMember) e h stage = absurd h
+early_at line (fault.ValueMember) e h stage = absurd h
+
+-- a line that spells an entry has none
+early_none : (line : List ℕ) (f : LineError) (e : Entry) → IsEarlyFault line f
+    → SpellsEntry line e → ⊥
+early_none line Words e h spells = h (ap length spells.words.are)
+early_none line Number e h spells = h.1 (same_number line spells.words h.0 spells.seqno_is.number)
+early_none line Kind e h spells =
+    h.2 (same_kind line spells.words h.0 (e.kind, spells.kind_is))
+early_none line Key e h spells =
+    h.3 (same_key line spells.words h.0 (means_begins spells.words.key e.user_key spells.key_is))
+early_none line OutOfMemory e h spells = h
+early_none line (fault.Value) e h spells = h
+early_none line Json e h spells = h
+early_none line Members e h spells = h
+early_none line (fault.KeyMember) e h spells = h
+early_none line (fault.NumberMember) e h spells = h
+early_none line (fault.KindMember) e h spells = h
+early_none line (fault.ValueMember) e h spells = h
+
+pub early_told : (r : Result Entry LineError) (line : List ℕ) → IfOk r (SpellsEntry line)
+    → IfErr r (IsWordFault line) → (f : LineError) → IsEarlyFault line f → r ≡ Err f
+early_told (Ok e) line spells wrong f early = absurd (early_none line f e early spells)
+early_told (Err e) line spells wrong f early =
+    ap Err (early_at line f e early (stage_of line e wrong))
+
+-- a word that stands for no bytes
+none_means : (word : List ℕ) → ((bytes : List ℕ) → WordMeans word bytes → ⊥) → IsBytesWord word → ⊥
+none_means word none h = none h.0 h.1
+
+-- a key that is refused
+pub key_fault : (line : List ℕ) (w : FourWords line) (e : LineError) → IsNumberWord w.number
+    → IsKindWord w.kind
+    → (lacks_memory e ≡ false → (e ≡ Key) × ((key : List ℕ) → WordMeans w.key key → ⊥))
+    → (e ≡ Key) ⊎ BeginsSome w.key → IsWordFault line e
+key_fault line w e good letter refused (inl is) =
+    subst (IsWordFault line) (sym is)
+    (w, good, letter, none_means w.key (refused (ap lacks_memory is)).1)
+key_fault line w e good letter refused (inr begun) =
+    fault_by (IsWordFault line) e Key (w, good, letter, begun) (λ fine.
+    let told = refused fine in (told.0, (w, good, letter, none_means w.key told.1)))
+
+-- a value that is refused behind a key that is none
+pub value_fault : (line : List ℕ) (w : FourWords line) (e : LineError) (key : List ℕ)
+    → IsNumberWord w.number → IsKindWord w.kind → WordMeans w.key key
+    → (lacks_memory e ≡ false → (e ≡ fault.Value) × ((value : List ℕ) → WordMeans w.value value → ⊥))
+    → IsWordFault line e
+value_fault line w e key good letter means refused =
+    fault_by (IsWordFault line) e fault.Value
+    (w, good, letter, means_begins w.key key means) (λ fine.
+    let told = refused fine in
+    (told.0, (w, good, letter, (key, means), none_means w.value told.1)))
 
 -- a letter that is none
 pub no_kind : (word : List ℕ) (r : Option ValueType) → r ≡ None

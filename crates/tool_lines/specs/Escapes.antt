@@ -31,6 +31,10 @@ abbrev pub Begins : List ℕ → ℕ → List ℕ → Type 0
 Begins word b rest =
     (b < 256) × (((is_plain b ≡ true) × (word ≡ b ∷ rest)) ⊎ (word ≡ escaped b ++ rest))
 
+-- a word begins with what may be read for some byte
+abbrev pub BeginsSome : List ℕ → Type 0
+BeginsSome word = (b : ℕ) × (rest : List ℕ) × Begins word b rest
+
 -- a word is what may be read for some bytes, one behind the other
 abbrev pub AreCodes : List ℕ → List ℕ → Type 0
 AreCodes word [] = word ≡ []
@@ -40,6 +44,10 @@ AreCodes word (b ∷ bs) = (rest : List ℕ) × Begins word b rest × AreCodes r
 abbrev pub WordMeans : List ℕ → List ℕ → Type 0
 WordMeans word [] = word ≡ 45 ∷ []
 WordMeans word (b ∷ bs) = (word ≢ 45 ∷ []) × AreCodes word (b ∷ bs)
+
+-- a word stands for bytes
+abbrev pub IsBytesWord : List ℕ → Type 0
+IsBytesWord word = (bytes : List ℕ) × WordMeans word bytes
 
 -- numbers that are bytes
 abbrev pub AreBytes : List ℕ → Type 0

@@ -46,6 +46,18 @@ MeansBytes json bytes =
 abbrev pub MeansNumber : Json → ℕ → Type 0
 MeansNumber json n = (word : List ℕ) × (json ≡ number word) × SpellsNumber word n
 
+-- a value stands for a number
+abbrev pub IsNumberMember : Json → Type 0
+IsNumberMember json = (n : ℕ) × MeansNumber json n
+
+-- a value is the name of a kind
+abbrev pub IsKindMember : Json → Type 0
+IsKindMember json = (kind : ValueType) × (json ≡ string (kind_name kind))
+
+-- a value stands for bytes
+abbrev pub IsBytesMember : Json → Type 0
+IsBytesMember json = (bytes : List ℕ) × MeansBytes json bytes
+
 -- a line is a document of JSON, no object of which has a member twice
 pub record IsStrictLine (line : List ℕ) (json : Json) : Type 0 where
   pub utf8 : IsUtf8 line
@@ -90,9 +102,11 @@ pub record SpellsObject (line : List ℕ) (e : Entry) : Type 0 where
   pub kind_is : members.kind ≡ string (kind_name e.kind)
   pub value_is : MeansBytes members.value e.value
 
--- what is wrong of a line that is to be an object is said truly
+-- what is wrong of a line that is to be an object is said truly, and it is its first fault: these
+-- are looked for in its text, its members, its number, its kind, its key and its value, in this
+-- order; of a line that is no UTF-8 no memory is wanted
 abbrev pub IsObjectFault : List ℕ → LineError → Type 0
-IsObjectFault line fault.OutOfMemory = Unit {0}
+IsObjectFault line fault.OutOfMemory = IsUtf8 line
 IsObjectFault line fault.Words = ⊥
 IsObjectFault line fault.Key = ⊥
 IsObjectFault line fault.Number = ⊥
@@ -101,14 +115,14 @@ IsObjectFault line fault.Value = ⊥
 IsObjectFault line fault.Json = (members : Members) → ¬ IsStrictLine line (object members)
 IsObjectFault line fault.Members =
     ((members : Members) × IsStrictLine line (object members)) × ¬ FourMembers line
-IsObjectFault line fault.KeyMember =
-    (four : FourMembers line) × ((key : List ℕ) → ¬ MeansBytes four.key key)
-IsObjectFault line fault.NumberMember =
-    (four : FourMembers line) × ((n : ℕ) → ¬ MeansNumber four.seqno n)
+IsObjectFault line fault.NumberMember = (four : FourMembers line) × ¬ IsNumberMember four.seqno
 IsObjectFault line fault.KindMember =
-    (four : FourMembers line) × ((kind : ValueType) → four.kind ≢ string (kind_name kind))
-IsObjectFault line fault.ValueMember =
-    (four : FourMembers line) × ((value : List ℕ) → ¬ MeansBytes four.value value)
+    (four : FourMembers line) × IsNumberMember four.seqno × ¬ IsKindMember four.kind
+IsObjectFault line fault.KeyMember = (four : FourMembers line)
+    × IsNumberMember four.seqno × IsKindMember four.kind × ¬ IsBytesMember four.key
+IsObjectFault line fault.ValueMember = (four : FourMembers line)
+    × IsNumberMember four.seqno × IsKindMember four.kind × IsBytesMember four.key
+    × ¬ IsBytesMember four.value
 
 -- an object of the digits of some bytes
 abbrev pub digits_tokens : List ℕ → List Token

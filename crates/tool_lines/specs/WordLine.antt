@@ -9,7 +9,7 @@ use Rattle.sst_entries.specs.Entry.{Entry}
 use Rattle.sst_entries.specs.declared.value_type.ValueType.{ValueType}
 use Rattle.sst_entries.specs.declared.value_type.ValueType.TheVariants.{Value, Tombstone}
 use Rattle.sst_entries.specs.declared.value_type.ValueType.TheVariants.{WeakTombstone, Indirection}
-use Rattle.tool_lines.specs.Escapes.{WordMeans, bytes_word}
+use Rattle.tool_lines.specs.Escapes.{BeginsSome, IsBytesWord, WordMeans, bytes_word}
 use Rattle.tool_lines.specs.declared.entry_line.LineError.{LineError}
 use Rattle.tool_lines.specs.declared.entry_line.LineError.TheVariants as fault
 
@@ -42,6 +42,10 @@ pub record IsNumberWord (word : List ℕ) : Type 0 where
   pub no_zeros : slice_index word 0 ≡ 48 → length word ≡ 1
   pub fits : digits_value 10 word < 2 ^ 64
 
+-- a word is the letter of a kind
+abbrev pub IsKindWord : List ℕ → Type 0
+IsKindWord word = (kind : ValueType) × (word ≡ kind_letter kind ∷ [])
+
 -- a number's word, and the number
 pub record SpellsNumber (word : List ℕ) (n : ℕ) : Type 0 where
   pub number : IsNumberWord word
@@ -63,21 +67,34 @@ pub record SpellsEntry (line : List ℕ) (e : Entry) : Type 0 where
   pub kind_is : words.kind ≡ kind_letter e.kind ∷ []
   pub value_is : WordMeans words.value e.value
 
--- what is wrong of a line is said truly
+-- what is wrong of a line is said truly, and it is its first fault: these are looked for in the
+-- number of its words, its number, its kind, its key and its value, in this order; memory is wanted
+-- from the key on, behind what its word begins with
 abbrev pub IsWordFault : List ℕ → LineError → Type 0
-IsWordFault line fault.OutOfMemory = Unit {0}
+IsWordFault line fault.OutOfMemory = (words : FourWords line)
+    × IsNumberWord words.number × IsKindWord words.kind × BeginsSome words.key
 IsWordFault line fault.Words = length (line_words line) ≢ 4
-IsWordFault line fault.Key =
-    (words : FourWords line) × ((key : List ℕ) → ¬ WordMeans words.key key)
-IsWordFault line fault.Number =
-    (words : FourWords line) × ((n : ℕ) → ¬ SpellsNumber words.number n)
+IsWordFault line fault.Number = (words : FourWords line) × ¬ IsNumberWord words.number
 IsWordFault line fault.Kind =
-    (words : FourWords line) × ((kind : ValueType) → words.kind ≢ kind_letter kind ∷ [])
-IsWordFault line fault.Value =
-    (words : FourWords line) × ((value : List ℕ) → ¬ WordMeans words.value value)
+    (words : FourWords line) × IsNumberWord words.number × ¬ IsKindWord words.kind
+IsWordFault line fault.Key = (words : FourWords line)
+    × IsNumberWord words.number × IsKindWord words.kind × ¬ IsBytesWord words.key
+IsWordFault line fault.Value = (words : FourWords line)
+    × IsNumberWord words.number × IsKindWord words.kind × IsBytesWord words.key
+    × ¬ IsBytesWord words.value
 IsWordFault line fault.Json = ⊥
 IsWordFault line fault.Members = ⊥
 IsWordFault line fault.KeyMember = ⊥
 IsWordFault line fault.NumberMember = ⊥
 IsWordFault line fault.KindMember = ⊥
 IsWordFault line fault.ValueMember = ⊥
+
+-- a fault of a line that takes no memory to be found: that of the number of its words, its number
+-- or its kind, or a key whose word begins with nothing that may be read for a byte
+abbrev pub IsEarlyFault : List ℕ → LineError → Type 0
+IsEarlyFault line fault.Words = IsWordFault line fault.Words
+IsEarlyFault line fault.Number = IsWordFault line fault.Number
+IsEarlyFault line fault.Kind = IsWordFault line fault.Kind
+IsEarlyFault line fault.Key = (words : FourWords line)
+    × IsNumberWord words.number × IsKindWord words.kind × ¬ BeginsSome words.key
+IsEarlyFault line _ = ⊥

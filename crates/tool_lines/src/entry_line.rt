@@ -1,14 +1,17 @@
 //! Entries as lines.
 ghost use Rattle.std.specs.Prelude.{◌≡◌, ◌≢◌, ◌++◌, ◌∷◌, ℕ, [], All, IfErr, IfOk, List, OnOk};
-ghost use Rattle.std.specs.Prelude.{false};
+ghost use Rattle.std.specs.Prelude.{Err, false};
+ghost use Rattle.std.specs.Str.{IsUtf8};
 ghost use Rattle.sst_entries.specs.Entry.{Entry};
 ghost use Rattle.sst_entries.specs.Lending.{entry_of_ref};
 ghost use Rattle.json.specs.Print.{print};
 ghost use Rattle.json.specs.Token.{Token};
 ghost use Rattle.tool_lines.specs.Faults.{lacks_memory};
 ghost use Rattle.tool_lines.specs.ObjectLine.{IsObjectFault, SpellsObject, WritesEntry};
-ghost use Rattle.tool_lines.specs.WordLine.{IsWordFault, SpellsEntry, word_line};
+ghost use Rattle.tool_lines.specs.WordLine.{IsEarlyFault, IsWordFault, SpellsEntry, word_line};
 ghost use Rattle.tool_lines.specs.declared.entry_line.Format.TheVariants.{Json, Lines};
+ghost use Rattle.tool_lines.specs.declared.entry_line.LineError.{LineError as LineFault};
+ghost use Rattle.tool_lines.specs.declared.entry_line.LineError.TheVariants as told;
 ghost use Rattle.tool_lines.specs.declared.entry_line.LineError.TheVariants.{OutOfMemory};
 
 use crate::object_line::{parse_object, push_object};
@@ -112,7 +115,8 @@ pub fn read_back<A: Allocator + Copy>(
 }
 
 /// The entry of a line without its end. The members of an object may come in any order, and no
-/// further one may come. Refused with what is wrong of the line.
+/// further one may come. Refused with what is wrong of the line: of several faults the first in
+/// this order, that of the words or of the object, the number, the kind, the key, the value.
 pub fn parse_entry<A: Allocator + Copy>(
     alloc: A,
     line: &[u8],
@@ -122,6 +126,10 @@ pub fn parse_entry<A: Allocator + Copy>(
     ensures refused { format ≡ Lines → IfErr result (λ e. IsWordFault line.now e) }
     ensures object { format ≡ Json → IfOk result (λ e. SpellsObject line.now e) }
     ensures refused_object { format ≡ Json → IfErr result (λ e. IsObjectFault line.now e) }
+    // What takes no memory to be found is told whatever memory there is.
+    ensures early { format ≡ Lines → (fault : LineFault) → IsEarlyFault line.now fault →
+        result ≡ Err fault }
+    ensures early_object { format ≡ Json → ¬ IsUtf8 line.now → result ≡ Err told.Json }
     // So a line that is refused spells no entry, but for want of memory.
     ensures no_words { format ≡ Lines → IfErr result (λ e. lacks_memory e ≡ false
         → (item : Entry) → ¬ SpellsEntry line.now item) }

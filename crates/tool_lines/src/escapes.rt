@@ -1,8 +1,9 @@
 //! Any bytes as one word of visible bytes.
-ghost use Rattle.std.specs.Prelude.{◌≡◌, ◌≢◌, ◌<◌, ℕ, List, ◌∷◌, ◌++◌, length, false, OnOk};
-ghost use Rattle.std.specs.Prelude.{IfSome, IfNone, IfOk, IfErr};
+ghost use Rattle.std.specs.Prelude.{◌≡◌, ◌≢◌, ◌⊎◌, ◌<◌, ℕ, List, ◌∷◌, ◌++◌, length, false, OnOk};
+ghost use Rattle.std.specs.Prelude.{[], Err, IfSome, IfNone, IfOk, IfErr, IsOk};
 ghost use Rattle.std.specs.Char.{digit_char};
-ghost use Rattle.tool_lines.specs.Escapes.{AreBytes, AreCodes, Begins, WordMeans, byte_code};
+ghost use Rattle.tool_lines.specs.Escapes.{AreBytes, AreCodes, Begins, BeginsSome, WordMeans};
+ghost use Rattle.tool_lines.specs.Escapes.{byte_code};
 ghost use Rattle.tool_lines.specs.Escapes.{codes_of, escaped, is_plain, bytes_word};
 ghost use Rattle.tool_lines.specs.Faults.{lacks_memory};
 ghost use Rattle.tool_lines.specs.declared.entry_line.LineError.TheVariants.{Key};
@@ -95,6 +96,10 @@ pub fn parse_bytes<A: Allocator>(alloc: A, word: &[u8]) -> Result<Vec<u8, A>, Li
     ensures bytes { IfOk result (λ bytes. WordMeans word.now bytes.items) }
     ensures refused { IfErr result (λ e. lacks_memory e ≡ false →
         (e ≡ Key) × ((bytes : List ℕ) → ¬ WordMeans word.now bytes)) }
+    // A word that begins with no byte's code is refused so whatever memory there is, and one for no
+    // bytes wants none.
+    ensures early { ¬ BeginsSome word.now → result ≡ Err Key }
+    ensures none { word.now ≡ 45 ∷ [] → IsOk result }
 {
     parse_word(alloc, word, LineError::Key)
 }
@@ -109,6 +114,9 @@ pub(crate) fn parse_word<A: Allocator>(
     ensures bytes { IfOk result (λ bytes. WordMeans word.now bytes.items) }
     ensures refused { IfErr result (λ e. lacks_memory e ≡ false →
         (e ≡ fault) × ((bytes : List ℕ) → ¬ WordMeans word.now bytes)) }
+    // Memory is wanted behind the first code.
+    ensures began { IfErr result (λ e. (e ≡ fault) ⊎ BeginsSome word.now) }
+    ensures none { word.now ≡ 45 ∷ [] → IsOk result }
 {
     if word.is_empty() {
         return Err(fault);
@@ -128,6 +136,7 @@ fn parse_codes<A: Allocator>(
     ensures bytes { IfOk result (λ bytes. AreCodes word.now bytes.items) }
     ensures refused { IfErr result (λ e. lacks_memory e ≡ false →
         (e ≡ fault) × ((bytes : List ℕ) → ¬ AreCodes word.now bytes)) }
+    ensures began { IfErr result (λ e. (e ≡ fault) ⊎ BeginsSome word.now) }
 {
     let mut bytes = Vec::new(alloc);
     let mut rest = word;

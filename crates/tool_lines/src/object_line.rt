@@ -1,6 +1,7 @@
 //! Entries as objects of JSON.
 ghost use Rattle.std.specs.Prelude.{◌≡◌, ◌≢◌, ◌<◌, ◌^◌, ◌++◌, ◌∷◌, ℕ, IfErr, IfNone, IfOk};
-ghost use Rattle.std.specs.Prelude.{IfSome, List, OnOk, false, length};
+ghost use Rattle.std.specs.Prelude.{Err, IfSome, List, OnOk, false, length};
+ghost use Rattle.std.specs.Str.{IsUtf8};
 ghost use Rattle.json.specs.Json.{Json, Members, object, string};
 ghost use Rattle.json.specs.Strict.{keys};
 ghost use Rattle.json.specs.Print.{print};
@@ -14,6 +15,7 @@ ghost use Rattle.tool_lines.specs.ObjectLine.{AreMembers, HasMore, IsEntryObject
 ghost use Rattle.tool_lines.specs.ObjectLine.{IsStrictLine, LacksMembers, MeansBytes, MeansNumber};
 ghost use Rattle.tool_lines.specs.ObjectLine.{SpellsObject, StandsInDigits, WritesBytes};
 ghost use Rattle.tool_lines.specs.ObjectLine.{WritesEntry, digits_tokens, kind_name};
+ghost use Rattle.tool_lines.specs.declared.entry_line.LineError.TheVariants as told;
 ghost use Rattle.tool_lines.specs.declared.entry_line.LineError.TheVariants.{KindMember};
 ghost use Rattle.tool_lines.specs.declared.entry_line.LineError.TheVariants.{NumberMember};
 
@@ -117,13 +119,15 @@ fn name_of(kind: ValueType) -> &'static str
     }
 }
 
-/// The entry that an object describes. Refused with what is wrong of the line.
+/// The entry that an object describes. Refused with what is wrong first of the line: its text, its
+/// members, the number, the kind, the key, the value; and for want of memory from the text on.
 pub(crate) fn parse_object<A: Allocator + Copy>(
     alloc: A,
     line: &[u8],
 ) -> Result<InternalValue<A>, LineError>
     ensures spells { IfOk result (λ e. SpellsObject line.now e) }
     ensures refused { IfErr result (λ e. IsObjectFault line.now e) }
+    ensures early { ¬ IsUtf8 line.now → result ≡ Err told.Json }
 {
     let Ok(text) = str::from_utf8(line) else {
         return Err(LineError::Json);

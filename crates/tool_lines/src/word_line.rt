@@ -1,15 +1,16 @@
 //! Entries as words: KEY NUMBER KIND VALUE.
-ghost use Rattle.std.specs.Prelude.{◌≡◌, ◌≢◌, ◌==◌, ◌<◌, ℕ, List, ◌∷◌, [], ◌++◌, length, false};
-ghost use Rattle.std.specs.Prelude.{Some, OnOk, IfSome, IfNone, IfOk, IfErr};
+ghost use Rattle.std.specs.Prelude.{◌≡◌, ◌≢◌, ◌⊎◌, ◌==◌, ◌<◌, ℕ, List, ◌∷◌, [], ◌++◌, length};
+ghost use Rattle.std.specs.Prelude.{false, Err, Some, OnOk, IfSome, IfNone, IfOk, IfErr};
 ghost use Rattle.std.specs.Option.{SomeIff, option_copied};
 ghost use Rattle.std.specs.List.{position};
 ghost use Rattle.std.specs.Str.Parse.{digits_value};
 ghost use Rattle.sst_entries.specs.Lending.{entry_of_ref};
 ghost use Rattle.sst_entries.specs.declared.value_type.ValueType.{ValueType};
-ghost use Rattle.tool_lines.specs.Escapes.{WordMeans};
+ghost use Rattle.tool_lines.specs.Escapes.{BeginsSome, WordMeans};
 ghost use Rattle.tool_lines.specs.Faults.{lacks_memory};
-ghost use Rattle.tool_lines.specs.WordLine.{IsNumberWord, IsWordFault, SpellsEntry, kind_letter};
-ghost use Rattle.tool_lines.specs.WordLine.{line_words, line_words_behind, word_line};
+ghost use Rattle.tool_lines.specs.WordLine.{IsEarlyFault, IsNumberWord, IsWordFault, SpellsEntry};
+ghost use Rattle.tool_lines.specs.WordLine.{kind_letter, line_words, line_words_behind, word_line};
+ghost use Rattle.tool_lines.specs.declared.entry_line.LineError.{LineError as LineFault};
 ghost use Rattle.tool_lines.specs.declared.entry_line.LineError.TheVariants.{OutOfMemory};
 
 use crate::LineError;
@@ -56,13 +57,16 @@ fn letter_of(kind: ValueType) -> u8
     }
 }
 
-/// The entry that a line's words spell. Refused with what is wrong of the line.
+/// The entry that a line's words spell. Refused with what is wrong first of the line: how many
+/// words there are, the number, the kind, the key, the value; and for want of memory from the key
+/// on.
 pub(crate) fn parse_words<A: Allocator + Copy>(
     alloc: A,
     line: &[u8],
 ) -> Result<InternalValue<A>, LineError>
     ensures spells { IfOk result (λ e. SpellsEntry line.now e) }
     ensures refused { IfErr result (λ e. IsWordFault line.now e) }
+    ensures early { (fault : LineFault) → IsEarlyFault line.now fault → result ≡ Err fault }
 {
     let Some(words) = split_line(line) else {
         return Err(LineError::Words);
@@ -89,6 +93,7 @@ fn parse_slice<A: Allocator + Clone>(
     ensures bytes { IfOk result (λ bytes. WordMeans word.now bytes) }
     ensures refused { IfErr result (λ e. lacks_memory e ≡ false →
         (e ≡ fault) × ((bytes : List ℕ) → ¬ WordMeans word.now bytes)) }
+    ensures began { IfErr result (λ e. (e ≡ fault) ⊎ BeginsSome word.now) }
 {
     slice_of(parse_word(alloc, word, fault)?)
 }

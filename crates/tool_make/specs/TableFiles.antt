@@ -57,9 +57,9 @@ pub record AreTablesPlaced {A : Type 0} (path : List ℕ) (target : Option ℕ)
 -- files are not placed, or not for good; of several the name behind the last is looked for first
 abbrev pub StopsPlacing : Option ℕ → List ℕ → (List ℕ → Option Bool) → Option (List Step)
     → List NewFile → FileError → Option (List Step) → Type 0
-StopsPlacing None next there known wanted e new = AreNotPlaced known wanted e new
+StopsPlacing None next there known wanted e new = AreNotPlaced there known wanted e new
 StopsPlacing (Some target) next there known wanted e new =
-    StopLooking known next (there next) e new ⊎ AreNotPlaced known wanted e new
+    StopLooking known next (there next) e new ⊎ AreNotPlaced there known wanted e new
 
 -- the files of tables, with just these names and bytes, are not placed, or not for good
 pub record AreTablesNotPlaced {A : Type 0} (path : List ℕ) (target : Option ℕ)

@@ -6,6 +6,7 @@ ghost use Rattle.sst_entries.specs.Strict.{is_before};
 ghost use Rattle.lsm_writers.specs.declared.writer.FinishedTable.{FinishedTable};
 ghost use Rattle.tool_files.specs.Files.{path_text};
 ghost use Rattle.tool_files.specs.Numbered.{named_bytes, numbered_path};
+ghost use Rattle.tool_files.specs.Modes.{AreModesKept};
 ghost use Rattle.tool_files.specs.Placed.{ArePlaced, IfLeft};
 ghost use Rattle.logpurple.specs.Words.{OutOfMemory};
 ghost use Rattle.tool_make.specs.declared.make_error.MakeError.TheVariants.{Refused, SizeTooLarge};
@@ -158,6 +159,8 @@ fn place_tables<'a, P: Place, A: Allocator + Copy>(
     wanted: &[NewFile<'a, '_>],
 ) -> Result<(), FileError<'a>>
     ensures placed { OnOk result (ArePlaced (P.done place.old) wanted.now (P.done place.new)) }
+    ensures kept { OnOk result
+        (AreModesKept (P.modes place.old) (P.done place.old) (P.done place.new)) }
     ensures free { OnOk result (IsFreeBehind target
         (P.there place.old (table_file_name path.now target (length wanted.now + 1)))) }
     ensures stops { IfErr result (λ e.
@@ -190,6 +193,8 @@ fn put_tables<'a, P: Place, A: Allocator + Copy>(
 ) -> Result<(), MakeError<'a>>
     ensures placed { OnOk result (AreTablesPlaced path.now target tables.now
         (P.there place.old) (P.done place.old) (P.done place.new)) }
+    ensures kept { OnOk result
+        (AreModesKept (P.modes place.old) (P.done place.old) (P.done place.new)) }
     ensures refused { IfErr result (λ e. RefusesTables path.now target tables.now
         (P.there place.old) (P.done place.old) e (P.done place.new)) }
     ensures named { IfErr result (TellsTableFile path.now target (length tables.now)) }
@@ -222,6 +227,9 @@ pub fn write_entries<'a, P: Place, I: Read + Drop, A: Allocator + Copy>(
         × AreOfLines options.now (I.remaining input) fs made.entries
         × AreTablesPlaced path.now options.now.target fs
         (P.there place.old) (P.done place.old) (P.done place.new)) }
+    // Each file has the permissions of the plain file that it replaces, and replaces nothing else.
+    ensures kept { OnOk result
+        (AreModesKept (P.modes place.old) (P.done place.old) (P.done place.new)) }
     // There is an entry then, and so a table, and no block or partition is too large.
     ensures some { IfOk result (λ made. 0 < made.tables) }
     ensures small { OnOk result (HasSmallSizes options.now) }

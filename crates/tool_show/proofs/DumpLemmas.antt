@@ -5,7 +5,6 @@ use Rattle.std.proofs.Common.{arith}
 use Rattle.std.proofs.Common.{length, reverse, take}
 use Rattle.std.proofs.lemmas.List.{length-append, length-map, map-append, reverse-reverse, take-map}
 use Rattle.std.specs.Prelude.{Option, None, Some, Result, Ok, Err, IfOk, OnOk}
-use Rattle.std.specs.Io.KnownBytes.{Appends}
 use Rattle.std.proofs.KnownBytes.{Appends-nil, Appends-trans}
 use Rattle.sst_entries.specs.declared.error.Error.{Error}
 use Rattle.sst_entries.specs.Entry.{Entry}
@@ -37,6 +36,29 @@ lines_more format (x ∷ es) e text line lines one = (
   lines_more format es e lines.1 line lines.3 one,
   ap (λ (bytes : List ℕ). bytes ++ line) lines.4 ∙ append_assoc lines.0 lines.1 line,
 )
+
+-- the line of one more was printed behind those of others
+pub line_printed : (format : Format) (es all : List Entry) (e : Entry) (old mid new : Option (List ℕ))
+    → all ≡ es ++ e ∷ [] → PrintsLines format es old mid → PrintsLine format e mid new
+    → PrintsLines format all old new
+line_printed format es all e old mid new is lines one = (
+  lines.0 ++ one.0,
+  subst (λ (xs : List Entry). AreLinesOf format xs (lines.0 ++ one.0)) (sym is)
+      (lines_more format es e lines.0 one.0 lines.1 one.1),
+  Appends-trans old mid new lines.0 one.0 lines.2 one.2,
+)
+
+-- no line was printed yet
+pub no_line : (format : Format) (es : List Entry) (known : Option (List ℕ)) → es ≡ []
+    → PrintsLines format es known known
+no_line format es known none =
+    ([], subst (λ (xs : List Entry). AreLinesOf format xs []) (sym none) refl, Appends-nil known)
+
+-- those of the entries before an error
+pub lines_before : (format : Format) (es all : List Entry) (old new : Option (List ℕ)) → all ≡ es
+    → PrintsLines format es old new → PrintsLines format all old new
+lines_before format es all old new is lines =
+    subst (λ (xs : List Entry). PrintsLines format xs old new) (sym is) lines
 
 taken_none : (n : ℕ) (rs : List Outcome) → rs ≡ [] → take n rs ≡ []
 taken_none zero rs none = refl

@@ -1,15 +1,21 @@
 -- Files, one after another.
 use Rattle.std.proofs.Common.{◌≡◌, refl, sym, ◌∙◌, ap, ℕ, ◌+◌, ◌<◌, List, [], ◌∷◌, ◌++◌, length, get_or}
-use Rattle.std.proofs.Common.{arith, map, rules, subst, suc, take, true, false, zero}
-use Rattle.std.specs.Prelude.{Bool, Option, None, Some, Result, Ok, Err, IfErr, cond, find, is_some}
-use Rattle.std.specs.Result.{IsErrAnd}
+use Rattle.std.proofs.Common.{arith, map, subst, suc, take, true, false, zero}
+use Rattle.std.specs.Prelude.{Bool, Option, None, Some, Result, Ok, Err, IfErr, IfSome, cond, find, is_some}
+use Rattle.std.specs.Result.{IsErrAnd, result_err}
 use Rattle.sst_entries.specs.declared.error.Error.TheVariants.{OutOfMemory}
 use Rattle.std.proofs.lemmas.List.{map-append, take_more}
-use Rattle.sst_entries.specs.Error.{is_memory}
+use Rattle.sst_entries.specs.Entry.{Entry}
+use Rattle.sst_entries.specs.Error.{Refuses, is_memory}
 use Rattle.sst_entries.specs.declared.error.Error.{Error}
+use Rattle.lsm_ranges.specs.KeyRange.{has_key}
+use Rattle.lsm_readers.specs.Answer.{table_answer}
+use Rattle.lsm_readers.specs.Stored.{StoresList}
 use Rattle.lsm_readers.specs.Table.{OpenTable}
-use Rattle.tool_show.specs.Failures.{BlamesFaulty, BlamesNoFile, FailsAs, IsBlockWith}
-use Rattle.tool_show.specs.Failures.{NamesFaulty, NamesNone, read_refusal, refused_file}
+use Rattle.lsm_runs.specs.RunParts.{range_of}
+use Rattle.tool_show.specs.Failures.{BlamesFaulty, BlamesNoFile, FailsAs, IsRefusedAt}
+use Rattle.tool_show.specs.Failures.{IfNamed, IfRefusal, NamesFaulty, NamesNone, read_early}
+use Rattle.tool_show.specs.Failures.{read_refusal, refused_file}
 use Rattle.tool_show.specs.Failures.{NamesOnly, TellsFailure, TellsRefusal}
 use Rattle.tool_show.specs.Files.{IsSoundTable, runs_in}
 use Rattle.tool_show.specs.declared.error.Failure.{Failure}
@@ -17,7 +23,6 @@ use Rattle.tool_show.specs.declared.error.Failure.TheVariants as failure
 use Rattle.tool_show.specs.declared.error.ShowError.{ShowError}
 use Rattle.tool_show.specs.declared.error.ShowError.TheVariants as show
 use Rattle.tool_show.specs.declared.named.NamedTable.{NamedTable}
-use Rattle.tool_show.specs.declared.places.BlockPlace.{BlockPlace}
 
 -- the run of one more file
 pub runs_more : {A X : Type 0} (value : X → List OpenTable) (fs : List (NamedTable A)) (i : ℕ)
@@ -101,7 +106,7 @@ refusal_only : {A : Type 0} (f : NamedTable A) (IsTold : Error → Type 0) (r : 
 refusal_only f IsTold r (show.Refused name place error) is told = (
   told.0,
   subst IsTold (sym told.1) is,
-  subst (λ (x : Error). IsBlockWith f.table x place) (sym told.1) told.2,
+  subst (λ (x : Error). IsRefusedAt f.table x place) (sym told.1) told.2,
 )
 refusal_only f IsTold r (show.Output error) is told = tt
 refusal_only f IsTold r show.OutOfMemory is told = tt
@@ -159,6 +164,31 @@ pub fails_as : {X : Type 0} (r : Result X Failure) (e : Error) (IsTold : Error �
 fails_as (Ok x) e IsTold is told = tt
 fails_as (Err x) e IsTold is told = subst (FailsAs IsTold) (sym is) told
 
+-- what holds where a file is refused
+pub if_refused : {X : Type 0} (r : Result X Failure) (e : Error) (Holds : Type 0)
+    → IsErrAnd r (λ x. x ≡ failure.Refused e) → (is_memory e ≡ false → Holds)
+    → IfErr r (IfRefusal Holds)
+if_refused (Ok x) e Holds is told = tt
+if_refused (Err x) e Holds is told = subst (IfRefusal Holds) (sym is) told
+
+named_by : {A : Type 0} (f : NamedTable A) (Holds : Type 0) (error : Error) (e : ShowError)
+    (b : Bool) → is_memory error ≡ b → (is_memory error ≡ false → Holds)
+    → TellsFailure (failure.Refused error) f e → IfNamed Holds e
+named_by f Holds error (show.Refused name place r) true so holds told =
+    let is : show.Refused name place r ≡ show.OutOfMemory = told.0 so in absurd cc
+named_by f Holds error (show.Refused name place r) false so holds told = holds so
+named_by f Holds error (show.Output r) b so holds told = tt
+named_by f Holds error show.OutOfMemory b so holds told = tt
+
+-- what holds of a refusal holds where its file is named
+pub named_if : {A : Type 0} (f : NamedTable A) (Holds : Type 0) (x : Failure) (e : ShowError)
+    → IfRefusal Holds x → TellsFailure x f e → IfNamed Holds e
+named_if f Holds (failure.Output error) (show.Refused name place r) holds told = absurd cc
+named_if f Holds (failure.Refused error) (show.Refused name place r) holds told =
+    named_by f Holds error (show.Refused name place r) (is_memory error) refl holds told
+named_if f Holds x (show.Output r) holds told = tt
+named_if f Holds x show.OutOfMemory holds told = tt
+
 -- a read that is refused, and not for want of memory, is one of a file that stores no list
 pub refused_faulty : {X : Type 0} (r : Result X Error) (e : Error) → r ≡ Err e
     → is_memory e ≡ false → IfErr r (λ x. x ≡ OutOfMemory) → ⊥
@@ -167,3 +197,47 @@ refused_faulty (Err x) e is other memory =
     let same : x ≡ e = cc in
     let both : true ≡ false = sym (ap is_memory (sym same ∙ memory)) ∙ other in
     absurd cc
+
+blamed_by : {A : Type 0} (key : List ℕ) (n : ℕ) (f : NamedTable A) (r : Error) (e : ShowError)
+    (b : Bool) → is_memory r ≡ b → (is_memory r ≡ false → read_refusal key n f.table ≡ Some r)
+    → (is_memory r ≡ false → IsSoundTable f.table → ⊥) → TellsFailure (failure.Refused r) f e
+    → BlamesFaulty key n f e
+blamed_by key n f r e true so told faulty is =
+    subst (λ (x : ShowError). BlamesFaulty key n f x) (sym (is.0 so)) tt
+blamed_by key n f r e false so told faulty is =
+    faulty_blamed key n f e (failure_only f (λ x. read_refusal key n f.table ≡ Some x)
+    (failure.Refused r) e told is) (faulty so)
+
+-- a file is blamed for what a read of its table is refused
+pub read_blamed : {A : Type 0} (key : List ℕ) (n : ℕ) (f : NamedTable A) (r : Error)
+    (e : ShowError) → (is_memory r ≡ false → read_refusal key n f.table ≡ Some r)
+    → (is_memory r ≡ false → IsSoundTable f.table → ⊥) → TellsFailure (failure.Refused r) f e
+    → BlamesFaulty key n f e
+read_blamed key n f r e told faulty is = blamed_by key n f r e (is_memory r) refl told faulty is
+
+-- a refusal that is no want of memory is told
+pub refusal_told : {A : Type 0} (f : NamedTable A) (r e : Error) (x : ShowError) → r ≡ e
+    → is_memory e ≡ false → TellsFailure (failure.Refused r) f x → TellsRefusal f e x
+refusal_told f r e x same other is =
+    subst (λ (y : Error). TellsRefusal f y x) same (is.1 (ap is_memory same ∙ other))
+
+-- so it is with what a call of it answers as its error
+pub error_faulty : {X : Type 0} (r : Result X Error) (t : OpenTable)
+    → ((es : List Entry) → StoresList t.bytes es → IfErr r (λ x. x ≡ OutOfMemory))
+    → IfSome (result_err r) (λ e. is_memory e ≡ false → IsSoundTable t → ⊥)
+error_faulty {X} (Ok x) t memory = tt
+error_faulty {X} (Err e) t memory =
+    λ other sound. refused_faulty {X = X} (Err e) e refl other (memory sound.0 sound.1)
+
+-- what is found before memory is taken is the error that a call answers
+pub error_early : {X : Type 0} (r : Result X Error) (e : Error) → Refuses r (Some e)
+    → result_err r ≡ Some e
+error_early (Ok x) e told = absurd (let not : Some e ≡ None = told in cc)
+error_early (Err x) e told = sym told
+
+-- it is that of the read, where the table is asked
+pub asked_early : (key : List ℕ) (n : ℕ) (t : OpenTable) (e : Error)
+    → has_key (range_of t) key ≡ true → read_early key n t ≡ Some e
+    → (table_answer t key n).early ≡ Some e
+asked_early key n t e asked early =
+    sym (ap (λ (b : Bool). cond b (table_answer t key n).early None) asked) ∙ early

@@ -1,5 +1,5 @@
 -- The first of some blocks that does not load with a refusal.
-use Rattle.std.proofs.Common.{◌≡◌, refl, sym, ◌∙◌, ap, subst, inl, inr, ℕ, zero, suc, ◌+◌, ◌<◌, ◌≤◌}
+use Rattle.std.proofs.Common.{◌≡◌, refl, ◌∙◌, ap, subst, inl, inr, ℕ, zero, suc, ◌+◌, ◌<◌, ◌≤◌}
 use Rattle.std.proofs.Common.{List, [], ◌∷◌, length, get_or, drop, arith}
 use Rattle.std.specs.Prelude.{◌≢◌, Option, None, Some}
 use Rattle.sst_entries.specs.declared.error.Error.{Error}

@@ -2,7 +2,7 @@
 use Rattle.std.proofs.Common.{◌≡◌, refl, arith, codes, Bool, true, false, ℕ, zero, suc, ◌<◌, List, []}
 use Rattle.std.proofs.Common.{◌∷◌}
 use Rattle.std.proofs.lemmas.Str.{IsUtf8-from_ascii}
-use Rattle.std.specs.Prelude.{nat_lt, slice_index, if◌then◌else◌}
+use Rattle.std.specs.Prelude.{nat_lt, if◌then◌else◌}
 use Rattle.std.specs.Str.{IsAscii, IsUtf8}
 use Rattle.lsm_formats.specs.MetaBlock.{name_of}
 use Rattle.lsm_formats.specs.declared.item_name.ItemName.{ItemName}

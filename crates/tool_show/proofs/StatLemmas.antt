@@ -1,17 +1,18 @@
 -- What a table says of itself, and why not.
 use Rattle.std.proofs.Common.{◌≡◌, refl, sym, ◌∙◌, ap, ℕ, zero, suc, ◌+◌, ◌-◌, ◌^◌, List, [], ◌∷◌}
 use Rattle.std.proofs.Common.{◌++◌, length, append-nil, append_assoc, arith, rules, subst, get_or, drop, take}
-use Rattle.std.proofs.Common.{◌*◌, ◌<◌, ◌≤◌, Bool, true}
+use Rattle.std.proofs.Common.{◌*◌, ◌<◌, ◌≤◌, Bool, min, true}
 use Rattle.std.proofs.lemmas.List.{length-append, map-append}
-use Rattle.std.proofs.lemmas.List.{length-take}
+use Rattle.std.proofs.lemmas.List.{length-drop, length-take}
 use Rattle.std.specs.Io.KnownBytes.{Appends}
-use Rattle.std.proofs.KnownBytes.{Appends-trans}
+use Rattle.std.proofs.KnownBytes.{Appends-nil, Appends-trans}
 use Rattle.std.specs.List.{filter_map, flat_map}
 use Rattle.std.specs.Prelude.{OnOk, codes, option_to_list}
 use Rattle.lsm_readers.specs.Table.{OpenTable}
 use Rattle.tool_show.specs.Lines.{PrintsText}
-use Rattle.tool_show.specs.Stats.{AreValuesOf, IsStatText}
-use Rattle.tool_show.specs.Stats.{IsBlocksText, IsPartsText, IsPicturesText, data_line, item_line}
+use Rattle.tool_show.specs.Stats.{AreValuesOf, IsPartsObject, IsStatObject, IsStatText}
+use Rattle.tool_show.specs.Stats.{AreEvenParts, IsBlocksText, IsEvenPart, IsPartsText}
+use Rattle.tool_show.specs.Stats.{IsPicturesText, blocks_a_line, data_line, item_line}
 use Rattle.tool_show.specs.Stats.{named_line, shown_items, summary_text, title_line}
 use Rattle.tool_show.specs.declared.facts.NamedPlace.{NamedPlace}
 use Rattle.tool_show.specs.declared.facts.Shown.{Shown}
@@ -143,33 +144,130 @@ lines_more all first (x ∷ parts) ps =
     ∙ ap (λ (n : ℕ). (part_line all first x ++ part_lines all (first + length x) parts)
     ++ part_line all n ps) same
 
--- some blocks were printed, in parts
-abbrev pub PrintedTo : ℕ → ℕ → List Place → (old new : Option (List ℕ)) → Type 0
-PrintedTo all n places old new = (parts : List (List Place))
-    × (flat_map (λ (ps : List Place). ps) parts ≡ take n places)
-    × Appends old new (part_lines all 0 parts)
+-- parts of so many each, which others follow
+abbrev pub AreFull : ℕ → List (List Place) → Type 0
+AreFull n [] = Unit {0}
+AreFull n (ps ∷ parts) = (length ps ≡ n) × AreFull n parts
 
-pub printed_more : (all start end : ℕ) (places part : List Place) (old left new : Option (List ℕ))
-    → start ≤ end → end ≤ length places → part ≡ take (end - start) (drop start places)
-    → PrintedTo all start places old left → Appends left new (part_line all start part)
-    → PrintedTo all end places old new
-printed_more all start end places part old left new up within is before more =
-    let parts = before.0 in
+full_more : (n : ℕ) (parts : List (List Place)) (ps : List Place) → AreFull n parts → length ps ≡ n
+    → AreFull n (parts ++ ps ∷ [])
+full_more n [] ps full is = (is, tt)
+full_more n (qs ∷ parts) ps full is = (full.0, full_more n parts ps full.1 is)
+
+-- one is followed by others
+followed_by : (n : ℕ) (qs : List Place) (parts : List (List Place)) (ps : List Place) → length qs ≡ n
+    → IsEvenPart n qs (parts ++ ps ∷ [])
+followed_by n qs [] ps is = is
+followed_by n qs (rs ∷ parts) ps is = is
+
+-- and a last one behind them
+even_more : (n : ℕ) (parts : List (List Place)) (ps : List Place) → AreFull n parts → 0 < length ps
+    → length ps ≤ n → AreEvenParts n (parts ++ ps ∷ [])
+even_more n [] ps full some most = ((some, most), tt)
+even_more n (qs ∷ parts) ps full some most =
+    (followed_by n qs parts ps full.0, even_more n parts ps full.1 some most)
+
+-- some of the blocks were printed, in parts, each of which is full as long as blocks are left
+pub record PrintedTo (all n first : ℕ) (places : List Place) (old new : Option (List ℕ))
+    : Type 0 where
+  pub within : first ≤ length places
+  pub parts : List (List Place)
+  pub taken : flat_map (λ (ps : List Place). ps) parts ≡ take first places
+  pub full : first < length places → AreFull n parts
+  pub even : AreEvenParts n parts
+  pub printed : Appends old new (part_lines all 0 parts)
+
+pub printed_none : (all n : ℕ) (places : List Place) (known : Option (List ℕ))
+    → PrintedTo all n 0 places known known
+printed_none all n places known = record {
+  within = omega arith;
+  parts = [];
+  taken = refl;
+  full = λ some. tt;
+  even = tt;
+  printed = Appends-nil known;
+}
+
+-- as long as the part that was taken
+part_long : (start end : ℕ) (places : List Place) → start ≤ end → end ≤ length places
+    → length (take (end - start) (drop start places)) ≡ end - start
+part_long start end places up within =
+    omega (arith, length-take (end - start) (drop start places), length-drop start places, up, within)
+
+pub printed_more : (all n start end : ℕ) (places part : List Place) (old left new : Option (List ℕ))
+    → start < end → end ≤ length places → end ≤ start + n
+    → (end < length places → end ≡ start + n)
+    → part ≡ take (end - start) (drop start places)
+    → PrintedTo all n start places old left → Appends left new (part_line all start part)
+    → PrintedTo all n end places old new
+printed_more all n start end places part old left new up within most full is before more =
+    let parts = before.parts in
+    let none_over : start ≤ end = omega (arith, up) in
     let long : length (flat_map (λ (ps : List Place). ps) parts) ≡ length (take start places)
-    = ap length before.1 in
+    = ap length before.taken in
     let number : start ≡ 0 + length (flat_map (λ (ps : List Place). ps) parts)
-    = omega (arith, long, length-take start places, up, within) in (
-      parts ++ part ∷ [],
-      flat_map-append (λ (ps : List Place). ps) parts (part ∷ [])
+    = omega (arith, long, length-take start places, up, within) in
+    let count : length part ≡ end - start = ap length is ∙ part_long start end places none_over within in
+    let ahead : start < length places = omega (arith, up, within) in
+    record {
+      within = within;
+      parts = parts ++ part ∷ [];
+      taken = flat_map-append (λ (ps : List Place). ps) parts (part ∷ [])
           ∙ ap (λ (qs : List Place). flat_map (λ (ps : List Place). ps) parts ++ qs) (append-nil part)
-          ∙ ap (λ (qs : List Place). qs ++ part) before.1
+          ∙ ap (λ (qs : List Place). qs ++ part) before.taken
           ∙ ap (λ (qs : List Place). take start places ++ qs) is
-          ∙ take_split start end places up,
-      subst (Appends old new) (sym (lines_more all 0 parts part))
+          ∙ take_split start end places none_over;
+      full = λ some. full_more n parts part (before.full ahead)
+          (omega (arith, count, full some, up));
+      even = even_more n parts part (before.full ahead) (omega (arith, count, up))
+          (omega (arith, count, most, up));
+      printed = subst (Appends old new) (sym (lines_more all 0 parts part))
           (Appends-trans old left new (part_lines all 0 parts)
-          (part_line all (0 + length (flat_map (λ (ps : List Place). ps) parts)) part) before.2
-          (subst (λ (n : ℕ). Appends left new (part_line all n part)) number more)),
-    )
+          (part_line all (0 + length (flat_map (λ (ps : List Place). ps) parts)) part) before.printed
+          (subst (λ (n : ℕ). Appends left new (part_line all n part)) number more));
+    }
+
+bounds_by : (n first m len : ℕ) → first < len → 0 < n → m ≡ min n (len - first)
+    → (first < first + m) × (first + m ≤ len) × (first + m ≤ first + n)
+    × (first + m < len → first + m ≡ first + n)
+bounds_by n first m len ahead some is = (omega arith, omega arith, omega arith, λ more. omega arith)
+
+some_a_line : (count : ℕ) → 0 < blocks_a_line count
+some_a_line count = omega arith
+
+-- one part more, of as many blocks as stand on a line, or as are left
+pub part_printed : (all first m : ℕ) (places part : List Place) (old left new : Option (List ℕ))
+    → first < length places → m ≡ min (blocks_a_line (length places)) (length places - first)
+    → part ≡ take (first + m - first) (drop first places)
+    → PrintedTo all (blocks_a_line (length places)) first places old left
+    → Appends left new (part_line all first part)
+    → PrintedTo all (blocks_a_line (length places)) (first + m) places old new
+part_printed all first m places part old left new ahead count is before more =
+    let n = blocks_a_line (length places) in
+    let some : 0 < n = some_a_line (length places) in
+    printed_more all n first (first + m) places part old left new
+    (bounds_by n first m (length places) ahead some count).0
+    (bounds_by n first m (length places) ahead some count).1
+    (bounds_by n first m (length places) ahead some count).2
+    (bounds_by n first m (length places) ahead some count).3 is before more
+
+taken_all : (first : ℕ) (places : List Place) → first ≤ length places → length places ≤ first
+    → take first places ≡ places
+taken_all zero [] within over = refl
+taken_all zero (p ∷ ps) within over = absurd (omega (arith, over))
+taken_all (suc n) [] within over = nothing_taken (suc n)
+taken_all (suc n) (p ∷ ps) within over =
+    ap (λ (qs : List Place). p ∷ qs) (taken_all n ps (omega (arith, within)) (omega (arith, over)))
+
+-- all of them were
+pub printed_blocks : (all first : ℕ) (places : List Place) (old new : Option (List ℕ))
+    → length places ≤ first → PrintedTo all (blocks_a_line (length places)) first places old new
+    → PrintsText (IsBlocksText all places) old new
+printed_blocks all first places old new over to = (
+  part_lines all 0 to.parts,
+  (to.parts, to.taken ∙ taken_all first places to.within over, to.even, refl),
+  to.printed,
+)
 
 -- ---- sections
 
@@ -246,3 +344,11 @@ pub stat_text : {E A : Type 0} (told : Result (Unit {0}) E) (t : OpenTable) (nam
     → OnOk told (PrintsText (IsStatText A t name) a b)
 stat_text (Ok u) t name p a b are printed = (printed.0, (p, are, printed.1), printed.2)
 stat_text (Err u) t name p a b are printed = tt
+
+-- and its object
+pub stat_object : {E A : Type 0} (told : Result (Unit {0}) E) (t : OpenTable) (name : List ℕ)
+    (p : Parts A) (a b : Option (List ℕ)) → AreValuesOf t p
+    → OnOk told (PrintsText (IsPartsObject t name p) a b)
+    → OnOk told (PrintsText (IsStatObject A t name) a b)
+stat_object (Ok u) t name p a b are printed = (printed.0, (p, are, printed.1), printed.2)
+stat_object (Err u) t name p a b are printed = tt

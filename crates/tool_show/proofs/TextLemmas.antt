@@ -55,16 +55,16 @@ refusal_line (Ok u) name place e a b c d head refusal end =
 refusal_line (Err u) name place e a b c d head refusal end = tt
 
 -- joined texts, and then others
-pub joined_more : {X : Type 0} (Is : X → List ℕ → Type 0) (xs ys : List X) (a b : List ℕ)
+pub joined_more : {X Y : Type 0} (Is : X → List Y → Type 0) (xs ys : List X) (a b : List Y)
     → AreJoined Is xs a → AreJoined Is ys b → AreJoined Is (xs ++ ys) (a ++ b)
-joined_more Is [] ys a b none more =
-    subst (λ (text : List ℕ). AreJoined Is ys (text ++ b)) (sym none) more
-joined_more {X} Is (x ∷ xs) ys a b joined more = (
+joined_more {X} {Y} Is [] ys a b none more =
+    subst (λ (text : List Y). AreJoined Is ys (text ++ b)) (sym none) more
+joined_more {X} {Y} Is (x ∷ xs) ys a b joined more = (
   joined.0,
   joined.1 ++ b,
   joined.2,
   joined_more Is xs ys joined.1 b joined.3 more,
-  ap (λ (text : List ℕ). text ++ b) joined.4 ∙ append_assoc joined.0 joined.1 b,
+  ap (λ (text : List Y). text ++ b) joined.4 ∙ append_assoc joined.0 joined.1 b,
 )
 
 -- the texts of the items of one more, printed behind the others

@@ -1,6 +1,6 @@
 -- Why something was not shown.
 use Rattle.std.specs.Prelude.{◌≡◌, ◌≢◌, ◌⊎◌, ℕ, List, [], ◌∷◌, Option, None, Some, false, true}
-use Rattle.std.specs.Prelude.{Ok, Err, find, is_some, if◌then◌else◌}
+use Rattle.std.specs.Prelude.{find, is_some, if◌then◌else◌}
 use Rattle.sst_entries.specs.Error.{is_memory}
 use Rattle.sst_entries.specs.declared.error.Error.{Error}
 use Rattle.sst_sections.specs.Sections.{body_of}
@@ -8,9 +8,8 @@ use Rattle.lsm_ranges.specs.KeyRange.{has_key}
 use Rattle.lsm_readers.specs.Answer.{table_answer}
 use Rattle.lsm_readers.specs.Scan.{fault_of}
 use Rattle.lsm_readers.specs.Table.{OpenTable}
-use Rattle.lsm_readers.specs.Verify.{table_found}
 use Rattle.lsm_runs.specs.RunParts.{range_of}
-use Rattle.tool_show.specs.Faults.{begin_of, block_fault, named_blocks, unloaded_at}
+use Rattle.tool_show.specs.Faults.{begin_of, block_fault, named_blocks}
 use Rattle.tool_show.specs.Files.{IsSoundTable}
 use Rattle.tool_show.specs.declared.blocks.NamedBlock.{NamedBlock}
 use Rattle.tool_show.specs.declared.error.Failure.{Failure}
@@ -19,11 +18,8 @@ use Rattle.tool_show.specs.declared.error.ShowError.{ShowError}
 use Rattle.tool_show.specs.declared.error.ShowError.TheVariants as show
 use Rattle.tool_show.specs.declared.named.NamedTable.{NamedTable}
 use Rattle.tool_show.specs.declared.places.BlockPlace.{BlockPlace}
-
--- where a block is named, what is wrong first in a table is that it does not load with a refusal
-abbrev pub IsPlaceIn : OpenTable → Error → Option BlockPlace → Type 0
-IsPlaceIn t e None = Unit {0}
-IsPlaceIn t e (Some place) = table_found (body_of t.bytes) t.parts ≡ Err (unloaded_at place e)
+use Rattle.tool_show.specs.declared.places.RefusedAt.{RefusedAt}
+use Rattle.tool_show.specs.declared.places.RefusedAt.TheVariants as origin
 
 -- where the first of some blocks begins that does not load with a refusal; nowhere where none of
 -- them is refused so
@@ -38,13 +34,17 @@ abbrev pub IsBlockWith : OpenTable → Error → Option BlockPlace → Type 0
 IsBlockWith t e place =
     IsFirstWith (body_of t.bytes) e (named_blocks (body_of t.bytes) t.parts) place
 
--- an error names a file, what its table refuses, and the first block that is refused so; or memory
--- is wanted to find that
+-- what is told of where a refusal comes from is so; nothing is, where it was not sought
+abbrev pub IsRefusedAt : OpenTable → Error → RefusedAt → Type 0
+IsRefusedAt t e (origin.Block place) = IsBlockWith t e (Some place)
+IsRefusedAt t e origin.NoBlock = IsBlockWith t e None
+IsRefusedAt t e origin.NotSought = Unit {0}
+
+-- an error names a file, what its table refuses, and where that comes from
 abbrev pub TellsRefusal : {A : Type 0} → NamedTable A → Error → ShowError → Type 0
 TellsRefusal f e (show.Refused name place error) =
-    (name ≡ f.name) × (error ≡ e) × IsBlockWith f.table e place
-TellsRefusal f e show.OutOfMemory = Unit {0}
-TellsRefusal f e (show.Output error) = ⊥
+    (name ≡ f.name) × (error ≡ e) × IsRefusedAt f.table e place
+TellsRefusal f e error = ⊥
 
 -- it is that of a failure of a file
 abbrev pub TellsFailure : {A : Type 0} → Failure → NamedTable A → ShowError → Type 0
@@ -57,22 +57,36 @@ abbrev pub BlamesNoFile : Failure → Type 0
 BlamesNoFile (failure.Output error) = Unit {0}
 BlamesNoFile (failure.Refused error) = is_memory error ≡ true
 
+-- this holds, where a failure is a refusal of a file
+abbrev pub IfRefusal : Type 0 → Failure → Type 0
+IfRefusal Holds (failure.Output error) = Unit {0}
+IfRefusal Holds (failure.Refused error) = is_memory error ≡ false → Holds
+
+-- this holds, where an error names a file
+abbrev pub IfNamed : Type 0 → ShowError → Type 0
+IfNamed Holds (show.Refused name place error) = Holds
+IfNamed Holds e = Unit {0}
+
 -- memory aside, what is refused is what a read tells
 abbrev pub FailsAs : (Error → Type 0) → Failure → Type 0
 FailsAs IsTold (failure.Output error) = Unit {0}
 FailsAs IsTold (failure.Refused error) = is_memory error ≡ false → IsTold error
 
 -- where an error names a file, it is this one, its refusal is what a read tells, and the block is
--- named that begins first of those that are refused so
+-- named that begins first of those that are refused so, as far as it was sought
 abbrev pub NamesOnly : {A : Type 0} → NamedTable A → (Error → Type 0) → ShowError → Type 0
 NamesOnly f IsTold (show.Refused name place error) =
-    (name ≡ f.name) × IsTold error × IsBlockWith f.table error place
+    (name ≡ f.name) × IsTold error × IsRefusedAt f.table error place
 NamesOnly f IsTold e = Unit {0}
 
 -- why a read of a key below a number is refused by a table, if its range has the key and it is
 abbrev pub read_refusal : List ℕ → ℕ → OpenTable → Option Error
 read_refusal key n t =
     if has_key (range_of t) key then fault_of (table_answer t key n).told else None
+
+-- the refusal among these that is found before memory is taken, if there is one
+abbrev pub read_early : List ℕ → ℕ → OpenTable → Option Error
+read_early key n t = if has_key (range_of t) key then (table_answer t key n).early else None
 
 -- the first of some files whose table refuses the read
 abbrev pub refused_file : {A : Type 0} → List ℕ → ℕ → List (NamedTable A) → Option (NamedTable A)

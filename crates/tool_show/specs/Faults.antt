@@ -19,10 +19,10 @@ use Rattle.lsm_readers.specs.declared.verify.Finding.{Finding}
 use Rattle.lsm_readers.specs.declared.verify.Verified.{Verified}
 use Rattle.lsm_readers.specs.IndexKinds.{handles_told}
 use Rattle.lsm_readers.specs.Parts.{Parts, places_told}
-use Rattle.lsm_readers.specs.declared.regions.ParsedRegions.{ParsedRegions}
+use Rattle.lsm_points.specs.declared.regions.ParsedRegions.{ParsedRegions}
 use Rattle.lsm_readers.specs.Scan.{fault_of}
 use Rattle.lsm_readers.specs.Table.{OpenTable}
-use Rattle.lsm_readers.specs.Verify.{filter_places, finding, table_found}
+use Rattle.lsm_readers.specs.Verify.{filter_places, table_found}
 use Rattle.tool_show.specs.declared.blocks.NamedBlock.{NamedBlock}
 use Rattle.tool_show.specs.declared.places.BlockPlace.{BlockPlace}
 
@@ -152,7 +152,3 @@ count_found t (Err f) = min (1 + further_count t f) (2 ^ 64 - 1)
 
 abbrev pub fault_count : OpenTable → ℕ
 fault_count t = count_found t (table_found (body_of t.bytes) t.parts)
-
--- the finding that the block at a place does not load
-abbrev pub unloaded_at : BlockPlace → Error → Finding
-unloaded_at place e = finding place.section place.offset (Unloaded e)

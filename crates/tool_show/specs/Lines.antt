@@ -13,11 +13,11 @@ use Rattle.tool_show.specs.declared.places.BlockPlace.{BlockPlace}
 abbrev pub PrintsText : (List ℕ → Type 0) → (old new : Option (List ℕ)) → Type 0
 PrintsText Is old new = (text : List ℕ) × Is text × Appends old new text
 
--- texts, one behind another, each of the kind of its item
-abbrev pub AreJoined : {X : Type 0} → (X → List ℕ → Type 0) → List X → List ℕ → Type 0
+-- texts, or other lists, one behind another, each of the kind of its item
+abbrev pub AreJoined : {X Y : Type 0} → (X → List Y → Type 0) → List X → List Y → Type 0
 AreJoined Is [] text = text ≡ []
-AreJoined Is (x ∷ xs) text = (part : List ℕ) × (rest : List ℕ) × Is x part × AreJoined Is xs rest
-    × (text ≡ part ++ rest)
+AreJoined {Y = Y} Is (x ∷ xs) text = (part : List Y) × (rest : List Y) × Is x part
+    × AreJoined Is xs rest × (text ≡ part ++ rest)
 
 -- a section's name
 abbrev pub section_text : SectionName → List ℕ
@@ -54,3 +54,12 @@ number_member name n = Token.key name ∷ Token.number (decimal n) ∷ []
 -- a member of an object that is a string
 abbrev pub text_member : List ℕ → List ℕ → List Token
 text_member name text = Token.key name ∷ Token.string text ∷ []
+
+-- a member of an object that is an object of some members
+abbrev pub object_member : List ℕ → List Token → List Token
+object_member name members =
+    Token.key name ∷ Token.begin_object ∷ (members ++ Token.end_object ∷ [])
+
+-- a member of an object that is an array of some values
+abbrev pub array_member : List ℕ → List Token → List Token
+array_member name values = Token.key name ∷ Token.begin_array ∷ (values ++ Token.end_array ∷ [])

@@ -1,6 +1,6 @@
 -- Which blocks a read of a key loads, and the lines that say so.
 use Rattle.std.specs.Prelude.{ℕ, ◌-◌, ◌^◌, List, [], ◌∷◌, ◌++◌, codes, Option, None, Some, find}
-use Rattle.std.specs.Prelude.{nat_lt, if◌then◌else◌}
+use Rattle.std.specs.Prelude.{is_some, nat_lt, if◌then◌else◌}
 use Rattle.std.specs.Fmt.{decimal}
 use Rattle.std.specs.List.{flat_map}
 use Rattle.std.specs.Option.{option_map}
@@ -17,7 +17,7 @@ use Rattle.lsm_ranges.specs.KeyRange.{has_key}
 use Rattle.lsm_readers.specs.Answer.{table_answer}
 use Rattle.lsm_readers.specs.Read.{opened_by}
 use Rattle.lsm_readers.specs.Table.{OpenTable}
-use Rattle.lsm_readers.specs.declared.regions.ParsedRegions.{ParsedRegions}
+use Rattle.lsm_points.specs.declared.regions.ParsedRegions.{ParsedRegions}
 use Rattle.lsm_runs.specs.RunParts.{range_of}
 use Rattle.tool_lines.specs.declared.entry_line.Format.{Format}
 use Rattle.tool_lines.specs.declared.entry_line.Format.TheVariants.{Json, Lines}
@@ -47,6 +47,10 @@ index_by body (Some partitions) tli key n = reached body tli key n
 abbrev pub index_place : List ℕ → ParsedRegions → List ℕ → ℕ → Option Place
 index_place body regions key n = index_by body regions.index regions.tli key n
 
+-- the section of that block: partitions have one of their own
+abbrev pub index_section : ParsedRegions → SectionName
+index_section regions = if is_some regions.index then section.Index else section.Tli
+
 -- the data block that a block of the index names
 abbrev pub data_by : List ℕ → Option Place → List ℕ → ℕ → Option Place
 data_by body None key n = None
@@ -72,7 +76,7 @@ block_if section loads (Some place) =
 abbrev pub blocks_of_loads : List ℕ → ParsedRegions → List ℕ → ℕ → Opened → List BlockPlace
 blocks_of_loads body regions key low o =
     block_if section.Filter o.filter_loads (filter_place body regions key)
-    ++ (block_if section.Index o.index_loads (index_place body regions key low)
+    ++ (block_if (index_section regions) o.index_loads (index_place body regions key low)
     ++ block_if section.Data o.data_loads (data_place body regions key low))
 
 -- the blocks that a read of a key below a number loads of a table, whose stored numbers are lower

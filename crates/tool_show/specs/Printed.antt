@@ -94,6 +94,12 @@ first_error [] = None
 first_error (Ok x ∷ rs) = first_error rs
 first_error (Err e ∷ rs) = Some e
 
+-- what comes before the first error
+abbrev pub before_error : {X : Type 0} → List (Result X Error) → List X
+before_error [] = []
+before_error (Ok x ∷ rs) = x ∷ before_error rs
+before_error (Err e ∷ rs) = []
+
 -- these results are entries, whose lines are printed
 abbrev pub PrintsResults : Format → List Outcome → (old new : Option (List ℕ)) → Type 0
 PrintsResults format rs old new =

@@ -1,12 +1,16 @@
 -- What is told of a table by what it says of itself.
-use Rattle.std.specs.Prelude.{◌≡◌, ◌⊎◌, ℕ, ◌+◌, ◌-◌, ◌*◌, ◌/◌, ◌%◌, ◌^◌, ◌==◌, zero, suc, Bool}
-use Rattle.std.specs.Prelude.{true, false, List, [], ◌∷◌, ◌++◌, codes, length, map, min, nat_lt}
+use Rattle.std.specs.Prelude.{◌≡◌, ◌⊎◌, ℕ, ◌+◌, ◌-◌, ◌*◌, ◌/◌, ◌%◌, ◌^◌, ◌==◌, ◌<◌, ◌≤◌, zero}
+use Rattle.std.specs.Prelude.{suc, Bool, true, false, List, [], ◌∷◌, ◌++◌, codes, length}
+use Rattle.std.specs.Prelude.{map, max, min, nat_lt}
 use Rattle.std.specs.Prelude.{replicate, sum_by, Option, None, Some, Result, Ok, is_some}
 use Rattle.std.specs.Prelude.{if◌then◌else◌, unwrap_or}
 use Rattle.std.specs.Fmt.{decimal}
+use Rattle.std.specs.Int.{div_ceil}
 use Rattle.std.specs.List.{filter_map, flat_map}
 use Rattle.std.specs.Option.{option_map}
 use Rattle.std.specs.Result.{result_ok}
+use Rattle.json.specs.Print.{print}
+use Rattle.json.specs.Token.{Token}
 use Rattle.sst_blocks.specs.Block.{header_len, load_told}
 use Rattle.sst_blocks.specs.Handle.{Handle}
 use Rattle.sst_blocks.specs.declared.block_type.BlockType.TheVariants.{Meta}
@@ -22,9 +26,11 @@ use Rattle.lsm_readers.specs.Meta.{meta_item_told}
 use Rattle.lsm_readers.specs.Parts.{place_size}
 use Rattle.lsm_readers.specs.Scan.{fault_of}
 use Rattle.lsm_readers.specs.Table.{OpenTable}
-use Rattle.lsm_readers.specs.declared.regions.ParsedRegions.{ParsedRegions}
+use Rattle.lsm_points.specs.declared.regions.ParsedRegions.{ParsedRegions}
 use Rattle.tool_lines.specs.Escapes.{bytes_word}
-use Rattle.tool_show.specs.Lines.{section_text}
+use Rattle.tool_lines.specs.ObjectLine.{WritesBytes}
+use Rattle.tool_show.specs.Lines.{AreJoined, array_member, number_member, object_member}
+use Rattle.tool_show.specs.Lines.{section_text, text_member}
 use Rattle.tool_show.specs.Printed.{first_error}
 use Rattle.tool_show.specs.declared.facts.NamedPlace.{NamedPlace}
 use Rattle.tool_show.specs.declared.stats.Parts.{Parts}
@@ -122,11 +128,25 @@ part_lines all first [] = []
 part_lines all first (ps ∷ parts) =
     part_line all first ps ++ part_lines all (first + length ps) parts
 
+-- how many of so many data blocks stand on a line: as few as make 32 lines at most
+abbrev pub blocks_a_line : ℕ → ℕ
+blocks_a_line count = max (div_ceil count 32) 1
+
+-- a part has so many, if others follow; else one at least and so many at most
+abbrev pub IsEvenPart : {X : Type 0} → ℕ → List X → List (List X) → Type 0
+IsEvenPart n xs [] = (0 < length xs) × (length xs ≤ n)
+IsEvenPart n xs (ys ∷ parts) = length xs ≡ n
+
+-- parts of so many each, but for the last, which has what is left
+abbrev pub AreEvenParts : {X : Type 0} → ℕ → List (List X) → Type 0
+AreEvenParts n [] = Unit {0}
+AreEvenParts n (xs ∷ parts) = IsEvenPart n xs parts × AreEvenParts n parts
+
 -- the lines of data blocks, cut into parts
 abbrev pub IsBlocksText : ℕ → List Place → List ℕ → Type 0
 IsBlocksText all places text =
     (parts : List (List Place)) × (flat_map (λ ps. ps) parts ≡ places)
-    × (text ≡ part_lines all 0 parts)
+    × AreEvenParts (blocks_a_line (length places)) parts × (text ≡ part_lines all 0 parts)
 
 -- ---- the kinds, and how the filter is spread
 
@@ -326,3 +346,68 @@ pub record AreValuesOf {A : Type 0} (t : OpenTable) (p : Parts A) : Type 0 where
 -- what is printed of a table
 abbrev pub IsStatText : (A : Type 0) → OpenTable → List ℕ → List ℕ → Type 0
 IsStatText A t name text = (p : Parts A) × AreValuesOf t p × IsPartsText t name p text
+
+-- ---- the whole as an object
+
+-- a value as it is written: a number, or else its bytes
+abbrev pub WritesNumberOrBytes : Option ℕ → List ℕ → List Token → Type 0
+WritesNumberOrBytes None value ts = WritesBytes value ts
+WritesNumberOrBytes (Some n) value ts = ts ≡ Token.number (decimal n) ∷ []
+
+-- an item's member, where it is there
+abbrev pub WritesItem : ItemName → Shown → Option (List ℕ) → List Token → Type 0
+WritesItem item shown None ts = ts ≡ []
+WritesItem item shown (Some value) ts = (rest : List Token)
+    × WritesNumberOrBytes (number_as shown value) value rest × (ts ≡ Token.key (name_of item) ∷ rest)
+
+-- the member of an item of a table
+abbrev pub IsItemMember : OpenTable → ItemName × Shown → List Token → Type 0
+IsItemMember t x ts = WritesItem x.0 x.1 (meta_value t x.0) ts
+
+-- where something begins and its length, as members
+abbrev pub extent_members : Place → List Token
+extent_members place =
+    number_member (codes "offset") place.offset ++ number_member (codes "bytes") place.size
+
+-- a part of a file that has a name, as an object
+abbrev pub section_object : List ℕ × Place → List Token
+section_object s = Token.begin_object
+    ∷ (text_member (codes "name") s.0 ++ (extent_members s.1 ++ Token.end_object ∷ []))
+
+-- a data block as an object
+abbrev pub block_object : Place → List Token
+block_object place = Token.begin_object ∷ (extent_members place ++ Token.end_object ∷ [])
+
+-- how a filter is spread, where there is one, as members
+abbrev pub spread_members : Option Spread → List Token
+spread_members None = []
+spread_members (Some s) = number_member (codes "filter_bits_per_key_tenths") s.tenths
+    ++ number_member (codes "false_answers_per_million") s.passed
+
+-- the kinds, and how the filter is spread, as members
+abbrev pub kinds_members : List ℕ → List ℕ → Option Spread → List Token
+kinds_members index filter spread = text_member (codes "index") index
+    ++ (text_member (codes "filter") filter ++ spread_members spread)
+
+-- the sections, and the data blocks, as members
+abbrev pub pictures_members : List NamedPlace → List Place → List Token
+pictures_members sections places =
+    array_member (codes "sections") (flat_map (λ s. section_object (named_as s)) sections)
+    ++ array_member (codes "blocks") (flat_map block_object places)
+
+-- values that were read of a table as an object, in which its items have these members
+abbrev pub parts_object : {A : Type 0} → List ℕ → List Token → Parts A → List Token
+parts_object name items p = Token.begin_object ∷ (text_member (codes "name") name
+    ++ (number_member (codes "bytes") p.size ++ (object_member (codes "meta") items
+    ++ (kinds_members p.index.now p.filter.now p.spread
+    ++ (pictures_members p.sections.items p.blocks.items ++ Token.end_object ∷ [])))))
+
+-- the line of that object
+abbrev pub IsPartsObject : {A : Type 0} → OpenTable → List ℕ → Parts A → List ℕ → Type 0
+IsPartsObject t name p text = (items : List Token)
+    × AreJoined (IsItemMember t) shown_items items
+    × (text ≡ print (parts_object name items p) ++ 10 ∷ [])
+
+-- what is printed of a table as an object
+abbrev pub IsStatObject : (A : Type 0) → OpenTable → List ℕ → List ℕ → Type 0
+IsStatObject A t name text = (p : Parts A) × AreValuesOf t p × IsPartsObject t name p text

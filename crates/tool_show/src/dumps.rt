@@ -7,10 +7,11 @@ ghost use Rattle.lsm_block_indexes.specs.Dealt.{DealsEnding};
 ghost use Rattle.lsm_readers.specs.Stored.{StoresList};
 ghost use Rattle.lsm_readers.specs.Words.{lift, range_told};
 ghost use Rattle.lsm_runs.specs.RunLists.{DealsList};
-ghost use Rattle.tool_show.specs.Failures.{BlamesNoFile, FailsAs, NamesNone, NamesOnly};
+ghost use Rattle.tool_show.specs.Failures.{BlamesNoFile, FailsAs, IfNamed, IfRefusal, NamesNone};
+ghost use Rattle.tool_show.specs.Failures.{NamesOnly};
 ghost use Rattle.tool_show.specs.Printed.{DealsTo, PrintsLine, PrintsLines, PrintsResults, Outcome};
-ghost use Rattle.tool_show.specs.Printed.{chosen, dumped, first_error, from_key, readable};
-ghost use Rattle.tool_show.specs.Printed.{up_to_key};
+ghost use Rattle.tool_show.specs.Printed.{before_error, chosen, dumped, first_error, from_key};
+ghost use Rattle.tool_show.specs.Printed.{readable, up_to_key};
 
 use crate::error::Failure;
 use crate::{NamedTable, ShowError};
@@ -64,6 +65,11 @@ pub fn dump<'a, A: Allocator + Copy, W: Write>(
         in IfErr result (NamesOnly file.now (λ e. first_error read ≡ Some e)) }
     ensures sound { (es : List Entry) → StoresList file.now.table.bytes es →
         IfErr result NamesNone }
+    // Before that the lines of the entries were printed that come before it.
+    ensures before { let read = dumped options.now.reverse left
+        (readable options.now file.now.table) in IfErr result
+        (IfNamed (PrintsLines options.now.format (before_error read)
+        (W.contents output.old) (W.contents output.new))) }
 {
     match dump_table(alloc, output, &file.table, options, left) {
         Ok(rest) => Ok(rest),
@@ -95,6 +101,9 @@ fn dump_table<A: Allocator + Copy, W: Write>(
         IfErr result (FailsAs (λ e. first_error read ≡ Some e)) }
     ensures sound { (es : List Entry) → StoresList table.now.bytes es →
         IfErr result BlamesNoFile }
+    ensures before { let read = dumped options.now.reverse left (readable options.now table.now) in
+        IfErr result (IfRefusal (PrintsLines options.now.format (before_error read)
+        (W.contents output.old) (W.contents output.new))) }
 {
     let bounds = bounds_of(alloc, options)?;
     let lines = Lines {
@@ -156,6 +165,9 @@ fn dump_range<A: Allocator + Copy, W: Write>(
         IfErr result (FailsAs (λ e. first_error (dumped reverse lines.left read) ≡ Some e)) }
     ensures sound { (es : List Entry) → StoresList table.now.bytes es →
         IfErr result BlamesNoFile }
+    ensures before { let all = dumped reverse lines.left (range_told table.now bounds.0 bounds.1) in
+        IfErr result (IfRefusal (PrintsLines lines.format (before_error all)
+        (W.contents output.old) (W.contents output.new))) }
 {
     let items = table.range(bounds.0, bounds.1)?;
     dump_items(output, items, reverse, lines)
@@ -181,6 +193,11 @@ fn dump_items<I: DoubleEndedIterator<Item = IterItem<A>> + Drop, A: Allocator + 
         IfErr result (FailsAs (λ e. first_error (dumped reverse lines.left rs) ≡ Some e)) }
     ensures sound { (es : List Entry) → DealsList I.next_gives I.next_back_gives es items →
         IfErr result BlamesNoFile }
+    ensures before { (rs : List Outcome) → DealsEnding I.next_gives I.next_back_gives
+        (λ _. Unit {0}) (λ _. Unit {0}) items rs →
+        IfErr result (IfRefusal (PrintsLines lines.format
+        (before_error (dumped reverse lines.left rs))
+        (W.contents output.old) (W.contents output.new))) }
 {
     let mut left = lines.left;
     // What stands behind the last of them is not read.

@@ -1,8 +1,8 @@
 //! Why something was not shown.
 ghost use Rattle.tool_show.specs.Failures.{TellsFailure, TellsRefusal};
 
-use crate::places::first_refused;
-use crate::{BlockPlace, NamedTable};
+use crate::places::refused_at;
+use crate::{NamedTable, RefusedAt};
 use sst_blocks::Error;
 use std::alloc::{AllocError, AllocFailed, Allocator};
 use std::{fmt, io};
@@ -18,9 +18,8 @@ pub enum ShowError<'a> {
     Refused {
         /// The name of the file.
         name: &'a str,
-        /// The first block that does not load with this refusal, in the order in which a
-        /// verification reads them, where there is one.
-        place: Option<BlockPlace>,
+        /// Which of its blocks the refusal comes from.
+        at: RefusedAt,
         /// The refusal.
         error: Error,
     },
@@ -31,11 +30,13 @@ impl<'a> fmt::Display for ShowError<'a> {
         match self {
             ShowError::Output(error) => write!(f, "standard output: {error}"),
             ShowError::OutOfMemory => write!(f, "out of memory"),
-            ShowError::Refused { name, place, error } => {
+            ShowError::Refused { name, at, error } => {
                 let number = error.number();
-                match place {
-                    Some(place) => write!(f, "{name}: {place}: {error} ({number})"),
-                    None => write!(f, "{name}: {error} ({number})"),
+                match at {
+                    RefusedAt::Block(place) => write!(f, "{name}: {place}: {error} ({number})"),
+                    RefusedAt::NoBlock | RefusedAt::NotSought => {
+                        write!(f, "{name}: {error} ({number})")
+                    }
                 }
             }
         }
@@ -70,7 +71,7 @@ impl Failure {
     }
 }
 
-// The refusal of a file, with the first block that is refused so.
+// The refusal of a file, with the block that it comes from, as far as that is found out.
 fn refused<'a, A: Allocator + Copy>(
     alloc: A,
     file: &NamedTable<'a, A>,
@@ -78,13 +79,10 @@ fn refused<'a, A: Allocator + Copy>(
 ) -> ShowError<'a>
     ensures { TellsRefusal file.now error result }
 {
-    match first_refused(alloc, &file.table, &error) {
-        Ok(place) => ShowError::Refused {
-            name: file.name,
-            place,
-            error,
-        },
-        Err(_) => ShowError::OutOfMemory,
+    ShowError::Refused {
+        name: file.name,
+        at: refused_at(alloc, &file.table, &error),
+        error,
     }
 }
 

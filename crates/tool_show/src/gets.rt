@@ -1,6 +1,6 @@
 //! The version of a key that a reader sees.
 ghost use Rattle.std.specs.Prelude.{◌≡◌, ◌∷◌, [], List, IfErr, IfNone, IfOk, IfSome, OnOk};
-ghost use Rattle.std.specs.Prelude.{None, Ok, Option, is_some, map};
+ghost use Rattle.std.specs.Prelude.{IsSomeAnd, None, Ok, Option, Some, false, is_some, map};
 ghost use Rattle.std.specs.Arc.{arc_value};
 ghost use Rattle.std.specs.Io.KnownBytes.{Appends};
 ghost use Rattle.std.specs.List.{AllByRecursion, flat_map};
@@ -9,10 +9,13 @@ ghost use Rattle.lsm_runs.specs.RunLists.{RunsHoldLists};
 ghost use Rattle.lsm_runs.specs.RunParts.{range_of};
 ghost use Rattle.lsm_runs.specs.SeveralRuns.{runs_told, union_in};
 ghost use Rattle.sst_entries.specs.Entry.{Entry};
+ghost use Rattle.sst_entries.specs.Error.{is_memory};
 ghost use Rattle.sst_entries.specs.Point.{point};
+ghost use Rattle.sst_entries.specs.declared.error.Error.{Error as Refusal};
 ghost use Rattle.sst_entries.specs.declared.error.Error.TheVariants.{OutOfMemory};
-ghost use Rattle.tool_show.specs.Failures.{BlamesFaulty, NamesFaulty, NamesNone, read_refusal};
-ghost use Rattle.tool_show.specs.Files.{runs_in};
+ghost use Rattle.tool_show.specs.Failures.{BlamesFaulty, NamesFaulty, NamesNone, TellsRefusal};
+ghost use Rattle.tool_show.specs.Failures.{read_early, read_refusal};
+ghost use Rattle.tool_show.specs.Files.{IsSoundTable, runs_in};
 ghost use Rattle.tool_show.specs.Lines.{PrintsText};
 ghost use Rattle.tool_show.specs.Printed.{IsAnswer, PrintsFound, absent_line, file_loads};
 ghost use Rattle.tool_show.specs.Printed.{loads_text, seen_below};
@@ -159,7 +162,7 @@ fn refused_in<'a, A: Allocator + Copy>(
     ShowError::OutOfMemory
 }
 
-// Why a file's table refuses a read, if it is asked and does.
+// The refusal of a file whose table is asked for a key and refuses it.
 fn refused_by<'a, A: Allocator + Copy>(
     alloc: A,
     file: &NamedTable<'a, A>,
@@ -168,17 +171,28 @@ fn refused_by<'a, A: Allocator + Copy>(
 ) -> Option<ShowError<'a>>
     ensures blamed { IfSome result (BlamesFaulty key.now seqno file.now) }
     ensures none { IfNone result (read_refusal key.now seqno file.now.table ≡ None) }
+    // A refusal that is found before memory is taken is told, whatever memory there is.
+    ensures early { (e : Refusal) → read_early key.now seqno file.now.table ≡ Some e →
+        is_memory e ≡ false → IsSomeAnd result (TellsRefusal file.now e) }
 {
-    if !file.table.key_range().contains_key(key) {
-        return None;
-    }
-    let Err(error) = file.table.get_by_key(key, seqno) else {
-        return None;
-    };
-    if error == Error::OutOfMemory {
-        return Some(ShowError::OutOfMemory);
-    }
+    let error = refusal_of(&file.table, key, seqno)?;
     Some(Failure::Refused(error).of_file(alloc, file))
+}
+
+// Why a table refuses a read, if it is asked and does.
+fn refusal_of<A: Allocator + Copy>(table: &Table<A>, key: &[u8], seqno: SeqNo) -> Option<Error>
+    ensures told { IfSome result (λ e. is_memory e ≡ false →
+        read_refusal key.now seqno table.now ≡ Some e) }
+    ensures faulty { IfSome result (λ e. is_memory e ≡ false → IsSoundTable table.now → ⊥) }
+    ensures none { IfNone result (read_refusal key.now seqno table.now ≡ None) }
+    ensures early { (e : Refusal) → read_early key.now seqno table.now ≡ Some e →
+        result ≡ Some e }
+{
+    if table.key_range().contains_key(key) {
+        table.get_by_key(key, seqno).err()
+    } else {
+        None
+    }
 }
 
 fn print_found<'a, A: Allocator + Copy, W: Write>(

@@ -18,6 +18,7 @@ mod names;
 mod picture;
 mod places;
 mod refusals;
+mod stat_object;
 mod stats;
 
 pub use checks::{NoProgress, Progress, verify, verify_unopened};
@@ -25,5 +26,5 @@ pub use dumps::{DumpOptions, dump};
 pub use error::ShowError;
 pub use gets::{GetOptions, get};
 pub use named::NamedTable;
-pub use places::{BlockPlace, first_refused, place_of_refusal};
+pub use places::{BlockPlace, RefusedAt, refused_at};
 pub use stats::stat;

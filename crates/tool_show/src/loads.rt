@@ -2,9 +2,10 @@
 ghost use Rattle.std.specs.Prelude.{◌≡◌, ◌++◌, IfErr, IfOk, OnOk};
 ghost use Rattle.sst_entries.specs.declared.error.Error.TheVariants.{OutOfMemory};
 ghost use Rattle.sst_sections.specs.Sections.{body_of};
-ghost use Rattle.sst_sections.specs.declared.section.SectionName.TheVariants.{Data, Filter, Index};
+ghost use Rattle.sst_sections.specs.declared.section.SectionName.TheVariants.{Data, Filter};
 ghost use Rattle.tool_show.specs.Loads.{block_if, blocks_loaded, data_by};
-ghost use Rattle.tool_show.specs.Loads.{data_place, filter_place, index_place, loads_told};
+ghost use Rattle.tool_show.specs.Loads.{data_place, filter_place, index_place, index_section};
+ghost use Rattle.tool_show.specs.Loads.{loads_told};
 ghost use Rattle.tool_show.specs.Loads.{reached};
 
 use crate::BlockPlace;
@@ -69,7 +70,7 @@ fn places_of_loads<A: Allocator + Copy>(
 ) -> Result<Vec<BlockPlace, A>, AllocError>
     ensures { IfOk result (λ places. places.items
         ≡ block_if Filter opened.filter_loads asked.now.filter
-        ++ (block_if Index opened.index_loads asked.now.index
+        ++ (block_if asked.now.index_section opened.index_loads asked.now.index
         ++ block_if Data opened.data_loads asked.now.data)) }
 {
     let mut places = Vec::new(alloc);
@@ -81,7 +82,7 @@ fn places_of_loads<A: Allocator + Copy>(
     )?;
     add_loaded(
         &mut places,
-        SectionName::Index,
+        asked.index_section,
         opened.index_loads,
         asked.index,
     )?;
@@ -121,6 +122,8 @@ struct AskedPlaces {
     filter: Option<BlockHandle>,
     // The block of the index: a partition, or the one block of a full index.
     index: Option<BlockHandle>,
+    // The section that it is a part of.
+    index_section: SectionName,
     // The data block.
     data: Option<BlockHandle>,
 }
@@ -137,6 +140,8 @@ fn asked_places<A: Allocator + Copy>(
         p.filter ≡ filter_place (body_of t.bytes) t.parts.regions key.now) }
     ensures index { let t = table.now in IfOk result (λ p.
         p.index ≡ index_place (body_of t.bytes) t.parts.regions key.now seqno) }
+    ensures section { IfOk result (λ p.
+        p.index_section ≡ index_section table.now.parts.regions) }
     ensures data { let t = table.now in IfOk result (λ p.
         p.data ≡ data_place (body_of t.bytes) t.parts.regions key.now seqno) }
     ensures err { IfErr result (λ e. e ≡ OutOfMemory) }
@@ -149,8 +154,20 @@ fn asked_places<A: Allocator + Copy>(
     Ok(AskedPlaces {
         filter,
         index,
+        index_section: index_section(regions),
         data,
     })
+}
+
+// The section of the block of the index that a read asks.
+fn index_section(regions: &ParsedRegions) -> SectionName
+    ensures { result ≡ index_section regions.now }
+{
+    if regions.index.is_some() {
+        SectionName::Index
+    } else {
+        SectionName::Tli
+    }
 }
 
 // Where the block of the filter lies that is asked for a key. Refused for want of memory alone.

@@ -4,8 +4,8 @@ ghost use Rattle.std.specs.List.{flat_map};
 ghost use Rattle.std.specs.Io.KnownBytes.{Appends};
 ghost use Rattle.std.specs.Fmt.{decimal};
 ghost use Rattle.tool_show.specs.Stats.{bar_text, on_right, share_told, share_text, sizes_line};
-ghost use Rattle.tool_show.specs.Stats.{IsBlocksText, named_line, on_left, part_line, sizes_text};
-ghost use Rattle.tool_show.specs.Stats.{together_at};
+ghost use Rattle.tool_show.specs.Stats.{IsBlocksText, blocks_a_line, named_line, on_left};
+ghost use Rattle.tool_show.specs.Stats.{part_line, sizes_text, together_at};
 ghost use Rattle.tool_show.specs.Lines.{PrintsText};
 
 use crate::facts::{NamedPlace, Place};
@@ -42,14 +42,21 @@ pub(crate) fn print_blocks<W: Write>(output: &mut W, blocks: &[Place], all: u64)
     ensures { OnOk result (PrintsText (IsBlocksText all blocks.now)
         (W.contents output.old) (W.contents output.new)) }
 {
-    let each = blocks.len().div_ceil(32).max(1);
+    let each = blocks_a_line(blocks.len());
     let mut first = 0usize;
     while first < blocks.len() {
-        let end = first.saturating_add(each).min(blocks.len());
+        let end = first + each.min(blocks.len() - first);
         print_part(output, first, &blocks[first..end], all)?;
         first = end;
     }
     Ok(())
+}
+
+// How many of so many data blocks stand on a line.
+fn blocks_a_line(count: usize) -> usize
+    ensures { result ≡ blocks_a_line count }
+{
+    count.div_ceil(32).max(1)
 }
 
 // The line of some of the data blocks, which begin with the one of this number.

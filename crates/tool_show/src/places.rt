@@ -1,16 +1,14 @@
 //! Where in a table a refusal comes from.
-ghost use Rattle.std.specs.Prelude.{◌≡◌, ◌≢◌, IfErr, IfOk, IfSome, Err, Some};
+ghost use Rattle.std.specs.Prelude.{◌≡◌, ◌≢◌, IfErr, IfOk, Some};
 ghost use Rattle.std.specs.Bool.{MatchBool};
-ghost use Rattle.sst_entries.specs.declared.error.Error.{Error as Refusal};
-ghost use Rattle.sst_sections.specs.Sections.{body_of};
-ghost use Rattle.lsm_readers.specs.Verify.{table_early, table_found};
 ghost use Rattle.sst_entries.specs.declared.error.Error.TheVariants.{OutOfMemory};
-ghost use Rattle.tool_show.specs.Failures.{IsBlockWith, IsFirstWith};
-ghost use Rattle.tool_show.specs.Faults.{begin_of, block_fault, unloaded_at};
+ghost use Rattle.sst_sections.specs.Sections.{body_of};
+ghost use Rattle.tool_show.specs.Failures.{IsBlockWith, IsFirstWith, IsRefusedAt};
+ghost use Rattle.tool_show.specs.Faults.{begin_of, block_fault};
 
 use crate::blocks::{NamedBlock, named_blocks, refusal_of, source_of};
 use crate::names::section_name;
-use lsm_readers::{Fault, Finding, Table, TableInner, VerifyError};
+use lsm_readers::{Table, TableInner};
 use sst_blocks::{BlockSource, Error, SectionName};
 use std::alloc::Allocator;
 use std::fmt;
@@ -36,10 +34,34 @@ impl fmt::Display for BlockPlace {
     }
 }
 
-/// Where the first block of a table begins that does not load with this refusal, in the order in
-/// which a verification reads them: those of the filter, of the index and of data. `None` where no
-/// block is refused so. Refused for want of memory alone.
-pub fn first_refused<A: Allocator + Copy>(
+/// Which block of a file a refusal comes from.
+#[derive(Clone, Copy, Debug, PartialEq, Eq)]
+pub enum RefusedAt {
+    /// The first block that does not load with the refusal, in the order in which a verification
+    /// reads them.
+    Block(BlockPlace),
+    /// No block that the file names is refused so.
+    NoBlock,
+    /// It was not found out, for want of memory.
+    NotSought,
+}
+
+/// Which block of a table a refusal comes from: the first that does not load with it, in the order
+/// in which a verification reads them, those of the filter, of the index and of data. It is sought
+/// as far as there is memory.
+pub fn refused_at<A: Allocator + Copy>(alloc: A, table: &Table<A>, refusal: &Error) -> RefusedAt
+    ensures { IsRefusedAt table.now refusal.now result }
+{
+    match first_refused(alloc, table, refusal) {
+        Ok(Some(place)) => RefusedAt::Block(place),
+        Ok(None) => RefusedAt::NoBlock,
+        Err(_) => RefusedAt::NotSought,
+    }
+}
+
+// Where the first block of a table begins that does not load with this refusal. `None` where no
+// block is refused so. Refused for want of memory alone.
+fn first_refused<A: Allocator + Copy>(
     alloc: A,
     table: &Table<A>,
     refusal: &Error,
@@ -93,41 +115,5 @@ pub(crate) fn begin_of(block: &NamedBlock) -> BlockPlace
     BlockPlace {
         section: block.section,
         offset: block.place.offset().0,
-    }
-}
-
-/// Where a table's verification finds first that something is wrong, if what it finds is a block
-/// that does not load with this refusal. It reads the table up to there. `None` also for want of
-/// memory.
-pub fn place_of_refusal<A: Allocator + Clone>(
-    table: &Table<A>,
-    refusal: &Error,
-) -> Option<BlockPlace>
-    // What is wrong first in this table is the block there, which does not load with the refusal.
-    ensures some { let t = table.now in IfSome result (λ place.
-        table_found (body_of t.bytes) t.parts ≡ Err (unloaded_at place refusal.now)) }
-    // Where that is the first block of all, and takes no memory to be found, it is told.
-    ensures early { let t = table.now in (place : BlockPlace) →
-        table_early (body_of t.bytes) t.parts ≡ Some (unloaded_at place refusal.now) →
-        result ≡ Some place }
-{
-    match table.verify() {
-        Err(VerifyError::Found(finding)) => place_in(&finding, refusal),
-        _ => None,
-    }
-}
-
-// The place that a finding names, if it is a block that does not load with this refusal.
-fn place_in(finding: &Finding, refusal: &Error) -> Option<BlockPlace>
-    ensures some { IfSome result (λ place. finding.now ≡ unloaded_at place refusal.now) }
-    ensures all { (place : BlockPlace) → finding.now ≡ unloaded_at place refusal.now →
-        result ≡ Some place }
-{
-    match &finding.fault {
-        Fault::Unloaded(error) if error == refusal => Some(BlockPlace {
-            section: finding.section,
-            offset: finding.offset,
-        }),
-        _ => None,
     }
 }

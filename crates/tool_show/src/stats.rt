@@ -4,31 +4,30 @@ ghost use Rattle.std.specs.Prelude.{codes, false, if◌then◌else◌, is_some, 
 ghost use Rattle.std.specs.List.{flat_map};
 ghost use Rattle.std.specs.Io.KnownBytes.{Appends};
 ghost use Rattle.sst_entries.specs.Error.{is_memory};
-ghost use Rattle.sst_entries.specs.declared.error.Error.TheVariants.{OutOfMemory};
 ghost use Rattle.tool_show.specs.Failures.{BlamesNoFile, FailsAs, NamesOnly};
 ghost use Rattle.tool_show.specs.Lines.{PrintsText};
-ghost use Rattle.tool_show.specs.Stats.{AreValuesOf, IsPartsText, IsPicturesText, IsStatRefusal};
-ghost use Rattle.tool_show.specs.Stats.{IsStatText, data_line, each_text, filter_bits};
+ghost use Rattle.tool_show.specs.Stats.{AreValuesOf, IsPartsText, IsPicturesText, IsStatObject};
+ghost use Rattle.tool_show.specs.Stats.{IsStatRefusal, IsStatText, data_line, each_text};
+ghost use Rattle.tool_show.specs.Stats.{filter_bits};
 ghost use Rattle.tool_show.specs.Stats.{filter_kind_text, item_line, item_number, item_text};
 ghost use Rattle.tool_show.specs.Stats.{kind_text, kinds_line, meta_fault, meta_value, number_as};
 ghost use Rattle.tool_show.specs.Stats.{passed_text, spread_by, spread_line, summary_text};
 ghost use Rattle.tool_show.specs.Stats.{title_line, value_text};
-ghost use Rattle.tool_lines.specs.declared.entry_line.Format.TheVariants.{Lines};
+ghost use Rattle.tool_lines.specs.declared.entry_line.Format.TheVariants.{Json, Lines};
 
 use crate::error::Failure;
 use crate::facts::{
     ITEMS, NamedPlace, Place, Shown, Spread, blocks_of, little_endian, sections_of, spread_of,
 };
-use crate::names::item_name;
 use crate::picture::{print_blocks, print_left, print_sections};
+use crate::stat_object::print_object;
 use crate::{NamedTable, ShowError};
-use json::Writer;
 use lsm_formats::ItemName;
 use lsm_readers::{ParsedRegions, Table};
 use sst_blocks::{Error, Header, Slice};
-use std::alloc::{AllocError, Allocator};
+use std::alloc::Allocator;
 use std::io::{self, Write};
-use tool_lines::{Format, append_bytes, write_bytes};
+use tool_lines::{Format, append_bytes};
 
 /// Writes what a table says of itself: the items of its meta block, its sections and its data
 /// blocks with their sizes and shares of the file, entries a block, the kinds of index and filter,
@@ -41,9 +40,13 @@ pub fn stat<'a, A: Allocator + Copy, W: Write>(
     file: &NamedTable<'a, A>,
     format: Format,
 ) -> Result<(), ShowError<'a>>
-    // As text, what is printed is what the table tells.
+    // As text, what is printed is what the table tells,
     ensures printed { format ≡ Lines → OnOk result (PrintsText
         (IsStatText A file.now.table file.now.name.now)
+        (W.contents output.old) (W.contents output.new)) }
+    // and so it is as an object of JSON.
+    ensures object { format ≡ Json → OnOk result (PrintsText
+        (IsStatObject A file.now.table file.now.name.now)
         (W.contents output.old) (W.contents output.new)) }
     // Where a file is named, it is this one, with what its meta block refuses or its index first,
     // and the first block that is refused so.
@@ -57,14 +60,14 @@ pub fn stat<'a, A: Allocator + Copy, W: Write>(
 
 /// What is shown of a table beside its items.
 #[derive(Drop)]
-struct Parts<A: Allocator> {
-    size: u64,
-    entries: u64,
-    index: &'static str,
-    filter: &'static str,
-    spread: Option<Spread>,
-    sections: Vec<NamedPlace, A>,
-    blocks: Vec<Place, A>,
+pub(crate) struct Parts<A: Allocator> {
+    pub(crate) size: u64,
+    pub(crate) entries: u64,
+    pub(crate) index: &'static str,
+    pub(crate) filter: &'static str,
+    pub(crate) spread: Option<Spread>,
+    pub(crate) sections: Vec<NamedPlace, A>,
+    pub(crate) blocks: Vec<Place, A>,
 }
 
 fn stat_file<A: Allocator + Copy, W: Write>(
@@ -75,6 +78,9 @@ fn stat_file<A: Allocator + Copy, W: Write>(
 ) -> Result<(), Failure>
     ensures printed { format ≡ Lines → OnOk result (PrintsText
         (IsStatText A file.now.table file.now.name.now)
+        (W.contents output.old) (W.contents output.new)) }
+    ensures object { format ≡ Json → OnOk result (PrintsText
+        (IsStatObject A file.now.table file.now.name.now)
         (W.contents output.old) (W.contents output.new)) }
     ensures refused { IfErr result (FailsAs (IsStatRefusal file.now.table)) }
 {
@@ -117,8 +123,11 @@ fn spread_of_filter<A: Allocator>(table: &Table<A>, bytes: u64, keys: u64) -> Op
     }
 }
 
-// The value of an item of the meta block, if there is one. Refused as loading that block is.
-fn item_of<A: Allocator + Copy>(table: &Table<A>, item: ItemName) -> Result<Option<Slice<A>>, Error>
+/// The value of an item of the meta block, if there is one. Refused as loading that block is.
+pub(crate) fn item_of<A: Allocator + Copy>(
+    table: &Table<A>,
+    item: ItemName,
+) -> Result<Option<Slice<A>>, Error>
     ensures ok { IfOk result (λ value. value ≡ meta_value table.now item) }
     ensures refused { IfErr result (λ e. is_memory e ≡ false → meta_fault table.now ≡ Some e) }
 {
@@ -266,7 +275,8 @@ fn print_shown<A: Allocator + Copy, W: Write>(
     Ok(output.write_all(&text)?)
 }
 
-fn number_shown(value: &[u8], shown: Shown) -> Option<u64>
+/// The number as which a value is shown, if it is shown as one.
+pub(crate) fn number_shown(value: &[u8], shown: Shown) -> Option<u64>
     ensures { result ≡ number_as shown value.now }
 {
     match shown {
@@ -356,125 +366,4 @@ fn tenths_each(entries: u64, count: u64) -> u64
         (if count == 0 then 0 else min (entries * 10) (2 ^ 64 - 1) / count) }
 {
     entries.saturating_mul(10).checked_div(count).unwrap_or(0)
-}
-
-fn print_object<A: Allocator + Copy, W: Write>(
-    alloc: A,
-    output: &mut W,
-    file: &NamedTable<'_, A>,
-    parts: &Parts<A>,
-) -> Result<(), Failure>
-    ensures refused { IfErr result (FailsAs (λ e. meta_fault file.now.table ≡ Some e)) }
-{
-    let mut writer = Writer::new(Vec::new(alloc));
-    write_object(alloc, &mut writer, file, parts)?;
-    let mut text = writer.into_inner();
-    text.push(b'\n')?;
-    Ok(output.write_all(&text)?)
-}
-
-fn write_object<A: Allocator + Copy>(
-    alloc: A,
-    writer: &mut Writer<A>,
-    file: &NamedTable<'_, A>,
-    parts: &Parts<A>,
-) -> Result<(), Error>
-    ensures refused { IfErr result (λ e.
-        is_memory e ≡ false → meta_fault file.now.table ≡ Some e) }
-{
-    writer.begin_object()?;
-    writer.key("name")?;
-    writer.string(file.name)?;
-    writer.key("bytes")?;
-    writer.u64(parts.size)?;
-    write_items(alloc, writer, &file.table)?;
-    write_kinds(writer, parts)?;
-    write_sections(writer, &parts.sections)?;
-    write_blocks(writer, &parts.blocks)?;
-    Ok(writer.end_object()?)
-}
-
-fn write_items<A: Allocator + Copy>(
-    alloc: A,
-    writer: &mut Writer<A>,
-    table: &Table<A>,
-) -> Result<(), Error>
-    ensures refused { IfErr result (λ e. is_memory e ≡ false → meta_fault table.now ≡ Some e) }
-{
-    writer.key("meta")?;
-    writer.begin_object()?;
-    for (item, shown) in &ITEMS {
-        if let Some(value) = item_of(table, *item)? {
-            write_value(alloc, writer, item_name(*item), &value, *shown)?;
-        }
-    }
-    Ok(writer.end_object()?)
-}
-
-fn write_value<A: Allocator + Copy>(
-    alloc: A,
-    writer: &mut Writer<A>,
-    name: &str,
-    value: &Slice<A>,
-    shown: Shown,
-) -> Result<(), Error>
-    ensures err { IfErr result (λ e. e ≡ OutOfMemory) }
-{
-    writer.key(name)?;
-    if let Some(number) = number_shown(value.as_slice(), shown) {
-        return Ok(writer.u64(number)?);
-    }
-    Ok(write_bytes(alloc, writer, value.as_slice())?)
-}
-
-fn write_kinds<A: Allocator>(writer: &mut Writer<A>, parts: &Parts<A>) -> Result<(), AllocError> {
-    writer.key("index")?;
-    writer.string(parts.index)?;
-    writer.key("filter")?;
-    writer.string(parts.filter)?;
-    match parts.spread {
-        Some(spread) => write_spread(writer, spread),
-        None => Ok(()),
-    }
-}
-
-fn write_spread<A: Allocator>(writer: &mut Writer<A>, spread: Spread) -> Result<(), AllocError> {
-    writer.key("filter_bits_per_key_tenths")?;
-    writer.u64(spread.tenths)?;
-    writer.key("false_answers_per_million")?;
-    writer.u64(spread.passed)
-}
-
-fn write_sections<A: Allocator>(
-    writer: &mut Writer<A>,
-    sections: &[NamedPlace],
-) -> Result<(), AllocError> {
-    writer.key("sections")?;
-    writer.begin_array()?;
-    for section in sections {
-        writer.begin_object()?;
-        writer.key("name")?;
-        writer.string(section.name)?;
-        write_place(writer, section.place)?;
-    }
-    writer.end_array()
-}
-
-fn write_blocks<A: Allocator>(writer: &mut Writer<A>, blocks: &[Place]) -> Result<(), AllocError> {
-    writer.key("blocks")?;
-    writer.begin_array()?;
-    for block in blocks {
-        writer.begin_object()?;
-        write_place(writer, *block)?;
-    }
-    writer.end_array()
-}
-
-// A place, and the end of its object.
-fn write_place<A: Allocator>(writer: &mut Writer<A>, place: Place) -> Result<(), AllocError> {
-    writer.key("offset")?;
-    writer.u64(place.offset)?;
-    writer.key("bytes")?;
-    writer.u64(place.size)?;
-    writer.end_object()
 }

@@ -2,11 +2,17 @@
 use denote.Ref.{Bor}
 use Rattle.std.proofs.Common.{◌≡◌, sym, subst, ℕ, ◌+◌, ◌<◌, List, [], ◌∷◌, ◌++◌, get_or, length}
 use Rattle.std.proofs.Common.{Bool, append_assoc, append-nil, arith, drop, nat_eq, refl, take, true}
-use Rattle.std.specs.Prelude.{Option}
+use Rattle.std.proofs.Common.{◌-◌, ◌^◌, false, inr}
+use Rattle.std.specs.Prelude.{Err, IfOk, None, Ok, OnOk, Option, Result, min}
 use Rattle.std.specs.Io.KnownBytes.{Keeps}
 use Rattle.std.specs.List.{AllByRecursion}
+use Rattle.std.proofs.KnownBytes.{Appends-trans}
 use Rattle.std.proofs.lemmas.List.{drop_more, take_more}
-use Rattle.tool_tasks.specs.Verified.{AreNone, ChecksEach, ChecksName, DoesVerify}
+use Rattle.logpurple.specs.Words.{Error, Gives, OpenTable, is_memory, recovered_told}
+use Rattle.tool_show.specs.Faults.{unloaded_count, unopened_faults}
+use Rattle.tool_show.specs.Lines.{AreJoined, IsUnloadedLine, PrintsText}
+use Rattle.tool_tasks.specs.Verified.{AreNone, ChecksBytes, ChecksEach, ChecksName, DoesVerify}
+use Rattle.tool_tasks.specs.Verified.{IsLineAbout, IsNoTableText, IsRefusedLine}
 
 all_more : {A : Type 0} (P : A → Type 0) (xs : List A) (x : A) → AllByRecursion P xs → P x
     → AllByRecursion P (xs ++ x ∷ [])
@@ -19,6 +25,48 @@ pub all_so_far : {A : Type 0} (P : A → Type 0) (xs : List A) (i : ℕ) (d : A)
 all_so_far P xs i d h before one =
     subst (AllByRecursion P) (sym (take_more xs i d h))
     (all_more P (take i xs) (get_or xs i d) before one)
+
+-- ---- one file that is at fault
+
+-- the line of bytes that open as no table, and then those of their blocks
+pub no_table_text : (bytes name : List ℕ) (e : Error) (a b c : Option (List ℕ))
+    → PrintsText (IsRefusedLine name e) a b
+    → PrintsText (AreJoined (IsUnloadedLine name) (unopened_faults bytes)) b c
+    → PrintsText (IsNoTableText bytes name e) a c
+no_table_text bytes name e a b c line further = (
+  line.0 ++ further.0,
+  (line.0, further.0, line.1, further.1, refl),
+  Appends-trans a b c line.0 further.0 line.2 further.2,
+)
+
+-- bytes that open as no table are looked at
+pub no_table : {E : Type 0} (bytes name : List ℕ) (e : Error) (r : Result ℕ E)
+    (old new : Option (List ℕ))
+    → Gives (λ (t : OpenTable). t.parts) (Err e) (recovered_told bytes 0 false false)
+    → IfOk r (λ n. n ≡ min (unloaded_count bytes + 1) (2 ^ 64 - 1))
+    → IfOk r (λ n. is_memory e ≡ false) → OnOk r (PrintsText (IsNoTableText bytes name e) old new)
+    → IfOk r (λ n. ChecksBytes bytes name n old new)
+no_table bytes name e (Ok n) old new refused count other prints = inr record {
+  error = e;
+  other = other;
+  refused = refused;
+  count = count;
+  printed = prints;
+}
+no_table bytes name e (Err f) old new refused count other prints = tt
+
+-- a file that is not read is looked at
+pub missed : {E : Type 0} (content : List ℕ → Option (List ℕ)) (name : List ℕ) (memory : Bool)
+    (r : Result ℕ E) (old new : Option (List ℕ)) → (memory ≡ false → content name ≡ None)
+    → IfOk r (λ n. n ≡ 1) → IfOk r (λ n. memory ≡ false)
+    → OnOk r (PrintsText (IsLineAbout name) old new)
+    → IfOk r (λ n. ChecksName content name n old new)
+missed content name memory (Ok n) old new unknown count other prints = inr record {
+  unknown = unknown other;
+  count = count;
+  printed = prints;
+}
+missed content name memory (Err f) old new unknown count other prints = tt
 
 -- ---- files that are looked at, one after another
 

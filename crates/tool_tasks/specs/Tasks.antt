@@ -11,7 +11,8 @@ use Rattle.tool_options.specs.declared.words.Parsed.TheVariants as parsed
 use Rattle.tool_tasks.specs.Endings.{EndsVerify}
 use Rattle.tool_tasks.specs.Making.{DoesCompact, DoesWrite, RefusesCompact, RefusesWrite}
 use Rattle.tool_tasks.specs.Packing.{DoesPack, RefusesPack}
-use Rattle.tool_tasks.specs.Showing.{DoesDump, DoesGet, StatsEach}
+use Rattle.tool_tasks.specs.Showing.{DoesDump, DoesGet, RefusesDump, RefusesGet, RefusesStat}
+use Rattle.tool_tasks.specs.Showing.{StatsEach}
 use Rattle.tool_tasks.specs.Statuses.{status_of_answer, status_of_failure}
 use Rattle.tool_tasks.specs.Verified.{AreSoundFiles, DoesVerify}
 use Rattle.tool_tasks.specs.declared.failure.Failure.{Failure}
@@ -38,17 +39,25 @@ DoesTask (task.Dump t) input content there known new status old text =
 DoesTask (task.Stat t) input content there known new status old text =
     (status ≡ 0) × (new ≡ known) × StatsEach t.json content t.files.items old text
 
--- a task is refused with a failure, and this is done then: where nothing makes files, nothing
+-- a task is refused with a failure, and this is done then and printed: where nothing makes files,
+-- nothing is done to them
 abbrev pub RefusesTask : Task → Option (List ℕ) → (List ℕ → Option (List ℕ))
     → (List ℕ → Option Bool) → (known : Option (List Step)) → Failure
-    → (new : Option (List Step)) → Type 0
-RefusesTask (task.Write t) input content there known e new = RefusesWrite t input there known e new
-RefusesTask (task.Compact t) input content there known e new =
+    → (new : Option (List Step)) → (old_text new_text : Option (List ℕ)) → Type 0
+RefusesTask (task.Write t) input content there known e new old text =
+    RefusesWrite t input there known e new
+RefusesTask (task.Compact t) input content there known e new old text =
     RefusesCompact t content there known e new
-RefusesTask (task.Pack t) input content there known e new =
+RefusesTask (task.Pack t) input content there known e new old text =
     (new ≡ known) × RefusesPack t content e
-RefusesTask (task.Verify t) input content there known e new = (new ≡ known) × EndsVerify e
-RefusesTask t input content there known e new = new ≡ known
+RefusesTask (task.Verify t) input content there known e new old text =
+    (new ≡ known) × EndsVerify e
+RefusesTask (task.Dump t) input content there known e new old text =
+    (new ≡ known) × RefusesDump t content e old text
+RefusesTask (task.Get t) input content there known e new old text =
+    (new ≡ known) × RefusesGet t content e old text
+RefusesTask (task.Stat t) input content there known e new old text =
+    (new ≡ known) × RefusesStat t content e old text
 
 -- a task is done, and what it printed passed on
 abbrev pub EndsTask : Task → Option (List ℕ) → (List ℕ → Option (List ℕ))
@@ -56,6 +65,13 @@ abbrev pub EndsTask : Task → Option (List ℕ) → (List ℕ → Option (List 
     → (old_text new_text : Option (List ℕ)) → Type 0
 EndsTask t input content there known new status old text = (printed : Option (List ℕ))
     × DoesTask t input content there known new status old printed × Keeps printed text
+
+-- a task is refused, and what it printed before passed on
+abbrev pub StopsTask : Task → Option (List ℕ) → (List ℕ → Option (List ℕ))
+    → (List ℕ → Option Bool) → (known : Option (List Step)) → Failure
+    → (new : Option (List Step)) → (old_text new_text : Option (List ℕ)) → Type 0
+StopsTask t input content there known e new old text = (printed : Option (List ℕ))
+    × RefusesTask t input content there known e new old printed × Keeps printed text
 
 -- the status with which something ends
 abbrev pub status_of_done : Result ℕ Failure → ℕ
@@ -68,7 +84,7 @@ abbrev pub RunsAs : Parsed → Option (List ℕ) → (status : ℕ) → (old_tex
     → Type 0
 RunsAs (parsed.Task t) input status old text = (done : Result ℕ Failure)
     × IfOk done (λ s. EndsTask t input (λ _. None) (λ _. None) None None s old text)
-    × IfErr done (λ e. RefusesTask t input (λ _. None) (λ _. None) None e None)
+    × IfErr done (λ e. StopsTask t input (λ _. None) (λ _. None) None e None old text)
     × (status ≡ status_of_done done)
 RunsAs (parsed.Shown shown) input status old text =
     (status ≡ 0 → Appends old text (string_bytes shown)) × (status ≤ 1)

@@ -4,6 +4,7 @@
 
 mod bar;
 mod failure;
+mod lines;
 mod make;
 mod running;
 mod show;

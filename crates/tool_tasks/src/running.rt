@@ -2,7 +2,7 @@
 ghost use Rattle.std.specs.Prelude.{◌≡◌, ◌≤◌, IfErr, IfOk, MatchResult, OnOk, map};
 ghost use Rattle.std.specs.Io.KnownBytes.{Appends};
 ghost use Rattle.tool_tasks.specs.Statuses.{status_of_answer, status_of_failure};
-ghost use Rattle.tool_tasks.specs.Tasks.{DoesTask, EndsTask, RefusesTask, Runs};
+ghost use Rattle.tool_tasks.specs.Tasks.{DoesTask, EndsTask, RefusesTask, Runs, StopsTask};
 
 use crate::failure::Failure;
 use crate::{System, make, show};
@@ -93,8 +93,9 @@ fn execute<'a, R: Files, C: Clock, P: Place, I: Read + Drop, W: Write, E: Write>
     ensures does { IfOk result (λ status. EndsTask task.now (I.remaining input)
         (P.content place.old) (P.there place.old) (P.done place.old) (P.done place.new) status
         (W.contents output.old) (W.contents output.new)) }
-    ensures refused { IfErr result (λ e. RefusesTask task.now (I.remaining input)
-        (P.content place.old) (P.there place.old) (P.done place.old) e (P.done place.new)) }
+    ensures refused { IfErr result (λ e. StopsTask task.now (I.remaining input)
+        (P.content place.old) (P.there place.old) (P.done place.old) e (P.done place.new)
+        (W.contents output.old) (W.contents output.new)) }
 {
     let done = perform(system, place, task, input, output, errors, shows_bar);
     let flushed: io::Result<()> = output.flush();
@@ -118,7 +119,8 @@ fn perform<'a, R: Files, C: Clock, P: Place, I: Read + Drop, W: Write, E: Write>
         (P.content place.old) (P.there place.old) (P.done place.old) (P.done place.new) status
         (W.contents output.old) (W.contents output.new)) }
     ensures refused { IfErr result (λ e. RefusesTask task.now (I.remaining input)
-        (P.content place.old) (P.there place.old) (P.done place.old) e (P.done place.new)) }
+        (P.content place.old) (P.there place.old) (P.done place.old) e (P.done place.new)
+        (W.contents output.old) (W.contents output.new)) }
 {
     match task {
         Task::Write(task) => make::write(system, place, task, input, output).and(Ok(0)),

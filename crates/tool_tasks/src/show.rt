@@ -2,30 +2,32 @@
 ghost use Rattle.std.specs.Prelude.{◌≡◌, ◌+◌, ◌-◌, ◌^◌, ℕ, IfErr, IfOk, List, OnOk, Option};
 ghost use Rattle.std.specs.Prelude.{false, min, true};
 ghost use Rattle.std.specs.Option.{option_map};
-ghost use Rattle.logpurple.specs.Words.{OpenTable};
+ghost use Rattle.logpurple.specs.Words.{OpenTable, is_memory};
 ghost use Rattle.tool_show.specs.Faults.{fault_count, unloaded_count};
 ghost use Rattle.tool_show.specs.Files.{IsSoundTable};
 ghost use Rattle.tool_files.specs.Files.{is_memory_fault};
 ghost use Rattle.tool_files.specs.Opened.{HasContent, IsToldByBytes};
 ghost use Rattle.tool_lines.specs.Escapes.{WordMeans};
-ghost use Rattle.tool_lines.specs.declared.entry_line.LineError.{LineError};
-ghost use Rattle.tool_tasks.specs.declared.failure.Failure.TheVariants.{Key};
+ghost use Rattle.tool_show.specs.Checked.{ChecksFile};
+ghost use Rattle.tool_show.specs.Lines.{PrintsText};
 ghost use Rattle.tool_tasks.specs.Endings.{EndsVerify};
 ghost use Rattle.tool_tasks.specs.Showing.{AreNamed, DoesDump, DoesGet, DumpsEach, MeansKey};
-ghost use Rattle.tool_tasks.specs.Showing.{StatsEach};
-ghost use Rattle.tool_show.specs.Checked.{ChecksFile};
+ghost use Rattle.tool_tasks.specs.Showing.{RefusesBound, RefusesDump, RefusesFile, RefusesGet};
+ghost use Rattle.tool_tasks.specs.Showing.{RefusesKey, RefusesOpening, RefusesStat, StatsEach};
+ghost use Rattle.tool_tasks.specs.Showing.{StopsDumping};
 ghost use Rattle.tool_tasks.specs.Verified.{AreSoundFiles, ChecksBytes, ChecksName, DoesVerify};
-ghost use Rattle.tool_tasks.specs.Verified.{IsSoundFile};
+ghost use Rattle.tool_tasks.specs.Verified.{IsLineAbout, IsNoTableText, IsSoundFile};
 
 use crate::System;
 use crate::bar::{Bar, Work, behind};
 use crate::failure::{Failure, KeyWord};
+use crate::lines::{is_memory, print_unopened_line, print_unread_line};
 use crate::make::format_of;
 use logpurple::{Error, Slice};
 use std::alloc::Global;
 use std::io::Write;
 use std::rt::{Clock, Files};
-use tool_files::{FileError, FileName, Place, open_bytes, open_table};
+use tool_files::{FileFault, Place, open_bytes, open_table};
 use tool_lines::parse_bytes;
 use tool_options::{DumpTask, GetTask, StatTask, VerifyTask};
 use tool_show::{DumpOptions, GetOptions, NamedTable, NoProgress};
@@ -40,6 +42,7 @@ fn open_named<'a, P: Place>(
     ensures name { IfOk result (λ f. f.name ≡ name.entry) }
     ensures told { IfOk result (λ f. IsToldByBytes false f.table) }
     ensures content { IfOk result (λ f. HasContent (P.content place.now name.now) f.table) }
+    ensures refused { IfErr result (RefusesFile (P.content place.now name.now) name.now) }
 {
     let table = open_table(place, alloc, name, false)?;
     Ok(NamedTable { name, table })
@@ -51,7 +54,8 @@ fn open_each<'a, P: Place>(
     place: &P,
     names: &[&'a str],
 ) -> Result<Vec<NamedTable<'a, Global>>, Failure<'a>>
-    ensures { IfOk result (λ files. AreNamed (P.content place.now) names.now files.items) }
+    ensures named { IfOk result (λ files. AreNamed (P.content place.now) names.now files.items) }
+    ensures refused { IfErr result (RefusesOpening (P.content place.now) names.now) }
 {
     let mut tables = Vec::new(alloc);
     for name in names {
@@ -63,7 +67,7 @@ fn open_each<'a, P: Place>(
 // The bytes of a key on the command line.
 fn key_bytes<'a>(alloc: Global, name: KeyWord, word: &str) -> Result<Vec<u8>, Failure<'a>>
     ensures ok { IfOk result (λ bytes. WordMeans word.now bytes.items) }
-    ensures refused { IfErr result (λ e. (error : LineError) × (e ≡ Key name error)) }
+    ensures refused { IfErr result (RefusesKey name word.now) }
 {
     match parse_bytes(alloc, word.as_bytes()) {
         Ok(bytes) => Ok(bytes),
@@ -77,7 +81,8 @@ fn bound_bytes<'a>(
     name: KeyWord,
     word: Option<&str>,
 ) -> Result<Option<Vec<u8>>, Failure<'a>>
-    ensures { IfOk result (λ bytes. MeansKey word.entry (option_map (λ b. b.items) bytes)) }
+    ensures means { IfOk result (λ bytes. MeansKey word.entry (option_map (λ b. b.items) bytes)) }
+    ensures refused { IfErr result (RefusesBound name word.entry) }
 {
     match word {
         Some(word) => Ok(Some(key_bytes(alloc, name, word)?)),
@@ -92,8 +97,10 @@ pub(crate) fn dump<'a, P: Place, W: Write>(
     task: &DumpTask<'a>,
     output: &mut W,
 ) -> Result<(), Failure<'a>>
-    ensures { OnOk result (DoesDump task.now (P.content place.now) (W.contents output.old)
+    ensures does { OnOk result (DoesDump task.now (P.content place.now) (W.contents output.old)
         (W.contents output.new)) }
+    ensures refused { IfErr result (λ e. RefusesDump task.now (P.content place.now) e
+        (W.contents output.old) (W.contents output.new)) }
 {
     let from = bound_bytes(alloc, KeyWord::From, task.from)?;
     let to = bound_bytes(alloc, KeyWord::To, task.to)?;
@@ -116,8 +123,10 @@ fn dump_each<'a, P: Place, W: Write>(
     left: u64,
     output: &mut W,
 ) -> Result<(), Failure<'a>>
-    ensures { OnOk result (DumpsEach options.now (P.content place.now) names.now left
-        (W.contents output.old) (W.contents output.new)) }
+    ensures dumps { OnOk result ((rest : ℕ) × DumpsEach options.now (P.content place.now) names.now
+        left rest (W.contents output.old) (W.contents output.new)) }
+    ensures refused { IfErr result (λ e. StopsDumping options.now (P.content place.now) names.now
+        left e (W.contents output.old) (W.contents output.new)) }
 {
     let mut left = left;
     for name in names {
@@ -138,7 +147,9 @@ pub(crate) fn get<'a, P: Place, W: Write>(
     task: &GetTask<'a>,
     output: &mut W,
 ) -> Result<bool, Failure<'a>>
-    ensures { IfOk result (λ there. DoesGet task.now (P.content place.now) there
+    ensures does { IfOk result (λ there. DoesGet task.now (P.content place.now) there
+        (W.contents output.old) (W.contents output.new)) }
+    ensures refused { IfErr result (λ e. RefusesGet task.now (P.content place.now) e
         (W.contents output.old) (W.contents output.new)) }
 {
     let key = key_bytes(alloc, KeyWord::Key, task.key)?;
@@ -160,7 +171,9 @@ pub(crate) fn stat<'a, P: Place, W: Write>(
     task: &StatTask<'a>,
     output: &mut W,
 ) -> Result<(), Failure<'a>>
-    ensures { OnOk result (StatsEach task.now.json (P.content place.now) task.now.files.items
+    ensures does { OnOk result (StatsEach task.now.json (P.content place.now) task.now.files.items
+        (W.contents output.old) (W.contents output.new)) }
+    ensures refused { IfErr result (λ e. RefusesStat task.now (P.content place.now) e
         (W.contents output.old) (W.contents output.new)) }
 {
     for name in task.files.as_slice() {
@@ -224,24 +237,27 @@ fn verify_file<'a, R: Files, C: Clock, P: Place, W: Write, E: Write>(
 {
     match place.read(system.alloc, name) {
         Ok(bytes) => verify_bytes(system, name, bytes, output, errors, work),
-        Err(fault) => {
-            let name = FileName::Plain(name);
-            print_unread(output, FileError { name, fault })
-        }
+        Err(fault) => print_unread(output, name, &fault),
     }
 }
 
 // Prints why a file was not read, which is a fault unless memory is wanted. Answers how many faults
 // there are.
-fn print_unread<'a, W: Write>(output: &mut W, error: FileError<'a>) -> Result<u64, Failure<'a>>
-    ensures fault { IfOk result (λ faults. faults ≡ 1) }
-    ensures memory { IfOk result (λ _. is_memory_fault error.entry.fault ≡ false) }
+fn print_unread<'a, W: Write>(
+    output: &mut W,
+    name: &str,
+    fault: &FileFault,
+) -> Result<u64, Failure<'a>>
+    ensures count { IfOk result (λ faults. faults ≡ 1) }
+    ensures memory { IfOk result (λ _. is_memory_fault fault.now ≡ false) }
+    ensures printed { OnOk result (PrintsText (IsLineAbout name.now)
+        (W.contents output.old) (W.contents output.new)) }
     ensures goes_on { IfErr result EndsVerify }
 {
-    if error.fault.is_memory() {
+    if fault.is_memory() {
         return Err(Failure::OutOfMemory);
     }
-    writeln!(output, "{error}")?;
+    print_unread_line(output, name, fault)?;
     Ok(1)
 }
 
@@ -275,19 +291,21 @@ fn verify_bytes<'a, R: Files, C: Clock, W: Write, E: Write>(
 // block that does not load. Answers how many faults there are.
 fn print_unopened<'a, W: Write>(
     alloc: Global,
-    name: &'a str,
+    name: &str,
     bytes: Slice<Global>,
     error: Error,
     output: &mut W,
 ) -> Result<u64, Failure<'a>>
-    ensures fault { IfOk result (λ faults. faults ≡ min (unloaded_count bytes + 1) (2 ^ 64 - 1)) }
+    ensures count { IfOk result (λ faults. faults ≡ min (unloaded_count bytes + 1) (2 ^ 64 - 1)) }
+    ensures memory { IfOk result (λ _. is_memory error ≡ false) }
+    ensures printed { OnOk result (PrintsText (IsNoTableText bytes name.now error)
+        (W.contents output.old) (W.contents output.new)) }
     ensures goes_on { IfErr result EndsVerify }
 {
-    if error == Error::OutOfMemory {
+    if is_memory(&error) {
         return Err(Failure::OutOfMemory);
     }
-    let number = error.number();
-    writeln!(output, "{name}: {error} ({number})")?;
+    print_unopened_line(output, name, &error)?;
     let blocks = tool_show::verify_unopened(alloc, output, name, bytes)?;
     Ok(blocks.saturating_add(1))
 }

@@ -3,7 +3,7 @@ use Rattle.tool_compact.proofs.compact.compact_opened.Goals as goal
 
 pub returns-in-Err-clause-library : goal.returns-in-Err-clause-library
 returns-in-Err-clause-library g c =
-    refused_so c.args.options.now c.args.paths.now c.args.tables.now c.in-Err.error c.blame.result c.blame.ensures.kept c.blame.ensures.blames c.in-Err.ensures.refused c.in-Err.ensures.taken
+    refused_so c.args.options.now c.args.paths.now c.args.tables.now c.in-Err.error c.blame.result c.blame.ensures.kept c.blame.ensures.blames c.blame.ensures.memory c.blame.ensures.named c.in-Err.ensures.refused c.in-Err.ensures.taken
 
 pub returns-in-None-clause-library : goal.returns-in-None-clause-library
 returns-in-None-clause-library g c =

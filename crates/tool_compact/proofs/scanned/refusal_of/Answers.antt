@@ -1,3 +1,5 @@
+use Rattle.std.proofs.Common.{◌≡◌, sym}
+use Rattle.std.specs.Prelude.{None, Some}
 use Rattle.sst_entries.specs.Stream.{ok_results}
 use Rattle.lsm_readers.specs.Answer.{lift}
 use Rattle.lsm_runs.specs.RunScan.{table_scan}
@@ -17,3 +19,10 @@ pub returns-in-Err-clause-first : goal.returns-in-Err-clause-first
 returns-in-Err-clause-first g c = λ other.
     let t = c.args.table.now in
     refused_first (table_scan t) c.in-Err.error (scan_refused t c.in-Err.error (c.in-Err.ensures.refused other))
+
+pub returns-in-Ok-clause-early : goal.returns-in-Ok-clause-early
+returns-in-Ok-clause-early g c = λ e early.
+    let none : Some e ≡ None = c.in-Ok.ensures.early e early in absurd cc
+
+pub returns-in-Err-clause-early : goal.returns-in-Err-clause-early
+returns-in-Err-clause-early g c = λ e early. sym (c.in-Err.ensures.early e early)

@@ -1,10 +1,17 @@
+use Rattle.tool_files.proofs.Modes.{modes_kept}
 use Rattle.tool_files.proofs.Steps.{put_names, put_refused}
+use Rattle.tool_files.specs.Standing.{standing_in}
 use Rattle.tool_files.proofs.write.place_files.Goals as goal
 
 pub returns-in-Ok-clause-refused : goal.returns-in-Ok-clause-refused
 returns-in-Ok-clause-refused g c =
-    put_refused c.put_each.result (g.P.Place.done c.args.place.now) (g.P.Place.done c.write_each.new.place) (g.P.Place.done c.put_each.new.place) c.args.wanted.now c.write_each.new.written.items c.deref.result.now c.in-Ok.ensures.all c.deref.ensures.value c.in-Ok.ensures.done c.put_each.ensures.refused
+    put_refused c.put_each.result (g.P.Place.there c.args.place.now) (g.P.Place.done c.args.place.now) (g.P.Place.done c.write_each.new.place) (g.P.Place.done c.put_each.new.place) c.args.wanted.now c.write_each.new.written.items c.deref.result.now c.in-Ok.ensures.all c.deref.ensures.value c.in-Ok.ensures.done c.put_each.ensures.refused
 
 pub returns-in-Ok-clause-named : goal.returns-in-Ok-clause-named
 returns-in-Ok-clause-named g c =
     put_names c.put_each.result (g.P.Place.done c.write_each.new.place) (g.P.Place.done c.put_each.new.place) c.args.wanted.now c.write_each.new.written.items c.deref.result.now c.in-Ok.ensures.all c.deref.ensures.value c.put_each.ensures.refused
+
+pub returns-in-Ok-clause-kept : goal.returns-in-Ok-clause-kept
+returns-in-Ok-clause-kept g c =
+    modes_kept c.put_each.result (g.P.Place.modes c.args.place.now) (g.P.Place.done c.args.place.now) (g.P.Place.done c.write_each.new.place) (g.P.Place.done c.put_each.new.place) (standing_in c.write_each.new.written.items) c.args.wanted.now c.in-Ok.ensures.all c.in-Ok.ensures.kept c.in-Ok.ensures.done
+    (rw c.deref.ensures.value at c.put_each.ensures.all)

@@ -1,6 +1,6 @@
 use Rattle.std.proofs.Common.{◌≡◌, take}
-use Rattle.tool_files.specs.Placed.{AreBeside, writing}
-use Rattle.tool_files.specs.Standing.{standing_in}
+use Rattle.tool_files.specs.Placed.{AreBeside, SameButBeside, writing}
+use Rattle.tool_files.specs.Standing.{HaveModesKept, standing_in}
 use Rattle.tool_files.specs.Steps.{then_done}
 use Rattle.tool_files.proofs.write.write_each.Given as goal
 
@@ -9,4 +9,10 @@ invariant-loop-file g l = record {
   are : AreBeside (take l.file-index l.wanted) (standing_in l.written.items);
   done : g.P.Place.done l.place
       ≡ then_done (g.P.Place.done l.fn.place) (writing (standing_in l.written.items));
+  same : SameButBeside (standing_in l.written.items) (g.P.Place.there l.fn.place)
+      (g.P.Place.there l.place);
+  left : SameButBeside (standing_in l.written.items) (g.P.Place.modes l.fn.place)
+      (g.P.Place.modes l.place);
+  kept : HaveModesKept (g.P.Place.modes l.fn.place) (standing_in l.written.items)
+      (standing_in l.written.items);
 }

@@ -1,7 +1,7 @@
 use Rattle.std.proofs.Common.{rules}
+use Rattle.std.specs.Prelude.{Err, Ok}
 use Rattle.tool_lines.specs.WordLine.{FourWords, IsNumberWord, IsWordFault}
-use Rattle.tool_lines.specs.declared.entry_line.LineError.TheVariants as fault
-use Rattle.tool_lines.proofs.WordLemmas.{fault_by, no_kind, passed_on}
+use Rattle.tool_lines.proofs.WordLemmas.{early_told, key_fault, no_kind, passed_on, value_fault}
 use Rattle.tool_lines.proofs.word_line.parse_words.Goals as goal
 
 pub returns-in_default-parse_number-clause-refused :
@@ -16,13 +16,14 @@ returns-in_default-parse_number-clause-refused g c =
         value = w.value.now;
         are = c.in-Some.ensures.some;
       },
-      λ n counts. none counts.number,
+      none,
     )
 
 pub returns-in_default-parse_kind-clause-refused :
     goal.returns-in_default-parse_kind-clause-refused
 returns-in_default-parse_kind-clause-refused g c =
-    let w = c.in-Some.words in (
+    let w = c.in-Some.words in
+    let good : IsNumberWord w.seqno.now = search rules in (
       record {
         key = w.key.now;
         number = w.seqno.now;
@@ -30,7 +31,9 @@ returns-in_default-parse_kind-clause-refused g c =
         value = w.value.now;
         are = c.in-Some.ensures.some;
       },
-      no_kind w.kind.now c.parse_kind.result (search rules) c.parse_kind.ensures.all,
+      good,
+      λ letter. no_kind w.kind.now c.parse_kind.result (search rules) c.parse_kind.ensures.all
+          letter.0 letter.1,
     )
 
 pub returns-in_err-key-clause-refused : goal.returns-in_err-key-clause-refused
@@ -43,10 +46,9 @@ returns-in_err-key-clause-refused g c =
       value = w.value.now;
       are = c.in-Some.ensures.some;
     } in
+    let good : IsNumberWord w.seqno.now = search rules in
     passed_on (IsWordFault c.args.line.now) c.from_residual.result c.in_err-key.field-0.0 c.from_residual.ensures.1
-    (fault_by (IsWordFault c.args.line.now) c.in_err-key.field-0.0 fault.Key tt (λ fine.
-    let told = c.in_err-key.ensures.refused fine in
-    (told.0, (four, told.1))))
+    (key_fault c.args.line.now four c.in_err-key.field-0.0 good (search rules) c.in_err-key.ensures.refused c.in_err-key.ensures.began)
 
 pub returns-in-Ok-clause-spells : goal.returns-in-Ok-clause-spells
 returns-in-Ok-clause-spells g c =
@@ -75,6 +77,13 @@ returns-in-Err-clause-refused g c =
       value = w.value.now;
       are = c.in-Some.ensures.some;
     } in
-    fault_by (IsWordFault c.args.line.now) c.in-Err.error fault.Value tt (λ fine.
-    let told = c.in-Err.ensures.refused fine in
-    (told.0, (four, told.1)))
+    let good : IsNumberWord w.seqno.now = search rules in
+    value_fault c.args.line.now four c.in-Err.error _ good (search rules) c.in_ok-key.ensures.bytes c.in-Err.ensures.refused
+
+pub returns-in-Ok-clause-early : goal.returns-in-Ok-clause-early
+returns-in-Ok-clause-early g c =
+    early_told _ c.args.line.now (returns-in-Ok-clause-spells g c) tt
+
+pub returns-in-Err-clause-early : goal.returns-in-Err-clause-early
+returns-in-Err-clause-early g c =
+    early_told (Err c.in-Err.error) c.args.line.now tt (returns-in-Err-clause-refused g c)

@@ -1,5 +1,4 @@
 -- The verification went on by the blocks so far, and each step leaves one step less.
-use Rattle.std.proofs.Common.{◌≡◌, ◌+◌, length}
 use Rattle.lsm_readers.specs.Verification.{steps_of}
 use Rattle.tool_show.proofs.StepLemmas.{Went}
 use Rattle.tool_show.proofs.checks.look_on.Given as goal

@@ -1,4 +1,4 @@
-use Rattle.std.proofs.Common.{◌≡◌, rules}
+use Rattle.std.proofs.Common.{◌≡◌}
 use Rattle.std.specs.Prelude.{Err, Ok}
 use Rattle.sst_sections.specs.Sections.{body_of}
 use Rattle.lsm_readers.specs.Verify.{table_found}

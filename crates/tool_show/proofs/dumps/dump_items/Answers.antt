@@ -2,18 +2,19 @@ use Rattle.std.proofs.Common.{refl, true}
 use Rattle.sst_entries.specs.Error.{is_memory}
 use Rattle.sst_entries.specs.Stream.{ok_results}
 use Rattle.sst_entries.proofs.StreamLemmas.{can_now, can_now_back}
-use Rattle.tool_show.proofs.DumpLemmas.{error_is_memory, may_go_on, prints_all, prints_end}
-use Rattle.tool_show.proofs.DumpLemmas.{prints_none, prints_one}
+use Rattle.tool_show.proofs.DumpLemmas.{error_is_memory, line_printed, lines_before}
+use Rattle.tool_show.proofs.DumpLemmas.{may_go_on, no_line, prints_all, prints_end, prints_none}
+use Rattle.tool_show.proofs.DumpLemmas.{prints_one}
 use Rattle.tool_show.proofs.EndingLemmas.{comes_error, comes_none, comes_one, ends_up}
-use Rattle.tool_show.proofs.FileLemmas.{fails_as, memory_blames_none}
+use Rattle.tool_show.proofs.FileLemmas.{fails_as, if_refused, memory_blames_none}
 use Rattle.tool_show.proofs.dumps.dump_items.Goals as goal
 
 pub loop-left-init : goal.loop-left-init
 loop-left-init g c = (
   c.requires.can,
   λ stops rs deals. prints_none _ _ stops c.args.items c.args.reverse c.args.lines.left _ rs _ deals,
-  λ rs deals. comes_none _ _ c.args.items c.args.reverse c.args.lines.left rs
-      (ends_up _ _ _ _ c.args.items rs deals),
+  λ rs deals. let none = comes_none _ _ c.args.items c.args.reverse c.args.lines.left rs
+      (ends_up _ _ _ _ c.args.items rs deals) in (none.0, no_line _ none.0.came _ none.1),
 )
 
 pub take_item-requires-clause-can : goal.take_item-requires-clause-can
@@ -31,9 +32,15 @@ loop-left-preserved g c = (
       c.loop-left.left _ _ c.in-Some.item c.in_ok-item-in-Some.field-0 _ _ _ _
       c.loop-left-test.true c.in_ok-item-in-Some.was (c.loop-left.invariant.1 stops rs deals)
       c.in-Some.ensures.front c.in-Some.ensures.back c.in_ok-print_entry-in-Some.ensures.printed,
-  λ rs deals. comes_one _ _ c.loop-left.items c.take_item.new.items c.args.reverse c.loop-left.left
+  λ rs deals.
+      let before = c.loop-left.invariant.2 rs deals in
+      let now = comes_one _ _ c.loop-left.items c.take_item.new.items c.args.reverse c.loop-left.left
       c.in-Some.item c.in_ok-item-in-Some.field-0 _ c.loop-left-test.true c.in_ok-item-in-Some.was
-      (c.loop-left.invariant.2 rs deals) c.in-Some.ensures.front c.in-Some.ensures.back,
+      before.0 c.in-Some.ensures.front c.in-Some.ensures.back in (
+        now.0,
+        line_printed _ before.0.came now.0.came c.in_ok-item-in-Some.field-0 _ _ _ now.1 before.1
+            c.in_ok-print_entry-in-Some.ensures.printed,
+      ),
 )
 
 pub returns-in-None : goal.returns-in-None
@@ -46,6 +53,7 @@ returns-in-None g c = record {
       c.in-None.ensures.front c.in-None.ensures.back).1;
   refused = λ rs deals. tt;
   sound = λ es deals. tt;
+  before = λ rs deals. tt;
 }
 
 pub returns : goal.returns
@@ -58,6 +66,7 @@ returns g c = record {
       (c.loop-left.invariant.1 (λ _. true) rs deals)).1;
   refused = λ rs deals. tt;
   sound = λ es deals. tt;
+  before = λ rs deals. tt;
 }
 
 pub returns-in_err-item-in-Some-clause-sound : goal.returns-in_err-item-in-Some-clause-sound
@@ -73,7 +82,17 @@ returns-in_err-item-in-Some-clause-sound g c = λ es deals.
 pub returns-in_err-item-in-Some-clause-refused : goal.returns-in_err-item-in-Some-clause-refused
 returns-in_err-item-in-Some-clause-refused g c = λ rs deals.
     fails_as c.from_residual.result c.in_err-item-in-Some.field-0.0 _ c.from_residual.ensures.1
-    (λ other. comes_error _ _ c.loop-left.items c.take_item.new.items c.args.reverse
+    (λ other. (comes_error _ _ c.loop-left.items c.take_item.new.items c.args.reverse
     c.loop-left.left c.in-Some.item c.in_err-item-in-Some.field-0.0 _ c.loop-left-test.true
-    c.in_err-item-in-Some.was other (c.loop-left.invariant.2 rs deals)
-    c.in-Some.ensures.front c.in-Some.ensures.back)
+    c.in_err-item-in-Some.was other (c.loop-left.invariant.2 rs deals).0
+    c.in-Some.ensures.front c.in-Some.ensures.back).0)
+
+pub returns-in_err-item-in-Some-clause-before : goal.returns-in_err-item-in-Some-clause-before
+returns-in_err-item-in-Some-clause-before g c = λ rs deals.
+    let before = c.loop-left.invariant.2 rs deals in
+    if_refused c.from_residual.result c.in_err-item-in-Some.field-0.0 _ c.from_residual.ensures.1
+    (λ other. lines_before _ before.0.came _ _ _
+    (comes_error _ _ c.loop-left.items c.take_item.new.items c.args.reverse
+    c.loop-left.left c.in-Some.item c.in_err-item-in-Some.field-0.0 _ c.loop-left-test.true
+    c.in_err-item-in-Some.was other before.0 c.in-Some.ensures.front c.in-Some.ensures.back).1
+    before.1)

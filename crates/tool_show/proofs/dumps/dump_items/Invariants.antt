@@ -5,7 +5,7 @@ use Rattle.sst_entries.specs.declared.error.Error.{Error}
 use Rattle.lsm_block_indexes.specs.Dealt.{DealsEnding}
 use Rattle.tool_show.proofs.DumpLemmas.{Prints}
 use Rattle.tool_show.proofs.EndingLemmas.{Comes}
-use Rattle.tool_show.specs.Printed.{Outcome, dumped}
+use Rattle.tool_show.specs.Printed.{Outcome, PrintsLines, dumped}
 use Rattle.tool_show.proofs.dumps.dump_items.Given as goal
 
 abbrev pub invariant-loop-left : goal.invariant-loop-left
@@ -21,8 +21,10 @@ invariant-loop-left g l =
     × ((rs : List Outcome)
     → DealsEnding g.I.Iterator.next_gives g.I.DoubleEndedIterator.next_back_gives (λ _. Unit {0})
     (λ _. Unit {0}) l.fn.items rs
-    → Comes g.I.Iterator.next_gives g.I.DoubleEndedIterator.next_back_gives l.items l.reverse l.left
-    (dumped l.reverse l.fn.lines.left rs))
+    → (before : Comes g.I.Iterator.next_gives g.I.DoubleEndedIterator.next_back_gives l.items
+    l.reverse l.left (dumped l.reverse l.fn.lines.left rs))
+    × PrintsLines l.lines.format before.came (g.W.Write.contents l.fn.output)
+    (g.W.Write.contents l.output))
 
 abbrev pub decreases-loop-left : goal.decreases-loop-left
 decreases-loop-left g l = l.left

@@ -26,3 +26,6 @@ returns-clause-refused g c = c.dump_items.ensures.refused _ c.in_ok-items.ensure
 pub returns-clause-rest : goal.returns-clause-rest
 returns-clause-rest g c =
     c.dump_items.ensures.left _ (deals_to_error _ _ _ _ _ _ c.in_ok-items.ensures.deals)
+
+pub returns-clause-before : goal.returns-clause-before
+returns-clause-before g c = c.dump_items.ensures.before _ c.in_ok-items.ensures.deals

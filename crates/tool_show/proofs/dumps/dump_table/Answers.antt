@@ -23,3 +23,8 @@ returns-clause-refused g c =
 pub returns-clause-rest : goal.returns-clause-rest
 returns-clause-rest g c =
     rw (sym c.in_ok-bounds.ensures.lower, sym c.in_ok-bounds.ensures.upper) c.dump_range.ensures.rest
+
+pub returns-clause-before : goal.returns-clause-before
+returns-clause-before g c =
+    rw (sym c.in_ok-bounds.ensures.lower, sym c.in_ok-bounds.ensures.upper)
+    c.dump_range.ensures.before

@@ -1,5 +1,5 @@
-use Rattle.std.proofs.Common.{◌≡◌, ◌∙◌, ap, rules, subst, sym, false, map, List}
-use Rattle.std.specs.Prelude.{Err, None, Ok, Option, Result, Some}
+use Rattle.std.proofs.Common.{◌≡◌, ◌∙◌, ap, subst, List}
+use Rattle.std.specs.Prelude.{None, Result}
 use Rattle.sst_blocks.specs.Handle.{Handle}
 use Rattle.sst_entries.specs.declared.error.Error.{Error}
 use Rattle.lsm_block_indexes.specs.Dealt.{DealsEnding}

@@ -1,5 +1,5 @@
-use Rattle.std.proofs.Common.{◌≡◌, ◌∙◌, ap, rules, subst, sym, false, map, List}
-use Rattle.std.specs.Prelude.{Err, None, Ok, Option, Result, Some}
+use Rattle.std.proofs.Common.{◌≡◌, ◌∙◌, ap, rules, subst, sym, map}
+use Rattle.std.specs.Prelude.{Err, Option, Result, Some}
 use Rattle.sst_blocks.specs.Handle.{Handle}
 use Rattle.sst_entries.specs.declared.error.Error.{Error}
 use Rattle.tool_show.specs.Stats.{lies_at}

@@ -1,4 +1,4 @@
-use Rattle.std.proofs.Common.{◌≡◌, ◌∙◌, ap, arith, drop, rules, sym}
+use Rattle.std.proofs.Common.{◌≡◌, ◌∙◌, ap, arith, drop, rules}
 use Rattle.std.specs.Prelude.{None}
 use Rattle.tool_show.specs.Stats.{low_first}
 use Rattle.tool_show.proofs.StatLemmas.{stored_some, too_large}

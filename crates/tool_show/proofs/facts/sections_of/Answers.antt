@@ -1,4 +1,4 @@
-use Rattle.std.proofs.Common.{◌≡◌, ◌∙◌, ap, rules, sym, List, [], ◌∷◌, ◌++◌, map, ℕ, length}
+use Rattle.std.proofs.Common.{◌≡◌, ◌∙◌, ap, rules, List, [], ◌∷◌, ◌++◌, map, ℕ, length}
 use Rattle.std.specs.List.{filter_map}
 use Rattle.std.proofs.lemmas.List.{map-append}
 use Rattle.sst_sections.specs.Sections.{section_in, section_names}

@@ -1,4 +1,4 @@
-use Rattle.std.proofs.Common.{◌≡◌, ◌∙◌, rules, subst, sym}
+use Rattle.std.proofs.Common.{◌≡◌, rules, subst}
 use Rattle.std.specs.Prelude.{None, Ok, Option}
 use Rattle.lsm_runs.specs.SeveralRuns.{runs_told, union_in}
 use Rattle.sst_entries.specs.Entry.{Entry}

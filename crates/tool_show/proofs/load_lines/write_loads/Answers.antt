@@ -1,4 +1,4 @@
-use Rattle.std.proofs.Common.{codes, ◌∷◌, [], ◌++◌, append_assoc}
+use Rattle.std.proofs.Common.{codes, ◌∷◌, [], ◌++◌}
 use Rattle.std.specs.List.{flat_map}
 use Rattle.json.specs.Token.{Token}
 use Rattle.tool_show.specs.Lines.{text_member}

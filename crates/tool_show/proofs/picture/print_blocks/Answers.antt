@@ -1,13 +1,21 @@
-use Rattle.std.proofs.Common.{◌≤◌, arith, length, refl, rules}
-use Rattle.tool_show.proofs.StatLemmas.{printed_more}
+use Rattle.std.proofs.Common.{◌≡◌, ◌∙◌, ◌-◌, ap, length, min, refl, ℕ}
+use Rattle.tool_show.specs.Stats.{blocks_a_line}
+use Rattle.tool_show.proofs.StatLemmas.{part_printed, printed_blocks, printed_none}
 use Rattle.tool_show.proofs.picture.print_blocks.Goals as goal
+
+pub loop-first-init : goal.loop-first-init
+loop-first-init g c = printed_none c.args.all _ c.args.blocks.now _
 
 pub loop-first-preserved : goal.loop-first-preserved
 loop-first-preserved g c =
-    let within : c.min-end.result ≤ length c.args.blocks.now = omega (arith, c.min-end.ensures) in
-    let up : c.loop-first.first ≤ c.min-end.result
-    = omega (arith, c.min-end.ensures, c.saturating_add.ensures, c.loop-first-test.true) in (
-      within,
-      printed_more c.args.all c.loop-first.first c.min-end.result c.args.blocks.now _ _ _ _ up within
-          refl c.loop-first.invariant.1 c.in_ok-print_part.ensures,
-    )
+    let places = c.args.blocks.now in
+    let first = c.loop-first.first in
+    let count : c.min.result ≡ min (blocks_a_line (length places)) (length places - first)
+    = c.min.ensures ∙ ap (λ (n : ℕ). min n (length places - first)) c.blocks_a_line-each.ensures in
+    part_printed c.args.all first c.min.result places _ _ _ _ c.loop-first-test.true count refl
+    c.loop-first.invariant c.in_ok-print_part.ensures
+
+pub returns : goal.returns
+returns g c =
+    printed_blocks c.args.all c.loop-first.first c.args.blocks.now _ _ c.loop-first-test.false
+    c.loop-first.invariant

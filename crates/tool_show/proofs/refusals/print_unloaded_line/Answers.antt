@@ -1,6 +1,3 @@
-use Rattle.std.proofs.Common.{codes, rules, ◌++◌}
-use Rattle.std.specs.Io.KnownBytes.{Appends}
-use Rattle.std.proofs.KnownBytes.{Appends-trans}
 use Rattle.tool_show.proofs.TextLemmas.{refusal_line}
 use Rattle.tool_show.proofs.refusals.print_unloaded_line.Goals as goal
 

@@ -1,10 +1,28 @@
 use denote.Ref.{Bor}
-use Rattle.std.proofs.Common.{ℕ, List, refl, subst, sym}
+use Rattle.std.proofs.Common.{ℕ, List, inl, inr, refl, subst, sym}
 use Rattle.std.specs.Prelude.{Option}
 use Rattle.tool_show.specs.declared.dumps.DumpOptions.{DumpOptions}
-use Rattle.tool_tasks.specs.Showing.{DumpsEach, MeansKey}
-use Rattle.tool_tasks.proofs.Named.{on_ok}
+use Rattle.tool_tasks.specs.Showing.{AsksDump, DumpsEach, MeansKey, RefusesDump, StopsDumping}
+use Rattle.tool_tasks.specs.declared.failure.Failure.{Failure}
+use Rattle.tool_tasks.proofs.Failures.{passed_failure}
+use Rattle.tool_tasks.proofs.Named.{if_err, on_ok}
 use Rattle.tool_tasks.proofs.show.dump.Goals as goal
+
+pub returns-in_err-from-clause-refused : goal.returns-in_err-from-clause-refused
+returns-in_err-from-clause-refused g c =
+    let text = g.W.Write.contents c.args.output.now in
+    passed_failure (λ (f : Failure).
+    RefusesDump c.args.task.now (g.P.Place.content c.args.place.now) f text text)
+    c.from_residual.result c.in_err-from.field-0.0 c.from_residual.ensures.1
+    (inl (inl c.in_err-from.ensures.refused, refl))
+
+pub returns-in_err-to-clause-refused : goal.returns-in_err-to-clause-refused
+returns-in_err-to-clause-refused g c =
+    let text = g.W.Write.contents c.args.output.now in
+    passed_failure (λ (f : Failure).
+    RefusesDump c.args.task.now (g.P.Place.content c.args.place.now) f text text)
+    c.from_residual-in_err-to.result c.in_err-to.field-0.0 c.from_residual-in_err-to.ensures.1
+    (inl (inr c.in_err-to.ensures.refused, refl))
 
 pub returns : goal.returns
 returns g c =
@@ -18,19 +36,32 @@ returns g c =
       reverse = task.reverse;
       format = c.format_of.result;
     } in
-    on_ok c.dump_each.result c.dump_each.ensures (λ dumps. record {
-      options = options;
-      asked = record {
-        from = subst (λ (key : Option (List ℕ)). MeansKey task.from key)
-            (sym c.as_deref.ensures.value) c.in_ok-from.ensures;
-        to = subst (λ (key : Option (List ℕ)). MeansKey task.to key)
-            (sym c.as_deref-2.ensures.value) c.in_ok-to.ensures;
-        reverse = refl;
-        format = c.format_of.ensures;
-      };
-      dumps = subst (λ (left : ℕ). DumpsEach options content task.files.items left old new)
-          c.unwrap_or-left.ensures
-          (subst (λ (names : List (Bor (List ℕ))).
-          DumpsEach options content names c.unwrap_or-left.result old new)
-          c.as_slice.ensures.value dumps);
-    })
+    let asked : AsksDump task options = record {
+      from = subst (λ (key : Option (List ℕ)). MeansKey task.from key)
+          (sym c.as_deref.ensures.value) c.in_ok-from.ensures.means;
+      to = subst (λ (key : Option (List ℕ)). MeansKey task.to key)
+          (sym c.as_deref-2.ensures.value) c.in_ok-to.ensures.means;
+      reverse = refl;
+      format = c.format_of.ensures;
+    } in
+    record {
+      does = on_ok c.dump_each.result c.dump_each.ensures.dumps (λ dumps. record {
+        options = options;
+        asked = asked;
+        rest = dumps.0;
+        dumps = subst (λ (left : ℕ). DumpsEach options content task.files.items left dumps.0 old new)
+            c.unwrap_or-left.ensures
+            (subst (λ (names : List (Bor (List ℕ))).
+            DumpsEach options content names c.unwrap_or-left.result dumps.0 old new)
+            c.as_slice.ensures.value dumps.1);
+      });
+      refused = if_err c.dump_each.result c.dump_each.ensures.refused (λ e stops. inr (inl (
+        options,
+        asked,
+        subst (λ (left : ℕ). StopsDumping options content task.files.items left e old new)
+            c.unwrap_or-left.ensures
+            (subst (λ (names : List (Bor (List ℕ))).
+            StopsDumping options content names c.unwrap_or-left.result e old new)
+            c.as_slice.ensures.value stops),
+      )));
+    }
