@@ -22,7 +22,7 @@ pub use Rattle.lsm_merge.specs.InPlace.{merge_of}
 pub use Rattle.lsm_merge.specs.Union.{Ascends, all_entries, entries_among, newest, sort_entries}
 pub use Rattle.lsm_sorted.specs.Below.{numbered_below}
 pub use Rattle.lsm_sorted.specs.Compaction.{kept, unfiltered, zeroed}
-pub use Rattle.lsm_sorted.specs.LentCompaction.{lent_outs}
+pub use Rattle.lsm_lending.specs.LentCompaction.{lent_outs}
 pub use Rattle.lsm_sorted.specs.Point.{seen, shown}
 pub use Rattle.lsm_sorted.specs.ReadLaw.{AllNewer, Distinct}
 pub use Rattle.lsm_sorted.specs.declared.compaction.Rules.{Rules}

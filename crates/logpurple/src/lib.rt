@@ -4,6 +4,11 @@
 #![tactic(auto)]
 
 pub use lsm_formats::ItemName;
+pub use lsm_lending::LendingNewest;
+pub use lsm_lending::compaction::filtered::FilteredLendingCompaction;
+pub use lsm_lending::compaction::filtered::LentCallback;
+pub use lsm_lending::compaction::filtered::LentFilter;
+pub use lsm_lending::compaction::lending::LendingCompaction;
 pub use lsm_merge::LendingMerger;
 pub use lsm_merge::Merger;
 pub use lsm_ranges::KeyRange;
@@ -16,14 +21,9 @@ pub use lsm_ranges::overlap_chain;
 pub use lsm_ranges::pack_each;
 pub use lsm_runs::share;
 pub use lsm_sorted::Below;
-pub use lsm_sorted::LendingNewest;
 pub use lsm_sorted::MvccStream;
 pub use lsm_sorted::NewestOf;
 pub use lsm_sorted::compaction::Rules;
-pub use lsm_sorted::compaction::filtered::FilteredLendingCompaction;
-pub use lsm_sorted::compaction::filtered::LentCallback;
-pub use lsm_sorted::compaction::filtered::LentFilter;
-pub use lsm_sorted::compaction::lending::LendingCompaction;
 pub use lsm_sorted::compaction::stream::CompactionStream;
 pub use lsm_sorted::compaction::stream::DroppedKvCallback;
 pub use lsm_sorted::compaction::stream::NoCallback;

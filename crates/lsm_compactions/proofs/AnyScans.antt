@@ -23,7 +23,7 @@ use Rattle.lsm_merge.specs.MergeLaws.{DealsInPlace}
 use Rattle.lsm_merge.specs.Union.{Ascends, entries_among}
 use Rattle.lsm_readers.specs.Scan.{up_to_error}
 use Rattle.lsm_readers.specs.Table.{OpenTable}
-use Rattle.lsm_sorted.specs.LentCompaction.{DealsCompactedResults, lent_outs}
+use Rattle.lsm_lending.specs.LentCompaction.{DealsCompactedResults, lent_outs}
 use Rattle.lsm_sorted.specs.declared.compaction.Rules.{Rules}
 use Rattle.lsm_runs.specs.RunScan.{table_scan, tables_scan}
 use Rattle.lsm_runs.proofs.RunLoops.{mapped_at, take_next}

@@ -25,7 +25,7 @@ use Rattle.lsm_sorted.specs.Ahead.{HoldsAhead}
 use Rattle.lsm_sorted.specs.declared.compaction.Rules.{Rules}
 use Rattle.lsm_sorted.specs.Compaction.{kept, unfiltered}
 use Rattle.lsm_sorted.specs.CompactionState.{Compacts, source_of}
-use Rattle.lsm_sorted.specs.LentCompaction.{DealsCompactedEntries}
+use Rattle.lsm_lending.specs.LentCompaction.{DealsCompactedEntries}
 use Rattle.lsm_compactions.specs.Compacted.{AreMergeable, HaveEntries}
 use Rattle.lsm_runs.specs.RunLists.{DealTogether, DealsList, HoldLists}
 use Rattle.lsm_runs.specs.RunParts.{ends_given, range_of}

@@ -8,7 +8,7 @@ ghost use Rattle.sst_entries.specs.Stream.{ok_results};
 ghost use Rattle.lsm_merge.specs.Ends.{R};
 ghost use Rattle.lsm_merge.specs.InPlace.{merge_of};
 ghost use Rattle.lsm_merge.specs.Union.{Ascends, entries_among};
-ghost use Rattle.lsm_sorted.specs.LentCompaction.{lent_outs};
+ghost use Rattle.lsm_lending.specs.LentCompaction.{lent_outs};
 ghost use Rattle.lsm_compactions.specs.Words.{AreCompactable, AreTablesBy, BeginsWith};
 ghost use Rattle.lsm_compactions.specs.Words.{CameInOrder, CameOf, CanDeal, DealsResults, Entry};
 ghost use Rattle.lsm_compactions.specs.Words.{Faults, FitsBy, GoesThrough, HasMade, HaveEntries};
@@ -68,7 +68,7 @@ fn write_in_order<L: Lending + Drop, A: Allocator + Clone>(
 }
 
 /// Compacts several runs of any tables that were opened into new tables: what a
-/// [`LendingCompaction`](lsm_sorted::compaction::lending::LendingCompaction) keeps of all their
+/// [`LendingCompaction`](lsm_lending::compaction::lending::LendingCompaction) keeps of all their
 /// entries together is written by `writer`, in one pass, each entry from where it lies, for as long
 /// as it comes in order. A run without a table is passed over. Nothing is asked of the runs, so a
 /// store may compact tables of files that it did not verify.

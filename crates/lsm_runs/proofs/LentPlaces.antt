@@ -19,7 +19,7 @@ use Rattle.lsm_merge.specs.InPlace.{merge_of, up_to_error}
 use Rattle.lsm_merge.specs.Union.{Ascends, entries_among}
 use Rattle.lsm_readers.specs.Table.{OpenTable}
 use Rattle.lsm_sorted.specs.Below.{below_of, below_told, numbered_below}
-use Rattle.lsm_sorted.specs.LentNewest.{newest_results}
+use Rattle.lsm_lending.specs.LentNewest.{newest_results}
 use Rattle.lsm_sorted.specs.declared.below.Below.{Below}
 use Rattle.lsm_sorted.proofs.BelowLemmas.{deals_in_front}
 use Rattle.lsm_runs.specs.LentBelow.{LendsBelow, MayLendBelow}

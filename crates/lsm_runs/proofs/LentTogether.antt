@@ -14,7 +14,7 @@ use Rattle.lsm_merge.specs.MergeLaws.{DealSorted, DealsInPlace, DealsMerged}
 use Rattle.lsm_merge.specs.Union.{all_entries, newest, sort_entries, union_of}
 use Rattle.lsm_merge.proofs.UnionLemmas.{ascends_in_order}
 use Rattle.lsm_sorted.specs.Below.{below_of, numbered_below}
-use Rattle.lsm_sorted.specs.LentNewest.{DealsNewestEntries, DealsNewestResults}
+use Rattle.lsm_lending.specs.LentNewest.{DealsNewestEntries, DealsNewestResults}
 use Rattle.lsm_sorted.specs.declared.below.Below.{Below}
 use Rattle.lsm_sorted.proofs.BelowLemmas.{below_entries, deals_in_front}
 use Rattle.lsm_runs.specs.LentBelow.{LendsBelow, MayLendBelow}

@@ -9,7 +9,7 @@ use Rattle.lsm_merge.specs.InPlace.{merge_of, up_to_error}
 use Rattle.lsm_merge.specs.MergeLaws.{DealSorted}
 use Rattle.lsm_merge.specs.Union.{all_errors, newest, union_of}
 use Rattle.lsm_readers.specs.Table.{OpenTable}
-use Rattle.lsm_sorted.specs.LentNewest.{newest_results}
+use Rattle.lsm_lending.specs.LentNewest.{newest_results}
 use Rattle.lsm_run_parts.specs.RunParts.{RunSpan, span_parts}
 use Rattle.lsm_run_parts.specs.Tables.{run_parts_told}
 use Rattle.lsm_runs.specs.SpansRead.{spans_within}

@@ -19,7 +19,7 @@ pub use Rattle.lsm_readers.specs.Table.{OpenTable}
 pub use Rattle.lsm_walks.specs.Ends.{taken_at}
 pub use Rattle.lsm_sorted.specs.Below.{DealsBelow, below_of, below_told, numbered_below}
 pub use Rattle.lsm_sorted.specs.Leading.{leading_of}
-pub use Rattle.lsm_sorted.specs.LentNewest.{newest_results}
+pub use Rattle.lsm_lending.specs.LentNewest.{newest_results}
 pub use Rattle.lsm_sorted.specs.NewestLaws.{AnswersNewest, CanAskNewest, DealsNewest, IsNewestOf}
 pub use Rattle.lsm_run_parts.specs.RunParts.{ends_given, range_of, span_of}
 pub use Rattle.lsm_runs.specs.RunRange.{IsRunOf, OpensAtMost, RunGives, back_tables, front_tables}

@@ -17,7 +17,7 @@ use lsm_merge::LendingMerger;
 use lsm_ranges::Run;
 use lsm_readers::Table;
 use lsm_run_parts::share;
-use lsm_sorted::LendingNewest;
+use lsm_lending::LendingNewest;
 use sst_blocks::{Error, Lending, SeqNo, UserKey};
 use std::alloc::Allocator;
 use std::ops::Bound;

@@ -23,14 +23,3 @@ pub mod Hits
 pub mod ReadLemmas
 pub mod KeptLemmas
 pub mod PartLemmas
-pub mod LentFaultsLemmas
-pub mod LentListens
-pub mod LentNewestLemmas
-pub mod LentNewestListens
-pub mod LentOutsLemmas
-pub mod LentCompactionLemmas
-pub mod LentTurnLemmas
-pub mod LentFilteredLemmas
-pub mod LentFilteredCalls
-pub mod LentFilteredFaultsLemmas
-pub mod LentFilteredRuns

@@ -4,8 +4,6 @@ pub mod Hears
 pub mod Peeked
 pub mod Newest
 pub mod Leading
-pub mod LentFaults
-pub mod LentNewest
 pub mod Mvcc
 pub mod Gap
 pub mod NewestLaws
@@ -15,9 +13,6 @@ pub mod Compacting
 pub mod Verdicts
 pub mod Ahead
 pub mod CompactionState
-pub mod LentCompaction
-pub mod LentFilteredFaults
-pub mod LentFiltered
 pub mod ReadLaw
 pub mod Words
 pub use Rattle.lsm_ranges.specs.KeyRange

@@ -1,8 +1,6 @@
 //! Compaction: older versions and tombstones that no reader needs are left out.
 use sst_entries::SeqNo;
 
-pub mod filtered;
-pub mod lending;
 pub mod stream;
 
 /// How runs are compacted.

@@ -12,7 +12,7 @@ use Rattle.sst_entries.specs.declared.error.Error.TheVariants.{OutOfMemory}
 use Rattle.lsm_merge.specs.Ends.{R}
 use Rattle.lsm_merge.specs.InPlace.{merge_of}
 use Rattle.lsm_merge.specs.Union.{Ascends, entries_among}
-use Rattle.lsm_sorted.specs.LentCompaction.{lent_outs}
+use Rattle.lsm_lending.specs.LentCompaction.{lent_outs}
 use Rattle.lsm_sorted.specs.declared.compaction.Rules.{Rules}
 use Rattle.lsm_writers.specs.Tables.{TablesWriting, new_tables, with_options}
 use Rattle.lsm_readers.specs.Table.{OpenTable}

@@ -4,9 +4,9 @@ ghost use Rattle.sst_entries.specs.Stream.{CanDeal, nowhere};
 
 use crate::sources::forward_of;
 use crate::words::{byte_of, gives_all, lends_so, results_of, said_by, said_of_lent};
+use lsm_lending::compaction::filtered::{FilteredLendingCompaction, LentCallback, LentFilter};
+use lsm_lending::compaction::lending::LendingCompaction;
 use lsm_sorted::compaction::Rules;
-use lsm_sorted::compaction::filtered::{FilteredLendingCompaction, LentCallback, LentFilter};
-use lsm_sorted::compaction::lending::LendingCompaction;
 use lsm_sorted::compaction::stream::{
     CompactionStream, DroppedKvCallback, StreamFilter, StreamFilterVerdict,
 };

@@ -7,7 +7,7 @@ use crate::files::{open_copy, scanners_of, tables_of};
 use crate::ranges::runs_of;
 use lsm_merge::LendingMerger;
 use lsm_ranges::Run;
-use lsm_sorted::LendingNewest;
+use lsm_lending::LendingNewest;
 use lsm_tables::{Table, lend_runs_at};
 use sst_blocks::{Error, Lending, Slice};
 use std::alloc::Global;

@@ -205,12 +205,17 @@ abbrev pub TakesNoMore : Failure → Type 0
 TakesNoMore (failure.Output e) = Unit {0}
 TakesNoMore e = ⊥
 
+-- the first of two bounds that is no key is told
+abbrev pub RefusesBounds : DumpTask → Failure → Type 0
+RefusesBounds task e = RefusesBound keyword.From task.from e
+    ⊎ ((from : Option (List ℕ)) × MeansKey task.from from × RefusesBound keyword.To task.to e)
+
 -- entries are not printed: a bound is no key, and then nothing is; or a file is refused; or the
 -- output takes no more
 abbrev pub RefusesDump : DumpTask → (List ℕ → Option (List ℕ)) → Failure
     → (old new : Option (List ℕ)) → Type 0
 RefusesDump task content e old new =
-    ((RefusesBound keyword.From task.from e ⊎ RefusesBound keyword.To task.to e) × (new ≡ old))
+    (RefusesBounds task e × (new ≡ old))
     ⊎ (((o : DumpOptions) × AsksDump task o
     × StopsDumping o content task.files.items (most_of task) e old new)
     ⊎ TakesNoMore e)
@@ -221,13 +226,17 @@ RefusesRead task content e = (o : GetOptions) × AsksGet task o × (files : List
     × AreNamed content task.files.items files × (error : ShowError) × (e ≡ failure.Show error)
     × NamesFaulty o.key.now (seen_below o) files error
 
+-- a key is none; or it is one, and a file does not open
+abbrev pub RefusesLookup : GetTask → (List ℕ → Option (List ℕ)) → Failure → Type 0
+RefusesLookup task content e = RefusesKey keyword.Key task.key.now e
+    ⊎ ((key : List ℕ) × WordMeans task.key.now key × RefusesOpening content task.files.items e)
+
 -- a key is not looked up: it is none, or a file does not open, and then nothing is printed; or its
 -- read is refused; or the output takes no more
 abbrev pub RefusesGet : GetTask → (List ℕ → Option (List ℕ)) → Failure
     → (old new : Option (List ℕ)) → Type 0
 RefusesGet task content e old new =
-    ((RefusesKey keyword.Key task.key.now e ⊎ RefusesOpening content task.files.items e)
-    × (new ≡ old))
+    (RefusesLookup task content e × (new ≡ old))
     ⊎ (RefusesRead task content e ⊎ TakesNoMore e)
 
 -- what tables tell is not printed of all files: one is refused, or the output takes no more

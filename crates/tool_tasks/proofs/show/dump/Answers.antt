@@ -1,6 +1,9 @@
 use denote.Ref.{Bor}
 use Rattle.std.proofs.Common.{ℕ, List, inl, inr, refl, subst, sym}
 use Rattle.std.specs.Prelude.{Option}
+use Rattle.std.specs.Global.{Global}
+use Rattle.std.specs.Option.{option_map}
+use Rattle.std.specs.declared.vec.Vec.{Vec}
 use Rattle.tool_show.specs.declared.dumps.DumpOptions.{DumpOptions}
 use Rattle.tool_tasks.specs.Showing.{AsksDump, DumpsEach, MeansKey, RefusesDump, StopsDumping}
 use Rattle.tool_tasks.specs.declared.failure.Failure.{Failure}
@@ -22,7 +25,8 @@ returns-in_err-to-clause-refused g c =
     passed_failure (λ (f : Failure).
     RefusesDump c.args.task.now (g.P.Place.content c.args.place.now) f text text)
     c.from_residual-in_err-to.result c.in_err-to.field-0.0 c.from_residual-in_err-to.ensures.1
-    (inl (inr c.in_err-to.ensures.refused, refl))
+    (inl (inr (option_map (λ (bytes : Vec ℕ Global). bytes.items) c.in_ok-from.from,
+    c.in_ok-from.ensures.means, c.in_err-to.ensures.refused), refl))
 
 pub returns : goal.returns
 returns g c =

@@ -72,8 +72,12 @@ returns-in_err-tables-clause-refused g c =
     passed_failure (λ (f : Failure). RefusesGet c.args.task.now content f text text)
     c.from_residual-in_err-tables.result e c.from_residual-in_err-tables.ensures.1
     (inl (
-      inr (subst (λ (names : List (Bor (List ℕ))). RefusesOpening content names e)
-          c.as_slice-2.ensures.value c.in_err-tables.ensures.refused),
+      inr (
+        c.in_ok-key.key.items,
+        c.in_ok-key.ensures.ok,
+        subst (λ (names : List (Bor (List ℕ))). RefusesOpening content names e)
+            c.as_slice-2.ensures.value c.in_err-tables.ensures.refused,
+      ),
       refl,
     ))
 

@@ -1,0 +1,453 @@
+-- A compaction that lends, with a filter and a callback: its steps.
+use Rattle.std.proofs.Common.{◌≡◌, inl, inr, refl, sym, ◌∙◌, ap, subst, ℕ, Bool, true, false, cond}
+use Rattle.std.proofs.Common.{nat_lt, List, [], ◌∷◌, ◌++◌}
+use Rattle.std.specs.Prelude.{Option, Some, None, Result, Ok, Err, is_some, ◌&&◌}
+use Rattle.std.specs.Option.{option_map}
+use Rattle.sst_entries.specs.Entry.{Entry, entry}
+use Rattle.sst_entries.specs.Key.{same_key}
+use Rattle.sst_entries.specs.Kind.{is_tombstone_kind}
+use Rattle.sst_entries.specs.Stream.{first}
+use Rattle.sst_entries.specs.declared.error.Error.{Error}
+use Rattle.sst_entries.specs.declared.error.Error.TheVariants.{OutOfMemory}
+use Rattle.sst_entries.specs.declared.value_type.ValueType.{ValueType}
+use Rattle.sst_entries.proofs.KeyLemmas.{same_is}
+use Rattle.lsm_merge.specs.Ends.{R}
+use Rattle.lsm_sorted.specs.Newest.{after_key}
+use Rattle.lsm_sorted.specs.Compaction.{Verdict, is_value, zeroed}
+use Rattle.lsm_sorted.specs.Compacting.{GetsAll, head_answer, key_follows, of_key}
+use Rattle.lsm_sorted.specs.CompactionState.{error_first}
+use Rattle.lsm_lending.specs.LentCompaction.{entry_before, gone_of_lent, has_to_wait, listed_answer}
+use Rattle.lsm_lending.specs.LentCompaction.{Passing, past_hidden}
+use Rattle.lsm_lending.specs.LentFaults.{NoFaults}
+use Rattle.lsm_lending.specs.LentFiltered.{CompactedLent, FetchesFiltered, SettlesFiltered}
+use Rattle.lsm_lending.specs.LentFiltered.{SettlesFirst, WillCompact, hidden_by}
+use Rattle.lsm_lending.specs.LentFiltered.{hidden_in, lent_filtered, looked_at, put_into, shown}
+use Rattle.lsm_lending.specs.declared.compaction.filtered.Shows.{Shows}
+use Rattle.lsm_lending.specs.declared.compaction.filtered.Shows.TheVariants.{Nothing}
+use Rattle.lsm_sorted.specs.declared.compaction.Rules.{Rules}
+use Rattle.lsm_lending.specs.declared.compaction.filtered.FilteredLendingCompaction.{FilteredLendingCompaction}
+use Rattle.lsm_lending.proofs.LentFaultsLemmas.{ends_only}
+use Rattle.lsm_lending.proofs.LentTurnLemmas.{gone_before, gone_fault, gone_high, gone_last, gone_low}
+use Rattle.lsm_lending.proofs.LentTurnLemmas.{lent_closes, lent_error, lent_opens}
+use Rattle.lsm_sorted.proofs.TurnLemmas.{stretch, stretch_all, stretch_ends}
+
+-- ---- an entry by its parts
+
+pub parts_are : (x : Entry) (k v : List ℕ) → k ≡ x.user_key → v ≡ x.value
+    → entry k v x.seqno x.kind ≡ x
+parts_are x k v key value = ap (λ (j : List ℕ). entry j v x.seqno x.kind) key
+    ∙ ap (λ (w : List ℕ). entry x.user_key w x.seqno x.kind) value
+
+-- ---- steps
+
+-- what is lent where nothing is shown
+pub shows_nothing : {S F C A : Type 0} (lent : S → Option Entry)
+    (t : FilteredLendingCompaction S F C A) → t.shows ≡ Nothing
+    → option_map {U = R} (λ x. Ok x) (lent_filtered lent t) ≡ None
+shows_nothing lent t none = ap (λ (l : Shows). option_map {U = R} (λ x. Ok x) (shown lent l t)) none
+
+pub same_some : (x y : Entry) (o : Option Entry) → o ≡ Some x → o ≡ Some y → x ≡ y
+same_some x y o of_x of_y = cc
+
+-- what came is what is now lent
+pub step_to : {S : Type 0} (advances : S → Option R → S → Type 0) (lent : S → Option Entry)
+    (s u : S) (o : Option Entry) → lent u ≡ o → advances s (option_map (λ x. Ok x) (lent u)) u
+    → advances s (option_map (λ x. Ok x) o) u
+step_to advances lent s u o is step =
+    subst (λ (p : Option Entry). advances s (option_map (λ x. Ok x) p) u) is step
+
+-- what a head gives passes on answers without errors
+passing_of : (rules : Rules) (b : Bool) (head : Entry) (answers : List (Option R))
+    → NoFaults answers → Passing (head_answer rules b head) answers
+passing_of rules true head answers none = none
+passing_of rules false head answers none = none
+
+-- an error is not hidden
+hidden_error : (k : Option (List ℕ)) (e : Error) (rs : List R) → hidden_in k (Err e ∷ rs) ≡ []
+hidden_error None e rs = refl
+hidden_error (Some key) e rs = refl
+
+past_error : (k : Option (List ℕ)) (e : Error) (rs : List R)
+    → past_hidden k (Err e ∷ rs) ≡ Err e ∷ rs
+past_error None e rs = refl
+past_error (Some key) e rs = refl
+
+-- what is looked at, by whether something waits
+module _ {S F C A : Type 0} (lent : S → Option Entry) (t : FilteredLendingCompaction S F C A)
+    (rs : List R) where
+  pub looked_next : t.is_pending ≡ false → looked_at lent t rs ≡ rs
+  looked_next next = ap (λ (b : Bool). cond b (entry_before (lent t.source) rs) rs) next
+
+  pub looked_some : (o : Option Entry) → t.is_pending ≡ true → lent t.source ≡ o
+      → looked_at lent t rs ≡ entry_before o rs
+  looked_some o pending is =
+      ap (λ (b : Bool). cond b (entry_before (lent t.source) rs) rs) pending
+      ∙ ap (λ (p : Option Entry). entry_before p rs) is
+
+module _ {F C : Type 0} (gives : F → Entry → Result Verdict Error → F → Type 0)
+    (gets : C → Entry → C → Type 0) {S A : Type 0} where
+  -- nothing is hidden
+  pub will_plain : (t : FilteredLendingCompaction S F C A) (ys gave : List R) (g : F) (d : C)
+      → t.hides ≡ false → WillCompact gives gets t ys gave g d
+      → CompactedLent gives gets t.rules t.filter t.callback ys gave g d
+  will_plain t ys gave g d plain will =
+      let told : will.told ≡ t.callback = subst (λ (b : Bool). GetsAll gets t.callback
+      (hidden_in (cond b (Some t.key.items) None) ys) will.told) plain will.hides in
+      let does = subst (λ (b : Bool). CompactedLent gives gets t.rules t.filter will.told
+      (past_hidden (cond b (Some t.key.items) None) ys) gave g d) plain will.does in
+      subst (λ (c : C). CompactedLent gives gets t.rules t.filter c ys gave g d) told does
+
+  -- what follows this key is hidden
+  pub will_hide : (t : FilteredLendingCompaction S F C A) (k : List ℕ) (ys gave : List R) (g : F)
+      (d : C) → t.hides ≡ true → t.key.items ≡ k → WillCompact gives gets t ys gave g d
+      → (told : C) × GetsAll gets t.callback (of_key k ys) told
+      × CompactedLent gives gets t.rules t.filter told (after_key k ys) gave g d
+  will_hide t k ys gave g d hides is will = (
+    will.told,
+    subst (λ (j : List ℕ). GetsAll gets t.callback (of_key j ys) will.told) is
+        (subst (λ (b : Bool). GetsAll gets t.callback
+        (hidden_in (cond b (Some t.key.items) None) ys) will.told) hides will.hides),
+    subst (λ (j : List ℕ). CompactedLent gives gets t.rules t.filter will.told (after_key j ys) gave
+        g d) is
+        (subst (λ (b : Bool). CompactedLent gives gets t.rules t.filter will.told
+        (past_hidden (cond b (Some t.key.items) None) ys) gave g d) hides will.does),
+  )
+
+  -- of a list with nothing hidden in front
+  pub will_whole : (t : FilteredLendingCompaction S F C A) (xs gave : List R) (g : F) (d : C)
+      → hidden_in (hidden_by t) xs ≡ [] → past_hidden (hidden_by t) xs ≡ xs
+      → CompactedLent gives gets t.rules t.filter t.callback xs gave g d
+      → WillCompact gives gets t xs gave g d
+  will_whole t xs gave g d none past does = record {
+    told = t.callback;
+    hides = subst (λ (es : List Entry). GetsAll gets t.callback es t.callback) (sym none) refl;
+    does = subst (λ (ys : List R). CompactedLent gives gets t.rules t.filter t.callback ys gave g d)
+        (sym past) does;
+  }
+
+  pub will_at : (t : FilteredLendingCompaction S F C A) (xs ys gave : List R) (g : F) (d : C)
+      → xs ≡ ys → WillCompact gives gets t xs gave g d → WillCompact gives gets t ys gave g d
+  will_at t xs ys gave g d same will =
+      subst (λ (zs : List R). WillCompact gives gets t zs gave g d) same will
+
+  module _ (advances : S → Option R → S → Type 0) (lent : S → Option Entry)
+      (s t : FilteredLendingCompaction S F C A) where
+    abbrev Settled : Option R → Entry → Type 0
+    Settled r head = SettlesFiltered gives gets advances lent s head r t
+
+    -- the same is to come
+    pub same_will : (xs : List R) → t.rules ≡ s.rules → t.filter ≡ s.filter
+        → t.callback ≡ s.callback → hidden_by t ≡ hidden_by s → (gave : List R) (g : F) (d : C)
+        → WillCompact gives gets t xs gave g d → WillCompact gives gets s xs gave g d
+    same_will xs rules filter callback hidden gave g d will = record {
+      told = will.told;
+      hides = subst (λ (c : C). GetsAll gets c (hidden_in (hidden_by s) xs) will.told) callback
+          (subst (λ (k : Option (List ℕ)). GetsAll gets t.callback (hidden_in k xs) will.told)
+          hidden will.hides);
+      does = subst (λ (q : Rules). CompactedLent gives gets q s.filter will.told
+          (past_hidden (hidden_by s) xs) gave g d) rules
+          (subst (λ (f : F). CompactedLent gives gets t.rules f will.told
+          (past_hidden (hidden_by s) xs) gave g d) filter
+          (subst (λ (k : Option (List ℕ)). CompactedLent gives gets t.rules t.filter will.told
+          (past_hidden k xs) gave g d) hidden will.does));
+    }
+
+    -- what a compaction does from t on, by the rules and the filter of s
+    as_here : (c : C) (rs gave : List R) (g : F) (d : C) → t.rules ≡ s.rules
+        → t.filter ≡ s.filter → CompactedLent gives gets t.rules t.filter c rs gave g d
+        → CompactedLent gives gets s.rules s.filter c rs gave g d
+    as_here c rs gave g d rules filter does = subst (λ (q : Rules). CompactedLent gives gets q
+        s.filter c rs gave g d) rules (subst (λ (f : F). CompactedLent gives gets t.rules f c rs
+        gave g d) filter does)
+
+    -- ---- the source is asked
+    module _ (rules : t.rules ≡ s.rules) (filter : t.filter ≡ s.filter) (live : t.is_over ≡ false)
+        (callback : t.callback ≡ s.callback) (next : s.is_pending ≡ false) where
+      -- it answered what it now lends
+      pub fetches_entry : (b : Bool) (o : Option Entry) → o ≡ lent t.source → b ≡ is_some o
+          → t.is_pending ≡ b → hidden_by t ≡ hidden_by s
+          → advances s.source (option_map (λ x. Ok x) o) t.source
+          → FetchesFiltered gives gets advances lent s None t
+      fetches_entry b None lends more pending hidden step = record {
+        step = record {
+          answers = None ∷ [];
+          gave = (t.source, step, refl);
+          told = inl (inl (refl, tt), live);
+          idle = λ q none. pending ∙ more;
+          does = λ l rest after g d ends will.
+              will_at s rest (looked_at lent s rest) after g d (sym (looked_next lent s rest next))
+              (same_will rest rules filter callback hidden after g d
+              (will_at t (looked_at lent t rest) rest after g d
+              (looked_next lent t rest (pending ∙ more)) will));
+        };
+        ended = λ none quiet. ends_only None;
+        idle = λ q none. refl;
+      }
+      fetches_entry b (Some x) lends more pending hidden step = record {
+        step = record {
+          answers = Some (Ok x) ∷ [];
+          gave = (t.source, step, refl);
+          told = inl (inl (refl, tt), live);
+          idle = λ q none. let no : Some (Ok x) ≡ None = none.0 in absurd cc;
+          does = λ l rest after g d ends will.
+              will_at s (Ok x ∷ rest) (looked_at lent s (Ok x ∷ rest)) after g d
+              (sym (looked_next lent s (Ok x ∷ rest) next))
+              (same_will (Ok x ∷ rest) rules filter callback hidden after g d
+              (will_at t (looked_at lent t rest) (Ok x ∷ rest) after g d
+              (looked_some lent t rest (Some x) (pending ∙ more) (sym lends)) will));
+        };
+        ended = λ none quiet. let no : true ≡ false = sym (pending ∙ more) ∙ quiet in absurd cc;
+        idle = λ q none. refl;
+      }
+
+      -- or an error
+      pub fetches_fault : (e : Error) → t.is_pending ≡ false → t.hides ≡ false
+          → advances s.source (Some (Err e)) t.source
+          → FetchesFiltered gives gets advances lent s (Some (Err e)) t
+      fetches_fault e quiet plain step = record {
+        step = record {
+          answers = Some (Err e) ∷ [];
+          gave = (t.source, step, refl);
+          told = inl (inl (ends_only (Some (Err e))), live);
+          idle = λ q none. quiet;
+          does = λ l rest after g d ends will.
+              will_at s (Err e ∷ rest) (looked_at lent s (Err e ∷ rest)) (Err e ∷ after) g d
+              (sym (looked_next lent s (Err e ∷ rest) next))
+              (will_whole s (Err e ∷ rest) (Err e ∷ after) g d
+              (hidden_error (hidden_by s) e rest) (past_error (hidden_by s) e rest)
+              (lent_error gives gets s.rules s.filter g s.callback d e rest after
+              (subst (λ (c : C). CompactedLent gives gets s.rules s.filter c rest after g d)
+              callback (as_here t.callback rest after g d rules filter
+              (will_plain t rest after g d plain
+              (will_at t (looked_at lent t rest) rest after g d (looked_next lent t rest quiet)
+              will))))));
+        };
+        ended = λ none q. let no : Some (Err e) ≡ None = none in absurd cc;
+        idle = λ q none. let no : Some (Err e) ≡ None = none.0 in absurd cc;
+      }
+
+    -- ---- a head
+
+    -- memory is refused
+    pub settled_memory : (e : Error) (head : Entry) → e ≡ OutOfMemory → s.source ≡ t.source
+        → t.is_over ≡ true → Settled (Some (Err e)) head
+    settled_memory e head is source over = record {
+      answers = [];
+      gave = source;
+      told = inr ((ap (λ (f : Error). Some (Err f)) is, tt), over);
+      does = λ live. let no : true ≡ false = sym over ∙ live in absurd cc;
+    }
+
+    -- of the entry that the source lends, where that is what is lent
+    pub settled_source : (head x : Entry) → lent s.source ≡ Some head → lent s.source ≡ Some x
+        → Settled (Some (Ok (zeroed s.rules head))) head
+        → Settled (option_map (λ y. Ok y) (option_map (zeroed s.rules) (lent s.source))) x
+    settled_source head x is lends settles =
+        subst (λ (y : Entry).
+        Settled (option_map (λ z. Ok z) (option_map (zeroed s.rules) (lent s.source))) y)
+        (same_some head x (lent s.source) is lends)
+        (subst (λ (o : Option Entry).
+        Settled (option_map (λ z. Ok z) (option_map (zeroed s.rules) o)) head) (sym is) settles)
+
+    -- where it is let go
+    pub settled_gone : (head x : Entry) → lent s.source ≡ Some head → lent s.source ≡ Some x
+        → t.shows ≡ Nothing → Settled None head
+        → Settled (option_map (λ y. Ok y) (lent_filtered lent t)) x
+    settled_gone head x is lends none settles =
+        subst (λ (y : Entry). Settled (option_map (λ z. Ok z) (lent_filtered lent t)) y)
+        (same_some head x (lent s.source) is lends)
+        (subst (λ (r : Option R). Settled r head) (sym (shows_nothing lent t none)) settles)
+
+    -- of the entry that the source lends, as it was changed
+    pub settled_put : (r : Option R) (kind : ValueType) (value : List ℕ) (head x : Entry)
+        → lent s.source ≡ Some head → lent s.source ≡ Some x → Settled r (put_into head kind value)
+        → Settled r (put_into x kind value)
+    settled_put r kind value head x is lends settles =
+        subst (λ (y : Entry). Settled r (put_into y kind value))
+        (same_some head x (lent s.source) is lends) settles
+
+    pub settled_held : (h : Entry) (k v : List ℕ) → k ≡ h.user_key → v ≡ h.value
+        → Settled (Some (Ok (zeroed s.rules h))) h
+        → Settled (Some (Ok (zeroed s.rules (entry k v h.seqno h.kind)))) h
+    settled_held h k v key value settles =
+        subst (λ (y : Entry). Settled (Some (Ok (zeroed s.rules y))) h)
+        (sym (parts_are h k v key value)) settles
+
+    pub settled_silent : (h : Entry) → t.shows ≡ Nothing → Settled None h
+        → Settled (option_map (λ y. Ok y) (lent_filtered lent t)) h
+    settled_silent h none settles =
+        subst (λ (r : Option R). Settled r h) (sym (shows_nothing lent t none)) settles
+
+    -- ---- a head, and what follows it
+    module _ (head : Entry) (rules : t.rules ≡ s.rules) (filter : t.filter ≡ s.filter)
+        (live : t.is_over ≡ false) where
+      abbrev First : List R → List R → F → C → Type 0
+      First rs gave g d = SettlesFirst gives gets head s rs gave g d
+
+      -- what t does where it hides nothing
+      plainly : (rest xs gave : List R) (g : F) (d : C) → t.callback ≡ s.callback
+          → t.hides ≡ false → looked_at lent t rest ≡ xs
+          → WillCompact gives gets t (looked_at lent t rest) gave g d
+          → CompactedLent gives gets s.rules s.filter s.callback xs gave g d
+      plainly rest xs gave g d callback plain at will =
+          subst (λ (c : C). CompactedLent gives gets s.rules s.filter c xs gave g d) callback
+          (as_here t.callback xs gave g d rules filter (will_plain t xs gave g d plain
+          (will_at t (looked_at lent t rest) xs gave g d at will)))
+
+      -- a head alone in front of these
+      alone_first : (b : Bool) (rs gave : List R) (g : F) (d : C)
+          → key_follows head.user_key rs ≡ false
+          → gone_of_lent s.rules None (error_first rs) head ≡ b
+          → CompactedLent gives gets s.rules s.filter s.callback rs gave g d
+          → First rs (listed_answer (head_answer s.rules b head) ++ gave) g d
+      alone_first b rs gave g d over goes behind = record {
+        at = λ x v f c left asks reports.
+            lent_closes s.rules gives gets x v f s.filter g c s.callback s.callback d asks reports
+            head left [] rs rs gave b tt refl over (inr refl) goes refl behind;
+      }
+
+      -- another version follows, and it stays
+      opens_first : (rs gave : List R) (g : F) (d : C) → key_follows head.user_key rs ≡ true
+          → nat_lt head.seqno s.rules.watermark ≡ false
+          → CompactedLent gives gets s.rules s.filter s.callback rs gave g d
+          → First rs (Ok (zeroed s.rules head) ∷ gave) g d
+      opens_first rs gave g d follows high behind = record {
+        at = λ x v f c left asks reports.
+            lent_opens s.rules gives gets x v f s.filter g c s.callback s.callback d asks reports
+            head left rs gave follows high behind;
+      }
+
+      -- one that need not wait
+      module _ (now : has_to_wait s.rules head ≡ false) (source : t.source ≡ s.source)
+          (callback : t.callback ≡ s.callback) (next : t.is_pending ≡ false) where
+        high_first : (rs gave : List R) (g : F) (d : C)
+            → nat_lt head.seqno s.rules.watermark ≡ false
+            → CompactedLent gives gets s.rules s.filter s.callback rs gave g d
+            → First rs (Ok (zeroed s.rules head) ∷ gave) g d
+        high_first rs gave g d high behind = elim (key_follows head.user_key rs) as
+            (λ b. key_follows head.user_key rs ≡ b
+            → First rs (Ok (zeroed s.rules head) ∷ gave) g d) [
+              | true ↦ λ e. opens_first rs gave g d e high behind
+              | false ↦ λ e. alone_first false rs gave g d e
+                  (gone_high s.rules head now (error_first rs) high) behind
+            ] refl
+
+        pub keeps_high : nat_lt head.seqno s.rules.watermark ≡ false → t.hides ≡ false
+            → Settled (Some (Ok (zeroed s.rules head))) head
+        keeps_high high plain = record {
+          answers = [];
+          gave = sym source;
+          told = inl (tt, live);
+          does = λ l rest gave g d ends will. high_first rest gave g d high
+              (plainly rest rest gave g d callback plain (looked_next lent t rest next) will);
+        }
+
+        pub keeps_low : (b : Bool) → nat_lt head.seqno s.rules.watermark ≡ true
+            → b ≡ s.rules.evict && is_tombstone_kind head.kind → t.hides ≡ true
+            → t.key.items ≡ head.user_key → Settled (head_answer s.rules b head) head
+        keeps_low b low goes hides key = record {
+          answers = [];
+          gave = sym source;
+          told = inl (passing_of s.rules b head [] tt, live);
+          does = λ l rest gave g d ends will.
+              let then = will_hide t head.user_key rest gave g d hides key
+              (will_at t (looked_at lent t rest) rest gave g d (looked_next lent t rest next) will)
+              in
+              let es : List Entry = of_key head.user_key rest in
+              let qs : List R = after_key head.user_key rest in
+              record {
+                at = λ x v f c left asks reports.
+                    lent_closes s.rules gives gets x v f s.filter g c s.callback then.0 d asks
+                    reports head left es rest qs gave b (stretch_all head.user_key rest)
+                    (stretch head.user_key rest) (stretch_ends head.user_key rest) (inl low)
+                    (gone_low s.rules head now (first es) (error_first qs) low ∙ sym goes)
+                    (subst (λ (e : C). GetsAll gets e es then.0) callback then.1)
+                    (as_here then.0 qs gave g d rules filter then.2);
+              };
+        }
+
+      -- ---- a head that waits
+      module _ (waits : has_to_wait s.rules head ≡ true) where
+        module _ (callback : t.callback ≡ s.callback) (plain : t.hides ≡ false) where
+          pub settles_fault : (e : Error) → t.is_pending ≡ false
+              → advances s.source (Some (Err e)) t.source → Settled (Some (Err e)) head
+          settles_fault e next step = record {
+            answers = Some (Err e) ∷ [];
+            gave = (t.source, step, refl);
+            told = inl (ends_only (Some (Err e)), live);
+            does = λ l rest gave g d ends will.
+                alone_first true (Err e ∷ rest) (Err e ∷ gave) g d refl
+                (gone_fault s.rules head waits e)
+                (lent_error gives gets s.rules s.filter g s.callback d e rest gave
+                (plainly rest rest gave g d callback plain (looked_next lent t rest next) will));
+          }
+
+          pub settles_none : (b : Bool) → b ≡ s.rules.evict → t.is_pending ≡ false
+              → advances s.source None t.source → Settled (head_answer s.rules b head) head
+          settles_none b evict next step = record {
+            answers = None ∷ [];
+            gave = (t.source, step, refl);
+            told = inl (passing_of s.rules b head (None ∷ []) (refl, tt), live);
+            does = λ l rest gave g d ends will.
+                alone_first b rest gave g d (ap (key_follows head.user_key) ends.0)
+                (ap (λ (rs : List R). gone_of_lent s.rules None (error_first rs) head) ends.0
+                ∙ gone_last s.rules head waits ∙ sym evict)
+                (plainly rest rest gave g d callback plain (looked_next lent t rest next) will);
+          }
+
+          module _ (y : Entry) (is : lent t.source ≡ Some y) (pending : t.is_pending ≡ true)
+              (step : advances s.source (Some (Ok y)) t.source) where
+            pub settles_other : (b : Bool) → b ≡ s.rules.evict
+                → same_key y.user_key head.user_key ≡ false
+                → Settled (head_answer s.rules b head) head
+            settles_other b evict other = record {
+              answers = Some (Ok y) ∷ [];
+              gave = (t.source, step, refl);
+              told = inl (passing_of s.rules b head (Some (Ok y) ∷ []) (refl, tt), live);
+              does = λ l rest gave g d ends will.
+                  alone_first b (Ok y ∷ rest) gave g d other
+                  (gone_last s.rules head waits ∙ sym evict)
+                  (plainly rest (Ok y ∷ rest) gave g d callback plain
+                  (looked_some lent t rest (Some y) pending is) will);
+            }
+
+            pub settles_high : same_key y.user_key head.user_key ≡ true
+                → nat_lt head.seqno s.rules.watermark ≡ false
+                → Settled (head_answer s.rules false head) head
+            settles_high same high = record {
+              answers = Some (Ok y) ∷ [];
+              gave = (t.source, step, refl);
+              told = inl ((refl, tt), live);
+              does = λ l rest gave g d ends will.
+                  opens_first (Ok y ∷ rest) gave g d same high
+                  (plainly rest (Ok y ∷ rest) gave g d callback plain
+                  (looked_some lent t rest (Some y) pending is) will);
+            }
+
+        -- a version that it hides
+        pub settles_low : (y : Entry) → advances s.source (Some (Ok y)) t.source
+            → gets s.callback y t.callback → same_key y.user_key head.user_key ≡ true → (b : Bool)
+            → b ≡ is_value y.kind → t.is_pending ≡ false → t.hides ≡ true
+            → t.key.items ≡ head.user_key → nat_lt head.seqno s.rules.watermark ≡ true
+            → Settled (head_answer s.rules b head) head
+        settles_low y step got same b goes next hides key low = record {
+          answers = Some (Ok y) ∷ [];
+          gave = (t.source, step, refl);
+          told = inl (passing_of s.rules b head (Some (Ok y) ∷ []) (refl, tt), live);
+          does = λ l rest gave g d ends will.
+              let then = will_hide t head.user_key rest gave g d hides key
+              (will_at t (looked_at lent t rest) rest gave g d (looked_next lent t rest next) will)
+              in
+              let es : List Entry = of_key head.user_key rest in
+              let qs : List R = after_key head.user_key rest in
+              record {
+                at = λ x v f c left asks reports.
+                    lent_closes s.rules gives gets x v f s.filter g c s.callback then.0 d asks
+                    reports head left (y ∷ es) (Ok y ∷ rest) qs gave b
+                    (same_is y.user_key head.user_key same, stretch_all head.user_key rest)
+                    (ap (λ (rs : List R). Ok y ∷ rs) (stretch head.user_key rest))
+                    (stretch_ends head.user_key rest) (inl low)
+                    (gone_before s.rules head waits y (error_first qs) low ∙ sym goes)
+                    (t.callback, got, then.1) (as_here then.0 qs gave g d rules filter then.2);
+              };
+        }

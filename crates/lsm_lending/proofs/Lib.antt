@@ -1,0 +1,11 @@
+pub mod LentFaultsLemmas
+pub mod LentListens
+pub mod LentNewestLemmas
+pub mod LentNewestListens
+pub mod LentOutsLemmas
+pub mod LentCompactionLemmas
+pub mod LentTurnLemmas
+pub mod LentFilteredLemmas
+pub mod LentFilteredCalls
+pub mod LentFilteredFaultsLemmas
+pub mod LentFilteredRuns

@@ -1,0 +1,207 @@
+-- A compaction that lends, with a filter and a callback.
+use Rattle.std.specs.Prelude.{◌≡◌, ◌⊎◌, ℕ, Bool, true, false, cond, List, [], ◌∷◌, ◌++◌, Option}
+use Rattle.std.specs.Prelude.{Some, None, Result, Ok, Err}
+use Rattle.std.specs.List.{AllByRecursion}
+use Rattle.std.specs.Iterator.{Yields}
+use Rattle.std.specs.Option.{option_map}
+use Rattle.sst_entries.specs.Entry.{Entry, entry}
+use Rattle.sst_entries.specs.Stream.{CanDeal, Deals, answer_stops, nowhere, ok_results}
+use Rattle.sst_entries.specs.Stream.{result_stops}
+use Rattle.sst_entries.specs.declared.error.Error.{Error}
+use Rattle.sst_entries.specs.declared.error.Error.TheVariants.{OutOfMemory}
+use Rattle.sst_entries.specs.declared.value_type.ValueType.{ValueType}
+use Rattle.lsm_merge.specs.Ends.{R}
+use Rattle.lsm_sorted.specs.Outlook.{results_in}
+use Rattle.lsm_sorted.specs.Hears.{GaveEach}
+use Rattle.lsm_sorted.specs.Compaction.{JudgedItem, Verdict, asked, items, reported, reports_by}
+use Rattle.lsm_sorted.specs.Compaction.{told_by, zeroed}
+use Rattle.lsm_sorted.specs.Compacting.{Asks, Compacted, GetsAll, KeepsTombstones, SaysOf, of_key}
+use Rattle.lsm_lending.specs.LentFaults.{EndsIn, NothingCame, WantsItself}
+use Rattle.lsm_lending.specs.LentFilteredFaults.{FilterSays, PassingOr}
+use Rattle.lsm_lending.specs.LentCompaction.{Passing, entry_before, lent_outs_by, listed_answer}
+use Rattle.lsm_lending.specs.LentCompaction.{one_more_if, past_hidden}
+use Rattle.lsm_sorted.specs.declared.compaction.Rules.{Rules}
+use Rattle.lsm_lending.specs.declared.compaction.filtered.Shows.{Shows}
+use Rattle.lsm_lending.specs.declared.compaction.filtered.Shows.TheVariants.{Nothing, Source, Held}
+use Rattle.lsm_lending.specs.declared.compaction.filtered.FilteredLendingCompaction.{FilteredLendingCompaction}
+
+-- an entry with this kind and this value in place of its own
+abbrev pub put_into : Entry → ValueType → List ℕ → Entry
+put_into x kind value = entry x.user_key value x.seqno kind
+
+-- the entries in front that this key hides, if one hides any
+abbrev pub hidden_in : Option (List ℕ) → List R → List Entry
+hidden_in None rs = []
+hidden_in (Some key) rs = of_key key rs
+
+-- where a source answered nothing, nothing more is to come of it
+abbrev pub EndsAtNone : List (Option R) → List R → Type 0
+EndsAtNone [] rest = Unit {0}
+EndsAtNone (None ∷ rs) rest = (results_in rs ++ rest ≡ []) × EndsAtNone rs rest
+EndsAtNone (Some x ∷ rs) rest = EndsAtNone rs rest
+
+-- an entry came
+abbrev pub is_entry : Option R → Bool
+is_entry None = false
+is_entry (Some (Ok x)) = true
+is_entry (Some (Err e)) = false
+
+module _ {S F C A : Type 0} where
+  -- its filter and its callback
+  abbrev pub lent_filter : FilteredLendingCompaction S F C A → F
+  lent_filter s = s.filter
+
+  abbrev pub lent_callback : FilteredLendingCompaction S F C A → C
+  lent_callback s = s.callback
+
+  -- what it reads from
+  abbrev pub lent_source : FilteredLendingCompaction S F C A → S
+  lent_source s = s.source
+
+  -- the key of which what comes next is hidden
+  abbrev pub hidden_by : FilteredLendingCompaction S F C A → Option (List ℕ)
+  hidden_by s = cond s.hides (Some s.key.items) None
+
+  -- what is lent, by where it lies
+  abbrev pub shown : (S → Option Entry) → Shows → FilteredLendingCompaction S F C A → Option Entry
+  shown lent Nothing s = None
+  shown lent Source s = option_map (zeroed s.rules) (lent s.source)
+  shown lent (Held n kind) s = Some (zeroed s.rules (entry s.key.items s.value.items n kind))
+
+  -- what is lent
+  abbrev pub lent_filtered : (S → Option Entry) → FilteredLendingCompaction S F C A → Option Entry
+  lent_filtered lent s = shown lent s.shows s
+
+  -- how many may come at most
+  abbrev pub filtered_left : (S → ℕ) → FilteredLendingCompaction S F C A → ℕ
+  filtered_left left s = cond s.is_over 0 (one_more_if s.is_pending (left s.source))
+
+  -- what is still looked at, where the source has still to deal rs
+  abbrev pub looked_at : (S → Option Entry) → FilteredLendingCompaction S F C A → List R → List R
+  looked_at lent s rs = cond s.is_pending (entry_before (lent s.source) rs) rs
+
+  -- the source may be asked
+  abbrev pub MayFilter : (S → Option R → S → Type 0) → (S → Type 0)
+      → FilteredLendingCompaction S F C A → Type 0
+  MayFilter advances can s = CanDeal advances nowhere can can s.source
+
+-- a whole compaction that lends of a list of results: as `Compacted`, but a head is lent before the
+-- error that follows it, unless it has to wait
+pub record CompactedLent {F C : Type 0} (gives : F → Entry → Result Verdict Error → F → Type 0)
+    (gets : C → Entry → C → Type 0) (rules : Rules) (f : F) (c : C) (xs gave : List R) (g : F)
+    (d : C) : Type 0 where
+  pub judged : List JudgedItem
+  pub over : items judged ≡ xs
+  pub tombstones : KeepsTombstones judged
+  pub answers : gave ≡ lent_outs_by rules judged
+  pub says : SaysOf gives f (asked rules judged) g
+  pub reports : GetsAll gets c (reported rules judged) d
+
+module _ {F C : Type 0} (gives : F → Entry → Result Verdict Error → F → Type 0)
+    (gets : C → Entry → C → Type 0) {S A : Type 0} where
+  -- from here on: what is hidden of xs is reported, and the others are compacted
+  pub record WillCompact (s : FilteredLendingCompaction S F C A) (xs gave : List R) (g : F) (d : C)
+      : Type 0 where
+    pub told : C
+    pub hides : GetsAll gets s.callback (hidden_in (hidden_by s) xs) told
+    pub does : CompactedLent gives gets s.rules s.filter told (past_hidden (hidden_by s) xs) gave g
+        d
+
+  -- from here on: an entry that the filter left as this head, and then these, are compacted
+  pub record SettlesFirst (head : Entry) (s : FilteredLendingCompaction S F C A) (xs gave : List R)
+      (g : F) (d : C) : Type 0 where
+    pub at : (x : Entry) (v : Result Verdict Error) (f : F) (c : C)
+        → told_by x v ≡ Ok (Some head) → Asks gives f x v s.filter
+        → GetsAll gets c (reports_by x v) s.callback
+        → CompactedLent gives gets s.rules f c (Ok x ∷ xs) gave g d
+
+  module _ (advances : S → Option R → S → Type 0) (lent : S → Option Entry)
+      (s : FilteredLendingCompaction S F C A) where
+    -- a step gave r, or nothing yet: what the source answered in it, and whether an error ends the
+    -- stream; and r, and what a compaction does from t on, is what one does from s on, whatever the
+    -- source has still to deal
+    pub record StepsFiltered (r : Option R) (t : FilteredLendingCompaction S F C A) : Type 0 where
+      pub answers : List (Option R)
+      pub gave : GaveEach advances s.source answers t.source
+      pub told : (PassingOr (FilterSays gives) r answers × (t.is_over ≡ false))
+          ⊎ (WantsItself r answers × (t.is_over ≡ true))
+      pub idle : s.is_pending ≡ false → NothingCame answers → t.is_pending ≡ false
+      pub does : t.is_over ≡ false → (rest more : List R) (g : F) (d : C)
+          → EndsAtNone answers rest → WillCompact t (looked_at lent t rest) more g d
+          → WillCompact s (looked_at lent s (results_in answers ++ rest)) (listed_answer r ++ more)
+          g d
+
+    -- the same of a head that the filter left, before what the source still deals
+    pub record SettlesFiltered (head : Entry) (r : Option R) (t : FilteredLendingCompaction S F C A)
+        : Type 0 where
+      pub answers : List (Option R)
+      pub gave : GaveEach advances s.source answers t.source
+      pub told : (Passing r answers × (t.is_over ≡ false))
+          ⊎ (WantsItself r answers × (t.is_over ≡ true))
+      pub does : t.is_over ≡ false → (rest more : List R) (g : F) (d : C)
+          → EndsAtNone answers rest → WillCompact t (looked_at lent t rest) more g d
+          → SettlesFirst head s (results_in answers ++ rest) (listed_answer r ++ more) g d
+
+    -- an entry to look at, where there is one: else the source has ended
+    pub record FetchesFiltered (r : Option R) (t : FilteredLendingCompaction S F C A) : Type 0 where
+      pub step : StepsFiltered r t
+      pub ended : r ≡ None → t.is_pending ≡ false → EndsIn None step.answers
+      pub idle : s.is_pending ≡ false → NothingCame step.answers → r ≡ None
+
+    -- a call that answered r: nothing, where the source answered nothing at last; nothing too where
+    -- nothing waited to be looked at and no more came; and behind any but an entry nothing waits
+    pub record CallsFiltered (r : Option R) (t : FilteredLendingCompaction S F C A) : Type 0 where
+      pub step : StepsFiltered r t
+      pub ended : r ≡ None → EndsIn None step.answers
+      pub idle : s.is_pending ≡ false → NothingCame step.answers → r ≡ None
+      pub rests : is_entry r ≡ false → t.is_pending ≡ false
+
+-- one call: it may be asked again; one that is over stays so, answers nothing and leaves its source,
+-- its filter and its callback alone
+pub record AdvancesFiltered {S : Type 0} (advances : S → Option R → S → Type 0)
+    (lent : S → Option Entry) (can : S → Type 0) {F C A : Type 0}
+    (gives : F → Entry → Result Verdict Error → F → Type 0) (gets : C → Entry → C → Type 0)
+    (s : FilteredLendingCompaction S F C A) (r : Option R) (t : FilteredLendingCompaction S F C A)
+    : Type 0 where
+  pub may : MayFilter advances can t
+  pub live : s.is_over ≡ false → CallsFiltered gives gets advances lent s r t
+  pub ended : s.is_over ≡ true → (r ≡ None) × (t.is_over ≡ true) × (t.source ≡ s.source)
+      × (t.filter ≡ s.filter) × (t.callback ≡ s.callback)
+
+-- a source deals these entries, without errors
+abbrev pub DealsEntries : {S : Type 0} → (S → Option R → S → Type 0) → (Error → Bool) → S
+    → List Entry → Type 0
+DealsEntries advances stops s xs = Deals (answer_stops stops) advances nowhere s (ok_results xs)
+
+-- of any list of entries without errors that the source deals: calls up to the one where nothing
+-- comes give, ask and report what a compaction of the list does
+pub record CompactsLent {S T F C : Type 0} (advances : S → Option R → S → Type 0) (source : S)
+    (next : T → Option R → T → Type 0) (s : T) (rules : Rules)
+    (gives : F → Entry → Result Verdict Error → F → Type 0) (gets : C → Entry → C → Type 0) (f : F)
+    (c : C) (filter_in : T → F) (callback_in : T → C) : Type 0 where
+  pub whole : (stops : Error → Bool) (xs : List Entry) (gave : List R) (t u : T)
+      → stops OutOfMemory ≡ true → DealsEntries advances stops source xs
+      → AllByRecursion (λ r. result_stops stops r ≡ false) gave
+      → Yields next s gave t → next t None u
+      → Compacted gives gets rules f c (ok_results xs) gave (filter_in u) (callback_in u)
+
+-- of any list of results that the source deals: calls up to the one where nothing comes give, ask
+-- and report what a compaction that lends does of it; and calls up to an error, that error among
+-- what they give, do so of a part in front, and the rest is what the source has still to deal
+pub record CompactsLentResults {S T F C : Type 0} (advances : S → Option R → S → Type 0)
+    (source : S) (next : T → Option R → T → Type 0) (s : T) (rules : Rules)
+    (gives : F → Entry → Result Verdict Error → F → Type 0) (gets : C → Entry → C → Type 0) (f : F)
+    (c : C) (source_in : T → S) (filter_in : T → F) (callback_in : T → C) : Type 0 where
+  pub whole : (stops : Error → Bool) (xs gave : List R) (t u : T) → stops OutOfMemory ≡ true
+      → Deals (answer_stops stops) advances nowhere source xs
+      → AllByRecursion (λ r. result_stops stops r ≡ false) gave
+      → Yields next s gave t → next t None u
+      → CompactedLent gives gets rules f c xs gave (filter_in u) (callback_in u)
+  pub until : (stops : Error → Bool) (xs gave : List R) (e : Error) (t u : T)
+      → stops OutOfMemory ≡ true → stops e ≡ false
+      → Deals (answer_stops stops) advances nowhere source xs
+      → AllByRecursion (λ r. result_stops stops r ≡ false) gave
+      → Yields next s gave t → next t (Some (Err e)) u
+      → (front rest : List R) × (xs ≡ front ++ rest)
+      × Deals (answer_stops stops) advances nowhere (source_in u) rest
+      × CompactedLent gives gets rules f c front (gave ++ Err e ∷ []) (filter_in u) (callback_in u)

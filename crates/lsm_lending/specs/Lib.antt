@@ -1,0 +1,5 @@
+pub mod LentFaults
+pub mod LentNewest
+pub mod LentCompaction
+pub mod LentFilteredFaults
+pub mod LentFiltered

@@ -1,0 +1,3 @@
+//! Compaction by reference: older versions and tombstones that no reader needs are left out.
+pub mod filtered;
+pub mod lending;
