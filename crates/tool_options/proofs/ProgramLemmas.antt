@@ -2,34 +2,24 @@
 use Rattle.std.proofs.Common.{◌≡◌, ◌∙◌, ◌<◌, ◌+◌, ◌||◌, ℕ, List, Bool, true, false, ap, ap₂, sym, take, length}
 use Rattle.std.specs.List.{fold, slice_index_or}
 use Rattle.std.proofs.lemmas.List.Sums.{fold_more}
-use Rattle.std.specs.Prelude.{Some}
-use Rattle.clap.specs.Words.{AddsArg, AddsSubcommand, App, Rule, app_of, new_rule, rule_of, with_rule, with_subcommand}
+use Rattle.clap.specs.Words.{AddsArg, AddsSubcommand, App, app_of, rule_of, with_rule, with_subcommand}
 use Rattle.clap.specs.declared.builder.arg.Arg.{Arg}
 use Rattle.clap.specs.declared.builder.command.Command.{Command}
 use Rattle.clap.specs.declared.builder.command.Command.TheViews.{out-Command}
-use Rattle.tool_options.specs.Program.{command_app, described, option_rule, with_command, with_option}
+use Rattle.tool_options.specs.Program.{argument_rule, command_app, with_argument, with_command}
 use Rattle.tool_options.specs.declared.texts.ArgumentText.{ArgumentText}
 use Rattle.tool_options.specs.declared.texts.CommandText.{CommandText}
-
--- an option, made by the name of a text in a list
-pub option_is : (xs : List ArgumentText) (i : ℕ) (d : ArgumentText) (fresh long done : Arg)
-    → rule_of fresh ≡ new_rule (slice_index_or xs i d).name.now
-    → long ≡ record fresh { long = Some (slice_index_or xs i d).name }
-    → rule_of done ≡ described (slice_index_or xs i d) (rule_of long)
-    → rule_of done ≡ option_rule (slice_index_or xs i d)
-option_is xs i d fresh long done new is rule = let t = slice_index_or xs i d in
-    rule ∙ ap (described t) (ap rule_of is ∙ ap (λ (r : Rule). record r { long = Some t.name.now }) new)
 
 pub still_local : (old added new : Bool) → new ≡ (old || added) → added ≡ false → new ≡ old
 still_local true added new is none = is
 still_local false added new is none = is ∙ none
 
-pub option_added : (old new : Command) (a : Arg) → AddsArg old a new → a.global ≡ false
+pub argument_added : (old new : Command) (a : Arg) → AddsArg old a new → a.global ≡ false
     → (base : App) (xs : List ArgumentText) (i : ℕ) (d : ArgumentText) → i < length xs
-    → app_of old ≡ fold with_option base (take i xs) → rule_of a ≡ option_rule (slice_index_or xs i d)
-    → app_of new ≡ fold with_option base (take (i + 1) xs)
-option_added old new a adds local base xs i d within before rule =
-    adds.shape local ∙ ap₂ with_rule before rule ∙ sym (fold_more with_option base xs i d within)
+    → app_of old ≡ fold with_argument base (take i xs) → rule_of a ≡ argument_rule (slice_index_or xs i d)
+    → app_of new ≡ fold with_argument base (take (i + 1) xs)
+argument_added old new a adds local base xs i d within before rule =
+    adds.shape local ∙ ap₂ with_rule before rule ∙ sym (fold_more with_argument base xs i d within)
 
 pub command_added : (old sub new : Command) → AddsSubcommand old sub new → (out-Command sub).has_globals ≡ false
     → (base : App) (xs : List CommandText) (i : ℕ) (d : CommandText) → i < length xs

@@ -1,62 +1,56 @@
 -- What a parse reads of the program's commands, as their texts say it.
-use Rattle.std.specs.Prelude.{◌∷◌, List, [], Option, Some, None, true, codes, length}
+use Rattle.std.specs.Prelude.{List, [], Some, true, codes, length}
 use Rattle.std.specs.List.{fold}
 use Rattle.clap.specs.Lexer.{usize_max}
-use Rattle.clap.specs.Words.{App, Rule, Text, new_app, new_rule, with_rule, with_subcommand}
+use Rattle.clap.specs.Words.{App, Rule, new_app, new_rule, with_rule, with_subcommand}
 use Rattle.clap.specs.Simple.{new_shape}
 use Rattle.clap.specs.declared.builder.action.ArgAction.TheVariants.{SetTrue}
+use Rattle.clap.specs.declared.builder.value_parser.ValueParser.{ValueParser}
 use Rattle.clap.specs.declared.builder.value_parser.ValueParser.TheVariants as parser
-use Rattle.tool_options.specs.Tasks.{text_in}
+use Rattle.tool_options.specs.Tasks.{texts_of}
 use Rattle.tool_options.specs.declared.texts.ArgumentText.{ArgumentText}
 use Rattle.tool_options.specs.declared.texts.CommandText.{CommandText}
+use Rattle.tool_options.specs.declared.texts.Form.{Form}
+use Rattle.tool_options.specs.declared.texts.Form.TheVariants as form
 use Rattle.tool_options.specs.declared.texts.Takes.{Takes}
 use Rattle.tool_options.specs.declared.texts.Takes.TheVariants as takes
 
--- the argument with a default, if there is one
-abbrev pub with_standard : Option Text → Rule → Rule
-with_standard None r = r
-with_standard (Some text) r = record r { defaults = text ∷ [] }
+-- what a value has to be
+abbrev pub value_of : Takes → ValueParser
+value_of takes.Text = parser.String
+value_of takes.File = parser.String
+value_of (takes.Number least most) = parser.Unsigned least most
+value_of (takes.Names names) = parser.Names names
 
--- the argument with the values that it takes
-abbrev pub taking : Takes → Rule → Rule
-taking takes.Nothing r = record r { action = Some SetTrue }
-taking takes.Text r = record r { value_names = 1 }
-taking takes.File r = record r { value_names = 1 }
-taking takes.Files r = record r {
-  value_names = 1;
-  range = Some (record { start_inclusive = 1; end_inclusive = usize_max });
+abbrev pub parser_of : Form → ValueParser
+parser_of form.Flag = parser.Bool
+parser_of (form.Option takes) = value_of takes
+parser_of (form.Place takes) = value_of takes
+parser_of form.Files = parser.String
+
+-- the argument in its form: files are as many words as their values have names, or more
+abbrev pub formed : Form → Rule → Rule
+formed form.Flag r = record r { long = Some r.id; action = Some SetTrue }
+formed (form.Option takes) r = record r { long = Some r.id }
+formed (form.Place takes) r = r
+formed form.Files r = record r {
+  range = Some (record { start_inclusive = r.value_names; end_inclusive = usize_max });
 }
-taking (takes.FilesAndKey names) r = record r {
-  value_names = length names.now;
-  range = Some (record { start_inclusive = 2; end_inclusive = usize_max });
-}
-taking (takes.Number least most) r = record r {
-  value_names = 1;
-  parser = Some (parser.Unsigned least most);
-}
-taking (takes.Names names) r = record r { value_names = 1; parser = Some (parser.Names names) }
 
-abbrev pub described : ArgumentText → Rule → Rule
-described t r = taking t.takes (with_standard (text_in t.standard)
-    (record r { required = t.required }))
+abbrev pub argument_rule : ArgumentText → Rule
+argument_rule t = formed t.form (record (new_rule t.name.now) {
+  value_names = length t.values.now;
+  defaults = texts_of t.standard.now;
+  parser = Some (parser_of t.form);
+  required = t.required;
+})
 
--- what stands in a place of its own
-abbrev pub place_rule : ArgumentText → Rule
-place_rule t = described t (new_rule t.name.now)
-
-abbrev pub option_rule : ArgumentText → Rule
-option_rule t = described t (record (new_rule t.name.now) { long = Some t.name.now })
-
-abbrev pub with_place : Option ArgumentText → App → App
-with_place None a = a
-with_place (Some t) a = with_rule a (place_rule t)
-
-abbrev pub with_option : App → ArgumentText → App
-with_option a t = with_rule a (option_rule t)
+abbrev pub with_argument : App → ArgumentText → App
+with_argument a t = with_rule a (argument_rule t)
 
 -- one command
 abbrev pub command_app : CommandText → App
-command_app c = fold with_option (with_place c.place (new_app c.name.now)) c.options.now
+command_app c = fold with_argument (new_app c.name.now) c.arguments.now
 
 abbrev pub with_command : App → CommandText → App
 with_command a c = with_subcommand a (command_app c).top

@@ -1,5 +1,5 @@
 //! The completion of the program's commands in bash.
-use crate::texts::{ArgumentText, COMMANDS, CommandText, Takes};
+use crate::texts::{CommandText, Form, Takes};
 use std::alloc::{AllocError, Global};
 
 const HEAD: &str = "\
@@ -31,11 +31,11 @@ const TAIL: &str = "        esac
 complete -o bashdefault -o default -F _sst sst
 ";
 
-/// A script for bash that completes the commands, their options and what these take. Refused for
+/// A script for bash that completes these commands, their options and what these take. Refused for
 /// want of memory alone.
-pub(crate) fn completion(alloc: Global) -> Result<String, AllocError> {
+pub(crate) fn completion(alloc: Global, commands: &[CommandText]) -> Result<String, AllocError> {
     let mut text = String::new(alloc);
-    push_script(&mut text, COMMANDS.as_slice())?;
+    push_script(&mut text, commands)?;
     Ok(text)
 }
 
@@ -72,11 +72,12 @@ fn push_cases(text: &mut String, commands: &[CommandText]) -> Result<(), AllocEr
 
 // What may stand behind the command and behind each of its options.
 fn push_values(text: &mut String, command: &CommandText) -> Result<(), AllocError> {
-    if let Some(place) = &command.place {
-        push_value(text, command.name, "", place)?;
-    }
-    for option in command.options {
-        push_value(text, command.name, "--", option)?;
+    for argument in command.arguments {
+        match argument.form {
+            Form::Option(takes) => push_value(text, command.name, "--", argument.name, takes)?,
+            Form::Place(takes) => push_value(text, command.name, "", command.name, takes)?,
+            Form::Flag | Form::Files => (),
+        }
     }
     Ok(())
 }
@@ -87,24 +88,19 @@ fn push_value(
     text: &mut String,
     command: &str,
     dashes: &str,
-    argument: &ArgumentText,
+    word: &str,
+    takes: Takes,
 ) -> Result<(), AllocError> {
-    let word = if dashes.is_empty() {
-        command
-    } else {
-        argument.name
-    };
-    match argument.takes {
+    match takes {
         Takes::Names(names) => {
             push_all(text, &["    '", command, " ", dashes, word, "') words='"])?;
             push_names(text, names)?;
             text.push_str("' ;;\n")
         }
         Takes::Text | Takes::Number(_, _) => {
-            let parts = ["    '", command, " ", dashes, word, NO_FILES];
-            push_all(text, &parts)
+            push_all(text, &["    '", command, " ", dashes, word, NO_FILES])
         }
-        Takes::Nothing | Takes::File | Takes::Files | Takes::FilesAndKey(_) => Ok(()),
+        Takes::File => Ok(()),
     }
 }
 
@@ -119,8 +115,10 @@ fn push_names(text: &mut String, names: &[&str]) -> Result<(), AllocError> {
 // The options of a command.
 fn push_options(text: &mut String, command: &CommandText) -> Result<(), AllocError> {
     push_all(text, &["        ", command.name, ") words='"])?;
-    for option in command.options {
-        push_all(text, &["--", option.name, " "])?;
+    for argument in command.arguments {
+        if argument.is_named() {
+            push_all(text, &["--", argument.name, " "])?;
+        }
     }
     text.push_str("--help' ;;\n")
 }

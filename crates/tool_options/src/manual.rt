@@ -1,12 +1,12 @@
 //! The manual page of the program.
 use crate::completion::push_all;
-use crate::texts::{ABOUT, ArgumentText, COMMANDS, CommandText, NOTES, PROGRAM, VERSION};
+use crate::texts::{ABOUT, ArgumentText, CommandText, NOTES, PROGRAM, VERSION};
 use std::alloc::{AllocError, Global};
 
-/// The manual page, in the language of `man`. Refused for want of memory alone.
-pub(crate) fn manual(alloc: Global) -> Result<String, AllocError> {
+/// The manual page of these commands, in the language of `man`. Refused for want of memory alone.
+pub(crate) fn manual(alloc: Global, commands: &[CommandText]) -> Result<String, AllocError> {
     let mut page = String::new(alloc);
-    push_page(&mut page, COMMANDS.as_slice())?;
+    push_page(&mut page, commands)?;
     Ok(page)
 }
 
@@ -25,9 +25,11 @@ fn push_page(page: &mut String, commands: &[CommandText]) -> Result<(), AllocErr
 
 // The title, the name and the first line of the synopsis.
 fn push_head(page: &mut String) -> Result<(), AllocError> {
-    write!(
+    let release = [".TH SST 1 \"\" \"", PROGRAM, " ", VERSION];
+    push_all(page, &release)?;
+    push_all(
         page,
-        ".TH SST 1 \"\" \"{PROGRAM} {VERSION}\" \"User Commands\"\n.SH NAME\n{PROGRAM} \\- "
+        &["\" \"User Commands\"\n.SH NAME\n", PROGRAM, " \\- "],
     )?;
     push_between(page, "", ABOUT, "\n.SH SYNOPSIS\n.B sst\n")
 }
@@ -39,52 +41,41 @@ fn push_command(page: &mut String, command: &CommandText) -> Result<(), AllocErr
     if !command.notes.is_empty() {
         push_between(page, "", command.notes, "\n")?;
     }
-    if let Some(place) = &command.place {
-        push_argument(page, "", place)?;
-    }
-    for option in command.options {
-        push_argument(page, "--", option)?;
+    for argument in command.arguments {
+        push_argument(page, argument)?;
     }
     Ok(())
 }
 
 // An argument, what it takes and what is taken where it is left out.
-fn push_argument(
-    page: &mut String,
-    dashes: &str,
-    argument: &ArgumentText,
-) -> Result<(), AllocError> {
+fn push_argument(page: &mut String, argument: &ArgumentText) -> Result<(), AllocError> {
     page.push_str(".TP\n")?;
-    push_name(page, dashes, argument.name)?;
-    push_value(page, argument.value)?;
+    if argument.is_named() {
+        push_between(page, "\\fB", "--", "")?;
+        push_between(page, "", argument.name, "\\fR ")?;
+    }
+    push_values(page, argument.values)?;
     push_between(page, "\n", argument.help, "")?;
     push_standard(page, argument.standard)?;
     page.push_str(".\n")
 }
 
-// The name of an option; nothing of what stands in a place of its own.
-fn push_name(page: &mut String, dashes: &str, name: &str) -> Result<(), AllocError> {
-    if dashes.is_empty() {
-        return Ok(());
+// What its values are called, if it takes any.
+fn push_values(page: &mut String, values: &[&str]) -> Result<(), AllocError> {
+    let mut before = "\\fI";
+    for value in values {
+        push_all(page, &[before, value])?;
+        before = " ";
     }
-    push_between(page, "\\fB", dashes, "")?;
-    push_between(page, "", name, "\\fR ")
+    page.push_str(if values.is_empty() { "" } else { "\\fR" })
 }
 
-// What a value is called, if one is taken.
-fn push_value(page: &mut String, value: &str) -> Result<(), AllocError> {
-    if value.is_empty() {
-        return Ok(());
+// What is taken where it is left out, if anything is.
+fn push_standard(page: &mut String, standard: &[&str]) -> Result<(), AllocError> {
+    for text in standard {
+        push_all(page, &[" [default: ", text, "]"])?;
     }
-    push_all(page, &["\\fI", value, "\\fR"])
-}
-
-// What is taken where the argument is left out, if anything is.
-fn push_standard(page: &mut String, standard: Option<&str>) -> Result<(), AllocError> {
-    match standard {
-        Some(standard) => push_all(page, &[" [default: ", standard, "]"]),
-        None => Ok(()),
-    }
+    Ok(())
 }
 
 // A text in which no character means anything to `man`, between two that are for `man`.

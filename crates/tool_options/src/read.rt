@@ -12,7 +12,7 @@ use clap::ArgMatches;
 use std::alloc::{AllocError, Global};
 
 /// Why the matches of a command are no task.
-#[derive(Debug, Drop, PartialEq, Eq)]
+#[derive(Clone, Copy)]
 pub(crate) enum Misread {
     /// Memory did not suffice.
     OutOfMemory,

@@ -1,51 +1,68 @@
 //! What the program's commands are called, take and are for: the parse, the help, the completion
 //! and the manual are all made from these texts.
 
-/// What stands behind an option, or in a place of its own.
-#[derive(Clone, Copy, Debug)]
+/// What a value has to be.
+#[derive(Clone, Copy)]
 pub(crate) enum Takes {
-    /// Nothing: the option is there or is not.
-    Nothing,
     /// Any text.
     Text,
     /// The name of a file, or of a folder.
     File,
-    /// The names of one file or more.
-    Files,
-    /// The names of one file or more, and a key behind them.
-    FilesAndKey(&'static [&'static str]),
     /// A number within two bounds, both included.
     Number(u64, u64),
     /// One of these words.
     Names(&'static [&'static str]),
 }
 
+/// How an argument stands among the words.
+#[derive(Clone, Copy)]
+pub(crate) enum Form {
+    /// By its name alone: it is there or is not.
+    Flag,
+    /// By its name, with a value behind it.
+    Option(Takes),
+    /// As a value in a place of its own.
+    Place(Takes),
+    /// As the names of files, and what else stands behind them: one word for each name of a value,
+    /// or more.
+    Files,
+}
+
 /// An option, or what stands in a place of its own.
-#[derive(Clone, Copy, Debug)]
+#[derive(Clone, Copy)]
 pub(crate) struct ArgumentText {
     /// The name: `to` of `--to`.
     pub(crate) name: &'static str,
-    /// What a value is called, and nothing where none is taken.
-    pub(crate) value: &'static str,
-    pub(crate) takes: Takes,
+    pub(crate) form: Form,
+    /// What its values are called: none where it takes none.
+    pub(crate) values: &'static [&'static str],
     /// Whether it has to be there.
     pub(crate) required: bool,
-    /// What is taken where the option is left out, if anything is.
-    pub(crate) standard: Option<&'static str>,
+    /// What is taken where it is left out, if anything is.
+    pub(crate) standard: &'static [&'static str],
     pub(crate) help: &'static str,
 }
 
+impl ArgumentText {
+    /// Whether it stands behind its name, and not in a place of its own.
+    pub(crate) fn is_named(&self) -> bool {
+        match self.form {
+            Form::Flag | Form::Option(_) => true,
+            Form::Place(_) | Form::Files => false,
+        }
+    }
+}
+
 /// A command.
-#[derive(Clone, Copy, Debug)]
+#[derive(Clone, Copy)]
 pub(crate) struct CommandText {
     pub(crate) name: &'static str,
     /// What it does, in a line.
     pub(crate) about: &'static str,
     /// How it is called.
     pub(crate) usage: &'static str,
-    /// What stands in a place of its own, if anything does.
-    pub(crate) place: Option<ArgumentText>,
-    pub(crate) options: &'static [ArgumentText],
+    /// What it takes: what stands in a place of its own, if anything does, and then its options.
+    pub(crate) arguments: &'static [ArgumentText],
     /// What else there is to say, in lines of 80 columns at most.
     pub(crate) notes: &'static str,
 }
@@ -75,198 +92,205 @@ where the command line is at fault.";
 
 const FILE: ArgumentText = ArgumentText {
     name: "file",
-    value: "FILE",
-    takes: Takes::File,
+    form: Form::Place(Takes::File),
+    values: &["FILE"],
     required: true,
-    standard: None,
+    standard: &[],
     help: "The file to write",
 };
 
 const FILES: ArgumentText = ArgumentText {
     name: "files",
-    value: "FILE",
-    takes: Takes::Files,
+    form: Form::Files,
+    values: &["FILE"],
     required: true,
-    standard: None,
+    standard: &[],
     help: "Table files, newest first",
 };
 
 const FILES_AND_KEY: ArgumentText = ArgumentText {
     name: "files",
-    value: "FILE KEY",
-    takes: Takes::FilesAndKey(&["FILE", "KEY"]),
+    form: Form::Files,
+    values: &["FILE", "KEY"],
     required: true,
-    standard: None,
+    standard: &[],
     help: "Table files, newest first, and the key",
 };
 
 const JSON: ArgumentText = ArgumentText {
     name: "json",
-    value: "",
-    takes: Takes::Nothing,
+    form: Form::Flag,
+    values: &[],
     required: false,
-    standard: None,
+    standard: &[],
     help: "Entries as objects of JSON",
 };
 
 const TARGET: ArgumentText = ArgumentText {
     name: "target",
-    value: "BYTES",
-    takes: Takes::Number(1, u64::MAX),
+    form: Form::Option(Takes::Number(1, u64::MAX)),
+    values: &["BYTES"],
     required: false,
-    standard: None,
+    standard: &[],
     help: "Begin a further table after so many bytes",
 };
 
-const WRITE_OPTIONS: [ArgumentText; 8] = [
+const WRITE: [ArgumentText; 9] = [
+    FILE,
     ArgumentText {
         name: "index",
-        value: "KIND",
-        takes: Takes::Names(&["full", "partitioned"]),
+        form: Form::Option(Takes::Names(&["full", "partitioned"])),
+        values: &["KIND"],
         required: false,
-        standard: Some("full"),
+        standard: &["full"],
         help: "Either full or partitioned",
     },
     ArgumentText {
         name: "filter",
-        value: "BITS",
-        takes: Takes::Text,
+        form: Form::Option(Takes::Text),
+        values: &["BITS"],
         required: false,
-        standard: Some("10"),
+        standard: &["10"],
         help: "Bits for a key, 1 to 100, or none",
     },
     ArgumentText {
         name: "block-size",
-        value: "BYTES",
-        takes: Takes::Number(1, 4_194_304),
+        form: Form::Option(Takes::Number(1, 4_194_304)),
+        values: &["BYTES"],
         required: false,
-        standard: Some("4096"),
+        standard: &["4096"],
         help: "Where a data block is cut",
     },
     ArgumentText {
         name: "partition-size",
-        value: "BYTES",
-        takes: Takes::Number(1, 4_194_304),
+        form: Form::Option(Takes::Number(1, 4_194_304)),
+        values: &["BYTES"],
         required: false,
-        standard: Some("4096"),
+        standard: &["4096"],
         help: "Where a partition is cut",
     },
     ArgumentText {
         name: "level",
-        value: "N",
-        takes: Takes::Number(0, 255),
+        form: Form::Option(Takes::Number(0, 255)),
+        values: &["N"],
         required: false,
-        standard: Some("0"),
+        standard: &["0"],
         help: "The level the table says of itself",
     },
     TARGET,
     ArgumentText {
         name: "sort",
-        value: "",
-        takes: Takes::Nothing,
+        form: Form::Flag,
+        values: &[],
         required: false,
-        standard: None,
+        standard: &[],
         help: "Sort the entries first",
     },
     JSON,
 ];
 
-const DUMP_OPTIONS: [ArgumentText; 5] = [
+const DUMP: [ArgumentText; 6] = [
+    FILES,
     ArgumentText {
         name: "from",
-        value: "KEY",
-        takes: Takes::Text,
+        form: Form::Option(Takes::Text),
+        values: &["KEY"],
         required: false,
-        standard: None,
+        standard: &[],
         help: "Leave out keys before this one",
     },
     ArgumentText {
         name: "to",
-        value: "KEY",
-        takes: Takes::Text,
+        form: Form::Option(Takes::Text),
+        values: &["KEY"],
         required: false,
-        standard: None,
+        standard: &[],
         help: "Leave out this key and what follows",
     },
     ArgumentText {
         name: "reverse",
-        value: "",
-        takes: Takes::Nothing,
+        form: Form::Flag,
+        values: &[],
         required: false,
-        standard: None,
+        standard: &[],
         help: "From the last entry to the first",
     },
     ArgumentText {
         name: "limit",
-        value: "N",
-        takes: Takes::Number(0, u64::MAX),
+        form: Form::Option(Takes::Number(0, u64::MAX)),
+        values: &["N"],
         required: false,
-        standard: None,
+        standard: &[],
         help: "So many entries at most",
     },
     JSON,
 ];
 
-const GET_OPTIONS: [ArgumentText; 3] = [
+const GET: [ArgumentText; 4] = [
+    FILES_AND_KEY,
     ArgumentText {
         name: "at",
-        value: "N",
-        takes: Takes::Number(0, u64::MAX),
+        form: Form::Option(Takes::Number(0, u64::MAX)),
+        values: &["N"],
         required: false,
-        standard: None,
+        standard: &[],
         help: "See only numbers below N",
     },
     ArgumentText {
         name: "loads",
-        value: "",
-        takes: Takes::Nothing,
+        form: Form::Flag,
+        values: &[],
         required: false,
-        standard: None,
+        standard: &[],
         help: "Say what was loaded",
     },
     JSON,
 ];
 
-const STAT_OPTIONS: [ArgumentText; 1] = [ArgumentText {
-    name: "json",
-    value: "",
-    takes: Takes::Nothing,
-    required: false,
-    standard: None,
-    help: "An object of JSON for each table",
-}];
+const STAT: [ArgumentText; 2] = [
+    FILES,
+    ArgumentText {
+        name: "json",
+        form: Form::Flag,
+        values: &[],
+        required: false,
+        standard: &[],
+        help: "An object of JSON for each table",
+    },
+];
 
-const COMPACT_OPTIONS: [ArgumentText; 5] = [
+const COMPACT: [ArgumentText; 6] = [
+    FILES,
     ArgumentText {
         name: "to",
-        value: "FOLDER",
-        takes: Takes::File,
+        form: Form::Option(Takes::File),
+        values: &["FOLDER"],
         required: true,
-        standard: None,
+        standard: &[],
         help: "A new folder, made for the new tables",
     },
     ArgumentText {
         name: "watermark",
-        value: "N",
-        takes: Takes::Number(0, u64::MAX),
+        form: Form::Option(Takes::Number(0, u64::MAX)),
+        values: &["N"],
         required: false,
-        standard: Some("0"),
+        standard: &["0"],
         help: "No reader reads below this number",
     },
     ArgumentText {
         name: "evict",
-        value: "",
-        takes: Takes::Nothing,
+        form: Form::Flag,
+        values: &[],
         required: false,
-        standard: None,
+        standard: &[],
         help: "Leave tombstones out, as at the last level",
     },
     ArgumentText {
         name: "zero",
-        value: "",
-        takes: Takes::Nothing,
+        form: Form::Flag,
+        values: &[],
         required: false,
-        standard: None,
+        standard: &[],
         help: "Make numbers below the watermark 0",
     },
     TARGET,
@@ -274,10 +298,10 @@ const COMPACT_OPTIONS: [ArgumentText; 5] = [
 
 const SHELL: ArgumentText = ArgumentText {
     name: "shell",
-    value: "SHELL",
-    takes: Takes::Names(&["bash"]),
+    form: Form::Place(Takes::Names(&["bash"])),
+    values: &["SHELL"],
     required: true,
-    standard: None,
+    standard: &[],
     help: "The shell",
 };
 
@@ -287,8 +311,7 @@ pub(crate) static COMMANDS: [CommandText; 9] = [
         name: "write",
         about: "Writes a table of the entries on standard input",
         usage: "sst write [OPTIONS] <FILE>",
-        place: Some(FILE),
-        options: &WRITE_OPTIONS,
+        arguments: &WRITE,
         notes: "\
 The entries come in order, by key and then from the largest number down. The
 first line out of order is refused, unless --sort is there. The file is
@@ -300,8 +323,7 @@ so on.",
         name: "dump",
         about: "Prints the entries of tables",
         usage: "sst dump [OPTIONS] <FILE>...",
-        place: Some(FILES),
-        options: &DUMP_OPTIONS,
+        arguments: &DUMP,
         notes: "\
 The files come one behind the other, each in its order, or with --reverse from
 its end.",
@@ -310,8 +332,7 @@ its end.",
         name: "get",
         about: "Prints the version of a key that a reader sees",
         usage: "sst get [OPTIONS] <FILE>... <KEY>",
-        place: Some(FILES_AND_KEY),
-        options: &GET_OPTIONS,
+        arguments: &GET,
         notes: "\
 Each file is a run of its own. Prints none, with --json null, and exits with 1,
 where the key has no version below N.",
@@ -320,16 +341,14 @@ where the key has no version below N.",
         name: "stat",
         about: "Prints what tables say of themselves",
         usage: "sst stat [OPTIONS] <FILE>...",
-        place: Some(FILES),
-        options: &STAT_OPTIONS,
+        arguments: &STAT,
         notes: "",
     },
     CommandText {
         name: "verify",
         about: "Reads all of tables and reports each fault",
         usage: "sst verify <FILE>...",
-        place: Some(FILES),
-        options: &[],
+        arguments: &[FILES],
         notes: "\
 Reads every block, the index and the filter, and compares them with what the
 table says of itself. Exits with 1 if there is a fault.",
@@ -338,16 +357,14 @@ table says of itself. Exits with 1 if there is a fault.",
         name: "compact",
         about: "Merges tables into new ones",
         usage: "sst compact [OPTIONS] --to <FOLDER> <FILE>...",
-        place: Some(FILES),
-        options: &COMPACT_OPTIONS,
+        arguments: &COMPACT,
         notes: "Of each key the versions stay that a reader at the watermark or later may see.",
     },
     CommandText {
         name: "pack",
         about: "Prints in which runs tables can stand",
         usage: "sst pack <FILE>...",
-        place: Some(FILES),
-        options: &[],
+        arguments: &[FILES],
         notes: "\
 Prints the fewest runs, and a chain of tables that overlap, which shows why
 fewer will not do.",
@@ -356,16 +373,14 @@ fewer will not do.",
         name: "completion",
         about: "Prints the script that completes commands in a shell",
         usage: "sst completion <SHELL>",
-        place: Some(SHELL),
-        options: &[],
+        arguments: &[SHELL],
         notes: "In bash: source <(sst completion bash)",
     },
     CommandText {
         name: "man",
         about: "Prints the manual page",
         usage: "sst man",
-        place: None,
-        options: &[],
+        arguments: &[],
         notes: "sst man > sst.1; man ./sst.1",
     },
 ];

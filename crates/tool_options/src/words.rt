@@ -1,6 +1,7 @@
 //! The words of the command line, parsed.
-ghost use Rattle.std.specs.Prelude.{◌≡◌, IfOk, map, true};
-ghost use Rattle.clap.specs.Words.{is_simple, subcommand_of, subcommand_rows_of};
+ghost use Rattle.std.specs.Prelude.{◌≡◌, IfOk, Some, map, true};
+ghost use Rattle.clap.specs.Words.{found_of, is_simple, rows_of, subcommand_of};
+ghost use Rattle.clap.specs.Words.{subcommand_rows_of};
 ghost use Rattle.tool_options.specs.Program.{program_of};
 ghost use Rattle.tool_options.specs.Asks.{AsksBy, AsksFrom, IsText};
 
@@ -48,23 +49,41 @@ fn parse_by<'a, S: AsStr>(
         (subcommand_of (program_of commands.now) (map S.text words.now))) }
 {
     match program(alloc, commands)?.try_get_matches_from(words) {
-        Ok(matches) => answer(alloc, &matches),
+        Ok(matches) => answer(alloc, commands, &matches),
         Err(error) => explain(alloc, &error),
     }
 }
 
 // What the matches of the program ask for.
-fn answer<'a>(alloc: Global, matches: &ArgMatches<'a>) -> Result<Parsed<'a>, AllocError>
+fn answer<'a>(
+    alloc: Global,
+    commands: &[CommandText],
+    matches: &ArgMatches<'a>,
+) -> Result<Parsed<'a>, AllocError>
     ensures { IfOk result (AsksBy (subcommand_rows_of matches.now)) }
 {
     match matches.subcommand() {
-        Some(("completion", _)) => Ok(Parsed::Shown(completion(alloc)?)),
-        Some(("man", _)) => Ok(Parsed::Shown(manual(alloc)?)),
-        Some((name, matches)) => match read_task(alloc, name, matches) {
+        Some((name, matches)) => answer_to(alloc, commands, name, matches),
+        None => mistake(alloc, "help", Misread::Absent),
+    }
+}
+
+// What the command `name` asks for, whose matches these are.
+fn answer_to<'a>(
+    alloc: Global,
+    commands: &[CommandText],
+    name: &str,
+    matches: &ArgMatches<'a>,
+) -> Result<Parsed<'a>, AllocError>
+    ensures { IfOk result (AsksBy (Some (name.now, rows_of (found_of matches.now)))) }
+{
+    match name {
+        "completion" => Ok(Parsed::Shown(completion(alloc, commands)?)),
+        "man" => Ok(Parsed::Shown(manual(alloc, commands)?)),
+        _ => match read_task(alloc, name, matches) {
             Ok(task) => Ok(Parsed::Task(task)),
             Err(misread) => mistake(alloc, name, misread),
         },
-        None => mistake(alloc, "help", Misread::Absent),
     }
 }
 
