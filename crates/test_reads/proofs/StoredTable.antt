@@ -35,7 +35,7 @@ use Rattle.lsm_formats.specs.declared.options.FilterKind.TheVariants.{Full as Fu
 use Rattle.lsm_formats.specs.declared.options.IndexKind.TheVariants.{
   Partitioned as PartitionedIndex,
 }
-use Rattle.test_runs.specs.Stored.{new_entries, stored_entries}
+use Rattle.test_reads.specs.Stored.{new_entries, stored_entries}
 
 -- a block for each entry, and a partition for each block
 abbrev pub options : Options

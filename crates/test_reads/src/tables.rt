@@ -1,7 +1,23 @@
-//! The tables that are read: tables that an independent program stored, as they are and with some
-//! of their bytes changed, and tables of a few rows under each kind of index and of filter.
+//! Tests of single tables, from entries to bytes and back, of point reads, ranges, scans and seeks
+//! under each kind of index and of filter, given and lent; of what a table says, is kept and
+//! verified by; of the longest keys and the largest numbers; and of what stays where memory is
+//! refused. Here are the tables that are read: tables that an independent program stored, as they
+//! are and with some of their bytes changed, and tables of a few rows.
 ghost use Rattle.lsm_writers.specs.Filtering.{IsSmallFilter};
 ghost use Rattle.lsm_writers.specs.Writing.{IsSmallIndex};
+
+mod indexes;
+mod lending;
+mod lists;
+mod long;
+mod memory;
+mod one_answer;
+mod points;
+mod queries;
+mod reads;
+mod sizes;
+mod verified;
+mod walks;
 
 use lsm_tables::Table;
 use lsm_writers::{BloomConstructionPolicy, FilterKind, IndexKind, Options, Writer};

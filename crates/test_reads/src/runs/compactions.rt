@@ -1,6 +1,6 @@
 //! Compactions of runs that nobody has verified: what the new tables have, the ids that are drawn,
 //! what a filter changes, what a callback and an observer are told, and runs that stay.
-use crate::points::number_of;
+use crate::runs::points::number_of;
 use lsm_sorted::compaction::stream::{
     DroppedKvCallback, NoCallback, NoFilter, StreamFilter, StreamFilterVerdict,
 };

@@ -1,6 +1,6 @@
 //! Reading and compacting runs with each request for memory refused in turn. One function tries
 //! them all, so that its call is proved once.
-use crate::{compactions, lists, part, walks};
+use crate::runs::{compactions, lists, part, walks};
 use sst_blocks::Error;
 use std::alloc::{Allocator, Global};
 use test_refusing::{Refusing, each_refused};

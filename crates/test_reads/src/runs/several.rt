@@ -1,6 +1,6 @@
 //! Several runs that are read as one, from both ends: the newest version of each key, whole, and
 //! what comes behind a refused step.
-use crate::walks::{Answer, is_given};
+use crate::runs::walks::{Answer, is_given};
 use sst_blocks::{Direction, Error, IterItem, ValueType};
 use std::alloc::{Allocator, Global};
 use std::ops::Bound;

@@ -6,9 +6,9 @@ ghost use Rattle.sst_entries.specs.Entry.{Entry};
 ghost use Rattle.lsm_formats.specs.Table.{IsTable};
 ghost use Rattle.lsm_compactions.specs.Compacted.{AreCompactable};
 ghost use Rattle.lsm_runs.specs.RunLists.{HoldsList};
-ghost use Rattle.test_runs.specs.Stored.{new_entries, stored_entries};
+ghost use Rattle.test_reads.specs.Stored.{new_entries, stored_entries};
 
-use crate::compactions::{Listed, Version, are, entries_of};
+use crate::runs::compactions::{Listed, Version, are, entries_of};
 use lsm_ranges::Run;
 use lsm_tables::{Table, compact_runs};
 use lsm_writers::{MultiWriter, TableIds, Timestamp, write_list};

@@ -1,7 +1,7 @@
 //! Ranges and scans that lend their entries beside those that give them: the same entries and
 //! errors in the same places, and as many loads, also over damaged bytes.
+use crate::tables::walks::range_in;
 use crate::tables::{Changed, KINDS, changed_bytes};
-use crate::walks::range_in;
 use lsm_tables::{Iter, LendingIter, Scanner};
 use sst_blocks::{BlockSource, CompressionType, Error, SeqNo, ValueType};
 use std::alloc::Global;

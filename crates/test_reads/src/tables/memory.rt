@@ -1,7 +1,6 @@
 //! Writing, opening and reading tables with each request for memory refused in turn. One function
 //! tries them all, so that its call is proved once.
-use crate::tables::{Changed, Of, opened};
-use crate::{lists, points, queries};
+use crate::tables::{Changed, Of, lists, opened, points, queries};
 use sst_blocks::Error;
 use std::alloc::{Allocator, Global};
 use test_refusing::{Refusing, each_refused};

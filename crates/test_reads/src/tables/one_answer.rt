@@ -1,6 +1,6 @@
 //! All reads of tables of one list, under each kind of index and of filter.
+use crate::tables::walks::{Call, Walk};
 use crate::tables::{Parted, open_with, written};
-use crate::walks::{Call, Walk};
 use lsm_tables::{Iter, Scanner, Table, read_each_way};
 use sst_blocks::{Error, InternalValue, Slice, ValueType};
 use std::alloc::Global;

@@ -1,8 +1,8 @@
 use Rattle.std.proofs.Common.{sym, subst}
 use Rattle.lsm_formats.specs.Table.{IsTable}
 use Rattle.lsm_writers.specs.Writing.{IsWritable}
-use Rattle.test_runs.proofs.StoredTable.{new_alone, new_writable}
-use Rattle.test_runs.proofs.stored.new_bytes.Goals as goal
+use Rattle.test_reads.proofs.StoredTable.{new_alone, new_writable}
+use Rattle.test_reads.proofs.runs.stored.new_bytes.Goals as goal
 
 pub write_list-requires : goal.write_list-requires
 write_list-requires c =

@@ -1,8 +1,8 @@
 use Rattle.std.proofs.Common.{◌∙◌, ap, sym, subst, List, [], ◌∷◌, ◌++◌}
 use Rattle.lsm_readers.specs.Table.{OpenTable}
 use Rattle.lsm_compactions.specs.Compacted.{AreCompactable}
-use Rattle.test_runs.proofs.StoredTable.{both_compactable}
-use Rattle.test_runs.proofs.stored.run.Goals as goal
+use Rattle.test_reads.proofs.StoredTable.{both_compactable}
+use Rattle.test_reads.proofs.runs.stored.run.Goals as goal
 
 pub returns : goal.returns
 returns c =

@@ -9,9 +9,9 @@ use Rattle.lsm_formats.specs.Facts.{count_after, lowest_seqno, highest_seqno}
 use Rattle.lsm_formats.specs.Filters.{keys_after}
 use Rattle.lsm_formats.specs.MetaBlock.{name_of}
 use Rattle.lsm_formats.specs.Table.{IsTable}
-use Rattle.test_runs.specs.Stored.{stored_entries}
-use Rattle.test_runs.proofs.StoredTable.{stored_file, stored_table}
-use Rattle.test_runs.proofs.stored.stored_bytes.Goals as goal
+use Rattle.test_reads.specs.Stored.{stored_entries}
+use Rattle.test_reads.proofs.StoredTable.{stored_file, stored_table}
+use Rattle.test_reads.proofs.runs.stored.stored_bytes.Goals as goal
 
 -- the bytes are those of the file, byte for byte
 pub returns : goal.returns
