@@ -1,27 +1,29 @@
 //! Data blocks: what is written of entries, and what reads, seeks and cursors find.
 
-use crate::large::{Size, items_of, part};
-use crate::memory::requests;
+use crate::large::{Size, Within, part};
 use crate::payloads::data_block;
 use crate::walks::{Edge, NONE, Walk, Walked, refusal, walks_so};
-use crate::written::{is_behind_seven, length_behind_seven};
+use crate::written::{Told, is_written, length_behind_seven};
 use sst_blocks::Direction::{Back, Front};
 use sst_blocks::{
     BlockType, DataBlock, DataBlockCursor, DataBlockIter, Direction, EntryRef, Error,
     InternalValue, IterItem, SeqNo, Slice, TableVersion, ValueType, are_strict, data_block_bound,
 };
-use std::alloc::{AllocError, Allocator, Global};
+use std::alloc::{AllocError, Allocator};
+use test_refusing::Refusing;
 
-// A key, a number, a kind and a value.
-type Row = (&'static [u8], SeqNo, ValueType, &'static [u8]);
-
-fn entry<A: Allocator>(row: &Row) -> InternalValue<A> {
-    let (key, seqno, kind, value) = *row;
-    let (key, value) = (Slice::from_static(key), Slice::from_static(value));
-    InternalValue::from_components(key, value, seqno, kind)
+fn entry<A: Allocator>(row: &EntryRef<'static>) -> InternalValue<A> {
+    let (key, value) = (
+        Slice::from_static(row.user_key),
+        Slice::from_static(row.value),
+    );
+    InternalValue::from_components(key, value, row.seqno, row.value_type)
 }
 
-fn entries_of<A: Allocator>(alloc: A, rows: &[Row]) -> Result<Vec<InternalValue<A>, A>, Error> {
+fn entries_of<A: Allocator>(
+    alloc: A,
+    rows: &[EntryRef<'static>],
+) -> Result<Vec<InternalValue<A>, A>, Error> {
     let mut entries = Vec::new(alloc);
     for row in rows {
         entries.push(entry(row))?;
@@ -29,27 +31,12 @@ fn entries_of<A: Allocator>(alloc: A, rows: &[Row]) -> Result<Vec<InternalValue<
     Ok(entries)
 }
 
-fn lent(row: &Row) -> EntryRef<'static> {
-    let (user_key, seqno, value_type, value) = *row;
-    EntryRef {
-        user_key,
-        seqno,
-        value_type,
-        value,
+impl Within for InternalValue {
+    fn within(bytes: &Slice, start: usize, size: &Size, key_len: usize) -> Result<Self, Error> {
+        let key = part(bytes, start, key_len)?;
+        let value = part(bytes, 8192, size.value_len)?;
+        Ok(InternalValue::from_components(key, value, 1, ValueType::Value))
     }
-}
-
-// An entry whose key and value are so many of some bytes, from a place on and from the last of
-// the numbers there.
-fn entry_within(
-    bytes: &Slice,
-    start: usize,
-    key_len: usize,
-    value_len: usize,
-) -> Result<InternalValue, Error> {
-    let key = part(bytes, start, key_len)?;
-    let value = part(bytes, 8192, value_len)?;
-    Ok(InternalValue::from_components(key, value, 1, ValueType::Value))
 }
 
 // The bound on the block of some entries, which are encoded behind what is there.
@@ -66,26 +53,18 @@ fn encoded<A: Allocator>(
     )
 }
 
-/// The bound on the block of as many entries as a size says, and how many bytes are written of them
-/// or how they are refused.
-pub(crate) fn told(alloc: Global, size: &Size) -> Result<(u64, Result<usize, Error>), Error> {
+/// What is told of some entries that are written, and which payload that should be.
+pub(crate) fn told<A: Allocator>(
+    alloc: A,
+    entries: Result<Vec<InternalValue<A>, A>, Error>,
+    payload: &[u8],
+) -> Result<Told, Error> {
+    let entries = entries?;
     let mut written = Vec::from_slice(alloc, &[7])?;
-    let entries = items_of(alloc, size, entry_within)?;
     let (bound, done) = encoded(&mut written, &entries);
     drop(entries);
-    Ok((bound, length_behind_seven(&written, done)))
-}
-
-fn number<A: Allocator>(answer: Option<IterItem<A>>) -> u64 {
-    match answer {
-        Some(Ok(item)) => {
-            let number = item.key.seqno;
-            drop(item);
-            number
-        }
-        Some(Err(error)) => refusal(error),
-        None => NONE,
-    }
+    let is_it = written.get(1..) == Some(payload);
+    Ok((bound, length_behind_seven(&written, done), is_it))
 }
 
 impl<A: Allocator> Walk for DataBlockIter<'_, A> {
@@ -99,9 +78,18 @@ impl<A: Allocator> Walk for DataBlockIter<'_, A> {
     }
 
     fn give(&mut self, end: Direction) -> u64 {
-        match end {
-            Front => number(self.next()),
-            Back => number(self.next_back()),
+        let given = match end {
+            Front => self.next(),
+            Back => self.next_back(),
+        };
+        match given {
+            Some(Ok(item)) => {
+                let number = item.key.seqno;
+                drop(item);
+                number
+            }
+            Some(Err(error)) => refusal(error),
+            None => NONE,
         }
     }
 }
@@ -111,68 +99,44 @@ impl<A: Allocator> Walk for DataBlockIter<'_, A> {
 struct Stored {
     version: TableVersion,
     payload: &'static [u8],
-    rows: &'static [Row],
+    rows: &'static [EntryRef<'static>],
     reads: &'static [(&'static [u8], SeqNo, usize)],
     walks: &'static [Walked],
 }
 
-// Whether a block has an entry in its place.
-fn has_entry<A: Allocator>(block: &DataBlock<A>, place: usize, row: &Row) -> bool {
-    place < block.len()
-        && block.entry_ref(place) == lent(row)
-        && block.key_at(place) == (row.0, row.1)
-}
-
-// Whether a block has these entries, and no others.
-fn has_entries<A: Allocator>(block: &DataBlock<A>, rows: &[Row]) -> bool {
-    let mut has_them = block.len() == rows.len() && block.is_empty() == rows.is_empty();
-    let mut place = 0usize;
-    for row in rows {
-        has_them &= has_entry(block, place, row);
-        place = place.saturating_add(1);
-    }
-    has_them
-}
-
-// Whether there is an entry, or none, as a row says.
-fn is_row<A: Allocator>(item: &Option<InternalValue<A>>, row: Option<&Row>) -> bool {
-    match (item, row) {
-        (Some(item), Some(row)) => item.as_entry_ref() == lent(row),
-        (None, None) => true,
-        _ => false,
-    }
-}
-
-// Whether an entry is found, or none, as a row says; or memory was refused where it may be.
+// Whether an entry is found, or none, as wanted; or memory was refused where it may be.
 fn is_found<A: Allocator>(
-    found: Result<Option<InternalValue<A>>, Error>,
-    row: Option<&Row>,
+    found: Option<IterItem<A>>,
+    wanted: Option<&EntryRef<'static>>,
     may_fail: bool,
 ) -> bool {
     match found {
-        Ok(item) => {
-            let is_it = is_row(&item, row);
-            drop(item);
-            is_it
-        }
-        Err(error) => may_fail && error == Error::OutOfMemory,
+        Some(Ok(item)) => wanted == Some(&item.as_entry_ref()),
+        Some(Err(error)) => may_fail && error == Error::OutOfMemory,
+        None => wanted.is_none(),
     }
 }
 
-// Whether point reads find what they should.
-fn reads_so<A: Allocator>(block: &DataBlock<A>, stored: &Stored, may_fail: bool) -> bool {
-    for &(key, seqno, place) in stored.reads {
-        let row = stored.rows.get(place);
-        if !is_found(block.point_read(key, seqno), row, may_fail) {
+// Whether a block has its entries and no others, point reads find what they should, and it is
+// walked so.
+fn is_read_so<A: Allocator>(block: &DataBlock<A>, stored: &Stored, may_fail: bool) -> bool {
+    if block.len() != stored.rows.len() || block.is_empty() != stored.rows.is_empty() {
+        return false;
+    }
+    for place in 0..block.len() {
+        let entry = block.entry_ref(place);
+        let key = (entry.user_key, entry.seqno);
+        if stored.rows.get(place) != Some(&entry) || block.key_at(place) != key {
             return false;
         }
     }
-    true
-}
-
-// Whether a block is walked so.
-fn is_walked_so<A: Allocator>(block: &DataBlock<A>, walks: &[Walked], may_fail: bool) -> bool {
-    for &(seeks, given) in walks {
+    for &(key, seqno, place) in stored.reads {
+        let found = block.point_read(key, seqno).transpose();
+        if !is_found(found, stored.rows.get(place), may_fail) {
+            return false;
+        }
+    }
+    for &(seeks, given) in stored.walks {
         if !walks_so(&mut block.iter(), seeks, given, may_fail) {
             return false;
         }
@@ -180,47 +144,38 @@ fn is_walked_so<A: Allocator>(block: &DataBlock<A>, walks: &[Walked], may_fail: 
     true
 }
 
-// An entry that may be refused, as a read finds one.
-fn as_found<A: Allocator>(
-    shared: Result<InternalValue<A>, Error>,
-) -> Result<Option<InternalValue<A>>, Error> {
-    match shared {
-        Ok(item) => Ok(Some(item)),
-        Err(error) => Err(error),
-    }
-}
-
 // Whether a cursor goes on to an entry, lends it and shares it.
-fn lends_next<A: Allocator>(cursor: &mut DataBlockCursor<A>, row: &Row, may_fail: bool) -> bool {
-    if !cursor.advance() {
-        return false;
-    }
-    match cursor.entry() {
-        Some(entry) => {
-            let is_lent = entry == lent(row);
-            is_found(as_found(cursor.share()), Some(row), may_fail) && is_lent
-        }
-        None => false,
-    }
+fn lends_next<A: Allocator>(
+    cursor: &mut DataBlockCursor<A>,
+    row: &EntryRef<'static>,
+    may_fail: bool,
+) -> bool {
+    cursor.advance()
+        && cursor.entry() == Some(*row)
+        && is_found(Some(cursor.share()), Some(row), may_fail)
 }
 
 // Whether a cursor lends these entries, and then nothing.
-fn lends_so<A: Allocator>(mut cursor: DataBlockCursor<A>, rows: &[Row], may_fail: bool) -> bool {
+fn lends_so<A: Allocator>(
+    cursor: &mut DataBlockCursor<A>,
+    rows: &[EntryRef<'static>],
+    may_fail: bool,
+) -> bool {
     let mut is_so = cursor.entry().is_none();
     for row in rows {
-        is_so &= lends_next(&mut cursor, row, may_fail);
+        is_so &= lends_next(cursor, row, may_fail);
     }
     !cursor.advance() && cursor.entry().is_none() && is_so
 }
 
 // Whether a cursor that is ended behind the first entry, if there is one, lends nothing more.
-fn lends_none_once_ended<A: Allocator>(mut cursor: DataBlockCursor<A>, has_one: bool) -> bool {
+fn lends_none_once_ended<A: Allocator>(cursor: &mut DataBlockCursor<A>, has_one: bool) -> bool {
     let begins = cursor.advance() == has_one;
     cursor.end();
     begins && cursor.entry().is_none() && !cursor.advance()
 }
 
-// Whether a clone, which outlives its block, is walked and lent as the block.
+// Whether a clone, which outlives its block, is read and lent as the block.
 fn is_cloned_so<A: Allocator>(
     copy: Result<DataBlock<A>, AllocError>,
     stored: &Stored,
@@ -228,60 +183,54 @@ fn is_cloned_so<A: Allocator>(
 ) -> bool {
     match copy {
         Ok(copy) => {
-            let is_so = is_walked_so(&copy, stored.walks, may_fail);
-            lends_so(copy.into_cursor(), stored.rows, may_fail) && is_so
+            let is_so = is_read_so(&copy, stored, may_fail);
+            let mut cursor = copy.into_cursor();
+            let is_lent = lends_so(&mut cursor, stored.rows, may_fail);
+            drop(cursor);
+            is_so && is_lent
         }
         Err(_) => may_fail,
     }
 }
 
 // Whether a block, which is let go of, is read so, and then a clone of it.
-fn is_read_so<A: Allocator>(block: DataBlock<A>, stored: &Stored, may_fail: bool) -> bool {
+fn both_are_read_so<A: Allocator>(block: DataBlock<A>, stored: &Stored, may_fail: bool) -> bool {
     let copy: Result<_, _> = block.clone();
-    let is_so = has_entries(&block, stored.rows)
-        && reads_so(&block, stored, may_fail)
-        && is_walked_so(&block, stored.walks, may_fail);
-    let is_ended = lends_none_once_ended(block.into_cursor(), !stored.rows.is_empty());
+    let is_so = is_read_so(&block, stored, may_fail);
+    let mut cursor = block.into_cursor();
+    let is_ended = lends_none_once_ended(&mut cursor, !stored.rows.is_empty());
+    drop(cursor);
     is_cloned_so(copy, stored, may_fail) && is_so && is_ended
 }
 
-// Whether entries are written as this payload behind the byte 7, in a block of their bound; or
-// memory was refused where it may be.
-fn are_written<A: Allocator>(
-    alloc: A,
-    entries: &[InternalValue<A>],
-    payload: &[u8],
-    may_fail: bool,
-) -> bool {
-    let Ok(mut written) = Vec::from_slice(alloc, &[7]) else {
-        return may_fail;
-    };
-    let (bound, done) = encoded(&mut written, entries);
-    bound == 24 + payload.len() as u64 && is_behind_seven(&written, done, payload, may_fail)
-}
-
 // Whether entries are written as their payload, or memory was refused where it may be.
-fn is_written_so<A: Allocator + Copy>(alloc: A, stored: &Stored, may_fail: bool) -> bool {
-    match entries_of(alloc, stored.rows) {
-        Ok(entries) => {
-            let is_so = are_written(alloc, &entries, stored.payload, may_fail);
-            drop(entries);
-            is_so
-        }
-        Err(error) => may_fail && error == Error::OutOfMemory,
-    }
+fn is_written_so(heap: &Refusing, stored: &Stored, may_fail: bool) -> bool {
+    let told = told(heap, entries_of(heap, stored.rows), stored.payload);
+    is_written(told, stored.payload, may_fail)
 }
 
 // Whether a payload is read as it should be, or memory was refused where it may be.
 fn is_loaded_so<A: Allocator + Copy>(alloc: A, stored: &Stored, may_fail: bool) -> bool {
     match data_block(alloc, stored.version, stored.payload) {
-        Ok(block) => is_read_so(block, stored, may_fail),
+        Ok(block) => both_are_read_so(block, stored, may_fail),
         Err(error) => may_fail && error == Error::OutOfMemory,
     }
 }
 
+// A key, a number, a kind and a value.
+macro_rules! row {
+    ($key:expr, $seqno:expr, $kind:ident, $value:expr) => {
+        EntryRef {
+            user_key: $key,
+            seqno: $seqno,
+            value_type: ValueType::$kind,
+            value: $value,
+        }
+    };
+}
+
 // a@1, a value of `x`.
-const ONE: &[Row] = &[(b"a", 1, ValueType::Value, b"x")];
+const ONE: &[EntryRef<'static>] = &[row!(b"a", 1, Value, b"x")];
 
 const ONE_IN_V3: &[u8] = &[
     1, 0, 0, 0, 0, 1, 0, 0, 0, 0, 0, 0, 0, 1, 0, 1, 0, 0, 0, 0x61, 0x78,
@@ -294,12 +243,12 @@ const ONE_IN_V4: &[u8] = &[
 const READS_OF_ONE: &[(&[u8], SeqNo, usize)] = &[(b"a", 2, 0), (b"a", 1, 99)];
 
 // a@9, a@7 as a tombstone, a@5, c@0 and e@3.
-const FIVE: &[Row] = &[
-    (b"a", 9, ValueType::Value, b"newest"),
-    (b"a", 7, ValueType::Tombstone, b""),
-    (b"a", 5, ValueType::Value, b""),
-    (b"c", 0, ValueType::WeakTombstone, b""),
-    (b"e", 3, ValueType::Indirection, b"far"),
+const FIVE: &[EntryRef<'static>] = &[
+    row!(b"a", 9, Value, b"newest"),
+    row!(b"a", 7, Tombstone, b""),
+    row!(b"a", 5, Value, b""),
+    row!(b"c", 0, WeakTombstone, b""),
+    row!(b"e", 3, Indirection, b"far"),
 ];
 
 // The count, and then of each entry the tag, the number, the lengths of the key and of the value,
@@ -428,25 +377,18 @@ const STORED: &[Stored] = &[
     },
 ];
 
+/// How many cases the table above has.
+pub(crate) const CASES: usize = STORED.len();
+
 /// Whether the entries at a place of the table above are written, where their version is, and read
 /// so; or memory was refused where it may be.
-pub(crate) fn is_so_at<A: Allocator + Copy>(alloc: A, place: usize, may_fail: bool) -> bool {
+pub(crate) fn is_so_at(heap: &Refusing, place: usize, may_fail: bool) -> bool {
     match STORED.get(place) {
         Some(stored) => {
             let is_old = matches!(stored.version, TableVersion::V3);
-            (is_old || is_written_so(alloc, stored, may_fail))
-                && is_loaded_so(alloc, stored, may_fail)
+            (is_old || is_written_so(heap, stored, may_fail))
+                && is_loaded_so(heap, stored, may_fail)
         }
         None => false,
-    }
-}
-
-#[test]
-fn entries_are_written_and_read_with_each_request_refused(rt: HostRuntime) {
-    for place in 0..STORED.len() {
-        assert!(rt;
-            requests(rt.alloc(), BlockType::Data, place).is_ok(),
-            "{place}"
-        );
     }
 }

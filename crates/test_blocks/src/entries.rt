@@ -1,11 +1,10 @@
 //! Entries by themselves: their shares, their order, and bytes that are compared with a slice.
-use sst_blocks::{Error, InternalValue, SeqNo, Slice, ValueType};
+use sst_blocks::{InternalValue, SeqNo, Slice, ValueType};
 use std::alloc::{AllocError, Global};
 
 // A value `v` of a key and a number.
-fn entry(alloc: Global, key: &[u8], seqno: SeqNo) -> Result<InternalValue, Error> {
-    let key = Slice::from(alloc, key)?;
-    Ok(InternalValue::from_components(key, Slice::from_static(b"v"), seqno, ValueType::Value))
+fn entry(key: Slice, seqno: SeqNo) -> InternalValue {
+    InternalValue::from_components(key, Slice::from_static(b"v"), seqno, ValueType::Value)
 }
 
 // Whether what was made is like a value. It is generic in it, so that none of its parts is looked
@@ -18,19 +17,19 @@ fn is_like<T: PartialEq + Drop>(made: Result<T, AllocError>, value: &T) -> bool 
 }
 
 // Whether a share of an entry and one of its key are as they are.
-fn shares_are_alike(made: Result<InternalValue, Error>) -> bool {
-    match made {
-        Ok(item) => is_like(item.clone(), &item) && is_like(item.key.clone(), &item.key),
+fn shares_are_alike(alloc: Global) -> bool {
+    match Slice::from(alloc, b"a") {
+        Ok(key) => {
+            let item = entry(key, 2);
+            is_like(item.clone(), &item) && is_like(item.key.clone(), &item.key)
+        }
         Err(_) => false,
     }
 }
 
 // Whether one value is less than another. It is generic in them too.
-fn is_less<T: PartialOrd + Drop>(one: Result<T, Error>, other: Result<T, Error>) -> bool {
-    match (one, other) {
-        (Ok(one), Ok(other)) => one < other,
-        _ => false,
-    }
+fn is_less<T: PartialOrd + Drop>(one: T, other: T) -> bool {
+    one < other
 }
 
 // Two keys with their numbers, and whether the first stands before the second.
@@ -42,11 +41,11 @@ const ORDERS: &[((&[u8], SeqNo), (&[u8], SeqNo), bool)] = &[
 
 #[test]
 fn an_entry_is_shared_and_ordered_by_key_upward_and_number_downward(rt: HostRuntime) {
-    assert!(rt; shares_are_alike(entry(rt.alloc(), b"a", 2)));
+    assert!(rt; shares_are_alike(rt.alloc()));
     for &(one, other, expected) in ORDERS {
         let is_less = is_less(
-            entry(rt.alloc(), one.0, one.1),
-            entry(rt.alloc(), other.0, other.1),
+            entry(Slice::from_static(one.0), one.1),
+            entry(Slice::from_static(other.0), other.1),
         );
         assert!(rt; is_less == expected);
     }

@@ -1,16 +1,15 @@
 //! Index blocks: what is written of handles, and what reads and seeks find.
 
-use crate::large::{Size, items_of, part};
-use crate::memory::requests;
+use crate::large::{Size, Within, part};
 use crate::payloads::index_block;
 use crate::walks::{Edge, NONE, Walk, Walked, refusal, walks_so};
-use crate::written::{is_behind_seven, length_behind_seven};
+use crate::written::{Told, is_written, length_behind_seven};
 use sst_blocks::Direction::{Back, Front};
 use sst_blocks::{
     BlockHandle, BlockOffset, BlockType, Direction, Error, IndexBlock, IndexBlockIter,
     KeyedBlockHandle, SeqNo, Slice, TableVersion, are_strict_handles, index_block_bound,
 };
-use std::alloc::{AllocError, Allocator, Global};
+use std::alloc::{AllocError, Allocator};
 use test_refusing::Refusing;
 
 // An end key, a number, and the position and the size of a block.
@@ -30,15 +29,11 @@ fn handles_of<A: Allocator>(alloc: A, rows: &[Row]) -> Result<Vec<KeyedBlockHand
     Ok(handles)
 }
 
-// A handle whose end key is so many of some bytes, from a place on.
-fn handle_within(
-    bytes: &Slice,
-    start: usize,
-    key_len: usize,
-    _value_len: usize,
-) -> Result<KeyedBlockHandle, Error> {
-    let end_key = part(bytes, start, key_len)?;
-    Ok(KeyedBlockHandle::new(end_key, 1, BlockHandle::new(BlockOffset(0), 24)))
+impl Within for KeyedBlockHandle {
+    fn within(bytes: &Slice, start: usize, _: &Size, key_len: usize) -> Result<Self, Error> {
+        let end_key = part(bytes, start, key_len)?;
+        Ok(KeyedBlockHandle::new(end_key, 1, BlockHandle::new(BlockOffset(0), 24)))
+    }
 }
 
 // The bound on the block of some handles, which are encoded behind what is there.
@@ -55,26 +50,18 @@ fn encoded<A: Allocator>(
     )
 }
 
-/// The bound on the block of as many handles as a size says, and how many bytes are written of them
-/// or how they are refused.
-pub(crate) fn told(alloc: Global, size: &Size) -> Result<(u64, Result<usize, Error>), Error> {
+/// What is told of some handles that are written, and which payload that should be.
+pub(crate) fn told<A: Allocator>(
+    alloc: A,
+    handles: Result<Vec<KeyedBlockHandle<A>, A>, Error>,
+    payload: &[u8],
+) -> Result<Told, Error> {
+    let handles = handles?;
     let mut written = Vec::from_slice(alloc, &[7])?;
-    let handles = items_of(alloc, size, handle_within)?;
     let (bound, done) = encoded(&mut written, &handles);
     drop(handles);
-    Ok((bound, length_behind_seven(&written, done)))
-}
-
-fn position<A: Allocator>(answer: Option<Result<KeyedBlockHandle<A>, Error>>) -> u64 {
-    match answer {
-        Some(Ok(handle)) => {
-            let position = handle.offset().0;
-            drop(handle);
-            position
-        }
-        Some(Err(error)) => refusal(error),
-        None => NONE,
-    }
+    let is_it = written.get(1..) == Some(payload);
+    Ok((bound, length_behind_seven(&written, done), is_it))
 }
 
 impl<A: Allocator> Walk for IndexBlockIter<'_, A> {
@@ -86,9 +73,18 @@ impl<A: Allocator> Walk for IndexBlockIter<'_, A> {
     }
 
     fn give(&mut self, end: Direction) -> u64 {
-        match end {
-            Front => position(self.next()),
-            Back => position(self.next_back()),
+        let given = match end {
+            Front => self.next(),
+            Back => self.next_back(),
+        };
+        match given {
+            Some(Ok(handle)) => {
+                let position = handle.offset().0;
+                drop(handle);
+                position
+            }
+            Some(Err(error)) => refusal(error),
+            None => NONE,
         }
     }
 }
@@ -103,63 +99,42 @@ struct Stored {
     walks: &'static [Walked],
 }
 
-// Whether a block has a handle in its place, and finds it below the number above its own.
-fn has_handle<A: Allocator>(block: &IndexBlock<A>, place: usize, row: &Row) -> bool {
-    let (end_key, seqno, offset, size) = *row;
-    let lies = BlockHandle::new(BlockOffset(offset), size);
-    place < block.len()
-        && block.place_at(place) == lies
-        && block.find(end_key, seqno.saturating_add(1)) == Some(lies)
-}
-
-// Whether a block has these handles, and no others.
-fn has_handles<A: Allocator>(block: &IndexBlock<A>, rows: &[Row]) -> bool {
-    let mut has_them = block.len() == rows.len() && block.is_empty() == rows.is_empty();
-    let mut place = 0usize;
-    for row in rows {
-        has_them &= has_handle(block, place, row);
-        place = place.saturating_add(1);
+// Whether a block has its handles and no others, and finds each below the number above its own;
+// whether keys and numbers are reached where they should be, by a find and by a seek; and whether
+// it is walked so.
+fn is_read_so<A: Allocator>(block: &IndexBlock<A>, stored: &Stored, may_fail: bool) -> bool {
+    if block.len() != stored.rows.len() || block.is_empty() != stored.rows.is_empty() {
+        return false;
     }
-    has_them
-}
-
-// The position of the handle that is found, or 99 where there is none.
-fn found_at<A: Allocator>(block: &IndexBlock<A>, key: &[u8], seqno: SeqNo) -> u64 {
-    match block.find(key, seqno) {
-        Some(handle) => handle.offset().0,
-        None => NONE,
-    }
-}
-
-// Whether keys and numbers are reached where they should be, by a find and by a seek.
-fn reaches_so<A: Allocator>(block: &IndexBlock<A>, stored: &Stored, may_fail: bool) -> bool {
-    for &(key, seqno, first) in stored.reached {
-        let seeks = [(Edge::AtLeast, key, seqno, first != NONE)];
-        let is_found = found_at(block, key, seqno) == first;
-        if !is_found || !walks_so(&mut block.iter(), &seeks, &[(Front, first)], may_fail) {
+    for place in 0..block.len() {
+        let lies = block.place_at(place);
+        let is_there = match stored.rows.get(place) {
+            Some(&(end_key, seqno, offset, size)) => {
+                lies == BlockHandle::new(BlockOffset(offset), size)
+                    && block.find(end_key, seqno.saturating_add(1)) == Some(lies)
+            }
+            None => false,
+        };
+        if !is_there {
             return false;
         }
     }
-    true
-}
-
-// Whether a block is walked so.
-fn is_walked_so<A: Allocator>(block: &IndexBlock<A>, walks: &[Walked], may_fail: bool) -> bool {
-    for &(seeks, given) in walks {
+    for &(key, seqno, first) in stored.reached {
+        let found = match block.find(key, seqno) {
+            Some(handle) => handle.offset().0,
+            None => NONE,
+        };
+        let seeks = [(Edge::AtLeast, key, seqno, first != NONE)];
+        if found != first || !walks_so(&mut block.iter(), &seeks, &[(Front, first)], may_fail) {
+            return false;
+        }
+    }
+    for &(seeks, given) in stored.walks {
         if !walks_so(&mut block.iter(), seeks, given, may_fail) {
             return false;
         }
     }
     true
-}
-
-// Whether a block, which is let go of, is read so.
-fn is_read_so<A: Allocator>(block: IndexBlock<A>, stored: &Stored, may_fail: bool) -> bool {
-    let is_so = has_handles(&block, stored.rows)
-        && reaches_so(&block, stored, may_fail)
-        && is_walked_so(&block, stored.walks, may_fail);
-    drop(block);
-    is_so
 }
 
 // A clone of a value, which outlives it, where that takes no memory.
@@ -179,38 +154,21 @@ fn cloned_without_memory<T: Clone + Drop>(heap: &Refusing, value: T) -> Result<T
 fn is_loaded_so(heap: &Refusing, stored: &Stored, may_fail: bool) -> bool {
     match index_block(heap, stored.version, stored.payload) {
         Ok(block) => match cloned_without_memory(heap, block) {
-            Ok(copy) => is_read_so(copy, stored, may_fail),
+            Ok(copy) => {
+                let is_so = is_read_so(&copy, stored, may_fail);
+                drop(copy);
+                is_so
+            }
             Err(_) => false,
         },
         Err(error) => may_fail && error == Error::OutOfMemory,
     }
 }
 
-// Whether handles are written as this payload behind the byte 7, in a block of their bound; or
-// memory was refused where it may be.
-fn are_written<A: Allocator>(
-    alloc: A,
-    handles: &[KeyedBlockHandle<A>],
-    payload: &[u8],
-    may_fail: bool,
-) -> bool {
-    let Ok(mut written) = Vec::from_slice(alloc, &[7]) else {
-        return may_fail;
-    };
-    let (bound, done) = encoded(&mut written, handles);
-    bound == 24 + payload.len() as u64 && is_behind_seven(&written, done, payload, may_fail)
-}
-
 // Whether handles are written as their payload, or memory was refused where it may be.
-fn is_written_so<A: Allocator + Copy>(alloc: A, stored: &Stored, may_fail: bool) -> bool {
-    match handles_of(alloc, stored.rows) {
-        Ok(handles) => {
-            let is_so = are_written(alloc, &handles, stored.payload, may_fail);
-            drop(handles);
-            is_so
-        }
-        Err(error) => may_fail && error == Error::OutOfMemory,
-    }
+fn is_written_so(heap: &Refusing, stored: &Stored, may_fail: bool) -> bool {
+    let told = told(heap, handles_of(heap, stored.rows), stored.payload);
+    is_written(told, stored.payload, may_fail)
 }
 
 const ONE_IN_V3: &[u8] = &[
@@ -314,6 +272,9 @@ const STORED: &[Stored] = &[
     },
 ];
 
+/// How many cases the table above has.
+pub(crate) const CASES: usize = STORED.len();
+
 /// Whether the handles at a place of the table above are written, where their version is, and read
 /// so; or memory was refused where it may be.
 pub(crate) fn is_so_at(heap: &Refusing, place: usize, may_fail: bool) -> bool {
@@ -324,15 +285,5 @@ pub(crate) fn is_so_at(heap: &Refusing, place: usize, may_fail: bool) -> bool {
                 && is_loaded_so(heap, stored, may_fail)
         }
         None => false,
-    }
-}
-
-#[test]
-fn handles_are_written_and_read_with_each_request_refused(rt: HostRuntime) {
-    for place in 0..STORED.len() {
-        assert!(rt;
-            requests(rt.alloc(), BlockType::Index, place).is_ok(),
-            "{place}"
-        );
     }
 }

@@ -11,7 +11,7 @@ pub(crate) struct Size {
     count: usize,
     key_len: usize,
     last_len: usize,
-    value_len: usize,
+    pub(crate) value_len: usize,
 }
 
 // 4,097 numbers, the high bytes first, and zeroes behind the last.
@@ -33,35 +33,28 @@ pub(crate) fn part(bytes: &Slice, start: usize, len: usize) -> Result<Slice, Err
     bytes.slice(start, end)
 }
 
-// Adds what is made of some bytes, the place where each key begins, its length and a value's.
-fn put_all<T: Drop, F: Fn(&Slice, usize, usize, usize) -> Result<T, Error>>(
-    list: &mut Vec<T>,
-    bytes: &Slice,
-    size: &Size,
-    make: F,
-) -> Result<(), Error>
-    requires { F.IsAlwaysCallable make }
-{
+/// What is made of a part of some bytes.
+pub(crate) trait Within: Drop {
+    /// The key is so many of the bytes, from a place on; the value, if there is one, as many as a
+    /// size says, from the last of the numbers on.
+    fn within(bytes: &Slice, start: usize, size: &Size, key_len: usize) -> Result<Self, Error>;
+}
+
+// Adds as many items as a size says.
+fn put_all<T: Within>(items: &mut Vec<T>, bytes: &Slice, size: &Size) -> Result<(), Error> {
     for place in 0..size.count {
         let is_last = place.saturating_add(1) == size.count;
         let key_len = if is_last { size.last_len } else { size.key_len };
-        let made = make(bytes, place.saturating_mul(2), key_len, size.value_len);
-        list.push(made?)?;
+        items.push(T::within(bytes, place.saturating_mul(2), size, key_len)?)?;
     }
     Ok(())
 }
 
-/// As many items as a size says: the key of each begins with its number.
-pub(crate) fn items_of<T: Drop, F: Fn(&Slice, usize, usize, usize) -> Result<T, Error>>(
-    alloc: Global,
-    size: &Size,
-    make: F,
-) -> Result<Vec<T>, Error>
-    requires { F.IsAlwaysCallable make }
-{
+// As many items as a size says: the key of each begins with its number.
+fn items_of<T: Within>(alloc: Global, size: &Size) -> Result<Vec<T>, Error> {
     let bytes = numbers(alloc)?;
     let mut items = Vec::new(alloc);
-    let done = put_all(&mut items, &bytes, size, make);
+    let done = put_all(&mut items, &bytes, size);
     drop(bytes);
     once_done(items, done)
 }
@@ -136,18 +129,15 @@ const ROWS: &[Row] = &[
     ),
 ];
 
-// The bound on the block of a row, and what is written of it or how it is refused.
-fn told(alloc: Global, row: &Row) -> Result<(u64, Result<usize, Error>), Error> {
-    match row.0 {
-        BlockType::Index => index_blocks::told(alloc, &row.1),
-        _ => data_blocks::told(alloc, &row.1),
-    }
-}
-
 // Whether a row is written or refused as it says.
 fn is_so(alloc: Global, row: &Row) -> bool {
-    match told(alloc, row) {
-        Ok((bound, length)) => bound == row.2 && length == row.3,
+    let (kind, size, bound, length) = row;
+    let told = match kind {
+        BlockType::Index => index_blocks::told(alloc, items_of(alloc, size), &[]),
+        _ => data_blocks::told(alloc, items_of(alloc, size), &[]),
+    };
+    match told {
+        Ok(told) => told.0 == *bound && told.1 == *length,
         Err(_) => false,
     }
 }

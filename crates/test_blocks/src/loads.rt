@@ -1,13 +1,12 @@
 //! Payloads that are loaded: how many entries or handles they have, or why they are refused.
 
-use crate::memory::requests;
 use crate::payloads::source_of;
 use sst_blocks::BlockType::{Data, Filter, Index, Meta};
 use sst_blocks::TableVersion::{V3, V4};
 use sst_blocks::{
     Block, BlockSource, BlockType, DataBlock, Error, IndexBlock, Opened, TableVersion,
 };
-use std::alloc::{Allocator, Global};
+use std::alloc::Allocator;
 use test_refusing::Refusing;
 
 // A version, a kind, a payload, and how many entries or handles it has, where it is none that is
@@ -219,8 +218,18 @@ const LOADED: &[Row] = &[
 // How many entries or handles a block has.
 fn count<A: Allocator>(block: Block<A>) -> usize {
     match block.kind() {
-        Data | Meta => DataBlock::new(block).len(),
-        Index => IndexBlock::new(block).len(),
+        Data | Meta => {
+            let block = DataBlock::new(block);
+            let len = block.len();
+            drop(block);
+            len
+        }
+        Index => {
+            let block = IndexBlock::new(block);
+            let len = block.len();
+            drop(block);
+            len
+        }
         Filter => 0,
     }
 }
@@ -247,39 +256,23 @@ fn told(heap: &Refusing, row: &Row) -> Result<(Option<usize>, usize), Error> {
     Ok((count?, heap.requests().saturating_sub(before)))
 }
 
-// Whether a payload is loaded as its row says.
-fn is_so(alloc: Global, row: &Row) -> bool {
-    match told(&Refusing::new(alloc, 0), row) {
-        Ok((count, _)) => count == row.3,
-        Err(_) => false,
-    }
-}
+/// How many cases both tables above have.
+pub(crate) const CASES: usize = AT_ONCE.len() + LOADED.len();
 
-#[test]
-fn payloads_are_read_where_they_are_in_the_grammar(rt: HostRuntime) {
-    for row in LOADED {
-        assert!(rt; is_so(rt.alloc(), row));
-    }
-}
-
-/// Whether what is at a place of the table of what is refused at once is refused, and asks for no
-/// memory before it is, once the table is made.
-pub(crate) fn is_so_at(heap: &Refusing, place: usize) -> bool {
-    match AT_ONCE.get(place) {
+/// Whether what is at a place of both tables is loaded or refused as it should be, or memory was
+/// refused where it may be. What is refused at once asks for no memory before it is, once the table
+/// is made.
+pub(crate) fn is_so_at(heap: &Refusing, place: usize, may_fail: bool) -> bool {
+    let is_at_once = place < AT_ONCE.len();
+    let row = match AT_ONCE.get(place) {
+        Some(row) => Some(row),
+        None => LOADED.get(place.saturating_sub(AT_ONCE.len())),
+    };
+    match row {
         Some(row) => match told(heap, row) {
-            Ok(told) => told == (None, 0),
-            Err(error) => error == Error::OutOfMemory,
+            Ok((count, requests)) => count == row.3 && (requests == 0 || !is_at_once),
+            Err(error) => may_fail && error == Error::OutOfMemory,
         },
         None => false,
-    }
-}
-
-#[test]
-fn what_needs_no_memory_is_told_without_it(rt: HostRuntime) {
-    for place in 0..AT_ONCE.len() {
-        assert!(rt;
-            requests(rt.alloc(), BlockType::Filter, place).is_ok(),
-            "{place}"
-        );
     }
 }

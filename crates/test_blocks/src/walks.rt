@@ -43,19 +43,19 @@ pub(crate) fn refusal(error: Error) -> u64 {
     }
 }
 
-// Whether seeks leave something or not, as wanted.
-fn narrows_so<W: Walk>(walk: &mut W, seeks: &[Seek]) -> bool {
+/// Whether seeks leave something or not, as wanted, and a walk then gives these numbers, up to a
+/// refusal, if there may be one, behind which it gives nothing.
+pub(crate) fn walks_so<W: Walk>(
+    walk: &mut W,
+    seeks: &[Seek],
+    given: &[(Direction, u64)],
+    may_fail: bool,
+) -> bool {
     for &(edge, key, seqno, left) in seeks {
         if walk.narrow(edge, key, seqno) != left {
             return false;
         }
     }
-    true
-}
-
-// Whether a walk gives these numbers, up to a refusal, if there may be one, behind which it gives
-// nothing.
-fn gives_so<W: Walk>(walk: &mut W, given: &[(Direction, u64)], may_fail: bool) -> bool {
     for &(end, wanted) in given {
         let number = walk.give(end);
         if number == NO_MEMORY {
@@ -66,14 +66,4 @@ fn gives_so<W: Walk>(walk: &mut W, given: &[(Direction, u64)], may_fail: bool) -
         }
     }
     true
-}
-
-/// Whether a walk goes so.
-pub(crate) fn walks_so<W: Walk>(
-    walk: &mut W,
-    seeks: &[Seek],
-    given: &[(Direction, u64)],
-    may_fail: bool,
-) -> bool {
-    narrows_so(walk, seeks) && gives_so(walk, given, may_fail)
 }

@@ -1,39 +1,11 @@
 //! Filter blocks: written, loaded and asked.
-ghost use Rattle.std.specs.Prelude.{◌≡◌, []};
-
-use crate::filters::{ONE_KEY, payload_of};
-use crate::large::{are_bytes, asked, finished, holds, is_answer};
+use crate::filters::{ONE_KEY, THREE_KEYS};
+use crate::tables::{handle, table_of};
 use sst_blocks::{
-    Block, BlockHandle, BlockSource, BlockType, BloomConstructionPolicy, Builder, CompressionType,
-    Error, FilterBlock, Opened, SectionName, SectionWriter, Slice, TagName,
+    Block, BlockType, Builder, Error, FilterBlock, Opened, SectionName, TagName, contains_hash,
+    hash,
 };
 use std::alloc::Global;
-
-// Writes a filter block alone, and says where it lies.
-fn write_filter(writer: &mut SectionWriter, payload: &[u8]) -> Result<BlockHandle, Error>
-    requires { writer.old.started ≡ [] }
-{
-    if payload.len() > 1_000 {
-        return Err(Error::BlockTooLarge);
-    }
-    writer.start(SectionName::Filter)?;
-    Block::write_into(writer, payload, BlockType::Filter, CompressionType::None)
-}
-
-// A table of a filter block alone, and where the block lies.
-fn table(alloc: Global, payload: &[u8]) -> Result<(BlockHandle, Slice, u128), Error> {
-    let mut writer = SectionWriter::new(alloc)?;
-    let lies = write_filter(&mut writer, payload);
-    finished(writer, lies)
-}
-
-// The block that lies there in a table.
-fn block_of(alloc: Global, lies: &BlockHandle, bytes: Slice) -> Result<Block, Error> {
-    let source = BlockSource::new(alloc, bytes)?;
-    let block = source.load(lies, BlockType::Filter, &mut Opened::none());
-    drop(source);
-    block
-}
 
 fn filter_of(block: Block) -> Result<FilterBlock, Error> {
     match block.kind() {
@@ -45,95 +17,61 @@ fn filter_of(block: Block) -> Result<FilterBlock, Error> {
     }
 }
 
-// The filter that is loaded from a table.
-fn load(alloc: Global, lies: &BlockHandle, bytes: Slice) -> Result<FilterBlock, Error> {
-    filter_of(block_of(alloc, lies, bytes)?)
+// The filter that is loaded from a table of it alone.
+fn load(alloc: Global, payload: &[u8]) -> Result<FilterBlock, Error> {
+    let size = u32::try_from(payload.len()).unwrap_or(0).saturating_add(24);
+    let blocks = [(BlockType::Filter, payload, 0, size)];
+    let source = table_of(alloc, SectionName::Filter, &blocks, &[])?;
+    let block = source.load(&handle(0, size), BlockType::Filter, &mut Opened::none());
+    drop(source);
+    filter_of(block?)
 }
 
-// What a load answers: the sizes of the payload and of the block.
-fn sizes(alloc: Global, payload: &[u8]) -> Result<(usize, u32), Error> {
-    let (lies, bytes, _) = table(alloc, payload)?;
-    let size = asked(load(alloc, &lies, bytes), FilterBlock::size)?;
-    Ok((size, lies.size()))
-}
+// What is told of a filter: its size, and whether it and its clone admit a key.
+type Told = (usize, bool, bool);
 
-// A payload, and what loading it answers.
-const LOADS: &[(&[u8], Result<(usize, u32), Error>)] = &[
-    (&[1, 0], Ok((2, 26))),
-    (&[30, 255], Ok((2, 26))),
-    (&[0, 255], Err(Error::InvalidBlock)),
-    (&[31, 255], Err(Error::InvalidBlock)),
-    (&[1], Err(Error::InvalidBlock)),
-    (ONE_KEY, Ok((9, 33))),
-];
-
-#[test]
-fn filters_written_and_loaded(rt: HostRuntime) {
-    for (payload, expected) in LOADS {
-        assert!(rt; sizes(rt.alloc(), payload) == *expected);
-    }
-}
-
-// The payload of a filter of these keys, by the default policy.
-fn built(alloc: Global, keys: &[&[u8]]) -> Result<Vec<u8>, Error> {
-    payload_of(alloc, BloomConstructionPolicy::default(), keys.len(), keys)
-}
-
-fn admits(filter: &FilterBlock, key: &[u8]) -> bool {
-    filter.maybe_contains_hash(Builder::<Global>::get_hash(key))
-}
-
-// Whether a filter admits a key, and whether its clone does.
-fn both_admit(filter: &FilterBlock, key: &[u8]) -> Result<(bool, bool), Error> {
+fn told(filter: &FilterBlock, key: &[u8]) -> Result<Told, Error> {
+    let hash = Builder::<Global>::get_hash(key);
     let clone: FilterBlock = filter.clone()?;
-    let clone_admits = admits(&clone, key);
+    let clone_admits = clone.maybe_contains_hash(hash);
     drop(clone);
-    Ok((admits(filter, key), clone_admits))
+    Ok((
+        filter.size(),
+        filter.maybe_contains_hash(hash),
+        clone_admits,
+    ))
 }
 
-// Whether the filter that is loaded of a payload admits a key, and whether its clone does.
-fn loaded_admit(alloc: Global, payload: &[u8], key: &[u8]) -> Result<(bool, bool), Error> {
-    let (lies, bytes, _) = table(alloc, payload)?;
-    let filter = load(alloc, &lies, bytes)?;
-    let admit = both_admit(&filter, key);
+// What is told of the filter that is loaded of a payload.
+fn told_of(alloc: Global, payload: &[u8], key: &[u8]) -> Result<Told, Error> {
+    let filter = load(alloc, payload)?;
+    let told = told(&filter, key);
     drop(filter);
-    admit
+    told
 }
 
-// Whether the filter of these keys admits a key, and whether its clone does.
-fn built_admit(alloc: Global, keys: &[&[u8]], key: &[u8]) -> Result<(bool, bool), Error> {
-    let payload = built(alloc, keys)?;
-    let admit = loaded_admit(alloc, &payload, key);
-    drop(payload);
-    admit
-}
-
-// The filter of "a" is built as it is known, and answers so for "a" and for no bytes.
-#[test]
-fn a_filter_of_one_key(rt: HostRuntime) {
-    let alloc = rt.alloc();
-    assert!(rt; holds(are_bytes(built(alloc, &[b"a"]), ONE_KEY)));
-    assert!(rt; is_answer(loaded_admit(alloc, ONE_KEY, b"a"), (true, true)));
-    assert!(rt; is_answer(loaded_admit(alloc, ONE_KEY, b""), (false, false)));
-}
-
-// The keys of a filter.
-const KEYS: &[&[u8]] = &[b"apple", b"fig", b"pear"];
-
-// A key, and whether the filter admits it.
-const ASKED: &[(&[u8], bool)] = &[
-    (b"apple", true),
-    (b"fig", true),
-    (b"pear", true),
-    (b"", false),
-    (b"plum", false),
-    (b"zebra", false),
+// A payload, a key, and what is told of the filter, or how it is refused.
+const ASKED: &[(&[u8], &[u8], Result<Told, Error>)] = &[
+    (&[1, 0], b"a", Ok((2, false, false))),
+    (&[30, 255], b"a", Ok((2, true, true))),
+    (&[0, 255], b"a", Err(Error::InvalidBlock)),
+    (&[31, 255], b"a", Err(Error::InvalidBlock)),
+    (&[1], b"a", Err(Error::InvalidBlock)),
+    (ONE_KEY, b"a", Ok((9, true, true))),
+    (ONE_KEY, b"", Ok((9, false, false))),
+    (THREE_KEYS, b"apple", Ok((9, true, true))),
+    (THREE_KEYS, b"fig", Ok((9, true, true))),
+    (THREE_KEYS, b"pear", Ok((9, true, true))),
+    (THREE_KEYS, b"", Ok((9, false, false))),
+    (THREE_KEYS, b"plum", Ok((9, false, false))),
+    (THREE_KEYS, b"zebra", Ok((9, false, false))),
 ];
 
 #[test]
-fn a_loaded_filter_is_asked(rt: HostRuntime) {
-    for &(key, is_there) in ASKED {
-        let admitted = built_admit(rt.alloc(), KEYS, key);
-        assert!(rt; is_answer(admitted, (is_there, is_there)));
+fn filters_are_written_loaded_and_asked(rt: HostRuntime) {
+    for (payload, key, expected) in ASKED {
+        assert!(rt; told_of(rt.alloc(), payload, key) == *expected);
     }
+    assert!(rt; contains_hash(ONE_KEY, hash(b"a")));
+    assert!(rt; !contains_hash(ONE_KEY, hash(b"")));
 }

@@ -1,137 +1,93 @@
-//! Filters: their sizes, their bits, and which hashes they admit.
-use crate::large::{are_bytes, asked, holds, is_answer};
+//! Filters: their sizes, and their bits.
 use sst_entries::Error;
-use sst_filters::{BloomConstructionPolicy, Builder, contains_hash, filter_bound};
-use sst_sections::hash;
+use sst_filters::{BloomConstructionPolicy, Builder, filter_bound};
 use std::alloc::{Allocator, Global};
-use test_refusing::{Refusing, each_refused};
+use test_refusing::Refusing;
 
 fn tenths(tenths: u32) -> BloomConstructionPolicy {
     BloomConstructionPolicy::BitsPerKey(tenths)
 }
 
 // Tenths of a bit for each key, a number of keys, and the filter's size and bound.
-const SIZES: &[(u32, usize, usize, u64)] = &[
+type Size = (u32, usize, usize, u64);
+
+const SIZES: &[Size] = &[
     (100, 0, 8, 33),
     (100, 1, 8, 33),
     (100, 7, 9, 34),
     (100, 1_000, 1_250, 1_275),
     (0, 1_000, 8, 33),
     (1, 641, 9, 34),
+    // keys that have a byte each, in the largest block and in one that is too large
+    (80, 4_294_967_270, 4_294_967_270, u32::MAX as u64),
+    (80, 4_294_967_271, 4_294_967_271, 1 << 32),
     (u32::MAX, usize::MAX, usize::MAX, u64::MAX),
 ];
 
-// Whether a filter has this size and this bound.
-fn is_sized(case: &(u32, usize, usize, u64)) -> bool {
+// Whether a filter has this size and this bound, is active where a key has bits, and is refused
+// from four gigabytes on.
+fn is_sized(alloc: Global, case: &Size) -> bool {
     let (bits, keys, size, bound) = *case;
     let policy = tenths(bits);
-    policy.estimated_filter_size(keys) == size && filter_bound(&policy, keys) == bound
+    policy.estimated_filter_size(keys) == size
+        && filter_bound(&policy, keys) == bound
+        && policy.is_active() == (bits > 0)
+        && (bound < 1 << 32 || policy.init(alloc, keys).err() == Some(Error::BlockTooLarge))
 }
 
 #[test]
 fn sizes_of_filters(rt: HostRuntime) {
     for case in SIZES {
-        assert!(rt; is_sized(case));
+        assert!(rt; is_sized(rt.alloc(), case));
     }
     assert!(rt; BloomConstructionPolicy::default() == tenths(100));
-    assert!(rt; tenths(1).is_active() && !tenths(0).is_active());
 }
 
-// The payload of a filter for so many keys, with the hashes of some keys set.
-pub(crate) fn payload_of<A: Allocator>(
-    alloc: A,
-    policy: BloomConstructionPolicy,
-    len: usize,
-    keys: &[&[u8]],
-) -> Result<Vec<u8, A>, Error> {
-    let mut builder = policy.init(alloc, len)?;
+/// The payload of a filter of one key, "a", at ten bits.
+pub(crate) const ONE_KEY: &[u8] = &[6, 1, 0x30, 0, 2, 0x40, 0, 8, 0];
+
+/// That of a filter of "apple", "fig" and "pear".
+pub(crate) const THREE_KEYS: &[u8] = &[6, 0x81, 0x42, 0x18, 2, 0x92, 0x60, 0x24, 0x85];
+
+// Tenths of a bit for each key, keys, and the payload: the number of probes, then the bits.
+type Built = (u32, &'static [&'static [u8]], &'static [u8]);
+
+const BUILT: &[Built] = &[
+    (1, &[], &[1, 0, 0, 0, 0, 0, 0, 0, 0]),
+    (28, &[], &[1, 0, 0, 0, 0, 0, 0, 0, 0]),
+    (29, &[], &[2, 0, 0, 0, 0, 0, 0, 0, 0]),
+    (100, &[], &[6, 0, 0, 0, 0, 0, 0, 0, 0]),
+    (435, &[], &[30, 0, 0, 0, 0, 0, 0, 0, 0]),
+    (u32::MAX, &[], &[30, 0, 0, 0, 0, 0, 0, 0, 0]),
+    (100, &[b"a"], ONE_KEY),
+    (100, &[b"apple", b"fig", b"pear"], THREE_KEYS),
+];
+
+// The payload of a filter of these keys.
+fn payload_of<A: Allocator>(alloc: A, bits: u32, keys: &[&[u8]]) -> Result<Vec<u8, A>, Error> {
+    let mut builder = tenths(bits).init(alloc, keys.len())?;
     for key in keys {
         builder.set_with_hash(Builder::<A>::get_hash(key));
     }
     Ok(builder.build())
 }
 
-/// The payload of a filter of one key, "a", at ten bits.
-pub(crate) const ONE_KEY: &[u8; 9] = &[6, 1, 0x30, 0, 2, 0x40, 0, 8, 0];
-
-#[test]
-fn one_key_at_ten_bits(rt: HostRuntime) {
-    let payload = payload_of(rt.alloc(), tenths(100), 1, &[b"a"]);
-    assert!(rt; holds(are_bytes(payload, ONE_KEY)));
-    assert!(rt; contains_hash(ONE_KEY, hash(b"a")));
-    assert!(rt; !contains_hash(ONE_KEY, hash(b"")));
-}
-
-fn are_zero(bytes: &[u8]) -> bool {
-    for byte in bytes {
-        if *byte != 0 {
-            return false;
-        }
-    }
-    true
-}
-
-// The first byte, and whether all others are 0.
-fn first_and_rest(payload: &Vec<u8>) -> Option<(u8, bool)> {
-    match payload.as_slice() {
-        [first, rest @ ..] => Some((*first, are_zero(rest))),
-        [] => None,
-    }
-}
-
-// These of the payload of a filter of no keys.
-fn of_no_keys(alloc: Global, bits: u32) -> Result<Option<(u8, bool)>, Error> {
-    asked(payload_of(alloc, tenths(bits), 0, &[]), first_and_rest)
-}
-
-// Tenths of a bit for each key, and the number of probes.
-const PROBES: &[(u32, u8)] = &[
-    (1, 1),
-    (28, 1),
-    (29, 2),
-    (100, 6),
-    (435, 30),
-    (u32::MAX, 30),
-];
-
-#[test]
-fn probes_by_bits_a_key(rt: HostRuntime) {
-    for &(bits, probes) in PROBES {
-        assert!(rt; is_answer(of_no_keys(rt.alloc(), bits), Some((probes, true))));
-    }
-}
-
-// Numbers of keys that have a byte each, and whether their filter is too large.
-const LARGE: &[(usize, bool)] = &[(4_294_967_270, false), (4_294_967_271, true)];
-
-// Whether a filter of so many keys, of 8 bits each, is bounded by four gigabytes or more.
-fn is_large(keys: usize) -> bool {
-    filter_bound(&tenths(80), keys) >= 1 << 32
-}
-
-// Whether such a filter is refused.
-fn is_refused(alloc: Global, keys: usize) -> bool {
-    matches!(tenths(80).init(alloc, keys), Err(Error::BlockTooLarge))
-}
-
-#[test]
-fn a_filter_of_four_gigabytes_is_refused(rt: HostRuntime) {
-    for &(keys, refused) in LARGE {
-        assert!(rt; is_large(keys) == refused);
-    }
-    assert!(rt; is_refused(rt.alloc(), 4_294_967_271));
-}
-
-// Whether a filter is built, or memory is refused where it may be.
-fn is_built(heap: &Refusing, may_fail: bool) -> bool {
-    match payload_of(heap, tenths(100), 1, &[b"a"]) {
-        Ok(payload) => payload.len() == 9,
+// Whether a filter is built, or memory was refused where it may be.
+fn is_built(heap: &Refusing, case: &Built, may_fail: bool) -> bool {
+    let (bits, keys, expected) = *case;
+    match payload_of(heap, bits, keys) {
+        Ok(payload) => payload.as_slice() == expected,
         Err(error) => may_fail && error == Error::OutOfMemory,
     }
 }
 
-#[test]
-fn a_filter_takes_memory_once(rt: HostRuntime) {
-    let answers = each_refused(rt.alloc(), is_built);
-    assert!(rt; answers == Ok(1));
+/// Whether filters are built, each with one request for memory.
+pub(crate) fn are_built(heap: &Refusing, may_fail: bool) -> bool {
+    for case in BUILT {
+        let before = heap.requests();
+        if !is_built(heap, case, may_fail) || heap.requests() != before.saturating_add(1) {
+            return false;
+        }
+    }
+    true
 }

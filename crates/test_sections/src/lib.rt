@@ -10,12 +10,14 @@ mod filters;
 #[cfg(test)]
 mod hashes;
 #[cfg(test)]
-mod large;
-#[cfg(test)]
 mod loading;
+#[cfg(test)]
+mod memory;
 #[cfg(test)]
 mod sections;
 #[cfg(test)]
 mod stored_table;
+#[cfg(test)]
+mod tables;
 #[cfg(test)]
 mod together;

@@ -2,11 +2,11 @@
 ghost use Rattle.std.specs.Prelude.{◌≡◌, ◌++◌, ◌∷◌, [], length, OnOk, All};
 ghost use Rattle.sst_sections.specs.Sections.{slot_index};
 
-use crate::large::{asked, finished, is_answer, is_answer_or_refused};
 use crate::stored_table;
-use sst_blocks::{BlockSource, Error, SectionName, SectionWriter, Slice};
-use std::alloc::{Allocator, Global};
-use test_refusing::each_refused;
+use crate::tables::finished;
+use sst_blocks::{BlockSource, Error, Section, SectionName, SectionWriter};
+use std::alloc::Allocator;
+use test_refusing::Refusing;
 
 // Writes a section.
 fn put_section<A: Allocator + Copy>(
@@ -33,46 +33,6 @@ fn write_sections<A: Allocator + Copy>(writer: &mut SectionWriter<A>) -> Result<
     put_section(writer, SectionName::Meta, &bytes[97..1138])
 }
 
-// The sections of the stored table, written again.
-fn write_again<A: Allocator + Copy>(alloc: A) -> Result<((), Slice<A>, u128), Error> {
-    let mut writer = SectionWriter::new(alloc)?;
-    let written = write_sections(&mut writer);
-    finished(writer, written)
-}
-
-// Whether the stored table is what was written, and the checksum.
-fn are_stored<A: Allocator>(written: &((), Slice<A>, u128)) -> (bool, u128) {
-    let (_, bytes, checksum) = written;
-    (
-        bytes.as_slice() == stored_table::bytes().as_slice(),
-        *checksum,
-    )
-}
-
-// Whether the stored table is the same when written again, and the checksum of what is written.
-fn is_same<A: Allocator + Copy>(alloc: A) -> Result<(bool, u128), Error> {
-    asked(write_again(alloc), are_stored)
-}
-
-const CHECKSUM: u128 = 0x30fc_eabc_de57_bd50;
-
-#[test]
-fn a_stored_table_is_written_again(rt: HostRuntime) {
-    assert!(rt; is_answer(is_same(rt.alloc()), (true, CHECKSUM)));
-}
-
-// Where a section of what was written lies.
-fn lies(alloc: Global, name: SectionName) -> Result<Option<(u64, u64)>, Error> {
-    let (_, bytes, _) = write_again(alloc)?;
-    let source = BlockSource::new(alloc, bytes)?;
-    let lies = match source.toc().section(name) {
-        Some(section) => Some((section.position, section.len)),
-        None => None,
-    };
-    drop(source);
-    Ok(lies)
-}
-
 // A section, and its position and length.
 const SECTIONS: &[(SectionName, Option<(u64, u64)>)] = &[
     (SectionName::Data, Some((0, 45))),
@@ -84,17 +44,38 @@ const SECTIONS: &[(SectionName, Option<(u64, u64)>)] = &[
     (SectionName::Meta, Some((97, 1041))),
 ];
 
-#[test]
-fn sections_lie_where_they_were_written(rt: HostRuntime) {
-    for &(name, expected) in SECTIONS {
-        assert!(rt; is_answer(lies(rt.alloc(), name), expected));
+// Whether each section of a table lies where it was written.
+fn lie_so<A: Allocator + Copy>(source: &BlockSource<A>) -> bool {
+    let toc = source.toc();
+    for &(name, lies) in SECTIONS {
+        let section = match lies {
+            Some((position, len)) => Some(Section { position, len }),
+            None => None,
+        };
+        if toc.section(name) != section {
+            return false;
+        }
     }
+    true
 }
 
-#[test]
-fn each_request_of_a_section_writer_refused(rt: HostRuntime) {
-    let refused = each_refused(rt.alloc(), |heap, may_fail| {
-        is_answer_or_refused(is_same(heap), (true, CHECKSUM), may_fail)
-    });
-    assert!(rt; refused.is_ok());
+// Whether the stored table is the same when its sections are written again, with its checksum, and
+// these are found in it.
+fn is_same<A: Allocator + Copy>(alloc: A) -> Result<bool, Error> {
+    let mut writer = SectionWriter::new(alloc)?;
+    let written = write_sections(&mut writer);
+    let (_, bytes, checksum) = finished(writer, written)?;
+    let is_same = bytes.as_slice() == stored_table::bytes().as_slice();
+    let source = BlockSource::new(alloc, bytes)?;
+    let lie_so = lie_so(&source);
+    drop(source);
+    Ok(is_same && lie_so && checksum == 0x30fc_eabc_de57_bd50)
+}
+
+/// Whether the stored table is written again, or memory was refused where it may be.
+pub(crate) fn is_written_again(heap: &Refusing, may_fail: bool) -> bool {
+    match is_same(heap) {
+        Ok(is_same) => is_same,
+        Err(error) => may_fail && error == Error::OutOfMemory,
+    }
 }
