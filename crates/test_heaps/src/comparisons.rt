@@ -5,8 +5,8 @@ ghost use Rattle.std.specs.Cmp.{partial_order_from_total, partial_equiv_from_equ
 ghost use Rattle.std.specs.Cmp.{eq_by_cmp_equiv, on_total, nat_cmp_total};
 ghost use Rattle.std.specs.Ordering.{as_partial_cmp, eq_by_cmp, nat_cmp, on};
 
+use crate::examples::{Example, first_wrong};
 use lsm_merge::LazyTournament;
-use sst_entries::Error;
 use std::alloc::Global;
 use std::cell::Cell;
 use std::cmp::Ordering;
@@ -132,29 +132,21 @@ impl<'a> Merge<'a> {
             None => 0,
         }
     }
-
-    // Takes so many entries out: how many came in the order of their keys.
-    fn ascended(&mut self, entries: u64) -> u64 {
-        let mut ascended = 0u64;
-        let mut least = 0;
-        for _ in 0..entries {
-            let key = self.next();
-            if key >= least {
-                ascended = ascended.wrapping_add(1);
-            }
-            least = key;
-        }
-        ascended
-    }
 }
 
-// What a merge comes to: how many of so many entries came in order, how many are left, how many
-// comparisons were made, and how many the queue counted.
+// What a merge comes to: how many of so many entries came in the order of their keys, how many are
+// left, how many comparisons were made, and how many the queue counted.
 fn merged(mut merge: Merge<'_>, entries: u64) -> (u64, usize, u64, u64) {
     for source in 0..merge.sources.count {
         merge.push(source, 0);
     }
-    let ascended = merge.ascended(entries);
+    let mut ascended = 0u64;
+    let mut least = 0;
+    for _ in 0..entries {
+        let key = merge.next();
+        ascended = ascended.wrapping_add(u64::from(key >= least));
+        least = key;
+    }
     (
         ascended,
         merge.queue.len(),
@@ -163,34 +155,29 @@ fn merged(mut merge: Merge<'_>, entries: u64) -> (u64, usize, u64, u64) {
     )
 }
 
-// What a merge of so many entries of sources comes to.
-fn told(
-    alloc: Global,
-    sources: &Sources,
-    room: usize,
-    entries: u64,
-) -> Result<(u64, usize, u64, u64), Error> {
-    let made = Cell::new(0);
-    let queue = LazyTournament::with_capacity(alloc, room)?;
-    let merge = Merge {
-        queue,
-        room,
-        sources,
-        made: &made,
-    };
-    Ok(merged(merge, entries))
-}
+// Sources, the room of the queue, how many comparisons an entry takes at most, and how many are
+// made in all.
+struct Compared(Sources, usize, u64, u64);
 
-// Whether all entries come in order, the comparisons are those that the queue counts, and they are
-// so many, and at most so many an entry.
-fn makes(alloc: Global, sources: &Sources, room: usize, an_entry: u64, comparisons: u64) -> bool {
-    let entries = sources.count.saturating_mul(sources.each);
-    match told(alloc, sources, room, entries) {
-        Ok(told) => {
-            told == (entries, 0, comparisons, comparisons)
-                && comparisons <= entries.saturating_mul(an_entry)
+impl Example for Compared {
+    // All entries come in order, and the comparisons are those that the queue counts.
+    fn is_so(&self, alloc: Global) -> bool {
+        let Compared(sources, room, an_entry, comparisons) = self;
+        let entries = sources.count.saturating_mul(sources.each);
+        let made = Cell::new(0);
+        match LazyTournament::with_capacity(alloc, *room) {
+            Ok(queue) => {
+                let merge = Merge {
+                    queue,
+                    room: *room,
+                    sources,
+                    made: &made,
+                };
+                merged(merge, entries) == (entries, 0, *comparisons, *comparisons)
+                    && *comparisons <= entries.saturating_mul(*an_entry)
+            }
+            Err(_) => false,
         }
-        Err(_) => false,
     }
 }
 
@@ -201,9 +188,9 @@ fn makes(alloc: Global, sources: &Sources, room: usize, an_entry: u64, compariso
 // matches for 8 sources, and 129 for 64. Where one source comes after another, a push plays only
 // the matches against the later ones: half of them for a source on the average.
 //
-// In each row: the sources, the room of the queue, h, and the comparisons.
-const COMPARISONS: &[(Sources, usize, u64, u64)] = &[
-    (
+// In each row h stands as what an entry takes at most.
+const COMPARISONS: &[Compared] = &[
+    Compared(
         Sources {
             count: 8,
             each: 100,
@@ -214,7 +201,7 @@ const COMPARISONS: &[(Sources, usize, u64, u64)] = &[
         // 7 + 3 * 792 + 5
         2388,
     ),
-    (
+    Compared(
         Sources {
             count: 8,
             each: 100,
@@ -225,7 +212,7 @@ const COMPARISONS: &[(Sources, usize, u64, u64)] = &[
         // The slots end in the order 3 0 5 2 7 4 1 6: 7 + 3 * 792 + 10.
         2393,
     ),
-    (
+    Compared(
         Sources {
             count: 8,
             each: 100,
@@ -236,7 +223,7 @@ const COMPARISONS: &[(Sources, usize, u64, u64)] = &[
         // 7 + 12 * 99 + 5
         1200,
     ),
-    (
+    Compared(
         Sources {
             count: 64,
             each: 20,
@@ -247,7 +234,7 @@ const COMPARISONS: &[(Sources, usize, u64, u64)] = &[
         // 63 + 6 * 1216 + 129
         7488,
     ),
-    (
+    Compared(
         Sources {
             count: 64,
             each: 20,
@@ -262,8 +249,6 @@ const COMPARISONS: &[(Sources, usize, u64, u64)] = &[
 
 #[test]
 fn an_entry_takes_as_many_comparisons_as_its_slot_has_matches(rt: HostRuntime) {
-    for (sources, room, an_entry, comparisons) in COMPARISONS {
-        let is_so = makes(rt.alloc(), sources, *room, *an_entry, *comparisons);
-        assert!(rt; is_so, "{comparisons}");
-    }
+    let wrong = first_wrong(rt.alloc(), COMPARISONS);
+    assert!(rt; wrong.is_none(), "{wrong:?}");
 }

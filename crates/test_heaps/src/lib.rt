@@ -5,6 +5,8 @@
 #[cfg(test)]
 mod comparisons;
 #[cfg(test)]
+mod examples;
+#[cfg(test)]
 mod heaps;
 #[cfg(test)]
 mod queues;

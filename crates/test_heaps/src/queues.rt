@@ -3,20 +3,24 @@
 ghost use Rattle.std.specs.Prelude.{◌≡◌, ℕ};
 
 use lsm_merge::{IntervalHeap, LazyTournament, Tournament};
-use sst_entries::{Direction, Error};
+use sst_entries::Error;
 use std::alloc::Allocator;
 use std::marker::Model;
 
+/// What is done to a queue: a number is added, where there is room, or the least or the greatest is
+/// taken out.
+#[derive(Clone, Copy)]
+pub(crate) enum Turn {
+    Add(u8),
+    Least,
+    Greatest,
+}
+
 /// A queue of numbers, which has room for some.
 pub(crate) trait Queue {
-    /// Adds a number, where there is room.
-    fn add(&mut self, number: u8);
-
-    /// Takes the least number out, or the greatest.
-    fn take(&mut self, end: Direction) -> Option<u8>;
-
-    /// How many numbers there are, and how many steps were made, where they are counted.
-    fn state(&self) -> (usize, u64);
+    /// Takes a turn: the number that is taken out, how many numbers there are then, and how many
+    /// steps were made, where they are counted.
+    fn take(&mut self, turn: Turn) -> (Option<u8>, usize, u64);
 }
 
 #[derive(Drop)]
@@ -39,21 +43,18 @@ pub(crate) fn tournament<A: Allocator + Clone>(alloc: A, room: usize) -> Result<
 }
 
 impl<A: Allocator> Queue for Played<A> {
-    fn add(&mut self, number: u8) {
-        if self.queue.len() < self.room {
-            self.queue.push(number);
+    fn take(&mut self, turn: Turn) -> (Option<u8>, usize, u64) {
+        let mut taken = None;
+        match turn {
+            Turn::Add(number) => {
+                if self.queue.len() < self.room {
+                    self.queue.push(number);
+                }
+            }
+            Turn::Least => taken = self.queue.pop_min(),
+            Turn::Greatest => taken = self.queue.pop_max(),
         }
-    }
-
-    fn take(&mut self, end: Direction) -> Option<u8> {
-        match end {
-            Direction::Front => self.queue.pop_min(),
-            Direction::Back => self.queue.pop_max(),
-        }
-    }
-
-    fn state(&self) -> (usize, u64) {
-        (self.queue.len(), self.queue.steps())
+        (taken, self.queue.len(), self.queue.steps())
     }
 }
 
@@ -77,21 +78,18 @@ pub(crate) fn interval_heap<A: Allocator>(alloc: A, room: usize) -> Result<Heape
 }
 
 impl<A: Allocator> Queue for Heaped<A> {
-    fn add(&mut self, number: u8) {
-        if self.queue.len() < self.room {
-            self.queue.push(number);
+    fn take(&mut self, turn: Turn) -> (Option<u8>, usize, u64) {
+        let mut taken = None;
+        match turn {
+            Turn::Add(number) => {
+                if self.queue.len() < self.room {
+                    self.queue.push(number);
+                }
+            }
+            Turn::Least => taken = self.queue.pop_min(),
+            Turn::Greatest => taken = self.queue.pop_max(),
         }
-    }
-
-    fn take(&mut self, end: Direction) -> Option<u8> {
-        match end {
-            Direction::Front => self.queue.pop_min(),
-            Direction::Back => self.queue.pop_max(),
-        }
-    }
-
-    fn state(&self) -> (usize, u64) {
-        (self.queue.len(), 0)
+        (taken, self.queue.len(), 0)
     }
 }
 
@@ -118,48 +116,39 @@ pub(crate) fn lazy_tournament<A: Allocator + Clone>(
 }
 
 impl<A: Allocator> Queue for Lazy<A> {
-    fn add(&mut self, number: u8) {
-        if self.queue.len() < self.room {
-            self.queue.push(number);
+    fn take(&mut self, turn: Turn) -> (Option<u8>, usize, u64) {
+        let mut taken = None;
+        match turn {
+            Turn::Add(number) => {
+                if self.queue.len() < self.room {
+                    self.queue.push(number);
+                }
+            }
+            Turn::Least => taken = self.queue.pop_min(),
+            Turn::Greatest => taken = self.queue.pop_max(),
         }
-    }
-
-    fn take(&mut self, end: Direction) -> Option<u8> {
-        match end {
-            Direction::Front => self.queue.pop_min(),
-            Direction::Back => self.queue.pop_max(),
-        }
-    }
-
-    fn state(&self) -> (usize, u64) {
-        (self.queue.len(), self.queue.steps())
+        (taken, self.queue.len(), self.queue.steps())
     }
 }
 
 /// Some of the numbers 0 to 2, as how often each is there.
 #[derive(Drop)]
 pub(crate) struct Counts {
-    of: [usize; 3],
+    pub(crate) of: [usize; 3],
 }
 
 impl Counts {
-    /// No numbers.
-    pub(crate) fn new() -> Counts {
-        Counts { of: [0; 3] }
-    }
-
-    /// Counts a number that is added.
-    pub(crate) fn add(&mut self, number: u8) {
-        if let Some(count) = self.of.get_mut(number as usize) {
-            *count = count.saturating_add(1);
-        }
-    }
-
-    /// Takes the least number out, or the greatest.
-    pub(crate) fn take(&mut self, end: Direction) -> Option<u8> {
-        let numbers = match end {
-            Direction::Front => [0u8, 1, 2],
-            Direction::Back => [2, 1, 0],
+    /// Counts a number that is added, or takes the least or the greatest out.
+    pub(crate) fn take(&mut self, turn: Turn) -> Option<u8> {
+        let numbers = match turn {
+            Turn::Add(number) => {
+                if let Some(count) = self.of.get_mut(number as usize) {
+                    *count = count.saturating_add(1);
+                }
+                return None;
+            }
+            Turn::Least => [0u8, 1, 2],
+            Turn::Greatest => [2, 1, 0],
         };
         for number in numbers {
             if let Some(count) = self.of.get_mut(number as usize) {

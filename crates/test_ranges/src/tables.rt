@@ -1,10 +1,14 @@
-//! Tables that have an id and a range alone, their runs, and what the tests ask of these.
+//! Tables that have an id and a range alone, their runs, and what the tests ask of these, as the
+//! words of a text.
+//!
+//! `a-d` is the range from the key `a` to the key `d`, and `2:a-d` the table 2 with that range. An
+//! id is a digit.
 ghost use Rattle.std.specs.Prelude.{◌≡◌};
 
 use lsm_ranges::{KeyRange, Ranged, Run};
 use sst_entries::{Error, Slice};
 use std::alloc::{AllocError, Allocator, Global};
-use std::ops::Bound;
+use test_refusing::{Refusing, each_refused};
 
 #[derive(Drop)]
 #[derive_where(PartialEq)]
@@ -44,41 +48,56 @@ impl<A: Allocator> Clone for FakeTable<A> {
     }
 }
 
-// The ends of a range.
-pub type Ends = (&'static str, &'static str);
-
-// The id of a table, and the ends of its range.
-pub type Row = (u64, &'static str, &'static str);
-
-pub fn range_of<A: Allocator>(ends: Ends) -> KeyRange<A> {
-    let min = Slice::from_static(ends.0.as_bytes());
-    let max = Slice::from_static(ends.1.as_bytes());
-    KeyRange::new((min, max))
-}
-
-pub fn table_of<A: Allocator>(row: &Row) -> FakeTable<A> {
-    let (id, min, max) = *row;
-    FakeTable {
-        id,
-        range: range_of((min, max)),
+// The ends of the range that a word stands for.
+pub fn ends_of(word: &'static str) -> (&'static [u8], &'static [u8]) {
+    match word.split_once('-') {
+        Some((min, max)) => (min.as_bytes(), max.as_bytes()),
+        None => (&[], &[]),
     }
 }
 
-pub fn tables_of<A: Allocator>(alloc: A, rows: &[Row]) -> Result<Vec<FakeTable<A>, A>, Error> {
+// The range that a word stands for.
+pub fn range_of<A: Allocator>(word: &'static str) -> KeyRange<A> {
+    let (min, max) = ends_of(word);
+    KeyRange::new((Slice::from_static(min), Slice::from_static(max)))
+}
+
+// The number that a digit stands for.
+pub fn number_of(digit: u8) -> usize {
+    usize::from(digit.wrapping_sub(b'0'))
+}
+
+// The table that a word stands for.
+pub fn table_of<A: Allocator>(word: &'static str) -> FakeTable<A> {
+    let (id, ends) = word.split_once(':').unwrap_or(("", word));
+    let id = match id.as_bytes() {
+        [digit] => number_of(*digit) as u64,
+        _ => u64::MAX,
+    };
+    let range = range_of(ends);
+    FakeTable { id, range }
+}
+
+// The tables that the words of a text stand for.
+pub fn tables_of<A: Allocator>(
+    alloc: A,
+    text: &'static str,
+) -> Result<Vec<FakeTable<A>, A>, Error> {
     let mut tables = Vec::new(alloc);
-    for row in rows {
-        tables.push(table_of(row))?;
+    for word in text.split_whitespace() {
+        tables.push(table_of(word))?;
     }
     Ok(tables)
 }
 
-// A run of some tables. One of none is a run of a table that is emptied.
-pub fn run_of<A: Allocator>(alloc: A, rows: &[Row]) -> Result<Run<FakeTable<A>, A>, Error> {
-    let one: &[Row] = &[(0, "a", "b")];
-    let tables = tables_of(alloc, if rows.is_empty() { one } else { rows })?;
+// A run of the tables that the words of a text stand for. One of none is a run of a table that is
+// emptied.
+pub fn run_of<A: Allocator>(alloc: A, text: &'static str) -> Result<Run<FakeTable<A>, A>, Error> {
+    let is_emptied = text.trim().is_empty();
+    let tables = tables_of(alloc, if is_emptied { "0:a-b" } else { text })?;
     match Run::new(tables) {
         Some(mut run) => {
-            if rows.is_empty() {
+            if is_emptied {
                 run.inner_mut().clear();
             }
             Ok(run)
@@ -87,21 +106,18 @@ pub fn run_of<A: Allocator>(alloc: A, rows: &[Row]) -> Result<Run<FakeTable<A>, 
     }
 }
 
-// Whether some tables have these ids.
-pub fn has_ids<A: Allocator>(tables: &[FakeTable<A>], ids: &[u64]) -> bool {
-    let mut has_them = tables.len() == ids.len();
-    for (table, id) in tables.iter().zip(ids) {
-        has_them &= table.id == *id;
+// Whether some tables have the ids of these digits.
+pub fn has_ids<A: Allocator>(tables: &[FakeTable<A>], digits: &str) -> bool {
+    let digits = digits.as_bytes();
+    if tables.len() != digits.len() {
+        return false;
     }
-    has_them
-}
-
-pub fn bytes_of(bound: Bound<&str>) -> Bound<&[u8]> {
-    match bound {
-        Bound::Included(key) => Bound::Included(key.as_bytes()),
-        Bound::Excluded(key) => Bound::Excluded(key.as_bytes()),
-        Bound::Unbounded => Bound::Unbounded,
+    for place in 0..digits.len() {
+        if tables[place].id != number_of(digits[place]) as u64 {
+            return false;
+        }
     }
+    true
 }
 
 // Whether what was made is like a value. It is generic in it, so that none of its parts is looked
@@ -111,4 +127,26 @@ pub fn is_like<T: PartialEq + Drop, E: Drop>(made: Result<T, E>, value: &T) -> b
         Ok(made) => made == *value,
         Err(_) => false,
     }
+}
+
+// A worked example.
+pub trait Example {
+    // Whether all that is asked is answered as it should be, or memory was refused where it may be.
+    fn is_so(&self, heap: &Refusing, may_fail: bool) -> bool;
+}
+
+// How many requests for memory an example makes, each of which is refused in turn.
+pub fn requests<E: Example>(alloc: Global, example: &E) -> Result<usize, usize> {
+    each_refused(alloc, |heap, may_fail| example.is_so(heap, may_fail))
+}
+
+// The place of the first of some examples that is not as it should be, with each request for memory
+// refused in turn.
+pub fn first_wrong<E: Example>(alloc: Global, examples: &[E]) -> Option<usize> {
+    for place in 0..examples.len() {
+        if requests(alloc, &examples[place]).is_err() {
+            return Some(place);
+        }
+    }
+    None
 }
