@@ -143,8 +143,8 @@ fn answers<A: Allocator + Copy>(alloc: A, kind: Kind, row: &Row) -> Result<bool,
 }
 
 // Whether a stream answers so, or memory was refused where it may be.
-fn is_so(heap: &Refusing, kind: Kind, row: &Row, may_fail: bool) -> bool {
-    match answers(heap, kind, row) {
+fn is_so(heap: &Refusing, kind: Kind, line: &'static str, may_fail: bool) -> bool {
+    match answers(heap, kind, &row_of(line)) {
         Ok(answer) => answer,
         Err(error) => may_fail && error == Error::OutOfMemory,
     }
@@ -152,10 +152,10 @@ fn is_so(heap: &Refusing, kind: Kind, row: &Row, may_fail: bool) -> bool {
 
 // How many requests for memory a stream makes, with its sources, each of which may be refused,
 // while it answers so.
-fn requests(alloc: Global, kind: Kind, row: &'static Row) -> Result<usize, usize> {
+fn requests(alloc: Global, kind: Kind, line: &'static str) -> Result<usize, usize> {
     each_refused(
         alloc,
-        move |heap, may_fail| is_so(heap, kind, row, may_fail),
+        move |heap, may_fail| is_so(heap, kind, line, may_fail),
     )
 }
 
@@ -163,204 +163,148 @@ fn requests(alloc: Global, kind: Kind, row: &'static Row) -> Result<usize, usize
 // from the front until they have no more.
 type Row = (&'static str, &'static str, &'static str);
 
+// The row of a line: its three parts, with bars between.
+fn row_of(line: &'static str) -> Row {
+    let (sources, rest) = line.split_once('|').unwrap_or((line, ""));
+    let (ends, wanted) = rest.split_once('|').unwrap_or((rest, ""));
+    (sources.trim(), ends.trim(), wanted.trim())
+}
+
 // Several lists: their entries in order up to an error.
-const MERGED: &[Row] = &[
-    ("", "FB", "- -"),
-    ("aV0 / bV0 /", "FFF", "aV0 bV0 -"),
-    ("aV0x / aV0y /", "FFF", "aV0x aV0y -"),
-    ("aV1 cV1 / bV2 /", "FBFB", "aV1 cV1 bV2 -"),
-    ("aV1 !7 / bV1 /", "FF", "!7 -"),
-    ("aV1 bV1 / cV1 !7 /", "FFFF", "aV1 bV1 !7 -"),
-    ("aV1 bV1 / cV1 !7 /", "BBF", "!7 - -"),
-    ("aV3 bV1 ?1 / aV2 /", "FFFB", "aV3 aV2 ?1 -"),
-    ("aV3 aV1 / aV2 bV9 / /", "BFBFFB", "bV9 aV3 aV1 aV2 - -"),
-    // Three sources, an error in the middle of one and at the far end of one.
-    ("aV1 dV1 / bV1 !7 fV1 / cV1 /", "FBBF", "aV1 !7 - -"),
-    ("aV1 dV1 / bV1 !7 fV1 / cV1 /", "BBF", "!7 - -"),
-    ("aV1 dV1 !7 / bV1 / cV1 eV1 /", "FFFFB", "aV1 bV1 cV1 !7 -"),
-    ("aV1 dV1 !7 / bV1 / cV1 eV1 /", "FBF", "aV1 !7 -"),
-    // From the back an error comes when the first entry behind it goes, and not before.
-    ("aV1 / !7 bV1 dV1 / cV1 eV1 /", "BBBBB", "eV1 dV1 cV1 !7 -"),
-    ("!7 aV1 / bV1 !8 cV1 / dV1 /", "BBBB", "dV1 !8 - -"),
-    ("aV1 / bV1 !7 / !8 /", "BB", "!7 -"),
-    // One source alone.
-    (
-        "aV0 bV0 cV0 dV0 eT1 !4 eV0 /",
-        "FFFFFFF",
-        "aV0 bV0 cV0 dV0 !4 - -",
-    ),
-    ("aV0 bV0 cV0 dV0 eT1 !4 eV0 /", "BBB", "!4 - -"),
-    (
-        "!4 aV0 bV0 cV0 dV0 eT1 eV0 /",
-        "BBBBBBB",
-        "eV0 eT1 dV0 cV0 bV0 !4 -",
-    ),
-    // Entries that tie: the earlier source first, from either end.
-    ("aV1x aV1y / aV1z /", "FFFF", "aV1x aV1y aV1z -"),
-    ("aV1x aV1y / aV1z /", "BFBB", "aV1z aV1x aV1y -"),
-];
+const MERGED: &str = "\
+| FB | - -
+aV0 / bV0 / | FFF | aV0 bV0 -
+aV0x / aV0y / | FFF | aV0x aV0y -
+aV1 cV1 / bV2 / | FBFB | aV1 cV1 bV2 -
+aV1 !7 / bV1 / | FF | !7 -
+aV1 bV1 / cV1 !7 / | FFFF | aV1 bV1 !7 -
+aV1 bV1 / cV1 !7 / | BBF | !7 - -
+aV3 bV1 ?1 / aV2 / | FFFB | aV3 aV2 ?1 -
+aV3 aV1 / aV2 bV9 / / | BFBFFB | bV9 aV3 aV1 aV2 - -
+# Three sources, an error in the middle of one and at the far end of one.
+aV1 dV1 / bV1 !7 fV1 / cV1 / | FBBF | aV1 !7 - -
+aV1 dV1 / bV1 !7 fV1 / cV1 / | BBF | !7 - -
+aV1 dV1 !7 / bV1 / cV1 eV1 / | FFFFB | aV1 bV1 cV1 !7 -
+aV1 dV1 !7 / bV1 / cV1 eV1 / | FBF | aV1 !7 -
+# From the back an error comes when the first entry behind it goes, and not before.
+aV1 / !7 bV1 dV1 / cV1 eV1 / | BBBBB | eV1 dV1 cV1 !7 -
+!7 aV1 / bV1 !8 cV1 / dV1 / | BBBB | dV1 !8 - -
+aV1 / bV1 !7 / !8 / | BB | !7 -
+# One source alone.
+aV0 bV0 cV0 dV0 eT1 !4 eV0 / | FFFFFFF | aV0 bV0 cV0 dV0 !4 - -
+aV0 bV0 cV0 dV0 eT1 !4 eV0 / | BBB | !4 - -
+!4 aV0 bV0 cV0 dV0 eT1 eV0 / | BBBBBBB | eV0 eT1 dV0 cV0 bV0 !4 -
+# Entries that tie: the earlier source first, from either end.
+aV1x aV1y / aV1z / | FFFF | aV1x aV1y aV1z -
+aV1x aV1y / aV1z / | BFBB | aV1z aV1x aV1y -
+";
 
 // One list with errors among it: each is answered in the place of its key.
-const WITH_ERRORS: &[Row] = &[
-    ("aV999 !1", "FFB", "!1 - -"),
-    ("aV999 !1", "BBBF", "!1 aV999 - -"),
-    ("aV2 aV1 bV1", "BBB", "bV1 aV2 -"),
-    ("aV2 !3 aV1", "FFF", "!3 aV1 -"),
-    ("aV2 !3 aV1", "BBB", "!3 aV2 -"),
-    (
-        "aV0 bV0 cV0 dV0 eT1 !4 eV0",
-        "FFFFFFF",
-        "aV0 bV0 cV0 dV0 !4 eV0 -",
-    ),
-    (
-        "aV0 bV0 cV0 dV0 eT1 !4 eV0",
-        "BBBBBBB",
-        "!4 eT1 dV0 cV0 bV0 aV0 -",
-    ),
-    (
-        "!4 aV0 bV0 cV0 dV0 eT1 eV0",
-        "BBBBBB",
-        "eT1 dV0 cV0 bV0 !4 -",
-    ),
-];
+const WITH_ERRORS: &str = "\
+aV999 !1 | FFB | !1 - -
+aV999 !1 | BBBF | !1 aV999 - -
+aV2 aV1 bV1 | BBB | bV1 aV2 -
+aV2 !3 aV1 | FFF | !3 aV1 -
+aV2 !3 aV1 | BBB | !3 aV2 -
+aV0 bV0 cV0 dV0 eT1 !4 eV0 | FFFFFFF | aV0 bV0 cV0 dV0 !4 eV0 -
+aV0 bV0 cV0 dV0 eT1 !4 eV0 | BBBBBBB | !4 eT1 dV0 cV0 bV0 aV0 -
+!4 aV0 bV0 cV0 dV0 eT1 eV0 | BBBBBB | eT1 dV0 cV0 bV0 !4 -
+";
 
 // One list: the newest version of each key.
-const WITHOUT_ERRORS: &[Row] = &[
-    ("aV0 bV0 cV0 dV0 eT1 eV0", "FFFFFF", "aV0 bV0 cV0 dV0 eT1 -"),
-    ("aV0 bV0 cV0 dV0 eT1 eV0", "BBBBBB", "eT1 dV0 cV0 bV0 aV0 -"),
-    ("aV0 bV0 cV0 dV0 eW1 eV0", "FFFFFF", "aV0 bV0 cV0 dV0 eW1 -"),
-    ("aV0 bV0 cV0 dV0 eW1 eV0", "BBBBBB", "eW1 dV0 cV0 bV0 aV0 -"),
-    ("aV999 aV998", "FF", "aV999 -"),
-    ("aV999 aV998", "BB", "aV999 -"),
-    ("aT999 aV998", "FF", "aT999 -"),
-    ("aT999 aV998", "BB", "aT999 -"),
-    ("aW999 aV998", "FF", "aW999 -"),
-    ("aW999 aV998", "BB", "aW999 -"),
-    ("aW999 aV998 aV997", "FF", "aW999 -"),
-    ("aW999 aV998 aV997", "BB", "aW999 -"),
-    (
-        "aW999 aV998 bW999 bV998 cW999 cV998",
-        "FFFF",
-        "aW999 bW999 cW999 -",
-    ),
-    (
-        "aW999 aV998 bW999 bV998 cW999 cV998",
-        "BBBB",
-        "cW999 bW999 aW999 -",
-    ),
-    ("aV0 bT1 bV0 cT1 cV0", "FFFF", "aV0 bT1 cT1 -"),
-    ("aV0 bT1 bV0 cT1 cV0", "BBBB", "cT1 bT1 aV0 -"),
-    ("aV0 bT1 cT1", "FFFF", "aV0 bT1 cT1 -"),
-    ("aV0 bT1 cT1", "BBBB", "cT1 bT1 aV0 -"),
-    ("aV0 bW1 bV0 cW1 cV0", "FFFF", "aV0 bW1 cW1 -"),
-    ("aV0 bW1 bV0 cW1 cV0", "BBBB", "cW1 bW1 aV0 -"),
-    ("aV0 bW1 cW1", "FFFF", "aV0 bW1 cW1 -"),
-    ("aV0 bW1 cW1", "BBBB", "cW1 bW1 aV0 -"),
-    (
-        "aV999 aV998 bV999 bV998 cV999 cV998 cV997",
-        "FFFF",
-        "aV999 bV999 cV999 -",
-    ),
-    (
-        "aV999 aV998 bV999 bV998 cV999 cV998 cV997",
-        "BBBB",
-        "cV999 bV999 aV999 -",
-    ),
-    ("aT999 aV998 bT999 bT998 bV997", "FFF", "aT999 bT999 -"),
-    ("aT999 aV998 bT999 bT998 bV997", "BBB", "bT999 aT999 -"),
-    ("aT999 aW998 aV997 aV996", "FF", "aT999 -"),
-    ("aT999 aW998 aV997 aV996", "BB", "aT999 -"),
-    ("", "FB", "- -"),
-    ("aV2 aV1 bV2 bV1 cV1", "FBFBF", "aV2 cV1 bV2 - -"),
-];
+const WITHOUT_ERRORS: &str = "\
+aV0 bV0 cV0 dV0 eT1 eV0 | FFFFFF | aV0 bV0 cV0 dV0 eT1 -
+aV0 bV0 cV0 dV0 eT1 eV0 | BBBBBB | eT1 dV0 cV0 bV0 aV0 -
+aV0 bV0 cV0 dV0 eW1 eV0 | FFFFFF | aV0 bV0 cV0 dV0 eW1 -
+aV0 bV0 cV0 dV0 eW1 eV0 | BBBBBB | eW1 dV0 cV0 bV0 aV0 -
+aV999 aV998 | FF | aV999 -
+aV999 aV998 | BB | aV999 -
+aT999 aV998 | FF | aT999 -
+aT999 aV998 | BB | aT999 -
+aW999 aV998 | FF | aW999 -
+aW999 aV998 | BB | aW999 -
+aW999 aV998 aV997 | FF | aW999 -
+aW999 aV998 aV997 | BB | aW999 -
+aW999 aV998 bW999 bV998 cW999 cV998 | FFFF | aW999 bW999 cW999 -
+aW999 aV998 bW999 bV998 cW999 cV998 | BBBB | cW999 bW999 aW999 -
+aV0 bT1 bV0 cT1 cV0 | FFFF | aV0 bT1 cT1 -
+aV0 bT1 bV0 cT1 cV0 | BBBB | cT1 bT1 aV0 -
+aV0 bT1 cT1 | FFFF | aV0 bT1 cT1 -
+aV0 bT1 cT1 | BBBB | cT1 bT1 aV0 -
+aV0 bW1 bV0 cW1 cV0 | FFFF | aV0 bW1 cW1 -
+aV0 bW1 bV0 cW1 cV0 | BBBB | cW1 bW1 aV0 -
+aV0 bW1 cW1 | FFFF | aV0 bW1 cW1 -
+aV0 bW1 cW1 | BBBB | cW1 bW1 aV0 -
+aV999 aV998 bV999 bV998 cV999 cV998 cV997 | FFFF | aV999 bV999 cV999 -
+aV999 aV998 bV999 bV998 cV999 cV998 cV997 | BBBB | cV999 bV999 aV999 -
+aT999 aV998 bT999 bT998 bV997 | FFF | aT999 bT999 -
+aT999 aV998 bT999 bT998 bV997 | BBB | bT999 aT999 -
+aT999 aW998 aV997 aV996 | FF | aT999 -
+aT999 aW998 aV997 aV996 | BB | aT999 -
+| FB | - -
+aV2 aV1 bV2 bV1 cV1 | FBFBF | aV2 cV1 bV2 - -
+";
 
 // Several lists: the newest version of each key.
-const OF_SOURCES: &[Row] = &[
-    (
-        "aV3 bV1 cV4 / aV7 bV2 / dV1 /",
-        "FFFFF",
-        "aV7 bV2 cV4 dV1 -",
-    ),
-    (
-        "aV3 bV1 cV4 / aV7 bV2 / dV1 /",
-        "BBBBB",
-        "dV1 cV4 bV2 aV7 -",
-    ),
-    (
-        "aV3 bV1 cV4 / aV7 bV2 / dV1 /",
-        "FBFBF",
-        "aV7 dV1 bV2 cV4 -",
-    ),
-    // An error in the middle of a source takes the place of all that is not dealt.
-    ("aV2 cV3 !7 dV1 / bV1 /", "FFFF", "aV2 !7 - -"),
-    ("aV2 bV3 !7 dV1 / aV1 bV2 cV1 /", "FFF", "!7 - -"),
-    ("aV2 bV3 !7 dV1 / aV1 bV2 cV1 /", "BBB", "!7 - -"),
-    // What an end has in hand stands before the error or behind it, and is still given.
-    ("aV2 cV3 !7 dV1 / bV1 eV2 /", "FBFB", "aV2 !7 bV1 -"),
-    ("aV1 / bV1 !7 bV0 cV1 dV1 /", "BFFF", "dV1 !7 cV1 -"),
-    ("aV1 / bV1 !7 bV0 cV1 dV1 /", "BBBB", "dV1 !7 - -"),
-    // At the far end of a source.
-    ("aV1 cV1 !7 / bV1 dV1 /", "FFFF", "aV1 !7 - -"),
-    ("aV1 cV1 !7 / bV1 dV1 /", "BFF", "!7 - -"),
-    ("!7 aV1 bV1 / cV1 dV1 /", "BBBB", "dV1 cV1 !7 -"),
-    ("aV3 aV1 ?1 / aV2 bV1 /", "FFF", "?1 - -"),
-    // One source alone: what the call that meets the error took, and what is in hand, is given up.
-    (
-        "aV0 bV0 cV0 dV0 eT1 eV0 /",
-        "FFFFFFF",
-        "aV0 bV0 cV0 dV0 eT1 - -",
-    ),
-    (
-        "aV0 bV0 cV0 dV0 eT1 !4 eV0 /",
-        "FFFFFFF",
-        "aV0 bV0 cV0 !4 - - -",
-    ),
-    ("aV0 bV0 cV0 dV0 eT1 !4 eV0 /", "BBBBBBB", "!4 - - - - - -"),
-    (
-        "!4 aV0 bV0 cV0 dV0 eT1 eV0 /",
-        "BBBBBB",
-        "eT1 dV0 cV0 !4 - -",
-    ),
-];
+const OF_SOURCES: &str = "\
+aV3 bV1 cV4 / aV7 bV2 / dV1 / | FFFFF | aV7 bV2 cV4 dV1 -
+aV3 bV1 cV4 / aV7 bV2 / dV1 / | BBBBB | dV1 cV4 bV2 aV7 -
+aV3 bV1 cV4 / aV7 bV2 / dV1 / | FBFBF | aV7 dV1 bV2 cV4 -
+# An error in the middle of a source takes the place of all that is not dealt.
+aV2 cV3 !7 dV1 / bV1 / | FFFF | aV2 !7 - -
+aV2 bV3 !7 dV1 / aV1 bV2 cV1 / | FFF | !7 - -
+aV2 bV3 !7 dV1 / aV1 bV2 cV1 / | BBB | !7 - -
+# What an end has in hand stands before the error or behind it, and is still given.
+aV2 cV3 !7 dV1 / bV1 eV2 / | FBFB | aV2 !7 bV1 -
+aV1 / bV1 !7 bV0 cV1 dV1 / | BFFF | dV1 !7 cV1 -
+aV1 / bV1 !7 bV0 cV1 dV1 / | BBBB | dV1 !7 - -
+# At the far end of a source.
+aV1 cV1 !7 / bV1 dV1 / | FFFF | aV1 !7 - -
+aV1 cV1 !7 / bV1 dV1 / | BFF | !7 - -
+!7 aV1 bV1 / cV1 dV1 / | BBBB | dV1 cV1 !7 -
+aV3 aV1 ?1 / aV2 bV1 / | FFF | ?1 - -
+# One source alone: what the call that meets the error took, and what is in hand, is given up.
+aV0 bV0 cV0 dV0 eT1 eV0 / | FFFFFFF | aV0 bV0 cV0 dV0 eT1 - -
+aV0 bV0 cV0 dV0 eT1 !4 eV0 / | FFFFFFF | aV0 bV0 cV0 !4 - - -
+aV0 bV0 cV0 dV0 eT1 !4 eV0 / | BBBBBBB | !4 - - - - - -
+!4 aV0 bV0 cV0 dV0 eT1 eV0 / | BBBBBB | eT1 dV0 cV0 !4 - -
+";
 
 // Several sources without a back: their entries in order, and an error behind those before it.
-const FROM_THE_FRONT: &[Row] = &[
-    ("", "", "- -"),
-    ("aV1 dV1 / bV1 / cV1 /", "", "aV1 bV1 cV1 dV1 -"),
-    // At the far end of a source an error comes when its last entry goes, and not before.
-    ("aV1 dV1 !7 / bV1 / cV1 eV1 /", "", "aV1 bV1 cV1 !7 - -"),
-    (
-        "aV1 bV1 / cV1 dV1 / eV1 fV1 !7 /",
-        "",
-        "aV1 bV1 cV1 dV1 eV1 !7 -",
-    ),
-    // In the middle of a source.
-    ("aV1 dV1 / bV1 !7 fV1 / cV1 /", "", "aV1 !7 - -"),
-    ("aV1 cV1 !7 dV1 / bV1 !8 / eV1 /", "", "aV1 !8 -"),
-    // At the head of a source, at the first call.
-    ("aV1 / !7 bV1 / !8 /", "", "!7 - -"),
-    ("aV3 aV1 ?1 / aV2 / bV1 /", "", "aV3 aV2 ?1 -"),
-];
+const FROM_THE_FRONT: &str = "\
+|  | - -
+aV1 dV1 / bV1 / cV1 / |  | aV1 bV1 cV1 dV1 -
+# At the far end of a source an error comes when its last entry goes, and not before.
+aV1 dV1 !7 / bV1 / cV1 eV1 / |  | aV1 bV1 cV1 !7 - -
+aV1 bV1 / cV1 dV1 / eV1 fV1 !7 / |  | aV1 bV1 cV1 dV1 eV1 !7 -
+# In the middle of a source.
+aV1 dV1 / bV1 !7 fV1 / cV1 / |  | aV1 !7 - -
+aV1 cV1 !7 dV1 / bV1 !8 / eV1 / |  | aV1 !8 -
+# At the head of a source, at the first call.
+aV1 / !7 bV1 / !8 / |  | !7 - -
+aV3 aV1 ?1 / aV2 / bV1 / |  | aV3 aV2 ?1 -
+";
 
 // Their newest versions.
-const NEWEST_FROM_THE_FRONT: &[Row] = &[
-    ("", "", "- -"),
-    ("aV3 bV1 cV4 / aV7 bV2 / dV1 /", "", "aV7 bV2 cV4 dV1 -"),
-    ("aV2 cV3 !7 dV1 / bV1 /", "", "aV2 !7 - -"),
-    ("aV1 bV1 / cV1 dV1 !7 /", "", "aV1 bV1 !7 -"),
-];
+const NEWEST_FROM_THE_FRONT: &str = "\
+|  | - -
+aV3 bV1 cV4 / aV7 bV2 / dV1 / |  | aV7 bV2 cV4 dV1 -
+aV2 cV3 !7 dV1 / bV1 / |  | aV2 !7 - -
+aV1 bV1 / cV1 dV1 !7 / |  | aV1 bV1 !7 -
+";
 
 // What readers at 5 need of them.
-const COMPACTED: &[Row] = &[
-    ("", "", ""),
-    ("aV9 bV4 / aV4 bV3 / aV2 bT1 /", "", "aV9 aV4 bV4"),
-    // An error in the middle of a source, and at its far end, ends the compaction.
-    ("aV9 cV4 !7 dV1 / aV4 bV3 / aV2 bT1 /", "", "aV9 aV4 !7"),
-    ("aV9 bV4 / aV4 cV3 dV1 !7 / aV2 bT1 /", "", "aV9 aV4 bV4 !7"),
-    ("aV9 bV4 / aV4 cV3 dV1 ?1 / aV2 bT1 /", "", "aV9 aV4 bV4 ?1"),
-];
+const COMPACTED: &str = "\
+|  |
+aV9 bV4 / aV4 bV3 / aV2 bT1 / |  | aV9 aV4 bV4
+# An error in the middle of a source, and at its far end, ends the compaction.
+aV9 cV4 !7 dV1 / aV4 bV3 / aV2 bT1 / |  | aV9 aV4 !7
+aV9 bV4 / aV4 cV3 dV1 !7 / aV2 bT1 / |  | aV9 aV4 bV4 !7
+aV9 bV4 / aV4 cV3 dV1 ?1 / aV2 bT1 / |  | aV9 aV4 bV4 ?1
+";
 
-const STREAMS: &[(Kind, &[Row])] = &[
+// Each kind with its rows, a line each; what stands behind `#` says what the next lines are.
+const STREAMS: &[(Kind, &str)] = &[
     (Kind::Merged, MERGED),
     (Kind::Newest, WITH_ERRORS),
     (Kind::Newest, WITHOUT_ERRORS),
@@ -368,23 +312,27 @@ const STREAMS: &[(Kind, &[Row])] = &[
     (Kind::MergedForward, FROM_THE_FRONT),
     (Kind::NewestForward, NEWEST_FROM_THE_FRONT),
     (Kind::CompactedForward, COMPACTED),
-    (Kind::Compacted(4), &[("aV4 aV3 aV2", "", "aV4 aV3")]),
-    (Kind::Compacted(5000), &[("aV9 bV9 cV9", "", "aV9 bV9 cV9")]),
+    (Kind::Compacted(4), "aV4 aV3 aV2 | | aV4 aV3"),
+    (Kind::Compacted(5000), "aV9 bV9 cV9 | | aV9 bV9 cV9"),
 ];
 
 #[test]
 fn streams_answer_so_with_each_request_for_memory_refused(rt: HostRuntime) {
     for &(kind, rows) in STREAMS {
-        for row in rows {
-            assert!(rt; requests(rt.alloc(), kind, row).is_ok(), "{row:?}");
+        for line in rows.lines() {
+            let is_row = !line.starts_with('#');
+            assert!(rt;
+                !is_row || requests(rt.alloc(), kind, line).is_ok(),
+                "{line}"
+            );
         }
     }
 }
 
 // Two sources that are merged, and asked besides.
-const MADE: &Row = &("aV1 cV1 / bV2 /", "", "");
+const MADE: &str = "aV1 cV1 / bV2 / | |";
 
-const ANSWERED: &Row = &("aV1 cV1 / bV2 /", "FBFB", "aV1 cV1 bV2 -");
+const ANSWERED: &str = "aV1 cV1 / bV2 / | FBFB | aV1 cV1 bV2 -";
 
 #[test]
 fn takes_no_memory_after_it_is_made(rt: HostRuntime) {
