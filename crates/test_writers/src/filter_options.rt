@@ -38,9 +38,9 @@ fn add(
 // A writer that is given "a", "b" and "c", each once its options are set.
 fn three_keys(alloc: Global, settings: Settings) -> Result<PartitionedFilterWriter, Error> {
     let (first, second, third) = settings;
-    let a: UserKey = Slice::from(alloc, b"a")?;
-    let b: UserKey = Slice::from(alloc, b"b")?;
-    let c: UserKey = Slice::from(alloc, b"c")?;
+    let a: UserKey = Slice::from_static(b"a");
+    let b: UserKey = Slice::from_static(b"b");
+    let c: UserKey = Slice::from_static(b"c");
     let none = PartitionedFilterWriter::new(alloc, BloomConstructionPolicy::default())?;
     let one = add(none, first, &a)?;
     let two = add(one, second, &b)?;
@@ -89,25 +89,25 @@ fn says(source: &BlockSource, tops: &IndexBlock, key: &[u8]) -> Result<bool, Err
 }
 
 // The first byte of the end key of the partition at a place, 0 where there is none.
-fn end_at(tops: &IndexBlock, place: usize) -> Result<u8, Error> {
+fn end_at(tops: &IndexBlock, place: usize) -> u8 {
     if place >= tops.len() {
-        return Ok(0);
+        return 0;
     }
-    let handle = tops.handle(place)?;
-    Ok(handle.end_key().as_slice().first().copied().unwrap_or(0))
+    match tops.handle(place) {
+        Ok(handle) => handle.end_key().as_slice().first().copied().unwrap_or(0),
+        Err(_) => u8::MAX,
+    }
 }
 
 // The end keys of the first partitions, and whether "a", "b" and "c" are admitted.
-type Told = ((u8, u8, u8), (bool, bool, bool));
+type Told = ([u8; 3], bool);
 
 fn told(tops: &IndexBlock, source: &BlockSource) -> Result<Told, Error> {
-    let ends = (end_at(tops, 0)?, end_at(tops, 1)?, end_at(tops, 2)?);
-    let yes = (
-        says(source, tops, b"a")?,
-        says(source, tops, b"b")?,
-        says(source, tops, b"c")?,
-    );
-    Ok((ends, yes))
+    let mut admits = true;
+    for key in [b"a", b"b", b"c"] {
+        admits &= says(source, tops, key)?;
+    }
+    Ok(([end_at(tops, 0), end_at(tops, 1), end_at(tops, 2)], admits))
 }
 
 // How many partitions are written where options are set between the keys, the end keys of the first
@@ -122,22 +122,22 @@ fn told_of(alloc: Global, settings: Settings) -> Result<(usize, Told), Error> {
 
 // The settings before each key, how many partitions are written, and their end keys. Up to three
 // keys of ten bits have 8 bytes of bits, and two of 64 bits have 16.
-const CASES: &[(Settings, usize, (u8, u8, u8))] = &[
+const CASES: &[(Settings, usize, [u8; 3])] = &[
     // never larger than the size, and a size that each key reaches
-    (((100, 100), (100, 100), (100, 100)), 1, (b'c', 0, 0)),
-    (((8, 100), (8, 100), (8, 100)), 3, (b'a', b'b', b'c')),
+    (((100, 100), (100, 100), (100, 100)), 1, [b'c', 0, 0]),
+    (((8, 100), (8, 100), (8, 100)), 3, [b'a', b'b', b'c']),
     // a smaller size, and a larger one behind it
-    (((100, 100), (8, 100), (100, 100)), 2, (b'b', b'c', 0)),
-    (((8, 100), (100, 100), (8, 100)), 2, (b'a', b'c', 0)),
+    (((100, 100), (8, 100), (100, 100)), 2, [b'b', b'c', 0]),
+    (((8, 100), (100, 100), (8, 100)), 2, [b'a', b'c', 0]),
     // another policy, and the first one again
-    (((16, 100), (16, 640), (16, 100)), 2, (b'b', b'c', 0)),
-    (((16, 640), (16, 100), (16, 640)), 1, (b'c', 0, 0)),
+    (((16, 100), (16, 640), (16, 100)), 2, [b'b', b'c', 0]),
+    (((16, 640), (16, 100), (16, 640)), 1, [b'c', 0, 0]),
 ];
 
 #[test]
 fn options_between_keys_keep_what_was_cut(rt: HostRuntime) {
     for &(settings, count, ends) in CASES {
-        let expected = (count, (ends, (true, true, true)));
+        let expected = (count, (ends, true));
         assert!(rt; told_of(rt.alloc(), settings) == Ok(expected));
     }
 }

@@ -1,9 +1,12 @@
-//! Entries that are given to writers of a table and of tables. What gives them is generic in the
-//! writer, so that none of its parts is looked at.
-use lsm_writers::{FinishedTable, MultiWriter, Writer};
-use sst_blocks::{Error, InternalValue};
-use std::alloc::{Allocator, Global};
-use test_tables::rows::{Row, entry, written};
+//! Rows that are given to writers of a table and of tables, and what these answer, in plain
+//! numbers. What gives them is generic in the writer, so that none of its parts is looked at.
+use lsm_writers::{
+    BloomConstructionPolicy, FinishedTable, MultiWriter, TableId, TableIds, Timestamp, Writer,
+};
+use sst_blocks::{Error, InternalValue, Slice, ValueType};
+use sst_entries::EntryRef;
+use std::alloc::Allocator;
+use test_tables::rows::Row;
 
 /// How entries are given.
 #[derive(Clone, Copy)]
@@ -12,60 +15,53 @@ pub(crate) enum Given {
     ByReference,
 }
 
+/// What stands in place of a refusal's number where an entry may not be written next.
+pub(crate) const MAY_NOT_FOLLOW: u8 = u8::MAX;
+
+/// A table: its id, the checksum of all its bytes, and how many these are.
+pub(crate) type Seen = (TableId, u128, usize);
+
+/// How many tables there are, and the first of them; zeros behind the last one.
+pub(crate) type Tables = (usize, [Seen; 8]);
+
+/// No table.
+pub(crate) const NO_TABLES: Tables = (0, [(0, 0, 0); 8]);
+
+/// The numbers of the refusals of a new writer, of the first entry that is refused, of a further
+/// one and of another call behind it, and of the end; 0 for none.
+pub(crate) type Refusals = [u8; 5];
+
+/// The refusal of the end, the id of the next table where there can be one, whether no entry was
+/// given before, and the tables.
+type Ended = (u8, Option<TableId>, bool, Tables);
+
+/// What a writer answers: its refusals, and what it tells in the end.
+pub(crate) type Told = (Refusals, Option<TableId>, bool, Tables);
+
 /// What is given rows.
 pub(crate) trait Takes {
-    /// Writes the entry of a row, and tells the number of its refusal, 0 for none; an error where
-    /// there is no such entry.
-    fn take(&mut self, row: &Row<'_>, given: Given) -> Result<u8, Error>;
+    /// Writes the entry of a row, and tells the number of its refusal, 0 for none.
+    fn take(&mut self, row: &Row<'static>, given: Given) -> u8;
 
-    /// The number of the refusal of a further row, and of each other call, where all are refused
-    /// alike. `Source(1)` where they are not.
-    fn fail(&mut self, row: &Row<'_>) -> Result<u8, Error>;
+    /// The number of the refusal of another call than the one that gives an entry by value.
+    fn call(&mut self) -> u8;
 
-    /// Finishes, lets go of what is written, and tells the number of the refusal, 0 for none.
-    fn end(self) -> u8;
+    /// Finishes, and lets go of what is written.
+    fn end(self) -> Ended;
 }
 
-/// A writer of a table, and an allocator for what it is given.
-#[derive(Drop)]
-pub(crate) struct ToTable<A: Allocator> {
-    writer: Writer<A>,
-    alloc: A,
+// The entry of a row, which takes no memory of its own.
+fn entry<A: Allocator>(row: &Row<'static>) -> InternalValue<A> {
+    let (key, value) = (Slice::from_static(row.0), Slice::from_static(row.3));
+    InternalValue::from_components(key, value, row.1, row.2)
 }
 
-/// A writer of tables, and an allocator for what it is given.
-#[derive(Drop)]
-pub(crate) struct ToTables<A: Allocator> {
-    writer: MultiWriter<A>,
-    alloc: A,
-}
-
-// Writes an entry; `Source(0)` where it may not follow.
-fn put<A: Allocator + Copy>(
-    writer: &mut Writer<A>,
-    item: InternalValue<A>,
-    given: Given,
-) -> Result<(), Error> {
-    if !writer.can_follow(&item.key) {
-        return Err(Error::Source(0));
-    }
-    match given {
-        Given::ByValue => writer.write(item),
-        Given::ByReference => writer.write_ref(&item.as_entry_ref()),
-    }
-}
-
-fn put_in_tables<A: Allocator + Copy>(
-    writer: &mut MultiWriter<A>,
-    item: InternalValue<A>,
-    given: Given,
-) -> Result<(), Error> {
-    if !writer.can_follow(&item.key) {
-        return Err(Error::Source(0));
-    }
-    match given {
-        Given::ByValue => writer.write(item),
-        Given::ByReference => writer.write_ref(&item.as_entry_ref()),
+fn entry_ref<'a>(row: &Row<'a>) -> EntryRef<'a> {
+    EntryRef {
+        user_key: row.0,
+        seqno: row.1,
+        value_type: row.2,
+        value: row.3,
     }
 }
 
@@ -77,155 +73,172 @@ pub(crate) fn number<T: Drop>(made: Result<T, Error>) -> u8 {
     }
 }
 
-impl<A: Allocator + Copy> Takes for ToTable<A> {
-    fn take(&mut self, row: &Row<'_>, given: Given) -> Result<u8, Error> {
-        let item = entry(self.alloc, row)?;
-        Ok(number(put(&mut self.writer, item, given)))
+fn seen_in<A: Allocator>(tables: &[FinishedTable<A>]) -> Tables {
+    let mut seen = NO_TABLES.1;
+    for (slot, table) in seen.iter_mut().zip(tables.iter()) {
+        *slot = seen_of(table);
     }
+    (tables.len(), seen)
+}
 
-    fn fail(&mut self, row: &Row<'_>) -> Result<u8, Error> {
-        let refusal = self.take(row, Given::ByValue)?;
-        if number(self.writer.spill_block()) == refusal {
-            Ok(refusal)
-        } else {
-            Err(Error::Source(1))
+/// A table in plain numbers.
+pub(crate) fn seen_of<A: Allocator>(table: &FinishedTable<A>) -> Seen {
+    (table.id, table.checksum.0, table.bytes.len())
+}
+
+impl<A: Allocator + Copy> Takes for Writer<A> {
+    fn take(&mut self, row: &Row<'static>, given: Given) -> u8 {
+        match given {
+            Given::ByValue => {
+                let item = entry(row);
+                if self.can_follow(&item.key) {
+                    number(self.write(item))
+                } else {
+                    MAY_NOT_FOLLOW
+                }
+            }
+            Given::ByReference => {
+                let item = entry_ref(row);
+                if self.can_follow_ref(&item) {
+                    number(self.write_ref(&item))
+                } else {
+                    MAY_NOT_FOLLOW
+                }
+            }
         }
     }
 
-    fn end(self) -> u8 {
-        number(self.writer.finish())
+    fn call(&mut self) -> u8 {
+        number(self.spill_block())
+    }
+
+    fn end(self) -> Ended {
+        let is_empty = self.is_empty();
+        match self.finish() {
+            Ok(None) => (0, None, is_empty, NO_TABLES),
+            Ok(Some(table)) => {
+                let mut seen = NO_TABLES.1;
+                seen[0] = seen_of(&table);
+                (0, None, is_empty, (1, seen))
+            }
+            Err(error) => (error.number(), None, is_empty, NO_TABLES),
+        }
     }
 }
 
-impl<A: Allocator + Copy> Takes for ToTables<A> {
-    fn take(&mut self, row: &Row<'_>, given: Given) -> Result<u8, Error> {
-        let item = entry(self.alloc, row)?;
-        Ok(number(put_in_tables(&mut self.writer, item, given)))
+impl<A: Allocator + Copy> Takes for MultiWriter<A> {
+    fn take(&mut self, row: &Row<'static>, given: Given) -> u8 {
+        match given {
+            Given::ByValue => {
+                let item = entry(row);
+                if self.can_follow(&item.key) {
+                    number(self.write(item))
+                } else {
+                    MAY_NOT_FOLLOW
+                }
+            }
+            Given::ByReference => {
+                let item = entry_ref(row);
+                if self.can_follow_ref(&item) {
+                    number(self.write_ref(&item))
+                } else {
+                    MAY_NOT_FOLLOW
+                }
+            }
+        }
     }
 
-    fn fail(&mut self, row: &Row<'_>) -> Result<u8, Error> {
-        self.take(row, Given::ByValue)
+    fn call(&mut self) -> u8 {
+        self.take(&BEHIND, Given::ByReference)
     }
 
-    fn end(self) -> u8 {
-        number(self.writer.finish())
+    fn end(self) -> Ended {
+        let (next, is_empty) = (self.table_ids().next(), self.is_empty());
+        match self.finish() {
+            Ok(tables) => (0, next, is_empty, seen_in(&tables)),
+            Err(error) => (error.number(), next, is_empty, NO_TABLES),
+        }
     }
 }
 
-/// What gives rows to a writer of a table.
-pub(crate) fn to_table<A: Allocator + Copy>(
-    alloc: A,
-    writer: Result<Writer<A>, Error>,
-) -> Result<ToTable<A>, Error> {
-    Ok(ToTable {
-        writer: writer?,
-        alloc,
-    })
-}
+/// The row that is given behind one that is refused.
+const BEHIND: Row<'static> = (b"d", 1, ValueType::Value, b"");
 
-/// What gives rows to a writer of tables.
-pub(crate) fn to_tables<A: Allocator + Copy>(
-    alloc: A,
-    writer: Result<MultiWriter<A>, Error>,
-) -> Result<ToTables<A>, Error> {
-    Ok(ToTables {
-        writer: writer?,
-        alloc,
-    })
-}
-
-// Gives some rows. `Source(2)` where one is refused.
-fn put_all<T: Takes>(taking: &mut T, rows: &[Row<'_>], given: Given) -> Result<(), Error> {
+/// The numbers of the first refusal of some rows, of a further row behind it, and of another call;
+/// 0 for none.
+pub(crate) fn put_rows<T: Takes>(taking: &mut T, rows: &[Row<'static>], given: Given) -> [u8; 3] {
     for row in rows {
-        if taking.take(row, given)? != 0 {
-            return Err(Error::Source(2));
+        let first = taking.take(row, given);
+        if first != 0 {
+            return [first, taking.take(&BEHIND, Given::ByValue), taking.call()];
         }
     }
-    Ok(())
+    [0; 3]
 }
 
-// What was given some rows.
-fn filled<T: Takes + Drop>(
-    taking: Result<T, Error>,
-    rows: &[Row<'_>],
+/// What a writer answers that is given some rows, up to the first that is refused.
+pub(crate) fn told_by<T: Takes>(
+    made: Result<T, Error>,
+    rows: &[Row<'static>],
     given: Given,
-) -> Result<T, Error> {
-    let mut taking = taking?;
-    let answer = put_all(&mut taking, rows, given);
-    written(taking, answer)
+) -> Told {
+    let mut taking = match made {
+        Ok(taking) => taking,
+        Err(error) => return ([error.number(), 0, 0, 0, 0], None, true, NO_TABLES),
+    };
+    let [first, again, other] = put_rows(&mut taking, rows, given);
+    let (last, next, is_empty, tables) = taking.end();
+    ([0, first, again, other, last], next, is_empty, tables)
 }
 
-/// A writer of tables, once it has written some rows.
-pub(crate) fn filled_tables(
-    alloc: Global,
-    writer: Result<MultiWriter, Error>,
-    rows: &[Row<'_>],
-    given: Given,
-) -> Result<MultiWriter, Error> {
-    Ok(filled(to_tables(alloc, writer), rows, given)?.writer)
+/// What writes rows.
+#[derive(Clone, Copy)]
+pub(crate) enum By {
+    /// A writer of the table 1, in partitions or without, with data blocks of a size, and with so
+    /// many tenths of a bit for each key in the filter.
+    Table(bool, u32, u32),
+    /// A writer of tables under the ids from one on, of a target size, with data blocks of a size.
+    Tables(TableId, u64, u32),
 }
 
-/// The tables that a writer of tables makes of some rows.
-pub(crate) fn tables_of(
-    alloc: Global,
-    writer: Result<MultiWriter, Error>,
-    rows: &[Row<'_>],
-    given: Given,
-) -> Result<Vec<FinishedTable>, Error> {
-    filled_tables(alloc, writer, rows, given)?.finish()
-}
-
-// What there is, in a list.
-fn listed<T: Drop>(alloc: Global, made: Result<Option<T>, Error>) -> Result<Vec<T>, Error> {
-    let mut list = Vec::new(alloc);
-    if let Some(value) = made? {
-        list.push(value)?;
+/// A writer of a table.
+pub(crate) fn table<A: Allocator + Copy>(
+    alloc: A,
+    is_partitioned: bool,
+    size: u32,
+    tenths: u32,
+) -> Result<Writer<A>, Error> {
+    let writer = Writer::new(alloc, 1, 0, Timestamp::from(0))?
+        .use_data_block_size(size.min(4_096))
+        .use_bloom_policy(BloomConstructionPolicy::BitsPerKey(tenths));
+    if !is_partitioned {
+        return Ok(writer);
     }
-    Ok(list)
+    Ok(writer.use_partitioned_index().use_partitioned_filter())
 }
 
-/// The table that a writer makes of some rows, if any, in a list.
-pub(crate) fn table_of(
-    alloc: Global,
-    writer: Result<Writer, Error>,
-    rows: &[Row<'_>],
+// A writer of tables.
+fn tables<A: Allocator + Copy>(
+    alloc: A,
+    first: TableId,
+    target: u64,
+    size: u32,
+) -> Result<MultiWriter<A>, Error> {
+    let writer = MultiWriter::new(alloc, TableIds::new(first), target, 0, Timestamp::from(0))?;
+    Ok(writer.use_data_block_size(size.min(4_096)))
+}
+
+/// What is answered where rows are written so.
+pub(crate) fn told<A: Allocator + Copy>(
+    alloc: A,
+    by: By,
+    rows: &[Row<'static>],
     given: Given,
-) -> Result<Vec<FinishedTable>, Error> {
-    let writer = filled(to_table(alloc, writer), rows, given)?.writer;
-    listed(alloc, writer.finish())
-}
-
-// Whether two tables are the same, byte for byte.
-fn are_same(table: &FinishedTable, other: &FinishedTable) -> bool {
-    table.id == other.id && table.checksum == other.checksum && table.bytes == other.bytes
-}
-
-// Whether two lists of tables are the same.
-fn are_all_same(tables: &[FinishedTable], others: &[FinishedTable]) -> bool {
-    for (table, other) in tables.iter().zip(others.iter()) {
-        if !are_same(table, other) {
-            return false;
+) -> Told {
+    match by {
+        By::Table(is_partitioned, size, tenths) => {
+            told_by(table(alloc, is_partitioned, size, tenths), rows, given)
         }
+        By::Tables(first, target, size) => told_by(tables(alloc, first, target, size), rows, given),
     }
-    tables.len() == others.len()
-}
-
-// How many tables there are, if they are the same as others.
-fn count_if_same(tables: &[FinishedTable], others: &[FinishedTable]) -> Option<usize> {
-    if are_all_same(tables, others) {
-        Some(tables.len())
-    } else {
-        None
-    }
-}
-
-/// How many tables there are, if they were made and are the same as others.
-pub(crate) fn count_of_same(
-    tables: &[FinishedTable],
-    others: Result<Vec<FinishedTable>, Error>,
-) -> Result<Option<usize>, Error> {
-    let others = others?;
-    let count = count_if_same(tables, &others);
-    drop(others);
-    Ok(count)
 }

@@ -2,11 +2,13 @@
 #![tactic(auto)]
 
 #[cfg(test)]
+mod answers;
+#[cfg(test)]
 mod filter_options;
 #[cfg(test)]
 mod given;
 #[cfg(test)]
-mod many_tables;
+mod long_keys;
 #[cfg(test)]
 mod one_entry_v4;
 #[cfg(test)]

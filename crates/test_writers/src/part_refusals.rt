@@ -2,14 +2,16 @@
 //! and have ample memory again: the first refuse from then on, and what a section writer had stays.
 ghost use Rattle.std.specs.Prelude.{◌≡◌, ◌++◌, ◌∷◌, [], IfOk};
 ghost use Rattle.sst_blocks.specs.Handles.{AreStrictHandles};
+ghost use Rattle.lsm_section_writers.specs.FilterEither.{HoldsBy};
+ghost use Rattle.lsm_section_writers.specs.Given.{no_keys};
+ghost use Rattle.lsm_section_writers.specs.IndexEither.{registered_by};
 ghost use Rattle.lsm_section_writers.specs.Rising.{Rises};
 ghost use Rattle.lsm_formats.specs.File.{HasNoFilter, HasNoIndex};
 
-use crate::given::number;
-use crate::refusals::Answers;
+use crate::given::{Refusals, number};
 use lsm_writers::{
-    BlockIndexWriter, BloomConstructionPolicy, FilterWriter, FullFilterWriter, FullIndexWriter,
-    PartitionedFilterWriter, PartitionedIndexWriter,
+    BlockIndexWriter, BloomConstructionPolicy, FilterWriter, FilterWriterImpl, FullFilterWriter,
+    FullIndexWriter, IndexWriterImpl, PartitionedFilterWriter, PartitionedIndexWriter,
 };
 use sst_blocks::{
     BlockHandle, BlockOffset, Error, KeyedBlockHandle, SectionName, SectionWriter, Slice, UserKey,
@@ -18,6 +20,9 @@ use std::alloc::Allocator;
 
 // What a section writer has before an index or a filter is written.
 const FRONT: &[u8] = b"front";
+
+// What is told where bytes that were written are gone.
+const LOST: Refusals = [u8::MAX; 5];
 
 // A section writer that has these bytes.
 fn with_front<A: Allocator + Copy>(alloc: A) -> Result<SectionWriter<A>, Error>
@@ -28,10 +33,17 @@ fn with_front<A: Allocator + Copy>(alloc: A) -> Result<SectionWriter<A>, Error>
     Ok(sections)
 }
 
-// Whether a section writer has the bytes of its front still.
-fn has_front<A: Allocator + Copy>(sections: SectionWriter<A>) -> Result<bool, Error> {
+// These refusals, if a section writer has the bytes of its front still.
+fn behind_front<A: Allocator + Copy>(
+    sections: SectionWriter<A>,
+    refusals: Refusals,
+) -> Result<Refusals, Error> {
     let (bytes, _) = sections.finish()?;
-    Ok(bytes.as_slice().starts_with(FRONT))
+    if bytes.as_slice().starts_with(FRONT) {
+        Ok(refusals)
+    } else {
+        Ok(LOST)
+    }
 }
 
 // Registers a key, twice where it is refused, and finishes.
@@ -39,99 +51,90 @@ fn register_key<A: Allocator, W: FilterWriter<A>>(
     mut writer: W,
     key: &UserKey<A>,
     sections: &mut SectionWriter<A>,
-) -> Answers
+) -> Refusals
     requires rises { Rises (W.Holds writer) key.now }
     requires unwritten { HasNoFilter sections.old }
 {
-    let mut answers = (0, 0);
+    let mut refusals = [0; 5];
     if let Err(error) = writer.register_key(key) {
-        answers = (error.number(), number(writer.register_key(key)));
+        let again = number(writer.register_key(key));
+        refusals = [0, error.number(), again, again, 0];
     }
-    let (first, second) = answers;
-    (first, second, number(writer.finish(sections)))
+    refusals[4] = number(writer.finish(sections));
+    refusals
 }
 
-// Registers a handle, twice where it is refused, and finishes.
+// Registers a handle, twice where it is refused, or none, and finishes.
 fn register_block<A: Allocator, W: BlockIndexWriter<A>>(
     mut writer: W,
     handle: &KeyedBlockHandle<A>,
+    is_registered: bool,
     sections: &mut SectionWriter<A>,
-) -> Answers
+) -> Refusals
     requires strict { AreStrictHandles (W.registered writer ++ handle.now ∷ []) }
     requires unwritten { HasNoIndex sections.old }
 {
-    let mut answers = (0, 0);
-    if let Err(error) = writer.register_data_block(handle) {
-        answers = (error.number(), number(writer.register_data_block(handle)));
+    let mut refusals = [0; 5];
+    if is_registered {
+        if let Err(error) = writer.register_data_block(handle) {
+            let again = number(writer.register_data_block(handle));
+            refusals = [0, error.number(), again, again, 0];
+        }
     }
-    let (first, second) = answers;
-    (first, second, number(writer.finish(sections)))
+    refusals[4] = number(writer.finish(sections));
+    refusals
 }
 
-/// What is answered, and whether the bytes before stay.
-pub(crate) type Outcome = Result<(Answers, bool), Error>;
-
-/// A full filter of one key.
-pub(crate) fn full_filter<A: Allocator + Copy>(alloc: A) -> Outcome {
-    let key: UserKey<A> = Slice::from(alloc, b"a")?;
-    let mut sections = with_front(alloc)?;
-    let writer = FullFilterWriter::new(alloc, BloomConstructionPolicy::default());
-    let answers = register_key(writer, &key, &mut sections);
-    Ok((answers, has_front(sections)?))
-}
-
-/// A filter of one partition.
-pub(crate) fn partitioned_filter<A: Allocator + Copy>(alloc: A) -> Outcome {
-    let key: UserKey<A> = Slice::from(alloc, b"a")?;
-    let mut sections = with_front(alloc)?;
-    let none = PartitionedFilterWriter::new(alloc, BloomConstructionPolicy::default())?;
-    let writer = none.use_partition_size(0);
-    let answers = register_key(writer, &key, &mut sections);
-    Ok((answers, has_front(sections)?))
-}
-
-// The handle of a first block.
-fn first_block<A: Allocator + Copy>(alloc: A) -> Result<KeyedBlockHandle<A>, Error> {
-    let lies = BlockHandle::new(BlockOffset(0), 47);
-    Ok(KeyedBlockHandle::new(Slice::from(alloc, b"a")?, 1, lies))
-}
-
-/// A full index of one handle.
-#[tactic(auto, using(crate::proofs::HandleLemmas::one_handle_strict))]
-pub(crate) fn full_index<A: Allocator + Copy>(alloc: A) -> Outcome {
-    let handle = first_block(alloc)?;
-    let mut sections = with_front(alloc)?;
-    let answers = register_block(FullIndexWriter::new(alloc), &handle, &mut sections);
-    Ok((answers, has_front(sections)?))
-}
-
-/// An index of one partition.
-#[tactic(auto, using(crate::proofs::HandleLemmas::one_handle_strict))]
-pub(crate) fn partitioned_index<A: Allocator + Copy>(alloc: A) -> Outcome {
-    let handle = first_block(alloc)?;
-    let mut sections = with_front(alloc)?;
-    let answers = register_block(PartitionedIndexWriter::new(alloc), &handle, &mut sections);
-    Ok((answers, has_front(sections)?))
-}
-
-// What an index of no handles answers, and whether the bytes before stay.
-fn index_of_none<A: Allocator + Copy, W: BlockIndexWriter<A> + Drop>(
+// A writer of a filter, in partitions or not, that has no keys.
+fn filter_writer<A: Allocator + Copy>(
     alloc: A,
-    writer: W,
-) -> Outcome {
+    is_partitioned: bool,
+) -> Result<FilterWriterImpl<A>, Error>
+    ensures { IfOk result (λ w. HoldsBy w no_keys) }
+{
+    let policy = BloomConstructionPolicy::default();
+    if !is_partitioned {
+        return Ok(FilterWriterImpl::Full(FullFilterWriter::new(alloc, policy)));
+    }
+    let writer = PartitionedFilterWriter::new(alloc, policy)?.use_partition_size(0);
+    Ok(FilterWriterImpl::Partitioned(writer))
+}
+
+/// A filter of one key.
+pub(crate) fn filter<A: Allocator + Copy>(
+    alloc: A,
+    is_partitioned: bool,
+) -> Result<Refusals, Error> {
     let mut sections = with_front(alloc)?;
-    let last = number(writer.finish(&mut sections));
-    Ok(((0, 0, last), has_front(sections)?))
+    let writer = filter_writer(alloc, is_partitioned)?;
+    let refusals = register_key(writer, &Slice::from_static(b"a"), &mut sections);
+    behind_front(sections, refusals)
 }
 
-/// A full index of no handles.
-pub(crate) fn empty_full_index<A: Allocator + Copy>(alloc: A) -> Outcome {
-    index_of_none(alloc, FullIndexWriter::new(alloc))
+// A writer of an index, in partitions or not, that has no handles.
+fn index_writer<A: Allocator>(alloc: A, is_partitioned: bool) -> IndexWriterImpl<A>
+    ensures { (registered_by result).handles ≡ [] }
+{
+    if is_partitioned {
+        IndexWriterImpl::Partitioned(PartitionedIndexWriter::new(alloc))
+    } else {
+        IndexWriterImpl::Full(FullIndexWriter::new(alloc))
+    }
 }
 
-/// A partitioned index of no handles.
-pub(crate) fn empty_partitioned_index<A: Allocator + Copy>(alloc: A) -> Outcome {
-    index_of_none(alloc, PartitionedIndexWriter::new(alloc))
+/// An index of one handle, or of none.
+#[tactic(auto, using(crate::proofs::HandleLemmas::one_handle_strict))]
+pub(crate) fn index<A: Allocator + Copy>(
+    alloc: A,
+    is_partitioned: bool,
+    has_handle: bool,
+) -> Result<Refusals, Error> {
+    let mut sections = with_front(alloc)?;
+    let lies = BlockHandle::new(BlockOffset(0), 47);
+    let handle = KeyedBlockHandle::new(Slice::from_static(b"a"), 1, lies);
+    let writer = index_writer(alloc, is_partitioned);
+    let refusals = register_block(writer, &handle, has_handle, &mut sections);
+    behind_front(sections, refusals)
 }
 
 // Begins a section, again where it is refused memory.
@@ -152,20 +155,27 @@ fn append<A: Allocator + Copy>(sections: &mut SectionWriter<A>, bytes: &[u8]) ->
     }
 }
 
-/// The bytes of one section.
-pub(crate) fn section_of<A: Allocator + Copy>(alloc: A) -> Result<Slice<A>, Error> {
+/// A section that is written in two steps.
+pub(crate) fn section<A: Allocator + Copy>(alloc: A) -> Result<Refusals, Error> {
     let mut sections = SectionWriter::new(alloc)?;
     start(&mut sections)?;
-    append(&mut sections, b"some")?;
+    append(&mut sections, FRONT)?;
     append(&mut sections, b" bytes, more than were there")?;
     let (bytes, _) = sections.finish()?;
-    Ok(bytes)
+    if bytes
+        .as_slice()
+        .starts_with(b"front bytes, more than were there")
+    {
+        Ok([0; 5])
+    } else {
+        Ok(LOST)
+    }
 }
 
-/// Whether a section of as many bytes as a block of no handles has is written.
-pub(crate) fn section_of_28<A: Allocator + Copy>(alloc: A) -> Result<bool, Error> {
+/// A section of as many bytes as a block of no handles has.
+pub(crate) fn section_of_28<A: Allocator + Copy>(alloc: A) -> Result<Refusals, Error> {
     let mut sections = with_front(alloc)?;
     start(&mut sections)?;
     sections.append_both(&[0; 24], &[0; 4])?;
-    has_front(sections)
+    behind_front(sections, [0; 5])
 }

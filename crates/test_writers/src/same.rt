@@ -1,20 +1,19 @@
 //! The same tables, however their entries are given and their options set.
 ghost use Rattle.std.specs.Prelude.{IfOk};
 ghost use Rattle.lsm_writers.specs.Tables.{IsFreshRun};
-ghost use Rattle.lsm_writers.specs.Writing.{IsFresh};
 
-use crate::given::{Given, count_of_same, table_of, tables_of};
+use crate::given::{By, Given, NO_TABLES, Seen, Told, seen_of, told, told_by};
 use lsm_writers::{
-    BloomConstructionPolicy, FilterKind, FinishedTable, IndexKind, MultiWriter, Options, TableId,
-    TableIds, Timestamp, Writer, is_writable, write_list,
+    BloomConstructionPolicy, FilterKind, IndexKind, MultiWriter, Options, TableId, TableIds,
+    Timestamp, Writer, is_writable, write_list,
 };
-use sst_blocks::{Error, InternalValue, ValueType};
+use sst_blocks::{CompressionType, Error, InternalValue, ValueType};
 use std::alloc::Global;
 use test_tables::large::add;
 use test_tables::rows::{Row, entry};
 
 // Each kind, an empty key and an empty value, versions of a key, and keys that begin one another.
-const ROWS: &[Row<'static>] = &[
+static ROWS: [Row<'static>; 9] = [
     (b"", 7, ValueType::Tombstone, b""),
     (b"a", 9, ValueType::WeakTombstone, b""),
     (b"a", 8, ValueType::Value, b"v"),
@@ -31,144 +30,92 @@ const ROWS: &[Row<'static>] = &[
     (b"c", 5, ValueType::Value, b"last"),
 ];
 
-// The size of the data blocks, and the length of them after which the next table begins.
-type Sizes = (u32, u64);
-
-// Sizes, and how many tables there are: a block for each entry, for some of them, and for all; a
-// table for each key, for some, for all.
-const SIZES: &[(Sizes, usize)] = &[
-    ((0, 0), 7),
-    ((1, 1), 6),
-    ((12, 60), 4),
-    ((40, 150), 2),
-    ((4_096, 4_096), 1),
+// What writes the rows, and how many tables there are: a block for each entry, for some of them,
+// and for all; a table for each key, for some, for all.
+const WRITTEN: [(By, usize); 15] = [
+    (By::Table(false, 0, 100), 1),
+    (By::Table(false, 1, 100), 1),
+    (By::Table(false, 12, 100), 1),
+    (By::Table(false, 40, 100), 1),
+    (By::Table(false, 4_096, 100), 1),
+    (By::Table(true, 0, 100), 1),
+    (By::Table(true, 1, 100), 1),
+    (By::Table(true, 12, 100), 1),
+    (By::Table(true, 40, 100), 1),
+    (By::Table(true, 4_096, 100), 1),
+    (By::Tables(1, 0, 0), 7),
+    (By::Tables(1, 1, 1), 6),
+    (By::Tables(1, 60, 12), 4),
+    (By::Tables(1, 150, 40), 2),
+    (By::Tables(1, 4_096, 4_096), 1),
 ];
 
-// A writer of a table in partitions or without.
-fn table_writer(alloc: Global, sizes: Sizes, is_partitioned: bool) -> Result<Writer, Error>
-    ensures { IfOk result (λ w. IsFresh w) }
-{
-    let size = sizes.0.min(4_096);
-    let writer = Writer::new(alloc, 1, 0, Timestamp::from(0))?.use_data_block_size(size);
-    if !is_partitioned {
-        return Ok(writer);
+// How many tables the rows give, if none is refused and they are the same either way.
+fn count_of_same(alloc: Global, by: By) -> Option<usize> {
+    let by_value = told(alloc, by, &ROWS, Given::ByValue);
+    if by_value.0 != [0; 5] || by_value != told(alloc, by, &ROWS, Given::ByReference) {
+        return None;
     }
-    Ok(writer.use_partitioned_index().use_partitioned_filter())
-}
-
-// A writer of tables.
-fn tables_writer(alloc: Global, sizes: Sizes) -> Result<MultiWriter, Error>
-    ensures { IfOk result (λ w. IsFreshRun w) }
-{
-    let size = sizes.0.min(4_096);
-    let ids = TableIds::new(1);
-    let writer = MultiWriter::new(alloc, ids, sizes.1, 0, Timestamp::from(0))?;
-    Ok(writer.use_data_block_size(size))
-}
-
-// What writes the rows: a writer of a table, in partitions or without, or one of tables.
-#[derive(Clone, Copy)]
-enum By {
-    Table,
-    Partitions,
-    Tables,
-}
-
-// The tables of the rows.
-fn tables_by(
-    alloc: Global,
-    sizes: Sizes,
-    by: By,
-    given: Given,
-) -> Result<Vec<FinishedTable>, Error> {
-    match by {
-        By::Table => table_of(alloc, table_writer(alloc, sizes, false), ROWS, given),
-        By::Partitions => table_of(alloc, table_writer(alloc, sizes, true), ROWS, given),
-        By::Tables => tables_of(alloc, tables_writer(alloc, sizes), ROWS, given),
-    }
-}
-
-// How many tables the rows give, if they are the same either way.
-fn agree(alloc: Global, sizes: Sizes, by: By) -> Result<Option<usize>, Error> {
-    let tables = tables_by(alloc, sizes, by, Given::ByValue)?;
-    let count = count_of_same(&tables, tables_by(alloc, sizes, by, Given::ByReference));
-    drop(tables);
-    count
+    Some(by_value.3.0)
 }
 
 #[test]
 fn tables_are_the_same_by_reference(rt: HostRuntime) {
-    for &(sizes, count) in SIZES {
-        assert!(rt; agree(rt.alloc(), sizes, By::Table) == Ok(Some(1)));
-        assert!(rt; agree(rt.alloc(), sizes, By::Partitions) == Ok(Some(1)));
-        assert!(rt; agree(rt.alloc(), sizes, By::Tables) == Ok(Some(count)));
+    for &(by, count) in &WRITTEN {
+        assert!(rt; count_of_same(rt.alloc(), by) == Some(count));
     }
 }
 
 // A value that fills a block, and reaches a target of 1,024 bytes.
 const LONG: &[u8] = &[b'x'; 8_000];
 
-const A2: Row<'static> = (b"a", 2, ValueType::Value, LONG);
+static VERSIONS: [Row<'static>; 6] = [
+    (b"a", 2, ValueType::Value, LONG),
+    (b"a", 1, ValueType::Value, LONG),
+    (b"a", 0, ValueType::Value, LONG),
+    (b"b", 0, ValueType::Value, LONG),
+    (b"c", 1, ValueType::Value, LONG),
+    (b"c", 0, ValueType::Value, LONG),
+];
 
-const A1: Row<'static> = (b"a", 1, ValueType::Value, LONG);
-
-const A0: Row<'static> = (b"a", 0, ValueType::Value, LONG);
-
-const B0: Row<'static> = (b"b", 0, ValueType::Value, LONG);
-
-const C1: Row<'static> = (b"c", 1, ValueType::Value, LONG);
-
-const C0: Row<'static> = (b"c", 0, ValueType::Value, LONG);
-
-const VERSIONS: &[Row<'static>] = &[A2, A1, A0, B0, C1, C0];
-
-// The id of the table of each of their keys, and its rows.
-const ALONE: &[(TableId, &[Row<'static>])] = &[(1, &[A2, A1, A0]), (2, &[B0]), (3, &[C1, C0])];
-
-// The entries of some rows.
-fn items_of(alloc: Global, rows: &[Row<'_>]) -> Result<Vec<InternalValue>, Error> {
+// The entries of some of the versions.
+fn items_of(alloc: Global, from: usize, count: usize) -> Result<Vec<InternalValue>, Error> {
     let mut items = Vec::new(alloc);
-    for row in rows {
+    for row in VERSIONS.iter().skip(from).take(count) {
         add(&mut items, entry(alloc, row))?;
     }
     Ok(items)
 }
 
-// The table of some rows alone. `Source(0)` where they cannot be written, `Source(1)` where there
-// are none.
-fn alone(alloc: Global, id: TableId, rows: &[Row<'_>]) -> Result<FinishedTable, Error> {
-    let items = items_of(alloc, rows)?;
+// The table of some of the versions alone. `Source(0)` where they cannot be written, `Source(1)`
+// where there are none.
+fn alone(alloc: Global, id: TableId, from: usize, count: usize) -> Result<Seen, Error> {
+    let items = items_of(alloc, from, count)?;
     if !is_writable(&items) {
         return Err(Error::Source(0));
     }
-    write_list(alloc, id, 0, Timestamp::from(0), items)?.ok_or(Error::Source(1))
-}
-
-// The tables of the versions, those of each key alone.
-fn all_alone(alloc: Global) -> Result<Vec<FinishedTable>, Error> {
-    let mut tables = Vec::new(alloc);
-    for &(id, rows) in ALONE {
-        add(&mut tables, alone(alloc, id, rows))?;
+    match write_list(alloc, id, 0, Timestamp::from(0), items) {
+        Ok(Some(table)) => Ok(seen_of(&table)),
+        Ok(None) => Err(Error::Source(1)),
+        Err(error) => Err(error),
     }
-    Ok(tables)
 }
 
-// A writer of tables of 1,024 bytes.
-fn small_tables(alloc: Global) -> Result<MultiWriter, Error> {
-    MultiWriter::new(alloc, TableIds::new(1), 1_024, 0, Timestamp::from(0))
-}
-
-// How many tables the versions give, if they are those of each key alone.
-fn versions_stay(alloc: Global) -> Result<Option<usize>, Error> {
-    let tables = tables_of(alloc, small_tables(alloc), VERSIONS, Given::ByValue)?;
-    let count = count_of_same(&tables, all_alone(alloc));
-    drop(tables);
-    count
-}
+// The id of the table of each of their keys, where its rows begin, and how many these are.
+const ALONE: [(TableId, usize, usize); 3] = [(1, 0, 3), (2, 3, 1), (3, 4, 2)];
 
 #[test]
 fn the_versions_of_a_key_stay_in_one_table(rt: HostRuntime) {
-    assert!(rt; versions_stay(rt.alloc()) == Ok(Some(3)));
+    let (refusals, _, _, (count, tables)) = told(
+        rt.alloc(),
+        By::Tables(1, 1_024, 4_096),
+        &VERSIONS,
+        Given::ByValue,
+    );
+    assert!(rt; (refusals, count) == ([0; 5], 3));
+    for (&(id, from, count), table) in ALONE.iter().zip(tables.iter()) {
+        assert!(rt; alone(rt.alloc(), id, from, count) == Ok(*table));
+    }
 }
 
 // Options of which none is that of a new writer.
@@ -214,27 +161,47 @@ fn table_at_once(alloc: Global) -> Result<Writer, Error> {
     Ok(Writer::new(alloc, 1, 0, Timestamp::from(0))?.use_options(OPTIONS))
 }
 
-const TWO_KEYS: &[Row<'static>] = &[
+// A writer of one table with all its options set.
+fn with_options(alloc: Global) -> Result<Writer, Error> {
+    Ok(
+        Writer::new(alloc, 1, 3, Timestamp::from(5))?
+            .use_data_block_restart_interval(8)
+            .use_index_block_restart_interval(2)
+            .use_data_block_hash_ratio(750)
+            .use_data_block_size(4_194_304)
+            .use_meta_partition_size(4_194_304)
+            .use_data_block_compression(CompressionType::None)
+            .use_index_block_compression(CompressionType::None),
+    )
+}
+
+static TWO_KEYS: [Row<'static>; 2] = [
     (b"a", 1, ValueType::Value, b"x"),
     (b"b", 1, ValueType::Value, b"x"),
 ];
 
-// How many tables there are of two keys, if they are those of a writer of one table.
-fn options_agree(alloc: Global) -> Result<[Option<usize>; 2], Error> {
-    let table = table_of(alloc, table_at_once(alloc), TWO_KEYS, Given::ByValue)?;
-    let first = count_of_same(
-        &table,
-        tables_of(alloc, one_by_one(alloc), TWO_KEYS, Given::ByValue),
-    );
-    let second = count_of_same(
-        &table,
-        tables_of(alloc, at_once(alloc), TWO_KEYS, Given::ByValue),
-    );
-    drop(table);
-    Ok([first?, second?])
+// What a writer of tables answers whose options are set at once, and one by one.
+fn by_tables(alloc: Global) -> [Told; 2] {
+    [
+        told_by(at_once(alloc), &TWO_KEYS, Given::ByValue),
+        told_by(one_by_one(alloc), &TWO_KEYS, Given::ByValue),
+    ]
+}
+
+// What a writer of one table answers.
+fn by_table(alloc: Global) -> Told {
+    told_by(table_at_once(alloc), &TWO_KEYS, Given::ByValue)
 }
 
 #[test]
 fn options_may_be_set_at_once(rt: HostRuntime) {
-    assert!(rt; options_agree(rt.alloc()) == Ok([Some(1), Some(1)]));
+    let (refusals, _, is_empty, tables) = by_table(rt.alloc());
+    assert!(rt; tables.0 == 1);
+    assert!(rt; by_tables(rt.alloc()) == [(refusals, Some(2), is_empty, tables); 2]);
+}
+
+#[test]
+fn takes_options_and_gives_no_table_of_nothing(rt: HostRuntime) {
+    let told = told_by(with_options(rt.alloc()), &[], Given::ByValue);
+    assert!(rt; told == ([0; 5], None, true, NO_TABLES));
 }
