@@ -2,7 +2,7 @@
 -- results that a source deals.
 use Rattle.std.proofs.Common.{◌≡◌, refl, sym, ◌∙◌, ap, subst, true, false, List, [], ◌∷◌}
 use Rattle.std.proofs.Common.{◌++◌, ◌⊎◌, inl, inr, append_assoc, append-nil}
-use Rattle.std.specs.Prelude.{ℕ, Option, Some, None, Result, Ok, Err, IfErr, IsErrAnd}
+use Rattle.std.specs.Prelude.{Option, Some, None, Result, Ok, Err, IfErr, IsErrAnd}
 use Rattle.std.specs.Option.{option_or}
 use Rattle.std.proofs.lemmas.Bool.{cases_Bool}
 use Rattle.sst_entries.specs.declared.error.Error.{Error}
@@ -11,14 +11,12 @@ use Rattle.sst_entries.specs.Error.{is_memory}
 use Rattle.sst_entries.specs.Stream.{answer_stops, nowhere, ok_results}
 use Rattle.sst_entries.proofs.StreamLemmas.{deals_front, map_append}
 use Rattle.lsm_merge.specs.Ends.{R}
-use Rattle.lsm_writers.specs.declared.writer.FinishedTable.{FinishedTable}
-use Rattle.lsm_writers.specs.Tables.{TablesWriting, all_written, run_fault, took, took_fault}
+use Rattle.lsm_writers.specs.Tables.{TablesWriting, all_written, took, took_fault}
 use Rattle.lsm_writers.specs.Writing.{IsWritable, may_be_written}
-use Rattle.lsm_compactions.specs.AnyRuns.{AreTaken, BeginsWith, CameOf, DealsResults, FailsBehind}
-use Rattle.lsm_compactions.specs.AnyRuns.{LeavesOrder, MeetsFault, RefusesOf, TakesWhole}
+use Rattle.lsm_compactions.specs.AnyRuns.{AreTaken, BeginsWith, CameOf, DealsResults}
+use Rattle.lsm_compactions.specs.AnyRuns.{LeavesOrder, MeetsFault, RefusesOf}
 use Rattle.lsm_compactions.specs.AnyRuns.{results_fault}
 use Rattle.lsm_compactions.specs.Chain.{writes_fault}
-use Rattle.lsm_compactions.specs.Compacted.{AreWrittenBy}
 use Rattle.lsm_compactions.specs.declared.any_runs.CompactionOutcome.{CompactionOutcome}
 use Rattle.lsm_compactions.proofs.AnyWritten.{none_writable, writable_more}
 use Rattle.lsm_compactions.proofs.Opening.{or_first}
@@ -64,10 +62,6 @@ taking_more w m n e h is fine listed may = record {
       ∙ ap (λ (x : Option Error). option_or x (writes_fault (took m e) es)) fine
       ∙ ap (λ (x : TablesWriting). writes_fault x es) (sym is);
 }
-
--- what finishing refuses
-pub ends_with : (w m : TablesWriting) → Taking w m → writes_fault w (all_written m) ≡ run_fault m
-ends_with w m h = ap (writes_fault w) (sym (append-nil (all_written m))) ∙ h.behind []
 
 -- ---- a refusal that is passed on
 
@@ -206,28 +200,7 @@ module _ {S : Type 0} (next : S → Option R → S → Type 0) where
                 ∙ or_first (took_fault m e) (results_fault (took m e) []) f is;
           }
 
-      all_dealt : next s None t → rs ≡ ok_results (all_written m)
+      pub all_dealt : next s None t → rs ≡ ok_results (all_written m)
       all_dealt step =
           h.whole ∙ ap (λ (xs : List R). ok_results (all_written m) ++ xs)
           (results_none h.rest s t h.deals step) ∙ append-nil (ok_results (all_written m))
-
-      -- it refuses to finish
-      pub failed_behind : (f : Error) → next s None t → run_fault m ≡ Some f
-          → FailsBehind w rs f
-      failed_behind f step is = record {
-        list = all_written m;
-        whole = all_dealt step;
-        taken = are_taken w m took_all;
-        fault = ends_with w m took_all ∙ is;
-      }
-
-      -- it finishes
-      pub taken_whole : {A : Type 0} (fs : List (FinishedTable A)) (left : Option ℕ)
-          → next s None t → run_fault m ≡ None → AreWrittenBy w (all_written m) fs left
-          → TakesWhole w rs fs left
-      taken_whole fs left step fine written = record {
-        list = all_written m;
-        whole = all_dealt step;
-        none = ends_with w m took_all ∙ fine;
-        written = written;
-      }

@@ -11,6 +11,8 @@ pub mod WrittenBy
 pub mod WritesOn
 pub mod AnyWritten
 pub mod AnyTaken
+pub mod TookList
+pub mod Endings
 pub mod AnyScans
 pub mod Observing
 pub mod FilteredOrder

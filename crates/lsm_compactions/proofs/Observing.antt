@@ -17,11 +17,10 @@ use Rattle.lsm_formats.specs.Chunks.{joined}
 use Rattle.lsm_formats.specs.declared.label.Label.{Label}
 use Rattle.lsm_formats.specs.declared.options.Options.{Options}
 use Rattle.lsm_merge.specs.Ends.{R}
-use Rattle.lsm_writers.specs.declared.writer.FinishedTable.{FinishedTable}
 use Rattle.lsm_writers.specs.Cut.{rest_chunk}
-use Rattle.lsm_writers.specs.Tables.{AreCuts, AreFinished, AreTables, IsFreshRun, TablesWriting}
+use Rattle.lsm_writers.specs.Tables.{AreCuts, AreTables, IsFreshRun, TablesWriting}
 use Rattle.lsm_writers.specs.Tables.{all_written, gained_all, next_writing}
-use Rattle.lsm_writers.specs.Tables.{drawn, first_label, is_due, rotation_fault, run_fault}
+use Rattle.lsm_writers.specs.Tables.{drawn, is_due, rotation_fault}
 use Rattle.lsm_writers.specs.Tables.{standing, tables_of, took, took_fault, turn_fault}
 use Rattle.lsm_writers.specs.Writing.{Writing, fresh_writing, gained, may_be_written}
 use Rattle.lsm_writers.specs.Writing.{write_fault, written}
@@ -31,16 +30,15 @@ use Rattle.lsm_writers.proofs.CutTables.{cuts_first, cuts_longer, cuts_next, gai
 use Rattle.lsm_writers.proofs.CutTables.{long_enough, no_end, some_length, still_short}
 use Rattle.lsm_writers.proofs.ListWriting.{same_label, written_gained}
 use Rattle.lsm_compactions.specs.AnyRuns.{results_fault}
-use Rattle.lsm_compactions.specs.Compacted.{RunsOn}
 use Rattle.lsm_compactions.specs.Filtered.{FailsAt, FailsToEnd, RefusesWritten}
 use Rattle.lsm_compactions.specs.Observed.{GoesOnAt, IsCounted, StoppedAt, StopsAtLast, TellsNext}
-use Rattle.lsm_compactions.specs.Observed.{ToldOfAll, ToldOfPart, progress_at, told_behind}
+use Rattle.lsm_compactions.specs.Observed.{ToldOfPart, progress_at, told_behind}
 use Rattle.lsm_compactions.specs.Observed.{told_count, told_of}
 use Rattle.lsm_compactions.specs.declared.observer.CompactionProgress.{CompactionProgress}
-use Rattle.lsm_compactions.proofs.AnyTaken.{Taking, are_taken, ends_with, taking_more, taking_none}
+use Rattle.lsm_compactions.proofs.AnyTaken.{Taking, are_taken, taking_more, taking_none}
 use Rattle.lsm_compactions.proofs.Opening.{or_first}
 use Rattle.lsm_compactions.proofs.RunWriting.{first_is, left_none}
-use Rattle.lsm_compactions.proofs.WrittenBy.{Since, nothing_written, nothing_yet, numbered}
+use Rattle.lsm_compactions.proofs.WrittenBy.{Since, nothing_written, nothing_yet}
 use Rattle.lsm_compactions.proofs.WrittenBy.{present_is, since_more, since_now}
 
 -- ---- what is told, table by table
@@ -479,15 +477,6 @@ module _ {S O : Type 0} (next : S → Option R → S → Type 0)
       fault = h.taking.among (Err f ∷ []);
     }
 
-    -- the writer refuses to finish
-    pub failed_end : (f : Error) → next t None u → run_fault m ≡ Some f
-        → FailsToEnd next w s (all_written m) t f
-    failed_end f step is = record {
-      then = u;
-      ended = step;
-      fault = ends_with w m h.taking ∙ is;
-    }
-
     module _ (fresh : IsFreshRun w) where
       cut_by : (n : TablesWriting) → Since w n → CutSoFar n
           → AreTables w.present.options.data_block_size w.target (all_written n) (tables_of n)
@@ -536,19 +525,6 @@ module _ {S O : Type 0} (next : S → Option R → S → Type 0)
         gave = h.gave;
         fails = fails;
         told = told_of_part;
-      }
-
-      -- the tables are finished
-      pub told_all : {A : Type 0} (fs : List (FinishedTable A)) (left : Option ℕ) → RunsOn w
-          → left ≡ m.ids → AreFinished m.present.options (first_label m) (tables_of m) fs
-          → ToldOfAll says w fs o q
-      told_all fs left next_id is finished = record {
-        tables = tables_of m;
-        finished = (numbered w m fresh next_id h.since (all_written m) fs left is
-            (subst (λ (x : Options). AreFinished x (first_label m) (tables_of m) fs)
-            h.since.options_are finished) h.since.stands).0;
-        told = subst (λ (ts : List (List Entry)). GoesOnAt says o (told_of ts) q)
-            (sym (all_but_present m h.cut.begun)) h.told;
       }
 
 -- before anything is written

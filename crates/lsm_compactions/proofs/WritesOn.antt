@@ -11,7 +11,7 @@ use Rattle.sst_entries.specs.Lending.{came}
 use Rattle.sst_entries.specs.Stream.{answer_stops, nowhere, ok_results}
 use Rattle.sst_entries.proofs.StreamLemmas.{deals_front}
 use Rattle.lsm_merge.specs.Ends.{R}
-use Rattle.lsm_writers.specs.Tables.{TablesWriting, all_written, run_fault, took, took_fault}
+use Rattle.lsm_writers.specs.Tables.{TablesWriting, all_written, took, took_fault}
 use Rattle.lsm_writers.specs.Writing.{IsWritable, may_be_written}
 use Rattle.lsm_writers.proofs.ListWriting.{listed_follows}
 use Rattle.lsm_compactions.specs.Chain.{writes_fault}
@@ -19,7 +19,7 @@ use Rattle.lsm_compactions.proofs.Opening.{or_first}
 use Rattle.lsm_runs.specs.RunLists.{DealsList}
 
 -- a counted fault, where the first entry is not refused
-none_refused : (a b : Option Error) → a ≡ None → option_or a b ≡ b
+pub none_refused : (a b : Option Error) → a ≡ None → option_or a b ≡ b
 none_refused a b is = ap (λ (o : Option Error). option_or o b) is
 
 module _ {S : Type 0} (next : S → Option R → S → Type 0) where
@@ -136,6 +136,3 @@ module _ {S : Type 0} (next : S → Option R → S → Type 0) where
     pub all_taken : all_written m ≡ es
     all_taken = sym (h.whole ∙ ap (λ (xs : List Entry). all_written m ++ xs) none_left
         ∙ append-nil (all_written m))
-
-    pub fault_left : writes_fault w es ≡ run_fault m
-    fault_left = h.fault ∙ ap (writes_fault m) none_left

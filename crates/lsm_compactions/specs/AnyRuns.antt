@@ -10,7 +10,7 @@ use Rattle.sst_entries.specs.declared.error.Error.{Error}
 use Rattle.sst_entries.specs.declared.error.Error.TheVariants.{OutOfMemory}
 use Rattle.lsm_merge.specs.Ends.{R}
 use Rattle.lsm_writers.specs.declared.writer.FinishedTable.{FinishedTable}
-use Rattle.lsm_writers.specs.Tables.{TablesWriting, took, took_fault}
+use Rattle.lsm_writers.specs.Tables.{TablesWriting, all_written, took, took_fault}
 use Rattle.lsm_writers.specs.Writing.{IsWritable, may_be_written}
 use Rattle.lsm_readers.specs.Table.{OpenTable}
 use Rattle.lsm_runs.specs.RunScan.{tables_scan}
@@ -21,6 +21,8 @@ use Rattle.lsm_compactions.specs.declared.any_runs.CompactionOutcome.{Compaction
 use Rattle.lsm_compactions.specs.declared.any_runs.CompactionOutcome.TheVariants.{OutOfOrder}
 use Rattle.lsm_compactions.specs.declared.any_runs.CompactionOutcome.TheVariants.{Stopped}
 use Rattle.lsm_compactions.specs.declared.any_runs.CompactionOutcome.TheVariants.{Tables}
+use Rattle.lsm_compactions.specs.declared.any_runs.Ending.{Ending}
+use Rattle.lsm_compactions.specs.declared.any_runs.Ending.TheVariants.{AtDisorder, AtEnd, AtStop}
 
 -- the first fault of results whose entries are written one after another
 abbrev pub results_fault : TablesWriting → List R → Option Error
@@ -32,6 +34,17 @@ results_fault m (Err f ∷ rs) = Some f
 pub record AreTaken (w : TablesWriting) (es : List Entry) : Type 0 where
   pub writable : IsWritable es
   pub none : results_fault w (ok_results es) ≡ None
+
+-- a writer once it took these entries, one after another
+abbrev pub took_all : TablesWriting → List Entry → TablesWriting
+took_all w [] = w
+took_all w (e ∷ es) = took_all (took w e) es
+
+-- a writer took this list, one entry after another, and refused none
+pub record TookList (w : TablesWriting) (es : List Entry) (m : TablesWriting) : Type 0 where
+  pub taken : AreTaken w es
+  pub is : m ≡ took_all w es
+  pub listed : all_written m ≡ es
 
 -- of some results, behind entries that a writer takes stands one that may not follow them
 pub record LeavesOrder (w : TablesWriting) (rs : List R) : Type 0 where
@@ -96,6 +109,14 @@ pub record FailsBehind (w : TablesWriting) (rs : List R) (e : Error) : Type 0 wh
   pub whole : rs ≡ ok_results list
   pub taken : AreTaken w list
   pub fault : writes_fault w list ≡ Some e
+
+-- what was taken of results, by how it ended: all of them, or up to the first that may not follow,
+-- or, memory aside, up to the first fault
+abbrev pub TakesOf : TablesWriting → List R → TablesWriting → Result Ending Error → Type 0
+TakesOf w rs m (Ok AtEnd) = rs ≡ ok_results (all_written m)
+TakesOf w rs m (Ok AtDisorder) = LeavesOrder w rs
+TakesOf w rs m (Ok AtStop) = ⊥
+TakesOf w rs m (Err e) = is_memory e ≡ false → MeetsFault w rs e
 
 -- it refuses so, whichever is met first
 abbrev pub RefusesOf : TablesWriting → List R → Error → Type 0

@@ -17,10 +17,12 @@ use Rattle.lsm_writers.specs.Writing.{may_be_written}
 use Rattle.lsm_compactions.specs.AnyRuns.{AreTaken, results_fault}
 use Rattle.lsm_compactions.specs.Chain.{writes_fault}
 use Rattle.lsm_compactions.specs.Compacted.{AreWrittenBy, FitsBy}
-use Rattle.lsm_compactions.specs.Observed.{ToldOfPart, WasToldOf}
+use Rattle.lsm_compactions.specs.Observed.{ToldOfPart, WasToldAt, WasToldOf}
 use Rattle.lsm_compactions.specs.declared.any_runs.CompactionOutcome.{CompactionOutcome}
 use Rattle.lsm_compactions.specs.declared.any_runs.CompactionOutcome.TheVariants.{OutOfOrder}
 use Rattle.lsm_compactions.specs.declared.any_runs.CompactionOutcome.TheVariants.{Stopped, Tables}
+use Rattle.lsm_compactions.specs.declared.any_runs.Ending.{Ending}
+use Rattle.lsm_compactions.specs.declared.any_runs.Ending.TheVariants.{AtDisorder, AtEnd, AtStop}
 use Rattle.lsm_compactions.specs.declared.observer.CompactionProgress.{CompactionProgress}
 
 -- ---- a stream whose entries are written
@@ -33,6 +35,13 @@ module _ {S : Type 0} (next : S → Option R → S → Type 0) (w : TablesWritin
   EndsAs list led OutOfOrder u =
       (e : Entry) × next led (Some (Ok e)) u × (may_be_written list e.user_key e.seqno ≡ false)
   EndsAs list led Stopped u = led ≡ u
+
+  -- the same, by how their writing ended
+  abbrev pub EndsAt : List Entry → S → Ending → S → Type 0
+  EndsAt list led AtEnd u = next led None u
+  EndsAt list led AtDisorder u =
+      (e : Entry) × next led (Some (Ok e)) u × (may_be_written list e.user_key e.seqno ≡ false)
+  EndsAt list led AtStop u = led ≡ u
 
   -- it gave a result more, no want of memory, at which it or the writer refuses so
   pub record FailsAt (list : List Entry) (led : S) (e : Error) : Type 0 where
@@ -57,6 +66,13 @@ module _ {S : Type 0} (next : S → Option R → S → Type 0) (w : TablesWritin
       pub gave : Yields next s (ok_results list) led
       pub ends : EndsAs list led outcome u
       pub told : WasToldOf says w list outcome o q
+
+    -- it gave these, and their writing ended so; the observer was told of them
+    pub record WroteUntil (list : List Entry) (ending : Ending) (u : S) (q : O) : Type 0 where
+      pub led : S
+      pub gave : Yields next s (ok_results list) led
+      pub ends : EndsAt list led ending u
+      pub told : WasToldAt says w list ending o q
 
     -- it gave these, which were written, and the observer was told of them; then, memory aside, it
     -- or the writer refused so

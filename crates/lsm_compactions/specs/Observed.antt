@@ -12,6 +12,8 @@ use Rattle.lsm_compactions.specs.Compacted.{first_written}
 use Rattle.lsm_compactions.specs.declared.any_runs.CompactionOutcome.{CompactionOutcome}
 use Rattle.lsm_compactions.specs.declared.any_runs.CompactionOutcome.TheVariants.{OutOfOrder}
 use Rattle.lsm_compactions.specs.declared.any_runs.CompactionOutcome.TheVariants.{Stopped, Tables}
+use Rattle.lsm_compactions.specs.declared.any_runs.Ending.{Ending}
+use Rattle.lsm_compactions.specs.declared.any_runs.Ending.TheVariants.{AtDisorder, AtEnd, AtStop}
 use Rattle.lsm_compactions.specs.declared.observer.CompactionProgress.{CompactionProgress}
 
 -- a count that would pass the largest number stays there
@@ -94,6 +96,12 @@ module _ {O : Type 0} (says : O → CompactionProgress → Bool → O → Type 0
   WasToldOf w list (Tables tables left) o q = ToldOfPart w list o q
   WasToldOf w list OutOfOrder o q = ToldOfPart w list o q
   WasToldOf w list Stopped o q = StoppedAt w list o q
+
+  -- the same, by how the writing of the list ended
+  abbrev pub WasToldAt : TablesWriting → List Entry → Ending → O → O → Type 0
+  WasToldAt w list AtEnd o q = ToldOfPart w list o q
+  WasToldAt w list AtDisorder o q = ToldOfPart w list o q
+  WasToldAt w list AtStop o q = StoppedAt w list o q
 
   -- the same, whatever was written
   abbrev pub WasTold : {A : Type 0} → TablesWriting → CompactionOutcome A → O → O → Type 0

@@ -11,19 +11,22 @@ ghost use Rattle.sst_entries.specs.Stream.{ok_results};
 ghost use Rattle.lsm_sorted.specs.CompactionState.{Compacts, callback_of, filter_of, rules_of};
 ghost use Rattle.lsm_writers.specs.Tables.{all_written, took, took_fault};
 ghost use Rattle.lsm_writers.specs.Writing.{may_be_written};
-ghost use Rattle.lsm_compactions.specs.Words.{AreCompactable, CameTo, CameUntil, CameUpTo};
+ghost use Rattle.lsm_compactions.specs.Words.{AreCompactable, AreMergeable, CameTo, CameUntil};
+ghost use Rattle.lsm_compactions.specs.Words.{CameUpTo};
 ghost use Rattle.lsm_compactions.specs.Words.{CanDeal, DealTogether, Entry, Faults, FitsKept};
 ghost use Rattle.lsm_compactions.specs.Words.{HasBegun, HasMade, HaveEntries, IsCounted};
 ghost use Rattle.lsm_compactions.specs.Words.{IsFreshRun, IsWritten, RefusesBy, RefusesForMemory};
 ghost use Rattle.lsm_compactions.specs.Words.{RefusesWritten, RunsHoldLists, RunsOn, TellsNext};
-ghost use Rattle.lsm_compactions.specs.Words.{WasTold, WasToldUntil, joined, nowhere};
-ghost use Rattle.lsm_compactions.specs.Words.{union_in};
+ghost use Rattle.lsm_compactions.specs.Words.{TookList, WasTold, WasToldUntil, WroteUntil, joined};
+ghost use Rattle.lsm_compactions.specs.Words.{nowhere, union_in};
 
+use crate::any_runs::{Ending, ended};
 use crate::compact::scanners_of;
 use crate::{CompactionObserver, CompactionOutcome, CompactionProgress};
 use lsm_merge::Merger;
 use lsm_ranges::Run;
 use lsm_readers::Table;
+use lsm_runs::RunScanner;
 use lsm_sorted::compaction::Rules;
 use lsm_sorted::compaction::stream::{CompactionStream, DroppedKvCallback, StreamFilter};
 use lsm_writers::{MultiWriter, tables_law};
@@ -70,6 +73,39 @@ fn write_and_tell<O: CompactionObserver, A: Allocator + Clone>(
 }
 
 // Writes what a stream gives, for as long as each entry may follow the one before it and the
+// observer lets it go on. Refused as the stream and the writer are.
+fn write_while_observed<
+    I: Iterator<Item = IterItem<A>>,
+    O: CompactionObserver,
+    A: Allocator + Clone,
+>(items: &mut I, writer: &mut MultiWriter<A>, observer: &mut O) -> Result<Ending, Error>
+    requires fresh { IsFreshRun writer.old }
+    requires can { I.can_next items.old }
+    requires finite { IsFinite (I.remaining items.old) }
+    ensures took { OnOk result (TookList writer.old (all_written writer.new) writer.new) }
+    ensures wrote { IfOk result (λ ending. WroteUntil I.next_gives writer.old items.old O.says
+        observer.old (all_written writer.new) ending items.new observer.new) }
+    ensures refused { IfErr result (λ e. RefusesWritten I.next_gives writer.old items.old O.says
+        observer.old e observer.new) }
+{
+    let mut progress = CompactionProgress {
+        tables: 0,
+        entries: 0,
+    };
+    while let Some(item) = items.next() {
+        let item = item?;
+        if !writer.can_follow(&item.key) {
+            return Ok(Ending::AtDisorder);
+        }
+        let goes_on = write_and_tell(writer, item, &mut progress, observer)?;
+        if !goes_on {
+            return Ok(Ending::AtStop);
+        }
+    }
+    Ok(Ending::AtEnd)
+}
+
+// Writes what a stream gives, for as long as each entry may follow the one before it and the
 // observer lets it go on, and finishes. Refused as the stream and the writer are.
 fn write_observed<I: Iterator<Item = IterItem<A>>, O: CompactionObserver, A: Allocator + Clone>(
     items: &mut I,
@@ -87,23 +123,8 @@ fn write_observed<I: Iterator<Item = IterItem<A>>, O: CompactionObserver, A: All
     ensures refused { IfErr result (λ e. RefusesWritten I.next_gives writer items.old O.says
         observer.old e observer.new) }
 {
-    let mut progress = CompactionProgress {
-        tables: 0,
-        entries: 0,
-    };
-    while let Some(item) = items.next() {
-        let item = item?;
-        if !writer.can_follow(&item.key) {
-            return Ok(CompactionOutcome::OutOfOrder);
-        }
-        let goes_on = write_and_tell(&mut writer, item, &mut progress, observer)?;
-        if !goes_on {
-            return Ok(CompactionOutcome::Stopped);
-        }
-    }
-    let left = writer.table_ids();
-    let tables = writer.finish()?;
-    Ok(CompactionOutcome::Tables(tables, left))
+    let ending = write_while_observed(items, &mut writer, observer);
+    ended(writer, ending)
 }
 
 // All entries of some sources together, in order, as they are compacted. It is generic in these, so
@@ -141,6 +162,29 @@ fn compacted_from<
             .with_filter(filter)
             .with_drop_callback(callback),
     )
+}
+
+// All entries of the runs together, in order where the runs may be merged, as they are compacted.
+fn compacted_of<F: StreamFilter<A> + Drop, C: DroppedKvCallback<A> + Drop, A: Allocator + Clone>(
+    alloc: A,
+    runs: &[Arc<Run<Table<A>, A>, A>],
+    rules: Rules,
+    filter: F,
+    callback: C,
+) -> Result<CompactionStream<Merger<RunScanner<A>, A>, F, C>, Error>
+    ensures can { IfOk result
+        ⟦<CompactionStream<Merger<RunScanner<A>, A>, F, C> as Iterator>⟧.can_next }
+    ensures list { let gives = ⟦<Merger<RunScanner<A>, A> as Iterator>⟧.next_gives in
+        (able : AreMergeable (map arc_value runs.now)) →
+        IfOk result (λ s. (stops : Error → Bool) → stops OutOfMemory ≡ true →
+        Compacts stops gives s (ok_results (union_in able.lists))) }
+    ensures rules { IfOk result (λ s. rules_of s ≡ rules) }
+    ensures filter { IfOk result (λ s. filter_of s ≡ filter) }
+    ensures callback { IfOk result (λ s. callback_of s ≡ callback) }
+    ensures err { AreMergeable (map arc_value runs.now) → IfErr result (λ e. e ≡ OutOfMemory) }
+{
+    let scanners = scanners_of(alloc.clone()?, runs)?;
+    compacted_from(alloc, scanners, rules, filter, callback)
 }
 
 /// Compacts several runs of any tables that were opened into new tables, as
@@ -210,9 +254,9 @@ pub fn compact_any_runs_with<
 {
     // A list whose tables fit is taken whole.
     tables_law();
-    let own = alloc.clone()?;
-    let scanners = scanners_of(own, runs)?;
-    let mut stream = compacted_from(alloc, scanners, rules, filter, callback)?;
-    let outcome = write_observed(&mut stream, writer, observer)?;
-    Ok((outcome, stream.into_callback()))
+    let mut stream = compacted_of(alloc, runs, rules, filter, callback)?;
+    let written = write_observed(&mut stream, writer, observer);
+    let callback = stream.into_callback();
+    let outcome = written?;
+    Ok((outcome, callback))
 }

@@ -1,6 +1,6 @@
 //! Compacting several runs into new tables.
-ghost use Rattle.std.specs.Prelude.{◌≡◌, ◌<◌, All, Err, IfErr, IfOk, List, Some, false, length};
-ghost use Rattle.std.specs.Prelude.{map};
+ghost use Rattle.std.specs.Prelude.{◌≡◌, ◌<◌, All, Err, IfErr, IfOk, List, OnOk, Some, false};
+ghost use Rattle.std.specs.Prelude.{length, map};
 ghost use Rattle.std.specs.Arc.{arc_value};
 ghost use Rattle.std.specs.List.{AllByRecursion, AllZip};
 ghost use Rattle.sst_entries.specs.Error.{is_memory};
@@ -17,15 +17,16 @@ ghost use Rattle.lsm_compactions.specs.Words.{AreCompactable, AreMergeable, AreW
 ghost use Rattle.lsm_compactions.specs.Words.{BeginsWith, CanDeal, DealTogether};
 ghost use Rattle.lsm_compactions.specs.Words.{DealsList, DealsResults, scans_of};
 ghost use Rattle.lsm_compactions.specs.Words.{DealsWritable, Entry, Faults, FitsBy, HaveEntries};
-ghost use Rattle.lsm_compactions.specs.Words.{HoldLists, IsFreshRun, RunsHoldLists, RunsOn, joined};
-ghost use Rattle.lsm_compactions.specs.Words.{kept_in, nowhere, rules_by, writes_fault};
+ghost use Rattle.lsm_compactions.specs.Words.{HoldLists, IsFreshRun, RunsHoldLists, RunsOn, TablesWriting};
+ghost use Rattle.lsm_compactions.specs.Words.{TookList, joined, kept_in, nowhere, rules_by};
+ghost use Rattle.lsm_compactions.specs.Words.{writes_fault};
 
+use lsm_lending::compaction::lending::LendingCompaction;
 use lsm_merge::LendingMerger;
 use lsm_ranges::Run;
 use lsm_readers::Table;
 use lsm_runs::RunScanner;
 use lsm_sorted::compaction::Rules;
-use lsm_lending::compaction::lending::LendingCompaction;
 use lsm_sorted::compaction::stream::read_law;
 use lsm_writers::{FinishedTable, MultiWriter, TableIds, tables_law};
 use sst_blocks::{Error, Lending, SeqNo};
@@ -134,6 +135,43 @@ pub(crate) fn kept_of<A: Allocator + Clone>(
     kept_from(alloc, scanners, rules)
 }
 
+// Writes all that a source lends. Refused as the writer is.
+fn write_each<L: Lending, A: Allocator + Clone>(
+    source: &mut L,
+    writer: &mut MultiWriter<A>,
+) -> Result<(), Error>
+    requires fresh { IsFreshRun writer.old }
+    requires can { CanDeal L.advances nowhere L.can_advance L.can_advance source.old }
+    requires deals { DealsWritable L.advances source.old }
+    ensures took { (d : DealsWritable L.advances source.old) →
+        OnOk result (TookList writer.old d.list writer.new) }
+    // The source refuses nothing but for want of memory.
+    ensures refused { (d : DealsWritable L.advances source.old) →
+        IfErr result (λ e. is_memory e ≡ false → writes_fault writer.old d.list ≡ Some e) }
+{
+    while source.advance()? {
+        if let Some(entry) = source.entry() {
+            writer.write_ref(&entry)?;
+        }
+    }
+    Ok(())
+}
+
+// The tables of what a writer took that had written nothing, and the counter behind them. Refused
+// as the writer is.
+pub(crate) fn finished<A: Allocator + Clone>(
+    writer: MultiWriter<A>,
+) -> Result<(Vec<FinishedTable<A>, A>, TableIds), Error>
+    ensures written { (w : TablesWriting) (es : List Entry) → IsFreshRun w → RunsOn w →
+        TookList w es writer → IfOk result (λ r. AreWrittenBy w es r.0.items r.1) }
+    ensures refused { (w : TablesWriting) (es : List Entry) → TookList w es writer →
+        Faults result (writes_fault w es) }
+{
+    let left = writer.table_ids();
+    let tables = writer.finish()?;
+    Ok((tables, left))
+}
+
 // Writes all that a source lends, and finishes. Refused as the writer is.
 fn write_all<L: Lending + Drop, A: Allocator + Clone>(
     mut source: L,
@@ -149,14 +187,13 @@ fn write_all<L: Lending + Drop, A: Allocator + Clone>(
     ensures refused { (d : DealsWritable L.advances source) →
         Faults result (writes_fault writer d.list) }
 {
-    while source.advance()? {
-        if let Some(entry) = source.entry() {
-            writer.write_ref(&entry)?;
-        }
+    let took = write_each(&mut source, &mut writer);
+    drop(source);
+    if let Err(error) = took {
+        drop(writer);
+        return Err(error);
     }
-    let left = writer.table_ids();
-    let tables = writer.finish()?;
-    Ok((tables, left))
+    finished(writer)
 }
 
 /// Compacts several runs into new tables: what a [`LendingCompaction`] keeps of all their entries
