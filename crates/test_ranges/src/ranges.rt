@@ -57,7 +57,7 @@ fn reach<A: Allocator>(ranges: &[&KeyRange<A>], wanted: &KeyRange<A>) -> (bool, 
     )
 }
 
-// The same of the ranges of at most three tables.
+// Whether the ranges of at most three tables are disjoint, and aggregate to the one that is given.
 fn reach_together<A: Allocator>(tables: &[FakeTable<A>], wanted: &KeyRange<A>) -> (bool, bool) {
     match tables {
         [] => reach(&[], wanted),

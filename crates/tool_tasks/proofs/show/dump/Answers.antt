@@ -25,8 +25,14 @@ returns-in_err-to-clause-refused g c =
     passed_failure (λ (f : Failure).
     RefusesDump c.args.task.now (g.P.Place.content c.args.place.now) f text text)
     c.from_residual-in_err-to.result c.in_err-to.field-0.0 c.from_residual-in_err-to.ensures.1
-    (inl (inr (option_map (λ (bytes : Vec ℕ Global). bytes.items) c.in_ok-from.from,
-    c.in_ok-from.ensures.means, c.in_err-to.ensures.refused), refl))
+    (inl (
+      inr (
+        option_map (λ (bytes : Vec ℕ Global). bytes.items) c.in_ok-from.from,
+        c.in_ok-from.ensures.means,
+        c.in_err-to.ensures.refused,
+      ),
+      refl,
+    ))
 
 pub returns : goal.returns
 returns g c =
