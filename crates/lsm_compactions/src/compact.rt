@@ -17,9 +17,9 @@ ghost use Rattle.lsm_compactions.specs.Words.{AreCompactable, AreMergeable, AreW
 ghost use Rattle.lsm_compactions.specs.Words.{BeginsWith, CanDeal, DealTogether};
 ghost use Rattle.lsm_compactions.specs.Words.{DealsList, DealsResults, scans_of};
 ghost use Rattle.lsm_compactions.specs.Words.{DealsWritable, Entry, Faults, FitsBy, HaveEntries};
-ghost use Rattle.lsm_compactions.specs.Words.{HoldLists, IsFreshRun, RunsHoldLists, RunsOn, TablesWriting};
-ghost use Rattle.lsm_compactions.specs.Words.{TookList, joined, kept_in, nowhere, rules_by};
-ghost use Rattle.lsm_compactions.specs.Words.{writes_fault};
+ghost use Rattle.lsm_compactions.specs.Words.{HoldLists, IsFreshRun, RunsHoldLists, RunsOn};
+ghost use Rattle.lsm_compactions.specs.Words.{TablesWriting, TookList, joined, kept_in, nowhere};
+ghost use Rattle.lsm_compactions.specs.Words.{rules_by, writes_fault};
 
 use lsm_lending::compaction::lending::LendingCompaction;
 use lsm_merge::LendingMerger;
@@ -157,7 +157,7 @@ fn write_each<L: Lending, A: Allocator + Clone>(
     Ok(())
 }
 
-// The tables of what a writer took that had written nothing, and the counter behind them. Refused
+// The tables of all that a writer took since it began, and its counter of ids behind them. Refused
 // as the writer is.
 pub(crate) fn finished<A: Allocator + Clone>(
     writer: MultiWriter<A>,

@@ -1,6 +1,7 @@
 //! Merging, newest versions and compaction, and with `lsm_ranges` key ranges and runs of tables:
-//! everything that works on sorted entries, whatever table they come from. It passes on what
-//! `lsm_ranges` exports, and of `lsm_merge` all but `Ends`.
+//! what works on sorted entries, whatever table they come from. What lends them instead of giving
+//! them stands in `lsm_lending`. It passes on what `lsm_ranges` exports, and of `lsm_merge` what
+//! gives entries and the queues that users name.
 #![tactic(auto)]
 
 mod ahead;
