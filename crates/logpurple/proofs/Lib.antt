@@ -1,1 +1,4 @@
+pub mod Beside
 pub mod Laws
+pub mod OneRun
+pub mod PartRuns

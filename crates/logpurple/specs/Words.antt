@@ -46,11 +46,12 @@ pub use Rattle.lsm_runs.specs.RunLists.{DealTogether, single}
 pub use Rattle.lsm_runs.specs.RunParts.{range_of}
 pub use Rattle.lsm_runs.specs.SeveralRuns.{runs_told, union_in}
 pub use Rattle.lsm_sorted.specs.Leading.{leading_of}
+pub use Rattle.lsm_runs.specs.SpansRead.{IsOverSpans}
 pub use Rattle.lsm_compactions.specs.AnyRuns.{AreTablesBy, BeginsWith, CameInOrder, CameOf}
 pub use Rattle.lsm_compactions.specs.AnyRuns.{GoesThrough, HasMade, LeavesOrder, RefusesOf}
 pub use Rattle.lsm_compactions.specs.AnyRuns.{WritesSome, scans_of}
 pub use Rattle.lsm_compactions.specs.Chain.{AreCutOf, FitsAsTables, IsRunOfList, chain_fault}
-pub use Rattle.lsm_compactions.specs.Chain.{ids_behind, run_label, tables_fault}
+pub use Rattle.lsm_compactions.specs.Chain.{both_fault, ids_behind, run_label, tables_fault}
 pub use Rattle.lsm_compactions.specs.Compacted.{AreCompactable, AreMergeable, AreWrittenBy}
 pub use Rattle.lsm_compactions.specs.Compacted.{HaveEntries, kept_in, rules_by}
 pub use Rattle.lsm_compactions.specs.Filtered.{CameTo, CameUntil, CameUpTo, RefusesBy}
@@ -61,3 +62,4 @@ pub use Rattle.lsm_compactions.specs.Observed.{WasTold, WasToldUntil}
 pub use Rattle.lsm_compactions.specs.Packed.{HoldUnion}
 pub use Rattle.lsm_compactions.specs.ReadsCompacted.{AreReplaced, all_shown, joined_in}
 pub use Rattle.lsm_compactions.specs.Written.{IsOpened, number_fault, opening_fault}
+pub use Rattle.lsm_compactions.specs.PartReads.{HoldSides, ReadsKept, ReadsOf, ShowAlike}

@@ -2,12 +2,21 @@
 //! answers on standard output. With arguments it is a tool for table files.
 #![tactic(auto)]
 
+mod bar;
+mod failure;
+mod lines;
+mod make;
+mod running;
+mod show;
+mod systems;
+
+use running::run;
 use sst_script::run_script;
 use std::env::{Env, FillError, args};
 use std::io;
 use std::io::{BufWriter, IsTerminal, Write};
 use std::process::ExitCode;
-use tool_tasks::{System, run};
+use systems::System;
 
 fn main(rt: HostRuntime) -> ExitCode {
     let status = if has_arguments(&rt) {

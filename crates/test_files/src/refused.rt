@@ -3,9 +3,8 @@ use crate::memory::Memory;
 use crate::written::{LINES, NEVER, compact, entries_of, sources, write, write_options};
 use logpurple::Error;
 use std::alloc::Global;
-use tool_compact::{CompactError, compact_files};
 use tool_files::FileFault;
-use tool_make::{MakeError, write_entries};
+use tool_make::{CompactError, MakeError, compact_files, write_entries};
 
 // Whether a file has just these bytes.
 fn has(place: &Memory, path: &str, bytes: &[u8]) -> bool {

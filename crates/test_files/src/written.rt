@@ -2,10 +2,9 @@
 use crate::memory::Memory;
 use logpurple::{BloomConstructionPolicy, IndexKind, Rules, Timestamp};
 use std::alloc::Global;
-use tool_compact::{CompactOptions, compact_files};
 use tool_files::open_table;
 use tool_lines::Format;
-use tool_make::{WriteOptions, write_entries};
+use tool_make::{CompactOptions, WriteOptions, compact_files, write_entries};
 
 /// A step that is never made, so that none is refused.
 pub(crate) const NEVER: u64 = 1_000;

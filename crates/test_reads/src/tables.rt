@@ -19,7 +19,7 @@ mod sizes;
 mod verified;
 mod walks;
 
-use lsm_tables::Table;
+use logpurple::Table;
 use lsm_writers::{BloomConstructionPolicy, FilterKind, IndexKind, Options, Writer};
 use sst_blocks::{Checksum, Error, InternalValue, SeqNo, Slice, ValueType};
 use std::alloc::Allocator;

@@ -1,7 +1,7 @@
 //! Readers that lend beside those that give by value: the same entries and errors in the same
 //! places, and as many loads. What walks them is generic in them, so that none of their parts is
 //! looked at.
-use lsm_tables::{Iter, LendingIter, RunScanner, Scanner};
+use logpurple::{Iter, LendingIter, RunScanner, Scanner};
 use sst_blocks::{EntryRef, Error, IterItem, Lending, Opened};
 use std::alloc::Global;
 

@@ -5,9 +5,9 @@ ghost use Rattle.sst_entries.specs.Stream.{CanDeal};
 
 use crate::rows::{Row, entry};
 use crate::runs::{Bounds, Name, Tables, name_of, owned_range};
+use logpurple::{RunReader, range_runs};
 use lsm_merge::Merger;
 use lsm_sorted::MvccStream;
-use lsm_tables::{RunReader, range_runs};
 use lsm_writers::is_writable;
 use sst_blocks::{Direction, Error, InternalValue, IterItem, answers_at};
 use std::alloc::Allocator;

@@ -2,8 +2,8 @@
 use crate::large::add;
 use crate::rows::{Row, fill, new_writer};
 use crate::tables::{open, overwritten};
+use logpurple::Table;
 use lsm_ranges::Run;
-use lsm_tables::Table;
 use sst_blocks::{Error, IterItem, SeqNo, Slice, UserKey};
 use std::alloc::Allocator;
 use std::ops::Bound;

@@ -1,5 +1,5 @@
 //! Opening a table, changing its bytes and reading from it, for the tests.
-use lsm_tables::Table;
+use logpurple::Table;
 use sst_blocks::{
     Block, BlockHandle, BlockSource, BlockType, Checksum, DataBlock, Error, IndexBlock, Opened,
     SeqNo, Slice,

@@ -2,7 +2,7 @@
 //! are compared whole with the rows that they were written from. What walks them is generic in
 //! them, so that none of their parts is looked at.
 use crate::rows::Row;
-use lsm_tables::{Iter, RunReader, RunScanner, Scanner};
+use logpurple::{Iter, RunReader, RunScanner, Scanner};
 use sst_blocks::{Direction, Error, InternalValue, IterItem, ValueType};
 use std::alloc::Allocator;
 

@@ -3,8 +3,8 @@ ghost use Rattle.std.specs.Iterator.{IsFinite};
 
 use crate::digest::{Digest, code};
 use crate::files::{scanners_of, tables_of};
+use logpurple::Table;
 use lsm_sorted::newest_of;
-use lsm_tables::Table;
 use sst_blocks::{Error, IterItem};
 use std::alloc::Global;
 

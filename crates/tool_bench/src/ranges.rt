@@ -3,8 +3,8 @@ ghost use Rattle.std.specs.Iterator.{IsFinite};
 
 use crate::digest::{Digest, code};
 use crate::files::{open_copy, tables_of};
+use logpurple::{Table, range_runs};
 use lsm_ranges::Run;
-use lsm_tables::{Table, range_runs};
 use sst_blocks::{Error, IterItem, Slice};
 use std::alloc::Global;
 use std::ops::Bound;

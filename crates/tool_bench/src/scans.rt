@@ -2,7 +2,7 @@
 use crate::digest::{Digest, code};
 use crate::files::open_copy;
 use crate::ranges::take_all;
-use lsm_tables::Table;
+use logpurple::Table;
 use sst_blocks::Error;
 use std::alloc::Global;
 

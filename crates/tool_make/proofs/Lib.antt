@@ -1,6 +1,10 @@
+mod Blaming
+mod Library
 mod Lines
 mod LinesLaw
 mod Refusals
+mod Scanning
 mod Sorting
 mod TableFiles
 mod Taken
+mod Texts

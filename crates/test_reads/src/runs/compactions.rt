@@ -1,12 +1,12 @@
 //! Compactions of runs that nobody has verified: what the new tables have, the ids that are drawn,
 //! what a filter changes, what a callback and an observer are told, and runs that stay.
 use crate::runs::points::number_of;
-use lsm_sorted::compaction::stream::{
-    DroppedKvCallback, NoCallback, NoFilter, StreamFilter, StreamFilterVerdict,
-};
-use lsm_tables::{
+use logpurple::{
     CompactionObserver, CompactionOutcome, CompactionProgress, NoObserver, OpenOptions, Rules,
     Scanner, compact_any_runs_with, compact_to_run_with, compaction_law, get_runs,
+};
+use lsm_sorted::compaction::stream::{
+    DroppedKvCallback, NoCallback, NoFilter, StreamFilter, StreamFilterVerdict,
 };
 use lsm_writers::{FinishedTable, MultiWriter, TableId, TableIds, Timestamp};
 use sst_blocks::{Error, InternalValue, IterItem, SeqNo, Slice, UserValue, ValueType};

@@ -1,5 +1,5 @@
 //! Ranges over runs that lend, beside those that give.
-use lsm_tables::{lend_runs_at, range_runs_at};
+use logpurple::{lend_runs_at, range_runs_at};
 use sst_blocks::{Error, SeqNo, ValueType};
 use std::alloc::Global;
 use std::ops::Bound;

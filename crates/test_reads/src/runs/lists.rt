@@ -1,9 +1,9 @@
 //! Lists that are written as runs, which are read as they are or compacted first, and how a target
 //! cuts them.
-use lsm_ranges::Run;
-use lsm_tables::{
+use logpurple::{
     MultiWriter, OpenOptions, Rules, Table, compact_run_back, read_run_back, write_run_with,
 };
+use lsm_ranges::Run;
 use lsm_writers::{TableId, TableIds, Timestamp};
 use sst_blocks::{Error, SeqNo, ValueType};
 use std::alloc::{Allocator, Global};

@@ -1,6 +1,6 @@
 //! Runs of tables that are packed: which tables go into which run, a run that stays as it is, and
 //! one without tables, which is left out.
-use lsm_tables::{Table, pack_runs, packing_law, write_run};
+use logpurple::{Table, pack_runs, packing_law, write_run};
 use lsm_writers::{TableIds, Timestamp};
 use sst_blocks::{Error, SeqNo, ValueType};
 use std::alloc::Global;

@@ -3,7 +3,7 @@ ghost use Rattle.std.specs.Prelude.{◌∷◌, [], IfOk, map};
 ghost use Rattle.std.specs.Arc.{arc_value};
 ghost use Rattle.lsm_compactions.specs.Compacted.{AreCompactable};
 
-use lsm_tables::{OpenOptions, Rules, compact_part_back, compact_to_run_with};
+use logpurple::{OpenOptions, Rules, compact_part_back, compact_to_run_with};
 use lsm_writers::{MultiWriter, TableId, TableIds, Timestamp};
 use sst_blocks::{Error, SeqNo, ValueType};
 use std::alloc::{Allocator, Global};

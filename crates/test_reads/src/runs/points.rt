@@ -1,9 +1,9 @@
 //! Point reads of several runs, of all of them and by age, and of one: what they find, the blocks
 //! that they load, and what they are refused where a table is damaged.
-use lsm_ranges::Run;
-use lsm_tables::{
+use logpurple::{
     Table, get_runs, get_runs_by_age, get_runs_by_age_counted, get_runs_counted, read_run,
 };
+use lsm_ranges::Run;
 use sst_blocks::{Error, InternalValue, Opened, SeqNo, ValueType};
 use std::alloc::{Allocator, Global};
 use test_tables::large::add;

@@ -9,8 +9,8 @@ ghost use Rattle.lsm_runs.specs.RunLists.{HoldsList};
 ghost use Rattle.test_reads.specs.Stored.{new_entries, stored_entries};
 
 use crate::runs::compactions::{Listed, Version, are, entries_of};
+use logpurple::{Table, compact_runs};
 use lsm_ranges::Run;
-use lsm_tables::{Table, compact_runs};
 use lsm_writers::{MultiWriter, TableIds, Timestamp, write_list};
 use sst_blocks::{Checksum, Error, InternalValue, Slice, ValueType};
 use std::alloc::Global;

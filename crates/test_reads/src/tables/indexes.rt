@@ -2,7 +2,7 @@
 //! with, and whether or not it stays loaded: of what kind it is, and where its readers start. Which
 //! blocks these are, and in which order they come, `test_vectors` compares.
 use crate::tables::{Changed, Of, Parted, opened};
-use lsm_tables::{BlockIndex, BlockIndexImpl, BlockIndexIterImpl, Table};
+use logpurple::{BlockIndex, BlockIndexImpl, BlockIndexIterImpl, Table};
 use sst_blocks::{Error, SeqNo};
 use test_tables::large::{asked, asked_if_any};
 

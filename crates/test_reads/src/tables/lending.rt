@@ -2,7 +2,7 @@
 //! errors in the same places, and as many loads, also over damaged bytes.
 use crate::tables::walks::range_in;
 use crate::tables::{Changed, KINDS, changed_bytes};
-use lsm_tables::{Iter, LendingIter, Scanner};
+use logpurple::{Iter, LendingIter, Scanner};
 use sst_blocks::{BlockSource, CompressionType, Error, SeqNo, ValueType};
 use std::alloc::Global;
 use std::ops::Bound;

@@ -1,8 +1,8 @@
 //! Lists that are written as one table, opened and read, and what the tables say of themselves.
 use example_calling::write_and_find;
+use logpurple::{Scanner, Table, read_back, write_and_open};
 use lsm_formats::ItemName;
 use lsm_ranges::Ranged;
-use lsm_tables::{Scanner, Table, read_back, write_and_open};
 use lsm_writers::Timestamp;
 use sst_blocks::{Error, InternalValue, SeqNo, ValueType};
 use std::alloc::{Allocator, Global};

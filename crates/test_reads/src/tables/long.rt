@@ -3,7 +3,7 @@
 ghost use Rattle.std.specs.Prelude.{◌≡◌, []};
 
 use crate::tables::{ALL_PINS, Parted, open_with, written};
-use lsm_tables::Table;
+use logpurple::Table;
 use lsm_writers::Writer;
 use sst_blocks::{
     Block, BlockHandle, BlockSource, BlockType, CompressionType, Error, Opened, SectionName,

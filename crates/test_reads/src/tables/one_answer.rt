@@ -1,7 +1,7 @@
 //! All reads of tables of one list, under each kind of index and of filter.
 use crate::tables::walks::{Call, Walk};
 use crate::tables::{Parted, open_with, written};
-use lsm_tables::{Iter, Scanner, Table, read_each_way};
+use logpurple::{Iter, Scanner, Table, read_each_way};
 use sst_blocks::{Error, InternalValue, Slice, ValueType};
 use std::alloc::Global;
 use std::ops::Bound;

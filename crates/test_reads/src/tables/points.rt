@@ -1,6 +1,6 @@
 //! Point reads over a source that lists what it loads.
 use crate::tables::{Of, Parted, Sought, bytes_of, number_of};
-use lsm_tables::{Table, point_in};
+use logpurple::{Table, point_in};
 use sst_blocks::{
     Block, BlockHandle, BlockSource, BlockType, Counted, Error, LoadBlocks, SeqNo, Slice,
 };

@@ -5,7 +5,7 @@
 use crate::tables::{
     ALL_PINS, BELITTLED, Changed, Changes, Of, Parted, Pins, Sought, cloned, counted_read, opened,
 };
-use lsm_tables::Table;
+use logpurple::Table;
 use sst_blocks::{Error, SeqNo, TagName};
 use std::alloc::Global;
 use test_tables::large::{asked, asked_with};

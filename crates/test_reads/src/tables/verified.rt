@@ -1,7 +1,7 @@
 //! What tables are verified to have, and what is wrong first with tables whose bytes were changed.
 use crate::tables::{Changed, Changes, Of, Pins, opened};
+use logpurple::{Fault, Finding, Table, Verified, VerifyError};
 use lsm_formats::ItemName;
-use lsm_tables::{Fault, Finding, Table, Verified, VerifyError};
 use sst_blocks::{Checksum, Error, SectionName};
 use std::alloc::Global;
 use test_tables::large::asked_with;

@@ -1,0 +1,166 @@
+//! A store at a snapshot, compared with a plain map.
+ghost use Rattle.std.specs.Iterator.{IsFinite};
+
+use crate::store::Store;
+use logpurple::{Direction, Error, InternalValue, IterItem, SeqNo, Slice};
+use std::alloc::Global;
+use std::collections::BTreeMap;
+use std::ops::Bound;
+
+/// How many keys are written.
+pub const KEYS: u32 = 20_000;
+
+/// What a store should have at a snapshot.
+pub type Plain = BTreeMap<u32, u32>;
+
+/// How much was compared, and how much of it is wrong.
+#[derive(Clone, Copy)]
+pub struct Count {
+    /// All.
+    pub all: usize,
+    /// What is wrong, missing or too much.
+    pub wrong: usize,
+}
+
+impl Count {
+    // Counts one more.
+    fn add(&mut self, is_right: bool) {
+        self.all = self.all.saturating_add(1);
+        self.wrong = self.wrong.saturating_add(usize::from(!is_right));
+    }
+}
+
+/// What was compared at one moment.
+#[derive(Clone, Copy)]
+pub struct Compared {
+    /// What was done last.
+    pub moment: &'static str,
+    /// The snapshot.
+    pub snapshot: SeqNo,
+    /// What each key has.
+    pub gets: Count,
+    /// The keys with a value, from the front.
+    pub front: Count,
+    /// The keys with a value, from the back.
+    pub back: Count,
+}
+
+// Whether a value is this number.
+fn is_value(found: &Option<Slice>, want: Option<&u32>) -> bool {
+    match (found, want) {
+        (Some(found), Some(want)) => found.as_slice() == want.to_be_bytes().as_slice(),
+        (None, None) => true,
+        _ => false,
+    }
+}
+
+// Whether a key has what it should.
+fn is_got(store: &Store, plain: &Plain, key: u32, snapshot: SeqNo) -> Result<bool, Error> {
+    let found = store.get(&key.to_be_bytes(), snapshot)?;
+    Ok(is_value(&found, plain.get(&key)))
+}
+
+// Looks up each key.
+fn compare_gets(store: &Store, plain: &Plain, snapshot: SeqNo) -> Result<Count, Error> {
+    let mut count = Count { all: 0, wrong: 0 };
+    for key in 0..KEYS {
+        count.add(is_got(store, plain, key, snapshot)?);
+    }
+    Ok(count)
+}
+
+// Keys and their values.
+type Rows = Vec<(u32, u32)>;
+
+fn rows_of(alloc: Global, plain: &Plain) -> Result<Rows, Error> {
+    let mut rows = Vec::new(alloc);
+    for (key, value) in plain {
+        rows.push((*key, *value))?;
+    }
+    Ok(rows)
+}
+
+// Whether an entry has this key and this value.
+fn is_row(item: &InternalValue<Global>, want: Option<&(u32, u32)>) -> bool {
+    match want {
+        Some((key, value)) => {
+            item.key.user_key.as_slice() == key.to_be_bytes().as_slice()
+                && item.value.as_slice() == value.to_be_bytes().as_slice()
+        }
+        None => false,
+    }
+}
+
+// Compares the next entry, where it has a value.
+fn compare_item(item: &InternalValue<Global>, rows: &[(u32, u32)], count: &mut Count) {
+    if !item.is_tombstone() {
+        let want = rows.get(count.all);
+        count.add(is_row(item, want));
+    }
+}
+
+// Compares all entries in turn, which should have the values of these rows.
+fn compare_each<I: Iterator<Item = IterItem<Global>> + Drop>(
+    items: I,
+    rows: &[(u32, u32)],
+) -> Result<Count, Error>
+    requires can { I.can_next items }
+    requires finite { IsFinite (I.remaining items) }
+{
+    let mut count = Count { all: 0, wrong: 0 };
+    for item in items {
+        compare_item(&item?, rows, &mut count);
+    }
+    let missing = rows.len().saturating_sub(count.all);
+    count.wrong = count.wrong.saturating_add(missing);
+    Ok(count)
+}
+
+// Compares all entries from one end on. Generic in what has them, so that its parts are looked at
+// once for both ends.
+fn compare_from<I: DoubleEndedIterator<Item = IterItem<Global>> + Drop>(
+    end: Direction,
+    items: I,
+    rows: &[(u32, u32)],
+) -> Result<Count, Error>
+    requires can { I.can_next items }
+    requires can_back { I.can_next_back items }
+    requires finite { IsFinite (I.remaining items) }
+{
+    match end {
+        Direction::Front => compare_each(items, rows),
+        Direction::Back => compare_each(items.rev(), rows),
+    }
+}
+
+fn compare_range(
+    end: Direction,
+    store: &Store,
+    rows: &[(u32, u32)],
+    snapshot: SeqNo,
+) -> Result<Count, Error> {
+    let all = (Bound::Unbounded, Bound::Unbounded);
+    compare_from(end, store.range(all, snapshot)?, rows)
+}
+
+/// Compares what each key has at a snapshot, and what there is from either end.
+pub fn compare(
+    alloc: Global,
+    moment: &'static str,
+    store: &Store,
+    plain: &Plain,
+    snapshot: SeqNo,
+) -> Result<Compared, Error> {
+    let mut rows = rows_of(alloc, plain)?;
+    let gets = compare_gets(store, plain, snapshot)?;
+    let front = compare_range(Direction::Front, store, &rows, snapshot)?;
+    rows.reverse();
+    let back = compare_range(Direction::Back, store, &rows, snapshot)?;
+    Ok(Compared {
+        moment,
+        snapshot,
+        gets,
+        front,
+        back,
+    })
+}

@@ -1,0 +1,60 @@
+//! A store that is closed, its tables written to files and read again, and opened from those.
+use crate::store::{Closed, Store};
+use anyhow::bail;
+use logpurple::{Error, Slice};
+use std::path::PathBuf;
+use std::{env, fs, process};
+
+// A path of its own among those of files that do not last.
+fn path_of(rt: &HostRuntime) -> anyhow::Result<PathBuf> {
+    let id = process::id(rt.process());
+    let name = format!(in rt.alloc(); "example_store-{id}.sst")?;
+    Ok(env::temp_dir(rt)?.join(rt.alloc(), name.as_str())?)
+}
+
+// Some bytes, written to a file and read again; the file is removed.
+fn through_file(rt: &HostRuntime, bytes: &Slice) -> anyhow::Result<Slice> {
+    let path = path_of(rt)?;
+    fs::write(rt, path.as_path(), bytes.as_slice())?;
+    let read = fs::read(rt, path.as_path());
+    fs::remove_file(rt, path.as_path())?;
+    Ok(Slice::from(rt.alloc(), read?.as_slice())?)
+}
+
+// The files of a run, each written and read again.
+fn run_through_files(rt: &HostRuntime, files: &[Slice]) -> anyhow::Result<Vec<Slice>> {
+    let mut read = Vec::new(rt.alloc());
+    for file in files {
+        read.push(through_file(rt, file)?)?;
+    }
+    Ok(read)
+}
+
+// All files, each written and read again.
+fn through_files(rt: &HostRuntime, closed: &Closed) -> anyhow::Result<Closed> {
+    let mut files = Vec::new(rt.alloc());
+    for run in &closed.files {
+        files.push(run_through_files(rt, run)?)?;
+    }
+    Ok(Closed {
+        files,
+        ids: closed.ids,
+        next: closed.next,
+        oldest: closed.oldest,
+    })
+}
+
+/// Closes a store, and opens another one from what was kept of it.
+pub fn reopen(
+    rt: &HostRuntime,
+    store: &mut Store,
+    limit: usize,
+    target: u64,
+) -> anyhow::Result<Store> {
+    let closed = store.close()?;
+    let read = through_files(rt, &closed)?;
+    match Store::open(rt.alloc(), limit, target, &read) {
+        Ok(store) => Ok(store),
+        Err(error) => bail!("not opened: {error:?}"),
+    }
+}

@@ -1,3 +1,0 @@
-pub mod Beside
-pub mod OneRun
-pub mod PartRuns

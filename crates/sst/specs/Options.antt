@@ -1,0 +1,46 @@
+-- How tables are made, as the command line asks for it.
+use Rattle.std.specs.Prelude.{◌*◌, ◌-◌, ◌^◌, ℕ, Bool, min, if◌then◌else◌}
+use Rattle.lsm_formats.specs.declared.options.IndexKind.{IndexKind}
+use Rattle.lsm_formats.specs.declared.options.IndexKind.TheVariants.{Full, Partitioned}
+use Rattle.sst_filters.specs.declared.policy.BloomConstructionPolicy.TheVariants.{BitsPerKey}
+use Rattle.tool_make.specs.declared.compact_options.CompactOptions.{CompactOptions}
+use Rattle.tool_lines.specs.declared.entry_line.Format.{Format}
+use Rattle.tool_lines.specs.declared.entry_line.Format.TheVariants.{Lines, Json}
+use Rattle.tool_make.specs.declared.options.WriteOptions.{WriteOptions}
+use Rattle.tool_options.specs.declared.tasks.CompactTask.{CompactTask}
+use Rattle.tool_options.specs.declared.tasks.WriteTask.{WriteTask}
+
+-- how a line spells an entry
+abbrev pub format_of : Bool → Format
+format_of json = if json then Json else Lines
+
+-- the kind of the index
+abbrev pub index_asked : Bool → ℕ → IndexKind
+index_asked partitioned size = if partitioned then Partitioned size else Full
+
+-- tenths of a bit for so many bits
+abbrev pub tenths : ℕ → ℕ
+tenths bits = min (bits * 10) (2 ^ 32 - 1)
+
+-- options for writing as a task asks for them: of the options alone is the moment
+abbrev pub write_by : WriteTask → WriteOptions → WriteOptions
+write_by task o = record o {
+  index = index_asked task.partitioned task.partition_size;
+  filter = BitsPerKey (tenths task.filter_bits);
+  block_size = task.block_size;
+  level = task.level;
+  target = task.target;
+  format = format_of task.json;
+  sort = task.sort;
+}
+
+-- and so for compacting
+abbrev pub compact_by : CompactTask → CompactOptions → CompactOptions
+compact_by task o = record o {
+  rules = record {
+    watermark = task.watermark;
+    evict = task.evict;
+    zeroing = task.zero;
+  };
+  target = task.target;
+}

@@ -1,4 +1,0 @@
-mod Blaming
-mod Library
-mod Scanning
-mod Texts

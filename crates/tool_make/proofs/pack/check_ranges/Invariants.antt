@@ -1,0 +1,6 @@
+use Rattle.std.proofs.Common.{take}
+use Rattle.lsm_ranges.specs.Packing.{AreTablesWellFormed}
+use Rattle.tool_make.proofs.pack.check_ranges.Given as goal
+
+abbrev pub invariant-loop-place : goal.invariant-loop-place
+invariant-loop-place g l = AreTablesWellFormed g.T.Ranged.range (take l.place l.tables)

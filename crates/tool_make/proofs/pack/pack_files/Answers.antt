@@ -1,0 +1,14 @@
+use Rattle.std.proofs.Common.{List, subst}
+use Rattle.lsm_ranges.specs.Packing.{AreTablesWellFormed}
+use Rattle.logpurple.specs.Words.{OpenTable, range_of}
+use Rattle.tool_make.proofs.pack.pack_files.Goals as goal
+
+pub returns-clause-ok : goal.returns-clause-ok
+returns-clause-ok g c = (
+  c.in_ok-tables.tables.items,
+  c.in_ok-tables.ensures.each,
+  c.in_ok-tables.ensures.opened,
+  c.in_ok-pack_each.ensures.packed
+      (subst (λ (ts : List OpenTable). AreTablesWellFormed range_of ts) c.deref.ensures.value
+      c.in_ok-check_ranges.ensures.ok),
+)

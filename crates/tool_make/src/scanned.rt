@@ -1,0 +1,101 @@
+//! Tables that are read whole, to find which is at fault.
+ghost use Rattle.std.specs.Prelude.{◌≡◌, ◌<◌, IfErr, IfOk, IfSome, IsOk, List, OnOk, Some, false};
+ghost use Rattle.std.specs.Prelude.{length, true};
+ghost use Rattle.std.specs.Iterator.{IsFinite};
+ghost use Rattle.lsm_compactions.specs.AnyRuns.{DealsResults};
+ghost use Rattle.lsm_merge.specs.Ends.{R};
+ghost use Rattle.lsm_runs.specs.RunScan.{early_scan_fault, table_scan};
+ghost use Rattle.sst_entries.specs.declared.error.Error.{Error as Refusal};
+ghost use Rattle.logpurple.specs.Words.{Entry, OutOfMemory, StoresList, is_memory};
+ghost use Rattle.tool_make.specs.Scanned.{IsFirstRefusal, come_in_order};
+
+use logpurple::{Error, InternalValue, IterItem, Table};
+use std::alloc::Allocator;
+
+// The first refusal among entries.
+fn first_refusal<I: Iterator<Item = IterItem<A>> + Drop, A: Allocator>(items: I) -> Option<Error>
+    requires can { I.can_next items }
+    requires finite { IsFinite (I.remaining items) }
+    // Memory aside, it is the first of those that come, and none where none comes.
+    ensures first { (rs : List R) → DealsResults I.next_gives rs items →
+        IsFirstRefusal rs result }
+{
+    for item in items {
+        if let Err(error) = item {
+            return Some(error);
+        }
+    }
+    None
+}
+
+// Whether entries that came in order up to an error do so up to the first that cannot be read: they
+// do, but want of memory tells nothing of them.
+fn ended_by(error: Error) -> Result<bool, Error>
+    ensures fault { OnOk result (is_memory error ≡ false) }
+    ensures order { IfOk result (λ b. b ≡ true) }
+    ensures memory { IfErr result (λ e. e ≡ OutOfMemory) }
+    ensures known { is_memory error ≡ false → IsOk result }
+{
+    if error == Error::OutOfMemory {
+        return Err(error);
+    }
+    Ok(true)
+}
+
+// Whether entries come in order, up to the first that cannot be read. Refused for want of memory
+// alone.
+fn is_in_order<I: Iterator<Item = IterItem<A>> + Drop, A: Allocator>(
+    items: I,
+) -> Result<bool, Error>
+    requires can { I.can_next items }
+    requires finite { IsFinite (I.remaining items) }
+    ensures order { (rs : List R) → DealsResults I.next_gives rs items →
+        IfOk result (λ b. b ≡ come_in_order rs) }
+    ensures memory { IfErr result (λ e. e ≡ OutOfMemory) }
+{
+    let mut last: Option<InternalValue<A>> = None;
+    for item in items {
+        let item = match item {
+            Ok(item) => item,
+            Err(error) => return ended_by(error),
+        };
+        if !item.may_follow(last.as_ref()) {
+            return Ok(false);
+        }
+        last = Some(item);
+    }
+    Ok(true)
+}
+
+/// The first refusal of reading a table whole.
+pub(crate) fn refusal_of<A: Allocator + Copy>(table: &Table<A>) -> Option<Error>
+    // Memory aside, it is the first that a scan meets, and none where it meets none.
+    ensures first { IsFirstRefusal (table_scan table.now) result }
+    // Where its bytes store a list that has an entry, there is none but want of memory.
+    ensures list { (es : List Entry) → StoresList table.now.bytes es → 0 < length es →
+        IfSome result (λ e. e ≡ OutOfMemory) }
+    // What is found before memory is taken is told whatever memory there is.
+    ensures early { (e : Refusal) → early_scan_fault table.now ≡ Some e → result ≡ Some e }
+{
+    match table.scan() {
+        Ok(items) => first_refusal(items),
+        Err(error) => Some(error),
+    }
+}
+
+/// Whether the entries of a table come in order, up to the first that cannot be read. Refused for
+/// want of memory alone.
+pub(crate) fn has_order<A: Allocator + Copy>(table: &Table<A>) -> Result<bool, Error>
+    ensures order { IfOk result (λ b. b ≡ come_in_order (table_scan table.now)) }
+    // Where its bytes store a list, they do.
+    ensures list { (es : List Entry) → StoresList table.now.bytes es →
+        IfOk result (λ b. b ≡ true) }
+    ensures memory { IfErr result (λ e. e ≡ OutOfMemory) }
+    // Where a fault of the first block is found before memory is taken, none is wanted.
+    ensures early { (e : Refusal) → early_scan_fault table.now ≡ Some e → IsOk result }
+{
+    match table.scan() {
+        Ok(items) => is_in_order(items),
+        Err(error) => ended_by(error),
+    }
+}

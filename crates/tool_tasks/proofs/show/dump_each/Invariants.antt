@@ -1,9 +1,0 @@
-use Rattle.std.proofs.Common.{take}
-use Rattle.tool_tasks.specs.Showing.{DumpsEach}
-use Rattle.tool_tasks.proofs.show.dump_each.Given as goal
-
--- The files so far are printed, and so many entries more may be.
-abbrev pub invariant-loop-name : goal.invariant-loop-name
-invariant-loop-name g l =
-    DumpsEach l.options (g.P.Place.content l.place) (take l.name-index l.names) l.initial.left
-    l.left (g.W.Write.contents l.initial.output) (g.W.Write.contents l.output)
