@@ -15,18 +15,27 @@ const ENTRIES: [(&[u8], SeqNo, &[u8]); 3] = [
     (b"pear", 5, b"yellow"),
 ];
 
+/// Writes an entry, if it comes after the one before it, by key and number.
+fn write_entry<A: Allocator + Copy>(
+    alloc: A,
+    writer: &mut Writer<A>,
+    (key, seqno, value): (&[u8], SeqNo, &[u8]),
+) -> Result<(), Error> {
+    let key = Slice::from(alloc, key)?;
+    let value = Slice::from(alloc, value)?;
+    let item = InternalValue::from_components(key, value, seqno, ValueType::Value);
+    if !writer.can_follow(&item.key) {
+        return Ok(());
+    }
+    writer.write(item)
+}
+
 /// Writes the entries as table 1 of level 0, created at moment 0.
 fn write_table<A: Allocator + Copy>(alloc: A) -> Result<Option<FinishedTable<A>>, Error> {
     let mut writer = Writer::new(alloc, 1, 0, Timestamp::from(0))?;
     let entries = ENTRIES;
-    for (key, seqno, value) in &entries {
-        let key = Slice::from(alloc, key)?;
-        let value = Slice::from(alloc, value)?;
-        let item = InternalValue::from_components(key, value, *seqno, ValueType::Value);
-        // Each entry must come after the one before it, by key and number.
-        if writer.can_follow(&item.key) {
-            writer.write(item)?;
-        }
+    for entry in entries {
+        write_entry(alloc, &mut writer, entry)?;
     }
     writer.finish()
 }

@@ -2,7 +2,7 @@
 -- compacted again.
 use Rattle.std.proofs.Common.{◌≡◌, refl, sym, ◌∙◌, ap, subst, ℕ, ◌+◌, ◌-◌, ◌^◌, ◌<◌, List, [], ◌∷◌}
 use Rattle.std.proofs.Common.{length, arith}
-use Rattle.std.specs.Prelude.{Option, Some, None, Result, IfSome, MatchOption}
+use Rattle.std.specs.Prelude.{Option, Some, None, Result, Ok, Err, IfOk, IfSome, MatchOption}
 use Rattle.std.specs.List.{AllByRecursion}
 use Rattle.std.specs.Option.{option_or}
 use Rattle.std.specs.declared.ops.Bound.{Bound}
@@ -104,6 +104,16 @@ as_written ids target moment es w fs left new fine by =
       left_is =
           n.left_is ∙ behind_new ids target (length n.lists) fine;
     }
+
+-- so of what a call answers
+pub all_as_written : {A X : Type 0} (ids : Option ℕ) (target moment : ℕ) (es : List Entry)
+    (w : TablesWriting) (tables : X → List (FinishedTable A)) (left : X → Option ℕ)
+    (r : Result X Error) → w ≡ new_tables ids target 0 moment → ids_fault ids ≡ None
+    → IfOk r (λ x. AreWrittenBy w es (tables x) (left x))
+    → IfOk r (λ x. AreWritten ids target moment es (tables x) (left x))
+all_as_written ids target moment es w tables left (Ok x) new fine by =
+    as_written ids target moment es w (tables x) (left x) new fine by
+all_as_written ids target moment es w tables left (Err e) new fine by = tt
 
 -- what writing a list as tables refuses where there is an id is what the new writer refuses
 pub new_fault : (ids : Option ℕ) (target moment : ℕ) (es : List Entry) (w : TablesWriting)

@@ -1,51 +1,40 @@
 -- A list that is written as tables, which are opened and stand in order.
 use Rattle.std.proofs.Common.{◌≡◌, refl, sym, ◌∙◌, ap, subst, ℕ, suc, ◌+◌, ◌-◌, ◌^◌, ◌<◌, ◌==◌}
-use Rattle.std.proofs.Common.{Bool, true, false, cond, List, [], ◌∷◌, ◌++◌, length, ◌≢◌, ◌⊎◌, inl}
-use Rattle.std.proofs.Common.{inr, arith, length-append, append-nil, le-ltb, lt-ltb, ltb-false}
+use Rattle.std.proofs.Common.{Bool, true, false, cond, List, [], ◌∷◌, ◌++◌, length, ◌≢◌, inl}
+use Rattle.std.proofs.Common.{inr, arith, le-ltb, lt-ltb, ltb-false}
 use Rattle.std.proofs.Common.{ltb-true}
 use Rattle.std.specs.Prelude.{Option, Some, None, Result, Ok, Err, IfErr, IfSome, IsErrAnd}
-use Rattle.std.specs.Prelude.{MatchOption, max, nat_le, nat_lt}
+use Rattle.std.specs.Prelude.{MatchOption, max, nat_lt}
 use Rattle.std.specs.List.{AllByRecursion}
 use Rattle.std.specs.Option.{option_map_or, option_or}
-use Rattle.std.proofs.lemmas.Bool.{cases_Bool, eqb-true, leb-false, leb-true}
+use Rattle.std.proofs.lemmas.Bool.{cases_Bool, eqb-true}
 use Rattle.sst_entries.specs.declared.error.Error.{Error}
 use Rattle.sst_entries.specs.declared.error.Error.TheVariants.{GlobalSeqNoTooLarge, OutOfMemory}
-use Rattle.sst_entries.specs.declared.error.Error.TheVariants.{WriterFailed}
 use Rattle.sst_entries.specs.Entry.{Entry}
 use Rattle.lsm_formats.specs.declared.label.Label.{Label}
 use Rattle.lsm_formats.specs.declared.options.Options.{Options}
 use Rattle.lsm_formats.specs.Chunks.{joined}
 use Rattle.lsm_formats.specs.Facts.{highest_seqno}
-use Rattle.lsm_formats.specs.Options.{default_options, label_of}
+use Rattle.lsm_formats.specs.Options.{default_options}
 use Rattle.lsm_formats.specs.Table.{IsTable}
 use Rattle.lsm_writers.specs.declared.writer.FinishedTable.{FinishedTable}
-use Rattle.lsm_writers.specs.Cut.{rest_chunk}
-use Rattle.lsm_writers.specs.Tables.{AreFinished, AreInKeyOrder, AreTables, TablesWriting}
-use Rattle.lsm_writers.specs.Tables.{Takes, all_written, drawn, first_id, first_label, ids_fault}
-use Rattle.lsm_writers.specs.Tables.{is_due, new_tables, next_id, next_label, next_writing, rotated}
-use Rattle.lsm_writers.specs.Tables.{rotation_fault, standing, tables_of, took, took_fault}
-use Rattle.lsm_writers.specs.Tables.{turn_fault, with_options}
-use Rattle.lsm_writers.specs.Writing.{IsTableOf, Writing, fresh_writing, gained, write_fault}
+use Rattle.lsm_writers.specs.Tables.{AreFinished}
+use Rattle.lsm_writers.specs.Tables.{first_id, ids_fault}
+use Rattle.lsm_writers.specs.Tables.{next_id, next_label}
+use Rattle.lsm_writers.specs.Writing.{IsTableOf, Writing, gained}
 use Rattle.lsm_writers.specs.Writing.{written}
-use Rattle.lsm_writers.proofs.Cutting.{rest_is}
-use Rattle.lsm_writers.proofs.ListWriting.{same_label, written_gained}
-use Rattle.lsm_writers.proofs.CutTables.{no_end, some_length}
-use Rattle.lsm_writers.proofs.Orders.{nothing_last}
+use Rattle.lsm_writers.proofs.ListWriting.{written_gained}
+use Rattle.lsm_writers.proofs.CutTables.{no_end}
 use Rattle.lsm_readers.specs.OfList.{list_told, parts_said}
 use Rattle.lsm_readers.specs.Parts.{Parts}
 use Rattle.lsm_readers.specs.Scan.{fault_of}
 use Rattle.lsm_readers.specs.Table.{OpenTable}
 use Rattle.lsm_compactions.proofs.HeldRuns.{AreHeld, held_table, none_held, run_held}
-use Rattle.lsm_compactions.specs.Chain.{AreCutOf, AreOpened, AreWritten, FitsAsTables, IsOpenedOf}
+use Rattle.lsm_compactions.specs.Chain.{AreCutOf, AreOpened, AreWritten, IsOpenedOf}
 use Rattle.lsm_compactions.specs.Chain.{IsRunOfList, ids_behind, run_label}
 use Rattle.lsm_compactions.specs.Written.{number_fault}
 
 -- ---- the ids of a writer of many tables
-
-one_more : (ts : List (List Entry)) (t : List Entry) → (t ≡ [] → ⊥)
-    → length (ts ++ rest_chunk t) ≡ length ts + 1
-one_more ts t some = ap (λ (c : List (List Entry)). length (ts ++ c))
-    (rest_is t (some_length t some)) ∙ length-append ts (t ∷ [])
 
 pub first_is : (fault : Option ℕ) → ids_fault fault ≡ None → (first : ℕ) × (fault ≡ Some first)
 first_is None h = absurd cc
@@ -55,46 +44,6 @@ pub next_by : (id first : ℕ) (b : Bool) → nat_lt id (2 ^ 64 - 1) ≡ b → n
     → first ≡ id + 1
 next_by id first true is h = let n : Some (id + 1) ≡ Some first = sym (rw is refl) ∙ h in cc
 next_by id first false is h = let n : None ≡ Some first = sym (rw is refl) ∙ h in absurd cc
-
--- no entry was taken, and the first table stands as it began
-abbrev Begun : ℕ → ℕ → TablesWriting → Type 0
-Begun first moment m = (m.tables ≡ []) × (m.present
-    ≡ fresh_writing (label_of first 0 moment) default_options)
-
--- the present table has entries, and its id is that of its place behind the first that has
-abbrev Going : ℕ → ℕ → ℕ → TablesWriting → Type 0
-Going first target moment m = (m.present.label
-    ≡ label_of (first_id target first + length m.tables) 0 moment) × (written m.present ≡ [] → ⊥)
-
-pub record Draws (ids : Option ℕ) (target : ℕ) (moment : ℕ) (m : TablesWriting) : Type 0 where
-  pub first : ℕ
-  pub first_is : ids ≡ Some first
-  pub target_is : m.target ≡ target
-  pub options_are : m.present.options ≡ default_options
-  pub works : m.failed ≡ false
-  pub next : m.ids ≡ next_id m.present.label.table_id
-  pub stands : Begun first moment m ⊎ Going first target moment m
-
-pub new_draws : (ids : Option ℕ) (target moment : ℕ) (m : TablesWriting)
-    → m ≡ new_tables ids target 0 moment → ids_fault ids ≡ None → Draws ids target moment m
-new_draws None target moment m is fine = absurd cc
-new_draws (Some first) target moment m is fine =
-    subst (Draws (Some first) target moment) (sym is)
-    (record {
-      first = first;
-      first_is = refl;
-      target_is = refl;
-      options_are = refl;
-      works =
-          refl;
-      next = refl;
-      stands = inl (refl, refl);
-    })
-
--- before the first entry a table is due at target 0 alone
-due_fresh : (target : ℕ) (label : Label) (e : Entry)
-    → is_due target (fresh_writing label default_options) e ≡ nat_le target 0
-due_fresh target label e = rw nothing_last refl
 
 pub first_at : (target first : ℕ) → target ≡ 0 → first_id target first ≡ first + 1
 first_at target first none = ap (λ (t : ℕ). first_id t first) none
@@ -109,134 +58,9 @@ pub left_none : (a b : Option Error) → option_or a b ≡ None → a ≡ None
 left_none None b h = refl
 left_none (Some x) b h = absurd cc
 
-named : (l : Label) (k id n moment : ℕ) → l ≡ label_of k 0 moment → id ≡ n
-    → record l { table_id = id } ≡ label_of n 0 moment
-named l k id n moment is same = ap (λ (x : Label). record x { table_id = id }) is
-    ∙ ap (λ (i : ℕ). label_of i 0 moment) same
-
 -- one entry more is some
 pub more_written : (w : Writing) (e : Entry) → written (gained w e) ≡ [] → ⊥
 more_written w e none = no_end (written w) e (sym (written_gained w e) ∙ none)
-
-module _ (ids : Option ℕ) (target moment : ℕ) (m : TablesWriting) (e : Entry)
-    (h : Draws ids target moment m) where
-  first_due : Begun h.first moment m → is_due m.target m.present e ≡ nat_le target 0
-  first_due b = ap (λ (w : Writing). is_due m.target w e) b.1
-      ∙ due_fresh m.target (label_of h.first 0 moment) e ∙ ap (λ (t : ℕ). nat_le t 0) h.target_is
-
-  -- one more entry of the present table
-  open_label : is_due m.target m.present e ≡ false
-      → Begun h.first moment m ⊎ Going h.first target moment m
-      → m.present.label ≡ label_of (first_id target h.first + length m.tables) 0 moment
-  open_label due (inl b) =
-      let some : 0 < target = leb-false _ _ (sym (first_due b) ∙ due) in
-      let id : h.first ≡ first_id target h.first + length m.tables =
-      omega (arith, first_else target h.first some, ap length b.0) in
-      ap (λ (w : Writing). w.label) b.1 ∙ ap (λ (i : ℕ). label_of i 0 moment) id
-  open_label due (inr g) = g.0
-
-  draws_open : is_due m.target m.present e ≡ false → Draws ids target moment (took m e)
-  draws_open due =
-      let w = m.present in
-      let n : TablesWriting = record m { present = gained w e } in
-      let kept = same_label w e in
-      let made : Draws ids target moment n = record {
-        first = h.first;
-        first_is = h.first_is;
-        target_is = h.target_is;
-        options_are = kept.1 ∙ h.options_are;
-        works = h.works;
-        next = h.next ∙ ap (λ (l : Label). next_id l.table_id) (sym kept.0);
-        stands = inr (kept.0 ∙ open_label due h.stands, more_written w e);
-      } in
-      let same : standing m e ≡ m = rw due refl in
-      subst (Draws ids target moment) (sym (ap (λ (x : TablesWriting). record x
-      { present = gained x.present e }) same)) made
-
-  -- the first entry of the next table
-  due_label : (id : ℕ) → id ≡ m.present.label.table_id + 1 → is_due m.target m.present e ≡ true
-      → Begun h.first moment m ⊎ Going h.first target moment m
-      → record m.present.label { table_id = id }
-      ≡ label_of (first_id target h.first + length (tables_of m)) 0 moment
-  due_label id is due (inl b) =
-      let none : target ≡ 0 = omega (arith, leb-true _ _ (sym (first_due b) ∙ due)) in
-      let label : m.present.label ≡ label_of h.first 0 moment = ap (λ (w : Writing). w.label) b.1 in
-      let all : length (tables_of m) ≡ length m.tables =
-      ap (λ (w : Writing). length (m.tables ++ rest_chunk (written w))) b.1
-      ∙ ap length (append-nil m.tables) in
-      named m.present.label h.first id _ moment label
-      (omega (
-        arith,
-        is,
-        ap (λ (l : Label). l.table_id) label,
-        first_at target h.first none,
-        all,
-        ap length b.0,
-      ))
-  due_label id is due (inr g) =
-      named m.present.label _ id _ moment g.0 (omega (
-        arith,
-        is,
-        ap (λ (l : Label). l.table_id) g.0,
-        one_more m.tables
-            (written m.present) g.1,
-      ))
-
-  draws_due : is_due m.target m.present e ≡ true → took_fault m e ≡ None
-      → Draws ids target moment (took m e)
-  draws_due due fine =
-      let w = m.present in
-      let turns : option_or (turn_fault m.target m.ids w e) (write_fault (standing m e).present e)
-      ≡ None =
-      sym (ap (λ (b : Bool). cond b (Some WriterFailed)
-      (option_or (turn_fault m.target m.ids w e) (write_fault (standing m e).present e)))
-      h.works) ∙ fine in
-      let turn : rotation_fault m.ids w ≡ None = sym
-      (ap (λ (b : Bool). cond b (rotation_fault m.ids w) None) due) ∙ left_none _ _ turns in
-      let left = first_is m.ids (left_none _ _ turn) in
-      let id = left.0 in
-      let is : id ≡ w.label.table_id + 1 = next_by w.label.table_id id _ refl
-      (sym h.next ∙ left.1) in
-      let N : Label = record w.label { table_id = id } in
-      let kept = same_label (fresh_writing N w.options) e in
-      let n : TablesWriting = record {
-        target = m.target;
-        ids = next_id id;
-        tables =
-            tables_of m;
-        present = gained (fresh_writing N w.options) e;
-        failed = m.failed;
-      } in
-      let made : Draws ids target moment n = record {
-        first = h.first;
-        first_is = h.first_is;
-        target_is = h.target_is;
-        options_are = kept.1 ∙ h.options_are;
-        works = h.works;
-        next = ap (λ (l : Label). next_id l.table_id) (sym kept.0);
-        stands = inr (
-          kept.0 ∙ due_label id is due h.stands,
-          more_written (fresh_writing N w.options) e,
-        );
-      } in
-      let turned : standing m e ≡ rotated m = rw due refl in
-      let there : took m e ≡ n =
-      ap (λ (x : TablesWriting). record x { present = gained x.present e }) turned
-      ∙ ap (λ (i : Option ℕ). record {
-        target = m.target;
-        ids = drawn i;
-        tables =
-            tables_of m;
-        present = gained (next_writing i w) e;
-        failed = m.failed;
-      }) left.1 in
-      subst (Draws ids target moment) (sym there) made
-
-  pub draws_more : took_fault m e ≡ None → Draws ids target moment (took m e)
-  draws_more fine = elim (cases_Bool (is_due m.target m.present e)) [
-    | inl due ↦ draws_due due fine
-    | inr due ↦ draws_open due
-  ]
 
 -- ---- the tables of a writer that has taken its list
 
@@ -246,80 +70,6 @@ pub other_label : {A : Type 0} (options : Options) (k l : Label) (ts : List (Lis
 other_label options k l [] [] none h = tt
 other_label options k l [] (f ∷ fs) none h = absurd h
 other_label options k l (t ∷ ts) fs none h = absurd cc
-
-module _ (ids : Option ℕ) (target moment : ℕ) (m : TablesWriting) (h : Draws ids target moment m)
-  where
-    begun_none : Begun h.first moment m → tables_of m ≡ []
-    begun_none b = ap (λ (ts : List (List Entry)). ts ++ rest_chunk (written m.present)) b.0
-        ∙ ap (λ (w : Writing). rest_chunk (written w)) b.1
-
-    behind_run : Begun h.first moment m ⊎ Going h.first target moment m
-        → m.ids ≡ ids_behind ids target (length (tables_of m))
-    behind_run (inl b) =
-        h.next
-        ∙ ap (λ (w : Writing). next_id w.label.table_id) b.1
-        ∙ ap drawn (sym h.first_is)
-        ∙ ap (λ (ts : List (List Entry)). ids_behind ids target (length ts)) (sym (begun_none b))
-    behind_run (inr g) =
-        let more : suc (length m.tables) ≡ length (tables_of m) =
-        omega (arith, one_more m.tables (written m.present) g.1) in
-        h.next
-        ∙ ap (λ (l : Label). next_id l.table_id) g.0
-        ∙ ap (λ (o : Option ℕ). ids_behind o target (suc (length m.tables))) (sym h.first_is)
-        ∙ ap (ids_behind ids target) more
-
-    finished_run : {A : Type 0} (fs : List (FinishedTable A)) → Begun h.first moment m
-        ⊎ Going h.first target moment m → AreFinished default_options (first_label m)
-        (tables_of m) fs
-        → AreFinished default_options (run_label ids target moment) (tables_of m) fs
-    finished_run fs (inl b) f = other_label default_options (first_label m)
-        (run_label ids target moment) (tables_of m) fs (begun_none b) f
-    finished_run fs (inr g) f =
-        let id : (first_label m).table_id ≡ first_id target h.first =
-        omega (arith, ap (λ (l : Label). l.table_id) g.0) in
-        let is : first_label m ≡ run_label ids target moment =
-        named m.present.label (first_id target h.first + length m.tables)
-        (first_label m).table_id (first_id target h.first) moment g.0 id
-        ∙ ap (λ (o : Option ℕ). run_label o target moment) (sym h.first_is) in
-        subst (λ (l : Label). AreFinished default_options l (tables_of m) fs) is f
-
-    pub all_finished : {A : Type 0} (es : List Entry) (fs : List (FinishedTable A))
-        (left : Option ℕ)
-        → all_written m ≡ es → left ≡ m.ids → AreTables m.present.options.data_block_size m.target
-        (all_written m) (tables_of m) → AreInKeyOrder (tables_of m) → AreFinished m.present.options
-        (first_label m) (tables_of m) fs → AreWritten ids target moment es fs left
-    all_finished es fs left all is cut order finished = record {
-      lists = tables_of m;
-      cut =
-          subst (λ (x : List Entry). AreTables default_options.data_block_size target x
-          (tables_of m)) all
-          (subst (λ (o : Options). AreTables o.data_block_size target (all_written m) (tables_of m))
-          h.options_are
-          (subst (λ (t : ℕ). AreTables m.present.options.data_block_size t (all_written m)
-          (tables_of m)) h.target_is cut));
-      order = order;
-      finished = finished_run fs h.stands (subst (λ (o : Options). AreFinished o (first_label m)
-          (tables_of m) fs) h.options_are finished);
-      left_is = is ∙ behind_run h.stands;
-    }
-
--- a writer that was just made has written nothing
-pub none_written : (ids : Option ℕ) (target moment : ℕ) (m : TablesWriting)
-    → m ≡ new_tables ids target 0 moment → all_written m ≡ []
-none_written ids target moment m is = ap all_written is
-
--- and takes its list whole
-pub takes_new : (ids : Option ℕ) (target moment : ℕ) (es rest : List Entry) (m : TablesWriting)
-    (fits : FitsAsTables ids target es) → m ≡ new_tables ids target 0 moment → rest ≡ es
-    → Takes fits.tables (label_of (first_id target fits.first) 0 moment)
-    (with_options (new_tables (Some fits.first) target 0 moment) default_options) es
-    → Takes fits.tables (label_of (first_id target fits.first) 0 moment) m rest
-takes_new ids target moment es rest m fits is same h =
-    let label = label_of (first_id target fits.first) 0 moment in
-    let new : m ≡ new_tables (Some fits.first) target 0 moment = is
-    ∙ ap (λ (o : Option ℕ). new_tables o target 0 moment) fits.first_is in
-    subst (λ (x : List Entry). Takes fits.tables label m x) (sym same)
-    (subst (λ (x : TablesWriting). Takes fits.tables label x es) (sym new) h)
 
 -- a refusal for want of memory that is passed on
 pub wants : {X : Type 0} (r : Result X Error) (e : Error) → IsErrAnd r (λ y. y ≡ e)

@@ -7,38 +7,20 @@ ghost use Rattle.std.specs.List.{AllByRecursion};
 ghost use Rattle.lsm_compactions.specs.Words.{AreCompactable, AreTablesBy, AreWrittenBy};
 ghost use Rattle.lsm_compactions.specs.Words.{CameInOrder, Entry, Faults, FitsBy, GoesThrough};
 ghost use Rattle.lsm_compactions.specs.Words.{HasMade, HasRunBy, HaveEntries, IsFreshRun, IsRunBy};
-ghost use Rattle.lsm_compactions.specs.Words.{IsRunOfList, IsWritable, RunsHoldLists, RunsOn};
+ghost use Rattle.lsm_compactions.specs.Words.{IsRunOfList, IsWritable, RunsHoldLists};
 ghost use Rattle.lsm_compactions.specs.Words.{TablesWriting, highest_seqno, kept_in, lift};
-ghost use Rattle.lsm_compactions.specs.Words.{number_fault, run_with_fault, writes_fault};
+ghost use Rattle.lsm_compactions.specs.Words.{number_fault, run_with_fault};
 
 use crate::open_options::open_all;
+use crate::written_run::write_by;
 use crate::{CompactionOutcome, OpenOptions, compact_any_runs};
 use lsm_ranges::Run;
 use lsm_readers::Table;
 use lsm_sorted::compaction::Rules;
-use lsm_writers::{FinishedTable, MultiWriter, TableIds, tables_law};
+use lsm_writers::{FinishedTable, MultiWriter, TableIds};
 use sst_blocks::{Error, InternalValue};
 use std::alloc::Allocator;
 use std::sync::Arc;
-
-// Writes a list as a writer cuts it, and finishes. Refused as the writer is.
-fn write_by<A: Allocator + Clone>(
-    mut writer: MultiWriter<A>,
-    items: Vec<InternalValue<A>, A>,
-) -> Result<(Vec<FinishedTable<A>, A>, TableIds), Error>
-    requires fresh { IsFreshRun writer }
-    requires next { RunsOn writer }
-    requires list { IsWritable items.items }
-    ensures written { IfOk result (λ r. AreWrittenBy writer items.items r.0.items r.1) }
-    ensures refused { Faults result (writes_fault writer items.items) }
-{
-    for item in items {
-        writer.write(item)?;
-    }
-    let left = writer.table_ids();
-    let tables = writer.finish()?;
-    Ok((tables, left))
-}
 
 /// Writes a list as `writer` cuts it, with its options, level and moment, and opens each table as
 /// is told; the run has them in order, and there is none where the list has no entry. The finished
@@ -75,8 +57,6 @@ pub fn write_run_with<A: Allocator + Clone>(
         FitsBy writer items.items → highest_seqno items.items + how.now.global_seqno < 2 ^ 64 →
         IfErr result (λ e. e ≡ OutOfMemory) }
 {
-    // A list whose tables fit is taken whole.
-    tables_law();
     let own = alloc.clone()?;
     let (tables, left) = write_by(writer, items)?;
     let opened = open_all(own, &tables, how)?;

@@ -1,23 +1,65 @@
 //! A list that is written as tables, which are opened and put in a run.
 ghost use Rattle.std.specs.Prelude.{◌≡◌, ◌∷◌, ◌+◌, ◌^◌, ◌<◌, [], length, List, IfErr, IfOk, IfSome};
-ghost use Rattle.std.specs.Prelude.{MatchOption};
+ghost use Rattle.std.specs.Prelude.{MatchOption, OnOk, Some, false};
 ghost use Rattle.std.specs.List.{AllByRecursion};
 ghost use Rattle.std.specs.Option.{option_map_or};
+ghost use Rattle.sst_entries.specs.Error.{is_memory};
 ghost use Rattle.sst_entries.specs.declared.error.Error.TheVariants.{OutOfMemory};
 ghost use Rattle.lsm_formats.specs.declared.label.Label.{Label};
 ghost use Rattle.lsm_compactions.specs.Words.{AreCompactable, AreCutOf, AreFinished, AreOpened};
-ghost use Rattle.lsm_compactions.specs.Words.{AreWritten, Entry, Faults, FitsAsTables};
-ghost use Rattle.lsm_compactions.specs.Words.{IsOpenedOf, IsRunOfList, IsTableOf, IsWritable};
+ghost use Rattle.lsm_compactions.specs.Words.{AreWritten, AreWrittenBy, Entry, Faults};
+ghost use Rattle.lsm_compactions.specs.Words.{FitsAsTables, FitsBy, IsFreshRun, IsOpenedOf};
+ghost use Rattle.lsm_compactions.specs.Words.{IsRunOfList, IsTableOf, IsWritable, TookList};
 ghost use Rattle.lsm_compactions.specs.Words.{chain_fault, default_options, highest_seqno};
 ghost use Rattle.lsm_compactions.specs.Words.{ids_behind};
 ghost use Rattle.lsm_compactions.specs.Words.{joined, lift, number_fault, run_label, tables_fault};
+ghost use Rattle.lsm_compactions.specs.Words.{writes_fault};
 
+use crate::compact::finished;
 use lsm_formats::Timestamp;
 use lsm_ranges::Run;
 use lsm_readers::Table;
 use lsm_writers::{FinishedTable, MultiWriter, TableIds, tables_law};
 use sst_blocks::{Error, InternalValue, SeqNo};
 use std::alloc::Allocator;
+
+// Gives a writer the entries of a list. Refused as the writer is.
+fn write_items<A: Allocator + Clone>(
+    writer: &mut MultiWriter<A>,
+    items: Vec<InternalValue<A>, A>,
+) -> Result<(), Error>
+    requires fresh { IsFreshRun writer.old }
+    requires list { IsWritable items.items }
+    ensures took { OnOk result (TookList writer.old items.items writer.new) }
+    ensures refused { IfErr result (λ e. is_memory e ≡ false →
+        writes_fault writer.old items.items ≡ Some e) }
+{
+    for item in items {
+        writer.write(item)?;
+    }
+    Ok(())
+}
+
+// Writes a list as a writer cuts it, and finishes. Refused as the writer is.
+pub(crate) fn write_by<A: Allocator + Clone>(
+    mut writer: MultiWriter<A>,
+    items: Vec<InternalValue<A>, A>,
+) -> Result<(Vec<FinishedTable<A>, A>, TableIds), Error>
+    requires fresh { IsFreshRun writer }
+    requires list { IsWritable items.items }
+    ensures written { IfOk result (λ r. AreWrittenBy writer items.items r.0.items r.1) }
+    ensures refused { Faults result (writes_fault writer items.items) }
+    ensures taken { FitsBy writer items.items → IfErr result (λ e. e ≡ OutOfMemory) }
+{
+    // A list whose tables fit is taken whole.
+    tables_law();
+    let took = write_items(&mut writer, items);
+    if let Err(error) = took {
+        drop(writer);
+        return Err(error);
+    }
+    finished(writer)
+}
 
 // Writes a list as tables of a target size; none where it has no entry. Refused as `MultiWriter`
 // is.
@@ -35,15 +77,8 @@ fn write_tables<A: Allocator + Clone>(
     ensures taken { FitsAsTables ids target_size items.items →
         IfErr result (λ e. e ≡ OutOfMemory) }
 {
-    // A list whose tables fit is taken whole.
-    tables_law();
-    let mut writer = MultiWriter::new(alloc, ids, target_size, 0, created_at)?;
-    for item in items {
-        writer.write(item)?;
-    }
-    let left = writer.table_ids();
-    let tables = writer.finish()?;
-    Ok((tables, left))
+    let writer = MultiWriter::new(alloc, ids, target_size, 0, created_at)?;
+    write_by(writer, items)
 }
 
 // Opens a finished table; its filter and its index stay loaded.

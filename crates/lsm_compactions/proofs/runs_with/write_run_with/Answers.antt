@@ -5,20 +5,14 @@ use Rattle.sst_entries.specs.declared.error.Error.{Error}
 use Rattle.sst_entries.specs.Entry.{Entry}
 use Rattle.sst_entries.proofs.Refusals.{faults_refusal}
 use Rattle.lsm_writers.specs.declared.writer.FinishedTable.{FinishedTable}
-use Rattle.lsm_writers.specs.Tables.{AreFinished, TablesWriting}
+use Rattle.lsm_writers.specs.Tables.{AreFinished}
 use Rattle.lsm_writers.proofs.Refused.{memory_alone}
-use Rattle.lsm_compactions.specs.Compacted.{RunsOn, first_written}
+use Rattle.lsm_compactions.specs.Compacted.{first_written}
 use Rattle.lsm_compactions.specs.OpenedBy.{AreOpenedBy, run_with_fault}
 use Rattle.lsm_compactions.specs.Written.{number_fault}
 use Rattle.lsm_compactions.proofs.OpenedRuns.{able_with, put_by, run_with}
-use Rattle.lsm_compactions.proofs.RunWriting.{small_number}
-use Rattle.lsm_compactions.proofs.WrittenBy.{fits_none}
+use Rattle.lsm_compactions.proofs.RunWriting.{small_number, wants}
 use Rattle.lsm_compactions.proofs.runs_with.write_run_with.Goals as goal
-
-pub write_by-requires : goal.write_by-requires
-write_by-requires g c =
-    let next : RunsOn c.args.writer = subst RunsOn c.writer.view_is (c.writer.invariant (ap (λ (w : TablesWriting). w.failed) c.writer.view_is ∙ c.requires.fresh.2)).next in
-    record { fresh = c.requires.fresh; next = next; list = c.requires.list }
 
 pub returns-clause-opened : goal.returns-clause-opened
 returns-clause-opened g c = put_by c.args.how.now c.in_ok-tables.tables.items c.in_ok-opened.opened.items (subst (λ (x : List (FinishedTable _)). AreOpenedBy c.args.how.now x c.in_ok-opened.opened.items) c.deref.ensures.value c.in_ok-opened.ensures.opened) c.new.result c.new.ensures
@@ -58,11 +52,8 @@ returns-clause-refused g c one =
 
 pub returns-in_err-tables-clause-taken : goal.returns-in_err-tables-clause-taken
 returns-in_err-tables-clause-taken g c one fits small =
-    let a = c.args in
-    let next : RunsOn a.writer = subst RunsOn c.writer.view_is (c.writer.invariant (ap (λ (w : TablesWriting). w.failed) c.writer.view_is ∙ c.requires.fresh.2)).next in
     let r = c.from_residual-in_err-tables in
-    let none = fits_none a.writer a.items.items c.tables_law.ensures.takes c.requires.fresh next c.requires.list fits in
-    memory_alone r.result _ none (faults_refusal r.result c.in_err-tables.field-0.0 _ r.ensures.1 c.in_err-tables.ensures.refused)
+    wants r.result c.in_err-tables.field-0.0 r.ensures.1 (c.in_err-tables.ensures.taken fits)
 
 pub returns-in_err-opened-clause-taken : goal.returns-in_err-opened-clause-taken
 returns-in_err-opened-clause-taken g c one fits small =
