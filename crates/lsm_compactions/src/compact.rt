@@ -21,8 +21,8 @@ ghost use Rattle.lsm_compactions.specs.Words.{HoldLists, IsFreshRun, RunsHoldLis
 ghost use Rattle.lsm_compactions.specs.Words.{TablesWriting, TookList, joined, kept_in, nowhere};
 ghost use Rattle.lsm_compactions.specs.Words.{rules_by, writes_fault};
 
+use lsm_lending::LendingMerger;
 use lsm_lending::compaction::lending::LendingCompaction;
-use lsm_merge::LendingMerger;
 use lsm_ranges::Run;
 use lsm_readers::Table;
 use lsm_runs::RunScanner;

@@ -1,3 +1,7 @@
+pub mod QueueLemmas
+pub mod LentLemmas
+pub mod LentSteps
+pub mod LentDeals
 pub mod LentFaultsLemmas
 pub mod LentListens
 pub mod LentNewestLemmas

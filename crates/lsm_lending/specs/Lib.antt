@@ -1,3 +1,4 @@
+pub mod Lent
 pub mod LentFaults
 pub mod LentNewest
 pub mod LentCompaction

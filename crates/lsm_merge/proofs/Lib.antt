@@ -26,7 +26,3 @@ pub mod CallsMerged
 pub mod LateErrors
 pub mod Pairs
 pub mod InPlaceLemmas
-pub mod QueueLemmas
-pub mod LentLemmas
-pub mod LentSteps
-pub mod LentDeals

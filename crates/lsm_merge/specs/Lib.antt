@@ -11,5 +11,4 @@ pub mod Merge
 pub mod Asks
 pub mod InPlace
 pub mod MergeLaws
-pub mod Lent
 pub mod Words

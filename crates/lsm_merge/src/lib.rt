@@ -5,7 +5,6 @@
 mod ends;
 mod interval_heap;
 mod lazy_tournament;
-mod lending;
 mod merge;
 mod order;
 mod tournament;
@@ -14,6 +13,6 @@ mod words;
 pub use ends::Ends;
 pub use interval_heap::IntervalHeap;
 pub use lazy_tournament::LazyTournament;
-pub use lending::LendingMerger;
 pub use merge::{Merger, from_both_ends};
 pub use tournament::Tournament;
+pub use words::compare_refs;

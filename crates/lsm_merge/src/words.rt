@@ -45,9 +45,10 @@ pub(crate) fn compare_keys<A: Allocator>(x: &InternalKey<A>, y: &InternalKey<A>)
     }
 }
 
-// Compares the keys of borrowed entries, as `compare_keys` does.
+/// Compares the keys of borrowed entries, as a [`Merger`](crate::Merger) compares those of its own:
+/// by key up, number down and kind. Eight bytes of the keys are compared at once.
 #[inline(always)]
-pub(crate) fn compare_refs(x: &EntryRef<'_>, y: &EntryRef<'_>) -> Ordering
+pub fn compare_refs(x: &EntryRef<'_>, y: &EntryRef<'_>) -> Ordering
     ensures { result ≡ item_cmp (entry_of_ref x.now) (entry_of_ref y.now) }
 {
     match compare_bytes(x.user_key, y.user_key) {

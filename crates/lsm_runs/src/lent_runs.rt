@@ -13,8 +13,7 @@ ghost use Rattle.lsm_runs.specs.Words.{spans_within, union_in, within};
 
 use crate::lending_below::each_lending_below;
 use crate::{LendingBelow, LendingRunReader};
-use lsm_lending::LendingNewest;
-use lsm_merge::LendingMerger;
+use lsm_lending::{LendingMerger, LendingNewest};
 use lsm_ranges::Run;
 use lsm_readers::Table;
 use lsm_run_parts::share;

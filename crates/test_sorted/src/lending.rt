@@ -3,9 +3,9 @@ ghost use Rattle.std.specs.Prelude.{IfOk};
 ghost use Rattle.sst_entries.specs.Stream.{CanDeal, nowhere};
 
 use crate::words::{lends_so, results_of};
-use lsm_lending::LendingNewest;
 use lsm_lending::compaction::lending::LendingCompaction;
-use lsm_merge::{LendingMerger, Merger};
+use lsm_lending::{LendingMerger, LendingNewest};
+use lsm_merge::Merger;
 use lsm_sorted::MvccStream;
 use lsm_sorted::compaction::Rules;
 use lsm_sorted::compaction::stream::CompactionStream;

@@ -20,20 +20,20 @@ use Rattle.sst_entries.specs.Stream.{CanDeal, Lowers, but_first, first, nowhere}
 use Rattle.sst_entries.specs.declared.error.Error.{Error}
 use Rattle.sst_entries.proofs.Lists.{all_more}
 use Rattle.sst_entries.proofs.StreamLemmas.{can_front}
-use Rattle.lsm_merge.specs.declared.lending.LendingMerger.{LendingMerger}
+use Rattle.lsm_lending.specs.declared.lending_merger.LendingMerger.{LendingMerger}
 use Rattle.lsm_merge.specs.Ends.{R}
 use Rattle.lsm_merge.specs.InPlace.{merge_of}
-use Rattle.lsm_merge.specs.Lent.{goes_before, is_turn, lent_at, lent_by, lent_first, IsQueue}
-use Rattle.lsm_merge.specs.Lent.{IsReady}
-use Rattle.lsm_merge.specs.Lent.{is_queued, RestIf, Rests, LeavesIf, LeavesLent, Belongs}
-use Rattle.lsm_merge.specs.Lent.{StepLowers, lent_size, lent_total}
+use Rattle.lsm_lending.specs.Lent.{goes_before, is_turn, lent_at, lent_by, lent_first, IsQueue}
+use Rattle.lsm_lending.specs.Lent.{IsReady}
+use Rattle.lsm_lending.specs.Lent.{is_queued, RestIf, Rests, LeavesIf, LeavesLent, Belongs}
+use Rattle.lsm_lending.specs.Lent.{StepLowers, lent_size, lent_total}
 use Rattle.lsm_merge.specs.Union.{item_cmp, AtMost, Ascends, entries_among}
 use Rattle.lsm_merge.proofs.InPlaceLemmas.{HasNoFault, merge_entry, merge_fault, merge_nothing}
-use Rattle.lsm_merge.proofs.LentLemmas.{lent_is, lent_own, queue_stays, rests_same, set_length}
-use Rattle.lsm_merge.proofs.LentLemmas.{set_other, set_own}
+use Rattle.lsm_lending.proofs.LentLemmas.{lent_is, lent_own, queue_stays, rests_same, set_length}
+use Rattle.lsm_lending.proofs.LentLemmas.{set_other, set_own}
 use Rattle.lsm_merge.proofs.MergedLemmas.{item_total, Above, at_most_chain}
-use Rattle.lsm_merge.proofs.QueueLemmas.{all_put_in, among_end, last_before, last_of_queue}
-use Rattle.lsm_merge.proofs.QueueLemmas.{queue_front}
+use Rattle.lsm_lending.proofs.QueueLemmas.{all_put_in, among_end, last_before, last_of_queue}
+use Rattle.lsm_lending.proofs.QueueLemmas.{queue_front}
 
 -- ---- whether it may be asked
 

@@ -12,8 +12,8 @@ use Rattle.sst_entries.specs.Stream.{answer_stops, but_first, first, nowhere}
 use Rattle.sst_entries.specs.declared.error.Error.{Error}
 use Rattle.sst_entries.proofs.StreamLemmas.{deals_front}
 use Rattle.lsm_merge.specs.Ends.{R}
-use Rattle.lsm_merge.specs.Lent.{goes_before, lent_at, IsQueue, is_queued, Has, RestIf, Rests}
-use Rattle.lsm_merge.proofs.QueueLemmas.{among_itself, among_put}
+use Rattle.lsm_lending.specs.Lent.{goes_before, lent_at, IsQueue, is_queued, Has, RestIf, Rests}
+use Rattle.lsm_lending.proofs.QueueLemmas.{among_itself, among_put}
 
 -- ---- one of several
 

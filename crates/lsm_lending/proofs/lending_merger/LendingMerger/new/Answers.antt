@@ -1,7 +1,7 @@
 -- A fresh merger.
 use Rattle.std.proofs.Common.{refl, arith}
-use Rattle.lsm_merge.proofs.LentDeals.{lent_in_place, lent_merged, lent_may, lent_can, lent_ends}
-use Rattle.lsm_merge.proofs.lending.LendingMerger.new.Goals as goal
+use Rattle.lsm_lending.proofs.LentDeals.{lent_in_place, lent_merged, lent_may, lent_can, lent_ends}
+use Rattle.lsm_lending.proofs.lending_merger.LendingMerger.new.Goals as goal
 
 pub returns-clause-deals : goal.returns-clause-deals
 returns-clause-deals g c =

@@ -5,9 +5,9 @@ use Rattle.std.specs.List.{insert}
 use Rattle.std.proofs.lemmas.Result.{err_from_is_err_and}
 use Rattle.sst_entries.specs.Stream.{CanDeal, nowhere}
 use Rattle.sst_entries.proofs.StreamLemmas.{can_now}
-use Rattle.lsm_merge.proofs.LentLemmas.{rests_more, rests_none, rests_fault, queue_stays}
-use Rattle.lsm_merge.proofs.LentSteps.{ready_on, known_put, queue_put}
-use Rattle.lsm_merge.proofs.lending.LendingMerger.go_on.Goals as goal
+use Rattle.lsm_lending.proofs.LentLemmas.{rests_more, rests_none, rests_fault, queue_stays}
+use Rattle.lsm_lending.proofs.LentSteps.{ready_on, known_put, queue_put}
+use Rattle.lsm_lending.proofs.lending_merger.LendingMerger.go_on.Goals as goal
 
 pub advance-requires : goal.advance-requires
 advance-requires g c =

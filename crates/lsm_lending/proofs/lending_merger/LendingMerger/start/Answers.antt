@@ -3,9 +3,9 @@ use Rattle.std.proofs.Common.{◌≡◌, ◌<◌, ◌+◌, refl, sym, ◌∙◌,
 use Rattle.std.specs.Prelude.{All, nat_lt, not}
 use Rattle.std.proofs.lemmas.List.Elements.{All-nil, recursion_from_All}
 use Rattle.std.proofs.lemmas.Result.{err_from_is_err_and}
-use Rattle.lsm_merge.proofs.LentLemmas.{below_not_among}
-use Rattle.lsm_merge.proofs.LentSteps.{starts_none, starts_more, starts_all, starts_fault, waits_itself, known_more}
-use Rattle.lsm_merge.proofs.lending.LendingMerger.start.Goals as goal
+use Rattle.lsm_lending.proofs.LentLemmas.{below_not_among}
+use Rattle.lsm_lending.proofs.LentSteps.{starts_none, starts_more, starts_all, starts_fault, waits_itself, known_more}
+use Rattle.lsm_lending.proofs.lending_merger.LendingMerger.start.Goals as goal
 
 pub loop-source-init : goal.loop-source-init
 loop-source-init g c =

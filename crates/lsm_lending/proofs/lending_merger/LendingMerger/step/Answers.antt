@@ -1,9 +1,9 @@
 -- One step: the source whose entry was lent goes on.
 use Rattle.std.proofs.Common.{◌≡◌, ℕ, List, [], refl, sym, ◌∙◌, subst}
 use Rattle.std.specs.Prelude.{false}
-use Rattle.lsm_merge.specs.Lent.{Rests}
-use Rattle.lsm_merge.proofs.LentSteps.{ready_popped, fresh_leaves, empty_leaves, taken_on, no_length, started_on}
-use Rattle.lsm_merge.proofs.lending.LendingMerger.step.Goals as goal
+use Rattle.lsm_lending.specs.Lent.{Rests}
+use Rattle.lsm_lending.proofs.LentSteps.{ready_popped, fresh_leaves, empty_leaves, taken_on, no_length, started_on}
+use Rattle.lsm_lending.proofs.lending_merger.LendingMerger.step.Goals as goal
 
 pub returns-then-not-self-clause-steps : goal.returns-then-not-self-clause-steps
 returns-then-not-self-clause-steps g c stops ys leaves =

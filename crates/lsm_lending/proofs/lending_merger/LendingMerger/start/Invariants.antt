@@ -2,8 +2,8 @@ use Rattle.std.proofs.Common.{◌≡◌, ◌<◌, ◌≤◌, Bool, true, List, [
 use Rattle.std.specs.Prelude.{All, not, nat_lt}
 use Rattle.sst_entries.specs.declared.error.Error.{Error}
 use Rattle.lsm_merge.specs.Ends.{R}
-use Rattle.lsm_merge.specs.Lent.{IsReady, Rests, lent_total}
-use Rattle.lsm_merge.proofs.lending.LendingMerger.start.Given as goal
+use Rattle.lsm_lending.specs.Lent.{IsReady, Rests, lent_total}
+use Rattle.lsm_lending.proofs.lending_merger.LendingMerger.start.Given as goal
 
 abbrev pub invariant-loop-source : goal.invariant-loop-source
 invariant-loop-source g l =

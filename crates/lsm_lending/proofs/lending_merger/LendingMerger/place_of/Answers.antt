@@ -4,9 +4,9 @@ use Rattle.std.specs.Prelude.{Option, Some, slice_get, ◌-◌}
 use Rattle.std.specs.List.{insert}
 use Rattle.std.proofs.lemmas.List.Sorted.{IsPartitionPoint-from_clause}
 use Rattle.sst_entries.specs.Entry.{Entry}
-use Rattle.lsm_merge.specs.Lent.{IsQueue, goes_before, is_queued, lent_at}
-use Rattle.lsm_merge.proofs.QueueLemmas.{belongs, queue_partitioned, ahead}
-use Rattle.lsm_merge.proofs.lending.LendingMerger.place_of.Goals as goal
+use Rattle.lsm_lending.specs.Lent.{IsQueue, goes_before, is_queued, lent_at}
+use Rattle.lsm_lending.proofs.QueueLemmas.{belongs, queue_partitioned, ahead}
+use Rattle.lsm_lending.proofs.lending_merger.LendingMerger.place_of.Goals as goal
 
 pub returns-in_default-last-clause-belongs : goal.returns-in_default-last-clause-belongs
 returns-in_default-last-clause-belongs g c = record {

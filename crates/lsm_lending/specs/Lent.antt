@@ -9,7 +9,7 @@ use Rattle.std.specs.Vec.{vec_capacity}
 use Rattle.sst_entries.specs.Entry.{Entry}
 use Rattle.sst_entries.specs.Stream.{CanDeal, Deals, DealsFirst, answer_stops, but_first, nowhere}
 use Rattle.sst_entries.specs.declared.error.Error.{Error}
-use Rattle.lsm_merge.specs.declared.lending.LendingMerger.{LendingMerger}
+use Rattle.lsm_lending.specs.declared.lending_merger.LendingMerger.{LendingMerger}
 use Rattle.lsm_merge.specs.Ends.{R}
 use Rattle.lsm_merge.specs.InPlace.{merge_of}
 use Rattle.lsm_merge.specs.Union.{Ascends, entries_among, item_cmp}

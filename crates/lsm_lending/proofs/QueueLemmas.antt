@@ -15,7 +15,7 @@ use Rattle.sst_entries.specs.Entry.{Entry}
 use Rattle.sst_entries.proofs.Lists.{all_more}
 use Rattle.sst_entries.proofs.OrderLemmas.{less_of}
 use Rattle.lsm_merge.specs.Union.{item_cmp}
-use Rattle.lsm_merge.specs.Lent.{is_turn, goes_before, IsQueue, is_queued}
+use Rattle.lsm_lending.specs.Lent.{is_turn, goes_before, IsQueue, is_queued}
 use Rattle.lsm_merge.proofs.MergedLemmas.{item_total}
 
 -- ---- turns

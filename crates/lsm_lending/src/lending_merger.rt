@@ -8,12 +8,12 @@ ghost use Rattle.sst_entries.specs.Lending.{entry_of_ref};
 ghost use Rattle.sst_entries.specs.Stream.{CanDeal, EndsAtError, nowhere};
 ghost use Rattle.sst_entries.specs.declared.error.Error.{Error};
 ghost use Rattle.sst_entries.specs.declared.error.Error.TheVariants.{OutOfMemory};
-ghost use Rattle.lsm_merge.specs.Lent.{AsksOne, IsReady, MayLend, StepsOn, goes_before, is_queued};
-ghost use Rattle.lsm_merge.specs.Lent.{is_turn, lent_at, lent_first, lent_size, lent_total};
-ghost use Rattle.lsm_merge.specs.Lent.{AdvancesLent, Belongs, LendsNoMore, StartsLent, StepLowers};
+ghost use Rattle.lsm_lending.specs.Lent.{AsksOne, IsReady, MayLend, StepsOn, goes_before, is_queued};
+ghost use Rattle.lsm_lending.specs.Lent.{is_turn, lent_at, lent_first, lent_size, lent_total};
+ghost use Rattle.lsm_lending.specs.Lent.{AdvancesLent, Belongs, LendsNoMore, StartsLent, StepLowers};
 ghost use Rattle.lsm_merge.specs.MergeLaws.{DealsInPlace, DealsMerged};
 
-use crate::words::compare_refs;
+use lsm_merge::compare_refs;
 use sst_entries::{EntryRef, Error, Lending};
 use std::alloc::{Allocator, Global};
 use std::cmp::Ordering;

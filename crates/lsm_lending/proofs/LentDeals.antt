@@ -13,12 +13,12 @@ use Rattle.sst_entries.specs.declared.error.Error.{Error}
 use Rattle.sst_entries.specs.declared.stream.Direction.{Direction}
 use Rattle.sst_entries.specs.declared.stream.Direction.TheVariants.{Front, Back}
 use Rattle.sst_entries.proofs.StreamLemmas.{can_by, deals_by}
-use Rattle.lsm_merge.specs.declared.lending.LendingMerger.{LendingMerger}
+use Rattle.lsm_lending.specs.declared.lending_merger.LendingMerger.{LendingMerger}
 use Rattle.lsm_merge.specs.Ends.{R}
 use Rattle.lsm_merge.specs.InPlace.{Placed, places_of, put_in_place, sort_places, all_placed}
 use Rattle.lsm_merge.specs.InPlace.{up_to_error, merge_of}
-use Rattle.lsm_merge.specs.Lent.{AdvancesLent, LendsNoMore, LeavesLent, LeavesIf, MayLend}
-use Rattle.lsm_merge.specs.Lent.{IsQueue, Rests, lent_at}
+use Rattle.lsm_lending.specs.Lent.{AdvancesLent, LendsNoMore, LeavesLent, LeavesIf, MayLend}
+use Rattle.lsm_lending.specs.Lent.{IsQueue, Rests, lent_at}
 use Rattle.lsm_merge.specs.MergeLaws.{DealSorted, DealsInPlace, DealsMerged}
 use Rattle.lsm_merge.specs.Union.{item_cmp, entries_among, errors_among, all_entries, all_errors}
 use Rattle.lsm_merge.specs.Union.{insert_sorted, sort_entries, union_of}

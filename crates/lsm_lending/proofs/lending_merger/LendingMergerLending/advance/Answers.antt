@@ -2,9 +2,9 @@
 use Rattle.std.proofs.Common.{◌≡◌, ℕ, true, false, [], ◌∷◌, refl, sym, ◌∙◌, ap, subst}
 use Rattle.std.specs.Prelude.{Err, not, ◌==◌}
 use Rattle.sst_entries.specs.Stream.{but_first, first}
-use Rattle.lsm_merge.specs.Lent.{LeavesLent, lent_first}
-use Rattle.lsm_merge.proofs.LentSteps.{answers_lent, answers_fault, lowers_lent, no_error, over_lends, queue_lends, ready_cleared}
-use Rattle.lsm_merge.proofs.lending.LendingMergerLending.advance.Goals as goal
+use Rattle.lsm_lending.specs.Lent.{LeavesLent, lent_first}
+use Rattle.lsm_lending.proofs.LentSteps.{answers_lent, answers_fault, lowers_lent, no_error, over_lends, queue_lends, ready_cleared}
+use Rattle.lsm_lending.proofs.lending_merger.LendingMergerLending.advance.Goals as goal
 
 pub returns-in-Ok-clause-goes : goal.returns-in-Ok-clause-goes
 returns-in-Ok-clause-goes g c =
