@@ -1,0 +1,394 @@
+//! Data blocks: what is written of entries, and what reads, seeks and cursors find.
+
+use crate::blocks::large::{Size, Within, part};
+use crate::blocks::payloads::data_block;
+use crate::blocks::walks::{Edge, NONE, Walk, Walked, refusal, walks_so};
+use crate::blocks::written::{Told, is_written, length_behind_seven};
+use sst_blocks::Direction::{Back, Front};
+use sst_blocks::{
+    BlockType, DataBlock, DataBlockCursor, DataBlockIter, Direction, EntryRef, Error,
+    InternalValue, IterItem, SeqNo, Slice, TableVersion, ValueType, are_strict, data_block_bound,
+};
+use std::alloc::{AllocError, Allocator};
+use test_refusing::Refusing;
+
+fn entry<A: Allocator>(row: &EntryRef<'static>) -> InternalValue<A> {
+    let (key, value) = (
+        Slice::from_static(row.user_key),
+        Slice::from_static(row.value),
+    );
+    InternalValue::from_components(key, value, row.seqno, row.value_type)
+}
+
+fn entries_of<A: Allocator>(
+    alloc: A,
+    rows: &[EntryRef<'static>],
+) -> Result<Vec<InternalValue<A>, A>, Error> {
+    let mut entries = Vec::new(alloc);
+    for row in rows {
+        entries.push(entry(row))?;
+    }
+    Ok(entries)
+}
+
+impl Within for InternalValue {
+    fn within(bytes: &Slice, start: usize, size: &Size, key_len: usize) -> Result<Self, Error> {
+        let key = part(bytes, start, key_len)?;
+        let value = part(bytes, 8192, size.value_len)?;
+        Ok(InternalValue::from_components(key, value, 1, ValueType::Value))
+    }
+}
+
+// The bound on the block of some entries, which are encoded behind what is there.
+fn encoded<A: Allocator>(
+    buf: &mut Vec<u8, A>,
+    items: &[InternalValue<A>],
+) -> (u64, Result<(), Error>) {
+    if !are_strict(items) {
+        return (0, Err(Error::InvalidBlock));
+    }
+    (
+        data_block_bound(items),
+        DataBlock::encode_into(buf, items, 16, 0),
+    )
+}
+
+/// What is told of some entries that are written, and which payload that should be.
+pub(crate) fn told<A: Allocator>(
+    alloc: A,
+    entries: Result<Vec<InternalValue<A>, A>, Error>,
+    payload: &[u8],
+) -> Result<Told, Error> {
+    let entries = entries?;
+    let mut written = Vec::from_slice(alloc, &[7])?;
+    let (bound, done) = encoded(&mut written, &entries);
+    drop(entries);
+    let is_it = written.get(1..) == Some(payload);
+    Ok((bound, length_behind_seven(&written, done), is_it))
+}
+
+impl<A: Allocator> Walk for DataBlockIter<'_, A> {
+    fn narrow(&mut self, edge: Edge, key: &[u8], _: SeqNo) -> bool {
+        match edge {
+            Edge::AtLeast => self.seek(key),
+            Edge::Above => self.seek_exclusive(key),
+            Edge::AtMost => self.seek_upper(key),
+            Edge::Below => self.seek_upper_exclusive(key),
+        }
+    }
+
+    fn give(&mut self, end: Direction) -> u64 {
+        let given = match end {
+            Front => self.next(),
+            Back => self.next_back(),
+        };
+        match given {
+            Some(Ok(item)) => {
+                let number = item.key.seqno;
+                drop(item);
+                number
+            }
+            Some(Err(error)) => refusal(error),
+            None => NONE,
+        }
+    }
+}
+
+// A payload, the entries in it, keys and numbers with the place of the entry that a point read
+// finds, if it finds one, and walks.
+struct Stored {
+    version: TableVersion,
+    payload: &'static [u8],
+    rows: &'static [EntryRef<'static>],
+    reads: &'static [(&'static [u8], SeqNo, usize)],
+    walks: &'static [Walked],
+}
+
+// Whether an entry is found, or none, as wanted; or memory was refused where it may be.
+fn is_found<A: Allocator>(
+    found: Option<IterItem<A>>,
+    wanted: Option<&EntryRef<'static>>,
+    may_fail: bool,
+) -> bool {
+    match found {
+        Some(Ok(item)) => wanted == Some(&item.as_entry_ref()),
+        Some(Err(error)) => may_fail && error == Error::OutOfMemory,
+        None => wanted.is_none(),
+    }
+}
+
+// Whether a block has its entries and no others, point reads find what they should, and it is
+// walked so.
+fn is_read_so<A: Allocator>(block: &DataBlock<A>, stored: &Stored, may_fail: bool) -> bool {
+    if block.len() != stored.rows.len() || block.is_empty() != stored.rows.is_empty() {
+        return false;
+    }
+    for place in 0..block.len() {
+        let entry = block.entry_ref(place);
+        let key = (entry.user_key, entry.seqno);
+        if stored.rows.get(place) != Some(&entry) || block.key_at(place) != key {
+            return false;
+        }
+    }
+    for &(key, seqno, place) in stored.reads {
+        let found = block.point_read(key, seqno).transpose();
+        if !is_found(found, stored.rows.get(place), may_fail) {
+            return false;
+        }
+    }
+    for &(seeks, given) in stored.walks {
+        if !walks_so(&mut block.iter(), seeks, given, may_fail) {
+            return false;
+        }
+    }
+    true
+}
+
+// Whether a cursor goes on to an entry, lends it and shares it.
+fn lends_next<A: Allocator>(
+    cursor: &mut DataBlockCursor<A>,
+    row: &EntryRef<'static>,
+    may_fail: bool,
+) -> bool {
+    cursor.advance()
+        && cursor.entry() == Some(*row)
+        && is_found(Some(cursor.share()), Some(row), may_fail)
+}
+
+// Whether a cursor lends these entries, and then nothing.
+fn lends_so<A: Allocator>(
+    cursor: &mut DataBlockCursor<A>,
+    rows: &[EntryRef<'static>],
+    may_fail: bool,
+) -> bool {
+    let mut is_so = cursor.entry().is_none();
+    for row in rows {
+        is_so &= lends_next(cursor, row, may_fail);
+    }
+    !cursor.advance() && cursor.entry().is_none() && is_so
+}
+
+// Whether a cursor that is ended behind the first entry, if there is one, lends nothing more.
+fn lends_none_once_ended<A: Allocator>(cursor: &mut DataBlockCursor<A>, has_one: bool) -> bool {
+    let begins = cursor.advance() == has_one;
+    cursor.end();
+    begins && cursor.entry().is_none() && !cursor.advance()
+}
+
+// Whether a clone, which outlives its block, is read and lent as the block.
+fn is_cloned_so<A: Allocator>(
+    copy: Result<DataBlock<A>, AllocError>,
+    stored: &Stored,
+    may_fail: bool,
+) -> bool {
+    match copy {
+        Ok(copy) => {
+            let is_so = is_read_so(&copy, stored, may_fail);
+            let mut cursor = copy.into_cursor();
+            let is_lent = lends_so(&mut cursor, stored.rows, may_fail);
+            drop(cursor);
+            is_so && is_lent
+        }
+        Err(_) => may_fail,
+    }
+}
+
+// Whether a block, which is let go of, is read so, and then a clone of it.
+fn both_are_read_so<A: Allocator>(block: DataBlock<A>, stored: &Stored, may_fail: bool) -> bool {
+    let copy: Result<_, _> = block.clone();
+    let is_so = is_read_so(&block, stored, may_fail);
+    let mut cursor = block.into_cursor();
+    let is_ended = lends_none_once_ended(&mut cursor, !stored.rows.is_empty());
+    drop(cursor);
+    is_cloned_so(copy, stored, may_fail) && is_so && is_ended
+}
+
+// Whether entries are written as their payload, or memory was refused where it may be.
+fn is_written_so(heap: &Refusing, stored: &Stored, may_fail: bool) -> bool {
+    let told = told(heap, entries_of(heap, stored.rows), stored.payload);
+    is_written(told, stored.payload, may_fail)
+}
+
+// Whether a payload is read as it should be, or memory was refused where it may be.
+fn is_loaded_so<A: Allocator + Copy>(alloc: A, stored: &Stored, may_fail: bool) -> bool {
+    match data_block(alloc, stored.version, stored.payload) {
+        Ok(block) => both_are_read_so(block, stored, may_fail),
+        Err(error) => may_fail && error == Error::OutOfMemory,
+    }
+}
+
+// A key, a number, a kind and a value.
+macro_rules! row {
+    ($key:expr, $seqno:expr, $kind:ident, $value:expr) => {
+        EntryRef {
+            user_key: $key,
+            seqno: $seqno,
+            value_type: ValueType::$kind,
+            value: $value,
+        }
+    };
+}
+
+// a@1, a value of `x`.
+const ONE: &[EntryRef<'static>] = &[row!(b"a", 1, Value, b"x")];
+
+const ONE_IN_V3: &[u8] = &[
+    1, 0, 0, 0, 0, 1, 0, 0, 0, 0, 0, 0, 0, 1, 0, 1, 0, 0, 0, 0x61, 0x78,
+];
+
+const ONE_IN_V4: &[u8] = &[
+    1, 0, 0, 0, 0, 1, 0, 0, 0, 0, 0, 0, 0, 1, 0, 0, 0, 1, 0, 0, 0, 0x61, 0x78,
+];
+
+const READS_OF_ONE: &[(&[u8], SeqNo, usize)] = &[(b"a", 2, 0), (b"a", 1, 99)];
+
+// a@9, a@7 as a tombstone, a@5, c@0 and e@3.
+const FIVE: &[EntryRef<'static>] = &[
+    row!(b"a", 9, Value, b"newest"),
+    row!(b"a", 7, Tombstone, b""),
+    row!(b"a", 5, Value, b""),
+    row!(b"c", 0, WeakTombstone, b""),
+    row!(b"e", 3, Indirection, b"far"),
+];
+
+// The count, and then of each entry the tag, the number, the lengths of the key and of the value,
+// and both.
+const FIVE_IN_V4: &[u8] = &[
+    5, 0, 0, 0, //
+    0, 9, 0, 0, 0, 0, 0, 0, 0, 1, 0, 0, 0, 6, 0, 0, 0, b'a', b'n', b'e', b'w', b'e', b's', b't', //
+    1, 7, 0, 0, 0, 0, 0, 0, 0, 1, 0, 0, 0, 0, 0, 0, 0, b'a', //
+    0, 5, 0, 0, 0, 0, 0, 0, 0, 1, 0, 0, 0, 0, 0, 0, 0, b'a', //
+    2, 0, 0, 0, 0, 0, 0, 0, 0, 1, 0, 0, 0, 0, 0, 0, 0, b'c', //
+    4, 3, 0, 0, 0, 0, 0, 0, 0, 1, 0, 0, 0, 3, 0, 0, 0, b'e', b'f', b'a', b'r',
+];
+
+const READS_OF_FIVE: &[(&[u8], SeqNo, usize)] = &[
+    (b"", u64::MAX, 99),
+    (b"a", u64::MAX, 0),
+    (b"a", 10, 0),
+    (b"a", 9, 1),
+    (b"a", 8, 1),
+    (b"a", 7, 2),
+    (b"a", 6, 2),
+    (b"a", 5, 99),
+    (b"a", 0, 99),
+    (b"aa", u64::MAX, 99),
+    (b"b", u64::MAX, 99),
+    (b"c", 1, 3),
+    (b"c", 0, 99),
+    (b"d", u64::MAX, 99),
+    (b"e", 4, 4),
+    (b"e", 3, 99),
+    (b"f", u64::MAX, 99),
+];
+
+// A seek, and the numbers of the first entry and of the last, which is 99 where there are fewer
+// than two.
+macro_rules! ends {
+    ($edge:ident, $key:expr, $first:expr, $last:expr) => {
+        (
+            &[(Edge::$edge, $key, 0, $first != 99)],
+            &[(Front, $first), (Back, $last)],
+        )
+    };
+}
+
+const WALKS_OF_FIVE: &[Walked] = &[
+    ends!(AtLeast, b"a", 9, 3),
+    ends!(AtLeast, b"b", 0, 3),
+    ends!(AtLeast, b"c", 0, 3),
+    ends!(AtLeast, b"e", 3, 99),
+    ends!(AtLeast, b"f", 99, 99),
+    ends!(Above, b"Z", 9, 3),
+    ends!(Above, b"a", 0, 3),
+    ends!(Above, b"c", 3, 99),
+    ends!(Above, b"e", 99, 99),
+    ends!(AtMost, b"Z", 99, 99),
+    ends!(AtMost, b"a", 9, 5),
+    ends!(AtMost, b"c", 9, 0),
+    ends!(AtMost, b"f", 9, 3),
+    ends!(Below, b"a", 99, 99),
+    ends!(Below, b"c", 9, 5),
+    ends!(Below, b"d", 9, 0),
+    ends!(Below, b"f", 9, 3),
+    // Both ends deal one window.
+    (
+        &[],
+        &[
+            (Front, 9),
+            (Back, 3),
+            (Front, 7),
+            (Back, 0),
+            (Back, 5),
+            (Front, 99),
+            (Back, 99),
+        ],
+    ),
+    (
+        &[],
+        &[
+            (Back, 3),
+            (Back, 0),
+            (Back, 5),
+            (Back, 7),
+            (Back, 9),
+            (Back, 99),
+        ],
+    ),
+    // Edges that cross at the first key leave nothing, whatever is sought later.
+    (
+        &[
+            (Edge::Above, b"a", 0, true),
+            (Edge::AtMost, b"a", 0, false),
+            (Edge::AtLeast, b"a", 0, false),
+        ],
+        &[(Front, 99), (Back, 99)],
+    ),
+];
+
+const STORED: &[Stored] = &[
+    Stored {
+        version: TableVersion::V3,
+        payload: &[0, 0, 0, 0],
+        rows: &[],
+        reads: &[(b"a", u64::MAX, 99)],
+        walks: &[(&[], &[(Front, 99), (Back, 99)])],
+    },
+    Stored {
+        version: TableVersion::V3,
+        payload: ONE_IN_V3,
+        rows: ONE,
+        reads: READS_OF_ONE,
+        walks: &[(&[], &[(Front, 1), (Back, 99)])],
+    },
+    Stored {
+        version: TableVersion::V4,
+        payload: ONE_IN_V4,
+        rows: ONE,
+        reads: READS_OF_ONE,
+        walks: &[(&[], &[(Front, 1), (Back, 99)])],
+    },
+    Stored {
+        version: TableVersion::V4,
+        payload: FIVE_IN_V4,
+        rows: FIVE,
+        reads: READS_OF_FIVE,
+        walks: WALKS_OF_FIVE,
+    },
+];
+
+/// How many cases the table above has.
+pub(crate) const CASES: usize = STORED.len();
+
+/// Whether the entries at a place of the table above are written, where their version is, and read
+/// so; or memory was refused where it may be.
+pub(crate) fn is_so_at(heap: &Refusing, place: usize, may_fail: bool) -> bool {
+    match STORED.get(place) {
+        Some(stored) => {
+            let is_old = matches!(stored.version, TableVersion::V3);
+            (is_old || is_written_so(heap, stored, may_fail))
+                && is_loaded_so(heap, stored, may_fail)
+        }
+        None => false,
+    }
+}

@@ -1,0 +1,279 @@
+//! The priority queues against a count of each number, the matches that they play, and what they
+//! take of memory.
+
+use crate::heaps::examples::{Example, Refused, first_wrong, requests};
+use crate::heaps::queues::{Counts, Queue, Turn, interval_heap, lazy_tournament, tournament};
+use sst_entries::Error;
+use std::alloc::Global;
+use test_refusing::Refusing;
+
+// Which queue is asked.
+enum Kind {
+    Tournament,
+    IntervalHeap,
+    Lazy,
+}
+
+const KINDS: &[Kind] = &[Kind::Tournament, Kind::IntervalHeap, Kind::Lazy];
+
+// What is done, the number that is taken out, how many numbers there are then, and how many steps
+// were made.
+type Step = (Turn, Option<u8>, usize, u64);
+
+// What is asked of a queue.
+enum Asked {
+    // To give up as many numbers as it has room for, the digits of a code, the least and the
+    // greatest in turn as a pattern has it.
+    All,
+    // To add and give up numbers as the digits of a code have it, in so many turns.
+    Turns(u8),
+    // To take these steps.
+    Steps(&'static [Step]),
+}
+
+// A code, and a pattern where there is one.
+type Order = (u32, u32);
+
+// Which queues are asked, the room that they have, what they are asked, and how many codes and
+// patterns there are.
+struct Case(&'static [Kind], usize, Asked, Order);
+
+// Whether a queue takes a turn as it is counted.
+fn takes_so<Q: Queue>(queue: &mut Q, counts: &mut Counts, turn: Turn) -> bool {
+    let wanted = counts.take(turn);
+    let (taken, count, _) = queue.take(turn);
+    taken == wanted && count == counts.len()
+}
+
+// Whether a queue gives up all numbers that are added to it, the digits of a code, as the pattern
+// has it, and then none.
+fn gives_up_all<Q: Queue>(queue: &mut Q, numbers: usize, order: Order) -> bool {
+    let (mut code, mut pattern) = order;
+    let mut counts = Counts { of: [0; 3] };
+    let mut is_so = true;
+    for _ in 0..numbers {
+        is_so &= takes_so(queue, &mut counts, Turn::Add((code % 3) as u8));
+        code /= 3;
+    }
+    is_so &= counts.len() == numbers;
+    for _ in 0..numbers {
+        let turn = if pattern % 2 == 0 {
+            Turn::Least
+        } else {
+            Turn::Greatest
+        };
+        is_so &= takes_so(queue, &mut counts, turn);
+        pattern /= 2;
+    }
+    is_so &= counts.len() == 0;
+    is_so &= takes_so(queue, &mut counts, Turn::Least);
+    is_so && takes_so(queue, &mut counts, Turn::Greatest)
+}
+
+// Whether a queue gives up what is counted, while numbers are added and given up as the digits of
+// the code have it: a number is added where the digit is 0 and there is room, else one is given up,
+// the least where the digit is 1.
+fn follows<Q: Queue>(queue: &mut Q, room: usize, code: u32, turns: u8) -> bool {
+    let mut counts = Counts { of: [0; 3] };
+    let mut code = code;
+    let mut is_so = true;
+    for place in 0..turns {
+        let turn = match code % 3 {
+            0 if counts.len() < room => Turn::Add(place % 3),
+            1 => Turn::Least,
+            _ => Turn::Greatest,
+        };
+        is_so &= takes_so(queue, &mut counts, turn);
+        code /= 3;
+    }
+    is_so
+}
+
+// Whether a queue takes these steps.
+fn takes_steps<Q: Queue>(queue: &mut Q, steps: &[Step]) -> bool {
+    let mut is_so = true;
+    for (turn, wanted, count, made) in steps {
+        let (taken, left, steps) = queue.take(*turn);
+        is_so &= taken == *wanted && left == *count && steps == *made;
+    }
+    is_so
+}
+
+// Whether a queue answers what is asked.
+fn answers<Q: Queue>(queue: &mut Q, room: usize, asked: &Asked, order: Order) -> bool {
+    match asked {
+        Asked::All => gives_up_all(queue, room, order),
+        Asked::Turns(turns) => follows(queue, room, order.0, *turns),
+        Asked::Steps(steps) => takes_steps(queue, steps),
+    }
+}
+
+// Whether a queue that is made answers what is asked, and takes no memory for it; or is refused,
+// where it is to be.
+fn answers_once_made<Q: Queue + Drop>(
+    heap: &Refusing,
+    made: Result<Q, Error>,
+    room: usize,
+    asked: &Asked,
+    order: Order,
+    fails: bool,
+) -> bool {
+    match made {
+        Ok(mut queue) => {
+            let requests = heap.requests();
+            answers(&mut queue, room, asked, order) && heap.requests() == requests && !fails
+        }
+        Err(error) => fails && error == Error::OutOfMemory,
+    }
+}
+
+// Whether a queue of a kind answers so.
+fn is_so(
+    heap: &Refusing,
+    kind: &Kind,
+    room: usize,
+    asked: &Asked,
+    order: Order,
+    fails: bool,
+) -> bool {
+    match kind {
+        Kind::Tournament => {
+            answers_once_made(heap, tournament(heap, room), room, asked, order, fails)
+        }
+        Kind::IntervalHeap => {
+            answers_once_made(heap, interval_heap(heap, room), room, asked, order, fails)
+        }
+        Kind::Lazy => {
+            answers_once_made(heap, lazy_tournament(heap, room), room, asked, order, fails)
+        }
+    }
+}
+
+// Whether a queue of a kind answers so by each code and pattern, where no memory is refused.
+fn answers_each(alloc: Global, kind: &Kind, case: &Case) -> bool {
+    let Case(_, room, asked, (codes, patterns)) = case;
+    for code in 0..*codes {
+        for pattern in 0..*patterns {
+            let memory = Refusing::new(alloc, 0);
+            if !is_so(&memory, kind, *room, asked, (code, pattern), false) {
+                return false;
+            }
+        }
+    }
+    true
+}
+
+impl Example for Case {
+    fn is_so(&self, alloc: Global) -> bool {
+        for kind in self.0 {
+            if !answers_each(alloc, kind, self) {
+                return false;
+            }
+        }
+        true
+    }
+}
+
+const CASES: &[Case] = &[
+    // Each list of up to six numbers in each pattern of pops.
+    Case(KINDS, 0, Asked::All, (1, 1)),
+    Case(KINDS, 1, Asked::All, (3, 2)),
+    Case(KINDS, 2, Asked::All, (9, 4)),
+    Case(KINDS, 3, Asked::All, (27, 8)),
+    Case(KINDS, 4, Asked::All, (81, 16)),
+    Case(KINDS, 5, Asked::All, (243, 32)),
+    Case(KINDS, 6, Asked::All, (729, 64)),
+    // Pushes and pops in turns.
+    Case(KINDS, 4, Asked::Turns(8), (6561, 1)),
+    // Each match is played for the least and for the greatest, but not above one that another slot
+    // wins as before: the last push leaves the final of the greatest as it is. The matches above an
+    // emptied slot are played at the next call.
+    Case(
+        &[Kind::Tournament],
+        4,
+        Asked::Steps(&[
+            (Turn::Add(b'd'), None, 1, 0),
+            (Turn::Add(b'b'), None, 2, 2),
+            (Turn::Add(b'c'), None, 3, 4),
+            (Turn::Add(b'a'), None, 4, 7),
+            (Turn::Least, Some(b'a'), 3, 7),
+            (Turn::Greatest, Some(b'd'), 2, 8),
+        ]),
+        (1, 1),
+    ),
+    // One number takes no step.
+    Case(
+        &[Kind::Tournament],
+        1,
+        Asked::Steps(&[
+            (Turn::Add(b'a'), None, 1, 0),
+            (Turn::Greatest, Some(b'a'), 0, 0),
+        ]),
+        (1, 1),
+    ),
+    // An end that is not asked plays no match: three at the first pop, and one after 'a' has gone.
+    // Then one more for the least, after 'b' has gone, and one for the greatest: the others have no
+    // opponent. None at the last.
+    Case(
+        &[Kind::Lazy],
+        4,
+        Asked::Steps(&[
+            (Turn::Add(b'd'), None, 1, 0),
+            (Turn::Add(b'b'), None, 2, 0),
+            (Turn::Add(b'c'), None, 3, 0),
+            (Turn::Add(b'a'), None, 4, 0),
+            (Turn::Least, Some(b'a'), 3, 3),
+            (Turn::Least, Some(b'b'), 2, 4),
+            (Turn::Greatest, Some(b'd'), 1, 6),
+            (Turn::Least, Some(b'c'), 0, 6),
+        ]),
+        (1, 1),
+    ),
+];
+
+#[test]
+fn queues_give_up_what_is_counted_by_the_matches_that_they_play(rt: HostRuntime) {
+    let wrong = first_wrong(rt.alloc(), CASES);
+    assert!(rt; wrong.is_none(), "{wrong:?}");
+}
+
+// Two numbers are added, and the greatest and the least given up, five times.
+const FIVE_TIMES: Order = (45 * (1 + 81 + 6561 + 531441 + 43046721), 0);
+
+// A kind, the room that it has, and the requests that it makes for it, and for no more while it is
+// filled and emptied over and over.
+struct Made(Kind, usize, usize);
+
+impl Refused for Made {
+    fn answers(&self, memory: &Refusing, fails: bool) -> bool {
+        is_so(
+            memory,
+            &self.0,
+            self.1,
+            &Asked::Turns(20),
+            FIVE_TIMES,
+            fails,
+        )
+    }
+}
+
+impl Example for Made {
+    fn is_so(&self, alloc: Global) -> bool {
+        requests(alloc, self) == Ok(self.2)
+    }
+}
+
+const MADE: &[Made] = &[
+    Made(Kind::Tournament, 2, 4),
+    Made(Kind::Tournament, 3, 4),
+    Made(Kind::IntervalHeap, 2, 1),
+    Made(Kind::IntervalHeap, 3, 1),
+    Made(Kind::Lazy, 2, 4),
+    Made(Kind::Lazy, 3, 4),
+];
+
+#[test]
+fn memory_is_taken_at_first_alone(rt: HostRuntime) {
+    let wrong = first_wrong(rt.alloc(), MADE);
+    assert!(rt; wrong.is_none(), "{wrong:?}");
+}

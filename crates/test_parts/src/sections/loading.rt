@@ -1,0 +1,399 @@
+//! Loading the blocks of a stored table, and what its changed bytes are refused for.
+use crate::sections::stored_table;
+use crate::sections::tables::{changed, handle};
+use sst_blocks::BlockType::{Data, Index, Meta};
+use sst_blocks::{
+    Block, BlockSource, BlockType, Counted, Error, LoadBlocks, Opened, Slice, TagName,
+    written_blocks_load,
+};
+use std::alloc::{AllocError, Allocator, Global};
+use test_refusing::Refusing;
+
+/// What a load answers: the kind and the size of the block's payload.
+pub(crate) type Answer = Result<(BlockType, usize), Error>;
+
+fn told<A: Allocator>(loaded: Result<Block<A>, Error>) -> Answer {
+    let block = loaded?;
+    let told = (block.kind(), block.size());
+    drop(block);
+    Ok(told)
+}
+
+/// What a source answers for the block at a position: of this size, or of the one that its header
+/// says.
+pub(crate) fn loaded(
+    source: &BlockSource,
+    offset: u64,
+    size: Option<u32>,
+    kind: BlockType,
+    opened: &mut Opened,
+) -> Answer {
+    told(match size {
+        Some(size) => source.load(&handle(offset, size), kind, opened),
+        None => source.load_at(offset, kind, opened),
+    })
+}
+
+// Changes of the stored table, the position, the size if it is said, and the kind that a load is
+// told then, and what it answers.
+type Load = (&'static [(usize, u8)], u64, Option<u32>, BlockType, Answer);
+
+const LOADS: &[Load] = &[
+    (&[], 0, Some(45), Data, Ok((Data, 21))),
+    (&[], 0, Some(23), Data, Err(Error::Truncated)),
+    (&[], 0, Some(44), Data, Err(Error::InvalidHeader)),
+    (
+        &[],
+        0,
+        Some(45),
+        Index,
+        Err(Error::InvalidTag(TagName::BlockType, 0)),
+    ),
+    (&[], 0, None, Data, Ok((Data, 21))),
+    (&[], 96, None, Data, Err(Error::InvalidHeader)),
+    (&[], 1120, None, Data, Err(Error::Truncated)),
+    // The first fault of a changed block.
+    (&[(0, 0)], 0, Some(45), Data, Err(Error::InvalidHeader)),
+    (
+        &[(7, 1), (4, 9)],
+        0,
+        Some(45),
+        Data,
+        Err(Error::InvalidHeader),
+    ),
+    (
+        &[(4, 9), (5, 1)],
+        0,
+        Some(45),
+        Data,
+        Err(Error::InvalidTag(TagName::BlockType, 9)),
+    ),
+    (
+        &[(5, 1), (8, 0)],
+        0,
+        Some(45),
+        Data,
+        Err(Error::UnsupportedCompression),
+    ),
+    (
+        &[(8, 20), (16, 0)],
+        0,
+        Some(45),
+        Data,
+        Err(Error::InvalidHeader),
+    ),
+    (
+        &[(8, 20), (12, 20)],
+        0,
+        Some(45),
+        Data,
+        Err(Error::InvalidHeader),
+    ),
+    (&[(16, 0)], 0, Some(45), Data, Err(Error::ChecksumMismatch)),
+    (&[(44, 0)], 0, Some(45), Data, Err(Error::ChecksumMismatch)),
+    // The new mark over a payload of the old grammar, whose checksum is right.
+    (&[(3, 0x32)], 0, Some(45), Data, Err(Error::InvalidBlock)),
+    // The trailer, whose slots begin at 1138 and its mark at 1250: another mark, a length of 2^32,
+    // one byte past the end of the body, and up to that end.
+    (&[(1257, 0)], 0, Some(45), Data, Err(Error::InvalidTrailer)),
+    (
+        &[(1178, 0), (1182, 1)],
+        0,
+        Some(45),
+        Data,
+        Err(Error::InvalidTrailer),
+    ),
+    (
+        &[(1242, 0x12)],
+        0,
+        Some(45),
+        Data,
+        Err(Error::InvalidTrailer),
+    ),
+    (
+        &[(1146, 0x72), (1147, 0x04)],
+        0,
+        Some(45),
+        Data,
+        Ok((Data, 21)),
+    ),
+    // the first position 2^64 - 1, whose sum with the length is 44 where it wraps
+    (
+        &[
+            (1138, 0xff),
+            (1139, 0xff),
+            (1140, 0xff),
+            (1141, 0xff),
+            (1142, 0xff),
+            (1143, 0xff),
+            (1144, 0xff),
+            (1145, 0xff),
+        ],
+        0,
+        Some(45),
+        Data,
+        Err(Error::InvalidTrailer),
+    ),
+    // the first length as much too: no data section
+    (
+        &[
+            (1138, 0xff),
+            (1139, 0xff),
+            (1140, 0xff),
+            (1141, 0xff),
+            (1142, 0xff),
+            (1143, 0xff),
+            (1144, 0xff),
+            (1145, 0xff),
+            (1146, 0xff),
+            (1147, 0xff),
+            (1148, 0xff),
+            (1149, 0xff),
+            (1150, 0xff),
+            (1151, 0xff),
+            (1152, 0xff),
+            (1153, 0xff),
+        ],
+        0,
+        Some(45),
+        Data,
+        Ok((Data, 21)),
+    ),
+];
+
+// Whether a load from the stored table answers as its case says.
+fn is_loaded_so(alloc: Global, case: &Load, opened: &mut Opened) -> bool {
+    let (changes, offset, size, kind, expected) = case;
+    match changed(alloc, stored_table::bytes(), changes) {
+        Ok(source) => {
+            let answer = loaded(&source, *offset, *size, *kind, opened);
+            drop(source);
+            answer == *expected
+        }
+        Err(error) => *expected == Err(error),
+    }
+}
+
+// Each load is counted, by the kind that it is told, also where it is refused.
+#[test]
+fn loads_from_a_stored_table(rt: HostRuntime) {
+    written_blocks_load();
+    let mut opened = Opened::none();
+    for case in LOADS {
+        assert!(rt; is_loaded_so(rt.alloc(), case, &mut opened));
+    }
+    let expected = Opened {
+        data_loads: 17,
+        index_loads: 1,
+        filter_loads: 0,
+        meta_loads: 0,
+    };
+    assert!(rt; opened == expected);
+}
+
+#[test]
+fn bytes_that_end_early_have_no_trailer(rt: HostRuntime) {
+    let bytes = stored_table::bytes();
+    for len in 0..bytes.len() {
+        let made = changed(rt.alloc(), &bytes[..len], &[]);
+        assert!(rt; made.err() == Some(Error::InvalidTrailer), "{len} bytes");
+    }
+}
+
+// What a load of each block is told: its kind and its size, another kind, and a size that is less.
+const BLOCKS: &[&[Load]] = &[
+    &[
+        (&[], 0, Some(45), Data, Ok((Data, 21))),
+        (
+            &[],
+            0,
+            Some(45),
+            Meta,
+            Err(Error::InvalidTag(TagName::BlockType, 0)),
+        ),
+        (&[], 0, Some(44), Data, Err(Error::InvalidHeader)),
+    ],
+    &[
+        (&[], 45, Some(51), Index, Ok((Index, 27))),
+        (
+            &[],
+            45,
+            Some(51),
+            Data,
+            Err(Error::InvalidTag(TagName::BlockType, 1)),
+        ),
+        (&[], 45, Some(50), Index, Err(Error::InvalidHeader)),
+    ],
+    &[
+        (&[], 97, Some(1041), Meta, Ok((Meta, 1017))),
+        (
+            &[],
+            97,
+            Some(1041),
+            Data,
+            Err(Error::InvalidTag(TagName::BlockType, 3)),
+        ),
+        (&[], 97, Some(1040), Meta, Err(Error::InvalidHeader)),
+    ],
+];
+
+// Whether the cases that change nothing are answered so three times over.
+fn answers_again(source: &BlockSource, cases: &[Load], opened: &mut Opened) -> bool {
+    for _ in 0..3u8 {
+        for (changes, offset, size, kind, expected) in cases {
+            if changes.is_empty() && loaded(source, *offset, *size, *kind, opened) != *expected {
+                return false;
+            }
+        }
+    }
+    true
+}
+
+// Whether each block is loaded again, of a source and then of its clone.
+fn both_load_again(source: &BlockSource, clone: &BlockSource, opened: &mut Opened) -> bool {
+    let mut are_so = answers_again(source, LOADS, opened);
+    for cases in BLOCKS {
+        are_so &= answers_again(source, cases, opened);
+        are_so &= answers_again(clone, cases, opened);
+    }
+    are_so
+}
+
+fn loads_again(source: &BlockSource, opened: &mut Opened) -> bool {
+    let clone: Result<BlockSource, AllocError> = source.clone();
+    match clone {
+        Ok(clone) => {
+            let is_so = both_load_again(source, &clone, opened);
+            drop(clone);
+            is_so
+        }
+        Err(_) => false,
+    }
+}
+
+// Whether the blocks of the stored table load again, of a clone of its source too.
+fn stored_blocks_load_again(alloc: Global, opened: &mut Opened) -> bool {
+    match changed(alloc, stored_table::bytes(), &[]) {
+        Ok(source) => {
+            let are_so = loads_again(&source, opened);
+            drop(source);
+            are_so
+        }
+        Err(_) => false,
+    }
+}
+
+// A block whose checksum was compared and whose grammar was tested loads as before, and each load
+// is counted.
+#[test]
+fn a_block_loads_again(rt: HostRuntime) {
+    let mut opened = Opened::none();
+    assert!(rt; stored_blocks_load_again(rt.alloc(), &mut opened));
+    let expected = Opened {
+        data_loads: 42,
+        index_loads: 15,
+        filter_loads: 0,
+        meta_loads: 18,
+    };
+    assert!(rt; opened == expected);
+}
+
+// The size of a data block and that of an index block behind it, and the counts.
+type Counts = (usize, usize, Opened);
+
+fn sizes<L: LoadBlocks>(blocks: &mut L) -> Result<(usize, usize), Error> {
+    let (_, first) = told(blocks.load(&handle(0, 45), Data))?;
+    let (_, second) = told(blocks.load(&handle(45, 51), Index))?;
+    Ok((first, second))
+}
+
+fn counted<A: Allocator + Copy>(source: &BlockSource<A>) -> Result<Counts, Error> {
+    let mut counted = Counted::new(source);
+    let (first, second) = sizes(&mut counted)?;
+    Ok((first, second, counted.opened()))
+}
+
+const COUNTED: Counts = (
+    21,
+    27,
+    Opened {
+        data_loads: 1,
+        index_loads: 1,
+        filter_loads: 0,
+        meta_loads: 0,
+    },
+);
+
+// How many requests the bytes of the stored table take, and how many with the source over them, and
+// what is counted of that.
+fn counted_of(heap: &Refusing) -> Result<(usize, usize, Counts), Error> {
+    let bytes = Slice::from(heap, stored_table::bytes())?;
+    let first = heap.requests();
+    let source = BlockSource::new(heap, bytes)?;
+    let last = heap.requests();
+    let counts = counted(&source);
+    drop(source);
+    Ok((first, last, counts?))
+}
+
+// Whether all is counted, or memory was refused where it may be, with this request refused.
+fn is_counted_but(alloc: Global, nth: usize, may_fail: bool) -> bool {
+    let heap = Refusing::new(alloc, nth);
+    let is_so = match counted_of(&heap) {
+        Ok((_, _, counts)) => counts == COUNTED,
+        Err(error) => may_fail && error == Error::OutOfMemory,
+    };
+    is_so && heap.requests() >= nth
+}
+
+// Whether all is counted with each request refused in turn. A source that is refused what it would
+// remember checksums in loads all the same.
+fn is_counted(alloc: Global) -> Result<bool, Error> {
+    let heap = Refusing::new(alloc, 0);
+    let (first, last, counts) = counted_of(&heap)?;
+    let mut is_so = counts == COUNTED && first < last && heap.requests() > 3;
+    for nth in 1..=heap.requests() {
+        is_so &= is_counted_but(alloc, nth, nth <= first || nth > last);
+    }
+    Ok(is_so)
+}
+
+#[test]
+fn a_source_that_counts_its_loads_with_each_request_refused(rt: HostRuntime) {
+    assert!(rt; is_counted(rt.alloc()) == Ok(true));
+}
+
+// The refusals, each at the place before its number.
+const ERRORS: &[Error] = &[
+    Error::OutOfMemory,
+    Error::Truncated,
+    Error::InvalidHeader,
+    Error::InvalidTag(TagName::BlockType, 7),
+    Error::ChecksumMismatch,
+    Error::InvalidBlock,
+    Error::KeyTooLong,
+    Error::ValueTooLong,
+    Error::BlockTooLarge,
+    Error::SectionTooLarge,
+    Error::InvalidTrailer,
+    Error::MissingSection,
+    Error::MetaKeyMissing,
+    Error::InvalidMetaValue,
+    Error::UnsupportedTableVersion,
+    Error::UnsupportedHashType,
+    Error::UnsupportedChecksumType,
+    Error::UnsupportedIndexInterval,
+    Error::UnsupportedCompression,
+    Error::GlobalSeqNoTooLarge,
+    Error::SeqNoOverflow,
+    Error::TableIdsSpent,
+    Error::WriterFailed,
+    Error::Source(5),
+];
+
+#[test]
+fn each_refusal_has_its_number(rt: HostRuntime) {
+    for (i, error) in ERRORS.iter().enumerate() {
+        assert!(rt; usize::from(error.number()) == i + 1);
+    }
+}

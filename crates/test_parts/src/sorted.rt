@@ -1,0 +1,7 @@
+//! Tests of merging, newest versions and compaction, given and lent.
+mod compaction;
+mod laws;
+mod lending;
+mod sources;
+mod streams;
+mod words;

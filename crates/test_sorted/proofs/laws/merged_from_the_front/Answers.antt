@@ -1,9 +1,0 @@
-use Rattle.sst_entries.specs.Stream.{ok_results}
-use Rattle.lsm_merge.specs.Union.{union_of}
-use Rattle.lsm_merge.specs.MergeLaws.{every_error}
-use Rattle.test_sorted.proofs.laws.merged_from_the_front.Goals as goal
-
-pub returns-clause-deals : goal.returns-clause-deals
-returns-clause-deals g c stops lists sorted =
-    c.from_the_front.ensures.deals every_error (ok_results (union_of lists))
-    ((c.from_both_ends.ensures.before c.args.iterators.items c.in_ok-merger.ensures.fresh).deals stops lists sorted)

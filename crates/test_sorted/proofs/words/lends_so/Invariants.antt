@@ -1,6 +1,0 @@
-use Rattle.sst_entries.specs.Stream.{CanDeal, nowhere}
-use Rattle.test_sorted.proofs.words.lends_so.Given as goal
-
-abbrev pub invariant-loop-word : goal.invariant-loop-word
-invariant-loop-word g l = CanDeal g.L.Lending.advances nowhere g.L.Lending.can_advance
-    g.L.Lending.can_advance l.source

@@ -1,0 +1,141 @@
+//! Each step refused in turn: the old file or the whole new one stands.
+use crate::files::memory::Memory;
+use crate::files::written::{LINES, NEVER, compact, entries_of, sources, write, write_options};
+use logpurple::Error;
+use std::alloc::Global;
+use tool_files::FileFault;
+use tool_make::{CompactError, MakeError, compact_files, write_entries};
+
+// Whether a file has just these bytes.
+fn has(place: &Memory, path: &str, bytes: &[u8]) -> bool {
+    place.bytes_of(path) == Some(bytes)
+}
+
+// Writes over an old file with a step refused. Answers whether it was written, whether the old file
+// stands, whether the new one does, and how many files there are.
+fn replaced(alloc: Global, refused: u64) -> (bool, bool, bool, usize) {
+    let mut place = Memory::new(alloc, refused);
+    let put = place.put("t", Some(b"old")).is_ok();
+    let written = write(&mut place, alloc, LINES, "t", None).is_some();
+    let old = put && has(&place, "t", b"old");
+    let new = entries_of(&place, alloc, "t") == Some(3);
+    (written, old, new, place.count())
+}
+
+#[test]
+fn old_file_or_the_new_one_stands(rt: HostRuntime) {
+    let alloc = rt.alloc();
+    // The file is not written, not renamed, not synced, and nothing is refused.
+    assert_eq!(rt; replaced(alloc, 0), (false, true, false, 1));
+    assert_eq!(rt; replaced(alloc, 1), (false, true, false, 1));
+    assert_eq!(rt; replaced(alloc, 2), (false, false, true, 1));
+    assert_eq!(rt; replaced(alloc, NEVER), (true, false, true, 1));
+}
+
+// Writes two tables over old files with a step refused. Answers which of them are new, and how many
+// files there are.
+fn both_replaced(alloc: Global, refused: u64) -> (bool, bool, usize) {
+    let mut place = Memory::new(alloc, refused);
+    let put = place.put("t.1", Some(b"old")).is_ok() && place.put("t.2", Some(b"old")).is_ok();
+    write(&mut place, alloc, LINES, "t", Some(0));
+    let first = put && !has(&place, "t.1", b"old");
+    let second = put && !has(&place, "t.2", b"old");
+    (first, second, place.count())
+}
+
+#[test]
+fn first_of_two_stands_renamed(rt: HostRuntime) {
+    let alloc = rt.alloc();
+    assert_eq!(rt; both_replaced(alloc, 0), (false, false, 2));
+    assert_eq!(rt; both_replaced(alloc, 1), (false, false, 2));
+    assert_eq!(rt; both_replaced(alloc, 2), (false, false, 2));
+    assert_eq!(rt; both_replaced(alloc, 3), (true, false, 2));
+    assert_eq!(rt; both_replaced(alloc, 4), (true, true, 2));
+    assert_eq!(rt; both_replaced(alloc, NEVER), (true, true, 2));
+}
+
+// Compacts into three tables with a step refused. Answers whether that was done, whether anything
+// has the folder's name, whether all tables are in it, and how many files and folders there are.
+fn compacted(alloc: Global, refused: u64) -> (bool, bool, bool, usize) {
+    let mut place = sources(alloc, refused);
+    let done = compact(&mut place, alloc, "to", Some(0)).is_some();
+    let whole = entries_of(&place, alloc, "to/1.sst") == Some(3)
+        && entries_of(&place, alloc, "to/2.sst") == Some(1)
+        && entries_of(&place, alloc, "to/3.sst") == Some(1);
+    (done, place.has("to"), whole, place.count())
+}
+
+#[test]
+fn folder_stands_whole_or_is_absent(rt: HostRuntime) {
+    let alloc = rt.alloc();
+    // The folder is not made, one of three files is not written, the folder is not synced, and not
+    // renamed: both sources stay, and nothing else is there.
+    for refused in 0..6u64 {
+        assert_eq!(rt; compacted(alloc, refused), (false, false, false, 2));
+    }
+    // The folder's own name is not synced, and nothing is refused.
+    assert_eq!(rt; compacted(alloc, 6), (false, true, true, 6));
+    assert_eq!(rt; compacted(alloc, NEVER), (true, true, true, 6));
+}
+
+// Why a compaction is refused: 1 where its folder's path is taken, 2 for another fault of a file, 3
+// for what else, 0 where it is not.
+fn why_not(place: &mut Memory, alloc: Global, paths: &[&str]) -> u8 {
+    match compact_files(
+        place,
+        alloc,
+        paths,
+        "to",
+        &crate::files::written::keep_all(None),
+    ) {
+        Ok(_) => 0,
+        Err(CompactError::File(error)) => match error.fault {
+            FileFault::Taken => 1,
+            _ => 2,
+        },
+        Err(_) => 3,
+    }
+}
+
+#[test]
+fn taken_folder_is_told_before_any_file(rt: HostRuntime) {
+    let alloc = rt.alloc();
+    let mut place = sources(alloc, NEVER);
+    assert_eq!(rt; why_not(&mut place, alloc, &["none"]), 2);
+    assert_eq!(rt; place.put("to", None).is_ok(), true);
+    assert_eq!(rt; why_not(&mut place, alloc, &["none"]), 1);
+    assert_eq!(rt; why_not(&mut place, alloc, &["b", "a"]), 1);
+    assert_eq!(rt; place.steps(), 0);
+}
+
+// Why lines are not written: 1 for their sizes, 2 where there is no entry, 3 for a line, 4 for what
+// else, 0 where they are.
+fn why_unwritten(place: &mut Memory, alloc: Global, lines: &str, block_size: u32) -> u8 {
+    let mut options = write_options(None);
+    options.block_size = block_size;
+    match write_entries(place, alloc, lines.as_bytes(), "t", &options) {
+        Ok(_) => 0,
+        Err(MakeError::SizeTooLarge) => 1,
+        Err(MakeError::NoEntries) => 2,
+        Err(MakeError::Line { .. }) => 3,
+        Err(_) => 4,
+    }
+}
+
+#[test]
+fn nothing_is_done_for_lines_that_are_refused(rt: HostRuntime) {
+    let alloc = rt.alloc();
+    let mut place = Memory::new(alloc, NEVER);
+    assert_eq!(rt; why_unwritten(&mut place, alloc, "?", 4_194_305), 1);
+    assert_eq!(rt; why_unwritten(&mut place, alloc, "\n\n", 4_096), 2);
+    assert_eq!(rt; why_unwritten(&mut place, alloc, "?", 4_096), 3);
+    assert_eq!(rt; place.steps(), 0);
+    assert_eq!(rt; why_unwritten(&mut place, alloc, LINES, 4_096), 0);
+}
+
+#[test]
+fn want_of_memory_names_no_file(rt: HostRuntime) {
+    let error = FileFault::Refused(Error::OutOfMemory);
+    assert_eq!(rt; error.is_memory(), true);
+    assert_eq!(rt; FileFault::Refused(Error::Truncated).is_memory(), false);
+}

@@ -1,0 +1,166 @@
+//! Lines that are written into files, compacted and read back.
+use crate::files::memory::Memory;
+use logpurple::{BloomConstructionPolicy, IndexKind, Rules, Timestamp};
+use std::alloc::Global;
+use tool_files::open_table;
+use tool_lines::Format;
+use tool_make::{CompactOptions, WriteOptions, compact_files, write_entries};
+
+/// A step that is never made, so that none is refused.
+pub(crate) const NEVER: u64 = 1_000;
+
+/// Lines of three entries, of two keys.
+pub(crate) const LINES: &str = "a 3 V x\na 1 V y\nc 2 V z\n";
+
+/// Lines of two further entries.
+pub(crate) const MORE: &str = "a 7 V w\nb 4 V v\n";
+
+/// How lines are written: into one table, or with a target into several.
+pub(crate) fn write_options(target: Option<u64>) -> WriteOptions {
+    WriteOptions {
+        index: IndexKind::Full,
+        filter: BloomConstructionPolicy::BitsPerKey(100),
+        block_size: 4_096,
+        level: 0,
+        target,
+        created_at: Timestamp::from(0),
+        format: Format::Lines,
+        sort: false,
+    }
+}
+
+/// Compaction that keeps all: into one table, or with a target into several.
+pub(crate) fn keep_all(target: Option<u64>) -> CompactOptions {
+    CompactOptions {
+        rules: Rules {
+            watermark: 0,
+            evict: false,
+            zeroing: false,
+        },
+        target,
+        created_at: Timestamp::from(0),
+    }
+}
+
+/// Writes lines, and answers how many tables and entries came of them; none where it is refused.
+pub(crate) fn write(
+    place: &mut Memory,
+    alloc: Global,
+    lines: &str,
+    path: &str,
+    target: Option<u64>,
+) -> Option<(u64, u64)> {
+    match write_entries(place, alloc, lines.as_bytes(), path, &write_options(target)) {
+        Ok(made) => Some((made.tables, made.entries)),
+        Err(_) => None,
+    }
+}
+
+/// Compacts the files `a` and `b` into a folder, and answers how many tables and entries came of
+/// them; none where it is refused.
+pub(crate) fn compact(
+    place: &mut Memory,
+    alloc: Global,
+    folder: &str,
+    target: Option<u64>,
+) -> Option<(u64, u64)> {
+    match compact_files(place, alloc, &["b", "a"], folder, &keep_all(target)) {
+        Ok(made) => Some((made.tables, made.entries)),
+        Err(_) => None,
+    }
+}
+
+/// How many entries a file's table tells; none where it does not open.
+pub(crate) fn entries_of(place: &Memory, alloc: Global, path: &str) -> Option<u64> {
+    match open_table(place, alloc, path, true) {
+        Ok(table) => Some(table.metadata.item_count),
+        Err(_) => None,
+    }
+}
+
+/// Where `b` and `a` are written, the older one second; a step is refused behind these.
+pub(crate) fn sources(alloc: Global, refused: u64) -> Memory {
+    let mut place = Memory::new(alloc, NEVER);
+    write(&mut place, alloc, LINES, "a", None);
+    write(&mut place, alloc, MORE, "b", None);
+    place.refuse(refused);
+    place
+}
+
+#[test]
+fn lines_are_written_and_read_back(rt: HostRuntime) {
+    let alloc = rt.alloc();
+    let mut place = Memory::new(alloc, NEVER);
+    assert_eq!(rt; write(&mut place, alloc, LINES, "t", None), Some((1, 3)));
+    assert_eq!(rt; entries_of(&place, alloc, "t"), Some(3));
+    // It was written, renamed and its folder synced.
+    assert_eq!(rt; place.steps(), 3);
+    assert_eq!(rt; place.count(), 1);
+}
+
+#[test]
+fn several_tables_are_numbered(rt: HostRuntime) {
+    let alloc = rt.alloc();
+    let mut place = Memory::new(alloc, NEVER);
+    // At target 0 each key has a table.
+    assert_eq!(rt; write(&mut place, alloc, LINES, "t", Some(0)), Some((2, 3)));
+    assert_eq!(rt; entries_of(&place, alloc, "t.1"), Some(2));
+    assert_eq!(rt; entries_of(&place, alloc, "t.2"), Some(1));
+    assert_eq!(rt; place.count(), 2);
+}
+
+#[test]
+fn file_behind_the_last_is_left_of_an_earlier_write(rt: HostRuntime) {
+    let alloc = rt.alloc();
+    let mut place = Memory::new(alloc, NEVER);
+    assert_eq!(rt; place.put("t.3", Some(b"old")).is_ok(), true);
+    assert_eq!(rt; write(&mut place, alloc, LINES, "t", Some(0)), None);
+    assert_eq!(rt; place.steps(), 0);
+    assert_eq!(rt; place.count(), 1);
+}
+
+#[test]
+fn files_are_compacted_and_read_back(rt: HostRuntime) {
+    let alloc = rt.alloc();
+    let mut place = sources(alloc, NEVER);
+    assert_eq!(rt; compact(&mut place, alloc, "to", None), Some((1, 5)));
+    assert_eq!(rt; entries_of(&place, alloc, "to/1.sst"), Some(5));
+    // A folder was made, one file written in it, the folder synced and renamed, then its own name
+    // synced.
+    assert_eq!(rt; place.steps(), 5);
+    assert_eq!(rt; place.count(), 4);
+}
+
+#[test]
+fn several_tables_get_their_folder_at_once(rt: HostRuntime) {
+    let alloc = rt.alloc();
+    let mut place = sources(alloc, NEVER);
+    // At target 0 each key has a table.
+    assert_eq!(rt; compact(&mut place, alloc, "to", Some(0)), Some((3, 5)));
+    assert_eq!(rt; entries_of(&place, alloc, "to/1.sst"), Some(3));
+    assert_eq!(rt; entries_of(&place, alloc, "to/2.sst"), Some(1));
+    assert_eq!(rt; entries_of(&place, alloc, "to/3.sst"), Some(1));
+    assert_eq!(rt; place.steps(), 7);
+    assert_eq!(rt; place.count(), 6);
+}
+
+#[test]
+fn folder_is_made_under_a_free_name_beside(rt: HostRuntime) {
+    let alloc = rt.alloc();
+    let mut place = sources(alloc, NEVER);
+    assert_eq!(rt; place.put("to.1.tmp", None).is_ok(), true);
+    assert_eq!(rt; compact(&mut place, alloc, "to", None), Some((1, 5)));
+    // The name that is taken was tried too.
+    assert_eq!(rt; place.steps(), 6);
+    assert_eq!(rt; place.has("to.1.tmp"), true);
+    assert_eq!(rt; place.count(), 5);
+}
+
+#[test]
+fn slashes_at_the_end_of_a_folder_are_left_out_beside_it(rt: HostRuntime) {
+    let alloc = rt.alloc();
+    let mut place = sources(alloc, NEVER);
+    assert_eq!(rt; place.put("to.1.tmp", None).is_ok(), true);
+    assert_eq!(rt; compact(&mut place, alloc, "to//", None), Some((1, 5)));
+    assert_eq!(rt; place.steps(), 6);
+}
