@@ -16,8 +16,8 @@ ghost use Rattle.logpurple.specs.Words.{opening_fault, point, rules_by, seen, ta
 ghost use Rattle.logpurple.specs.Words.{union_in};
 
 use logpurple::{
-    Error, InternalValue, IterItem, Rules, Run, SeqNo, Table, TableIds, Timestamp, VerifyError,
-    compact_to_run, range_runs_at, write_and_open,
+    Error, InternalValue, IterItem, NewestOf, Rules, Run, SeqNo, Table, TableIds, Timestamp,
+    VerifyError, compact_to_run, range_runs_at, write_and_open,
 };
 use std::alloc::Allocator;
 use std::ops::Bound;
@@ -126,7 +126,26 @@ pub fn count_below<A: Allocator + Clone>(
         RunsHoldLists (map arc_value runs.now) lists → IfErr result (λ e. e ≡ OutOfMemory) }
 {
     let all = (Bound::Unbounded, Bound::Unbounded);
-    count(range_runs_at(alloc, runs, all, seqno)?)
+    count_newest(range_runs_at(alloc, runs, all, seqno)?)
+}
+
+// How many newest versions some sources have, as `count`. Generic in the sources: to hand a whole
+// concrete stream to a function that is generic in streams costs a proof a minute or two.
+fn count_newest<S: DoubleEndedIterator<Item = IterItem<A>> + Drop, A: Allocator>(
+    items: NewestOf<S, A>,
+) -> Result<u64, Error>
+    requires can { ⟦<NewestOf<S, A> as Iterator>⟧.can_next items }
+    requires finite { IsFinite (⟦<NewestOf<S, A> as Iterator>⟧.remaining items) }
+    ensures exact { let gives = ⟦<NewestOf<S, A> as Iterator>⟧.next_gives in
+        let back_gives = ⟦<NewestOf<S, A> as DoubleEndedIterator>⟧.next_back_gives in
+        (es : List Entry) → DealsList gives back_gives es items →
+        IfOk result (λ count. count ≡ min (length es) (2 ^ 64 - 1)) }
+    ensures memory { let gives = ⟦<NewestOf<S, A> as Iterator>⟧.next_gives in
+        let back_gives = ⟦<NewestOf<S, A> as DoubleEndedIterator>⟧.next_back_gives in
+        (es : List Entry) → DealsList gives back_gives es items →
+        IfErr result (λ e. e ≡ OutOfMemory) }
+{
+    count(items)
 }
 
 // How many entries a stream gives, up to `u64::MAX`.

@@ -25,7 +25,7 @@ ghost use Rattle.lsm_compactions.specs.Words.{IsFreshRun, RefusesOf, RunsHoldLis
 ghost use Rattle.lsm_compactions.specs.Words.{TablesWriting, TakesOf, TookList, kept_in, nowhere};
 ghost use Rattle.lsm_compactions.specs.Words.{scans_of, writes_fault};
 
-use crate::compact::{finished, kept_of};
+use crate::compact::{Kept, finished, kept_of};
 use lsm_ranges::Run;
 use lsm_readers::Table;
 use lsm_sorted::compaction::Rules;
@@ -118,16 +118,17 @@ pub(crate) fn ended<A: Allocator + Clone>(
     }
 }
 
-// Writes what a source lends, as long as each entry may follow the one before it, and finishes.
-// Refused as the source and the writer are.
+// Writes what is kept, as long as each entry may follow the one before it, and finishes. Refused as
+// the source and the writer are.
 fn write_in_order<L: Lending + Drop, A: Allocator + Clone>(
-    mut source: L,
+    mut source: Kept<L, A>,
     mut writer: MultiWriter<A>,
 ) -> Result<CompactionOutcome<A>, Error>
     requires fresh { IsFreshRun writer }
     requires next { RunsOn writer }
-    requires can { CanDeal L.advances nowhere L.can_advance L.can_advance source }
-    ensures came { (rs : List R) → DealsResults L.advances rs source →
+    requires can { CanDeal ⟦<Kept<L, A> as Lending>⟧.advances nowhere
+        ⟦<Kept<L, A> as Lending>⟧.can_advance ⟦<Kept<L, A> as Lending>⟧.can_advance source }
+    ensures came { (rs : List R) → DealsResults ⟦<Kept<L, A> as Lending>⟧.advances rs source →
         CameOf writer rs result }
     // Whatever the source lends, tables are those of a list that can be written.
     ensures made { IfOk result (HasMade writer) }

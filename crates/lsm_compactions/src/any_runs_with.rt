@@ -105,23 +105,35 @@ fn write_while_observed<
     Ok(Ending::AtEnd)
 }
 
-// Writes what a stream gives, for as long as each entry may follow the one before it and the
+// What a compaction of some sources gives. What takes it is generic in the sources, as what takes
+// `Kept` is.
+type Compacted<I, F, C, A> = CompactionStream<Merger<I, A>, F, C>;
+
+// Writes what a compaction gives, for as long as each entry may follow the one before it and the
 // observer lets it go on, and finishes. Refused as the stream and the writer are.
-fn write_observed<I: Iterator<Item = IterItem<A>>, O: CompactionObserver, A: Allocator + Clone>(
-    items: &mut I,
+fn write_observed<
+    I: Iterator<Item = IterItem<A>>,
+    F: StreamFilter<A> + Drop,
+    C: DroppedKvCallback<A> + Drop,
+    O: CompactionObserver,
+    A: Allocator + Clone,
+>(
+    items: &mut Compacted<I, F, C, A>,
     mut writer: MultiWriter<A>,
     observer: &mut O,
 ) -> Result<CompactionOutcome<A>, Error>
     requires fresh { IsFreshRun writer }
     requires next { RunsOn writer }
-    requires can { I.can_next items.old }
-    requires finite { IsFinite (I.remaining items.old) }
-    ensures written { IfOk result (λ r. IsWritten I.next_gives writer items.old O.says observer.old
-        r items.new observer.new) }
+    requires can { ⟦<Compacted<I, F, C, A> as Iterator>⟧.can_next items.old }
+    requires finite { IsFinite (⟦<Compacted<I, F, C, A> as Iterator>⟧.remaining items.old) }
+    ensures written { let gives = ⟦<Compacted<I, F, C, A> as Iterator>⟧.next_gives in
+        IfOk result (λ r.
+        IsWritten gives writer items.old O.says observer.old r items.new observer.new) }
     ensures made { IfOk result (HasMade writer) }
     ensures told { IfOk result (λ r. WasTold O.says writer r observer.old observer.new) }
-    ensures refused { IfErr result (λ e. RefusesWritten I.next_gives writer items.old O.says
-        observer.old e observer.new) }
+    ensures refused { let gives = ⟦<Compacted<I, F, C, A> as Iterator>⟧.next_gives in
+        IfErr result (λ e.
+        RefusesWritten gives writer items.old O.says observer.old e observer.new) }
 {
     let ending = write_while_observed(items, &mut writer, observer);
     ended(writer, ending)
@@ -140,10 +152,10 @@ fn compacted_from<
     rules: Rules,
     filter: F,
     callback: C,
-) -> Result<CompactionStream<Merger<I, A>, F, C>, Error>
+) -> Result<Compacted<I, F, C, A>, Error>
     ensures can { All (CanDeal I.next_gives nowhere I.can_next I.can_next) sources.items →
         All (λ s. IsFinite (I.remaining s)) sources.items →
-        IfOk result ⟦<CompactionStream<Merger<I, A>, F, C> as Iterator>⟧.can_next }
+        IfOk result ⟦<Compacted<I, F, C, A> as Iterator>⟧.can_next }
     ensures list { let gives = ⟦<Merger<I, A> as Iterator>⟧.next_gives in
         (lists : List (List (List Entry))) →
         DealTogether I.next_gives nowhere sources.items (map joined lists) →
@@ -171,9 +183,9 @@ fn compacted_of<F: StreamFilter<A> + Drop, C: DroppedKvCallback<A> + Drop, A: Al
     rules: Rules,
     filter: F,
     callback: C,
-) -> Result<CompactionStream<Merger<RunScanner<A>, A>, F, C>, Error>
+) -> Result<Compacted<RunScanner<A>, F, C, A>, Error>
     ensures can { IfOk result
-        ⟦<CompactionStream<Merger<RunScanner<A>, A>, F, C> as Iterator>⟧.can_next }
+        ⟦<Compacted<RunScanner<A>, F, C, A> as Iterator>⟧.can_next }
     ensures list { let gives = ⟦<Merger<RunScanner<A>, A> as Iterator>⟧.next_gives in
         (able : AreMergeable (map arc_value runs.now)) →
         IfOk result (λ s. (stops : Error → Bool) → stops OutOfMemory ≡ true →

@@ -77,25 +77,30 @@ pub(crate) fn scanners_of<A: Allocator + Clone>(
     Ok(scanners)
 }
 
-// What is kept of all entries of some sources together, in order, lent from where they lie. It is
-// generic in these, so that none of a scanner's parts is looked at.
+/// What is kept of all entries of some sources together, lent from where they lie. What takes it is
+/// generic in the sources: a whole concrete stream costs a proof much where it is handed to a
+/// function that is generic in streams.
+pub(crate) type Kept<L, A> = LendingCompaction<LendingMerger<L, A>, A>;
+
+// What is kept of all entries of some sources together, in order. It is generic in these, so that
+// none of a scanner's parts is looked at.
 fn kept_from<L: Lending + Drop, A: Allocator + Clone>(
     alloc: A,
     sources: Vec<L, A>,
     rules: Rules,
-) -> Result<LendingCompaction<LendingMerger<L, A>, A>, Error>
+) -> Result<Kept<L, A>, Error>
     ensures can { All (CanDeal L.advances nowhere L.can_advance L.can_advance) sources.items →
-        IfOk result (CanDeal ⟦<LendingCompaction<LendingMerger<L, A>, A> as Lending>⟧.advances
-        nowhere ⟦<LendingCompaction<LendingMerger<L, A>, A> as Lending>⟧.can_advance
-        ⟦<LendingCompaction<LendingMerger<L, A>, A> as Lending>⟧.can_advance) }
+        IfOk result (CanDeal ⟦<Kept<L, A> as Lending>⟧.advances
+        nowhere ⟦<Kept<L, A> as Lending>⟧.can_advance
+        ⟦<Kept<L, A> as Lending>⟧.can_advance) }
     ensures list { let advances =
-        ⟦<LendingCompaction<LendingMerger<L, A>, A> as Lending>⟧.advances in
+        ⟦<Kept<L, A> as Lending>⟧.advances in
         (lists : List (List (List Entry))) →
         DealTogether L.advances nowhere sources.items (map joined lists) →
         IfOk result (DealsList advances nowhere (kept_in rules lists)) }
     // Of any results that come in order from each source, what is kept of them together.
     ensures any { let advances =
-        ⟦<LendingCompaction<LendingMerger<L, A>, A> as Lending>⟧.advances in
+        ⟦<Kept<L, A> as Lending>⟧.advances in
         (lists : List (List R)) →
         AllZip (λ s rs. DealsResults L.advances rs s) sources.items lists →
         AllByRecursion (λ rs. Ascends (entries_among rs)) lists →
@@ -112,19 +117,19 @@ pub(crate) fn kept_of<A: Allocator + Clone>(
     alloc: A,
     runs: &[Arc<Run<Table<A>, A>, A>],
     rules: Rules,
-) -> Result<LendingCompaction<LendingMerger<RunScanner<A>, A>, A>, Error>
+) -> Result<Kept<RunScanner<A>, A>, Error>
     ensures can { IfOk result (CanDeal
-        ⟦<LendingCompaction<LendingMerger<RunScanner<A>, A>, A> as Lending>⟧.advances nowhere
-        ⟦<LendingCompaction<LendingMerger<RunScanner<A>, A>, A> as Lending>⟧.can_advance
-        ⟦<LendingCompaction<LendingMerger<RunScanner<A>, A>, A> as Lending>⟧.can_advance) }
+        ⟦<Kept<RunScanner<A>, A> as Lending>⟧.advances nowhere
+        ⟦<Kept<RunScanner<A>, A> as Lending>⟧.can_advance
+        ⟦<Kept<RunScanner<A>, A> as Lending>⟧.can_advance) }
     ensures list { let advances =
-        ⟦<LendingCompaction<LendingMerger<RunScanner<A>, A>, A> as Lending>⟧.advances in
+        ⟦<Kept<RunScanner<A>, A> as Lending>⟧.advances in
         (able : AreMergeable (map arc_value runs.now)) →
         IfOk result (DealsList advances nowhere (kept_in rules able.lists)) }
     ensures err { AreMergeable (map arc_value runs.now) → IfErr result (λ e. e ≡ OutOfMemory) }
     // So of any tables whose scans come in order in each run.
     ensures any { let advances =
-        ⟦<LendingCompaction<LendingMerger<RunScanner<A>, A>, A> as Lending>⟧.advances in
+        ⟦<Kept<RunScanner<A>, A> as Lending>⟧.advances in
         let scans = scans_of (map arc_value runs.now) in
         AllByRecursion (λ rs. Ascends (entries_among rs)) scans →
         IfOk result (DealsResults advances (lent_outs rules (merge_of scans))) }
@@ -172,19 +177,20 @@ pub(crate) fn finished<A: Allocator + Clone>(
     Ok((tables, left))
 }
 
-// Writes all that a source lends, and finishes. Refused as the writer is.
+// Writes all that is kept, and finishes. Refused as the writer is.
 fn write_all<L: Lending + Drop, A: Allocator + Clone>(
-    mut source: L,
+    mut source: Kept<L, A>,
     mut writer: MultiWriter<A>,
 ) -> Result<(Vec<FinishedTable<A>, A>, TableIds), Error>
     requires fresh { IsFreshRun writer }
     requires next { RunsOn writer }
-    requires can { CanDeal L.advances nowhere L.can_advance L.can_advance source }
-    requires deals { DealsWritable L.advances source }
-    ensures written { (d : DealsWritable L.advances source) →
+    requires can { CanDeal ⟦<Kept<L, A> as Lending>⟧.advances nowhere
+        ⟦<Kept<L, A> as Lending>⟧.can_advance ⟦<Kept<L, A> as Lending>⟧.can_advance source }
+    requires deals { DealsWritable ⟦<Kept<L, A> as Lending>⟧.advances source }
+    ensures written { (d : DealsWritable ⟦<Kept<L, A> as Lending>⟧.advances source) →
         IfOk result (λ r. AreWrittenBy writer d.list r.0.items r.1) }
     // The source refuses nothing but for want of memory.
-    ensures refused { (d : DealsWritable L.advances source) →
+    ensures refused { (d : DealsWritable ⟦<Kept<L, A> as Lending>⟧.advances source) →
         Faults result (writes_fault writer d.list) }
 {
     let took = write_each(&mut source, &mut writer);

@@ -12,6 +12,7 @@ ghost use Rattle.sst_script.specs.Words.{nowhere, point, within};
 use lsm_ranges::Run;
 use lsm_readers::Table;
 use lsm_runs::{get_runs, range_runs};
+use lsm_sorted::NewestOf;
 use sst_blocks::{Error, InternalValue, IterItem, SeqNo, Slice, UserKey};
 use std::alloc::Allocator;
 use std::ops::Bound;
@@ -43,6 +44,20 @@ pub(crate) fn newest_entries<A: Allocator + Clone>(
 {
     let bounds = (owned(&alloc, low)?, owned(&alloc, high)?);
     let stream = range_runs(alloc.clone()?, runs, bounds)?;
+    collect_newest(alloc, stream)
+}
+
+// All newest versions of some sources, as `collect`. It is generic in the sources: a whole concrete
+// stream costs a proof much where it is handed to a function that is generic in streams.
+fn collect_newest<A: Allocator, S: Iterator<Item = IterItem<A>>>(
+    alloc: A,
+    stream: NewestOf<S, A>,
+) -> Result<Vec<InternalValue<A>, A>, Error>
+    requires can { ⟦<NewestOf<S, A> as Iterator>⟧.can_next stream }
+    requires ends { IsFinite (⟦<NewestOf<S, A> as Iterator>⟧.remaining stream) }
+    ensures { let gives = ⟦<NewestOf<S, A> as Iterator>⟧.next_gives in
+        (es : List Entry) → DealsList gives nowhere es stream → Gives vec_items result (Ok es) }
+{
     collect(alloc, stream)
 }
 

@@ -6,14 +6,13 @@ ghost use Rattle.sst_entries.specs.Stream.{CanDeal};
 use crate::rows::{Row, entry};
 use crate::runs::{Bounds, Name, Tables, name_of, owned_range};
 use logpurple::{RunReader, range_runs};
-use lsm_merge::Merger;
-use lsm_sorted::MvccStream;
+use lsm_sorted::NewestOf;
 use lsm_writers::is_writable;
 use sst_blocks::{Direction, Error, InternalValue, IterItem, answers_at};
 use std::alloc::Allocator;
 
 /// The newest versions of several runs.
-pub type Stream<A> = MvccStream<Merger<RunReader<A>, A>>;
+pub type Stream<A> = NewestOf<RunReader<A>, A>;
 
 /// The entries of some rows. `Source(0)` where they cannot be written.
 pub fn list_of<A: Allocator + Copy>(
@@ -33,16 +32,17 @@ pub fn list_of<A: Allocator + Copy>(
     }
 }
 
-// What a stream answers at some ends.
-fn answers_in<A: Allocator + Copy>(
+// What a stream answers at some ends. It is generic in what the stream is over: a whole concrete
+// stream costs a proof minutes where it is handed to a function that is generic in streams.
+fn answers_in<S: DoubleEndedIterator<Item = IterItem<A>>, A: Allocator + Copy>(
     alloc: A,
-    stream: &mut Stream<A>,
+    stream: &mut NewestOf<S, A>,
     ends: &[Direction],
 ) -> Result<Vec<Option<IterItem<A>>, A>, Error>
-    requires { CanDeal ⟦<Stream<A> as Iterator>⟧.next_gives
-        ⟦<Stream<A> as DoubleEndedIterator>⟧.next_back_gives
-        ⟦<Stream<A> as Iterator>⟧.can_next
-        ⟦<Stream<A> as DoubleEndedIterator>⟧.can_next_back stream.old }
+    requires { CanDeal ⟦<NewestOf<S, A> as Iterator>⟧.next_gives
+        ⟦<NewestOf<S, A> as DoubleEndedIterator>⟧.next_back_gives
+        ⟦<NewestOf<S, A> as Iterator>⟧.can_next
+        ⟦<NewestOf<S, A> as DoubleEndedIterator>⟧.can_next_back stream.old }
 {
     Ok(answers_at(alloc, stream, ends)?)
 }

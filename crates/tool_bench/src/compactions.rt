@@ -1,5 +1,7 @@
 //! Compaction of several tables into new ones.
+ghost use Rattle.std.specs.Prelude.{All};
 ghost use Rattle.std.specs.Iterator.{IsFinite};
+ghost use Rattle.sst_entries.specs.Stream.{CanDeal, nowhere};
 
 use crate::builds::{Written, write_next};
 use crate::digest::{Digest, code};
@@ -98,11 +100,25 @@ fn write_all<I: Iterator<Item = IterItem<Global>>>(
     Ok(out)
 }
 
-// Of each key the newest version, in tables of about the target's size.
-fn compacted(alloc: Global, tables: &[Table], target: u64) -> Result<Vec<FinishedTable>, Error> {
-    let merger = Merger::new(alloc, scanners_of(alloc, tables)?)?;
+// Of each key of several sources the newest version, in tables of about the target's size. It is
+// generic in the sources: a whole concrete stream costs a proof much where it is handed to a
+// function that is generic in streams.
+fn compact_all<S: Iterator<Item = IterItem<Global>> + Drop>(
+    alloc: Global,
+    sources: Vec<S>,
+    target: u64,
+) -> Result<Vec<FinishedTable>, Error>
+    requires can { All (CanDeal S.next_gives nowhere S.can_next S.can_next) sources.items }
+    requires finite { All (λ s. IsFinite (S.remaining s)) sources.items }
+{
+    let merger = Merger::new(alloc, sources)?;
     let mut stream = CompactionStream::new(merger, SeqNo::MAX);
     write_all(alloc, &mut stream, target)
+}
+
+// The same of several tables.
+fn compacted(alloc: Global, tables: &[Table], target: u64) -> Result<Vec<FinishedTable>, Error> {
+    compact_all(alloc, scanners_of(alloc, tables)?, target)
 }
 
 pub(crate) fn written_of(tables: &[FinishedTable]) -> Written {

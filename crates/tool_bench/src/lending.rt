@@ -5,7 +5,7 @@ ghost use Rattle.sst_entries.specs.Stream.{CanDeal, nowhere};
 use crate::digest::{Digest, code};
 use crate::files::{open_copy, scanners_of, tables_of};
 use crate::ranges::runs_of;
-use logpurple::{Table, lend_runs_at};
+use logpurple::{LentNewestOf, Table, lend_runs_at};
 use lsm_lending::{LendingMerger, LendingNewest};
 use lsm_ranges::Run;
 use sst_blocks::{Error, Lending, Slice};
@@ -66,9 +66,21 @@ fn newest_of<L: Lending + Drop>(
     Ok(LendingNewest::new(alloc, merger))
 }
 
+// Goes through what newest versions lend. It is generic in what they are over.
+fn drain_newest<L: Lending + Drop>(
+    newest: &mut LentNewestOf<L, Global>,
+    digest: &mut Digest,
+) -> Result<(), Error>
+    requires { CanDeal ⟦<LentNewestOf<L, Global> as Lending>⟧.advances nowhere
+        ⟦<LentNewestOf<L, Global> as Lending>⟧.can_advance
+        ⟦<LentNewestOf<L, Global> as Lending>⟧.can_advance newest.old }
+{
+    drain(newest, digest)
+}
+
 fn merge(alloc: Global, tables: &[Table], digest: &mut Digest) -> Result<(), Error> {
     let mut newest = newest_of(alloc, scanners_of(alloc, tables)?)?;
-    drain(&mut newest, digest)
+    drain_newest(&mut newest, digest)
 }
 
 fn merge_passes(
@@ -175,7 +187,7 @@ pub extern "C" fn tool_bench_range_lent(
 fn read_runs(alloc: Global, runs: &[Arc<Run<Table>>], digest: &mut Digest) -> Result<(), Error> {
     let whole = (Bound::Unbounded, Bound::Unbounded);
     let mut newest = lend_runs_at(alloc, runs, whole, u64::MAX)?;
-    drain(&mut newest, digest)
+    drain_newest(&mut newest, digest)
 }
 
 fn runs_passes(

@@ -1,5 +1,7 @@
 //! The newest versions of what several tables have together.
+ghost use Rattle.std.specs.Prelude.{All};
 ghost use Rattle.std.specs.Iterator.{IsFinite};
+ghost use Rattle.sst_entries.specs.Stream.{CanDeal, nowhere};
 
 use crate::digest::{Digest, code};
 use crate::files::{scanners_of, tables_of};
@@ -22,10 +24,23 @@ fn drain<I: Iterator<Item = IterItem<Global>>>(
     Ok(())
 }
 
+// Takes the newest versions of several sources. It is generic in these: a whole concrete stream
+// costs a proof much where it is handed to a function that is generic in streams.
 #[tactic(auto, using(sst_entries::proofs::StreamLemmas::can_now))]
-fn merge(alloc: Global, tables: &[Table], digest: &mut Digest) -> Result<(), Error> {
-    let mut stream = newest_of(alloc, scanners_of(alloc, tables)?)?;
+fn drain_newest<S: Iterator<Item = IterItem<Global>> + Drop>(
+    alloc: Global,
+    sources: Vec<S>,
+    digest: &mut Digest,
+) -> Result<(), Error>
+    requires can { All (CanDeal S.next_gives nowhere S.can_next S.can_next) sources.items }
+    requires finite { All (λ s. IsFinite (S.remaining s)) sources.items }
+{
+    let mut stream = newest_of(alloc, sources)?;
     drain(&mut stream, digest)
+}
+
+fn merge(alloc: Global, tables: &[Table], digest: &mut Digest) -> Result<(), Error> {
+    drain_newest(alloc, scanners_of(alloc, tables)?, digest)
 }
 
 fn merge_passes(

@@ -5,6 +5,7 @@ use crate::digest::{Digest, code};
 use crate::files::{open_copy, tables_of};
 use logpurple::{Table, range_runs};
 use lsm_ranges::Run;
+use lsm_sorted::NewestOf;
 use sst_blocks::{Error, IterItem, Slice};
 use std::alloc::Global;
 use std::ops::Bound;
@@ -112,9 +113,21 @@ pub(crate) fn runs_of(alloc: Global, tables: Vec<Table>) -> Result<Vec<Arc<Run<T
     Ok(runs)
 }
 
+// Takes all newest versions of some sources. It is generic in these: a whole concrete stream costs a
+// proof much where it is handed to a function that is generic in streams.
+fn take_newest<S: Iterator<Item = IterItem<Global>> + Drop>(
+    items: NewestOf<S, Global>,
+    digest: &mut Digest,
+) -> Result<(), Error>
+    requires can { ⟦<NewestOf<S, Global> as Iterator>⟧.can_next items }
+    requires finite { IsFinite (⟦<NewestOf<S, Global> as Iterator>⟧.remaining items) }
+{
+    take_all(items, digest)
+}
+
 #[tactic(auto, using(sst_entries::proofs::StreamLemmas::can_now))]
 fn read_runs(alloc: Global, runs: &[Arc<Run<Table>>], digest: &mut Digest) -> Result<(), Error> {
-    take_all(
+    take_newest(
         range_runs(alloc, runs, (Bound::Unbounded, Bound::Unbounded))?,
         digest,
     )

@@ -6,11 +6,11 @@ use Rattle.example_calling.proofs.count_below.Goals as goal
 
 pub returns-clause-exact : goal.returns-clause-exact
 returns-clause-exact g c lists held =
-    subst (λ (es : List Entry). IfOk c.count.result
+    subst (λ (es : List Entry). IfOk c.count_newest.result
     (λ count. count ≡ min (length (newest (numbered_below c.args.seqno es))) (2 ^ 64 - 1)))
     (all_within (union_in lists))
-    (c.count.ensures.exact _ (c.in_ok-range_runs_at.ensures.list lists held))
+    (c.count_newest.ensures.exact _ (c.in_ok-range_runs_at.ensures.list lists held))
 
 pub returns-clause-memory : goal.returns-clause-memory
 returns-clause-memory g c lists held =
-    c.count.ensures.memory _ (c.in_ok-range_runs_at.ensures.list lists held)
+    c.count_newest.ensures.memory _ (c.in_ok-range_runs_at.ensures.list lists held)
