@@ -2,7 +2,7 @@
 ghost use Rattle.std.specs.Iterator.{IsFinite};
 
 use crate::store::Store;
-use logpurple::{Direction, Error, InternalValue, IterItem, SeqNo, Slice};
+use logpurple::{Direction, Error, InternalValue, IterItem, NewestOf, SeqNo, Slice};
 use std::alloc::Global;
 use std::collections::BTreeMap;
 use std::ops::Bound;
@@ -133,6 +133,20 @@ fn compare_from<I: DoubleEndedIterator<Item = IterItem<Global>> + Drop>(
     }
 }
 
+// The same of newest versions. Generic in what these are over: a whole concrete stream costs a proof
+// much where it is handed to a function that is generic in streams.
+fn compare_newest<S: DoubleEndedIterator<Item = IterItem<Global>> + Drop>(
+    end: Direction,
+    items: NewestOf<S, Global>,
+    rows: &[(u32, u32)],
+) -> Result<Count, Error>
+    requires can { ⟦<NewestOf<S, Global> as Iterator>⟧.can_next items }
+    requires can_back { ⟦<NewestOf<S, Global> as DoubleEndedIterator>⟧.can_next_back items }
+    requires finite { IsFinite (⟦<NewestOf<S, Global> as Iterator>⟧.remaining items) }
+{
+    compare_from(end, items, rows)
+}
+
 fn compare_range(
     end: Direction,
     store: &Store,
@@ -140,7 +154,7 @@ fn compare_range(
     snapshot: SeqNo,
 ) -> Result<Count, Error> {
     let all = (Bound::Unbounded, Bound::Unbounded);
-    compare_from(end, store.range(all, snapshot)?, rows)
+    compare_newest(end, store.range(all, snapshot)?, rows)
 }
 
 /// Compares what each key has at a snapshot, and what there is from either end.
