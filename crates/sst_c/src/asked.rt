@@ -1,47 +1,58 @@
-//! A source that may be asked at both ends, however often.
+//! The newest versions of some sources, which may be asked at both ends, however often.
 ghost use Rattle.std.specs.Prelude.{◌≡◌, false, true};
 ghost use Rattle.sst_entries.specs.Stream.{CanDeal};
 
+use lsm_sorted::NewestOf;
 use sst_blocks::IterItem;
 use std::alloc::Global;
 use std::marker::Model;
 
-/// A source that may be asked at both ends, however often. A contract sees the source.
+/// The newest versions of some sources, which may be asked at both ends, however often. A contract
+/// sees the stream. It is generic in the sources alone: a whole concrete stream costs a proof much
+/// where it is handed to what is generic in streams.
 #[derive(Drop)]
-pub struct Asked<I: DoubleEndedIterator> {
-    source: I,
+pub struct Asked<S: DoubleEndedIterator<Item = IterItem<Global>>> {
+    newest: NewestOf<S, Global>,
 }
 
-impl<I: DoubleEndedIterator> Model for Asked<I> {
+impl<S: DoubleEndedIterator<Item = IterItem<Global>>> Model for Asked<S> {
     ghost use Rattle.sst_entries.specs.Stream.{CanDeal};
+    ghost use Rattle.sst_c.specs.Steps.{NewestOver};
 
-    ghost Value = { I };
+    ghost Value = { NewestOver S };
 
-    ghost view = { λ a. a.source };
+    ghost view = { λ a. a.newest };
 
-    ghost invariant = { λ a.
-        CanDeal I.next_gives I.next_back_gives I.can_next I.can_next_back a.source };
+    ghost invariant = { λ a. CanDeal ⟦<NewestOf<S, Global> as Iterator>⟧.next_gives
+        ⟦<NewestOf<S, Global> as DoubleEndedIterator>⟧.next_back_gives
+        ⟦<NewestOf<S, Global> as Iterator>⟧.can_next
+        ⟦<NewestOf<S, Global> as DoubleEndedIterator>⟧.can_next_back a.newest };
 }
 
-impl<I: DoubleEndedIterator<Item = IterItem<Global>>> Asked<I> {
-    /// A source that may be asked so.
-    pub(crate) fn new(source: I) -> Asked<I>
-        requires { CanDeal I.next_gives I.next_back_gives I.can_next I.can_next_back source }
-        ensures { result ≡ source }
+impl<S: DoubleEndedIterator<Item = IterItem<Global>>> Asked<S> {
+    /// Newest versions that may be asked so.
+    pub(crate) fn new(newest: NewestOf<S, Global>) -> Asked<S>
+        requires { CanDeal ⟦<NewestOf<S, Global> as Iterator>⟧.next_gives
+            ⟦<NewestOf<S, Global> as DoubleEndedIterator>⟧.next_back_gives
+            ⟦<NewestOf<S, Global> as Iterator>⟧.can_next
+            ⟦<NewestOf<S, Global> as DoubleEndedIterator>⟧.can_next_back newest }
+        ensures { result ≡ newest }
     {
-        Asked { source }
+        Asked { newest }
     }
 
-    /// What the source gives next, at the back where `back` says so, else at the front.
+    /// What comes next, at the back where `back` says so, else at the front.
     #[tactic(auto, using(crate::proofs::Asking::asking))]
     pub(crate) fn step(&mut self, back: bool) -> Option<IterItem<Global>>
-        ensures front { back ≡ false → I.next_gives self.old result self.new }
-        ensures back { back ≡ true → I.next_back_gives self.old result self.new }
+        ensures front { let gives = ⟦<NewestOf<S, Global> as Iterator>⟧.next_gives in
+            back ≡ false → gives self.old result self.new }
+        ensures back { let gives = ⟦<NewestOf<S, Global> as DoubleEndedIterator>⟧.next_back_gives in
+            back ≡ true → gives self.old result self.new }
     {
         if back {
-            self.source.next_back()
+            self.newest.next_back()
         } else {
-            self.source.next()
+            self.newest.next()
         }
     }
 }
