@@ -10,13 +10,9 @@ use Rattle.lsm_sorted.specs.declared.mvcc_stream.MvccStream.{MvccStream}
 use Rattle.sst_c.specs.Codes.{result_code}
 use Rattle.sst_c.specs.Told.{found_of, outcome_of}
 
--- the newest versions of some sources, between two calls
-abbrev pub NewestOver : Type 0 → Type 0
-NewestOver S = MvccStream (Merger S Global) (Result Entry Error)
-
--- those below a number of what several runs have together
+-- the newest versions below a number of what several runs have together, between two calls
 abbrev pub NewestAt : Type 0
-NewestAt = NewestOver (Below (RunRange Global))
+NewestAt = MvccStream (Merger (Below (RunRange Global)) Global) (Result Entry Error)
 
 -- a step leads from a range to another with an answer, whose code and entry these are
 abbrev pub StepsBy : {S : Type 0} → (S → Option (Result Entry Error) → S → Type 0)

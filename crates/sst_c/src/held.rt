@@ -5,8 +5,6 @@ use crate::verifier::Verifier;
 use lsm_iters::Iter;
 use lsm_ranges::Packed;
 use lsm_readers::{Scanner, Table};
-use lsm_runs::RunReader;
-use lsm_sorted::Below;
 use lsm_writers::{FinishedTable, Writer};
 use sst_blocks::InternalValue;
 use std::alloc::Global;
@@ -31,7 +29,7 @@ pub enum What {
     Scan(Scanner),
     /// What runs of tables have together within bounds, read from both ends; nothing once a read
     /// was refused.
-    Merged(Option<Asked<Below<RunReader<Global>>>>),
+    Merged(Option<Asked>),
     /// Tables that are written: those that are finished, and the one that is not.
     Files(Files),
     /// Runs of tables, the newest first.

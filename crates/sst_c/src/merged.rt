@@ -4,7 +4,7 @@ ghost use Rattle.std.specs.Prelude.{None, Ok, Some, is_some, nat_lt, true};
 ghost use Rattle.sst_entries.specs.declared.error.Error.TheVariants.{OutOfMemory};
 ghost use Rattle.lsm_runs.specs.Words.{DealsList, Entry, IsOverSpansBelow, RunsHoldLists, newest};
 ghost use Rattle.lsm_runs.specs.Words.{numbered_below, union_in, within};
-ghost use Rattle.sst_c.specs.Steps.{NewestAt, NewestOver, StepsUntil};
+ghost use Rattle.sst_c.specs.Steps.{NewestAt, StepsUntil};
 ghost use Rattle.sst_c.specs.What.{IsMergedWhere, are_runs, bound_told, runs_held};
 ghost use Rattle.sst_c.specs.declared.held.Held.{Held as HeldValue};
 
@@ -15,7 +15,7 @@ use crate::held::{Held, What};
 use crate::ranges::{bound, outcome_of};
 use crate::run_list::RunList;
 use lsm_runs::{NewestOfRunsAt, RunReader, range_runs_at};
-use lsm_sorted::{Below, NewestOf};
+use lsm_sorted::Below;
 use sst_blocks::{Error, InternalValue, IterItem, SeqNo, Slice};
 use std::alloc::Global;
 use std::ops::Bound;
@@ -26,7 +26,7 @@ fn newest_within(
     runs: &RunList,
     range: (Bound<Slice>, Bound<Slice>),
     seqno: SeqNo,
-) -> Result<Asked<Below<RunReader<Global>>>, Error>
+) -> Result<Asked, Error>
     ensures steps { IfOk result (λ s.
         IsOverSpansBelow ⟦<Below<RunReader<Global>> as Iterator>⟧.next_gives
         ⟦<Below<RunReader<Global>> as DoubleEndedIterator>⟧.next_back_gives
@@ -242,16 +242,16 @@ pub extern "C" fn sst_runs_range_open(
     code
 }
 
-// The next newest version of some sources, where a read was not refused before.
-fn next_of<S: DoubleEndedIterator<Item = IterItem<Global>>>(
-    merged: &mut Option<Asked<S>>,
+/// A step of what runs have together, where a read was not refused before.
+pub(crate) fn step_merged(
+    merged: &mut Option<Asked>,
     back: bool,
 ) -> Result<Option<InternalValue>, Error>
     ensures over { merged.old ≡ None → (result ≡ Ok None) × (merged.new ≡ None) }
-    ensures front { (s : NewestOver S) → merged.old ≡ Some s → back ≡ false →
-        StepsUntil ⟦<NewestOf<S, Global> as Iterator>⟧.next_gives s result merged.new }
-    ensures back { (s : NewestOver S) → merged.old ≡ Some s → back ≡ true →
-        StepsUntil ⟦<NewestOf<S, Global> as DoubleEndedIterator>⟧.next_back_gives
+    ensures front { (s : NewestAt) → merged.old ≡ Some s → back ≡ false →
+        StepsUntil ⟦<NewestOfRunsAt<Global> as Iterator>⟧.next_gives s result merged.new }
+    ensures back { (s : NewestAt) → merged.old ≡ Some s → back ≡ true →
+        StepsUntil ⟦<NewestOfRunsAt<Global> as DoubleEndedIterator>⟧.next_back_gives
         s result merged.new }
 {
     let Some(asked) = merged else {
@@ -262,19 +262,4 @@ fn next_of<S: DoubleEndedIterator<Item = IterItem<Global>>>(
         *merged = None;
     }
     outcome
-}
-
-/// A step of what runs have together, where a read was not refused before.
-pub(crate) fn step_merged(
-    merged: &mut Option<Asked<Below<RunReader<Global>>>>,
-    back: bool,
-) -> Result<Option<InternalValue>, Error>
-    ensures over { merged.old ≡ None → (result ≡ Ok None) × (merged.new ≡ None) }
-    ensures front { (s : NewestAt) → merged.old ≡ Some s → back ≡ false →
-        StepsUntil ⟦<NewestOfRunsAt<Global> as Iterator>⟧.next_gives s result merged.new }
-    ensures back { (s : NewestAt) → merged.old ≡ Some s → back ≡ true →
-        StepsUntil ⟦<NewestOfRunsAt<Global> as DoubleEndedIterator>⟧.next_back_gives
-        s result merged.new }
-{
-    next_of(merged, back)
 }
