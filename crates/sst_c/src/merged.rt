@@ -16,7 +16,7 @@ use crate::ranges::{bound, outcome_of};
 use crate::run_list::RunList;
 use lsm_runs::{NewestOfRunsAt, RunReader, range_runs_at};
 use lsm_sorted::Below;
-use sst_blocks::{Error, InternalValue, IterItem, SeqNo, Slice};
+use sst_blocks::{Error, InternalValue, SeqNo, Slice};
 use std::alloc::Global;
 use std::ops::Bound;
 
