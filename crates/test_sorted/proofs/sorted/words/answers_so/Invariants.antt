@@ -1,5 +1,5 @@
 use Rattle.sst_entries.specs.Stream.{CanDeal}
-use Rattle.test_parts.proofs.sorted.words.answers_so.Given as goal
+use Rattle.test_sorted.proofs.sorted.words.answers_so.Given as goal
 
 abbrev pub invariant-loop-letter : goal.invariant-loop-letter
 invariant-loop-letter g l =

@@ -1,5 +1,5 @@
 use Rattle.sst_entries.specs.Stream.{CanDeal, nowhere}
-use Rattle.test_parts.proofs.sorted.words.gives_so.Given as goal
+use Rattle.test_sorted.proofs.sorted.words.gives_so.Given as goal
 
 abbrev pub invariant-loop-word : goal.invariant-loop-word
 invariant-loop-word g l =

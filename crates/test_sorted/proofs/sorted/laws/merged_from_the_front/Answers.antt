@@ -1,7 +1,7 @@
 use Rattle.sst_entries.specs.Stream.{ok_results}
 use Rattle.lsm_merge.specs.Union.{union_of}
 use Rattle.lsm_merge.specs.MergeLaws.{every_error}
-use Rattle.test_parts.proofs.sorted.laws.merged_from_the_front.Goals as goal
+use Rattle.test_sorted.proofs.sorted.laws.merged_from_the_front.Goals as goal
 
 pub returns-clause-deals : goal.returns-clause-deals
 returns-clause-deals g c stops lists sorted =

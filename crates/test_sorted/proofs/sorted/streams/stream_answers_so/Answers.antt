@@ -1,4 +1,4 @@
-use Rattle.test_parts.proofs.sorted.streams.stream_answers_so.Goals as goal
+use Rattle.test_sorted.proofs.sorted.streams.stream_answers_so.Goals as goal
 
 pub answers_so-requires : goal.answers_so-requires
 answers_so-requires g c =

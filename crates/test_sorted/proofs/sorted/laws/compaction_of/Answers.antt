@@ -1,6 +1,6 @@
 use Rattle.sst_entries.specs.Stream.{ok_results}
 use Rattle.lsm_merge.specs.Union.{union_of}
-use Rattle.test_parts.proofs.sorted.laws.compaction_of.Goals as goal
+use Rattle.test_sorted.proofs.sorted.laws.compaction_of.Goals as goal
 
 pub returns-clause-kept : goal.returns-clause-kept
 returns-clause-kept g c stops lists sorted none =
