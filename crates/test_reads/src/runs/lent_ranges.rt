@@ -1,6 +1,8 @@
 //! Ranges over runs that lend, beside those that give.
-use logpurple::{lend_runs_at, range_runs_at};
-use sst_blocks::{Error, SeqNo, ValueType};
+ghost use Rattle.sst_entries.specs.Stream.{CanDeal, nowhere};
+
+use logpurple::{LentNewestOf, NewestOf, lend_runs_at, range_runs_at};
+use sst_blocks::{Error, IterItem, Lending, SeqNo, ValueType};
 use std::alloc::Global;
 use std::ops::Bound;
 use test_lent::{agree, random};
@@ -41,8 +43,26 @@ fn random_runs(alloc: Global, mut seed: u64) -> Result<Vec<Tables<Global>>, Erro
     Ok(runs)
 }
 
-// Whether the newest versions below a bound come lent as they are given, from the front.
+// Whether newest versions come lent as they are given, from the front. Generic in what they are
+// over: a whole concrete stream costs a proof much where it is handed to a function that is generic
+// in streams.
 #[tactic(auto, using(sst_entries::proofs::FrontLemmas::can_in_front))]
+fn agree_newest<S: DoubleEndedIterator<Item = IterItem<Global>> + Drop, L: Lending + Drop>(
+    given: NewestOf<S, Global>,
+    lent: LentNewestOf<L, Global>,
+) -> Result<bool, Error>
+    requires given { CanDeal ⟦<NewestOf<S, Global> as Iterator>⟧.next_gives
+        ⟦<NewestOf<S, Global> as DoubleEndedIterator>⟧.next_back_gives
+        ⟦<NewestOf<S, Global> as Iterator>⟧.can_next
+        ⟦<NewestOf<S, Global> as DoubleEndedIterator>⟧.can_next_back given }
+    requires lent { CanDeal ⟦<LentNewestOf<L, Global> as Lending>⟧.advances nowhere
+        ⟦<LentNewestOf<L, Global> as Lending>⟧.can_advance
+        ⟦<LentNewestOf<L, Global> as Lending>⟧.can_advance lent }
+{
+    agree(given, lent, KEYS.len() + 3)
+}
+
+// Whether the newest versions below a bound come lent as they are given, from the front.
 fn lends_what_it_gives(
     alloc: Global,
     runs: &[Tables<Global>],
@@ -51,10 +71,9 @@ fn lends_what_it_gives(
 ) -> Result<bool, Error> {
     let given = owned_range(alloc, bounds)?;
     let lent = owned_range(alloc, bounds)?;
-    agree(
+    agree_newest(
         range_runs_at(alloc, runs, given, seqno)?,
         lend_runs_at(alloc, runs, lent, seqno)?,
-        KEYS.len() + 3,
     )
 }
 
