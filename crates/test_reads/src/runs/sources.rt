@@ -1,7 +1,7 @@
 //! Ranges of two runs and a table in memory, below a number.
 ghost use Rattle.std.specs.Iterator.{IsFinite};
 
-use logpurple::range_sources_at;
+use logpurple::{NewestOf, range_sources_at};
 use sst_blocks::{Error, IterItem, SeqNo, ValueType};
 use std::alloc::{Allocator, Global};
 use test_tables::rows::{Row, entry};
@@ -50,6 +50,17 @@ fn in_memory(alloc: Global) -> Result<Vec<IterItem<Global>, Global>, Error> {
     Ok(items)
 }
 
+// The same of newest versions. Generic in what they are over: a whole concrete stream costs a proof
+// much where it is handed to a function that is generic in streams.
+fn codes_of<S: Iterator<Item = IterItem<A>> + Drop, A: Allocator>(
+    items: NewestOf<S, A>,
+) -> Result<u64, Error>
+    requires can { ⟦<NewestOf<S, A> as Iterator>⟧.can_next items }
+    requires finite { IsFinite (⟦<NewestOf<S, A> as Iterator>⟧.remaining items) }
+{
+    codes(items)
+}
+
 // What both runs and the table in memory have below a number.
 fn together(alloc: Global, seqno: SeqNo) -> Result<u64, Error> {
     let runs = runs_of(alloc, RUNS)?;
@@ -57,7 +68,7 @@ fn together(alloc: Global, seqno: SeqNo) -> Result<u64, Error> {
     sources.push(in_memory(alloc)?.into_iter())?;
     let range = owned_range(alloc, ALL)?;
     let stream = range_sources_at(alloc, &runs, sources, range, seqno)?;
-    codes(stream)
+    codes_of(stream)
 }
 
 #[test]
