@@ -1,10 +1,11 @@
 //! Each step refused in turn: the old file or the whole new one stands.
 use crate::files::memory::Memory;
-use crate::files::written::{LINES, NEVER, compact, entries_of, sources, write, write_options};
+use crate::files::written::{
+    Asked, LINES, NEVER, compact, entries_of, keep_all, sources, told, write, write_options,
+};
 use logpurple::Error;
 use std::alloc::Global;
 use tool_files::FileFault;
-use tool_make::{CompactError, MakeError, compact_files, write_entries};
 
 // Whether a file has just these bytes.
 fn has(place: &Memory, path: &str, bytes: &[u8]) -> bool {
@@ -18,7 +19,7 @@ fn replaced(alloc: Global, refused: u64) -> (bool, bool, bool, usize) {
     let put = place.put("t", Some(b"old")).is_ok();
     let written = write(&mut place, alloc, LINES, "t", None).is_some();
     let old = put && has(&place, "t", b"old");
-    let new = entries_of(&place, alloc, "t") == Some(3);
+    let new = entries_of(&mut place, alloc, "t") == Some(3);
     (written, old, new, place.count())
 }
 
@@ -59,9 +60,9 @@ fn first_of_two_stands_renamed(rt: HostRuntime) {
 fn compacted(alloc: Global, refused: u64) -> (bool, bool, bool, usize) {
     let mut place = sources(alloc, refused);
     let done = compact(&mut place, alloc, "to", Some(0)).is_some();
-    let whole = entries_of(&place, alloc, "to/1.sst") == Some(3)
-        && entries_of(&place, alloc, "to/2.sst") == Some(1)
-        && entries_of(&place, alloc, "to/3.sst") == Some(1);
+    let whole = entries_of(&mut place, alloc, "to/1.sst") == Some(3)
+        && entries_of(&mut place, alloc, "to/2.sst") == Some(1)
+        && entries_of(&mut place, alloc, "to/3.sst") == Some(1);
     (done, place.has("to"), whole, place.count())
 }
 
@@ -78,23 +79,10 @@ fn folder_stands_whole_or_is_absent(rt: HostRuntime) {
     assert_eq!(rt; compacted(alloc, NEVER), (true, true, true, 6));
 }
 
-// Why a compaction is refused: 1 where its folder's path is taken, 2 for another fault of a file, 3
-// for what else, 0 where it is not.
+// Why a compaction is refused, 0 where it is not.
 fn why_not(place: &mut Memory, alloc: Global, paths: &[&str]) -> u8 {
-    match compact_files(
-        place,
-        alloc,
-        paths,
-        "to",
-        &crate::files::written::keep_all(None),
-    ) {
-        Ok(_) => 0,
-        Err(CompactError::File(error)) => match error.fault {
-            FileFault::Taken => 1,
-            _ => 2,
-        },
-        Err(_) => 3,
-    }
+    let asked = Asked::Compact(paths, "to", &keep_all(None));
+    told(place, alloc, &asked).err().unwrap_or(0)
 }
 
 #[test]
@@ -108,18 +96,12 @@ fn taken_folder_is_told_before_any_file(rt: HostRuntime) {
     assert_eq!(rt; place.steps(), 0);
 }
 
-// Why lines are not written: 1 for their sizes, 2 where there is no entry, 3 for a line, 4 for what
-// else, 0 where they are.
+// Why lines are not written, 0 where they are.
 fn why_unwritten(place: &mut Memory, alloc: Global, lines: &str, block_size: u32) -> u8 {
     let mut options = write_options(None);
     options.block_size = block_size;
-    match write_entries(place, alloc, lines.as_bytes(), "t", &options) {
-        Ok(_) => 0,
-        Err(MakeError::SizeTooLarge) => 1,
-        Err(MakeError::NoEntries) => 2,
-        Err(MakeError::Line { .. }) => 3,
-        Err(_) => 4,
-    }
+    let asked = Asked::Write(lines, "t", &options);
+    told(place, alloc, &asked).err().unwrap_or(0)
 }
 
 #[test]

@@ -2,9 +2,11 @@
 use crate::files::memory::Memory;
 use logpurple::{BloomConstructionPolicy, IndexKind, Rules, Timestamp};
 use std::alloc::Global;
-use tool_files::open_table;
+use tool_files::{FileFault, Place, open_table};
 use tool_lines::Format;
-use tool_make::{CompactOptions, WriteOptions, compact_files, write_entries};
+use tool_make::{
+    CompactError, CompactOptions, MakeError, WriteOptions, compact_files, write_entries,
+};
 
 /// A step that is never made, so that none is refused.
 pub(crate) const NEVER: u64 = 1_000;
@@ -42,6 +44,68 @@ pub(crate) fn keep_all(target: Option<u64>) -> CompactOptions {
     }
 }
 
+/// What is asked of a place.
+pub(crate) enum Asked<'a> {
+    /// Lines are written under a path.
+    Write(&'a str, &'a str, &'a WriteOptions),
+    /// Files are compacted into a folder.
+    Compact(&'a [&'a str], &'a str, &'a CompactOptions),
+    /// A file is opened.
+    Open(&'a str),
+}
+
+// Why lines are not written: 1 for their sizes, 2 where there is no entry, 3 for a line, 4 for what
+// else.
+fn why_unwritten(error: &MakeError<'_>) -> u8 {
+    match error {
+        MakeError::SizeTooLarge => 1,
+        MakeError::NoEntries => 2,
+        MakeError::Line { .. } => 3,
+        _ => 4,
+    }
+}
+
+// Why a compaction is refused: 1 where its folder's path is taken, 2 for another fault of a file, 3
+// for what else.
+fn why_not(error: &CompactError<'_>) -> u8 {
+    match error {
+        CompactError::File(error) => match error.fault {
+            FileFault::Taken => 1,
+            _ => 2,
+        },
+        _ => 3,
+    }
+}
+
+// Does what is asked of a place, and answers how many tables and entries came of it, of a table that
+// is opened how many it tells; or why it is refused. It is generic in the place, since each call at
+// a concrete one puts its trait together once more.
+fn perform<P: Place>(place: &mut P, alloc: Global, asked: &Asked<'_>) -> Result<(u64, u64), u8> {
+    match asked {
+        Asked::Write(lines, path, options) => {
+            match write_entries(place, alloc, lines.as_bytes(), path, options) {
+                Ok(made) => Ok((made.tables, made.entries)),
+                Err(error) => Err(why_unwritten(&error)),
+            }
+        }
+        Asked::Compact(paths, folder, options) => {
+            match compact_files(place, alloc, paths, folder, options) {
+                Ok(made) => Ok((made.tables, made.entries)),
+                Err(error) => Err(why_not(&error)),
+            }
+        }
+        Asked::Open(path) => match open_table(place, alloc, path, true) {
+            Ok(table) => Ok((1, table.metadata.item_count)),
+            Err(_) => Err(0),
+        },
+    }
+}
+
+/// Does what is asked of a place in memory.
+pub(crate) fn told(place: &mut Memory, alloc: Global, asked: &Asked<'_>) -> Result<(u64, u64), u8> {
+    perform(place, alloc, asked)
+}
+
 /// Writes lines, and answers how many tables and entries came of them; none where it is refused.
 pub(crate) fn write(
     place: &mut Memory,
@@ -50,10 +114,12 @@ pub(crate) fn write(
     path: &str,
     target: Option<u64>,
 ) -> Option<(u64, u64)> {
-    match write_entries(place, alloc, lines.as_bytes(), path, &write_options(target)) {
-        Ok(made) => Some((made.tables, made.entries)),
-        Err(_) => None,
-    }
+    told(
+        place,
+        alloc,
+        &Asked::Write(lines, path, &write_options(target)),
+    )
+    .ok()
 }
 
 /// Compacts the files `a` and `b` into a folder, and answers how many tables and entries came of
@@ -64,16 +130,18 @@ pub(crate) fn compact(
     folder: &str,
     target: Option<u64>,
 ) -> Option<(u64, u64)> {
-    match compact_files(place, alloc, &["b", "a"], folder, &keep_all(target)) {
-        Ok(made) => Some((made.tables, made.entries)),
-        Err(_) => None,
-    }
+    told(
+        place,
+        alloc,
+        &Asked::Compact(&["b", "a"], folder, &keep_all(target)),
+    )
+    .ok()
 }
 
 /// How many entries a file's table tells; none where it does not open.
-pub(crate) fn entries_of(place: &Memory, alloc: Global, path: &str) -> Option<u64> {
-    match open_table(place, alloc, path, true) {
-        Ok(table) => Some(table.metadata.item_count),
+pub(crate) fn entries_of(place: &mut Memory, alloc: Global, path: &str) -> Option<u64> {
+    match told(place, alloc, &Asked::Open(path)) {
+        Ok((_, entries)) => Some(entries),
         Err(_) => None,
     }
 }
@@ -92,7 +160,7 @@ fn lines_are_written_and_read_back(rt: HostRuntime) {
     let alloc = rt.alloc();
     let mut place = Memory::new(alloc, NEVER);
     assert_eq!(rt; write(&mut place, alloc, LINES, "t", None), Some((1, 3)));
-    assert_eq!(rt; entries_of(&place, alloc, "t"), Some(3));
+    assert_eq!(rt; entries_of(&mut place, alloc, "t"), Some(3));
     // It was written, renamed and its folder synced.
     assert_eq!(rt; place.steps(), 3);
     assert_eq!(rt; place.count(), 1);
@@ -104,8 +172,8 @@ fn several_tables_are_numbered(rt: HostRuntime) {
     let mut place = Memory::new(alloc, NEVER);
     // At target 0 each key has a table.
     assert_eq!(rt; write(&mut place, alloc, LINES, "t", Some(0)), Some((2, 3)));
-    assert_eq!(rt; entries_of(&place, alloc, "t.1"), Some(2));
-    assert_eq!(rt; entries_of(&place, alloc, "t.2"), Some(1));
+    assert_eq!(rt; entries_of(&mut place, alloc, "t.1"), Some(2));
+    assert_eq!(rt; entries_of(&mut place, alloc, "t.2"), Some(1));
     assert_eq!(rt; place.count(), 2);
 }
 
@@ -124,7 +192,7 @@ fn files_are_compacted_and_read_back(rt: HostRuntime) {
     let alloc = rt.alloc();
     let mut place = sources(alloc, NEVER);
     assert_eq!(rt; compact(&mut place, alloc, "to", None), Some((1, 5)));
-    assert_eq!(rt; entries_of(&place, alloc, "to/1.sst"), Some(5));
+    assert_eq!(rt; entries_of(&mut place, alloc, "to/1.sst"), Some(5));
     // A folder was made, one file written in it, the folder synced and renamed, then its own name
     // synced.
     assert_eq!(rt; place.steps(), 5);
@@ -137,9 +205,9 @@ fn several_tables_get_their_folder_at_once(rt: HostRuntime) {
     let mut place = sources(alloc, NEVER);
     // At target 0 each key has a table.
     assert_eq!(rt; compact(&mut place, alloc, "to", Some(0)), Some((3, 5)));
-    assert_eq!(rt; entries_of(&place, alloc, "to/1.sst"), Some(3));
-    assert_eq!(rt; entries_of(&place, alloc, "to/2.sst"), Some(1));
-    assert_eq!(rt; entries_of(&place, alloc, "to/3.sst"), Some(1));
+    assert_eq!(rt; entries_of(&mut place, alloc, "to/1.sst"), Some(3));
+    assert_eq!(rt; entries_of(&mut place, alloc, "to/2.sst"), Some(1));
+    assert_eq!(rt; entries_of(&mut place, alloc, "to/3.sst"), Some(1));
     assert_eq!(rt; place.steps(), 7);
     assert_eq!(rt; place.count(), 6);
 }
