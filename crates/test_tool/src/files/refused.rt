@@ -82,7 +82,7 @@ fn folder_stands_whole_or_is_absent(rt: HostRuntime) {
 // Why a compaction is refused, 0 where it is not.
 fn why_not(place: &mut Memory, alloc: Global, paths: &[&str]) -> u8 {
     let asked = Asked::Compact(paths, "to", &keep_all(None));
-    told(place, alloc, &asked).err().unwrap_or(0)
+    told(place, alloc, asked).err().unwrap_or(0)
 }
 
 #[test]
@@ -101,7 +101,7 @@ fn why_unwritten(place: &mut Memory, alloc: Global, lines: &str, block_size: u32
     let mut options = write_options(None);
     options.block_size = block_size;
     let asked = Asked::Write(lines, "t", &options);
-    told(place, alloc, &asked).err().unwrap_or(0)
+    told(place, alloc, asked).err().unwrap_or(0)
 }
 
 #[test]

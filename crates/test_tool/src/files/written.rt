@@ -45,6 +45,7 @@ pub(crate) fn keep_all(target: Option<u64>) -> CompactOptions {
 }
 
 /// What is asked of a place.
+#[derive(Clone, Copy)]
 pub(crate) enum Asked<'a> {
     /// Lines are written under a path.
     Write(&'a str, &'a str, &'a WriteOptions),
@@ -80,7 +81,7 @@ fn why_not(error: &CompactError<'_>) -> u8 {
 // Does what is asked of a place, and answers how many tables and entries came of it, of a table that
 // is opened how many it tells; or why it is refused. It is generic in the place, since each call at
 // a concrete one puts its trait together once more.
-fn perform<P: Place>(place: &mut P, alloc: Global, asked: &Asked<'_>) -> Result<(u64, u64), u8> {
+fn perform<P: Place>(place: &mut P, alloc: Global, asked: Asked<'_>) -> Result<(u64, u64), u8> {
     match asked {
         Asked::Write(lines, path, options) => {
             match write_entries(place, alloc, lines.as_bytes(), path, options) {
@@ -102,7 +103,7 @@ fn perform<P: Place>(place: &mut P, alloc: Global, asked: &Asked<'_>) -> Result<
 }
 
 /// Does what is asked of a place in memory.
-pub(crate) fn told(place: &mut Memory, alloc: Global, asked: &Asked<'_>) -> Result<(u64, u64), u8> {
+pub(crate) fn told(place: &mut Memory, alloc: Global, asked: Asked<'_>) -> Result<(u64, u64), u8> {
     perform(place, alloc, asked)
 }
 
@@ -117,7 +118,7 @@ pub(crate) fn write(
     told(
         place,
         alloc,
-        &Asked::Write(lines, path, &write_options(target)),
+        Asked::Write(lines, path, &write_options(target)),
     )
     .ok()
 }
@@ -133,14 +134,14 @@ pub(crate) fn compact(
     told(
         place,
         alloc,
-        &Asked::Compact(&["b", "a"], folder, &keep_all(target)),
+        Asked::Compact(&["b", "a"], folder, &keep_all(target)),
     )
     .ok()
 }
 
 /// How many entries a file's table tells; none where it does not open.
 pub(crate) fn entries_of(place: &mut Memory, alloc: Global, path: &str) -> Option<u64> {
-    match told(place, alloc, &Asked::Open(path)) {
+    match told(place, alloc, Asked::Open(path)) {
         Ok((_, entries)) => Some(entries),
         Err(_) => None,
     }
