@@ -21,7 +21,7 @@ use Rattle.lsm_writers.specs.Writing.{IsWritable}
 use Rattle.lsm_writers.proofs.OneCut.{one_cut_law}
 use Rattle.lsm_compactions.specs.Chain.{AreCutOf, AreWritten, FitsAsTables, IsRunOfList, both_fault}
 use Rattle.lsm_compactions.specs.Chain.{chain_fault, ids_behind, tables_fault, writes_fault}
-use Rattle.lsm_compactions.specs.Compacted.{AreCompactable, AreWrittenBy, FitsBy, kept_in}
+use Rattle.lsm_compactions.specs.Compacted.{AreCompactable, AreWrittenBy, FitsBy, RunsOn, kept_in}
 use Rattle.lsm_compactions.specs.PartReads.{ReadsOf}
 use Rattle.lsm_compactions.specs.Written.{number_fault}
 use Rattle.lsm_compactions.proofs.Compactable.{run_compactable}
@@ -86,6 +86,12 @@ put_compactable label target es g (Some run) writable is cut =
     run_compactable label target es g run is cut writable
 
 -- ---- what a writer that had written nothing has written
+
+-- its ids run on
+pub new_runs_on : (ids : Option ℕ) (target moment : ℕ) → ids_fault ids ≡ None
+    → RunsOn (new_tables ids target 0 moment)
+new_runs_on None target moment fine = absurd cc
+new_runs_on (Some first) target moment fine = refl
 
 -- tables that a new writer has made of a list are tables of the list, and the counter stands behind
 -- them

@@ -9,7 +9,7 @@ ghost use Rattle.lsm_formats.specs.declared.label.Label.{Label};
 ghost use Rattle.lsm_compactions.specs.Words.{AreCompactable, AreCutOf, AreFinished, AreOpened};
 ghost use Rattle.lsm_compactions.specs.Words.{AreWritten, AreWrittenBy, Entry, Faults};
 ghost use Rattle.lsm_compactions.specs.Words.{FitsAsTables, FitsBy, IsFreshRun, IsOpenedOf};
-ghost use Rattle.lsm_compactions.specs.Words.{IsRunOfList, IsTableOf, IsWritable, TookList};
+ghost use Rattle.lsm_compactions.specs.Words.{IsRunOfList, IsTableOf, IsWritable, RunsOn, TookList};
 ghost use Rattle.lsm_compactions.specs.Words.{chain_fault, default_options, highest_seqno};
 ghost use Rattle.lsm_compactions.specs.Words.{ids_behind};
 ghost use Rattle.lsm_compactions.specs.Words.{joined, lift, number_fault, run_label, tables_fault};
@@ -46,6 +46,7 @@ pub(crate) fn write_by<A: Allocator + Clone>(
     items: Vec<InternalValue<A>, A>,
 ) -> Result<(Vec<FinishedTable<A>, A>, TableIds), Error>
     requires fresh { IsFreshRun writer }
+    requires next { RunsOn writer }
     requires list { IsWritable items.items }
     ensures written { IfOk result (λ r. AreWrittenBy writer items.items r.0.items r.1) }
     ensures refused { Faults result (writes_fault writer items.items) }

@@ -1,6 +1,6 @@
 //! What the matches of a command say, as a task.
 ghost use Rattle.std.specs.Prelude.{◌≡◌, ◌↔◌, IfOk, IfSome, IfNone, IsTrue, Some, option_map};
-ghost use Rattle.std.specs.Prelude.{codes};
+ghost use Rattle.std.specs.Prelude.{codes, ℕ};
 ghost use Rattle.clap.specs.Words.{first_of, found_of, one_of, rows_of};
 ghost use Rattle.tool_options.specs.Tasks.{AsksFor, Has, Spells, SpellsBits};
 ghost use Rattle.tool_options.specs.Tasks.{placed, text_in, texts_of};
@@ -176,7 +176,8 @@ fn files<'a>(alloc: Global, matches: &ArgMatches<'a>) -> Result<Vec<&'a str>, Al
 
 // How many bits a filter has for a key: a number from 1 to 100, or 0 at `none`.
 fn filter_bits(text: &str) -> Option<u32>
-    ensures { IfSome result (λ bits. SpellsBits text.now bits) }
+    ensures some { IfSome result (SpellsBits text.now) }
+    ensures none { IfNone result ((bits : ℕ) → SpellsBits text.now bits → ⊥) }
 {
     if text == "none" {
         return Some(0);

@@ -5,14 +5,18 @@ use Rattle.sst_entries.specs.declared.error.Error.{Error}
 use Rattle.sst_entries.specs.Entry.{Entry}
 use Rattle.sst_entries.proofs.Refusals.{faults_refusal}
 use Rattle.lsm_writers.specs.declared.writer.FinishedTable.{FinishedTable}
-use Rattle.lsm_writers.specs.Tables.{AreFinished}
+use Rattle.lsm_writers.specs.Tables.{AreFinished, TablesWriting}
 use Rattle.lsm_writers.proofs.Refused.{memory_alone}
-use Rattle.lsm_compactions.specs.Compacted.{first_written}
+use Rattle.lsm_compactions.specs.Compacted.{RunsOn, first_written}
 use Rattle.lsm_compactions.specs.OpenedBy.{AreOpenedBy, run_with_fault}
 use Rattle.lsm_compactions.specs.Written.{number_fault}
 use Rattle.lsm_compactions.proofs.OpenedRuns.{able_with, put_by, run_with}
 use Rattle.lsm_compactions.proofs.RunWriting.{small_number, wants}
 use Rattle.lsm_compactions.proofs.runs_with.write_run_with.Goals as goal
+
+pub write_by-requires-clause-next : goal.write_by-requires-clause-next
+write_by-requires-clause-next g c =
+    subst RunsOn c.writer.view_is (c.writer.invariant (ap (λ (w : TablesWriting). w.failed) c.writer.view_is ∙ c.requires.fresh.2)).next
 
 pub returns-clause-opened : goal.returns-clause-opened
 returns-clause-opened g c = put_by c.args.how.now c.in_ok-tables.tables.items c.in_ok-opened.opened.items (subst (λ (x : List (FinishedTable _)). AreOpenedBy c.args.how.now x c.in_ok-opened.opened.items) c.deref.ensures.value c.in_ok-opened.ensures.opened) c.new.result c.new.ensures

@@ -1,15 +1,10 @@
-use Rattle.std.proofs.Common.{◌∙◌, ap, subst}
-use Rattle.lsm_writers.specs.Tables.{TablesWriting}
 use Rattle.lsm_writers.proofs.Refused.{memory_alone}
-use Rattle.lsm_compactions.specs.Compacted.{RunsOn}
 use Rattle.lsm_compactions.proofs.TookList.{on_ok}
 use Rattle.lsm_compactions.proofs.WrittenBy.{fits_none}
 use Rattle.lsm_compactions.proofs.written_run.write_by.Goals as goal
 
 pub returns-clause-written : goal.returns-clause-written
-returns-clause-written g c =
-    let next : RunsOn c.args.writer = subst RunsOn c.writer.view_is (c.writer.invariant (ap (λ (w : TablesWriting). w.failed) c.writer.view_is ∙ c.requires.fresh.2)).next in
-    c.finished.ensures.written c.args.writer c.args.items.items c.requires.fresh next (on_ok c.write_items-took.result _ c.in_default.is c.write_items-took.ensures.took)
+returns-clause-written g c = c.finished.ensures.written c.args.writer c.args.items.items c.requires.fresh c.requires.next (on_ok c.write_items-took.result _ c.in_default.is c.write_items-took.ensures.took)
 
 pub returns-clause-refused : goal.returns-clause-refused
 returns-clause-refused g c = c.finished.ensures.refused c.args.writer c.args.items.items (on_ok c.write_items-took.result _ c.in_default.is c.write_items-took.ensures.took)
@@ -17,5 +12,4 @@ returns-clause-refused g c = c.finished.ensures.refused c.args.writer c.args.ite
 pub returns-clause-taken : goal.returns-clause-taken
 returns-clause-taken g c fits =
     let a = c.args in
-    let next : RunsOn a.writer = subst RunsOn c.writer.view_is (c.writer.invariant (ap (λ (w : TablesWriting). w.failed) c.writer.view_is ∙ c.requires.fresh.2)).next in
-    memory_alone c.finished.result _ (fits_none a.writer a.items.items c.tables_law.ensures.takes c.requires.fresh next c.requires.list fits) (returns-clause-refused g c)
+    memory_alone c.finished.result _ (fits_none a.writer a.items.items c.tables_law.ensures.takes c.requires.fresh c.requires.next c.requires.list fits) (returns-clause-refused g c)

@@ -7,7 +7,8 @@ use Rattle.sst_entries.proofs.Refusals.{faults_refusal}
 use Rattle.lsm_writers.specs.Tables.{ids_fault, new_tables}
 use Rattle.lsm_writers.proofs.Refused.{memory_alone}
 use Rattle.lsm_compactions.specs.Chain.{tables_fault, writes_fault}
-use Rattle.lsm_compactions.proofs.CompactedBack.{all_as_written, fits_by, new_fault}
+use Rattle.lsm_compactions.specs.Compacted.{RunsOn}
+use Rattle.lsm_compactions.proofs.CompactedBack.{all_as_written, fits_by, new_fault, new_runs_on}
 use Rattle.lsm_compactions.proofs.written_run.write_tables.Goals as goal
 
 pub returns-in_err-writer-clause-refused : goal.returns-in_err-writer-clause-refused
@@ -20,6 +21,12 @@ pub returns-in_err-writer-clause-taken : goal.returns-in_err-writer-clause-taken
 returns-in_err-writer-clause-taken g c fits =
     let told = ids_fault c.args.ids in
     memory_alone c.from_residual.result told (ap ids_fault fits.first_is) (faults_refusal c.from_residual.result c.in_err-writer.field-0.0 told c.from_residual.ensures.1 c.in_err-writer.ensures.refused)
+
+pub write_by-requires-clause-next : goal.write_by-requires-clause-next
+write_by-requires-clause-next g c =
+    let a = c.args in
+    let w = c.in_ok-writer in
+    subst RunsOn (sym w.ensures.ok) (new_runs_on a.ids a.target_size a.created_at w.ensures.refused)
 
 pub returns-clause-written : goal.returns-clause-written
 returns-clause-written g c =
