@@ -4,7 +4,7 @@ use std::test::Fail;
 use tool_options::{Parsed, parse};
 
 /// Lines of words, and how what they come to begins.
-const LINES: [(&str, &str); 20] = [
+const LINES: [(&str, &str); 26] = [
     (
         "sst write f",
         "Write(WriteTask { file: \"f\", partitioned: false, filter_bits: 10, block_size: 4096, \
@@ -76,6 +76,21 @@ const LINES: [(&str, &str); 20] = [
         "sst dumb",
         "mistaken error: unrecognized subcommand 'dumb'\n",
     ),
+    (
+        "sst write f --filter 100",
+        "Write(WriteTask { file: \"f\", partitioned: false, filter_bits: 100,",
+    ),
+    (
+        "sst write f --block-size 0",
+        "mistaken error: invalid value '0' for '--block-size <BYTES>'",
+    ),
+    (
+        "sst compact a --to c --target 0",
+        "mistaken error: invalid value '0' for '--target <BYTES>'",
+    ),
+    ("sst", "mistaken "),
+    ("sst man", "shown .TH SST 1 \"\" \"sst 1.0"),
+    ("sst completion bash", "shown "),
     ("sst --version", "shown sst 1.0\n"),
     (
         "sst help pack",
