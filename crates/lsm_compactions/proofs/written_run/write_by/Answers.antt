@@ -1,3 +1,5 @@
+use Rattle.std.specs.Prelude.{Err}
+use Rattle.sst_entries.specs.declared.error.Error.{Error}
 use Rattle.lsm_writers.proofs.Refused.{memory_alone}
 use Rattle.lsm_compactions.proofs.TookList.{on_ok}
 use Rattle.lsm_compactions.proofs.WrittenBy.{fits_none}
@@ -13,3 +15,8 @@ pub returns-clause-taken : goal.returns-clause-taken
 returns-clause-taken g c fits =
     let a = c.args in
     memory_alone c.finished.result _ (fits_none a.writer a.items.items c.tables_law.ensures.takes c.requires.fresh c.requires.next c.requires.list fits) (returns-clause-refused g c)
+
+pub returns-in-Err-clause-taken : goal.returns-in-Err-clause-taken
+returns-in-Err-clause-taken g c fits =
+    let a = c.args in
+    memory_alone {X = Error} (Err c.in-Err.error) _ (fits_none a.writer a.items.items c.tables_law.ensures.takes c.requires.fresh c.requires.next c.requires.list fits) c.in-Err.ensures.refused
