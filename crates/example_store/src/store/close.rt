@@ -6,7 +6,7 @@ ghost use Rattle.example_store.specs.Ids.{HasFlushed, StaysOrFlushes};
 ghost use Rattle.example_store.specs.Story.{IsStore, IsTold};
 ghost use Rattle.logpurple.specs.Words.{Entry, OpenTable, OutOfMemory, is_memory, tables_fault};
 
-use crate::Store;
+use crate::store::Store;
 use logpurple::{Error, Run, SeqNo, Slice, Table, TableIds};
 use std::alloc::{Allocator, Global};
 use std::sync::Arc;

@@ -10,7 +10,7 @@ ghost use Rattle.logpurple.specs.Words.{HoldUnion, IsLeastSize, OutOfMemory, Run
 ghost use Rattle.logpurple.specs.Words.{SameTables, ids_behind, is_memory, kept_in, range_of};
 ghost use Rattle.logpurple.specs.Words.{rules_by, run_label, tables_fault, union_in};
 
-use crate::Store;
+use crate::store::Store;
 use logpurple::{Error, Rules, Run, SeqNo, Table, TableIds, Timestamp, compact_to_run, pack_runs};
 use std::alloc::Allocator;
 use std::sync::Arc;

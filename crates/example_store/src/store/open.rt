@@ -20,7 +20,7 @@ ghost use Rattle.logpurple.specs.Words.{recovered_told, union_in};
 use crate::memtable::Memtable;
 use crate::store::compact::Runs;
 use crate::store::order::are_strict;
-use crate::{Closed, Store};
+use crate::store::{Closed, Store};
 use logpurple::{Checksum, Error, Finding, Run, SeqNo, Slice, Table, VerifyError};
 use std::alloc::{AllocError, AllocFailed, Allocator};
 use std::sync::Arc;

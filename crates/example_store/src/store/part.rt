@@ -7,7 +7,7 @@ ghost use Rattle.example_store.specs.Story.{IsTold};
 ghost use Rattle.logpurple.specs.Words.{Entry, OutOfMemory, RunsHoldLists, is_memory, kept_in};
 ghost use Rattle.logpurple.specs.Words.{rules_by, tables_fault};
 
-use crate::Store;
+use crate::store::Store;
 use crate::store::compact::{Runs, compacted};
 use logpurple::{Error, Rules, Run, SeqNo, Table, TableIds};
 use std::alloc::Allocator;

@@ -5,7 +5,7 @@ ghost use Rattle.logpurple.specs.Words.{DealsList, Entry, OutOfMemory, RunsHoldL
 ghost use Rattle.logpurple.specs.Words.{newest, numbered_below, single, sort_entries, union_in};
 ghost use Rattle.logpurple.specs.Words.{within};
 
-use crate::Store;
+use crate::store::Store;
 use logpurple::{Error, IterItem, NewestOfSourcesAt, SeqNo, UserKey, range_sources_at};
 use std::alloc::Allocator;
 use std::ops::Bound;
