@@ -17,7 +17,7 @@ pub struct Asked {
 
 impl Model for Asked {
     ghost use Rattle.sst_entries.specs.Stream.{CanDeal};
-    ghost use Rattle.sst_c.specs.Steps.{NewestAt};
+    ghost use Rattle.sst_c.specs.Newest.{NewestAt};
 
     ghost Value = { NewestAt };
 

@@ -4,7 +4,8 @@ ghost use Rattle.std.specs.Prelude.{None, Ok, Some, is_some, nat_lt, true};
 ghost use Rattle.sst_entries.specs.declared.error.Error.TheVariants.{OutOfMemory};
 ghost use Rattle.lsm_runs.specs.Words.{DealsList, Entry, IsOverSpansBelow, RunsHoldLists, newest};
 ghost use Rattle.lsm_runs.specs.Words.{numbered_below, union_in, within};
-ghost use Rattle.sst_c.specs.Steps.{NewestAt, StepsUntil};
+ghost use Rattle.sst_c.specs.Newest.{NewestAt};
+ghost use Rattle.sst_c.specs.Steps.{StepsUntil};
 ghost use Rattle.sst_c.specs.What.{IsMergedWhere, are_runs, bound_told, runs_held};
 ghost use Rattle.sst_c.specs.declared.held.Held.{Held as HeldValue};
 
