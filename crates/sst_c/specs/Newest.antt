@@ -8,6 +8,6 @@ use Rattle.lsm_runs.specs.RunRange.{RunRange}
 use Rattle.lsm_sorted.specs.declared.below.Below.{Below}
 use Rattle.lsm_sorted.specs.declared.mvcc_stream.MvccStream.{MvccStream}
 
--- those numbered below a number
+-- the newest versions below a number
 abbrev pub NewestAt : Type 0
 NewestAt = MvccStream (Merger (Below (RunRange Global)) Global) (Result Entry Error)
