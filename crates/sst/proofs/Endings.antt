@@ -1,5 +1,5 @@
 -- How the program ends.
-use Rattle.std.proofs.Common.{◌≡◌, ◌∙◌, subst, ℕ, ◌≤◌, Bool, List, arith, inl, inr}
+use Rattle.std.proofs.Common.{◌≡◌, ◌∙◌, refl, subst, ℕ, ◌≤◌, Bool, List, arith, inl, inr}
 use Rattle.std.specs.Prelude.{IfErr, IfOk, MatchResult, None, OnOk, Option, Result, Ok, Err}
 use Rattle.std.specs.Prelude.{String, string_bytes}
 use Rattle.std.specs.Global.{Global}
@@ -81,3 +81,10 @@ pub runs_shown : {E : Type 0} (words : List (List ℕ)) (input : Option (List �
 runs_shown words input asked text printed status old new asks is zero took one told =
     runs_as words input asked (parsed.Shown text) status old new asks is
     (shown printed status zero took one told)
+
+-- words that are at fault are answered by a text, and nothing is printed
+pub runs_mistaken : {E : Type 0} (words : List (List ℕ)) (input : Option (List ℕ))
+    (asked : Result Parsed E) (text : String Global) (old : Option (List ℕ))
+    → IfOk asked (AsksFrom words) → asked ≡ Ok (parsed.Mistaken text) → Runs words input 2 old old
+runs_mistaken words input asked text old asks is =
+    runs_as words input asked (parsed.Mistaken text) 2 old old asks is refl
