@@ -4,7 +4,7 @@ use Rattle.std.specs.Prelude.{IfOk}
 use Rattle.sst_entries.specs.Entry.{Entry}
 use Rattle.sst_entries.specs.declared.error.Error.{Error}
 use Rattle.lsm_runs.specs.Words.{DealsList}
-use Rattle.sst_c.specs.Newest.{NewestAt}
+use Rattle.sst_c.specs.Steps.{NewestAt}
 use Rattle.sst_c.specs.What.{IsMergedWhere}
 use Rattle.sst_c.specs.declared.held.What.{What}
 

@@ -5,7 +5,6 @@ pub mod Told
 pub mod What
 pub mod Options
 pub mod Writing
-pub mod Newest
 pub mod Steps
 pub mod Scans
 pub mod Facts

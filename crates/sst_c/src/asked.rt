@@ -1,58 +1,47 @@
-//! The newest versions of what runs have together, which may be asked at both ends, however often.
+//! A source that may be asked at both ends, however often.
 ghost use Rattle.std.specs.Prelude.{◌≡◌, false, true};
 ghost use Rattle.sst_entries.specs.Stream.{CanDeal};
 
-use lsm_runs::NewestOfRunsAt;
 use sst_blocks::IterItem;
 use std::alloc::Global;
 use std::marker::Model;
 
-/// The newest versions of what runs have together, which may be asked at both ends, however often.
-/// A contract sees the stream. It takes the stream by name, since to hand a concrete one to what is
-/// generic in streams costs a proof much.
+/// A source that may be asked at both ends, however often. A contract sees the source.
 #[derive(Drop)]
-pub struct Asked {
-    newest: NewestOfRunsAt<Global>,
+pub struct Asked<I: DoubleEndedIterator> {
+    source: I,
 }
 
-impl Model for Asked {
+impl<I: DoubleEndedIterator> Model for Asked<I> {
     ghost use Rattle.sst_entries.specs.Stream.{CanDeal};
-    ghost use Rattle.sst_c.specs.Newest.{NewestAt};
 
-    ghost Value = { NewestAt };
+    ghost Value = { I };
 
-    ghost view = { λ a. a.newest };
+    ghost view = { λ a. a.source };
 
-    ghost invariant = { λ a. CanDeal ⟦<NewestOfRunsAt<Global> as Iterator>⟧.next_gives
-        ⟦<NewestOfRunsAt<Global> as DoubleEndedIterator>⟧.next_back_gives
-        ⟦<NewestOfRunsAt<Global> as Iterator>⟧.can_next
-        ⟦<NewestOfRunsAt<Global> as DoubleEndedIterator>⟧.can_next_back a.newest };
+    ghost invariant = { λ a.
+        CanDeal I.next_gives I.next_back_gives I.can_next I.can_next_back a.source };
 }
 
-impl Asked {
-    /// Newest versions that may be asked so.
-    pub(crate) fn new(newest: NewestOfRunsAt<Global>) -> Asked
-        requires { CanDeal ⟦<NewestOfRunsAt<Global> as Iterator>⟧.next_gives
-            ⟦<NewestOfRunsAt<Global> as DoubleEndedIterator>⟧.next_back_gives
-            ⟦<NewestOfRunsAt<Global> as Iterator>⟧.can_next
-            ⟦<NewestOfRunsAt<Global> as DoubleEndedIterator>⟧.can_next_back newest }
-        ensures { result ≡ newest }
+impl<I: DoubleEndedIterator<Item = IterItem<Global>>> Asked<I> {
+    /// A source that may be asked so.
+    pub(crate) fn new(source: I) -> Asked<I>
+        requires { CanDeal I.next_gives I.next_back_gives I.can_next I.can_next_back source }
+        ensures { result ≡ source }
     {
-        Asked { newest }
+        Asked { source }
     }
 
-    /// What comes next, at the back where `back` says so, else at the front.
+    /// What the source gives next, at the back where `back` says so, else at the front.
     #[tactic(auto, using(crate::proofs::Asking::asking))]
     pub(crate) fn step(&mut self, back: bool) -> Option<IterItem<Global>>
-        ensures front { let gives = ⟦<NewestOfRunsAt<Global> as Iterator>⟧.next_gives in
-            back ≡ false → gives self.old result self.new }
-        ensures back { let gives = ⟦<NewestOfRunsAt<Global> as DoubleEndedIterator>⟧.next_back_gives in
-            back ≡ true → gives self.old result self.new }
+        ensures front { back ≡ false → I.next_gives self.old result self.new }
+        ensures back { back ≡ true → I.next_back_gives self.old result self.new }
     {
         if back {
-            self.newest.next_back()
+            self.source.next_back()
         } else {
-            self.newest.next()
+            self.source.next()
         }
     }
 }

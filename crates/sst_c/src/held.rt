@@ -5,6 +5,7 @@ use crate::verifier::Verifier;
 use lsm_iters::Iter;
 use lsm_ranges::Packed;
 use lsm_readers::{Scanner, Table};
+use lsm_runs::NewestOfRunsAt;
 use lsm_writers::{FinishedTable, Writer};
 use sst_blocks::InternalValue;
 use std::alloc::Global;
@@ -29,7 +30,7 @@ pub enum What {
     Scan(Scanner),
     /// What runs of tables have together within bounds, read from both ends; nothing once a read
     /// was refused.
-    Merged(Option<Asked>),
+    Merged(Option<Asked<NewestOfRunsAt<Global>>>),
     /// Tables that are written: those that are finished, and the one that is not.
     Files(Files),
     /// Runs of tables, the newest first.

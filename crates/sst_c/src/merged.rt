@@ -4,8 +4,7 @@ ghost use Rattle.std.specs.Prelude.{None, Ok, Some, is_some, nat_lt, true};
 ghost use Rattle.sst_entries.specs.declared.error.Error.TheVariants.{OutOfMemory};
 ghost use Rattle.lsm_runs.specs.Words.{DealsList, Entry, IsOverSpansBelow, RunsHoldLists, newest};
 ghost use Rattle.lsm_runs.specs.Words.{numbered_below, union_in, within};
-ghost use Rattle.sst_c.specs.Newest.{NewestAt};
-ghost use Rattle.sst_c.specs.Steps.{StepsUntil};
+ghost use Rattle.sst_c.specs.Steps.{NewestAt, StepsUntil};
 ghost use Rattle.sst_c.specs.What.{IsMergedWhere, are_runs, bound_told, runs_held};
 ghost use Rattle.sst_c.specs.declared.held.Held.{Held as HeldValue};
 
@@ -17,7 +16,7 @@ use crate::ranges::{bound, outcome_of};
 use crate::run_list::RunList;
 use lsm_runs::{NewestOfRunsAt, RunReader, range_runs_at};
 use lsm_sorted::Below;
-use sst_blocks::{Error, InternalValue, SeqNo, Slice};
+use sst_blocks::{Error, InternalValue, IterItem, SeqNo, Slice};
 use std::alloc::Global;
 use std::ops::Bound;
 
@@ -27,7 +26,7 @@ fn newest_within(
     runs: &RunList,
     range: (Bound<Slice>, Bound<Slice>),
     seqno: SeqNo,
-) -> Result<Asked, Error>
+) -> Result<Asked<NewestOfRunsAt<Global>>, Error>
     ensures steps { IfOk result (λ s.
         IsOverSpansBelow ⟦<Below<RunReader<Global>> as Iterator>⟧.next_gives
         ⟦<Below<RunReader<Global>> as DoubleEndedIterator>⟧.next_back_gives
@@ -243,17 +242,16 @@ pub extern "C" fn sst_runs_range_open(
     code
 }
 
-/// A step of what runs have together, where a read was not refused before.
-pub(crate) fn step_merged(
-    merged: &mut Option<Asked>,
+// The next entry of a source, where a read was not refused before.
+fn next_of<I: DoubleEndedIterator<Item = IterItem<Global>>>(
+    merged: &mut Option<Asked<I>>,
     back: bool,
 ) -> Result<Option<InternalValue>, Error>
     ensures over { merged.old ≡ None → (result ≡ Ok None) × (merged.new ≡ None) }
-    ensures front { (s : NewestAt) → merged.old ≡ Some s → back ≡ false →
-        StepsUntil ⟦<NewestOfRunsAt<Global> as Iterator>⟧.next_gives s result merged.new }
-    ensures back { (s : NewestAt) → merged.old ≡ Some s → back ≡ true →
-        StepsUntil ⟦<NewestOfRunsAt<Global> as DoubleEndedIterator>⟧.next_back_gives
-        s result merged.new }
+    ensures front { (s : I) → merged.old ≡ Some s → back ≡ false →
+        StepsUntil I.next_gives s result merged.new }
+    ensures back { (s : I) → merged.old ≡ Some s → back ≡ true →
+        StepsUntil I.next_back_gives s result merged.new }
 {
     let Some(asked) = merged else {
         return Ok(None);
@@ -263,4 +261,19 @@ pub(crate) fn step_merged(
         *merged = None;
     }
     outcome
+}
+
+/// A step of what runs have together, where a read was not refused before.
+pub(crate) fn step_merged(
+    merged: &mut Option<Asked<NewestOfRunsAt<Global>>>,
+    back: bool,
+) -> Result<Option<InternalValue>, Error>
+    ensures over { merged.old ≡ None → (result ≡ Ok None) × (merged.new ≡ None) }
+    ensures front { (s : NewestAt) → merged.old ≡ Some s → back ≡ false →
+        StepsUntil ⟦<NewestOfRunsAt<Global> as Iterator>⟧.next_gives s result merged.new }
+    ensures back { (s : NewestAt) → merged.old ≡ Some s → back ≡ true →
+        StepsUntil ⟦<NewestOfRunsAt<Global> as DoubleEndedIterator>⟧.next_back_gives
+        s result merged.new }
+{
+    next_of(merged, back)
 }

@@ -6,8 +6,7 @@ ghost use Rattle.sst_entries.specs.declared.error.Error.TheVariants.{OutOfMemory
 ghost use Rattle.lsm_iters.specs.Range.{Range as RangeValue};
 ghost use Rattle.lsm_readers.specs.Words.{Entry, IsRangeOf, OpenTable, StoresList};
 ghost use Rattle.sst_c.specs.Codes.{result_code};
-ghost use Rattle.sst_c.specs.Newest.{NewestAt};
-ghost use Rattle.sst_c.specs.Steps.{StepsBy};
+ghost use Rattle.sst_c.specs.Steps.{NewestAt, StepsBy};
 ghost use Rattle.sst_c.specs.Told.{found_in, outcome_of, entry_facts};
 ghost use Rattle.sst_c.specs.What.{DealsTable, IsRangeWhere, MergedStepsBy, bound_told, is_range};
 ghost use Rattle.sst_c.specs.What.{is_table};
