@@ -133,8 +133,8 @@ fn compare_from<I: DoubleEndedIterator<Item = IterItem<Global>> + Drop>(
     }
 }
 
-// The same of newest versions. Generic in what these are over: a whole concrete stream costs a proof
-// much where it is handed to a function that is generic in streams.
+// Compares newest versions from one end on. Generic in what these are over: a whole concrete stream
+// costs a proof much where it is handed to a function that is generic in streams.
 fn compare_newest<S: DoubleEndedIterator<Item = IterItem<Global>> + Drop>(
     end: Direction,
     items: NewestOf<S, Global>,

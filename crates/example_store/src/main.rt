@@ -4,8 +4,8 @@
 //! snapshot answers what that list says, whatever was flushed, compacted and packed since, whether
 //! the store was closed and opened, and whatever was refused on the way.
 //!
-//! The program writes, overwrites and deletes 20,000 keys of a store, with two snapshots, packing and
-//! compaction, closes it, opens it from its files and goes on, and compares it each time with a
+//! The program writes, overwrites and deletes 20,000 keys of a store, with two snapshots, packing
+//! and compaction, closes it, opens it from its files and goes on, and compares it each time with a
 //! plain map: what each key has, and what there is from either end.
 #![tactic(auto)]
 

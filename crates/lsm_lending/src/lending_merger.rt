@@ -8,9 +8,10 @@ ghost use Rattle.sst_entries.specs.Lending.{entry_of_ref};
 ghost use Rattle.sst_entries.specs.Stream.{CanDeal, EndsAtError, nowhere};
 ghost use Rattle.sst_entries.specs.declared.error.Error.{Error};
 ghost use Rattle.sst_entries.specs.declared.error.Error.TheVariants.{OutOfMemory};
-ghost use Rattle.lsm_lending.specs.Lent.{AsksOne, IsReady, MayLend, StepsOn, goes_before, is_queued};
-ghost use Rattle.lsm_lending.specs.Lent.{is_turn, lent_at, lent_first, lent_size, lent_total};
-ghost use Rattle.lsm_lending.specs.Lent.{AdvancesLent, Belongs, LendsNoMore, StartsLent, StepLowers};
+ghost use Rattle.lsm_lending.specs.Lent.{AsksOne, IsReady, MayLend, StepsOn, goes_before};
+ghost use Rattle.lsm_lending.specs.Lent.{is_queued, is_turn, lent_at, lent_first};
+ghost use Rattle.lsm_lending.specs.Lent.{AdvancesLent, Belongs, LendsNoMore, StartsLent};
+ghost use Rattle.lsm_lending.specs.Lent.{StepLowers, lent_size, lent_total};
 ghost use Rattle.lsm_merge.specs.MergeLaws.{DealsInPlace, DealsMerged};
 
 use lsm_merge::compare_refs;

@@ -116,7 +116,7 @@ fn compact_all<S: Iterator<Item = IterItem<Global>> + Drop>(
     write_all(alloc, &mut stream, target)
 }
 
-// The same of several tables.
+// Of each key of several tables the newest version, in tables of about the target's size.
 fn compacted(alloc: Global, tables: &[Table], target: u64) -> Result<Vec<FinishedTable>, Error> {
     compact_all(alloc, scanners_of(alloc, tables)?, target)
 }

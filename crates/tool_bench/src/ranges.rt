@@ -113,8 +113,8 @@ pub(crate) fn runs_of(alloc: Global, tables: Vec<Table>) -> Result<Vec<Arc<Run<T
     Ok(runs)
 }
 
-// Takes all newest versions of some sources. It is generic in these: a whole concrete stream costs a
-// proof much where it is handed to a function that is generic in streams.
+// Takes all newest versions of some sources. It is generic in these: a whole concrete stream costs
+// a proof much where it is handed to a function that is generic in streams.
 fn take_newest<S: Iterator<Item = IterItem<Global>> + Drop>(
     items: NewestOf<S, Global>,
     digest: &mut Digest,

@@ -50,8 +50,8 @@ fn in_memory(alloc: Global) -> Result<Vec<IterItem<Global>, Global>, Error> {
     Ok(items)
 }
 
-// The same of newest versions. Generic in what they are over: a whole concrete stream costs a proof
-// much where it is handed to a function that is generic in streams.
+// The entries of newest versions, as `codes`. Generic in what they are over: a whole concrete
+// stream costs a proof much where it is handed to a function that is generic in streams.
 fn codes_of<S: Iterator<Item = IterItem<A>> + Drop, A: Allocator>(
     items: NewestOf<S, A>,
 ) -> Result<u64, Error>

@@ -78,9 +78,9 @@ fn why_not(error: &CompactError<'_>) -> u8 {
     }
 }
 
-// Does what is asked of a place, and answers how many tables and entries came of it, of a table that
-// is opened how many it tells; or why it is refused. It is generic in the place, since each call at
-// a concrete one puts its trait together once more.
+// Does what is asked of a place, and answers how many tables and entries came of it, of a table
+// that is opened how many it tells; or why it is refused. It is generic in the place, since each
+// call at a concrete one puts its trait together once more.
 fn perform<P: Place>(place: &mut P, alloc: Global, asked: Asked<'_>) -> Result<(u64, u64), u8> {
     match asked {
         Asked::Write(lines, path, options) => {
