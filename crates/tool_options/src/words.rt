@@ -34,8 +34,8 @@ pub enum Parsed<'a> {
 
 /// Parses the words of the command line, of which the first is the program's name. What a task says
 /// is what the words say of the arguments of its names, or what stands for those that are left out.
-/// A text is shown where the words ask for help, the version, a completion or the manual, and what
-/// the parser refuses else is a mistake.
+/// A text is shown where the words ask for help, the version, a completion or the manual; what else
+/// the parser refuses is a mistake.
 ///
 /// Refused for want of memory alone.
 pub fn parse<'a, S: AsStr>(alloc: Global, words: &'a [S]) -> Result<Parsed<'a>, AllocError>
