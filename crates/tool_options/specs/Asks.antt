@@ -4,7 +4,7 @@ use Rattle.clap.specs.Words.{App, IsAmong, Kinds, Row, Text, fault_of, subcomman
 use Rattle.clap.specs.declared.error.kind.ErrorKind.{ErrorKind}
 use Rattle.clap.specs.declared.error.kind.ErrorKind.TheVariants as kind
 use Rattle.tool_options.specs.Commands.{commands, commands_in}
-use Rattle.tool_options.specs.Tasks.{AsksFor}
+use Rattle.tool_options.specs.Tasks.{AsksFor, AsksForNone}
 use Rattle.tool_options.specs.declared.words.Parsed.{Parsed}
 use Rattle.tool_options.specs.declared.words.Parsed.TheVariants as parsed
 
@@ -38,10 +38,16 @@ ShowsOf name (parsed.Task t) = (name ≡ codes "completion" → ⊥) × (name �
 ShowsOf name (parsed.Shown text) = (name ≡ codes "completion") ⊎ (name ≡ codes "man")
 ShowsOf name (parsed.Mistaken text) = (name ≡ codes "completion" → ⊥) × (name ≡ codes "man" → ⊥)
 
+-- it is told to be a mistake only where it asks for no task
+abbrev pub MistakesOf : Text → List Row → Parsed → Type 0
+MistakesOf name rows (parsed.Task t) = ⊤
+MistakesOf name rows (parsed.Shown text) = ⊤
+MistakesOf name rows (parsed.Mistaken text) = AsksForNone name rows
+
 -- what is answered to a command that is named, and to none
 abbrev pub AnswersCommand : Option (Text × List Row) → Parsed → Type 0
 AnswersCommand None p = IsMistake p
-AnswersCommand (Some found) p = ShowsOf found.0 p
+AnswersCommand (Some found) p = ShowsOf found.0 p × MistakesOf found.0 found.1 p
 
 -- a text answers words that the parser refuses by one of these kinds: help and the version are asked
 -- for, and all else is a mistake

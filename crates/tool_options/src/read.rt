@@ -1,8 +1,8 @@
 //! What the matches of a command say, as a task.
-ghost use Rattle.std.specs.Prelude.{◌≡◌, ◌↔◌, IfOk, IfSome, IfNone, IsTrue, Some, option_map};
+ghost use Rattle.std.specs.Prelude.{◌≡◌, ◌↔◌, IfErr, IfOk, IfSome, IfNone, IsTrue, Some, option_map};
 ghost use Rattle.std.specs.Prelude.{codes, ℕ};
-ghost use Rattle.clap.specs.Words.{first_of, found_of, one_of, rows_of};
-ghost use Rattle.tool_options.specs.Tasks.{AsksFor, Has, Spells, SpellsBits};
+ghost use Rattle.clap.specs.Words.{Text, first_of, found_of, one_of, rows_of};
+ghost use Rattle.tool_options.specs.Tasks.{AsksFor, Has, Misreads, Spells, SpellsBits};
 ghost use Rattle.tool_options.specs.Tasks.{placed, text_in, texts_of};
 
 use crate::tasks::{
@@ -39,7 +39,8 @@ pub(crate) fn read_task<'a>(
     name: &str,
     matches: &ArgMatches<'a>,
 ) -> Result<Task<'a>, Misread>
-    ensures { IfOk result (λ t. AsksFor name.now (rows_of (found_of matches.now)) t) }
+    ensures asks { IfOk result (λ t. AsksFor name.now (rows_of (found_of matches.now)) t) }
+    ensures refuses { IfErr result (Misreads name.now (rows_of (found_of matches.now))) }
 {
     match name {
         "write" => read_write(matches),
@@ -54,14 +55,13 @@ pub(crate) fn read_task<'a>(
 }
 
 fn read_write<'a>(matches: &ArgMatches<'a>) -> Result<Task<'a>, Misread>
-    ensures { IfOk result (λ t. AsksFor (codes "write") (rows_of (found_of matches.now)) t) }
+    ensures asks { IfOk result (λ t. AsksFor (codes "write") (rows_of (found_of matches.now)) t) }
+    ensures refuses { IfErr result (Misreads (codes "write") (rows_of (found_of matches.now))) }
 {
     Ok(Task::Write(WriteTask {
         file: text(matches, "file").ok_or(Misread::Absent)?,
         partitioned: says(matches, "index", "partitioned"),
-        filter_bits: text(matches, "filter")
-            .and_then(filter_bits)
-            .ok_or(Misread::Filter)?,
+        filter_bits: filter(matches).ok_or(Misread::Filter)?,
         block_size: size(matches, "block-size").ok_or(Misread::Absent)?,
         partition_size: size(matches, "partition-size").ok_or(Misread::Absent)?,
         level: small(matches, "level").ok_or(Misread::Absent)?,
@@ -72,7 +72,8 @@ fn read_write<'a>(matches: &ArgMatches<'a>) -> Result<Task<'a>, Misread>
 }
 
 fn read_dump<'a>(alloc: Global, matches: &ArgMatches<'a>) -> Result<Task<'a>, Misread>
-    ensures { IfOk result (λ t. AsksFor (codes "dump") (rows_of (found_of matches.now)) t) }
+    ensures asks { IfOk result (λ t. AsksFor (codes "dump") (rows_of (found_of matches.now)) t) }
+    ensures refuses { IfErr result (Misreads (codes "dump") (rows_of (found_of matches.now))) }
 {
     Ok(Task::Dump(DumpTask {
         files: files(alloc, matches)?,
@@ -86,7 +87,8 @@ fn read_dump<'a>(alloc: Global, matches: &ArgMatches<'a>) -> Result<Task<'a>, Mi
 
 // The last word is the key.
 fn read_get<'a>(alloc: Global, matches: &ArgMatches<'a>) -> Result<Task<'a>, Misread>
-    ensures { IfOk result (λ t. AsksFor (codes "get") (rows_of (found_of matches.now)) t) }
+    ensures asks { IfOk result (λ t. AsksFor (codes "get") (rows_of (found_of matches.now)) t) }
+    ensures refuses { IfErr result (Misreads (codes "get") (rows_of (found_of matches.now))) }
 {
     let mut files = files(alloc, matches)?;
     let key = files.pop().ok_or(Misread::Absent)?;
@@ -100,7 +102,8 @@ fn read_get<'a>(alloc: Global, matches: &ArgMatches<'a>) -> Result<Task<'a>, Mis
 }
 
 fn read_stat<'a>(alloc: Global, matches: &ArgMatches<'a>) -> Result<Task<'a>, Misread>
-    ensures { IfOk result (λ t. AsksFor (codes "stat") (rows_of (found_of matches.now)) t) }
+    ensures asks { IfOk result (λ t. AsksFor (codes "stat") (rows_of (found_of matches.now)) t) }
+    ensures refuses { IfErr result (Misreads (codes "stat") (rows_of (found_of matches.now))) }
 {
     Ok(Task::Stat(StatTask {
         files: files(alloc, matches)?,
@@ -109,7 +112,8 @@ fn read_stat<'a>(alloc: Global, matches: &ArgMatches<'a>) -> Result<Task<'a>, Mi
 }
 
 fn read_verify<'a>(alloc: Global, matches: &ArgMatches<'a>) -> Result<Task<'a>, Misread>
-    ensures { IfOk result (λ t. AsksFor (codes "verify") (rows_of (found_of matches.now)) t) }
+    ensures asks { IfOk result (λ t. AsksFor (codes "verify") (rows_of (found_of matches.now)) t) }
+    ensures refuses { IfErr result (Misreads (codes "verify") (rows_of (found_of matches.now))) }
 {
     Ok(Task::Verify(VerifyTask {
         files: files(alloc, matches)?,
@@ -117,7 +121,8 @@ fn read_verify<'a>(alloc: Global, matches: &ArgMatches<'a>) -> Result<Task<'a>, 
 }
 
 fn read_compact<'a>(alloc: Global, matches: &ArgMatches<'a>) -> Result<Task<'a>, Misread>
-    ensures { IfOk result (λ t. AsksFor (codes "compact") (rows_of (found_of matches.now)) t) }
+    ensures asks { IfOk result (λ t. AsksFor (codes "compact") (rows_of (found_of matches.now)) t) }
+    ensures refuses { IfErr result (Misreads (codes "compact") (rows_of (found_of matches.now))) }
 {
     let folder = text(matches, "to").ok_or(Misread::Absent)?;
     let watermark = number(matches, "watermark").ok_or(Misread::Absent)?;
@@ -132,7 +137,8 @@ fn read_compact<'a>(alloc: Global, matches: &ArgMatches<'a>) -> Result<Task<'a>,
 }
 
 fn read_pack<'a>(alloc: Global, matches: &ArgMatches<'a>) -> Result<Task<'a>, Misread>
-    ensures { IfOk result (λ t. AsksFor (codes "pack") (rows_of (found_of matches.now)) t) }
+    ensures asks { IfOk result (λ t. AsksFor (codes "pack") (rows_of (found_of matches.now)) t) }
+    ensures refuses { IfErr result (Misreads (codes "pack") (rows_of (found_of matches.now))) }
 {
     Ok(Task::Pack(PackTask {
         files: files(alloc, matches)?,
@@ -172,6 +178,16 @@ fn files<'a>(alloc: Global, matches: &ArgMatches<'a>) -> Result<Vec<&'a str>, Al
         Some(files) => files.to_vec(alloc),
         None => Ok(Vec::new(alloc)),
     }
+}
+
+// How many bits the filter is to have for a key.
+fn filter(matches: &ArgMatches<'_>) -> Option<u32>
+    ensures some { let found = first_of (codes "filter") (rows_of (found_of matches.now)) in
+        IfSome result (λ bits. (text : Text) × (found ≡ Some text) × SpellsBits text bits) }
+    ensures none { let found = first_of (codes "filter") (rows_of (found_of matches.now)) in
+        IfNone result ((text : Text) → (bits : ℕ) → found ≡ Some text → SpellsBits text bits → ⊥) }
+{
+    filter_bits(text(matches, "filter")?)
 }
 
 // How many bits a filter has for a key: a number from 1 to 100, or 0 at `none`.

@@ -6,7 +6,8 @@ ghost use Rattle.clap.specs.declared.error.kind.ErrorKind.TheVariants.{DisplayHe
 ghost use Rattle.clap.specs.declared.error.kind.ErrorKind.TheVariants.{OutOfMemory};
 ghost use Rattle.tool_options.specs.Program.{program_of};
 ghost use Rattle.tool_options.specs.Asks.{AnswersBy, AnswersCommand, AsksBy, AsksFrom, IsMistake};
-ghost use Rattle.tool_options.specs.Asks.{IsShown, IsText, ShowsOf};
+ghost use Rattle.tool_options.specs.Asks.{IsShown, IsText, MistakesOf, ShowsOf};
+ghost use Rattle.tool_options.specs.declared.read.Misread.TheVariants.{OutOfMemory as wants_memory};
 
 use crate::command::program;
 use crate::completion::completion;
@@ -35,7 +36,8 @@ pub enum Parsed<'a> {
 /// Parses the words of the command line, of which the first is the program's name. What a task says
 /// is what the words say of the arguments of its names, or what stands for those that are left out.
 /// A text is shown where the words ask for help, the version, a completion or the manual; what else
-/// the parser refuses is a mistake.
+/// the parser refuses is a mistake, and so is a command whose arguments ask for no task. No other
+/// words are: a command that asks for a task gets it.
 ///
 /// Refused for want of memory alone.
 pub fn parse<'a, S: AsStr>(alloc: Global, words: &'a [S]) -> Result<Parsed<'a>, AllocError>
@@ -84,6 +86,7 @@ fn answer_to<'a>(
     matches: &ArgMatches<'a>,
 ) -> Result<Parsed<'a>, AllocError>
     ensures shows { IfOk result (ShowsOf name.now) }
+    ensures mistakes { IfOk result (MistakesOf name.now (rows_of (found_of matches.now))) }
     ensures asks { IfOk result (AsksBy (Some (name.now, rows_of (found_of matches.now)))) }
 {
     match name {
@@ -118,6 +121,7 @@ fn explain<'a>(alloc: Global, error: &Error) -> Result<Parsed<'a>, AllocError>
 
 // What was expected of the command `name`, in the parser's own form.
 fn mistake<'a>(alloc: Global, name: &str, misread: Misread) -> Result<Parsed<'a>, AllocError>
+    ensures memory { misread ≡ wants_memory → IfOk result (λ _. ⊥) }
     ensures asks { IfOk result IsText }
     ensures mistaken { IfOk result IsMistake }
 {
