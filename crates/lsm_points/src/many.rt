@@ -8,7 +8,7 @@ ghost use Rattle.lsm_points.specs.Words.{Entry, Gives, body_of, parts_of};
 use crate::Inner;
 use crate::batch::{AHEAD, Batch, Lookup, find_lookups, gather_blocks, put, read_lookups};
 use crate::keeping::Keeping;
-use crate::order::key_order;
+use crate::order::{Headed, key_order};
 use crate::point::point_in;
 use sst_blocks::{BlockSource, Builder, Counted, Error, InternalValue, SeqNo, UserKey};
 use std::alloc::{AllocError, Allocator, Global};
@@ -73,6 +73,28 @@ fn read_ahead<A: Allocator + Clone>(
     Ok(())
 }
 
+/// Reads for the queries at some places, in the order of these places, up to the first that is
+/// refused.
+fn read_ordered<A: Allocator + Clone>(
+    blocks: &BlockSource<A>,
+    inner: &Inner<A>,
+    source: &mut Keeping<'_, A>,
+    queries: &[Query<A>],
+    order: &[Headed],
+    batch: &mut Batch<A>,
+) -> Result<(), AllocError>
+    requires source { body_of source.old.0 ≡ body_of blocks.now }
+    requires found { let parts = parts_of inner.now in
+        let told = query_told (body_of blocks.now) inner.now.global_seqno parts in
+        AreFound told queries.now batch.old.found.items batch.old.done.items }
+    ensures found { let parts = parts_of inner.now in
+        let told = query_told (body_of blocks.now) inner.now.global_seqno parts in
+        AreFound told queries.now batch.new.found.items batch.new.done.items }
+{
+    let lookups = find_lookups(source, inner, queries, order, blocks.allocator().clone()?)?;
+    read_ahead(blocks, inner, source, queries, &lookups, batch)
+}
+
 /// Reads for some queries in the order of their keys, each block loaded once for all that stand
 /// behind one another in it, as far as there is memory, and up to the first that is refused.
 fn read_batch<A: Allocator + Clone>(
@@ -92,11 +114,15 @@ fn read_batch<A: Allocator + Clone>(
         // A query that stands alone has no neighbours.
         return Ok(());
     }
-    let alloc = blocks.allocator();
-    let order = key_order(alloc.clone()?, queries)?;
-    let mut source = Keeping::new(blocks);
-    let lookups = find_lookups(&mut source, inner, queries, &order, alloc.clone()?)?;
-    read_ahead(blocks, inner, &mut source, queries, &lookups, batch)
+    let order = key_order(blocks.allocator().clone()?, queries)?;
+    read_ordered(
+        blocks,
+        inner,
+        &mut Keeping::new(blocks),
+        queries,
+        &order,
+        batch,
+    )
 }
 
 /// What was found, with the answers of reads for those queries that nothing is known of yet, in the
