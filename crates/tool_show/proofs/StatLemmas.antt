@@ -17,7 +17,13 @@ use Rattle.tool_show.specs.Stats.{named_line, shown_items, summary_text, title_l
 use Rattle.tool_show.specs.declared.facts.NamedPlace.{NamedPlace}
 use Rattle.tool_show.specs.declared.facts.Shown.{Shown}
 use Rattle.tool_show.specs.declared.stats.Parts.{Parts}
-use Rattle.std.specs.Prelude.{Option, None, Some, Result, Ok, Err, IfErr, false, map, nat_lt, if◌then◌else◌}
+use Rattle.std.specs.Prelude.{Option, None, Some, Result, Ok, Err, IfErr, IfOk, false, map, nat_lt}
+use Rattle.std.specs.Prelude.{if◌then◌else◌}
+use Rattle.lsm_block_indexes.specs.Dealt.{DealsEnding}
+use Rattle.lsm_block_indexes.specs.Index.{Index}
+use Rattle.lsm_block_indexes.specs.Kinds.{BackGives, FrontGives, IsReader, left_of}
+use Rattle.lsm_block_indexes.specs.declared.kinds.BlockIndexIterImpl.{BlockIndexIterImpl}
+use Rattle.lsm_readers.specs.BlockIndexes.{table_index}
 use Rattle.sst_blocks.specs.Block.{Loaded, entries_of}
 use Rattle.sst_entries.specs.Entry.{Entry}
 use Rattle.sst_entries.specs.declared.error.Error.{Error}
@@ -27,7 +33,7 @@ use Rattle.lsm_readers.specs.Meta.{item_told, value_told}
 use Rattle.lsm_readers.specs.Read.{◌>>=◌}
 use Rattle.lsm_readers.specs.Scan.{fault_of}
 use Rattle.sst_blocks.specs.Handle.{Handle}
-use Rattle.tool_show.specs.Stats.{is_missing, lies_at, low_first, part_line, part_lines}
+use Rattle.tool_show.specs.Stats.{data_handles, is_missing, lies_at, low_first, part_line, part_lines}
 use Rattle.tool_show.specs.Stats.{stored_number}
 use Rattle.tool_show.specs.declared.facts.Place.{Place}
 
@@ -48,6 +54,18 @@ meta_refused (Ok b) item e is other =
     let both : true ≡ false = sym (ap is_missing (missing (entries_of b) item e is)) ∙ other in
     absurd cc
 meta_refused (Err x) item e is other = let same : x ≡ e = cc in ap (λ (y : Error). Some y) same
+
+-- the handles that an index gives are those of the data blocks
+pub handles_told : {A : Type 0} (t : OpenTable) (r : Result (BlockIndexIterImpl A) Error)
+    (index : Index) → index ≡ table_index t → IfOk r (λ i. IsReader i index None None)
+    → IfOk r (λ i. DealsEnding FrontGives BackGives (λ _. Unit {0}) (λ _. Unit {0}) i
+    (data_handles t))
+handles_told t (Err e) index is reader = tt
+handles_told t (Ok i) index is reader =
+    let told : (left_of i).results ≡ data_handles t = reader.between.results
+    ∙ ap (λ (x : Index). x.told None None) (reader.index_is ∙ is) in
+    subst (λ (rs : List (Result Handle Error)). DealsEnding FrontGives BackGives (λ _. Unit {0})
+    (λ _. Unit {0}) i rs) told reader.deals
 
 -- one place more
 pub places_one : (ps : List Place) (came : List Handle) (x : Handle) (p : Place) (new : List Place)

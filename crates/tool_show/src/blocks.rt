@@ -25,7 +25,7 @@ use sst_blocks::{BlockHandle, BlockSource, BlockType, Error, IndexBlock, Opened,
 use std::alloc::Allocator;
 
 /// A block that a table names.
-#[derive(Clone, Copy, Debug)]
+#[derive(Clone, Copy)]
 pub(crate) struct NamedBlock {
     /// The section that it is a part of.
     pub(crate) section: SectionName,

@@ -52,7 +52,7 @@ impl Progress for NoProgress {
 }
 
 /// What came of reading a table.
-#[derive(Debug, Drop)]
+#[derive(Drop)]
 struct Looked {
     // How many blocks were read.
     blocks: u64,
@@ -131,31 +131,33 @@ fn look_at<A: Allocator + Clone, P: Progress>(table: &Table<A>, progress: &mut P
     ensures complete { (es : List Entry) → StoresList table.now.bytes es →
         IfErr result.verdict (λ e. e ≡ OutOfMemory) }
 {
-    match table.verification() {
-        Ok(verification) => look_on(verification, table.metadata.file_size, progress),
-        Err(_) => Looked {
+    let Ok(mut verification) = table.verification() else {
+        return Looked {
             blocks: 0,
             verdict: Err(VerifyError::OutOfMemory),
-        },
-    }
+        };
+    };
+    let looked = look_on(&mut verification, table.metadata.file_size, progress);
+    drop(verification);
+    looked
 }
 
 // Reads what a verification has before it. The data blocks have so many bytes in all.
 fn look_on<A: Allocator + Clone, P: Progress>(
-    mut verification: Steps<A>,
+    verification: &mut Steps<A>,
     all: u64,
     progress: &mut P,
 ) -> Looked
-    requires { all ≡ verification.table.parts.facts.file_size }
-    ensures reads { ReadsUpTo verification (P.moves progress.old) (P.moves progress.new)
+    requires { all ≡ verification.old.table.parts.facts.file_size }
+    ensures reads { ReadsUpTo verification.old (P.moves progress.old) (P.moves progress.new)
         result.blocks (λ v. IfErr result.verdict (λ e. Misses e (next_of v))) }
     ensures whole { IfOk result.verdict (λ _.
-        result.blocks ≡ min (steps_of verification) (2 ^ 64 - 1)) }
-    ensures told { let t = verification.table in
+        result.blocks ≡ min (steps_of verification.old) (2 ^ 64 - 1)) }
+    ensures told { let t = verification.old.table in
         Finds (λ (v : Verification). v) result.verdict (table_found (body_of t.bytes) t.parts) }
     ensures sound { IfOk result.verdict (λ _.
-        (es : List Entry) × StoresList verification.table.bytes es) }
-    ensures complete { (es : List Entry) → StoresList verification.table.bytes es →
+        (es : List Entry) × StoresList verification.old.table.bytes es) }
+    ensures complete { (es : List Entry) → StoresList verification.old.table.bytes es →
         IfErr result.verdict (λ e. e ≡ OutOfMemory) }
 {
     let mut blocks = 0u64;

@@ -3,7 +3,7 @@ use std::fmt;
 use tool_lines::word_for;
 
 /// So many, with the word for one and the word for more. It is shown as `1 block` or `2 blocks`.
-#[derive(Clone, Copy, Debug)]
+#[derive(Clone, Copy)]
 pub(crate) struct Counted {
     pub(crate) count: u64,
     pub(crate) one: &'static str,

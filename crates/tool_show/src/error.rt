@@ -29,24 +29,30 @@ impl<'a> fmt::Display for ShowError<'a> {
     fn fmt<W: fmt::Write>(&self, f: &mut fmt::Formatter<W>) -> fmt::Result {
         match self {
             ShowError::Output(error) => write!(f, "standard output: {error}"),
-            ShowError::OutOfMemory => write!(f, "out of memory"),
-            ShowError::Refused { name, at, error } => {
-                let number = error.number();
-                match at {
-                    RefusedAt::Block(place) => write!(f, "{name}: {place}: {error} ({number})"),
-                    RefusedAt::NoBlock | RefusedAt::NotSought => {
-                        write!(f, "{name}: {error} ({number})")
-                    }
-                }
-            }
+            ShowError::OutOfMemory => f.write_str("out of memory"),
+            ShowError::Refused { name, at, error } => write_refused(f, name, at, error),
         }
+    }
+}
+
+// What a file is refused, behind the block that it comes from, where that was found.
+fn write_refused<W: fmt::Write>(
+    f: &mut fmt::Formatter<W>,
+    name: &str,
+    at: &RefusedAt,
+    error: &Error,
+) -> fmt::Result {
+    let number = error.number();
+    match at {
+        RefusedAt::Block(place) => write!(f, "{name}: {place}: {error} ({number})"),
+        RefusedAt::NoBlock | RefusedAt::NotSought => write!(f, "{name}: {error} ({number})"),
     }
 }
 
 impl<'a> std::error::Error for ShowError<'a> {}
 
 /// What went wrong while one file was shown.
-#[derive(Debug, Drop)]
+#[derive(Drop)]
 pub(crate) enum Failure {
     /// Writing.
     Output(io::Error),

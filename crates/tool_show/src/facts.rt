@@ -7,15 +7,15 @@ ghost use Rattle.sst_entries.specs.Error.{is_memory};
 ghost use Rattle.sst_entries.specs.declared.error.Error.{Error as Refusal};
 ghost use Rattle.sst_entries.specs.declared.error.Error.TheVariants.{OutOfMemory};
 ghost use Rattle.lsm_block_indexes.specs.Dealt.{DealsEnding};
+ghost use Rattle.lsm_block_indexes.specs.Kinds.{BackGives, FrontGives};
 ghost use Rattle.tool_show.specs.Printed.{first_error};
 ghost use Rattle.tool_show.specs.Stats.{AreDataPlaces, data_handles, let_through, lies_at};
 ghost use Rattle.tool_show.specs.Stats.{named_as, section_place, sections_told, spread_by};
 ghost use Rattle.tool_show.specs.Stats.{stored_number, trailer_told};
-ghost use Rattle.std.specs.Iterator.{IsFinite};
 
 use crate::blocks::source_of;
 use crate::names::section_name;
-use lsm_block_indexes::{BlockIndex, BlockIndexIter};
+use lsm_block_indexes::{BlockIndex, BlockIndexIterImpl};
 use lsm_formats::ItemName;
 use lsm_readers::Table;
 use sst_blocks::{Error, KeyedBlockHandle, SectionName};
@@ -23,7 +23,7 @@ use sst_sections::{TRAILER_LEN, Toc};
 use std::alloc::Allocator;
 
 /// Where something lies in a file, in bytes.
-#[derive(Clone, Copy, Debug)]
+#[derive(Clone, Copy)]
 pub(crate) struct Place {
     /// Where it begins.
     pub(crate) offset: u64,
@@ -32,14 +32,14 @@ pub(crate) struct Place {
 }
 
 /// A section of a file.
-#[derive(Clone, Copy, Debug)]
+#[derive(Clone, Copy)]
 pub(crate) struct NamedPlace {
     pub(crate) name: &'static str,
     pub(crate) place: Place,
 }
 
 /// How an item of the meta block is shown.
-#[derive(Clone, Copy, Debug, PartialEq, Eq)]
+#[derive(Clone, Copy)]
 pub(crate) enum Shown {
     /// As a number, which is stored with its lowest byte first.
     Number,
@@ -164,27 +164,39 @@ pub(crate) fn blocks_of<A: Allocator + Copy>(
     ensures refused { IfErr result (λ e. is_memory e ≡ false →
         first_error (data_handles table.now) ≡ Some e) }
 {
+    let mut handles = handles_of(table)?;
+    let places = collect_places(alloc, &mut handles);
+    drop(handles);
+    places
+}
+
+// The handles of the data blocks. Refused for want of memory alone.
+fn handles_of<A: Allocator + Clone>(table: &Table<A>) -> Result<BlockIndexIterImpl<A>, Error>
+    ensures deals { IfOk result (λ handles. DealsEnding FrontGives BackGives
+        (λ _. Unit {0}) (λ _. Unit {0}) handles (data_handles table.now)) }
+    ensures err { IfErr result (λ e. e ≡ OutOfMemory) }
+{
     let index = table.block_index()?;
     let handles = index.iter();
     drop(index);
-    collect_places(alloc, handles?)
+    handles
 }
 
-fn collect_places<I: BlockIndexIter<A> + Drop, A: Allocator + Copy>(
+// Where the blocks of some handles lie. Refused as their first error, and for want of memory. It
+// names the type of the handles: a function that is generic in them is dear where it is called.
+fn collect_places<A: Allocator + Copy>(
     alloc: A,
-    handles: I,
+    handles: &mut BlockIndexIterImpl<A>,
 ) -> Result<Vec<Place, A>, Error>
-    requires can { I.can_next handles }
-    requires finite { IsFinite (I.remaining handles) }
-    ensures all { (rs : List (Result Handle Refusal)) → DealsEnding I.next_gives I.next_back_gives
-        (λ _. Unit {0}) (λ _. Unit {0}) handles rs → IfOk result (λ places.
+    ensures all { (rs : List (Result Handle Refusal)) → DealsEnding FrontGives BackGives
+        (λ _. Unit {0}) (λ _. Unit {0}) handles.old rs → IfOk result (λ places.
         (hs : List Handle) × (rs ≡ map (λ h. Ok h) hs) × (places.items ≡ map lies_at hs)) }
-    ensures refused { (rs : List (Result Handle Refusal)) →
-        DealsEnding I.next_gives I.next_back_gives (λ _. Unit {0}) (λ _. Unit {0}) handles rs →
+    ensures refused { (rs : List (Result Handle Refusal)) → DealsEnding FrontGives BackGives
+        (λ _. Unit {0}) (λ _. Unit {0}) handles.old rs →
         IfErr result (λ e. is_memory e ≡ false → first_error rs ≡ Some e) }
 {
     let mut places = Vec::new(alloc);
-    for handle in handles {
+    while let Some(handle) = handles.next() {
         places.push(place_of_block(&handle?))?;
     }
     Ok(places)
@@ -200,7 +212,7 @@ fn place_of_block<A: Allocator>(handle: &KeyedBlockHandle<A>) -> Place
 }
 
 /// A filter as it is spread over keys.
-#[derive(Clone, Copy, Debug)]
+#[derive(Clone, Copy)]
 pub(crate) struct Spread {
     /// Tenths of a bit for each key.
     pub(crate) tenths: u64,

@@ -116,7 +116,7 @@ fn add_loaded<A: Allocator>(
 }
 
 // Where the blocks lie that a read of a key asks, if it comes to them.
-#[derive(Clone, Copy, Debug)]
+#[derive(Clone, Copy)]
 struct AskedPlaces {
     // The block of the filter.
     filter: Option<BlockHandle>,
