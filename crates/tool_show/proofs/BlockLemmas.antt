@@ -1,10 +1,22 @@
 -- Blocks of handles, one after another.
-use Rattle.std.proofs.Common.{◌≡◌, ◌∙◌, ap, ℕ, zero, suc, ◌+◌, List, [], ◌∷◌, ◌++◌, map, take, arith}
+use Rattle.std.proofs.Common.{◌≡◌, sym, ◌∙◌, ap, ℕ, zero, suc, ◌+◌, ◌<◌, List, [], ◌∷◌, ◌++◌}
+use Rattle.std.proofs.Common.{append_assoc, arith, get_or, length, map, take}
 use Rattle.std.specs.Prelude.{Some}
-use Rattle.std.specs.List.{slice_get}
+use Rattle.std.specs.List.{flat_map, slice_get}
 use Rattle.std.specs.Option.{option_map}
 use Rattle.sst_blocks.specs.Handle.{Handle}
 use Rattle.sst_blocks.specs.Place.{Place, place_of}
+use Rattle.tool_show.proofs.TextLemmas.{parts_more}
+
+-- what is added for one more
+pub grown_more : {X Y : Type 0} (f : X → List Y) (xs : List X) (i : ℕ) (x : X)
+    (first before after : List Y) → i < length xs → x ≡ get_or xs i x
+    → before ≡ first ++ flat_map f (take i xs) → after ≡ before ++ f x
+    → after ≡ first ++ flat_map f (take (i + 1) xs)
+grown_more {X} {Y} f xs i x first before after h is so grows =
+    grows ∙ ap (λ (ys : List Y). ys ++ f x) so
+    ∙ append_assoc first (flat_map f (take i xs)) (f x)
+    ∙ ap (λ (ys : List Y). first ++ ys) (sym (parts_more f xs i x h is))
 
 -- one more place
 pub places_more : (hs : List Handle) (i : ℕ) (p : Place) → option_map place_of (slice_get hs i) ≡ Some p

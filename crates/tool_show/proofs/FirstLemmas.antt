@@ -1,5 +1,7 @@
 -- The first of some blocks that does not load with a refusal.
-use Rattle.std.proofs.Common.{◌≡◌, refl, ◌∙◌, ap, subst, inl, inr, ℕ, zero, suc, ◌+◌, ◌<◌, ◌≤◌}
+use Rattle.std.proofs.Common.{◌≡◌, refl, sym, ◌∙◌, ap, subst, inl, inr, ℕ, zero, suc, ◌+◌, ◌<◌, ◌≤◌}
+use Rattle.std.proofs.Common.{Bool, true, false}
+use Rattle.std.specs.Bool.{MatchBool}
 use Rattle.std.proofs.Common.{List, [], ◌∷◌, length, get_or, drop, arith}
 use Rattle.std.specs.Prelude.{◌≢◌, Option, None, Some}
 use Rattle.sst_entries.specs.declared.error.Error.{Error}
@@ -7,6 +9,16 @@ use Rattle.tool_show.specs.Failures.{IsFirstWith}
 use Rattle.tool_show.specs.Faults.{begin_of, block_fault}
 use Rattle.tool_show.specs.declared.blocks.NamedBlock.{NamedBlock}
 use Rattle.tool_show.specs.declared.places.BlockPlace.{BlockPlace}
+
+-- whether a fault is this refusal
+pub refused_so : (so : Bool) (fault told : Option Error) (e r : Error) → told ≡ fault
+    → told ≡ Some e → MatchBool so (e ≡ r) (e ≢ r)
+    → MatchBool so (fault ≡ Some r) (fault ≢ Some r)
+refused_so true fault told e r is some same =
+    sym is ∙ some ∙ ap (λ (x : Error). Some x) same
+refused_so false fault told e r is some other = λ both.
+    let pair : Some e ≡ Some r = sym some ∙ is ∙ both in
+    let one : e ≡ r = cc in other one
 
 -- behind a block that is not refused so
 pub first_behind : (body : List ℕ) (e : Error) (bs : List NamedBlock) (i : ℕ) (b : NamedBlock)

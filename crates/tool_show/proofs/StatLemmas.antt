@@ -2,7 +2,7 @@
 use Rattle.std.proofs.Common.{◌≡◌, refl, sym, ◌∙◌, ap, ℕ, zero, suc, ◌+◌, ◌-◌, ◌^◌, List, [], ◌∷◌}
 use Rattle.std.proofs.Common.{◌++◌, length, append-nil, append_assoc, arith, rules, subst, get_or, drop, take}
 use Rattle.std.proofs.Common.{◌*◌, ◌<◌, ◌≤◌, Bool, min, true}
-use Rattle.std.proofs.lemmas.List.{length-append, map-append}
+use Rattle.std.proofs.lemmas.List.{length-append, map-append, take_more}
 use Rattle.std.proofs.lemmas.List.{length-drop, length-take}
 use Rattle.std.specs.Io.KnownBytes.{Appends}
 use Rattle.std.proofs.KnownBytes.{Appends-nil, Appends-trans}
@@ -303,11 +303,18 @@ gathered_last {X} {Y} h (x ∷ xs) n =
     ∙ sym (append_assoc (option_to_list (h x)) (filter_map h xs) (option_to_list (h n)))
     ∙ ap (λ (ys : List Y). ys ++ option_to_list (h n)) (sym (gathered_by h x xs (h x) refl))
 
--- one more
-pub gathered_more : {X Y : Type 0} (h : X → Option Y) (xs : List X) (n : X) (s t : List Y)
-    → s ≡ filter_map h xs → t ≡ s ++ option_to_list (h n) → t ≡ filter_map h (xs ++ n ∷ [])
-gathered_more {X} {Y} h xs n s t before is =
-    is ∙ ap (λ (ys : List Y). ys ++ option_to_list (h n)) before ∙ sym (gathered_last h xs n)
+-- one more of some that are gone through
+pub gathered_next : {X Y : Type 0} (h : X → Option Y) (xs : List X) (i : ℕ) (d : X)
+    (first before after : List Y) → i < length xs
+    → before ≡ first ++ filter_map h (take i xs)
+    → after ≡ before ++ option_to_list (h (get_or xs i d))
+    → after ≡ first ++ filter_map h (take (i + 1) xs)
+gathered_next {X} {Y} h xs i d first before after k so grows =
+    let x = get_or xs i d in
+    grows ∙ ap (λ (ys : List Y). ys ++ option_to_list (h x)) so
+    ∙ append_assoc first (filter_map h (take i xs)) (option_to_list (h x))
+    ∙ ap (λ (ys : List Y). first ++ ys) (sym (gathered_last h (take i xs) x)
+    ∙ ap (filter_map h) (sym (take_more xs i d k)))
 
 -- ---- texts
 

@@ -1,11 +1,9 @@
 //! The entries of files, a line each.
 ghost use Rattle.std.specs.Prelude.{◌≡◌, ◌-◌, IfErr, IfOk, List, OnOk, Some, false, length, true};
 ghost use Rattle.sst_entries.specs.Entry.{Entry};
-ghost use Rattle.sst_entries.specs.Point.{within};
 ghost use Rattle.sst_entries.specs.Stream.{CanDeal};
 ghost use Rattle.lsm_block_indexes.specs.Dealt.{DealsEnding};
 ghost use Rattle.lsm_readers.specs.Stored.{StoresList};
-ghost use Rattle.lsm_readers.specs.Words.{lift, range_told};
 ghost use Rattle.lsm_runs.specs.RunLists.{DealsList};
 ghost use Rattle.tool_show.specs.Failures.{BlamesNoFile, FailsAs, IfNamed, IfRefusal, NamesNone};
 ghost use Rattle.tool_show.specs.Failures.{NamesOnly};
@@ -106,12 +104,8 @@ fn dump_table<A: Allocator + Copy, W: Write>(
         (W.contents output.old) (W.contents output.new))) }
 {
     let bounds = bounds_of(alloc, options)?;
-    let lines = Lines {
-        alloc,
-        format: options.format,
-        left,
-    };
-    dump_range(output, table, bounds, options.reverse, lines)
+    let items = table.range(bounds.0, bounds.1)?;
+    dump_items(alloc, output, items, options, left)
 }
 
 // The bounds of the keys that are asked for. Refused for want of memory alone.
@@ -134,77 +128,39 @@ fn bounds_of<A: Allocator + Copy>(
     Ok((lower, upper))
 }
 
-// How lines are written, and how many more.
-#[derive(Clone, Copy)]
-struct Lines<A> {
-    alloc: A,
-    format: Format,
-    left: u64,
-}
-
-fn dump_range<A: Allocator + Copy, W: Write>(
-    output: &mut W,
-    table: &Table<A>,
-    bounds: (Bound<UserKey<A>>, Bound<UserKey<A>>),
-    reverse: bool,
-    lines: Lines<A>,
-) -> Result<u64, Failure>
-    ensures told { OnOk result (PrintsResults lines.format
-        (dumped reverse lines.left (range_told table.now bounds.0 bounds.1))
-        (W.contents output.old) (W.contents output.new)) }
-    ensures printed { let t = table.now in (es : List Entry) → StoresList t.bytes es →
-        OnOk result (PrintsLines lines.format
-        (dumped reverse lines.left (within bounds.0 bounds.1 (lift es t.global_seqno)))
-        (W.contents output.old) (W.contents output.new)) }
-    ensures left { let t = table.now in (es : List Entry) → StoresList t.bytes es →
-        IfOk result (λ rest. rest ≡ lines.left
-        - length (dumped reverse lines.left (within bounds.0 bounds.1 (lift es t.global_seqno)))) }
-    ensures rest { IfOk result (λ rest. rest ≡ lines.left
-        - length (dumped reverse lines.left (range_told table.now bounds.0 bounds.1))) }
-    ensures refused { let read = range_told table.now bounds.0 bounds.1 in
-        IfErr result (FailsAs (λ e. first_error (dumped reverse lines.left read) ≡ Some e)) }
-    ensures sound { (es : List Entry) → StoresList table.now.bytes es →
-        IfErr result BlamesNoFile }
-    ensures before { let all = dumped reverse lines.left (range_told table.now bounds.0 bounds.1) in
-        IfErr result (IfRefusal (PrintsLines lines.format (before_error all)
-        (W.contents output.old) (W.contents output.new))) }
-{
-    let items = table.range(bounds.0, bounds.1)?;
-    dump_items(output, items, reverse, lines)
-}
-
 // Generic in what has the entries, so that its parts are looked at once.
 fn dump_items<I: DoubleEndedIterator<Item = IterItem<A>> + Drop, A: Allocator + Copy, W: Write>(
+    alloc: A,
     output: &mut W,
     mut items: I,
-    reverse: bool,
-    lines: Lines<A>,
+    options: &DumpOptions<'_>,
+    most: u64,
 ) -> Result<u64, Failure>
     requires can { CanDeal I.next_gives I.next_back_gives I.can_next I.can_next_back items }
     // The first of what is dealt are entries, and printed, or the last of it from the end on.
     ensures printed { (rs : List Outcome) → DealsTo I.next_gives I.next_back_gives rs items →
-        OnOk result (PrintsResults lines.format (dumped reverse lines.left rs)
+        OnOk result (PrintsResults options.now.format (dumped options.now.reverse most rs)
         (W.contents output.old) (W.contents output.new)) }
     ensures left { (rs : List Outcome) → DealsTo I.next_gives I.next_back_gives rs items →
-        IfOk result (λ rest. rest ≡ lines.left - length (dumped reverse lines.left rs)) }
+        IfOk result (λ rest. rest ≡ most - length (dumped options.now.reverse most rs)) }
     // A refusal is the first error of what is dealt up to that.
     ensures refused { (rs : List Outcome) → DealsEnding I.next_gives I.next_back_gives
         (λ _. Unit {0}) (λ _. Unit {0}) items rs →
-        IfErr result (FailsAs (λ e. first_error (dumped reverse lines.left rs) ≡ Some e)) }
+        IfErr result (FailsAs (λ e. first_error (dumped options.now.reverse most rs) ≡ Some e)) }
     ensures sound { (es : List Entry) → DealsList I.next_gives I.next_back_gives es items →
         IfErr result BlamesNoFile }
     ensures before { (rs : List Outcome) → DealsEnding I.next_gives I.next_back_gives
         (λ _. Unit {0}) (λ _. Unit {0}) items rs →
-        IfErr result (IfRefusal (PrintsLines lines.format
-        (before_error (dumped reverse lines.left rs))
+        IfErr result (IfRefusal (PrintsLines options.now.format
+        (before_error (dumped options.now.reverse most rs))
         (W.contents output.old) (W.contents output.new))) }
 {
-    let mut left = lines.left;
+    let mut left = most;
     // What stands behind the last of them is not read.
     while left > 0 {
-        match take_item(&mut items, reverse) {
+        match take_item(&mut items, options.reverse) {
             None => return Ok(left),
-            Some(item) => print_entry(output, &item?, lines)?,
+            Some(item) => print_entry(alloc, output, &item?, options.format)?,
         }
         left -= 1;
     }
@@ -229,16 +185,17 @@ fn take_item<I: DoubleEndedIterator<Item = IterItem<A>>, A: Allocator>(
 }
 
 fn print_entry<A: Allocator + Copy, W: Write>(
+    alloc: A,
     output: &mut W,
     item: &InternalValue<A>,
-    lines: Lines<A>,
+    format: Format,
 ) -> Result<(), Failure>
-    ensures printed { OnOk result (PrintsLine lines.format item.now
+    ensures printed { OnOk result (PrintsLine format item.now
         (W.contents output.old) (W.contents output.new)) }
     ensures sound { IfErr result BlamesNoFile }
 {
     let entry = item.as_entry_ref();
-    let text = append_entry(lines.alloc, Vec::new(lines.alloc), &entry, lines.format)?;
+    let text = append_entry(alloc, Vec::new(alloc), &entry, format)?;
     output.write_all(&text)?;
     Ok(())
 }

@@ -1,6 +1,7 @@
 //! What a table says of itself, as plain values.
 ghost use Rattle.std.specs.Prelude.{◌≡◌, ◌++◌, ℕ, IfErr, IfOk, List, Ok, OnOk, Result, Some};
 ghost use Rattle.std.specs.Prelude.{false, map, option_to_list};
+ghost use Rattle.std.specs.List.{filter_map};
 ghost use Rattle.sst_sections.specs.Sections.{section_in, section_names};
 ghost use Rattle.sst_blocks.specs.Handle.{Handle};
 ghost use Rattle.sst_entries.specs.Error.{is_memory};
@@ -80,6 +81,17 @@ pub(crate) const ITEMS: [(ItemName, Shown); 29] = [
     (ItemName::WeakTombstoneReclaimable, Shown::Number),
 ];
 
+// The sections, in the order of the trailer.
+const SECTIONS: [SectionName; 7] = [
+    SectionName::Data,
+    SectionName::Index,
+    SectionName::Tli,
+    SectionName::Filter,
+    SectionName::FilterTli,
+    SectionName::TableVersion,
+    SectionName::Meta,
+];
+
 /// The number of bytes that are stored with the lowest first, where it is below 2^64.
 pub(crate) fn little_endian(bytes: &[u8]) -> Option<u64>
     ensures { result ≡ stored_number bytes.now }
@@ -107,15 +119,26 @@ pub(crate) fn sections_of<A: Allocator + Copy>(
 {
     let toc = source_of(alloc, table)?.toc();
     let mut sections = Vec::new(alloc);
-    add_section(&mut sections, &toc, SectionName::Data)?;
-    add_section(&mut sections, &toc, SectionName::Index)?;
-    add_section(&mut sections, &toc, SectionName::Tli)?;
-    add_section(&mut sections, &toc, SectionName::Filter)?;
-    add_section(&mut sections, &toc, SectionName::FilterTli)?;
-    add_section(&mut sections, &toc, SectionName::TableVersion)?;
-    add_section(&mut sections, &toc, SectionName::Meta)?;
+    add_sections(&mut sections, &toc, &SECTIONS)?;
     sections.push(trailer_of(table.file_len()))?;
     Ok(sections)
+}
+
+// Adds those of some sections that there are.
+fn add_sections<A: Allocator>(
+    sections: &mut Vec<NamedPlace, A>,
+    toc: &Toc,
+    names: &[SectionName],
+) -> Result<(), Error>
+    ensures all { (bytes : List ℕ) → toc.now ≡ map (section_in bytes) section_names →
+        OnOk result (map named_as sections.new.items
+        ≡ map named_as sections.old.items ++ filter_map (section_place bytes) names.now) }
+    ensures err { IfErr result (λ e. e ≡ OutOfMemory) }
+{
+    for name in names {
+        add_section(sections, toc, *name)?;
+    }
+    Ok(())
 }
 
 // Adds a section, where there is one.

@@ -103,9 +103,16 @@ fn is_refused_so<A: Allocator + Clone>(
     ensures err { IfErr result (λ e. e ≡ OutOfMemory) }
 {
     match refusal_of(source, block)? {
-        Some(error) => Ok(error == *refusal),
+        Some(error) => Ok(is_same(&error, refusal)),
         None => Ok(false),
     }
+}
+
+// Whether two refusals are one. Alone, since each pair of kinds is looked at.
+fn is_same(error: &Error, refusal: &Error) -> bool
+    ensures { MatchBool result (error.now ≡ refusal.now) (error.now ≢ refusal.now) }
+{
+    error == refusal
 }
 
 /// Where a named block begins.

@@ -12,8 +12,8 @@ use Rattle.tool_show.proofs.dumps.dump_items.Goals as goal
 pub loop-left-init : goal.loop-left-init
 loop-left-init g c = (
   c.requires.can,
-  λ stops rs deals. prints_none _ _ stops c.args.items c.args.reverse c.args.lines.left _ rs _ deals,
-  λ rs deals. let none = comes_none _ _ c.args.items c.args.reverse c.args.lines.left rs
+  λ stops rs deals. prints_none _ _ stops c.args.items c.args.options.now.reverse c.args.most _ rs _ deals,
+  λ rs deals. let none = comes_none _ _ c.args.items c.args.options.now.reverse c.args.most rs
       (ends_up _ _ _ _ c.args.items rs deals) in (none.0, no_line _ none.0.came _ none.1),
 )
 
@@ -26,15 +26,15 @@ take_item-requires-clause-can_back g c =
 
 pub loop-left-preserved : goal.loop-left-preserved
 loop-left-preserved g c = (
-  may_go_on _ _ _ _ c.loop-left.items c.take_item.new.items c.args.reverse _ c.loop-left.invariant.0
+  may_go_on _ _ _ _ c.loop-left.items c.take_item.new.items c.args.options.now.reverse _ c.loop-left.invariant.0
       c.in-Some.ensures.front c.in-Some.ensures.back,
-  λ stops rs deals. prints_one _ _ stops c.loop-left.items c.take_item.new.items c.args.reverse
+  λ stops rs deals. prints_one _ _ stops c.loop-left.items c.take_item.new.items c.args.options.now.reverse
       c.loop-left.left _ _ c.in-Some.item c.in_ok-item-in-Some.field-0 _ _ _ _
       c.loop-left-test.true c.in_ok-item-in-Some.was (c.loop-left.invariant.1 stops rs deals)
       c.in-Some.ensures.front c.in-Some.ensures.back c.in_ok-print_entry-in-Some.ensures.printed,
   λ rs deals.
       let before = c.loop-left.invariant.2 rs deals in
-      let now = comes_one _ _ c.loop-left.items c.take_item.new.items c.args.reverse c.loop-left.left
+      let now = comes_one _ _ c.loop-left.items c.take_item.new.items c.args.options.now.reverse c.loop-left.left
       c.in-Some.item c.in_ok-item-in-Some.field-0 _ c.loop-left-test.true c.in_ok-item-in-Some.was
       before.0 c.in-Some.ensures.front c.in-Some.ensures.back in (
         now.0,
@@ -46,10 +46,10 @@ loop-left-preserved g c = (
 pub returns-in-None : goal.returns-in-None
 returns-in-None g c = record {
   printed = λ rs deals. (prints_all _ _ (λ _. true) c.loop-left.items c.take_item.new.items
-      c.args.reverse c.loop-left.left _ _ _ _ _ (c.loop-left.invariant.1 (λ _. true) rs deals)
+      c.args.options.now.reverse c.loop-left.left _ _ _ _ _ (c.loop-left.invariant.1 (λ _. true) rs deals)
       c.in-None.ensures.front c.in-None.ensures.back).0;
   left = λ rs deals. (prints_all _ _ (λ _. true) c.loop-left.items c.take_item.new.items
-      c.args.reverse c.loop-left.left _ _ _ _ _ (c.loop-left.invariant.1 (λ _. true) rs deals)
+      c.args.options.now.reverse c.loop-left.left _ _ _ _ _ (c.loop-left.invariant.1 (λ _. true) rs deals)
       c.in-None.ensures.front c.in-None.ensures.back).1;
   refused = λ rs deals. tt;
   sound = λ es deals. tt;
@@ -58,10 +58,10 @@ returns-in-None g c = record {
 
 pub returns : goal.returns
 returns g c = record {
-  printed = λ rs deals. (prints_end _ _ (λ _. true) c.loop-left.items c.args.reverse
+  printed = λ rs deals. (prints_end _ _ (λ _. true) c.loop-left.items c.args.options.now.reverse
       c.loop-left.left _ _ _ _ _ c.loop-left-test.false
       (c.loop-left.invariant.1 (λ _. true) rs deals)).0;
-  left = λ rs deals. (prints_end _ _ (λ _. true) c.loop-left.items c.args.reverse
+  left = λ rs deals. (prints_end _ _ (λ _. true) c.loop-left.items c.args.options.now.reverse
       c.loop-left.left _ _ _ _ _ c.loop-left-test.false
       (c.loop-left.invariant.1 (λ _. true) rs deals)).1;
   refused = λ rs deals. tt;
@@ -73,7 +73,7 @@ pub returns-in_err-item-in-Some-clause-sound : goal.returns-in_err-item-in-Some-
 returns-in_err-item-in-Some-clause-sound g c = λ es deals.
     memory_blames_none c.from_residual.result c.in_err-item-in-Some.field-0.0
     c.from_residual.ensures.1
-    (error_is_memory _ _ c.loop-left.items c.take_item.new.items c.args.reverse c.loop-left.left _ _
+    (error_is_memory _ _ c.loop-left.items c.take_item.new.items c.args.options.now.reverse c.loop-left.left _ _
     c.in-Some.item c.in_err-item-in-Some.field-0.0 es _ _ c.loop-left-test.true
     c.in_err-item-in-Some.was
     (c.loop-left.invariant.1 is_memory (ok_results es) (deals is_memory refl))
@@ -82,7 +82,7 @@ returns-in_err-item-in-Some-clause-sound g c = λ es deals.
 pub returns-in_err-item-in-Some-clause-refused : goal.returns-in_err-item-in-Some-clause-refused
 returns-in_err-item-in-Some-clause-refused g c = λ rs deals.
     fails_as c.from_residual.result c.in_err-item-in-Some.field-0.0 _ c.from_residual.ensures.1
-    (λ other. (comes_error _ _ c.loop-left.items c.take_item.new.items c.args.reverse
+    (λ other. (comes_error _ _ c.loop-left.items c.take_item.new.items c.args.options.now.reverse
     c.loop-left.left c.in-Some.item c.in_err-item-in-Some.field-0.0 _ c.loop-left-test.true
     c.in_err-item-in-Some.was other (c.loop-left.invariant.2 rs deals).0
     c.in-Some.ensures.front c.in-Some.ensures.back).0)
@@ -92,7 +92,7 @@ returns-in_err-item-in-Some-clause-before g c = λ rs deals.
     let before = c.loop-left.invariant.2 rs deals in
     if_refused c.from_residual.result c.in_err-item-in-Some.field-0.0 _ c.from_residual.ensures.1
     (λ other. lines_before _ before.0.came _ _ _
-    (comes_error _ _ c.loop-left.items c.take_item.new.items c.args.reverse
+    (comes_error _ _ c.loop-left.items c.take_item.new.items c.args.options.now.reverse
     c.loop-left.left c.in-Some.item c.in_err-item-in-Some.field-0.0 _ c.loop-left-test.true
     c.in_err-item-in-Some.was other before.0 c.in-Some.ensures.front c.in-Some.ensures.back).1
     before.1)

@@ -15,15 +15,15 @@ invariant-loop-left g l =
     × ((stops : Error → Bool) (rs : List Outcome)
     → Deals (answer_stops stops) g.I.Iterator.next_gives g.I.DoubleEndedIterator.next_back_gives
     l.fn.items rs
-    → Prints g.I.Iterator.next_gives g.I.DoubleEndedIterator.next_back_gives stops l.items l.reverse
-    l.left l.fn.lines.left l.lines.format (dumped l.reverse l.fn.lines.left rs)
+    → Prints g.I.Iterator.next_gives g.I.DoubleEndedIterator.next_back_gives stops l.items l.options.reverse
+    l.left l.fn.most l.options.format (dumped l.options.reverse l.fn.most rs)
     (g.W.Write.contents l.fn.output) (g.W.Write.contents l.output))
     × ((rs : List Outcome)
     → DealsEnding g.I.Iterator.next_gives g.I.DoubleEndedIterator.next_back_gives (λ _. Unit {0})
     (λ _. Unit {0}) l.fn.items rs
     → (before : Comes g.I.Iterator.next_gives g.I.DoubleEndedIterator.next_back_gives l.items
-    l.reverse l.left (dumped l.reverse l.fn.lines.left rs))
-    × PrintsLines l.lines.format before.came (g.W.Write.contents l.fn.output)
+    l.options.reverse l.left (dumped l.options.reverse l.fn.most rs))
+    × PrintsLines l.options.format before.came (g.W.Write.contents l.fn.output)
     (g.W.Write.contents l.output))
 
 abbrev pub decreases-loop-left : goal.decreases-loop-left

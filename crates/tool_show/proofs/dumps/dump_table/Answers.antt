@@ -1,30 +1,40 @@
-use Rattle.std.proofs.Common.{sym}
+use Rattle.std.proofs.Common.{refl, sym, true}
+use Rattle.tool_show.proofs.DumpLemmas.{deals_to_error, entries_left, entries_printed}
 use Rattle.tool_show.proofs.dumps.dump_table.Goals as goal
+
+pub returns-clause-told : goal.returns-clause-told
+returns-clause-told g c =
+    rw (sym c.in_ok-bounds.ensures.lower, sym c.in_ok-bounds.ensures.upper)
+    (c.dump_items.ensures.printed _ (deals_to_error _ _ _ _ _ _ c.in_ok-items.ensures.deals))
 
 pub returns-clause-printed : goal.returns-clause-printed
 returns-clause-printed g c = λ es stores.
     rw (sym c.in_ok-bounds.ensures.lower, sym c.in_ok-bounds.ensures.upper)
-    (c.dump_range.ensures.printed es stores)
+    (entries_printed c.dump_items.result c.args.options.now.reverse c.args.left _
+    c.args.options.now.format _ _
+    (c.dump_items.ensures.printed _ (c.in_ok-items.ensures.list es stores (λ _. true) refl)))
 
 pub returns-clause-left : goal.returns-clause-left
 returns-clause-left g c = λ es stores.
     rw (sym c.in_ok-bounds.ensures.lower, sym c.in_ok-bounds.ensures.upper)
-    (c.dump_range.ensures.left es stores)
+    (entries_left c.dump_items.result c.args.options.now.reverse c.args.left _ c.args.left
+    (c.dump_items.ensures.left _ (c.in_ok-items.ensures.list es stores (λ _. true) refl)))
 
-pub returns-clause-told : goal.returns-clause-told
-returns-clause-told g c =
-    rw (sym c.in_ok-bounds.ensures.lower, sym c.in_ok-bounds.ensures.upper) c.dump_range.ensures.told
+pub returns-clause-sound : goal.returns-clause-sound
+returns-clause-sound g c = λ es stores.
+    c.dump_items.ensures.sound _ (c.in_ok-items.ensures.list es stores)
 
 pub returns-clause-refused : goal.returns-clause-refused
 returns-clause-refused g c =
     rw (sym c.in_ok-bounds.ensures.lower, sym c.in_ok-bounds.ensures.upper)
-    c.dump_range.ensures.refused
+    (c.dump_items.ensures.refused _ c.in_ok-items.ensures.deals)
 
 pub returns-clause-rest : goal.returns-clause-rest
 returns-clause-rest g c =
-    rw (sym c.in_ok-bounds.ensures.lower, sym c.in_ok-bounds.ensures.upper) c.dump_range.ensures.rest
+    rw (sym c.in_ok-bounds.ensures.lower, sym c.in_ok-bounds.ensures.upper)
+    (c.dump_items.ensures.left _ (deals_to_error _ _ _ _ _ _ c.in_ok-items.ensures.deals))
 
 pub returns-clause-before : goal.returns-clause-before
 returns-clause-before g c =
     rw (sym c.in_ok-bounds.ensures.lower, sym c.in_ok-bounds.ensures.upper)
-    c.dump_range.ensures.before
+    (c.dump_items.ensures.before _ c.in_ok-items.ensures.deals)
