@@ -22,15 +22,11 @@ use std::io::{self, Write};
 fn print_one<W: Write>(out: &mut W, compared: &Compared) -> io::Result<()> {
     let (moment, snapshot) = (compared.moment, compared.snapshot);
     let (gets, front, back) = (compared.gets, compared.front, compared.back);
-    write!(
-        out,
-        "{moment}, snapshot {snapshot}: {} gets, {} wrong; ",
-        gets.all, gets.wrong
-    )?;
     writeln!(
         out,
-        "from the front {}, {} wrong; from the back {}, {} wrong",
-        front.all, front.wrong, back.all, back.wrong
+        "{moment}, snapshot {snapshot}: {} gets, {} wrong; \
+         from the front {}, {} wrong; from the back {}, {} wrong",
+        gets.all, gets.wrong, front.all, front.wrong, back.all, back.wrong
     )
 }
 

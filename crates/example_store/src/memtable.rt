@@ -42,6 +42,13 @@ impl<A: Allocator + Clone> Memtable<A> {
         }
     }
 
+    /// Lets all entries go.
+    pub fn clear(&mut self)
+        ensures { self.new ≡ [] }
+    {
+        self.items.clear();
+    }
+
     /// How many entries there are.
     pub fn len(&self) -> usize
         ensures { result ≡ length self.now }

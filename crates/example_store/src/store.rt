@@ -254,30 +254,23 @@ impl<A: Allocator + Clone> Store<A> {
         ensures refused { IfErr result (λ e. is_memory e ≡ false →
             tables_fault self.old.ids self.old.target 0 self.old.recent ≡ Some e) }
     {
-        let fresh = Memtable::new(self.alloc.clone()?);
         let items = self.memtable.share(self.alloc.clone()?)?;
-        let (run, ids) = run_of(self.alloc.clone()?, self.ids, self.target, items)?;
+        let (run, ids) = run_of(&self.alloc, self.ids, self.target, items)?;
         match run {
-            Some(run) => self.put_in_front(run, ids, fresh),
+            Some(run) => self.put_in_front(run, ids),
             None => Ok(()),
         }
     }
 
     // Puts a run of the memtable's entries in front of the others, in place of them. Where it is
     // refused, the store has what it had.
-    fn put_in_front(
-        &mut self,
-        run: Arc<Run<Table<A>, A>, A>,
-        ids: TableIds,
-        fresh: Memtable<A>,
-    ) -> Result<(), Error>
+    fn put_in_front(&mut self, run: Arc<Run<Table<A>, A>, A>, ids: TableIds) -> Result<(), Error>
         requires list { HasList self.old.recent (arc_value run) }
         requires strict { IsStrict self.old.recent }
         requires own { IsOwnRun self.old.next (arc_value run) }
         requires cut { AreCutOf (run_label self.old.ids self.old.target 0) self.old.target
             self.old.recent 0 (arc_value run) }
         requires ids { ids ≡ ids_behind self.old.ids self.old.target (length (arc_value run)) }
-        requires empty { fresh ≡ [] }
         ensures story { (ws : List Entry) → IsTold self.old ws → IsTold self.new ws }
         ensures emptied { OnOk result (self.new.recent ≡ []) }
         ensures next { self.new.next ≡ self.old.next }
@@ -289,7 +282,7 @@ impl<A: Allocator + Clone> Store<A> {
         ensures memory { IfErr result (λ e. e ≡ OutOfMemory) }
     {
         self.runs.insert(0, run)?;
-        self.memtable = fresh;
+        self.memtable.clear();
         self.flushed = self.next;
         self.ids = ids;
         Ok(())
@@ -350,7 +343,7 @@ fn entry_of<A: Allocator + Clone>(
 // A run of a list that can be written, none where it has no entry, and the counter of ids behind
 // its tables.
 fn run_of<A: Allocator + Clone>(
-    alloc: A,
+    alloc: &A,
     ids: TableIds,
     target: u64,
     items: Vec<InternalValue<A>, A>,
@@ -370,21 +363,22 @@ fn run_of<A: Allocator + Clone>(
     ensures refused { IfErr result (λ e. is_memory e ≡ false →
         tables_fault ids target 0 items.items ≡ Some e) }
 {
-    let own = alloc.clone()?;
-    let (run, left) = write_run(own, ids, target, Timestamp::from(0), items, 0)?;
+    let created_at = Timestamp::from(0);
+    let (run, left) = write_run(alloc.clone()?, ids, target, created_at, items, 0)?;
     Ok((share_run(alloc, run)?, left))
 }
 
-// A run that can be shared, where there is one.
-fn share_run<A: Allocator + Clone>(
-    alloc: A,
-    run: Option<Run<Table<A>, A>>,
-) -> Result<Option<Arc<Run<Table<A>, A>, A>>, Error>
+// A run that can be shared, where there is one. It is generic in what a run is, so that none of its
+// parts is looked at.
+fn share_run<T: Drop, A: Allocator + Clone>(
+    alloc: &A,
+    run: Option<T>,
+) -> Result<Option<Arc<T, A>>, Error>
     ensures ok { IfOk result (λ shared. option_map arc_value shared ≡ run) }
     ensures memory { IfErr result (λ e. e ≡ OutOfMemory) }
 {
     match run {
-        Some(run) => Ok(Some(Arc::new(alloc, run)?)),
+        Some(run) => Ok(Some(Arc::new(alloc.clone()?, run)?)),
         None => Ok(None),
     }
 }

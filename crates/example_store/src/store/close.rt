@@ -53,7 +53,7 @@ impl<A: Allocator + Clone> Store<A> {
         ensures closed { IfOk result (IsClosed self.now) }
         ensures memory { IfErr result (λ e. e ≡ OutOfMemory) }
     {
-        let files = files_of(self.alloc.clone()?, &self.runs)?;
+        let files = files_of(&self.alloc, &self.runs)?;
         Ok(Closed {
             files,
             ids: self.ids,
@@ -65,7 +65,7 @@ impl<A: Allocator + Clone> Store<A> {
 
 // The bytes of the tables of some runs, shared.
 fn files_of<A: Allocator + Clone>(
-    alloc: A,
+    alloc: &A,
     runs: &[Arc<Run<Table<A>, A>, A>],
 ) -> Result<Vec<Vec<Slice<A>, A>, A>, Error>
     ensures files { IfOk result (λ files.
@@ -74,18 +74,18 @@ fn files_of<A: Allocator + Clone>(
 {
     let mut files = Vec::new(alloc.clone()?);
     for run in runs {
-        files.push(bytes_of(alloc.clone()?, run.as_slice())?)?;
+        files.push(bytes_of(alloc, run.as_slice())?)?;
     }
     Ok(files)
 }
 
 // The bytes of some tables, shared.
-fn bytes_of<A: Allocator + Clone>(alloc: A, tables: &[Table<A>]) -> Result<Vec<Slice<A>, A>, Error>
+fn bytes_of<A: Allocator + Clone>(alloc: &A, tables: &[Table<A>]) -> Result<Vec<Slice<A>, A>, Error>
     ensures files { IfOk result (λ files.
         files.items ≡ map (λ (t : OpenTable). t.bytes) tables.now) }
     ensures memory { IfErr result (λ e. e ≡ OutOfMemory) }
 {
-    let mut files = Vec::new(alloc);
+    let mut files = Vec::new(alloc.clone()?);
     for table in tables {
         files.push(table.bytes()?)?;
     }

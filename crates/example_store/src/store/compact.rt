@@ -47,14 +47,13 @@ impl<A: Allocator + Clone> Store<A> {
             tables_fault self.old.ids self.old.target 0
             (kept_in (rules_by (min watermark self.old.next) true false) lists) ≡ Some e) }
     {
-        let alloc = self.alloc.clone()?;
         let watermark = watermark.min(self.next);
         let rules = Rules {
             watermark,
             evict: true,
             zeroing: false,
         };
-        let (runs, ids) = compacted(alloc, &self.runs, rules, self.ids, self.target)?;
+        let (runs, ids) = compacted(&self.alloc, &self.runs, rules, self.ids, self.target)?;
         self.runs = runs;
         self.ids = ids;
         self.oldest = self.oldest.max(watermark);
@@ -80,7 +79,7 @@ impl<A: Allocator + Clone> Store<A> {
         ensures err { OnErr result (self.new ≡ self.old) }
         ensures memory { IfErr result (λ e. e ≡ OutOfMemory) }
     {
-        let packed = packed(self.alloc.clone()?, &self.runs)?;
+        let packed = packed(&self.alloc, &self.runs)?;
         self.runs = packed;
         Ok(())
     }
@@ -89,7 +88,7 @@ impl<A: Allocator + Clone> Store<A> {
 // What is kept of some runs, as one run, or none where nothing is kept; and the counter of ids
 // behind its tables.
 pub(crate) fn compacted<A: Allocator + Clone>(
-    alloc: A,
+    alloc: &A,
     runs: &[Arc<Run<Table<A>, A>, A>],
     rules: Rules,
     ids: TableIds,
@@ -114,16 +113,16 @@ pub(crate) fn compacted<A: Allocator + Clone>(
         IfErr result (λ e. is_memory e ≡ false →
         tables_fault ids target 0 (kept_in rules lists) ≡ Some e) }
 {
-    let own = alloc.clone()?;
-    let (run, left) = compact_to_run(own, runs, rules, ids, target, Timestamp::from(0))?;
+    let created_at = Timestamp::from(0);
+    let (run, left) = compact_to_run(alloc.clone()?, runs, rules, ids, target, created_at)?;
     Ok((at_most_one(alloc, run)?, left))
 }
 
-// One run that can be shared, or none.
-fn at_most_one<A: Allocator + Clone>(
-    alloc: A,
-    run: Option<Run<Table<A>, A>>,
-) -> Result<Runs<A>, Error>
+// One value that can be shared, or none. It is generic in it, so that no part of a run is looked at.
+fn at_most_one<T: Drop, A: Allocator + Clone>(
+    alloc: &A,
+    run: Option<T>,
+) -> Result<Vec<Arc<T, A>, A>, Error>
     ensures ok { IfOk result (λ shared. map arc_value shared.items ≡ option_list run) }
     ensures few { IfOk result (λ shared. length shared.items ≤ 1) }
     ensures memory { IfErr result (λ e. e ≡ OutOfMemory) }
@@ -132,13 +131,13 @@ fn at_most_one<A: Allocator + Clone>(
     let Some(run) = run else {
         return Ok(shared);
     };
-    shared.push(Arc::new(alloc, run)?)?;
+    shared.push(Arc::new(alloc.clone()?, run)?)?;
     Ok(shared)
 }
 
 // The tables of some runs in the fewest runs.
 fn packed<A: Allocator + Clone>(
-    alloc: A,
+    alloc: &A,
     runs: &[Arc<Run<Table<A>, A>, A>],
 ) -> Result<Runs<A>, Error>
     ensures tables { IfOk result (λ packed.
@@ -159,11 +158,11 @@ fn packed<A: Allocator + Clone>(
     share_all(alloc, packed)
 }
 
-// Runs that can be shared.
-fn share_all<A: Allocator + Clone>(
-    alloc: A,
-    runs: Vec<Run<Table<A>, A>, A>,
-) -> Result<Runs<A>, Error>
+// Runs that can be shared. It is generic in what a run is, as above.
+fn share_all<T: Drop, A: Allocator + Clone>(
+    alloc: &A,
+    runs: Vec<T, A>,
+) -> Result<Vec<Arc<T, A>, A>, Error>
     ensures ok { IfOk result (λ shared. map arc_value shared.items ≡ runs.items) }
     ensures memory { IfErr result (λ e. e ≡ OutOfMemory) }
 {

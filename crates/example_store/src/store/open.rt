@@ -26,7 +26,7 @@ use std::alloc::{AllocError, AllocFailed, Allocator};
 use std::sync::Arc;
 
 /// What is wrong with a file of a store.
-#[derive(Debug, Drop, PartialEq, Eq)]
+#[derive(Debug, Drop)]
 pub enum FileFault {
     /// It does not open as a table.
     Unopened(Error),
@@ -42,7 +42,7 @@ pub enum FileFault {
 
 /// Why a store is not opened. A run has the place that it has among the runs, a file that in its
 /// run.
-#[derive(Debug, Drop, PartialEq, Eq)]
+#[derive(Debug, Drop)]
 pub enum OpenError {
     /// Memory is wanted: nothing is said of the files.
     OutOfMemory,
@@ -119,8 +119,8 @@ impl<A: Allocator + Clone> Store<A> {
         ensures refused { IfErr result (IsOpenFault closed.now) }
     {
         test_numbers(closed.next, closed.oldest)?;
-        let runs = open_runs(alloc.clone()?, &closed.files, closed.next)?;
-        test_order(alloc.clone()?, &runs)?;
+        let runs = open_runs(&alloc, &closed.files, closed.next)?;
+        test_order(&alloc, &runs)?;
         let memtable = Memtable::new(alloc.clone()?);
         Ok(Store {
             alloc,
@@ -155,7 +155,7 @@ fn test_numbers(next: SeqNo, oldest: SeqNo) -> Result<(), OpenError>
 
 // The runs of some files, where each may be a store's.
 fn open_runs<A: Allocator + Clone>(
-    alloc: A,
+    alloc: &A,
     files: &[Vec<Slice<A>, A>],
     next: SeqNo,
 ) -> Result<Runs<A>, OpenError>
@@ -169,7 +169,7 @@ fn open_runs<A: Allocator + Clone>(
 {
     let mut runs = Vec::new(alloc.clone()?);
     for run in files {
-        let opened = open_run(alloc.clone()?, run.as_slice(), next, runs.len())?;
+        let opened = open_run(alloc, run.as_slice(), next, runs.len())?;
         runs.push(Arc::new(alloc.clone()?, opened)?)?;
     }
     Ok(runs)
@@ -177,7 +177,7 @@ fn open_runs<A: Allocator + Clone>(
 
 // The run of some files, where it may be a store's.
 fn open_run<A: Allocator + Clone>(
-    alloc: A,
+    alloc: &A,
     files: &[Slice<A>],
     next: SeqNo,
     place: usize,
@@ -317,7 +317,7 @@ fn test_entries<A: Allocator + Clone>(
 
 // Tests that no two entries of some runs have one key and one number.
 fn test_order<A: Allocator + Clone>(
-    alloc: A,
+    alloc: &A,
     runs: &[Arc<Run<Table<A>, A>, A>],
 ) -> Result<(), OpenError>
     requires some { AllByRecursion (λ (run : List OpenTable). 0 < length run)

@@ -1,11 +1,13 @@
 //! Whether the entries of runs come in strict order together.
-ghost use Rattle.std.specs.Prelude.{◌≡◌, ◌<◌, ◌↔◌, All, IfErr, IfOk, IsTrue, List, length, map};
+ghost use Rattle.std.specs.Prelude.{◌≡◌, ◌<◌, ◌↔◌, All, IfErr, IfOk, IsTrue, List, Some, length};
+ghost use Rattle.std.specs.Prelude.{map};
 ghost use Rattle.std.specs.Arc.{arc_value};
 ghost use Rattle.std.specs.Iterator.{IsFinite};
 ghost use Rattle.std.specs.List.{AllByRecursion};
 ghost use Rattle.logpurple.specs.Words.{CanDeal, DealTogether, DealsList, Entry, HaveEntries};
 ghost use Rattle.logpurple.specs.Words.{HoldLists, IsStrict, OpenTable, OutOfMemory};
 ghost use Rattle.logpurple.specs.Words.{RunsHoldLists, joined, nowhere, union_in};
+ghost use Rattle.logpurple.proofs.Laws.{may_follow};
 
 use logpurple::{Error, InternalValue, IterItem, Merger, Run, RunScanner, Table};
 use std::alloc::Allocator;
@@ -14,7 +16,7 @@ use std::sync::Arc;
 /// Whether the sorted entries of some runs are in strict order: no key is there twice under one
 /// number. Each table is read once. Refused as its tables' scans are, and for want of memory.
 pub fn are_strict<A: Allocator + Clone>(
-    alloc: A,
+    alloc: &A,
     runs: &[Arc<Run<Table<A>, A>, A>],
 ) -> Result<bool, Error>
     requires some { AllByRecursion (λ (run : List OpenTable). 0 < length run)
@@ -26,14 +28,14 @@ pub fn are_strict<A: Allocator + Clone>(
         RunsHoldLists (map arc_value runs.now) lists → AllByRecursion HaveEntries lists →
         IfErr result (λ e. e ≡ OutOfMemory) }
 {
-    let scanners = scanners_of(alloc.clone()?, runs)?;
+    let scanners = scanners_of(alloc, runs)?;
     let entries = merged(alloc, scanners)?;
     comes_in_order(entries)
 }
 
 // A scanner of each run.
 fn scanners_of<A: Allocator + Clone>(
-    alloc: A,
+    alloc: &A,
     runs: &[Arc<Run<Table<A>, A>, A>],
 ) -> Result<Vec<RunScanner<A>, A>, Error>
     requires some { AllByRecursion (λ (run : List OpenTable). 0 < length run)
@@ -46,7 +48,7 @@ fn scanners_of<A: Allocator + Clone>(
         RunsHoldLists (map arc_value runs.now) lists → AllByRecursion HaveEntries lists →
         IfErr result (λ e. e ≡ OutOfMemory) }
 {
-    let mut scanners = Vec::new(alloc);
+    let mut scanners = Vec::new(alloc.clone()?);
     for run in runs {
         scanners.push(scanner_of(run)?)?;
     }
@@ -67,7 +69,7 @@ fn scanner_of<A: Allocator + Clone>(run: &Arc<Run<Table<A>, A>, A>) -> Result<Ru
 
 // Several sources as one. It is generic in these, so that none of a scanner's parts is looked at.
 fn merged<I: Iterator<Item = IterItem<A>>, A: Allocator + Clone>(
-    alloc: A,
+    alloc: &A,
     sources: Vec<I, A>,
 ) -> Result<Merger<I, A>, Error>
     ensures can { All (CanDeal I.next_gives nowhere I.can_next I.can_next) sources.items →
@@ -79,7 +81,7 @@ fn merged<I: Iterator<Item = IterItem<A>>, A: Allocator + Clone>(
         IfOk result (DealsList gives nowhere (union_in lists)) }
     ensures memory { IfErr result (λ e. e ≡ OutOfMemory) }
 {
-    Merger::new(alloc, sources)
+    Merger::new(alloc.clone()?, sources)
 }
 
 // Whether each entry of a stream comes strictly after the one before it. Refused as the stream is.
@@ -95,11 +97,19 @@ fn comes_in_order<I: Iterator<Item = IterItem<A>> + Drop, A: Allocator>(
 {
     let mut last: Option<InternalValue<A>> = None;
     for item in items {
-        let item = item?;
-        if !item.may_follow(last.as_ref()) {
+        if !comes_next(&mut last, item?) {
             return Ok(false);
         }
-        last = Some(item);
     }
     Ok(true)
+}
+
+// Whether an entry may come after the last one. It is the last one then.
+fn comes_next<A: Allocator>(last: &mut Option<InternalValue<A>>, item: InternalValue<A>) -> bool
+    ensures follows { result ≡ may_follow last.old item }
+    ensures last { last.new ≡ Some item }
+{
+    let follows = item.may_follow(last.as_ref());
+    *last = Some(item);
+    follows
 }

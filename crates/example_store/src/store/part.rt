@@ -8,7 +8,7 @@ ghost use Rattle.logpurple.specs.Words.{Entry, OutOfMemory, RunsHoldLists, is_me
 ghost use Rattle.logpurple.specs.Words.{rules_by, tables_fault};
 
 use crate::store::Store;
-use crate::store::compact::{Runs, compacted};
+use crate::store::compact::compacted;
 use logpurple::{Error, Rules, Run, SeqNo, Table, TableIds};
 use std::alloc::Allocator;
 use std::sync::Arc;
@@ -41,7 +41,6 @@ impl<A: Allocator + Clone> Store<A> {
             tables_fault self.old.ids self.old.target 0
             (kept_in (rules_by (min watermark self.old.next) false false) lists) ≡ Some e) }
     {
-        let alloc = self.alloc.clone()?;
         let watermark = watermark.min(self.next);
         let (front, part, behind) = cut_out(&self.runs, from, to);
         let rules = Rules {
@@ -49,9 +48,8 @@ impl<A: Allocator + Clone> Store<A> {
             evict: false,
             zeroing: false,
         };
-        let own = alloc.clone()?;
-        let (made, ids) = compacted(own, part, rules, self.ids, self.target)?;
-        let runs = side_by_side(alloc, front, &made, behind)?;
+        let (made, ids) = compacted(&self.alloc, part, rules, self.ids, self.target)?;
+        let runs = side_by_side(&self.alloc, front, &made, behind)?;
         self.runs = runs;
         self.ids = ids;
         self.oldest = self.oldest.max(watermark);
@@ -78,10 +76,10 @@ fn cut_out<A: Allocator>(
     (front, part, behind)
 }
 
-// Shares runs behind others.
-fn share_behind<A: Allocator>(
-    shared: &mut Runs<A>,
-    runs: &[Arc<Run<Table<A>, A>, A>],
+// Shares runs behind others. It is generic in what a run is, so that none of its parts is looked at.
+fn share_behind<T: Drop, A: Allocator>(
+    shared: &mut Vec<Arc<T, A>, A>,
+    runs: &[Arc<T, A>],
 ) -> Result<(), Error>
     ensures runs { OnOk result (map arc_value shared.new.items
         ≡ map arc_value shared.old.items ++ map arc_value runs.now) }
@@ -94,17 +92,17 @@ fn share_behind<A: Allocator>(
 }
 
 // Runs side by side, shared.
-fn side_by_side<A: Allocator>(
-    alloc: A,
-    front: &[Arc<Run<Table<A>, A>, A>],
-    made: &[Arc<Run<Table<A>, A>, A>],
-    behind: &[Arc<Run<Table<A>, A>, A>],
-) -> Result<Runs<A>, Error>
+fn side_by_side<T: Drop, A: Allocator + Clone>(
+    alloc: &A,
+    front: &[Arc<T, A>],
+    made: &[Arc<T, A>],
+    behind: &[Arc<T, A>],
+) -> Result<Vec<Arc<T, A>, A>, Error>
     ensures runs { IfOk result (λ runs. map arc_value runs.items
         ≡ map arc_value front.now ++ (map arc_value made.now ++ map arc_value behind.now)) }
     ensures memory { IfErr result (λ e. e ≡ OutOfMemory) }
 {
-    let mut runs = Vec::new(alloc);
+    let mut runs = Vec::new(alloc.clone()?);
     share_behind(&mut runs, front)?;
     share_behind(&mut runs, made)?;
     share_behind(&mut runs, behind)?;

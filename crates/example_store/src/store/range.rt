@@ -1,10 +1,13 @@
 //! Ranges of a store at a snapshot.
-ghost use Rattle.std.specs.Prelude.{◌≡◌, ◌∷◌, ◌≤◌, IfErr, IfOk, List};
+ghost use Rattle.std.specs.Prelude.{◌≡◌, [], ◌∷◌, ◌≤◌, All, IfErr, IfOk, List};
+ghost use Rattle.std.specs.Iterator.{IsFinite};
 ghost use Rattle.example_store.specs.Story.{IsTold};
-ghost use Rattle.logpurple.specs.Words.{DealsList, Entry, OutOfMemory, RunsHoldLists, all_shown};
+ghost use Rattle.logpurple.specs.Words.{CanDeal, DealWithin, DealsList, Entry, IsStrict};
+ghost use Rattle.logpurple.specs.Words.{OutOfMemory, RunsHoldLists, all_shown};
 ghost use Rattle.logpurple.specs.Words.{newest, numbered_below, single, sort_entries, union_in};
 ghost use Rattle.logpurple.specs.Words.{within};
 
+use crate::memtable::Memtable;
 use crate::store::Store;
 use logpurple::{Error, IterItem, NewestOfSourcesAt, SeqNo, UserKey, range_sources_at};
 use std::alloc::Allocator;
@@ -41,9 +44,34 @@ impl<A: Allocator + Clone> Store<A> {
             ⟦<Range<A> as DoubleEndedIterator>⟧.can_next_back s) }
         ensures memory { IfErr result (λ e. e ≡ OutOfMemory) }
     {
-        let recent = self.memtable.within(self.alloc.clone()?, &bounds)?;
-        let mut sources = Vec::new(self.alloc.clone()?);
-        sources.push(recent)?;
-        range_sources_at(self.alloc.clone()?, &self.runs, sources, bounds, snapshot)
+        let alloc = self.alloc.clone()?;
+        let sources = source_of(&alloc, &self.memtable, &bounds)?;
+        range_sources_at(alloc, &self.runs, sources, bounds, snapshot)
     }
+}
+
+// The memtable's entries within two bounds, as the one further source of a range.
+fn source_of<A: Allocator + Clone>(
+    alloc: &A,
+    memtable: &Memtable<A>,
+    bounds: &(Bound<UserKey<A>>, Bound<UserKey<A>>),
+) -> Result<Vec<IntoIter<IterItem<A>, A>, A>, Error>
+    ensures list { let gives = ⟦<IntoIter<IterItem<A>, A> as Iterator>⟧.next_gives in
+        let back_gives = ⟦<IntoIter<IterItem<A>, A> as DoubleEndedIterator>⟧.next_back_gives in
+        IfOk result (λ sources. DealWithin gives back_gives bounds.now.0 bounds.now.1
+        sources.items (memtable.now ∷ [])) }
+    ensures strict { IfOk result (λ _. IsStrict memtable.now) }
+    ensures can { IfOk result (λ sources. All (CanDeal
+        ⟦<IntoIter<IterItem<A>, A> as Iterator>⟧.next_gives
+        ⟦<IntoIter<IterItem<A>, A> as DoubleEndedIterator>⟧.next_back_gives
+        ⟦<IntoIter<IterItem<A>, A> as Iterator>⟧.can_next
+        ⟦<IntoIter<IterItem<A>, A> as DoubleEndedIterator>⟧.can_next_back) sources.items) }
+    ensures ends { IfOk result (λ sources. All (λ s.
+        IsFinite (⟦<IntoIter<IterItem<A>, A> as Iterator>⟧.remaining s)) sources.items) }
+    ensures memory { IfErr result (λ e. e ≡ OutOfMemory) }
+{
+    let recent = memtable.within(alloc.clone()?, bounds)?;
+    let mut sources = Vec::new(alloc.clone()?);
+    sources.push(recent)?;
+    Ok(sources)
 }

@@ -4,7 +4,7 @@ use Rattle.std.specs.Arc.{arc_value}
 use Rattle.logpurple.specs.Words.{Entry, IsStrict, OpenTable, RunsHoldLists, all_shown, newest}
 use Rattle.logpurple.specs.Words.{numbered_below, single, sort_entries, union_in, within}
 use Rattle.example_store.specs.Story.{Holding, IsStore}
-use Rattle.example_store.proofs.Ranges.{dealt_as, dealt_told, one_source, range_told}
+use Rattle.example_store.proofs.Ranges.{dealt_as, dealt_told, range_told}
 use Rattle.example_store.proofs.store.Store.range.Goals as goal
 
 pub returns-clause-read : goal.returns-clause-read
@@ -17,9 +17,8 @@ returns-clause-read g c lists held =
     let recent : es ≡ s.recent = ap (λ (h : Holding). h.recent) is in
     let same : map arc_value c.deref.result.now ≡ s.runs = ap (map arc_value) c.deref.ensures.value ∙ ap (λ (h : Holding). h.runs) is in
     let hold = subst (λ (rs : List (List OpenTable)). RunsHoldLists rs lists) (sym same) held in
-    let sources = c.in_ok-push.ensures.items ∙ ap (λ xs. xs ++ c.in_ok-recent.recent ∷ []) c.new-sources.ensures.items in
     dealt_as _ _ c.range_sources_at.result (λ (xs : List Entry). newest (numbered_below c.args.snapshot (within low high (union_in (single xs ∷ lists))))) es s.recent recent
-    (c.range_sources_at.ensures.list lists hold (es ∷ []) (one_source _ _ low high _ c.in_ok-recent.recent es sources c.within.ensures.strict c.in_ok-recent.ensures.list))
+    (c.range_sources_at.ensures.list lists hold (es ∷ []) c.in_ok-sources.ensures.list)
 
 pub returns-clause-told : goal.returns-clause-told
 returns-clause-told g c ws told kept =
@@ -32,10 +31,9 @@ returns-clause-told g c ws told kept =
     let recent = ap (λ (h : Holding). h.recent) is in
     let same : map arc_value c.deref.result.now ≡ s.runs = ap (map arc_value) c.deref.ensures.value ∙ ap (λ (h : Holding). h.runs) is in
     let hold = subst (λ (rs : List (List OpenTable)). RunsHoldLists rs told.lists) (sym same) told.hold in
-    let sources = c.in_ok-push.ensures.items ∙ ap (λ xs. xs ++ c.in_ok-recent.recent ∷ []) c.new-sources.ensures.items in
     let found = newest (numbered_below below (within low high (union_in (map single (es ∷ []) ++ told.lists)))) in
     let says = all_shown (newest (numbered_below below (within low high (sort_entries ws)))) in
     dealt_told _ _ (λ (xs : List Entry). all_shown xs ≡ says) c.range_sources_at.result found
-    (c.range_sources_at.ensures.list told.lists hold (es ∷ []) (one_source _ _ low high _ c.in_ok-recent.recent es sources c.within.ensures.strict c.in_ok-recent.ensures.list))
+    (c.range_sources_at.ensures.list told.lists hold (es ∷ []) c.in_ok-sources.ensures.list)
     (subst (λ (xs : List Entry). all_shown (newest (numbered_below below (within low high (union_in (map single (xs ∷ []) ++ told.lists))))) ≡ says) (sym recent)
-    (range_told s ws low high below (subst IsStore is c.self.invariant) (subst IsStrict recent c.within.ensures.strict) told kept))
+    (range_told s ws low high below (subst IsStore is c.self.invariant) (subst IsStrict recent c.in_ok-sources.ensures.strict) told kept))

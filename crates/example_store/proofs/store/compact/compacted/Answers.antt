@@ -15,14 +15,14 @@ returns-clause-kept g c lists hold =
     let left = kept_in c.args.rules lists in
     let run = c.in_ok-run.run' in
     subst (HaveAll left) (sym c.in_ok-at_most_one.ensures.ok)
-    (made_of left run (run_list (run_label c.args.ids c.args.target c.from.result) c.args.target left run (c.in_ok-run.ensures.run lists hold) (c.in_ok-run.ensures.cut lists hold)))
+    (made_of left run (run_list (run_label c.args.ids c.args.target c.from-created_at.result) c.args.target left run (c.in_ok-run.ensures.run lists hold) (c.in_ok-run.ensures.cut lists hold)))
 
 pub returns-clause-own : goal.returns-clause-own
 returns-clause-own g c bound own =
     let all = own_run_lists bound (map arc_value c.args.runs.now) own in
     let left = kept_in c.args.rules all.lists in
     let run = c.in_ok-run.run' in
-    let label = run_label c.args.ids c.args.target c.from.result in
+    let label = run_label c.args.ids c.args.target c.from-created_at.result in
     let cut = c.in_ok-run.ensures.cut all.lists all.hold in
     subst (AllByRecursion (IsOwnRun bound)) (sym c.in_ok-at_most_one.ensures.ok)
     (listed_own bound run (cut_own bound label c.args.target left run
@@ -37,7 +37,7 @@ returns-clause-ids g c =
 
 pub returns-clause-cut : goal.returns-clause-cut
 returns-clause-cut g c lists hold =
-    let moment : c.from.result ≡ 0 = search rules in
+    let moment : c.from-created_at.result ≡ 0 = search rules in
     let left = kept_in c.args.rules lists in
     let ids = c.args.ids in
     let target = c.args.target in

@@ -13,7 +13,7 @@ comes_in_order-requires g c =
 
 pub returns-in_err-scanners-clause-memory : goal.returns-in_err-scanners-clause-memory
 returns-in_err-scanners-clause-memory g c lists held some =
-    wanted OutOfMemory c.from_residual-in_err-scanners.result c.in_err-scanners.field-0.0 c.from_residual-in_err-scanners.ensures.1 (c.in_err-scanners.ensures.memory lists held some)
+    wanted OutOfMemory c.from_residual.result c.in_err-scanners.field-0.0 c.from_residual.ensures.1 (c.in_err-scanners.ensures.memory lists held some)
 
 pub returns-clause-exact : goal.returns-clause-exact
 returns-clause-exact g c lists held some =

@@ -3,7 +3,7 @@ use Rattle.std.specs.Prelude.{Some}
 use Rattle.std.specs.Iterator.{IsFinite}
 use Rattle.logpurple.specs.Words.{DealsList}
 use Rattle.logpurple.proofs.Laws.{apart, may_follow, nowhere}
-use Rattle.example_store.proofs.Order.{comes_fine, comes_first, comes_last, comes_next, comes_out, only_memory}
+use Rattle.example_store.proofs.Order.{ComesOn, comes_fine, comes_first, comes_last, comes_next, comes_out, only_memory}
 use Rattle.example_store.proofs.store.order.comes_in_order.Goals as goal
 
 pub loop-item-init : goal.loop-item-init
@@ -20,15 +20,14 @@ pub loop-item-preserved : goal.loop-item-preserved
 loop-item-preserved g c =
     let next = g.I.Iterator.next_gives in
     let step = subst (λ r. next c.loop-item.item-iterator (Some r) c.next.new.self) c.in_ok-item.was c.in-Some.ensures.steps in
-    let given = c.may_follow.ensures in
-    let before = c.as_ref.ensures.value in
-    let view = c.item.view_is in
-    let answer = c.if-not-may_follow.false in
-    let follows : may_follow c.loop-item.last c.in_ok-item.item ≡ true = cc in
+    let given = c.comes_next.ensures.follows in
+    let answer = c.if-not-comes_next.false in
+    let follows : may_follow c.loop-item.last c.in_ok-item.field-0 ≡ true = cc in
     record {
       can = c.in-Some.ensures.goes.keeps;
       finite = (c.in-Some.ensures.goes.on c.loop-item.invariant.finite).1;
-      on = λ es deals. comes_next next es c.loop-item.last c.loop-item.item-iterator c.next.new.self c.in_ok-item.item (c.loop-item.invariant.on es deals) step follows;
+      on = λ es deals. subst (λ l. ComesOn next es l c.next.new.self) (sym c.comes_next.ensures.last)
+          (comes_next next es c.loop-item.last c.loop-item.item-iterator c.next.new.self c.in_ok-item.field-0 (c.loop-item.invariant.on es deals) step follows);
     }
 
 pub returns-in_err-item-clause-memory : goal.returns-in_err-item-clause-memory
@@ -39,17 +38,15 @@ returns-in_err-item-clause-memory g c es deals =
     only_memory c.from_residual.result f c.from_residual.ensures.1
     (comes_fine next es c.loop-item.last c.loop-item.item-iterator c.next.new.self f (c.loop-item.invariant.on es deals) step)
 
-pub returns-then-not-may_follow-clause-exact : goal.returns-then-not-may_follow-clause-exact
-returns-then-not-may_follow-clause-exact g c es deals =
+pub returns-then-not-comes_next-clause-exact : goal.returns-then-not-comes_next-clause-exact
+returns-then-not-comes_next-clause-exact g c es deals =
     let next = g.I.Iterator.next_gives in
     let step = subst (λ r. next c.loop-item.item-iterator (Some r) c.next.new.self) c.in_ok-item.was c.in-Some.ensures.steps in
-    let given = c.may_follow.ensures in
-    let before = c.as_ref.ensures.value in
-    let view = c.item.view_is in
-    let answer = c.if-not-may_follow.true in
-    let other : may_follow c.loop-item.last c.in_ok-item.item ≡ false = cc in (
+    let given = c.comes_next.ensures.follows in
+    let answer = c.if-not-comes_next.true in
+    let other : may_follow c.loop-item.last c.in_ok-item.field-0 ≡ false = cc in (
       λ wrong. absurd (apart false wrong refl),
-      λ strict. absurd (comes_out next es c.loop-item.last c.loop-item.item-iterator c.next.new.self c.in_ok-item.item (c.loop-item.invariant.on es deals) step other strict),
+      λ strict. absurd (comes_out next es c.loop-item.last c.loop-item.item-iterator c.next.new.self c.in_ok-item.field-0 (c.loop-item.invariant.on es deals) step other strict),
     )
 
 pub returns-clause-exact : goal.returns-clause-exact

@@ -24,7 +24,7 @@ loop-run-preserved g c =
 pub returns-in_err-scanner_of-clause-memory : goal.returns-in_err-scanner_of-clause-memory
 returns-in_err-scanner_of-clause-memory g c lists held some =
     let here = lists_at_place arc_value c.args.runs.now lists c.loop-run.run-index c.run-item.result held some c.loop-run-test.true c.run-item.is in
-    wanted OutOfMemory c.from_residual.result c.in_err-scanner_of.field-0.0 c.from_residual.ensures.1
+    wanted OutOfMemory c.from_residual-in_err-scanner_of.result c.in_err-scanner_of.field-0.0 c.from_residual-in_err-scanner_of.ensures.1
     (c.in_err-scanner_of.ensures.memory here.0 here.1 here.2)
 
 pub returns-clause-list : goal.returns-clause-list
