@@ -156,6 +156,36 @@ fn writer_of(alloc: Global, partitioned: bool) -> Result<Writer, Error> {
     }
 }
 
+// The table of a writer, if all was written and it has entries.
+pub(crate) fn finished(
+    writer: Writer,
+    wrote: Result<(), Error>,
+) -> Result<Option<FinishedTable>, Error> {
+    match wrote {
+        Ok(()) => writer.finish(),
+        Err(error) => {
+            drop(writer);
+            Err(error)
+        }
+    }
+}
+
+// Finishes a table, if all was written, and copies it out.
+fn finish(
+    writer: Writer,
+    wrote: Result<(), Error>,
+    out: &mut [u8],
+    written: &mut Written,
+) -> Result<(), Error> {
+    let table = finished(writer, wrote)?;
+    *written = Written::none();
+    if let Some(table) = table {
+        written.add(&table);
+        copy_out(&table, out);
+    }
+    Ok(())
+}
+
 fn build(
     alloc: Global,
     partitioned: bool,
@@ -167,13 +197,8 @@ fn build(
     written: &mut Written,
 ) -> Result<(), Error> {
     let mut writer = writer_of(alloc, partitioned)?;
-    write_each(alloc, &mut writer, store, key_len, value_len, seqno)?;
-    *written = Written::none();
-    if let Some(table) = writer.finish()? {
-        written.add(&table);
-        copy_out(&table, out);
-    }
-    Ok(())
+    let wrote = write_each(alloc, &mut writer, store, key_len, value_len, seqno);
+    finish(writer, wrote, out, written)
 }
 
 fn build_ref(
@@ -185,12 +210,8 @@ fn build_ref(
     written: &mut Written,
 ) -> Result<(), Error> {
     let mut writer = writer_of(alloc, false)?;
-    write_each_ref(&mut writer, store, key_len, value_len, seqno)?;
-    *written = Written::none();
-    if let Some(table) = writer.finish()? {
-        written.add(&table);
-    }
-    Ok(())
+    let wrote = write_each_ref(&mut writer, store, key_len, value_len, seqno);
+    finish(writer, wrote, &mut [], written)
 }
 
 /// Writes a table of entries, whose keys and values are of one length each and stand behind one

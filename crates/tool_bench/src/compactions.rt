@@ -3,7 +3,7 @@ ghost use Rattle.std.specs.Prelude.{All};
 ghost use Rattle.std.specs.Iterator.{IsFinite};
 ghost use Rattle.sst_entries.specs.Stream.{CanDeal, nowhere};
 
-use crate::builds::{Written, write_next};
+use crate::builds::{Written, finished, write_next};
 use crate::digest::{Digest, code};
 use crate::files::{open, scanners_of, tables_of};
 use crate::scans::scan;
@@ -23,9 +23,13 @@ fn new_writer(alloc: Global, id: u64) -> Result<Writer, Error> {
     Writer::new(alloc, id, 0, Timestamp::from(0))
 }
 
-// Finishes a table, where it has entries.
-fn finish(writer: Writer, out: &mut Vec<FinishedTable>) -> Result<(), Error> {
-    if let Some(table) = writer.finish()? {
+// Finishes a table, if all was written, where it has entries.
+fn finish(
+    writer: Writer,
+    wrote: Result<(), Error>,
+    out: &mut Vec<FinishedTable>,
+) -> Result<(), Error> {
+    if let Some(table) = finished(writer, wrote)? {
         out.push(table)?;
     }
     Ok(())
@@ -41,7 +45,7 @@ fn next_table(
     if is_full(writer, target) {
         let id = (out.len() as u64).wrapping_add(2);
         let full = std::mem::replace(writer, new_writer(alloc, id)?);
-        finish(full, out)?;
+        finish(full, Ok(()), out)?;
     }
     Ok(())
 }
@@ -75,16 +79,6 @@ fn write_each<I: Iterator<Item = IterItem<Global>>>(
     Ok(())
 }
 
-// Finishes the last table, if all was written.
-fn finish_last(
-    writer: Writer,
-    written: Result<(), Error>,
-    out: &mut Vec<FinishedTable>,
-) -> Result<(), Error> {
-    written?;
-    finish(writer, out)
-}
-
 fn write_all<I: Iterator<Item = IterItem<Global>>>(
     alloc: Global,
     stream: &mut I,
@@ -95,8 +89,8 @@ fn write_all<I: Iterator<Item = IterItem<Global>>>(
 {
     let mut out = Vec::new(alloc);
     let mut writer = new_writer(alloc, 1)?;
-    let written = write_each(alloc, &mut writer, stream, target, &mut out);
-    finish_last(writer, written, &mut out)?;
+    let wrote = write_each(alloc, &mut writer, stream, target, &mut out);
+    finish(writer, wrote, &mut out)?;
     Ok(out)
 }
 

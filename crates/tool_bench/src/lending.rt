@@ -3,12 +3,14 @@ ghost use Rattle.std.specs.Prelude.{All, IfOk};
 ghost use Rattle.sst_entries.specs.Stream.{CanDeal, nowhere};
 
 use crate::digest::{Digest, code};
-use crate::files::{open_copy, scanners_of, tables_of};
-use crate::ranges::runs_of;
+use crate::files::scanners_of;
+use crate::merges::merge_passes;
+use crate::ranges::{range_passes, runs_passes};
+use crate::scans::{Walk, walk_passes};
 use logpurple::{LentNewestOf, Table, lend_runs_at};
 use lsm_lending::{LendingMerger, LendingNewest};
 use lsm_ranges::Run;
-use sst_blocks::{Error, Lending, Slice};
+use sst_blocks::{Error, Lending};
 use std::alloc::Global;
 use std::ops::Bound;
 use std::sync::Arc;
@@ -25,16 +27,8 @@ fn drain<L: Lending>(source: &mut L, digest: &mut Digest) -> Result<(), Error>
     Ok(())
 }
 
-fn scan_passes(alloc: Global, file: &[u8], passes: u64, digest: &mut Digest) -> Result<(), Error> {
-    let table = open_copy(alloc, file)?;
-    for _ in 0..passes {
-        *digest = Digest::empty();
-        scan(&table, digest)?;
-    }
-    Ok(())
-}
-
-fn scan(table: &Table, digest: &mut Digest) -> Result<(), Error> {
+// Goes through all that a scan lends.
+pub(crate) fn scan_lent(table: &Table, digest: &mut Digest) -> Result<(), Error> {
     let mut scanner = table.scan()?;
     drain(&mut scanner, digest)
 }
@@ -48,7 +42,7 @@ pub extern "C" fn tool_bench_scan_lent(
     passes: u64,
     digest: &mut Digest,
 ) -> u32 {
-    code(scan_passes(alloc, file, passes, digest))
+    code(walk_passes(alloc, file, Walk::Lent, passes, digest))
 }
 
 // The newest version of each key of several sources. It is generic in these, so that none of their
@@ -78,24 +72,14 @@ fn drain_newest<L: Lending + Drop>(
     drain(newest, digest)
 }
 
-fn merge(alloc: Global, tables: &[Table], digest: &mut Digest) -> Result<(), Error> {
-    let mut newest = newest_of(alloc, scanners_of(alloc, tables)?)?;
-    drain_newest(&mut newest, digest)
-}
-
-fn merge_passes(
+// Goes through the newest versions of several tables.
+pub(crate) fn merge_lent(
     alloc: Global,
-    files: &[u8],
-    lens: &[u64],
-    passes: u64,
+    tables: &[Table],
     digest: &mut Digest,
 ) -> Result<(), Error> {
-    let tables = tables_of(alloc, files, lens)?;
-    for _ in 0..passes {
-        *digest = Digest::empty();
-        merge(alloc, &tables, digest)?;
-    }
-    Ok(())
+    let mut newest = newest_of(alloc, scanners_of(alloc, tables)?)?;
+    drain_newest(&mut newest, digest)
 }
 
 /// Copies and opens tables, whose bytes stand behind one another, and goes so many times over the
@@ -108,11 +92,11 @@ pub extern "C" fn tool_bench_merge_lent(
     passes: u64,
     digest: &mut Digest,
 ) -> u32 {
-    code(merge_passes(alloc, files, lens, passes, digest))
+    code(merge_passes(alloc, files, lens, true, passes, digest))
 }
 
 // Goes through the first so many that are lent, or all where there are fewer.
-fn drain_front<L: Lending + Drop>(
+pub(crate) fn drain_front<L: Lending + Drop>(
     mut source: L,
     count: usize,
     digest: &mut Digest,
@@ -130,44 +114,6 @@ fn drain_front<L: Lending + Drop>(
     Ok(())
 }
 
-// Goes through some entries from each of these keys on, which stand behind one another.
-fn range_each(
-    alloc: Global,
-    table: &Table,
-    keys: &[u8],
-    key_len: usize,
-    count: usize,
-    digest: &mut Digest,
-) -> Result<(), Error> {
-    let mut rest = keys;
-    for _ in 0..keys.len() {
-        let Some((key, after)) = rest.split_at_checked(key_len) else {
-            break;
-        };
-        rest = after;
-        let from = Bound::Included(Slice::from(alloc, key)?);
-        drain_front(table.range(from, Bound::Unbounded)?.lend(), count, digest)?;
-    }
-    Ok(())
-}
-
-fn range_passes(
-    alloc: Global,
-    file: &[u8],
-    keys: &[u8],
-    key_len: usize,
-    count: usize,
-    passes: u64,
-    digest: &mut Digest,
-) -> Result<(), Error> {
-    let table = open_copy(alloc, file)?;
-    for _ in 0..passes {
-        *digest = Digest::empty();
-        range_each(alloc, &table, keys, key_len, count, digest)?;
-    }
-    Ok(())
-}
-
 /// Copies and opens a table, and goes so many times over the first `count` entries from each of
 /// some keys on, lent. The keys are of one length and stand behind one another; an incomplete last
 /// one is left out. Tells what the last pass lent.
@@ -181,28 +127,18 @@ pub extern "C" fn tool_bench_range_lent(
     passes: u64,
     digest: &mut Digest,
 ) -> u32 {
-    code(range_passes(alloc, file, keys, key_len, count, passes, digest))
+    code(range_passes(alloc, file, keys, key_len, count, true, passes, digest))
 }
 
-fn read_runs(alloc: Global, runs: &[Arc<Run<Table>>], digest: &mut Digest) -> Result<(), Error> {
+// Goes through the newest versions of several runs.
+pub(crate) fn read_runs_lent(
+    alloc: Global,
+    runs: &[Arc<Run<Table>>],
+    digest: &mut Digest,
+) -> Result<(), Error> {
     let whole = (Bound::Unbounded, Bound::Unbounded);
     let mut newest = lend_runs_at(alloc, runs, whole, u64::MAX)?;
     drain_newest(&mut newest, digest)
-}
-
-fn runs_passes(
-    alloc: Global,
-    files: &[u8],
-    lens: &[u64],
-    passes: u64,
-    digest: &mut Digest,
-) -> Result<(), Error> {
-    let runs = runs_of(alloc, tables_of(alloc, files, lens)?)?;
-    for _ in 0..passes {
-        *digest = Digest::empty();
-        read_runs(alloc, &runs, digest)?;
-    }
-    Ok(())
 }
 
 /// Copies and opens tables, whose bytes stand behind one another, each as a run of its own, and
@@ -216,5 +152,5 @@ pub extern "C" fn tool_bench_range_runs_lent(
     passes: u64,
     digest: &mut Digest,
 ) -> u32 {
-    code(runs_passes(alloc, files, lens, passes, digest))
+    code(runs_passes(alloc, files, lens, true, passes, digest))
 }

@@ -5,24 +5,12 @@ ghost use Rattle.sst_entries.specs.Stream.{CanDeal, nowhere};
 
 use crate::digest::{Digest, code};
 use crate::files::{scanners_of, tables_of};
+use crate::lending::merge_lent;
+use crate::ranges::take_newest;
 use logpurple::Table;
 use lsm_sorted::newest_of;
 use sst_blocks::{Error, IterItem};
 use std::alloc::Global;
-
-// Takes all that a stream gives.
-fn drain<I: Iterator<Item = IterItem<Global>>>(
-    stream: &mut I,
-    digest: &mut Digest,
-) -> Result<(), Error>
-    requires can { I.can_next stream.old }
-    requires finite { IsFinite (I.remaining stream.old) }
-{
-    while let Some(item) = stream.next() {
-        digest.add(&item?);
-    }
-    Ok(())
-}
 
 // Takes the newest versions of several sources. It is generic in these: a whole concrete stream
 // costs a proof much where it is handed to a function that is generic in streams.
@@ -35,25 +23,39 @@ fn drain_newest<S: Iterator<Item = IterItem<Global>> + Drop>(
     requires can { All (CanDeal S.next_gives nowhere S.can_next S.can_next) sources.items }
     requires finite { All (λ s. IsFinite (S.remaining s)) sources.items }
 {
-    let mut stream = newest_of(alloc, sources)?;
-    drain(&mut stream, digest)
+    take_newest(newest_of(alloc, sources)?, digest)
 }
 
 fn merge(alloc: Global, tables: &[Table], digest: &mut Digest) -> Result<(), Error> {
     drain_newest(alloc, scanners_of(alloc, tables)?, digest)
 }
 
-fn merge_passes(
+fn merge_once(
+    alloc: Global,
+    tables: &[Table],
+    lent: bool,
+    digest: &mut Digest,
+) -> Result<(), Error> {
+    if lent {
+        merge_lent(alloc, tables, digest)
+    } else {
+        merge(alloc, tables, digest)
+    }
+}
+
+// Copies and opens tables, and goes so many times through their newest versions, lent or given.
+pub(crate) fn merge_passes(
     alloc: Global,
     files: &[u8],
     lens: &[u64],
+    lent: bool,
     passes: u64,
     digest: &mut Digest,
 ) -> Result<(), Error> {
     let tables = tables_of(alloc, files, lens)?;
     for _ in 0..passes {
         *digest = Digest::empty();
-        merge(alloc, &tables, digest)?;
+        merge_once(alloc, &tables, lent, digest)?;
     }
     Ok(())
 }
@@ -68,5 +70,5 @@ pub extern "C" fn tool_bench_merge(
     passes: u64,
     digest: &mut Digest,
 ) -> u32 {
-    code(merge_passes(alloc, files, lens, passes, digest))
+    code(merge_passes(alloc, files, lens, false, passes, digest))
 }

@@ -3,7 +3,8 @@ ghost use Rattle.std.specs.Iterator.{IsFinite};
 
 use crate::digest::{Digest, code};
 use crate::files::{open_copy, tables_of};
-use logpurple::{Table, range_runs};
+use crate::lending::{drain_front, read_runs_lent};
+use logpurple::{Direction, Table, range_runs};
 use lsm_ranges::Run;
 use lsm_sorted::NewestOf;
 use sst_blocks::{Error, IterItem, Slice};
@@ -26,6 +27,23 @@ pub(crate) fn take_all<I: Iterator<Item = IterItem<Global>> + Drop>(
     Ok(())
 }
 
+// Takes all that an iterator gives from one end on. It is generic in it, so that its parts are looked
+// at once for both ends.
+pub(crate) fn take_from<I: DoubleEndedIterator<Item = IterItem<Global>> + Drop>(
+    end: Direction,
+    items: I,
+    digest: &mut Digest,
+) -> Result<(), Error>
+    requires can { I.can_next items }
+    requires can_back { I.can_next_back items }
+    requires finite { IsFinite (I.remaining items) }
+{
+    match end {
+        Direction::Front => take_all(items, digest),
+        Direction::Back => take_all(items.rev(), digest),
+    }
+}
+
 // Takes so many entries from the front, or all where there are fewer.
 fn take_front<I: Iterator<Item = IterItem<Global>> + Drop>(
     items: I,
@@ -46,6 +64,22 @@ fn take_front<I: Iterator<Item = IterItem<Global>> + Drop>(
     Ok(())
 }
 
+// Reads some entries from a key on, lent or given.
+fn range_once(
+    table: &Table,
+    from: Slice,
+    count: usize,
+    lent: bool,
+    digest: &mut Digest,
+) -> Result<(), Error> {
+    let items = table.range(Bound::Included(from), Bound::Unbounded)?;
+    if lent {
+        drain_front(items.lend(), count, digest)
+    } else {
+        take_front(items, count, digest)
+    }
+}
+
 // Reads some entries from each of these keys on, which stand behind one another.
 fn range_each(
     alloc: Global,
@@ -53,6 +87,7 @@ fn range_each(
     keys: &[u8],
     key_len: usize,
     count: usize,
+    lent: bool,
     digest: &mut Digest,
 ) -> Result<(), Error> {
     let mut rest = keys;
@@ -61,25 +96,26 @@ fn range_each(
             break;
         };
         rest = after;
-        let from = Bound::Included(Slice::from(alloc, key)?);
-        take_front(table.range(from, Bound::Unbounded)?, count, digest)?;
+        range_once(table, Slice::from(alloc, key)?, count, lent, digest)?;
     }
     Ok(())
 }
 
-fn range_passes(
+// Copies and opens a table, and reads so many times from each of these keys on, lent or given.
+pub(crate) fn range_passes(
     alloc: Global,
     file: &[u8],
     keys: &[u8],
     key_len: usize,
     count: usize,
+    lent: bool,
     passes: u64,
     digest: &mut Digest,
 ) -> Result<(), Error> {
     let table = open_copy(alloc, file)?;
     for _ in 0..passes {
         *digest = Digest::empty();
-        range_each(alloc, &table, keys, key_len, count, digest)?;
+        range_each(alloc, &table, keys, key_len, count, lent, digest)?;
     }
     Ok(())
 }
@@ -97,11 +133,11 @@ pub extern "C" fn tool_bench_range(
     passes: u64,
     digest: &mut Digest,
 ) -> u32 {
-    code(range_passes(alloc, file, keys, key_len, count, passes, digest))
+    code(range_passes(alloc, file, keys, key_len, count, false, passes, digest))
 }
 
 // A run for each table.
-pub(crate) fn runs_of(alloc: Global, tables: Vec<Table>) -> Result<Vec<Arc<Run<Table>>>, Error> {
+fn runs_of(alloc: Global, tables: Vec<Table>) -> Result<Vec<Arc<Run<Table>>>, Error> {
     let mut runs = Vec::new(alloc);
     for table in tables {
         let mut of_one = Vec::new(alloc);
@@ -115,7 +151,7 @@ pub(crate) fn runs_of(alloc: Global, tables: Vec<Table>) -> Result<Vec<Arc<Run<T
 
 // Takes all newest versions of some sources. It is generic in these: a whole concrete stream costs
 // a proof much where it is handed to a function that is generic in streams.
-fn take_newest<S: Iterator<Item = IterItem<Global>> + Drop>(
+pub(crate) fn take_newest<S: Iterator<Item = IterItem<Global>> + Drop>(
     items: NewestOf<S, Global>,
     digest: &mut Digest,
 ) -> Result<(), Error>
@@ -133,17 +169,33 @@ fn read_runs(alloc: Global, runs: &[Arc<Run<Table>>], digest: &mut Digest) -> Re
     )
 }
 
-fn runs_passes(
+fn runs_once(
+    alloc: Global,
+    runs: &[Arc<Run<Table>>],
+    lent: bool,
+    digest: &mut Digest,
+) -> Result<(), Error> {
+    if lent {
+        read_runs_lent(alloc, runs, digest)
+    } else {
+        read_runs(alloc, runs, digest)
+    }
+}
+
+// Copies and opens tables as runs, and goes so many times through their newest versions, lent or
+// given.
+pub(crate) fn runs_passes(
     alloc: Global,
     files: &[u8],
     lens: &[u64],
+    lent: bool,
     passes: u64,
     digest: &mut Digest,
 ) -> Result<(), Error> {
     let runs = runs_of(alloc, tables_of(alloc, files, lens)?)?;
     for _ in 0..passes {
         *digest = Digest::empty();
-        read_runs(alloc, &runs, digest)?;
+        runs_once(alloc, &runs, lent, digest)?;
     }
     Ok(())
 }
@@ -159,5 +211,5 @@ pub extern "C" fn tool_bench_range_runs(
     passes: u64,
     digest: &mut Digest,
 ) -> u32 {
-    code(runs_passes(alloc, files, lens, passes, digest))
+    code(runs_passes(alloc, files, lens, false, passes, digest))
 }

@@ -5,7 +5,7 @@ ghost use Rattle.std.specs.Prelude.{◌≡◌, ◌++◌, IfOk, IsPermutation, On
 ghost use Rattle.std.specs.Arc.{arc_value};
 ghost use Rattle.lsm_writers.specs.Writing.{IsWritable};
 ghost use Rattle.lsm_compactions.specs.Compacted.{AreCompactable};
-ghost use Rattle.lsm_compactions.specs.ListRuns.{HasList};
+ghost use Rattle.lsm_compactions.specs.ListRuns.{HasList, HaveAll};
 
 use crate::builds::{Written, first_item};
 use crate::compactions::written_of;
@@ -82,6 +82,22 @@ fn put_in_order(all: &mut Vec<InternalValue>)
     all.sort_unstable_by(|x: &InternalValue, y: &InternalValue| x.key.cmp(&y.key));
 }
 
+// Writes the run of a list, and puts its entries behind those of the runs before it.
+fn add_run(
+    alloc: Global,
+    items: Vec<InternalValue>,
+    all: &mut Vec<InternalValue>,
+    runs: &mut Vec<Arc<Run<Table>>>,
+) -> Result<(), Error>
+    requires { IsWritable items.items }
+    ensures { HaveAll all.old.items (map arc_value runs.old.items) →
+        OnOk result (HaveAll all.new.items (map arc_value runs.new.items)) }
+{
+    share_behind(all, &items)?;
+    runs.push(run_of(alloc, items)?)?;
+    Ok(())
+}
+
 // A run of each of some lists, which stand behind one another and have so many bytes each. The
 // first is numbered by how many there are, and each further one by one less.
 fn runs_of(
@@ -104,8 +120,7 @@ fn runs_of(
         rest = after;
         let items = list_of(alloc, list, key_len, value_len, seqno)?;
         seqno = seqno.wrapping_sub(1);
-        share_behind(&mut all, &items)?;
-        runs.push(run_of(alloc, items)?)?;
+        add_run(alloc, items, &mut all, &mut runs)?;
     }
     put_in_order(&mut all);
     if is_writable(&all) {

@@ -1,25 +1,53 @@
 //! All entries of one table: by a scan, and by the iterator that has two ends.
 use crate::digest::{Digest, code};
 use crate::files::open_copy;
-use crate::ranges::take_all;
-use logpurple::Table;
+use crate::lending::scan_lent;
+use crate::ranges::{take_all, take_from};
+use logpurple::{Direction, Table};
 use sst_blocks::Error;
 use std::alloc::Global;
 
 // Takes all that a scan gives.
 #[inline(always)]
 pub(crate) fn scan(table: &Table, digest: &mut Digest) -> Result<(), Error> {
-    for item in table.scan()? {
-        digest.add(&item?);
-    }
-    Ok(())
+    take_all(table.scan()?, digest)
 }
 
-fn scan_passes(alloc: Global, file: &[u8], passes: u64, digest: &mut Digest) -> Result<(), Error> {
+// How a table is gone through.
+#[derive(Clone, Copy)]
+pub(crate) enum Walk {
+    Scan,
+    Lent,
+    Front,
+    Back,
+}
+
+fn walk_once(table: &Table, walk: Walk, digest: &mut Digest) -> Result<(), Error> {
+    match walk {
+        Walk::Scan => scan(table, digest),
+        Walk::Lent => scan_lent(table, digest),
+        Walk::Front => iterate(table, Direction::Front, digest),
+        Walk::Back => iterate(table, Direction::Back, digest),
+    }
+}
+
+// Takes all that a table's iterator gives from one end on.
+fn iterate(table: &Table, end: Direction, digest: &mut Digest) -> Result<(), Error> {
+    take_from(end, table.iter()?, digest)
+}
+
+// Copies and opens a table, and goes through it so many times.
+pub(crate) fn walk_passes(
+    alloc: Global,
+    file: &[u8],
+    walk: Walk,
+    passes: u64,
+    digest: &mut Digest,
+) -> Result<(), Error> {
     let table = open_copy(alloc, file)?;
     for _ in 0..passes {
         *digest = Digest::empty();
-        scan(&table, digest)?;
+        walk_once(&table, walk, digest)?;
     }
     Ok(())
 }
@@ -32,16 +60,7 @@ pub extern "C" fn tool_bench_scan(
     passes: u64,
     digest: &mut Digest,
 ) -> u32 {
-    code(scan_passes(alloc, file, passes, digest))
-}
-
-fn iter_passes(alloc: Global, file: &[u8], passes: u64, digest: &mut Digest) -> Result<(), Error> {
-    let table = open_copy(alloc, file)?;
-    for _ in 0..passes {
-        *digest = Digest::empty();
-        take_all(table.iter()?, digest)?;
-    }
-    Ok(())
+    code(walk_passes(alloc, file, Walk::Scan, passes, digest))
 }
 
 /// Copies and opens a table, and takes all that its iterator gives from the front so many times
@@ -53,16 +72,7 @@ pub extern "C" fn tool_bench_iter(
     passes: u64,
     digest: &mut Digest,
 ) -> u32 {
-    code(iter_passes(alloc, file, passes, digest))
-}
-
-fn back_passes(alloc: Global, file: &[u8], passes: u64, digest: &mut Digest) -> Result<(), Error> {
-    let table = open_copy(alloc, file)?;
-    for _ in 0..passes {
-        *digest = Digest::empty();
-        take_all(table.iter()?.rev(), digest)?;
-    }
-    Ok(())
+    code(walk_passes(alloc, file, Walk::Front, passes, digest))
 }
 
 /// Copies and opens a table, and takes all that its iterator gives from the back so many times
@@ -74,5 +84,5 @@ pub extern "C" fn tool_bench_iter_back(
     passes: u64,
     digest: &mut Digest,
 ) -> u32 {
-    code(back_passes(alloc, file, passes, digest))
+    code(walk_passes(alloc, file, Walk::Back, passes, digest))
 }
