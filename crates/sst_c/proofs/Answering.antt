@@ -1,5 +1,5 @@
 -- What a call answers of what a call of the library did. Assumes `Logic`.
-use Rattle.std.proofs.Common.{◌≡◌, ℕ, ◌⊎◌, false, Option, Some, None, Result, Ok, Err, refl, sym, ap, inl, inr, subst}
+use Rattle.std.proofs.Common.{◌≡◌, ℕ, ◌⊎◌, false, Option, Some, None, Result, Ok, Err, refl, sym, ap, ◌∙◌, inl, inr, subst}
 use Rattle.sst_entries.specs.Entry.{Entry}
 use Rattle.sst_entries.specs.declared.error.Error.{Error}
 use Rattle.sst_entries.specs.declared.error.Error.TheVariants.{OutOfMemory}
@@ -64,8 +64,13 @@ is_one_or_not (Source n) = inr refl
 pub tells : {X : Type 0} (e : Error) (told : Result X Error) → Fails e told → TellsCode (number_of e) told
 tells e told fails = elim (is_one_or_not e) [ inl one ↦ inl one | inr other ↦ inr (sym (ap result_code (fails other))) ]
 
-pub tells_ok : {X : Type 0} (x : X) (told : Result X Error) → told ≡ Ok x → TellsCode 0 told
-tells_ok x told same = inr (sym (ap result_code same))
+-- so it is where what is told is no refusal
+pub tells_begun : {X : Type 0} (code : ℕ) (x : X) (told : Result X Error) → (code ≡ 0) ⊎ (code ≡ 1)
+    → told ≡ Ok x → TellsCode code told
+tells_begun code x told codes same = elim codes [
+  | inl zero ↦ inr (zero ∙ sym (ap result_code same))
+  | inr one ↦ inl one
+]
 
 answers_err : (e : Error) (told : Result (Option Entry) Error) → told ≡ Err e → AnswersRead (number_of e) None told
 answers_err e told same = let P : Result (Option Entry) Error → Type 0 = λ t. AnswersRead (number_of e) None t in subst P (sym same) (inl refl, refl)
@@ -143,4 +148,13 @@ pub memory_tells : (told : Option Error) → FaultTold 1 told
 unfolding FaultTold
 memory_tells told = inl refl
 
-pub ruleset tell = (fault_tells, no_fault_tells, not_zero)
+-- what is begun where no fault is told answers 0, or 1 for want of memory
+pub begun_tells : (code : ℕ) (told : Option Error) → (code ≡ 0) ⊎ (code ≡ 1) → told ≡ None
+    → FaultTold code told
+unfolding FaultTold
+begun_tells code told codes none = elim codes [
+  | inl zero ↦ inr (zero ∙ sym (ap fault_code none))
+  | inr one ↦ inl one
+]
+
+pub ruleset tell = (fault_tells, no_fault_tells, begun_tells, not_zero)

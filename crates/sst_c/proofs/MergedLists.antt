@@ -4,14 +4,11 @@ use Rattle.std.specs.Prelude.{IfOk}
 use Rattle.sst_entries.specs.Entry.{Entry}
 use Rattle.sst_entries.specs.declared.error.Error.{Error}
 use Rattle.lsm_runs.specs.Words.{DealsList}
-use Rattle.sst_c.specs.Steps.{NewestAt}
-use Rattle.sst_c.specs.What.{IsMergedWhere}
-use Rattle.sst_c.specs.declared.held.What.{What}
+use Rattle.sst_c.specs.Newest.{NewestAt}
 
 -- the same list is dealt
-pub list_same : {X : Type 0} (front back : NewestAt → Option (Result Entry Error) → NewestAt → Type 0)
-    (r : Result X Error) (what : X → What) (found other : List Entry) → found ≡ other
-    → IfOk r (λ x. IsMergedWhere (DealsList front back found) (what x))
-    → IfOk r (λ x. IsMergedWhere (DealsList front back other) (what x))
-list_same front back r what found other same deals =
-    subst (λ (es : List Entry). IfOk r (λ x. IsMergedWhere (DealsList front back es) (what x))) same deals
+pub list_same : (front back : NewestAt → Option (Result Entry Error) → NewestAt → Type 0)
+    (r : Result NewestAt Error) (found other : List Entry) → found ≡ other
+    → IfOk r (DealsList front back found) → IfOk r (DealsList front back other)
+list_same front back r found other same deals =
+    subst (λ (es : List Entry). IfOk r (DealsList front back es)) same deals

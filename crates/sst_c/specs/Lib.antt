@@ -2,6 +2,7 @@ pub mod Owned
 pub mod Codes
 pub mod Copies
 pub mod Told
+pub mod Newest
 pub mod What
 pub mod Options
 pub mod Writing

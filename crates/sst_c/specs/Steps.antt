@@ -1,18 +1,9 @@
 -- A step of a range, as C sees it.
 use Rattle.std.specs.Prelude.{◌≡◌, ℕ, Option, Some, None, Result, Ok, Err}
-use Rattle.std.specs.Global.{Global}
 use Rattle.sst_entries.specs.Entry.{Entry}
 use Rattle.sst_entries.specs.declared.error.Error.{Error}
-use Rattle.lsm_merge.specs.declared.merge.Merger.{Merger}
-use Rattle.lsm_runs.specs.RunRange.{RunRange}
-use Rattle.lsm_sorted.specs.declared.below.Below.{Below}
-use Rattle.lsm_sorted.specs.declared.mvcc_stream.MvccStream.{MvccStream}
 use Rattle.sst_c.specs.Codes.{result_code}
 use Rattle.sst_c.specs.Told.{found_of, outcome_of}
-
--- the newest versions below a number of what several runs have together, between two calls
-abbrev pub NewestAt : Type 0
-NewestAt = MvccStream (Merger (Below (RunRange Global)) Global) (Result Entry Error)
 
 -- a step leads from a range to another with an answer, whose code and entry these are
 abbrev pub StepsBy : {S : Type 0} → (S → Option (Result Entry Error) → S → Type 0)

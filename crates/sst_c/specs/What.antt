@@ -25,8 +25,13 @@ use Rattle.sst_c.specs.declared.held.What.TheVariants.{Verification as Verificat
 use Rattle.lsm_ranges.specs.declared.packed.Packed.{Packed}
 use Rattle.lsm_ranges.specs.declared.packed.Placed.{Placed}
 use Rattle.sst_c.specs.Codes.{result_code}
-use Rattle.sst_c.specs.Steps.{NewestAt, StepsUntil}
+use Rattle.sst_c.specs.Newest.{NewestAt}
+use Rattle.sst_c.specs.Steps.{StepsUntil}
 use Rattle.sst_c.specs.Told.{found_of}
+
+-- what a handle holds that was begun: nothing was found yet
+abbrev pub begun : What → Held
+begun what = record { found = None; what = what }
 
 -- it is a table of which this holds
 abbrev pub IsTableWhere : (OpenTable → Type 0) → What → Type 0

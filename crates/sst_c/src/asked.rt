@@ -1,47 +1,82 @@
-//! A source that may be asked at both ends, however often.
+//! What several runs have together, which may be asked at both ends, however often.
 ghost use Rattle.std.specs.Prelude.{◌≡◌, false, true};
 ghost use Rattle.sst_entries.specs.Stream.{CanDeal};
 
+use lsm_runs::NewestOfRunsAt;
+use lsm_sorted::NewestOf;
 use sst_blocks::IterItem;
 use std::alloc::Global;
 use std::marker::Model;
 
-/// A source that may be asked at both ends, however often. A contract sees the source.
+/// The newest versions below a number of what several runs have together, which may be asked at
+/// both ends, however often. A contract sees these.
 #[derive(Drop)]
-pub struct Asked<I: DoubleEndedIterator> {
-    source: I,
+pub struct Asked {
+    newest: NewestOfRunsAt<Global>,
 }
 
-impl<I: DoubleEndedIterator> Model for Asked<I> {
+impl Model for Asked {
     ghost use Rattle.sst_entries.specs.Stream.{CanDeal};
+    ghost use Rattle.sst_c.specs.Newest.{NewestAt};
 
-    ghost Value = { I };
+    ghost Value = { NewestAt };
 
-    ghost view = { λ a. a.source };
+    ghost view = { λ a. a.newest };
 
-    ghost invariant = { λ a.
-        CanDeal I.next_gives I.next_back_gives I.can_next I.can_next_back a.source };
+    ghost invariant = { λ a. CanDeal ⟦<NewestOfRunsAt<Global> as Iterator>⟧.next_gives
+        ⟦<NewestOfRunsAt<Global> as DoubleEndedIterator>⟧.next_back_gives
+        ⟦<NewestOfRunsAt<Global> as Iterator>⟧.can_next
+        ⟦<NewestOfRunsAt<Global> as DoubleEndedIterator>⟧.can_next_back a.newest };
 }
 
-impl<I: DoubleEndedIterator<Item = IterItem<Global>>> Asked<I> {
-    /// A source that may be asked so.
-    pub(crate) fn new(source: I) -> Asked<I>
-        requires { CanDeal I.next_gives I.next_back_gives I.can_next I.can_next_back source }
-        ensures { result ≡ source }
+impl Asked {
+    /// Versions that may be asked so.
+    pub(crate) fn new(newest: NewestOfRunsAt<Global>) -> Asked
+        requires { CanDeal ⟦<NewestOfRunsAt<Global> as Iterator>⟧.next_gives
+            ⟦<NewestOfRunsAt<Global> as DoubleEndedIterator>⟧.next_back_gives
+            ⟦<NewestOfRunsAt<Global> as Iterator>⟧.can_next
+            ⟦<NewestOfRunsAt<Global> as DoubleEndedIterator>⟧.can_next_back newest }
+        ensures { result ≡ newest }
     {
-        Asked { source }
+        Asked { newest }
     }
 
-    /// What the source gives next, at the back where `back` says so, else at the front.
-    #[tactic(auto, using(crate::proofs::Asking::asking))]
+    /// What comes next, at the back where `back` says so, else at the front.
     pub(crate) fn step(&mut self, back: bool) -> Option<IterItem<Global>>
-        ensures front { back ≡ false → I.next_gives self.old result self.new }
-        ensures back { back ≡ true → I.next_back_gives self.old result self.new }
+        ensures front { back ≡ false →
+            ⟦<NewestOfRunsAt<Global> as Iterator>⟧.next_gives self.old result self.new }
+        ensures back { back ≡ true →
+            ⟦<NewestOfRunsAt<Global> as DoubleEndedIterator>⟧.next_back_gives
+            self.old result self.new }
     {
-        if back {
-            self.source.next_back()
-        } else {
-            self.source.next()
-        }
+        step_of(&mut self.newest, back)
+    }
+}
+
+// A step of newest versions. It is generic in what they are of: a call of a whole concrete stream
+// costs a proof much.
+#[tactic(auto, using(crate::proofs::Asking::asking))]
+fn step_of<S: DoubleEndedIterator<Item = IterItem<Global>>>(
+    newest: &mut NewestOf<S, Global>,
+    back: bool,
+) -> Option<IterItem<Global>>
+    requires { CanDeal ⟦<NewestOf<S, Global> as Iterator>⟧.next_gives
+        ⟦<NewestOf<S, Global> as DoubleEndedIterator>⟧.next_back_gives
+        ⟦<NewestOf<S, Global> as Iterator>⟧.can_next
+        ⟦<NewestOf<S, Global> as DoubleEndedIterator>⟧.can_next_back newest.old }
+    ensures can { CanDeal ⟦<NewestOf<S, Global> as Iterator>⟧.next_gives
+        ⟦<NewestOf<S, Global> as DoubleEndedIterator>⟧.next_back_gives
+        ⟦<NewestOf<S, Global> as Iterator>⟧.can_next
+        ⟦<NewestOf<S, Global> as DoubleEndedIterator>⟧.can_next_back newest.new }
+    ensures front { back ≡ false →
+        ⟦<NewestOf<S, Global> as Iterator>⟧.next_gives newest.old result newest.new }
+    ensures back { back ≡ true →
+        ⟦<NewestOf<S, Global> as DoubleEndedIterator>⟧.next_back_gives
+        newest.old result newest.new }
+{
+    if back {
+        newest.next_back()
+    } else {
+        newest.next()
     }
 }

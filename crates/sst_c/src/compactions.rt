@@ -65,40 +65,6 @@ fn compacted(
     compacted_by(alloc, runs, rules, writer)
 }
 
-// The box of finished tables.
-fn box_of(alloc: Global, tables: Vec<FinishedTable>) -> Result<Box<Held>, Error>
-    ensures new { IfOk result (λ held. held.value.found ≡ None) }
-    ensures files { IfOk result (λ held. HoldsFiles tables.items held.value.what) }
-    ensures err { IfErr result (λ e. e ≡ OutOfMemory) }
-{
-    let held = Held {
-        found: None,
-        what: What::Files(Files {
-            writer: None,
-            tables,
-        }),
-    };
-    Ok(Box::new(alloc, held)?)
-}
-
-// Keeps finished tables in a handle that holds nothing.
-fn keep_tables(alloc: Global, tables: Vec<FinishedTable>, files: &mut Handle) -> u32
-    requires { files.old.boxed.value ≡ None }
-    ensures memory { (result ≡ 0) ⊎ (result ≡ 1) }
-    ensures new { result ≡ 0 → IsSomeAnd files.new.boxed.value (λ k. k.found ≡ None) }
-    ensures kept { result ≡ 0 → IsSomeAnd files.new.boxed.value (λ k.
-        HoldsFiles tables.items k.what) }
-    ensures left { result ≢ 0 → files.new.boxed.value ≡ None }
-{
-    match box_of(alloc, tables) {
-        Ok(held) => {
-            files.put(held);
-            0
-        }
-        Err(error) => u32::from(error.number()),
-    }
-}
-
 // Keeps finished tables, and tells the id that is left.
 fn tell_tables(
     alloc: Global,
@@ -117,7 +83,11 @@ fn tell_tables(
         (next_id.new ≡ next_id.old) × (files.new.boxed.value ≡ None) }
 {
     let mut ids = left;
-    let code = keep_tables(alloc, tables, files);
+    let kept = Files {
+        writer: None,
+        tables,
+    };
+    let code = files.begin(alloc, What::Files(kept));
     if code == 0 {
         *next_id = ids.next().unwrap_or(0);
     }

@@ -1,8 +1,10 @@
 //! Handles: what C holds.
-ghost use Rattle.std.specs.Prelude.{◌≡◌, is_some, nat_lt, MatchOption, Option, Some, None};
+ghost use Rattle.std.specs.Prelude.{◌≡◌, ◌≢◌, ◌⊎◌, is_some, nat_lt, IsSomeAnd, MatchOption, Option};
+ghost use Rattle.std.specs.Prelude.{Some, None};
+ghost use Rattle.sst_c.specs.What.{begun};
 
 use crate::boxed::{Boxed, discard, hold, no_box, release};
-use crate::held::Held;
+use crate::held::{Held, What, box_of};
 use loose_boxes::Loose;
 use std::alloc::Global;
 use std::mem;
@@ -38,6 +40,24 @@ impl Handle {
         crosses(&held);
         discard(mem::replace(&mut self.boxed, hold(Loose::of(held))));
         self.is_open = 1;
+    }
+
+    /// Puts what was begun into a handle that holds nothing, and answers 0, or 1 for want of
+    /// memory.
+    pub(crate) fn begin(&mut self, alloc: Global, what: What) -> u32
+        requires { self.old.boxed.value ≡ None }
+        ensures memory { (result ≡ 0) ⊎ (result ≡ 1) }
+        ensures new { result ≡ 0 → IsSomeAnd self.new.boxed.value (λ h. h.found ≡ None) }
+        ensures begun { result ≡ 0 → self.new.boxed.value ≡ Some (begun what) }
+        ensures left { result ≢ 0 → self.new.boxed.value ≡ None }
+    {
+        match box_of(alloc, what) {
+            Ok(held) => {
+                self.put(held);
+                0
+            }
+            Err(error) => u32::from(error.number()),
+        }
     }
 
     /// Takes out what is held, and leaves nothing.

@@ -1,13 +1,16 @@
 //! What is behind a handle.
+ghost use Rattle.std.specs.Prelude.{◌≡◌, IfErr, IfOk};
+ghost use Rattle.sst_entries.specs.declared.error.Error.TheVariants.{OutOfMemory};
+ghost use Rattle.sst_c.specs.What.{begun};
+
 use crate::asked::Asked;
 use crate::run_list::RunList;
 use crate::verifier::Verifier;
 use lsm_iters::Iter;
 use lsm_ranges::Packed;
 use lsm_readers::{Scanner, Table};
-use lsm_runs::NewestOfRunsAt;
 use lsm_writers::{FinishedTable, Writer};
-use sst_blocks::InternalValue;
+use sst_blocks::{Error, InternalValue};
 use std::alloc::Global;
 
 /// What is behind a handle.
@@ -30,7 +33,7 @@ pub enum What {
     Scan(Scanner),
     /// What runs of tables have together within bounds, read from both ends; nothing once a read
     /// was refused.
-    Merged(Option<Asked<NewestOfRunsAt<Global>>>),
+    Merged(Option<Asked>),
     /// Tables that are written: those that are finished, and the one that is not.
     Files(Files),
     /// Runs of tables, the newest first.
@@ -50,4 +53,13 @@ pub struct Files {
     pub writer: Option<Writer>,
     /// The finished tables.
     pub tables: Vec<FinishedTable>,
+}
+
+/// The box of what was begun.
+pub(crate) fn box_of(alloc: Global, what: What) -> Result<Box<Held>, Error>
+    ensures ok { IfOk result (λ held. held.value ≡ begun what) }
+    ensures err { IfErr result (λ e. e ≡ OutOfMemory) }
+{
+    let held = Held { found: None, what };
+    Ok(Box::new(alloc, held)?)
 }

@@ -18,7 +18,7 @@ use crate::codes::{CLOSED, NO_ROOM, NO_SUCH, NOTHING, OPEN, OTHER_KIND};
 use crate::entries::{EntryTold, tell};
 use crate::found::{Lent, copy_item, lend_item};
 use crate::handle::Handle;
-use crate::held::{Held, What};
+use crate::held::{Held, What, box_of};
 use lsm_readers::{Query, Table, get_many};
 use sst_blocks::{Error, InternalValue, SeqNo, Slice};
 use std::alloc::Global;
@@ -97,19 +97,6 @@ fn tell_held(held: &Held, entries: &mut [EntryTold])
     }
 }
 
-// The box of what was found.
-fn box_of(alloc: Global, found: Vec<Option<InternalValue>>) -> Result<Box<Held>, Error>
-    ensures new { IfOk result (λ held. held.value.found ≡ None) }
-    ensures many { IfOk result (λ held. many_in held.value.what ≡ Some found.items) }
-    ensures err { IfErr result (λ e. e ≡ OutOfMemory) }
-{
-    let held = Held {
-        found: None,
-        what: What::Answers(found),
-    };
-    Ok(Box::new(alloc, held)?)
-}
-
 // Keeps what was found in a handle that holds nothing, and tells it.
 fn keep_each(
     alloc: Global,
@@ -128,7 +115,7 @@ fn keep_each(
     ensures left { result ≢ 0 →
         (entries.new ≡ entries.old) × (answers.new.boxed.value ≡ None) }
 {
-    match box_of(alloc, found) {
+    match box_of(alloc, What::Answers(found)) {
         Ok(held) => {
             tell_held(&held, entries);
             answers.put(held);

@@ -4,7 +4,8 @@ ghost use Rattle.std.specs.Prelude.{None, Ok, Some, is_some, nat_lt, true};
 ghost use Rattle.sst_entries.specs.declared.error.Error.TheVariants.{OutOfMemory};
 ghost use Rattle.lsm_runs.specs.Words.{DealsList, Entry, IsOverSpansBelow, RunsHoldLists, newest};
 ghost use Rattle.lsm_runs.specs.Words.{numbered_below, union_in, within};
-ghost use Rattle.sst_c.specs.Steps.{NewestAt, StepsUntil};
+ghost use Rattle.sst_c.specs.Newest.{NewestAt};
+ghost use Rattle.sst_c.specs.Steps.{StepsUntil};
 ghost use Rattle.sst_c.specs.What.{IsMergedWhere, are_runs, bound_told, runs_held};
 ghost use Rattle.sst_c.specs.declared.held.Held.{Held as HeldValue};
 
@@ -12,11 +13,11 @@ use crate::asked::Asked;
 use crate::codes::{CLOSED, NO_SUCH, OPEN, OTHER_KIND};
 use crate::handle::Handle;
 use crate::held::{Held, What};
-use crate::ranges::{bound, outcome_of};
+use crate::ranges::{bounds, outcome_of};
 use crate::run_list::RunList;
 use lsm_runs::{NewestOfRunsAt, RunReader, range_runs_at};
 use lsm_sorted::Below;
-use sst_blocks::{Error, InternalValue, IterItem, SeqNo, Slice};
+use sst_blocks::{Error, InternalValue, SeqNo, Slice};
 use std::alloc::Global;
 use std::ops::Bound;
 
@@ -26,7 +27,7 @@ fn newest_within(
     runs: &RunList,
     range: (Bound<Slice>, Bound<Slice>),
     seqno: SeqNo,
-) -> Result<Asked<NewestOfRunsAt<Global>>, Error>
+) -> Result<Asked, Error>
     ensures steps { IfOk result (λ s.
         IsOverSpansBelow ⟦<Below<RunReader<Global>> as Iterator>⟧.next_gives
         ⟦<Below<RunReader<Global>> as DoubleEndedIterator>⟧.next_back_gives
@@ -44,55 +45,7 @@ fn newest_within(
     Ok(Asked::new(range_runs_at(alloc, runs.as_slice(), range, seqno)?))
 }
 
-// The box of these.
-fn merged_of(
-    alloc: Global,
-    runs: &RunList,
-    range: (Bound<Slice>, Bound<Slice>),
-    seqno: SeqNo,
-) -> Result<Box<Held>, Error>
-    ensures new { IfOk result (λ held. held.value.found ≡ None) }
-    ensures steps { IfOk result (λ held. IsMergedWhere
-        (IsOverSpansBelow ⟦<Below<RunReader<Global>> as Iterator>⟧.next_gives
-        ⟦<Below<RunReader<Global>> as DoubleEndedIterator>⟧.next_back_gives
-        ⟦<NewestOfRunsAt<Global> as Iterator>⟧.next_gives
-        ⟦<NewestOfRunsAt<Global> as DoubleEndedIterator>⟧.next_back_gives
-        range.0 range.1 seqno runs.now) held.value.what) }
-    ensures list { let gives = ⟦<NewestOfRunsAt<Global> as Iterator>⟧.next_gives in
-        let back_gives = ⟦<NewestOfRunsAt<Global> as DoubleEndedIterator>⟧.next_back_gives in
-        (lists : List (List (List Entry))) →
-        RunsHoldLists runs.now lists →
-        let found = newest (numbered_below seqno (within range.0 range.1 (union_in lists))) in
-        IfOk result (λ held. IsMergedWhere (DealsList gives back_gives found) held.value.what) }
-    ensures err { IfErr result (λ e. e ≡ OutOfMemory) }
-{
-    let held = Held {
-        found: None,
-        what: What::Merged(Some(newest_within(alloc, runs, range, seqno)?)),
-    };
-    Ok(Box::new(alloc, held)?)
-}
-
-// The two bounds of these kinds.
-fn bounds(
-    alloc: Global,
-    lower_kind: u32,
-    lower: &[u8],
-    upper_kind: u32,
-    upper: &[u8],
-) -> Result<(Bound<Slice>, Bound<Slice>), Error>
-    requires lower { lower_kind < 3 }
-    requires upper { upper_kind < 3 }
-    ensures lower { IfOk result (λ b. b.0 ≡ bound_told lower_kind lower.now) }
-    ensures upper { IfOk result (λ b. b.1 ≡ bound_told upper_kind upper.now) }
-    ensures err { IfErr result (λ e. e ≡ OutOfMemory) }
-{
-    let low = bound(alloc, lower_kind, lower)?;
-    let high = bound(alloc, upper_kind, upper)?;
-    Ok((low, high))
-}
-
-// The box of what runs have together within bounds of these kinds.
+// The same, within bounds of these kinds.
 fn merged_within(
     alloc: Global,
     runs: &RunList,
@@ -101,28 +54,27 @@ fn merged_within(
     upper_kind: u32,
     upper: &[u8],
     seqno: SeqNo,
-) -> Result<Box<Held>, Error>
+) -> Result<Asked, Error>
     requires lower { lower_kind < 3 }
     requires upper { upper_kind < 3 }
-    ensures new { IfOk result (λ held. held.value.found ≡ None) }
     ensures steps { let low = bound_told lower_kind lower.now in
-        let high = bound_told upper_kind upper.now in IfOk result (λ held. IsMergedWhere
+        let high = bound_told upper_kind upper.now in IfOk result
         (IsOverSpansBelow ⟦<Below<RunReader<Global>> as Iterator>⟧.next_gives
         ⟦<Below<RunReader<Global>> as DoubleEndedIterator>⟧.next_back_gives
         ⟦<NewestOfRunsAt<Global> as Iterator>⟧.next_gives
         ⟦<NewestOfRunsAt<Global> as DoubleEndedIterator>⟧.next_back_gives
-        low high seqno runs.now) held.value.what) }
+        low high seqno runs.now) }
     ensures list { let gives = ⟦<NewestOfRunsAt<Global> as Iterator>⟧.next_gives in
         let back_gives = ⟦<NewestOfRunsAt<Global> as DoubleEndedIterator>⟧.next_back_gives in
         let low = bound_told lower_kind lower.now in let high = bound_told upper_kind upper.now in
         (lists : List (List (List Entry))) →
         RunsHoldLists runs.now lists →
         let found = newest (numbered_below seqno (within low high (union_in lists))) in
-        IfOk result (λ held. IsMergedWhere (DealsList gives back_gives found) held.value.what) }
+        IfOk result (DealsList gives back_gives found) }
     ensures err { IfErr result (λ e. e ≡ OutOfMemory) }
 {
     let range = bounds(alloc, lower_kind, lower, upper_kind, upper)?;
-    merged_of(alloc, runs, range, seqno)
+    newest_within(alloc, runs, range, seqno)
 }
 
 // Puts a range of runs into a handle that holds nothing.
@@ -168,10 +120,7 @@ fn begin_merged(
         return NO_SUCH;
     }
     match merged_within(alloc, runs, lower_kind, lower, upper_kind, upper, seqno) {
-        Ok(held) => {
-            range.put(held);
-            0
-        }
+        Ok(newest) => range.begin(alloc, What::Merged(Some(newest))),
         Err(error) => u32::from(error.number()),
     }
 }
@@ -242,30 +191,16 @@ pub extern "C" fn sst_runs_range_open(
     code
 }
 
-// The next entry of a source, where a read was not refused before.
-fn next_of<I: DoubleEndedIterator<Item = IterItem<Global>>>(
-    merged: &mut Option<Asked<I>>,
-    back: bool,
-) -> Result<Option<InternalValue>, Error>
-    ensures over { merged.old ≡ None → (result ≡ Ok None) × (merged.new ≡ None) }
-    ensures front { (s : I) → merged.old ≡ Some s → back ≡ false →
-        StepsUntil I.next_gives s result merged.new }
-    ensures back { (s : I) → merged.old ≡ Some s → back ≡ true →
-        StepsUntil I.next_back_gives s result merged.new }
+// Lets go what is kept.
+fn give_up<T: Drop>(kept: &mut Option<T>)
+    ensures { kept.new ≡ None }
 {
-    let Some(asked) = merged else {
-        return Ok(None);
-    };
-    let outcome = outcome_of(asked.step(back));
-    if outcome.is_err() {
-        *merged = None;
-    }
-    outcome
+    *kept = None;
 }
 
 /// A step of what runs have together, where a read was not refused before.
 pub(crate) fn step_merged(
-    merged: &mut Option<Asked<NewestOfRunsAt<Global>>>,
+    merged: &mut Option<Asked>,
     back: bool,
 ) -> Result<Option<InternalValue>, Error>
     ensures over { merged.old ≡ None → (result ≡ Ok None) × (merged.new ≡ None) }
@@ -275,5 +210,14 @@ pub(crate) fn step_merged(
         StepsUntil ⟦<NewestOfRunsAt<Global> as DoubleEndedIterator>⟧.next_back_gives
         s result merged.new }
 {
-    next_of(merged, back)
+    let Some(asked) = merged else {
+        return Ok(None);
+    };
+    match outcome_of(asked.step(back)) {
+        Ok(found) => Ok(found),
+        Err(error) => {
+            give_up(merged);
+            Err(error)
+        }
+    }
 }

@@ -1,7 +1,6 @@
 //! Packing the tables of a list of runs in as few runs as there can be.
-ghost use Rattle.std.specs.Prelude.{◌≡◌, ◌≢◌, ◌⊎◌, false, IfErr, IfOk, IsSomeAnd, List, None, Some};
+ghost use Rattle.std.specs.Prelude.{◌≡◌, ◌≢◌, ◌⊎◌, false, IsSomeAnd, List, None, Some};
 ghost use Rattle.std.specs.Prelude.{ℕ, is_some, length, slice_get, true};
-ghost use Rattle.sst_entries.specs.declared.error.Error.TheVariants.{OutOfMemory};
 ghost use Rattle.lsm_ranges.specs.Packing.{tables_in};
 ghost use Rattle.lsm_readers.specs.Words.{OpenTable};
 ghost use Rattle.lsm_runs.specs.Words.{range_of};
@@ -16,23 +15,7 @@ use crate::codes::{CLOSED, NO_SUCH, OPEN, OTHER_KIND};
 use crate::handle::Handle;
 use crate::held::{Held, What};
 use crate::packed::packing_of;
-use crate::run_list::RunList;
-use sst_blocks::Error;
 use std::alloc::Global;
-
-// The box of runs, packed.
-fn packed_box(alloc: Global, runs: &RunList) -> Result<Box<Held>, Error>
-    ensures new { IfOk result (λ held. held.value.found ≡ None) }
-    ensures kind { IfOk result (λ held. are_runs held.value.what ≡ true) }
-    ensures packed { IfOk result (λ held. ArePackedOf runs.now (runs_held held.value.what)) }
-    ensures err { IfErr result (λ e. e ≡ OutOfMemory) }
-{
-    let held = Held {
-        found: None,
-        what: What::Runs(runs.packed(alloc)?),
-    };
-    Ok(Box::new(alloc, held)?)
-}
 
 // Puts runs, packed, into a handle that holds nothing.
 fn pack(alloc: Global, held: &Held, packed: &mut Handle) -> u32
@@ -48,11 +31,8 @@ fn pack(alloc: Global, held: &Held, packed: &mut Handle) -> u32
     let What::Runs(runs) = &held.what else {
         return OTHER_KIND;
     };
-    match packed_box(alloc, runs) {
-        Ok(held) => {
-            packed.put(held);
-            0
-        }
+    match runs.packed(alloc) {
+        Ok(fewest) => packed.begin(alloc, What::Runs(fewest)),
         Err(error) => u32::from(error.number()),
     }
 }
@@ -90,20 +70,6 @@ pub extern "C" fn sst_runs_pack(alloc: Global, runs: &mut Handle, packed: &mut H
     code
 }
 
-// The box of how the tables of runs are packed.
-fn packing_box(alloc: Global, runs: &RunList) -> Result<Box<Held>, Error>
-    ensures new { IfOk result (λ held. held.value.found ≡ None) }
-    ensures packed { IfOk result (λ held.
-        IsPackingWhere (IsPackedOf range_of (tables_in runs.now)) held.value.what) }
-    ensures err { IfErr result (λ e. e ≡ OutOfMemory) }
-{
-    let held = Held {
-        found: None,
-        what: What::Packing(packing_of(alloc, runs)?),
-    };
-    Ok(Box::new(alloc, held)?)
-}
-
 // Puts how the tables of runs are packed into a handle that holds nothing.
 fn show_packing(alloc: Global, held: &Held, packing: &mut Handle) -> u32
     requires { packing.old.boxed.value ≡ None }
@@ -117,11 +83,8 @@ fn show_packing(alloc: Global, held: &Held, packing: &mut Handle) -> u32
     let What::Runs(runs) = &held.what else {
         return OTHER_KIND;
     };
-    match packing_box(alloc, runs) {
-        Ok(held) => {
-            packing.put(held);
-            0
-        }
+    match packing_of(alloc, runs) {
+        Ok(packed) => packing.begin(alloc, What::Packing(packed)),
         Err(error) => u32::from(error.number()),
     }
 }

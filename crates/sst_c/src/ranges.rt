@@ -6,7 +6,8 @@ ghost use Rattle.sst_entries.specs.declared.error.Error.TheVariants.{OutOfMemory
 ghost use Rattle.lsm_iters.specs.Range.{Range as RangeValue};
 ghost use Rattle.lsm_readers.specs.Words.{Entry, IsRangeOf, OpenTable, StoresList};
 ghost use Rattle.sst_c.specs.Codes.{result_code};
-ghost use Rattle.sst_c.specs.Steps.{NewestAt, StepsBy};
+ghost use Rattle.sst_c.specs.Newest.{NewestAt};
+ghost use Rattle.sst_c.specs.Steps.{StepsBy};
 ghost use Rattle.sst_c.specs.Told.{found_in, outcome_of, entry_facts};
 ghost use Rattle.sst_c.specs.What.{DealsTable, IsRangeWhere, MergedStepsBy, bound_told, is_range};
 ghost use Rattle.sst_c.specs.What.{is_table};
@@ -40,40 +41,27 @@ pub(crate) fn bound(alloc: Global, kind: u32, key: &[u8]) -> Result<Bound<Slice>
     }
 }
 
-// A range of a table.
-#[tactic(auto, unfolding(crate::specs::What::DealsTable))]
-fn table_range(table: &Table, lower: Bound<Slice>, upper: Bound<Slice>) -> Result<Iter, Error>
-    ensures range { IfOk result (IsRangeOf table.now lower upper) }
-    ensures list { (es : List Entry) → StoresList table.now.bytes es →
-        let g = table.now.global_seqno in IfOk result (DealsTable lower upper es g) }
-    ensures err { IfErr result (λ e. e ≡ OutOfMemory) }
-{
-    table.range(lower, upper)
-}
-
-// The box of a range of a table.
-fn range_of(
+// The two bounds of these kinds.
+pub(crate) fn bounds(
     alloc: Global,
-    table: &Table,
-    lower: Bound<Slice>,
-    upper: Bound<Slice>,
-) -> Result<Box<Held>, Error>
-    ensures new { IfOk result (λ held. held.value.found ≡ None) }
-    ensures range { IfOk result (λ held.
-        IsRangeWhere (IsRangeOf table.now lower upper) held.value.what) }
-    ensures list { (es : List Entry) → StoresList table.now.bytes es →
-        let g = table.now.global_seqno in IfOk result (λ held.
-        IsRangeWhere (DealsTable lower upper es g) held.value.what) }
+    lower_kind: u32,
+    lower: &[u8],
+    upper_kind: u32,
+    upper: &[u8],
+) -> Result<(Bound<Slice>, Bound<Slice>), Error>
+    requires lower { lower_kind < 3 }
+    requires upper { upper_kind < 3 }
+    ensures lower { IfOk result (λ b. b.0 ≡ bound_told lower_kind lower.now) }
+    ensures upper { IfOk result (λ b. b.1 ≡ bound_told upper_kind upper.now) }
     ensures err { IfErr result (λ e. e ≡ OutOfMemory) }
 {
-    let held = Held {
-        found: None,
-        what: What::Range(table_range(table, lower, upper)?),
-    };
-    Ok(Box::new(alloc, held)?)
+    let low = bound(alloc, lower_kind, lower)?;
+    let high = bound(alloc, upper_kind, upper)?;
+    Ok((low, high))
 }
 
-// The box of a range of a table within bounds of these kinds.
+// A range of a table within bounds of these kinds.
+#[tactic(auto, unfolding(crate::specs::What::DealsTable))]
 fn range_within(
     alloc: Global,
     table: &Table,
@@ -81,22 +69,19 @@ fn range_within(
     lower: &[u8],
     upper_kind: u32,
     upper: &[u8],
-) -> Result<Box<Held>, Error>
+) -> Result<Iter, Error>
     requires lower { lower_kind < 3 }
     requires upper { upper_kind < 3 }
-    ensures new { IfOk result (λ held. held.value.found ≡ None) }
     ensures range { let low = bound_told lower_kind lower.now in
-        let high = bound_told upper_kind upper.now in IfOk result (λ held.
-        IsRangeWhere (IsRangeOf table.now low high) held.value.what) }
+        let high = bound_told upper_kind upper.now in IfOk result (IsRangeOf table.now low high) }
     ensures list { let low = bound_told lower_kind lower.now in
         let high = bound_told upper_kind upper.now in
         (es : List Entry) → StoresList table.now.bytes es → let g = table.now.global_seqno in
-        IfOk result (λ held. IsRangeWhere (DealsTable low high es g) held.value.what) }
+        IfOk result (DealsTable low high es g) }
     ensures err { IfErr result (λ e. e ≡ OutOfMemory) }
 {
-    let lower = bound(alloc, lower_kind, lower)?;
-    let upper = bound(alloc, upper_kind, upper)?;
-    range_of(alloc, table, lower, upper)
+    let (lower, upper) = bounds(alloc, lower_kind, lower, upper_kind, upper)?;
+    table.range(lower, upper)
 }
 
 // Puts a range of a table into a handle that holds nothing.
@@ -124,10 +109,7 @@ fn begin_within(
     ensures left { result ≢ 0 → range.new.boxed.value ≡ None }
 {
     match range_within(alloc, table, lower_kind, lower, upper_kind, upper) {
-        Ok(held) => {
-            range.put(held);
-            0
-        }
+        Ok(iter) => range.begin(alloc, What::Range(iter)),
         Err(error) => u32::from(error.number()),
     }
 }

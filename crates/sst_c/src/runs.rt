@@ -1,7 +1,6 @@
 //! Several tables as one: a list of runs, the newest first.
-ghost use Rattle.std.specs.Prelude.{◌≡◌, ◌≢◌, ◌∷◌, ◌⊎◌, ◌++◌, [], false, IfErr, IfOk, IsSomeAnd};
+ghost use Rattle.std.specs.Prelude.{◌≡◌, ◌≢◌, ◌∷◌, ◌⊎◌, ◌++◌, [], false, IsSomeAnd};
 ghost use Rattle.std.specs.Prelude.{List, None, Ok, Some, is_some, true};
-ghost use Rattle.sst_entries.specs.declared.error.Error.TheVariants.{OutOfMemory};
 ghost use Rattle.lsm_readers.specs.Words.{Entry, OpenTable, point};
 ghost use Rattle.lsm_ranges.specs.KeyRange.{is_well_formed};
 ghost use Rattle.lsm_runs.specs.Words.{RunsHoldLists, range_of, runs_read, runs_told, union_in};
@@ -20,21 +19,8 @@ use crate::tables::keep;
 use lsm_ranges::Ranged;
 use lsm_readers::Table;
 use lsm_runs::get_runs;
-use sst_blocks::{Error, InternalValue, SeqNo};
+use sst_blocks::{InternalValue, SeqNo};
 use std::alloc::Global;
-
-fn no_runs(alloc: Global) -> Result<Box<Held>, Error>
-    ensures new { IfOk result (λ held. held.value.found ≡ None) }
-    ensures kind { IfOk result (λ held. are_runs held.value.what ≡ true) }
-    ensures none { IfOk result (λ held. runs_held held.value.what ≡ []) }
-    ensures err { IfErr result (λ e. e ≡ OutOfMemory) }
-{
-    let held = Held {
-        found: None,
-        what: What::Runs(RunList::new(alloc)),
-    };
-    Ok(Box::new(alloc, held)?)
-}
 
 /// Begins a list of runs, into a handle that holds nothing. Refused 101 where the handle holds
 /// something, and for want of memory; it stays as it is then.
@@ -50,13 +36,7 @@ pub extern "C" fn sst_runs_open(alloc: Global, runs: &mut Handle) -> u32
     if runs.is_open() {
         return OPEN;
     }
-    match no_runs(alloc) {
-        Ok(held) => {
-            runs.put(held);
-            0
-        }
-        Err(error) => u32::from(error.number()),
-    }
+    runs.begin(alloc, What::Runs(RunList::new(alloc)))
 }
 
 // Puts a table behind the runs of a list, where its least key is not above its greatest.

@@ -40,27 +40,6 @@ fn scan_of(table: &Table) -> Result<Scanner, Error>
     table.scan()
 }
 
-// The box of a scan of a table.
-fn box_of(alloc: Global, table: &Table) -> Result<Box<Held>, Error>
-    ensures new { IfOk result (λ held. held.value.found ≡ None) }
-    ensures begun { IfOk result (λ held.
-        IsScanWhere (IsBegunScan table.now) held.value.what) }
-    ensures deals { IfOk result (λ held.
-        IsScanWhere (DealsScan (table_scan table.now)) held.value.what) }
-    ensures list { (es : List Entry) → StoresList table.now.bytes es → IfOk result (λ held.
-        IsScanWhere (DealsScan (ok_results (lift es table.now.global_seqno))) held.value.what) }
-    ensures refused { Faults result (scan_fault table.now) }
-    ensures early { FaultsFirst result (early_scan_fault table.now) }
-    ensures fine { (es : List Entry) → StoresList table.now.bytes es → 0 < length es →
-        IfErr result (λ e. e ≡ OutOfMemory) }
-{
-    let held = Held {
-        found: None,
-        what: What::Scan(scan_of(table)?),
-    };
-    Ok(Box::new(alloc, held)?)
-}
-
 // Puts a scan of a table into a handle that holds nothing.
 #[tactic(auto, using(crate::proofs::Answering::tell))]
 fn begin_scan(alloc: Global, table: &Table, scan: &mut Handle) -> u32
@@ -79,11 +58,8 @@ fn begin_scan(alloc: Global, table: &Table, scan: &mut Handle) -> u32
         IsScanWhere (DealsScan (ok_results (lift es g))) k.what) }
     ensures left { result ≢ 0 → scan.new.boxed.value ≡ None }
 {
-    match box_of(alloc, table) {
-        Ok(held) => {
-            scan.put(held);
-            0
-        }
+    match scan_of(table) {
+        Ok(scanner) => scan.begin(alloc, What::Scan(scanner)),
         Err(error) => u32::from(error.number()),
     }
 }

@@ -1,31 +1,13 @@
 //! Further handles of one table.
-ghost use Rattle.std.specs.Prelude.{◌≡◌, ◌≢◌, ◌⊎◌, false, IfErr, IfOk, IsSomeAnd, None, Some};
+ghost use Rattle.std.specs.Prelude.{◌≡◌, ◌≢◌, ◌⊎◌, false, IsSomeAnd, None, Some};
 ghost use Rattle.std.specs.Prelude.{is_some, true};
-ghost use Rattle.sst_entries.specs.declared.error.Error.TheVariants.{OutOfMemory};
-ghost use Rattle.lsm_readers.specs.Words.{OpenTable};
 ghost use Rattle.sst_c.specs.What.{is_table};
 ghost use Rattle.sst_c.specs.declared.held.Held.{Held as HeldValue};
-ghost use Rattle.sst_c.specs.declared.held.What.TheVariants.{Table as TableOf};
 
-use crate::codes::{CLOSED, OPEN, OTHER_KIND};
+use crate::codes::{CLOSED, NO_MEMORY, OPEN, OTHER_KIND};
 use crate::handle::Handle;
 use crate::held::{Held, What};
-use lsm_readers::Table;
-use sst_blocks::Error;
 use std::alloc::Global;
-
-// The box of a share of a table.
-fn share_of(alloc: Global, table: &Table) -> Result<Box<Held>, Error>
-    ensures new { IfOk result (λ held. held.value.found ≡ None) }
-    ensures shared { IfOk result (λ held. held.value.what ≡ TableOf table.now) }
-    ensures err { IfErr result (λ e. e ≡ OutOfMemory) }
-{
-    let held = Held {
-        found: None,
-        what: What::Table(table.clone()?),
-    };
-    Ok(Box::new(alloc, held)?)
-}
 
 fn share(alloc: Global, held: &Held, other: &mut Handle) -> u32
     requires { other.old.boxed.value ≡ None }
@@ -38,13 +20,10 @@ fn share(alloc: Global, held: &Held, other: &mut Handle) -> u32
     let What::Table(table) = &held.what else {
         return OTHER_KIND;
     };
-    match share_of(alloc, table) {
-        Ok(held) => {
-            other.put(held);
-            0
-        }
-        Err(error) => u32::from(error.number()),
-    }
+    let Ok(share) = table.clone() else {
+        return NO_MEMORY;
+    };
+    other.begin(alloc, What::Table(share))
 }
 
 /// Makes a further handle of the table that a handle holds, in one that holds nothing. Neither

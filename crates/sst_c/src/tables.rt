@@ -1,7 +1,6 @@
 //! Tables: opening and point reads.
-ghost use Rattle.std.specs.Prelude.{◌≡◌, ◌≢◌, [], false, IfErr, IfOk, IsSome, IsSomeAnd, List};
+ghost use Rattle.std.specs.Prelude.{◌≡◌, ◌≢◌, [], false, IsSomeAnd, List};
 ghost use Rattle.std.specs.Prelude.{None, Ok, Result, Some, is_some, true};
-ghost use Rattle.sst_entries.specs.Error.{Fails, FaultsFirst, Gives};
 ghost use Rattle.lsm_readers.specs.Parts.{early_fault};
 ghost use Rattle.lsm_readers.specs.Words.{Entry, OpenTable, StoresList, fits_told, lift, point};
 ghost use Rattle.lsm_readers.specs.Words.{recovered_told, table_answer};
@@ -19,41 +18,8 @@ use lsm_readers::Table;
 use sst_blocks::{Checksum, Error, InternalValue, SeqNo, Slice};
 use std::alloc::Global;
 
-// The box of a table that was opened from its bytes.
-fn opened(
-    alloc: Global,
-    bytes: Slice,
-    global_seqno: SeqNo,
-    pin_filter: bool,
-    pin_index: bool,
-) -> Result<Box<Held>, Error>
-    ensures table { IfOk result (λ held.
-        IsOpenedAs bytes global_seqno pin_filter pin_index held.value) }
-    ensures refused { IfErr result (λ e.
-        Fails e (recovered_told bytes global_seqno pin_filter pin_index)) }
-    ensures early { FaultsFirst result (early_fault bytes) }
-    ensures list { (es : List Entry) → StoresList bytes es →
-        Gives (λ (_ : _). tt) result (fits_told es global_seqno) }
-{
-    let checksum = Checksum(0);
-    let table = Table::recover(
-        alloc,
-        bytes,
-        checksum,
-        global_seqno,
-        0,
-        pin_filter,
-        pin_index,
-    )?;
-    let held = Held {
-        found: None,
-        what: What::Table(table),
-    };
-    Ok(Box::new(alloc, held)?)
-}
-
 /// Opens a table from its bytes, into a handle that holds nothing.
-#[tactic(auto, using(crate::proofs::Answering::tells, crate::proofs::Answering::tells_ok))]
+#[tactic(auto, using(crate::proofs::Answering::tells, crate::proofs::Answering::tells_begun))]
 pub(crate) fn open_from(
     alloc: Global,
     bytes: Slice,
@@ -71,11 +37,17 @@ pub(crate) fn open_from(
         TellsCode result (fits_told es global_seqno) }
     ensures left { result ≢ 0 → table.new.boxed.value ≡ None }
 {
-    match opened(alloc, bytes, global_seqno, pin_filter, pin_index) {
-        Ok(held) => {
-            table.put(held);
-            0
-        }
+    let opened = Table::recover(
+        alloc,
+        bytes,
+        Checksum(0),
+        global_seqno,
+        0,
+        pin_filter,
+        pin_index,
+    );
+    match opened {
+        Ok(opened) => table.begin(alloc, What::Table(opened)),
         Err(error) => u32::from(error.number()),
     }
 }

@@ -1,7 +1,6 @@
 //! Verifying a table by steps.
-ghost use Rattle.std.specs.Prelude.{◌≡◌, ◌≢◌, ◌⊎◌, false, IfErr, IfOk, IsSomeAnd, None, Some};
+ghost use Rattle.std.specs.Prelude.{◌≡◌, ◌≢◌, ◌⊎◌, false, IsSomeAnd, None, Some};
 ghost use Rattle.std.specs.Prelude.{is_some, true};
-ghost use Rattle.sst_entries.specs.declared.error.Error.TheVariants.{OutOfMemory};
 ghost use Rattle.lsm_readers.specs.Verification.{Verifying, verifying};
 ghost use Rattle.lsm_readers.specs.Words.{OpenTable};
 ghost use Rattle.sst_c.specs.Stepwise.{TellsStep, no_progress};
@@ -17,22 +16,7 @@ use crate::held::{Held, What};
 use crate::verifier::{ProgressTold, Verifier, no_progress};
 use crate::verify::{VerifyTold, nothing};
 use lsm_readers::Table;
-use sst_blocks::Error;
 use std::alloc::Global;
-
-// The box of a verification of a table.
-fn box_of(alloc: Global, table: &Table) -> Result<Box<Held>, Error>
-    ensures new { IfOk result (λ held. held.value.found ≡ None) }
-    ensures begun { IfOk result (λ held.
-        held.value.what ≡ VerificationOf (verifying table.now)) }
-    ensures err { IfErr result (λ e. e ≡ OutOfMemory) }
-{
-    let held = Held {
-        found: None,
-        what: What::Verification(Verifier::of(table)?),
-    };
-    Ok(Box::new(alloc, held)?)
-}
 
 // Puts a verification of a table into a handle that holds nothing.
 fn begin(alloc: Global, held: &Held, verification: &mut Handle) -> u32
@@ -47,11 +31,8 @@ fn begin(alloc: Global, held: &Held, verification: &mut Handle) -> u32
     let What::Table(table) = &held.what else {
         return OTHER_KIND;
     };
-    match box_of(alloc, table) {
-        Ok(held) => {
-            verification.put(held);
-            0
-        }
+    match Verifier::of(table) {
+        Ok(verifier) => verification.begin(alloc, What::Verification(verifier)),
         Err(error) => u32::from(error.number()),
     }
 }

@@ -29,22 +29,25 @@ fn new_writer(alloc: Global, options: &TableOptions) -> Result<Writer, Error>
     Ok(writer.use_options(writer_options(options)))
 }
 
-fn new_box(alloc: Global, options: &TableOptions) -> Result<Box<Held>, Error>
-    requires { are_usable options.now ≡ true }
-    ensures new { IfOk result (λ held. held.value.found ≡ None) }
-    ensures writer { IfOk result (λ held.
-        (writer_in held.value.what ≡ Some (writing_told options.now))
-        × (files_held held.value.what ≡ [])) }
-    ensures err { IfErr result (λ e. e ≡ OutOfMemory) }
+// Puts a writer with these options into a handle that holds nothing.
+fn begin(alloc: Global, options: &TableOptions, writer: &mut Handle) -> u32
+    requires empty { writer.old.boxed.value ≡ None }
+    requires usable { are_usable options.now ≡ true }
+    ensures memory { (result ≡ 0) ⊎ (result ≡ 1) }
+    ensures opened { result ≡ 0 → IsSomeAnd writer.new.boxed.value (λ h. (h.found ≡ None)
+        × (writer_in h.what ≡ Some (writing_told options.now)) × (files_held h.what ≡ [])) }
+    ensures left { result ≢ 0 → writer.new.boxed.value ≡ None }
 {
-    let held = Held {
-        found: None,
-        what: What::Files(Files {
-            writer: Some(new_writer(alloc, options)?),
-            tables: Vec::new(alloc),
-        }),
-    };
-    Ok(Box::new(alloc, held)?)
+    match new_writer(alloc, options) {
+        Ok(begun) => {
+            let files = Files {
+                writer: Some(begun),
+                tables: Vec::new(alloc),
+            };
+            writer.begin(alloc, What::Files(files))
+        }
+        Err(error) => u32::from(error.number()),
+    }
 }
 
 /// Begins to write a table, into a handle that holds nothing. Refused 101 where the handle holds
@@ -67,13 +70,7 @@ pub extern "C" fn sst_writer_open(alloc: Global, options: &TableOptions, writer:
     if !are_usable(options) {
         return NO_SUCH;
     }
-    match new_box(alloc, options) {
-        Ok(held) => {
-            writer.put(held);
-            0
-        }
-        Err(error) => u32::from(error.number()),
-    }
+    begin(alloc, options, writer)
 }
 
 // The kind that C names.

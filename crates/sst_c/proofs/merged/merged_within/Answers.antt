@@ -12,9 +12,9 @@ returns-clause-list c lists hold =
     let high = bound_told c.args.upper_kind c.args.upper.now in
     let from = c.in_ok-range.range.0 in
     let to = c.in_ok-range.range.1 in
-    list_same _ _ c.merged_of.result (λ held. held.value.what)
+    list_same _ _ c.newest_within.result
     (newest (numbered_below c.args.seqno (within from to (union_in lists))))
     (newest (numbered_below c.args.seqno (within low high (union_in lists))))
     (ap (λ (b : Bound (List ℕ)). newest (numbered_below c.args.seqno (within b to (union_in lists)))) c.in_ok-range.ensures.lower
     ∙ ap (λ (b : Bound (List ℕ)). newest (numbered_below c.args.seqno (within low b (union_in lists)))) c.in_ok-range.ensures.upper)
-    (c.merged_of.ensures.list lists hold)
+    (c.newest_within.ensures.list lists hold)

@@ -3,7 +3,7 @@ use Rattle.sst_c.specs.What.{DealsTable, IsRangeWhere, bound_told}
 use Rattle.sst_c.specs.declared.held.Held.{Held}
 use Rattle.sst_c.proofs.ranges.begin_within.Goals as goal
 
--- what was put into the handle is the box that was made
+-- what the handle holds is the range that was begun
 pub returns-in-Ok-clause-list : goal.returns-in-Ok-clause-list
 returns-in-Ok-clause-list c es stores zero =
     let low = bound_told c.args.lower_kind c.args.lower.now in
@@ -11,4 +11,4 @@ returns-in-Ok-clause-list c es stores zero =
     let g = c.args.table.now.global_seqno in
     let P : Option Held → Type 0 =
     λ o. IsSomeAnd o (λ r. IsRangeWhere (DealsTable low high es g) r.what) in
-    subst P (sym c.put.ensures) (c.in-Ok.ensures.list es stores)
+    subst P (sym (c.begin.ensures.begun zero)) (c.in-Ok.ensures.list es stores)
