@@ -18,7 +18,7 @@ use sst_entries::{SeqNo, ValueType};
 use std::ops::Bound;
 
 /// A line of a script.
-#[derive(Clone, Copy, Debug, PartialEq, Eq)]
+#[derive(Clone, Copy)]
 pub enum Command<'a> {
     /// Adds a pending entry.
     Entry {

@@ -1,6 +1,6 @@
 //! What the runs that a script has written answer.
 ghost use Rattle.std.specs.Prelude.{◌≡◌, ◌+◌, ◌-◌, ◌<◌, ◌^◌, Bool, IfErr, IfOk, List, Option, Ok};
-ghost use Rattle.std.specs.Prelude.{map};
+ghost use Rattle.std.specs.Prelude.{◌∷◌, [], map};
 ghost use Rattle.std.specs.Arc.{arc_value};
 ghost use Rattle.std.specs.Iterator.{IsFinite};
 ghost use Rattle.std.specs.Vec.{vec_items};
@@ -91,6 +91,31 @@ fn collect<A: Allocator, I: Iterator<Item = IterItem<A>>>(
     Ok(items)
 }
 
+/// A run that can be shared. Refused for want of memory alone.
+pub(crate) fn share<A: Allocator + Clone>(
+    alloc: &A,
+    run: Run<Table<A>, A>,
+) -> Result<Arc<Run<Table<A>, A>, A>, Error>
+    ensures ok { IfOk result (λ shared. arc_value shared ≡ run) }
+    ensures err { IfErr result (λ e. e ≡ OutOfMemory) }
+{
+    Ok(Arc::new(alloc.clone()?, run)?)
+}
+
+/// A run alone that can be shared. Refused for want of memory alone.
+pub(crate) fn share_one<A: Allocator + Clone>(
+    alloc: &A,
+    run: Run<Table<A>, A>,
+) -> Result<Vec<Arc<Run<Table<A>, A>, A>, A>, Error>
+    ensures ok { IfOk result (λ runs. map arc_value runs.items ≡ run ∷ []) }
+    ensures err { IfErr result (λ e. e ≡ OutOfMemory) }
+{
+    let shared = share(alloc, run)?;
+    let mut runs = Vec::new(alloc.clone()?);
+    runs.push(shared)?;
+    Ok(runs)
+}
+
 /// Runs that can be shared. Refused for want of memory alone.
 pub(crate) fn share_all<A: Allocator + Clone>(
     alloc: A,
@@ -101,7 +126,7 @@ pub(crate) fn share_all<A: Allocator + Clone>(
 {
     let mut shared = Vec::new(alloc.clone()?);
     for run in runs {
-        shared.push(Arc::new(alloc.clone()?, run)?)?;
+        shared.push(share(&alloc, run)?)?;
     }
     Ok(shared)
 }

@@ -15,7 +15,7 @@ ghost use Rattle.sst_script.specs.Script.{store, kept_by, CompactsRuns, Executes
 ghost use Rattle.sst_script.specs.Script.{WritesPending};
 
 use crate::pending::{Pending, TARGET_SIZE};
-use crate::runs::{is_repeated, newest_answer, newest_entries, share_all};
+use crate::runs::{is_repeated, newest_answer, newest_entries, share, share_all, share_one};
 use crate::{
     Answer, Command, Failure, Stop, parse_command, print_answer, print_refusal, print_stop,
 };
@@ -244,7 +244,8 @@ impl<A: Allocator + Clone> Script<A> {
             return Ok(0);
         };
         let count = run.as_slice().len() as u64;
-        self.runs.insert(0, Arc::new(self.alloc.clone()?, run)?)?;
+        let shared = share(&self.alloc, run)?;
+        self.runs.insert(0, shared)?;
         self.ids = ids;
         Ok(count)
     }
@@ -280,9 +281,7 @@ impl<A: Allocator + Clone> Script<A> {
             return Ok(0);
         };
         let tables = run.as_slice().len() as u64;
-        let mut runs = Vec::new(self.alloc.clone()?);
-        runs.push(Arc::new(self.alloc.clone()?, run)?)?;
-        self.runs = runs;
+        self.runs = share_one(&self.alloc, run)?;
         self.ids = next_ids;
         Ok(tables)
     }

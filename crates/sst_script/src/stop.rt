@@ -4,7 +4,7 @@ use sst_entries::Error;
 use std::alloc::{AllocError, AllocFailed};
 
 /// Why a script ends before its last line.
-#[derive(Clone, Copy, Debug, PartialEq, Eq)]
+#[derive(Clone, Copy)]
 pub enum Stop {
     /// A line, counted from 1, is none of a script's, or asks for what cannot stand.
     Line(u64),
@@ -27,7 +27,7 @@ impl From<AllocError> for Stop {
 }
 
 /// Why a command has no answer.
-#[derive(Debug, Drop, PartialEq, Eq)]
+#[derive(Drop)]
 pub enum Failure {
     /// The line is at fault, and the script ends.
     BadLine,

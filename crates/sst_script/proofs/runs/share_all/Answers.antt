@@ -10,7 +10,7 @@ loop-run-init g c = rw (c.new-shared.ensures.items, c.into_iter-run-iterator.ens
 pub loop-run-preserved : goal.loop-run-preserved
 loop-run-preserved g c =
     rw c.in_ok-push.ensures.items
-    (shared_more arc_value c.loop-run.shared.items c.in_ok-new.field-0 c.in-Some.run' c.loop-run.run-iterator.rest.items c.next.new.self.rest.items c.args.runs.items c.in_ok-new.ensures.ok c.in-Some.ensures.steps.0 c.loop-run.invariant)
+    (shared_more arc_value c.loop-run.shared.items c.in_ok-share.field-0 c.in-Some.run' c.loop-run.run-iterator.rest.items c.next.new.self.rest.items c.args.runs.items c.in_ok-share.ensures.ok c.in-Some.ensures.steps.0 c.loop-run.invariant)
 
 pub returns-clause-ok : goal.returns-clause-ok
 returns-clause-ok g c =

@@ -35,9 +35,8 @@ returns-clause-done g c runs same =
     let own = held runs (map arc_value c.deref.result.now) (same ∙ ap (map arc_value) (sym c.deref.ensures.value)) in
     let tables = c.in-Some.run' in
     let moment : c.from.result ≡ 0 = search rules in
-    let put : map arc_value c.push.new.self.items ≡ c.in-Some.run' ∷ [] = rw (c.in_ok-push.ensures.items, c.new-runs.ensures.items) (ap (λ (run : List OpenTable). run ∷ []) c.in_ok-new.ensures.ok) in
-    compacted s.pending left s.ids runs (map arc_value s.runs.items) same (map arc_value c.push.new.self.items) c.in_ok-run.next_ids tables _
-    put
+    compacted s.pending left s.ids runs (map arc_value s.runs.items) same (map arc_value c.in_ok-self.field-0.items) c.in_ok-run.next_ids tables _
+    c.in_ok-self.ensures.ok
     (ap length c.as_slice.ensures)
     (moved (λ m es. tables_fault s.ids target_size m es ≡ None) c.from.result 0 of left moment is (c.in_ok-run.ensures.refused (lists_of runs) own))
     (rw c.in-Some.is at c.in_ok-run.ensures.ids)
@@ -46,8 +45,7 @@ returns-clause-done g c runs same =
 
 pub returns-clause-able : goal.returns-clause-able
 returns-clause-able g c =
-    let put : map arc_value c.push.new.self.items ≡ c.in-Some.run' ∷ [] = rw (c.in_ok-push.ensures.items, c.new-runs.ensures.items) (ap (λ (run : List OpenTable). run ∷ []) c.in_ok-new.ensures.ok) in
-    subst AreCompactable (sym put) (rw c.in-Some.is at c.in_ok-run.ensures.able)
+    subst AreCompactable (sym c.in_ok-self.ensures.ok) (rw c.in-Some.is at c.in_ok-run.ensures.able)
 
 pub returns-in_default-clause-done : goal.returns-in_default-clause-done
 returns-in_default-clause-done g c runs same =

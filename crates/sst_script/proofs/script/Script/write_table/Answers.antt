@@ -18,7 +18,7 @@ returns-clause-done g c runs same =
     let label = run_label s.ids target_size 0 in
     let fresh = answered runs s.pending c.items.result.now c.in_ok-is_repeated.field-0 false (c.in_ok-is_repeated.ensures runs (same ∙ ap (map arc_value) (sym c.deref.ensures.value))) c.if-branch.false c.items.ensures.items in
     let taken = c.replace-pending.ensures.value in
-    let put = ap (map arc_value) c.in_ok-insert.ensures.items ∙ ap (λ (run : List OpenTable). run ∷ ts) c.in_ok-new.ensures.ok in
+    let put = ap (map arc_value) c.in_ok-insert.ensures.items ∙ ap (λ (run : List OpenTable). run ∷ ts) c.in_ok-shared.ensures.ok in
     let count = ap length c.as_slice.ensures in
     let behind = rw c.in-Some.is at c.in_ok-run.ensures.ids in
     let is = rw c.in-Some.is at c.in_ok-run.ensures.run in
@@ -38,7 +38,7 @@ returns-clause-able g c =
     let runs = able_runs ts c.requires in
     let fresh = answered runs.0 s.pending c.items.result.now c.in_ok-is_repeated.field-0 false (c.in_ok-is_repeated.ensures runs.0 (runs.1 ∙ ap (map arc_value) (sym c.deref.ensures.value))) c.if-branch.false c.items.ensures.items in
     let taken = c.replace-pending.ensures.value in
-    let put = ap (map arc_value) c.in_ok-insert.ensures.items ∙ ap (λ (run : List OpenTable). run ∷ ts) c.in_ok-new.ensures.ok in
+    let put = ap (map arc_value) c.in_ok-insert.ensures.items ∙ ap (λ (run : List OpenTable). run ∷ ts) c.in_ok-shared.ensures.ok in
     let is = rw c.in-Some.is at c.in_ok-run.ensures.run in
     let cut = rw c.in-Some.is at c.in_ok-run.ensures.cut in
     able_more runs.0 ts (map arc_value c.insert.new.self.items) label s.pending tables runs.1 c.requires put
