@@ -100,19 +100,16 @@ impl Lends for RunScanner<Global> {
     }
 }
 
-// What came at a step: an entry, a refusal of some number, or the end.
-#[derive(Clone, Copy, PartialEq, Eq)]
-enum Came {
-    Entry,
-    Refusal(u8),
-    End,
-}
+// What came at a step: whether an entry did, and else the number of the refusal, or 0 at the end.
+type Came = (bool, u8);
+
+const END: Came = (false, 0);
 
 fn what_came(given: &Option<IterItem<Global>>) -> Came {
     match given {
-        Some(Ok(_)) => Came::Entry,
-        Some(Err(error)) => Came::Refusal(error.number()),
-        None => Came::End,
+        Some(Ok(_)) => (true, 0),
+        Some(Err(error)) => (false, error.number()),
+        None => END,
     }
 }
 
@@ -135,7 +132,7 @@ pub type Walk = (usize, u8);
 // A walk, if it is over on both sides.
 fn over<G: Gives, L: Lends>(giving: &mut G, lending: &mut L, walk: Walk) -> Option<Walk> {
     for _ in 0..3 {
-        if step_both(giving, lending) != Some(Came::End) {
+        if step_both(giving, lending) != Some(END) {
             return None;
         }
     }
@@ -146,9 +143,8 @@ fn over<G: Gives, L: Lends>(giving: &mut G, lending: &mut L, walk: Walk) -> Opti
 fn walked<G: Gives, L: Lends>(giving: &mut G, lending: &mut L) -> Option<Walk> {
     for entries in 0..20 {
         match step_both(giving, lending) {
-            Some(Came::Entry) => {}
-            Some(Came::Refusal(number)) => return over(giving, lending, (entries, number)),
-            Some(Came::End) => return over(giving, lending, (entries, 0)),
+            Some((true, _)) => {}
+            Some((false, number)) => return over(giving, lending, (entries, number)),
             None => return None,
         }
     }

@@ -4,7 +4,7 @@ ghost use Rattle.lsm_writers.specs.Writing.{IsWritable};
 ghost use Rattle.sst_entries.specs.Stream.{CanDeal};
 
 use crate::rows::{Row, entry};
-use crate::runs::{Bounds, Name, Tables, name_of, owned_range};
+use crate::runs::{Bounds, Name, Tables, name_in, name_of, owned_range};
 use logpurple::{RunReader, range_runs};
 use lsm_sorted::NewestOf;
 use lsm_writers::is_writable;
@@ -47,6 +47,35 @@ fn answers_in<S: DoubleEndedIterator<Item = IterItem<A>>, A: Allocator + Copy>(
     Ok(answers_at(alloc, stream, ends)?)
 }
 
+// The same of several runs. This alone hands their stream, and `answers_last` alone lets it go.
+fn answers_of<A: Allocator + Copy>(
+    alloc: A,
+    stream: &mut Stream<A>,
+    ends: &[Direction],
+) -> Result<Vec<Option<IterItem<A>>, A>, Error>
+    requires { CanDeal ⟦<Stream<A> as Iterator>⟧.next_gives
+        ⟦<Stream<A> as DoubleEndedIterator>⟧.next_back_gives
+        ⟦<Stream<A> as Iterator>⟧.can_next
+        ⟦<Stream<A> as DoubleEndedIterator>⟧.can_next_back stream.old }
+{
+    answers_in(alloc, stream, ends)
+}
+
+fn answers_last<A: Allocator + Copy>(
+    alloc: A,
+    mut stream: Stream<A>,
+    ends: &[Direction],
+) -> Result<Vec<Option<IterItem<A>>, A>, Error>
+    requires { CanDeal ⟦<Stream<A> as Iterator>⟧.next_gives
+        ⟦<Stream<A> as DoubleEndedIterator>⟧.next_back_gives
+        ⟦<Stream<A> as Iterator>⟧.can_next
+        ⟦<Stream<A> as DoubleEndedIterator>⟧.can_next_back stream }
+{
+    let answers = answers_of(alloc, &mut stream, ends);
+    drop(stream);
+    answers
+}
+
 /// What some runs answer at some ends, within bounds.
 pub fn answers_within<A: Allocator + Copy>(
     alloc: A,
@@ -55,11 +84,10 @@ pub fn answers_within<A: Allocator + Copy>(
     ends: &[Direction],
 ) -> Result<Vec<Option<IterItem<A>>, A>, Error> {
     let range = owned_range(alloc, bounds)?;
-    let mut stream = range_runs(alloc, runs, range)?;
-    let answers = answers_in(alloc, &mut stream, ends);
-    drop(stream);
-    answers
+    answers_last(alloc, range_runs(alloc, runs, range)?, ends)
 }
+
+const BACK_AND_FRONT: [Direction; 2] = [Direction::Back, Direction::Front];
 
 /// What a stream answers at its back, and then at its front.
 pub fn ends_of<A: Allocator + Copy>(
@@ -71,7 +99,7 @@ pub fn ends_of<A: Allocator + Copy>(
         ⟦<Stream<A> as Iterator>⟧.can_next
         ⟦<Stream<A> as DoubleEndedIterator>⟧.can_next_back stream.old }
 {
-    answers_in(alloc, stream, &[Direction::Back, Direction::Front])
+    answers_of(alloc, stream, &BACK_AND_FRONT)
 }
 
 /// The names of what a read gives: of the entry that is found, and of the first and the last of a
@@ -85,10 +113,18 @@ pub fn read_names<A: Allocator + Copy>(
         ⟦<Stream<A> as Iterator>⟧.can_next
         ⟦<Stream<A> as DoubleEndedIterator>⟧.can_next_back read.1 }
 {
-    let (found, mut stream) = read;
-    let ends = ends_of(alloc, &mut stream);
-    drop(stream);
+    let (found, stream) = read;
+    let ends = answers_last(alloc, stream, &BACK_AND_FRONT);
     named(found, ends?)
+}
+
+// The names of the last and the first of a stream.
+fn names_of<A: Allocator>(ends: Vec<Option<IterItem<A>>, A>) -> [Result<Option<Name>, Error>; 2] {
+    let mut names = [Ok(None), Ok(None)];
+    for (slot, answer) in names.iter_mut().zip(ends.into_iter()) {
+        *slot = name_of(answer);
+    }
+    names
 }
 
 /// The names of a found entry, and of the first and the last of a stream, by the answers of
@@ -97,11 +133,8 @@ pub fn named<A: Allocator + Copy>(
     found: Option<InternalValue<A>>,
     ends: Vec<Option<IterItem<A>>, A>,
 ) -> Result<[Option<Name>; 3], Error> {
-    let found = name_of(found.map(|item| Ok(item)));
-    let mut names = [Ok(None), Ok(None)];
-    for (slot, answer) in names.iter_mut().zip(ends.into_iter()) {
-        *slot = name_of(answer);
-    }
-    let [last, first] = names;
-    Ok([found?, first?, last?])
+    let name = found.as_ref().map(name_in);
+    drop(found);
+    let [last, first] = names_of(ends);
+    Ok([name, first?, last?])
 }

@@ -4,7 +4,7 @@ use crate::rows::{Row, fill, new_writer};
 use crate::tables::{open, overwritten};
 use logpurple::Table;
 use lsm_ranges::Run;
-use sst_blocks::{Error, IterItem, SeqNo, Slice, UserKey};
+use sst_blocks::{Error, InternalValue, IterItem, SeqNo, Slice, UserKey};
 use std::alloc::Allocator;
 use std::ops::Bound;
 use std::sync::Arc;
@@ -125,13 +125,18 @@ pub fn from_before<'a>(low: &'a [u8], high: &'a [u8]) -> Bounds<'a> {
     (Bound::Included(low), Bound::Excluded(high))
 }
 
+/// The name of an entry.
+pub(crate) fn name_in<A: Allocator>(item: &InternalValue<A>) -> Name {
+    match item.key.user_key.as_slice() {
+        [byte] => (*byte, item.key.seqno),
+        _ => (0, item.key.seqno),
+    }
+}
+
 /// The name of an answer.
 pub fn name_of<A: Allocator>(item: Option<IterItem<A>>) -> Result<Option<Name>, Error> {
     match item {
-        Some(Ok(item)) => match item.key.user_key.as_slice() {
-            [byte] => Ok(Some((*byte, item.key.seqno))),
-            _ => Ok(Some((0, item.key.seqno))),
-        },
+        Some(Ok(item)) => Ok(Some(name_in(&item))),
         Some(Err(error)) => Err(error),
         None => Ok(None),
     }

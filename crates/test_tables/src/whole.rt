@@ -61,10 +61,11 @@ pub trait Walk {
 
 impl<A: Allocator + Clone> Walk for Iter<A> {
     fn gives(&mut self, end: Direction, row: Option<&Row<'_>>) -> bool {
-        match end {
-            Direction::Front => is_answer(&self.next(), row),
-            Direction::Back => is_answer(&self.next_back(), row),
-        }
+        let answer = match end {
+            Direction::Front => self.next(),
+            Direction::Back => self.next_back(),
+        };
+        is_answer(&answer, row)
     }
 }
 
@@ -79,10 +80,11 @@ impl<A: Allocator + Clone> Walk for Scanner<A> {
 
 impl<A: Allocator + Copy> Walk for RunReader<A> {
     fn gives(&mut self, end: Direction, row: Option<&Row<'_>>) -> bool {
-        match end {
-            Direction::Front => is_answer(&self.next(), row),
-            Direction::Back => is_answer(&self.next_back(), row),
-        }
+        let answer = match end {
+            Direction::Front => self.next(),
+            Direction::Back => self.next_back(),
+        };
+        is_answer(&answer, row)
     }
 }
 
