@@ -47,7 +47,7 @@ fn compact_alone<A: Allocator + Clone>(
 
 // Writes a list as a run and compacts it; none where nothing is kept.
 fn write_and_compact<A: Allocator + Clone>(
-    alloc: A,
+    alloc: &A,
     items: Vec<InternalValue<A>, A>,
     target_size: u64,
     rules: Rules,
@@ -73,7 +73,7 @@ fn write_and_compact<A: Allocator + Clone>(
     let Some(run) = run else {
         return Ok(None);
     };
-    compact_alone(alloc, run, ids, target_size, rules)
+    compact_alone(alloc.clone()?, run, ids, target_size, rules)
 }
 
 /// What a point read and a range give of a list that was written as a run, compacted, and whose new
@@ -122,7 +122,7 @@ pub fn compact_run_back<A: Allocator + Clone>(
         FitsAsTables (ids_behind (Some 1) target_size (length first.tables)) target_size left →
         IfErr result (λ e. e ≡ OutOfMemory) }
 {
-    let run = write_and_compact(alloc.clone()?, items, target_size, rules)?;
+    let run = write_and_compact(&alloc, items, target_size, rules)?;
     match run {
         Some(run) => Ok(Some(read_run(alloc, run, key, seqno, range)?)),
         None => Ok(None),

@@ -38,8 +38,8 @@ fn share_behind<A: Allocator>(
 }
 
 // Runs side by side: those in front of a part, the part, and those behind it.
-fn side_by_side<A: Allocator>(
-    alloc: A,
+fn side_by_side<A: Allocator + Clone>(
+    alloc: &A,
     front: &[Arc<Run<Table<A>, A>, A>],
     part: &[Arc<Run<Table<A>, A>, A>],
     behind: &[Arc<Run<Table<A>, A>, A>],
@@ -48,7 +48,7 @@ fn side_by_side<A: Allocator>(
         ≡ map arc_value front.now ++ (map arc_value part.now ++ map arc_value behind.now)) }
     ensures err { IfErr result (λ e. e ≡ OutOfMemory) }
 {
-    let mut runs = Vec::new(alloc);
+    let mut runs = Vec::new(alloc.clone()?);
     share_behind(&mut runs, front)?;
     share_behind(&mut runs, part)?;
     share_behind(&mut runs, behind)?;
@@ -57,7 +57,7 @@ fn side_by_side<A: Allocator>(
 
 // What a point read and a range of runs side by side give.
 fn read_side_by_side<A: Allocator + Clone>(
-    alloc: A,
+    alloc: &A,
     front: &[Arc<Run<Table<A>, A>, A>],
     part: &[Arc<Run<Table<A>, A>, A>],
     behind: &[Arc<Run<Table<A>, A>, A>],
@@ -79,14 +79,14 @@ fn read_side_by_side<A: Allocator + Clone>(
         (map arc_value part.now) (map arc_value behind.now) fs ps bs →
         IfErr result (λ e. e ≡ OutOfMemory) }
 {
-    let runs = side_by_side(alloc.clone()?, front, part, behind)?;
+    let runs = side_by_side(alloc, front, part, behind)?;
     read_runs(alloc, &runs, key, seqno, range)
 }
 
 // What a point read and a range of runs side by side give, where the bounds are read within again:
 // it shares them.
 fn read_within<A: Allocator + Clone>(
-    alloc: A,
+    alloc: &A,
     front: &[Arc<Run<Table<A>, A>, A>],
     part: &[Arc<Run<Table<A>, A>, A>],
     behind: &[Arc<Run<Table<A>, A>, A>],
@@ -115,7 +115,7 @@ fn read_within<A: Allocator + Clone>(
 
 // A run alone, as one that is shared; none where there is none.
 fn shared_alone<A: Allocator + Clone>(
-    alloc: A,
+    alloc: &A,
     run: Option<Run<Table<A>, A>>,
 ) -> Result<Vec<Arc<Run<Table<A>, A>, A>, A>, Error>
     ensures runs { IfOk result (λ v.
@@ -126,7 +126,7 @@ fn shared_alone<A: Allocator + Clone>(
     match run {
         None => Ok(runs),
         Some(run) => {
-            runs.push(Arc::new(alloc, run)?)?;
+            runs.push(Arc::new(alloc.clone()?, run)?)?;
             Ok(runs)
         }
     }
@@ -134,7 +134,7 @@ fn shared_alone<A: Allocator + Clone>(
 
 // Compacts a part into a run, where something is kept.
 fn compact_part<A: Allocator + Clone>(
-    alloc: A,
+    alloc: &A,
     part: &[Arc<Run<Table<A>, A>, A>],
     rules: Rules,
     ids: TableIds,
@@ -156,7 +156,7 @@ fn compact_part<A: Allocator + Clone>(
 
 // What a point read and a range of runs side by side give once the part is compacted.
 fn read_compacted<A: Allocator + Clone>(
-    alloc: A,
+    alloc: &A,
     front: &[Arc<Run<Table<A>, A>, A>],
     part: &[Arc<Run<Table<A>, A>, A>],
     behind: &[Arc<Run<Table<A>, A>, A>],
@@ -186,7 +186,7 @@ fn read_compacted<A: Allocator + Clone>(
         (map arc_value part.now) (map arc_value behind.now) fs ps bs →
         FitsAsTables ids target_size (kept_in rules ps) → IfErr result (λ e. e ≡ OutOfMemory) }
 {
-    let made = compact_part(alloc.clone()?, part, rules, ids, target_size, created_at)?;
+    let made = compact_part(alloc, part, rules, ids, target_size, created_at)?;
     read_side_by_side(alloc, front, &made, behind, key, seqno, range)
 }
 
@@ -254,9 +254,9 @@ pub fn compact_part_back<A: Allocator + Clone>(
         FitsAsTables ids target_size (kept_in rules ps) → IfErr result (λ e. e ≡ OutOfMemory) }
 {
     compaction_law();
-    let before = read_within(alloc.clone()?, front, part, behind, key, seqno, &range)?;
+    let before = read_within(&alloc, front, part, behind, key, seqno, &range)?;
     let after = read_compacted(
-        alloc,
+        &alloc,
         front,
         part,
         behind,

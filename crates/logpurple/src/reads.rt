@@ -20,7 +20,7 @@ pub type Reads<A> = (Option<InternalValue<A>>, NewestOfRuns<A>);
 
 // What a point read and a range of several runs give.
 pub(crate) fn read_runs<A: Allocator + Clone>(
-    alloc: A,
+    alloc: &A,
     runs: &[Arc<Run<Table<A>, A>, A>],
     key: &[u8],
     seqno: SeqNo,
@@ -51,7 +51,7 @@ pub(crate) fn read_runs<A: Allocator + Clone>(
         IsOverSpans gives back_gives range.0 range.1 (map arc_value runs.now) read.1) }
 {
     let found = get_runs(runs, key, seqno)?;
-    let stream = range_runs(alloc, runs, range)?;
+    let stream = range_runs(alloc.clone()?, runs, range)?;
     Ok((found, stream))
 }
 
@@ -91,5 +91,5 @@ pub fn read_run<A: Allocator + Clone>(
         IsOverSpans gives back_gives range.0 range.1 (run ∷ []) read.1) }
 {
     let runs = [Arc::new(alloc.clone()?, run)?];
-    read_runs(alloc, &runs, key, seqno, range)
+    read_runs(&alloc, &runs, key, seqno, range)
 }

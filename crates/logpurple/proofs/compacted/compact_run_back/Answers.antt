@@ -18,7 +18,7 @@ pub returns-in_err-run-clause-refused : goal.returns-in_err-run-clause-refused
 returns-in_err-run-clause-refused g c tables are =
     let a = c.args in
     let left = kept a.rules (unfiltered a.items.items) in
-    let r = c.from_residual-in_err-run in
+    let r = c.from_residual in
     faults_refusal r.result c.in_err-run.field-0.0 (both_fault a.target_size a.items.items tables left) r.ensures.1 (c.in_err-run.ensures.refused tables are)
 
 pub returns-in_err-read_run-in-Some-clause-refused :
