@@ -1,6 +1,7 @@
 //! Files that are compacted.
 ghost use Rattle.std.specs.Prelude.{◌≡◌, ◌+◌, ◌^◌, ◌<◌, ◌∷◌, [], IfErr, IfNone, IfOk, IfSome, ℕ};
-ghost use Rattle.std.specs.Prelude.{IsErrAnd, List, OnOk, Option, Some, false, length, map, true};
+ghost use Rattle.std.specs.Prelude.{IsErrAnd, List, MatchOption, OnOk, Option, Some, false};
+ghost use Rattle.std.specs.Prelude.{length, map, true};
 ghost use Rattle.std.specs.Arc.{arc_value};
 ghost use Rattle.std.specs.List.{AllByRecursion};
 ghost use Rattle.lsm_compactions.specs.Compacted.{FitsBy};
@@ -74,6 +75,16 @@ fn count_entries<A: Allocator>(tables: &[Table<A>]) -> u64
         count = count.saturating_add(table.metadata.item_count);
     }
     count
+}
+
+// How many entries the tables of a run tell, if there is one.
+fn count_run<A: Allocator>(run: &Option<Run<Table<A>, A>>) -> u64
+    ensures { MatchOption run.now (result ≡ 0) (λ tables. result ≡ counted tables) }
+{
+    match run {
+        Some(run) => count_entries(run.as_slice()),
+        None => 0,
+    }
 }
 
 // Which file a refusal comes from, as far as there is memory to find it.
@@ -183,10 +194,8 @@ fn compact_tables<A: Allocator + Copy>(
     let writer = options.writer(alloc)?;
     let how = OpenOptions::default();
     let (outcome, run) = compact_to_run_with(alloc, &runs, options.rules, writer, &how)?;
-    let entries = match run {
-        Some(run) => count_entries(run.as_slice()),
-        None => 0,
-    };
+    let entries = count_run(&run);
+    drop(run);
     Ok((outcome, entries))
 }
 

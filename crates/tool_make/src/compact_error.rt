@@ -39,25 +39,31 @@ impl<'a> fmt::Display for CompactError<'a> {
     fn fmt<W: fmt::Write>(&self, f: &mut fmt::Formatter<W>) -> fmt::Result {
         match self {
             CompactError::File(error) => write!(f, "{error}"),
-            CompactError::Unreadable { name, at, error } => {
-                let number = error.number();
-                match at {
-                    RefusedAt::Block(place) => write!(f, "{name}: {place}: {error} ({number})"),
-                    RefusedAt::NoBlock | RefusedAt::NotSought => {
-                        write!(f, "{name}: {error} ({number})")
-                    }
-                }
-            }
+            CompactError::Unreadable { name, at, error } => write_unreadable(f, name, at, error),
             CompactError::OutOfOrder(path) => write!(f, "{path}: entries out of order"),
-            CompactError::Repeated => write!(f, "a key has one number twice in these files"),
-            CompactError::Unordered => write!(f, "entries out of order"),
+            CompactError::Repeated => f.write_str("a key has one number twice in these files"),
+            CompactError::Unordered => f.write_str("entries out of order"),
             CompactError::Range(path) => write!(f, "{path}: the first key is above the last"),
-            CompactError::Refused(Error::OutOfMemory) => write!(f, "out of memory"),
+            CompactError::Refused(Error::OutOfMemory) => f.write_str("out of memory"),
             CompactError::Refused(error) | CompactError::Unplaced(error) => {
                 let number = error.number();
                 write!(f, "{error} ({number})")
             }
         }
+    }
+}
+
+// What a file is refused, behind the block that it comes from, where that was found.
+fn write_unreadable<W: fmt::Write>(
+    f: &mut fmt::Formatter<W>,
+    name: &str,
+    at: &RefusedAt,
+    error: &Error,
+) -> fmt::Result {
+    let number = error.number();
+    match at {
+        RefusedAt::Block(place) => write!(f, "{name}: {place}: {error} ({number})"),
+        RefusedAt::NoBlock | RefusedAt::NotSought => write!(f, "{name}: {error} ({number})"),
     }
 }
 

@@ -24,12 +24,11 @@ impl fmt::Display for LineFault {
     fn fmt<W: fmt::Write>(&self, f: &mut fmt::Formatter<W>) -> fmt::Result {
         match self {
             LineFault::Spelling(error) => write!(f, "{error}"),
-            LineFault::TooHigh => write!(f, "a number is below 18446744073709551615"),
-            LineFault::OutOfOrder => write!(
-                f,
-                "out of order: keys go up, and the numbers of a key go down"
-            ),
-            LineFault::Repeated => write!(f, "another line has this key and number"),
+            LineFault::TooHigh => f.write_str("a number is below 18446744073709551615"),
+            LineFault::OutOfOrder => {
+                f.write_str("out of order: keys go up, and the numbers of a key go down")
+            }
+            LineFault::Repeated => f.write_str("another line has this key and number"),
             LineFault::Refused(error) => {
                 let number = error.number();
                 write!(f, "{error} ({number})")
@@ -66,11 +65,11 @@ impl<'a> fmt::Display for MakeError<'a> {
             MakeError::File(error) => write!(f, "{error}"),
             MakeError::Input(error) => write!(f, "standard input: {error}"),
             MakeError::Line { number, fault } => write!(f, "line {number}: {fault}"),
-            MakeError::NoEntries => write!(f, "no entries, and so no table"),
+            MakeError::NoEntries => f.write_str("no entries, and so no table"),
             MakeError::SizeTooLarge => {
-                write!(f, "a block or partition has at most 4194304 bytes")
+                f.write_str("a block or partition has at most 4194304 bytes")
             }
-            MakeError::Refused(Error::OutOfMemory) => write!(f, "out of memory"),
+            MakeError::Refused(Error::OutOfMemory) => f.write_str("out of memory"),
             MakeError::Refused(error) => {
                 let number = error.number();
                 write!(f, "{error} ({number})")

@@ -1,26 +1,24 @@
 //! Tables that are read whole, to find which is at fault.
 ghost use Rattle.std.specs.Prelude.{◌≡◌, ◌<◌, IfErr, IfOk, IfSome, IsOk, List, OnOk, Some, false};
 ghost use Rattle.std.specs.Prelude.{length, true};
-ghost use Rattle.std.specs.Iterator.{IsFinite};
 ghost use Rattle.lsm_compactions.specs.AnyRuns.{DealsResults};
 ghost use Rattle.lsm_merge.specs.Ends.{R};
+ghost use Rattle.lsm_readers.specs.Scan.{ScansNext};
 ghost use Rattle.lsm_runs.specs.RunScan.{early_scan_fault, table_scan};
 ghost use Rattle.sst_entries.specs.declared.error.Error.{Error as Refusal};
 ghost use Rattle.logpurple.specs.Words.{Entry, OutOfMemory, StoresList, is_memory};
 ghost use Rattle.tool_make.specs.Scanned.{IsFirstRefusal, come_in_order};
 
-use logpurple::{Error, InternalValue, IterItem, Table};
+use logpurple::{Error, InternalValue, Scanner, Table};
 use std::alloc::Allocator;
 
 // The first refusal among entries.
-fn first_refusal<I: Iterator<Item = IterItem<A>> + Drop, A: Allocator>(items: I) -> Option<Error>
-    requires can { I.can_next items }
-    requires finite { IsFinite (I.remaining items) }
+fn first_refusal<A: Allocator + Clone>(items: &mut Scanner<A>) -> Option<Error>
     // Memory aside, it is the first of those that come, and none where none comes.
-    ensures first { (rs : List R) → DealsResults I.next_gives rs items →
+    ensures first { (rs : List R) → DealsResults ScansNext rs items.old →
         IsFirstRefusal rs result }
 {
-    for item in items {
+    while let Some(item) = items.next() {
         if let Err(error) = item {
             return Some(error);
         }
@@ -44,17 +42,13 @@ fn ended_by(error: Error) -> Result<bool, Error>
 
 // Whether entries come in order, up to the first that cannot be read. Refused for want of memory
 // alone.
-fn is_in_order<I: Iterator<Item = IterItem<A>> + Drop, A: Allocator>(
-    items: I,
-) -> Result<bool, Error>
-    requires can { I.can_next items }
-    requires finite { IsFinite (I.remaining items) }
-    ensures order { (rs : List R) → DealsResults I.next_gives rs items →
+fn is_in_order<A: Allocator + Clone>(items: &mut Scanner<A>) -> Result<bool, Error>
+    ensures order { (rs : List R) → DealsResults ScansNext rs items.old →
         IfOk result (λ b. b ≡ come_in_order rs) }
     ensures memory { IfErr result (λ e. e ≡ OutOfMemory) }
 {
     let mut last: Option<InternalValue<A>> = None;
-    for item in items {
+    while let Some(item) = items.next() {
         let item = match item {
             Ok(item) => item,
             Err(error) => return ended_by(error),
@@ -78,7 +72,11 @@ pub(crate) fn refusal_of<A: Allocator + Copy>(table: &Table<A>) -> Option<Error>
     ensures early { (e : Refusal) → early_scan_fault table.now ≡ Some e → result ≡ Some e }
 {
     match table.scan() {
-        Ok(items) => first_refusal(items),
+        Ok(mut items) => {
+            let refusal = first_refusal(&mut items);
+            drop(items);
+            refusal
+        }
         Err(error) => Some(error),
     }
 }
@@ -95,7 +93,11 @@ pub(crate) fn has_order<A: Allocator + Copy>(table: &Table<A>) -> Result<bool, E
     ensures early { (e : Refusal) → early_scan_fault table.now ≡ Some e → IsOk result }
 {
     match table.scan() {
-        Ok(items) => is_in_order(items),
+        Ok(mut items) => {
+            let told = is_in_order(&mut items);
+            drop(items);
+            told
+        }
         Err(error) => ended_by(error),
     }
 }
