@@ -1,6 +1,7 @@
 -- Blocks of handles, one after another.
 use Rattle.std.proofs.Common.{◌≡◌, sym, ◌∙◌, ap, ℕ, zero, suc, ◌+◌, ◌<◌, List, [], ◌∷◌, ◌++◌}
 use Rattle.std.proofs.Common.{append_assoc, arith, get_or, length, map, take}
+use Rattle.std.proofs.lemmas.List.{map_more}
 use Rattle.std.specs.Prelude.{Some}
 use Rattle.std.specs.List.{flat_map, slice_get}
 use Rattle.std.specs.Option.{option_map}
@@ -17,6 +18,17 @@ grown_more {X} {Y} f xs i x first before after h is so grows =
     grows ∙ ap (λ (ys : List Y). ys ++ f x) so
     ∙ append_assoc first (flat_map f (take i xs)) (f x)
     ∙ ap (λ (ys : List Y). first ++ ys) (sym (parts_more f xs i x h is))
+
+-- the same, where that is one thing
+pub mapped_more : {X Y : Type 0} (f : X → Y) (xs : List X) (i : ℕ) (x : X)
+    (first before after : List Y) (y : Y) → i < length xs → x ≡ get_or xs i x
+    → before ≡ first ++ map f (take i xs) → y ≡ f x → after ≡ before ++ y ∷ []
+    → after ≡ first ++ map f (take (i + 1) xs)
+mapped_more {X} {Y} f xs i x first before after y h is so one grows =
+    grows ∙ ap (λ (ys : List Y). ys ++ y ∷ []) so
+    ∙ append_assoc first (map f (take i xs)) (y ∷ [])
+    ∙ ap (λ (z : Y). first ++ (map f (take i xs) ++ z ∷ [])) (one ∙ ap f is)
+    ∙ ap (λ (ys : List Y). first ++ ys) (sym (map_more f xs i x h))
 
 -- one more place
 pub places_more : (hs : List Handle) (i : ℕ) (p : Place) → option_map place_of (slice_get hs i) ≡ Some p

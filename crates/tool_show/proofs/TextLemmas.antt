@@ -39,6 +39,15 @@ parts_more {X} {Y} f (y ∷ ys) (suc i) x h is =
     ∙ ap (λ (text : List Y). f y ++ text) (parts_more f ys i x (omega (arith, h)) is)
     ∙ sym (append_assoc (f y) (flat_map f (take i ys)) (f x))
 
+-- the text of one more
+pub text_more : {X : Type 0} (f : X → List ℕ) (xs : List X) (i : ℕ) (x : X)
+    (a b c : Option (List ℕ)) → i < length xs → x ≡ get_or xs i x
+    → Appends a b (flat_map f (take i xs)) → Appends b c (f x)
+    → Appends a c (flat_map f (take (i + 1) xs))
+text_more f xs i x a b c h is before more =
+    subst (Appends a c) (sym (parts_more f xs i x h is))
+    (Appends-trans a b c (flat_map f (take i xs)) (f x) before more)
+
 -- the line of a block, part by part
 pub refusal_line : {E : Type 0} (told : Result (Unit {0}) E) (name : List ℕ) (place : BlockPlace)
     (e : Error) (a b c d : Option (List ℕ))

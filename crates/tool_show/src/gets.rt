@@ -91,7 +91,9 @@ pub fn get<'a, A: Allocator + Copy, W: Write>(
 {
     let runs = runs_of(alloc, files)?;
     let seqno = seen_below(options);
-    let found = match get_runs_counted(&runs, options.key, seqno).0 {
+    let read = get_runs_counted(&runs, options.key, seqno).0;
+    drop(runs);
+    let found = match read {
         Ok(found) => found,
         Err(error) => return Err(refused_in(alloc, error, files, options.key, seqno)),
     };
@@ -239,23 +241,9 @@ fn print_loads<'a, A: Allocator + Copy, W: Write>(
         (loads_text options.now files.now)) }
     ensures unnamed { IfErr result NamesNone }
 {
-    if options.loads {
-        print_each(alloc, output, files, options)?;
+    if !options.loads {
+        return Ok(());
     }
-    Ok(())
-}
-
-// Which blocks were loaded for each file.
-fn print_each<'a, A: Allocator + Copy, W: Write>(
-    alloc: A,
-    output: &mut W,
-    files: &[NamedTable<'a, A>],
-    options: &GetOptions<'_>,
-) -> Result<(), ShowError<'a>>
-    ensures printed { OnOk result (Appends (W.contents output.old) (W.contents output.new)
-        (flat_map (file_loads options.now) files.now)) }
-    ensures unnamed { IfErr result NamesNone }
-{
     for file in files {
         print_file(alloc, output, file, options)?;
     }

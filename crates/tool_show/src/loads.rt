@@ -147,10 +147,31 @@ fn asked_places<A: Allocator + Copy>(
     ensures err { IfErr result (λ e. e ≡ OutOfMemory) }
 {
     let source = source_of(alloc, table)?;
-    let regions = &table.regions;
-    let filter = filter_place(&source, regions, key)?;
-    let index = index_place(&source, regions, key, seqno)?;
-    let data = data_place(&source, &index, key, seqno)?;
+    let asked = asked_in(&source, &table.regions, key, seqno);
+    drop(source);
+    asked
+}
+
+// Where the blocks of some regions of a table's bytes lie that such a read asks. Refused for want
+// of memory alone.
+fn asked_in<A: Allocator + Copy>(
+    source: &BlockSource<A>,
+    regions: &ParsedRegions,
+    key: &[u8],
+    seqno: SeqNo,
+) -> Result<AskedPlaces, Error>
+    ensures filter { IfOk result (λ p.
+        p.filter ≡ filter_place (body_of source.now) regions.now key.now) }
+    ensures index { IfOk result (λ p.
+        p.index ≡ index_place (body_of source.now) regions.now key.now seqno) }
+    ensures section { IfOk result (λ p. p.index_section ≡ index_section regions.now) }
+    ensures data { IfOk result (λ p.
+        p.data ≡ data_place (body_of source.now) regions.now key.now seqno) }
+    ensures err { IfErr result (λ e. e ≡ OutOfMemory) }
+{
+    let filter = filter_place(source, regions, key)?;
+    let index = index_place(source, regions, key, seqno)?;
+    let data = data_place(source, &index, key, seqno)?;
     Ok(AskedPlaces {
         filter,
         index,

@@ -13,7 +13,7 @@ pub returns-clause-shown : goal.returns-clause-shown
 returns-clause-shown g c = λ order.
     let o = c.args.options.now in
     let told : runs_told o.key.now (seen_below o) None (runs_in c.args.files.now) ≡ Ok c.in-Ok.found
-    = search (rules, c.get_runs_counted.ensures.told) in
+    = search (rules, c.get_runs_counted-read.ensures.told) in
     let line : PrintsFound o.format c.in-Ok.found (g.W.Write.contents c.args.output.now)
     (g.W.Write.contents c.print_found.new.output) = search rules in (
       c.in-Ok.found,
@@ -27,7 +27,7 @@ returns-clause-printed g c = λ lists hold.
     let old = g.W.Write.contents c.args.output.now in
     let new = g.W.Write.contents c.print_loads.new.output in
     let is : c.in-Ok.found ≡ point (union_in lists) o.key.now (seen_below o)
-    = search (rules, c.get_runs_counted.ensures.list lists) in
+    = search (rules, c.get_runs_counted-read.ensures.list lists) in
     let line : PrintsFound o.format c.in-Ok.found old
     (g.W.Write.contents c.print_found.new.output) = search rules in
     subst (λ (found : Option Entry). PrintsText (IsAnswer o c.args.files.now found) old new) is

@@ -2,7 +2,7 @@ use Rattle.std.proofs.Common.{take}
 use Rattle.std.specs.List.{flat_map}
 use Rattle.std.specs.Io.KnownBytes.{Appends}
 use Rattle.tool_show.specs.Printed.{file_loads}
-use Rattle.tool_show.proofs.gets.print_each.Given as goal
+use Rattle.tool_show.proofs.gets.print_loads.Given as goal
 
 abbrev pub invariant-loop-file : goal.invariant-loop-file
 invariant-loop-file g l =
