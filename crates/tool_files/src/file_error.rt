@@ -54,14 +54,14 @@ impl FileFault {
 impl fmt::Display for FileFault {
     fn fmt<W: fmt::Write>(&self, f: &mut fmt::Formatter<W>) -> fmt::Result {
         match self {
-            FileFault::Folder => write!(f, "a folder, and no file"),
-            FileFault::NotPlain => write!(f, "no plain file, and not replaced"),
-            FileFault::Taken => write!(f, "is there already, and not replaced"),
-            FileFault::Left => write!(f, "left of an earlier write, and not replaced"),
+            FileFault::Folder => f.write_str("a folder, and no file"),
+            FileFault::NotPlain => f.write_str("no plain file, and not replaced"),
+            FileFault::Taken => f.write_str("is there already, and not replaced"),
+            FileFault::Left => f.write_str("left of an earlier write, and not replaced"),
             FileFault::CutShort { read, size } => {
                 write!(f, "cut short while it was read: {read} of {size} bytes")
             }
-            FileFault::NamesTaken => write!(f, "each name beside it is taken"),
+            FileFault::NamesTaken => f.write_str("each name beside it is taken"),
             FileFault::AfterOthers { renamed, error } => {
                 write!(f, "not replaced, and {renamed} before it are: {error}")
             }
