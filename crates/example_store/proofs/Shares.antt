@@ -26,6 +26,25 @@ pub shared_all : {X Y : Type 0} (f : X → Y) (shared : List X) (rest all : List
 shared_all {X} {Y} f shared rest all none so_far = sym (append-nil (map f shared))
     ∙ ap (λ (ys : List Y). map f shared ++ ys) (sym none) ∙ so_far
 
+-- ---- what is made of each element, one more
+
+module _ {X : Type 0} (xs : List X) (i : ℕ) (x : X) (less : i < length xs)
+    (is : x ≡ get_or xs i x) where
+  pub one_taken : (made : List X) (y : X) → y ≡ x → made ≡ take i xs
+      → made ++ y ∷ [] ≡ take (i + 1) xs
+  one_taken made y same so_far =
+      ap (λ (ys : List X). ys ++ y ∷ []) so_far
+      ∙ ap (λ (z : X). take i xs ++ z ∷ []) (same ∙ is)
+      ∙ sym (take_more xs i x less)
+
+  pub one_mapped : {Y : Type 0} (f : X → Y) (made : List Y) (y : Y) → y ≡ f x
+      → made ≡ map f (take i xs) → made ++ y ∷ [] ≡ map f (take (i + 1) xs)
+  one_mapped {Y} f made y same so_far =
+      ap (λ (ys : List Y). ys ++ y ∷ []) so_far
+      ∙ ap (λ (z : Y). map f (take i xs) ++ z ∷ []) same
+      ∙ sym (map-append f (take i xs) (x ∷ []))
+      ∙ ap (map f) (one_taken (take i xs) x refl refl)
+
 -- ---- a vector's iterator over shares
 
 module _ {Z : Type 0} where

@@ -170,9 +170,10 @@ fn items_within<A: Allocator>(
 {
     let mut found = Vec::new(alloc);
     for item in items {
-        if is_within(bounds, item.key.user_key.as_slice()) {
-            found.push(Ok(item.clone()?))?;
+        if !is_within(bounds, item.key.user_key.as_slice()) {
+            continue;
         }
+        found.push(Ok(item.clone()?))?;
     }
     Ok(found)
 }

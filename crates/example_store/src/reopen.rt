@@ -13,8 +13,7 @@ fn path_of(rt: &HostRuntime) -> anyhow::Result<PathBuf> {
 }
 
 // Some bytes, written to a file and read again; the file is removed.
-fn through_file(rt: &HostRuntime, bytes: &Slice) -> anyhow::Result<Slice> {
-    let path = path_of(rt)?;
+fn through_file(rt: &HostRuntime, path: &PathBuf, bytes: &Slice) -> anyhow::Result<Slice> {
     fs::write(rt, path.as_path(), bytes.as_slice())?;
     let read = fs::read(rt, path.as_path());
     fs::remove_file(rt, path.as_path())?;
@@ -22,19 +21,24 @@ fn through_file(rt: &HostRuntime, bytes: &Slice) -> anyhow::Result<Slice> {
 }
 
 // The files of a run, each written and read again.
-fn run_through_files(rt: &HostRuntime, files: &[Slice]) -> anyhow::Result<Vec<Slice>> {
+fn run_through_files(
+    rt: &HostRuntime,
+    path: &PathBuf,
+    files: &[Slice],
+) -> anyhow::Result<Vec<Slice>> {
     let mut read = Vec::new(rt.alloc());
     for file in files {
-        read.push(through_file(rt, file)?)?;
+        read.push(through_file(rt, path, file)?)?;
     }
     Ok(read)
 }
 
 // All files, each written and read again.
 fn through_files(rt: &HostRuntime, closed: &Closed) -> anyhow::Result<Closed> {
+    let path = path_of(rt)?;
     let mut files = Vec::new(rt.alloc());
     for run in &closed.files {
-        files.push(run_through_files(rt, run)?)?;
+        files.push(run_through_files(rt, &path, run)?)?;
     }
     Ok(Closed {
         files,

@@ -129,17 +129,27 @@ fn compare_steps(
     compare_both(alloc, "compacted", store, plains, all)
 }
 
-// Writes some more to a store that was opened, and compacts and packs it, and compares each time.
+// Writes some more to a store that was opened, and compares before and after.
 fn compare_opened(
     alloc: Global,
     store: &mut Store,
-    plains: &mut Plains,
+    plains: &Plains,
     all: &mut Vec<Compared>,
 ) -> Result<(), Error> {
     compare_both(alloc, "opened", store, plains, all)?;
     write_third(store, plains)?;
     store.flush()?;
     compare_both(alloc, "written again", store, plains, all)?;
+    compare_compacted(alloc, store, plains, all)
+}
+
+// Compacts and packs a store, and compares each time.
+fn compare_compacted(
+    alloc: Global,
+    store: &mut Store,
+    plains: &Plains,
+    all: &mut Vec<Compared>,
+) -> Result<(), Error> {
     store.compact_part(0, 3, plains.first_at)?;
     compare_both(alloc, "compacted in part", store, plains, all)?;
     store.pack()?;
@@ -164,7 +174,7 @@ fn compare_over(
     };
     compare_steps(alloc, store, &mut plains, all)?;
     let mut opened = reopen(rt, store, LIMIT, TARGET)?;
-    compare_opened(alloc, &mut opened, &mut plains, all)?;
+    compare_opened(alloc, &mut opened, &plains, all)?;
     drop(opened);
     Ok(())
 }
