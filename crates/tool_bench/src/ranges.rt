@@ -27,8 +27,8 @@ pub(crate) fn take_all<I: Iterator<Item = IterItem<Global>> + Drop>(
     Ok(())
 }
 
-// Takes all that an iterator gives from one end on. It is generic in it, so that its parts are looked
-// at once for both ends.
+// Takes all that an iterator gives from one end on. It is generic in it, so that its parts are
+// looked at once for both ends.
 pub(crate) fn take_from<I: DoubleEndedIterator<Item = IterItem<Global>> + Drop>(
     end: Direction,
     items: I,

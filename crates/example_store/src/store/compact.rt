@@ -118,7 +118,8 @@ pub(crate) fn compacted<A: Allocator + Clone>(
     Ok((at_most_one(alloc, run)?, left))
 }
 
-// One value that can be shared, or none. It is generic in it, so that no part of a run is looked at.
+// One run that can be shared, or none. It is generic in what a run is, so that none of its parts is
+// looked at.
 fn at_most_one<T: Drop, A: Allocator + Clone>(
     alloc: &A,
     run: Option<T>,

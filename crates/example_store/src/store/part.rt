@@ -76,7 +76,8 @@ fn cut_out<A: Allocator>(
     (front, part, behind)
 }
 
-// Shares runs behind others. It is generic in what a run is, so that none of its parts is looked at.
+// Shares runs behind others. It is generic in what a run is, so that none of its parts is looked
+// at.
 fn share_behind<T: Drop, A: Allocator>(
     shared: &mut Vec<Arc<T, A>, A>,
     runs: &[Arc<T, A>],
