@@ -2,7 +2,7 @@
 use Rattle.std.proofs.Common.{◌≡◌, refl, sym, ◌∙◌, ap, subst, ℕ, ◌+◌, ◌<◌, List, [], ◌∷◌, ◌++◌}
 use Rattle.std.proofs.Common.{append-nil, append_assoc, arith, drop, get_or, inl, inr, length}
 use Rattle.std.proofs.Common.{length-append, take}
-use Rattle.std.specs.Prelude.{Any, IfErr, IfSome, Option, Some, None, Result, Ok, Err, map, string_bytes}
+use Rattle.std.specs.Prelude.{Any, IfErr, IfSome, OnOk, Option, Some, None, Result, Ok, Err, map, string_bytes}
 use Rattle.std.specs.List.{AllByRecursion}
 use Rattle.std.proofs.lemmas.List.{drop_more, get_or_at, get_or_default, length-map, length-take-le, map-append}
 use Rattle.std.proofs.lemmas.List.{take-append-drop, take_more}
@@ -415,6 +415,18 @@ pub stopped_at : {A : Type 0} (bs : List (Beside A)) (i : ℕ) (d : Beside A) (e
     → StopsRenamingAt (standing_in bs) i e
 stopped_at {A} bs i d e less named counted =
     stops_at bs i (get_or bs i d) e less (get_or_default bs i d (get_or bs i d) less) named counted
+
+-- putting files in their places
+pub put_placed : {A R : Type 0} (told : Result R FileError) (known one new : Option (List Step))
+    (wanted : List NewFile) (bs named : List (Beside A)) → AreBeside wanted (standing_in bs)
+    → named ≡ bs → one ≡ then_done known (writing (standing_in bs))
+    → OnOk told (new ≡ then_done (then_done one (renaming (standing_in named)))
+    (syncing (standing_in named))) → OnOk told (ArePlaced known wanted new)
+put_placed (Err e) known one new wanted bs named are same written h = tt
+put_placed {A} (Ok r) known one new wanted bs named are same written h =
+    placed known one new wanted (standing_in bs) are written
+    (subst (λ (l : List (Beside A)). new ≡ then_done (then_done one (renaming (standing_in l)))
+    (syncing (standing_in l))) same h)
 
 -- putting files in their places is refused
 pub put_refused : {A R : Type 0} (told : Result R FileError) (there : List ℕ → Option Bool)

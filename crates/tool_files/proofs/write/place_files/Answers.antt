@@ -1,5 +1,5 @@
 use Rattle.tool_files.proofs.Modes.{modes_kept}
-use Rattle.tool_files.proofs.Steps.{put_names, put_refused}
+use Rattle.tool_files.proofs.Steps.{none_left, put_names, put_placed, put_refused}
 use Rattle.tool_files.specs.Standing.{standing_in}
 use Rattle.tool_files.proofs.write.place_files.Goals as goal
 
@@ -15,3 +15,20 @@ pub returns-in-Ok-clause-kept : goal.returns-in-Ok-clause-kept
 returns-in-Ok-clause-kept g c =
     modes_kept c.put_each.result (g.P.Place.modes c.args.place.now) (g.P.Place.done c.args.place.now) (g.P.Place.done c.write_each.new.place) (g.P.Place.done c.put_each.new.place) (standing_in c.write_each.new.written.items) c.args.wanted.now c.in-Ok.ensures.all c.in-Ok.ensures.kept c.in-Ok.ensures.done
     (rw c.deref.ensures.value at c.put_each.ensures.all)
+
+pub returns-in-Ok-clause-left : goal.returns-in-Ok-clause-left
+returns-in-Ok-clause-left g c =
+    none_left c.put_each.result (g.P.Place.there c.args.place.now) (g.P.Place.done c.args.place.now)
+    (g.P.Place.done c.put_each.new.place) c.args.wanted.now
+    (put_refused c.put_each.result (g.P.Place.there c.args.place.now)
+    (g.P.Place.done c.args.place.now) (g.P.Place.done c.write_each.new.place)
+    (g.P.Place.done c.put_each.new.place) c.args.wanted.now c.write_each.new.written.items
+    c.deref.result.now c.in-Ok.ensures.all c.deref.ensures.value c.in-Ok.ensures.done
+    c.put_each.ensures.refused)
+
+pub returns-in-Ok-clause-placed : goal.returns-in-Ok-clause-placed
+returns-in-Ok-clause-placed g c =
+    put_placed c.put_each.result (g.P.Place.done c.args.place.now)
+    (g.P.Place.done c.write_each.new.place) (g.P.Place.done c.put_each.new.place)
+    c.args.wanted.now c.write_each.new.written.items c.deref.result.now c.in-Ok.ensures.all
+    c.deref.ensures.value c.in-Ok.ensures.done c.put_each.ensures.all
