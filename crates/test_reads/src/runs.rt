@@ -2,15 +2,14 @@
 //! number and by age, given and lent; of lists that are written as runs; of runs that are compacted
 //! or packed, all of them or a part, with a filter and without; and of what stays where memory is
 //! refused, an id is wanting or a table is damaged.
-mod compactions;
+pub mod compactions;
 mod key_ranges;
 mod lent_ranges;
-mod lists;
-mod memory;
+pub mod lists;
 mod packing;
-mod part;
+pub mod part;
 mod points;
 mod several;
 mod sources;
 mod stored;
-mod walks;
+pub mod walks;

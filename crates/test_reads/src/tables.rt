@@ -8,13 +8,12 @@ ghost use Rattle.lsm_writers.specs.Writing.{IsSmallIndex};
 
 mod indexes;
 mod lending;
-mod lists;
+pub mod lists;
 mod long;
-mod memory;
 mod one_answer;
-mod points;
-mod queries;
-mod reads;
+pub mod points;
+pub mod queries;
+pub mod reads;
 mod sizes;
 mod verified;
 mod walks;
@@ -33,6 +32,17 @@ pub(crate) const ROWS: &[Row<'static>] = &[
     (b"a", 7, ValueType::Value, b""),
     (b"a", 5, ValueType::Value, b""),
     (b"b", 1, ValueType::Value, b""),
+];
+
+// Entries of each kind: in blocks of 7 bytes three, of 2 entries (69 bytes), 3 (92) and 2.
+const OF_EACH_KIND: &[Row<'static>] = &[
+    (b"a", 9, ValueType::Value, b"first"),
+    (b"a", 7, ValueType::Tombstone, b""),
+    (b"a", 5, ValueType::Value, b"x"),
+    (b"b", SeqNo::MAX - 5, ValueType::WeakTombstone, b""),
+    (b"c", 3, ValueType::Indirection, b"elsewhere"),
+    (b"d", 2, ValueType::Value, b"y"),
+    (b"e", 1, ValueType::Value, b"z"),
 ];
 
 /// What is in partitions, of a handle or a key each.
@@ -82,8 +92,17 @@ fn writer_of<A: Allocator + Copy>(
     Ok(new_writer(alloc)?.use_options(options))
 }
 
-/// The bytes of a table of some rows, by the filter's tenths of a bit for a key, and the size of a
-/// block of data, of 4,096 at most.
+/// The bytes of the table of some rows, by its writer.
+pub(crate) fn written_by<A: Allocator + Copy>(
+    writer: Writer<A>,
+    alloc: A,
+    rows: &[Row<'_>],
+) -> Result<Slice<A>, Error> {
+    Ok(fill(writer, alloc, rows)?.bytes)
+}
+
+/// Those by the filter's tenths of a bit for a key, and the size of a block of data, of 4,096 at
+/// most.
 pub(crate) fn written<A: Allocator + Copy>(
     alloc: A,
     parted: Parted,
@@ -91,15 +110,14 @@ pub(crate) fn written<A: Allocator + Copy>(
     bits: u32,
     block_size: u32,
 ) -> Result<Slice<A>, Error> {
-    let writer = writer_of(alloc, parted, bits, block_size)?;
-    Ok(fill(writer, alloc, rows)?.bytes)
+    written_by(writer_of(alloc, parted, bits, block_size)?, alloc, rows)
 }
 
 // Those of a table of a@1 whose index has an interval of two.
 fn written_with_interval<A: Allocator + Copy>(alloc: A) -> Result<Slice<A>, Error> {
     let rows: [Row<'static>; 1] = [(b"a", 1, ValueType::Value, b"x")];
     let writer = new_writer(alloc)?.use_index_block_restart_interval(2);
-    Ok(fill(writer, alloc, &rows)?.bytes)
+    written_by(writer, alloc, &rows)
 }
 
 // Those of a table of [`ROWS`], each in a block of its own, where a size of partitions is
@@ -111,7 +129,7 @@ fn written_forgetting<A: Allocator + Copy>(alloc: A) -> Result<Slice<A>, Error> 
         .use_meta_partition_size(1)
         .use_partitioned_index()
         .use_partitioned_filter();
-    Ok(fill(writer, alloc, ROWS)?.bytes)
+    written_by(writer, alloc, ROWS)
 }
 
 /// A table: a stored one, of one entry, without a filter and with one, and of four, with the index
@@ -135,6 +153,8 @@ pub(crate) enum Of {
     Numbered(SeqNo),
     /// Of one whose index has an interval of two.
     Interval,
+    /// Of entries of each kind, in three blocks.
+    Kinds,
 }
 
 // The bytes of a stored table.
@@ -160,6 +180,7 @@ pub(crate) fn bytes_of<A: Allocator + Copy>(alloc: A, of: Of) -> Result<Slice<A>
             written(alloc, Parted::Nothing, &rows, 0, 4_096)
         }
         Of::Interval => written_with_interval(alloc),
+        Of::Kinds => written(alloc, Parted::Nothing, OF_EACH_KIND, 0, 7),
         _ => Ok(Slice::from(alloc, stored(of))?),
     }
 }

@@ -19,10 +19,11 @@ enum How {
     Kept(Rules),
 }
 
-// Rows, how they are read, a key and a bound, bounds, and the names that are read: what is found,
-// and the ends of the range; or nothing.
+// The place of some rows, how they are read, a key and a bound, bounds, and the names that are
+// read: what is found, and the ends of the range; or nothing. Rows go by their place, since a table
+// of cases costs a proof as much as it has references.
 type Case = (
-    &'static [Row<'static>],
+    usize,
     How,
     (&'static [u8], SeqNo),
     Bounds<'static>,
@@ -38,7 +39,7 @@ fn read_written<A: Allocator + Copy>(
     case: &Case,
     global_seqno: SeqNo,
 ) -> Result<Names, Error> {
-    let items = list_of(alloc, case.0)?;
+    let items = list_of(alloc, rows_at(case.0))?;
     let range = owned_range(alloc, case.3)?;
     let (key, seqno) = case.2;
     match read_run_back(alloc, items, 0, global_seqno, key, seqno, range)? {
@@ -49,7 +50,7 @@ fn read_written<A: Allocator + Copy>(
 
 // What is kept of rows that are written so.
 fn read_kept<A: Allocator + Copy>(alloc: A, case: &Case, rules: Rules) -> Result<Names, Error> {
-    let items = list_of(alloc, case.0)?;
+    let items = list_of(alloc, rows_at(case.0))?;
     let range = owned_range(alloc, case.3)?;
     let (key, seqno) = case.2;
     match compact_run_back(alloc, items, 0, rules, key, seqno, range)? {
@@ -72,23 +73,51 @@ fn reads<A: Allocator + Copy>(alloc: A, case: &Case) -> Result<bool, Error> {
 
 const VALUE: ValueType = ValueType::Value;
 
-const ROWS: &[Row<'static>] = &[
-    (b"a", 9, VALUE, b"x"),
-    (b"a", 7, ValueType::Tombstone, b""),
-    (b"a", 5, VALUE, b"y"),
-    (b"b", 1, VALUE, b"z"),
+// A value that fills a block, and reaches a target of 1,024 bytes.
+const LONG: [u8; 8000] = [b'v'; 8000];
+
+const LISTS: &[&[Row<'static>]] = &[
+    &[],
+    &[
+        (b"a", 9, VALUE, b"x"),
+        (b"a", 7, ValueType::Tombstone, b""),
+        (b"a", 5, VALUE, b"y"),
+        (b"b", 1, VALUE, b"z"),
+    ],
+    &[(b"a", 10, VALUE, b"x"), (b"a", 3, VALUE, b"y")],
+    &[(b"a", 4, ValueType::Tombstone, b"")],
+    &[
+        (b"a", 10, VALUE, b"x"),
+        (b"b", 4, VALUE, b"y"),
+        (b"b", 2, VALUE, b"y"),
+        (b"c", 6, VALUE, b"z"),
+    ],
+    &[
+        (b"a", 2, VALUE, &LONG),
+        (b"a", 1, VALUE, &LONG),
+        (b"a", 0, VALUE, &LONG),
+        (b"b", 0, VALUE, &LONG),
+        (b"c", 1, VALUE, &LONG),
+        (b"c", 0, VALUE, &LONG),
+    ],
 ];
 
-const VALUES: &[Row<'static>] = &[(b"a", 10, VALUE, b"x"), (b"a", 3, VALUE, b"y")];
+const NO_ROWS: usize = 0;
 
-const TOMBSTONE: &[Row<'static>] = &[(b"a", 4, ValueType::Tombstone, b"")];
+const ROWS: usize = 1;
 
-const THREE_KEYS: &[Row<'static>] = &[
-    (b"a", 10, VALUE, b"x"),
-    (b"b", 4, VALUE, b"y"),
-    (b"b", 2, VALUE, b"y"),
-    (b"c", 6, VALUE, b"z"),
-];
+const VALUES: usize = 2;
+
+const TOMBSTONE: usize = 3;
+
+const THREE_KEYS: usize = 4;
+
+const LONG_ROWS: usize = 5;
+
+// The rows at a place.
+fn rows_at(place: usize) -> &'static [Row<'static>] {
+    LISTS.get(place).copied().unwrap_or(&[])
+}
 
 // Threshold 5; tombstones and numbers stay.
 const KEPT: How = How::Kept(Rules {
@@ -159,11 +188,11 @@ const CASES: &[Case] = &[
     // The numbers are lifted, and the range is within its bounds.
     (ROWS, How::Written(2), (b"a", 8), ALL, &[A7, A11, B3]),
     (ROWS, How::Written(0), (b"a", 8), BEFORE_B, &[A7, None, A9]),
-    (&[], How::Written(0), (b"a", 8), ALL, &[]),
+    (NO_ROWS, How::Written(0), (b"a", 8), ALL, &[]),
     // A tombstone goes or stays, and small numbers become 0.
     (TOMBSTONE, EVICTED, (b"a", 7), ALL, &[]),
     (TOMBSTONE, KEPT, (b"a", 7), ALL, &[A4, None, A4]),
-    (&[], KEPT, (b"a", 7), ALL, &[]),
+    (NO_ROWS, KEPT, (b"a", 7), ALL, &[]),
     (THREE_KEYS, ZEROED, (b"b", 1), ALL, &[B0, A10, C6]),
     // What is kept is read within bounds.
     (THREE_KEYS, ZEROED, (b"a", 11), FROM_B, &[A10, B0, C6]),
@@ -192,28 +221,21 @@ const TOO_HIGH: Case = (ROWS, How::Written(u64::MAX - 8), (b"a", 8), ALL, &[]);
 #[test]
 fn a_list_is_read_back_from_its_run(rt: HostRuntime) {
     for case in CASES {
-        assert!(rt; reads(rt.alloc(), case) == Ok(true));
+        assert!(rt; matches!(reads(rt.alloc(), case), Ok(true)));
     }
-    assert!(rt; reads(rt.alloc(), &TOO_HIGH) == Err(Error::GlobalSeqNoTooLarge));
+    assert!(rt;
+        matches!(
+            reads(rt.alloc(), &TOO_HIGH),
+            Err(Error::GlobalSeqNoTooLarge)
+        )
+    );
 }
 
-// A value that fills a block, and reaches a target of 1,024 bytes.
-const LONG: [u8; 8000] = [b'v'; 8000];
-
-const LONG_ROWS: &[Row<'static>] = &[
-    (b"a", 2, VALUE, &LONG),
-    (b"a", 1, VALUE, &LONG),
-    (b"a", 0, VALUE, &LONG),
-    (b"b", 0, VALUE, &LONG),
-    (b"c", 1, VALUE, &LONG),
-    (b"c", 0, VALUE, &LONG),
-];
-
-// Some rows, a target and a global number; and how many tables are handed out, how many entries
-// each table of the run has and what its highest number is, of three, and the id that is drawn
-// next.
+// The place of some rows, a target and a global number; and how many tables are handed out, how
+// many entries each table of the run has and what its highest number is, of three, and the id that
+// is drawn next.
 type Cut = (
-    &'static [Row<'static>],
+    usize,
     u64,
     SeqNo,
     usize,
@@ -234,14 +256,14 @@ fn told<A: Allocator + Clone>(run: &Option<Run<Table<A>, A>>) -> [(u64, SeqNo); 
 
 // Whether rows are cut so that are written from the id 5 on.
 fn is_cut<A: Allocator + Copy>(alloc: A, cut: &Cut) -> Result<bool, Error> {
-    let &(rows, target, global_seqno, count, entries, next) = cut;
+    let &(place, target, global_seqno, count, entries, next) = cut;
     let how = OpenOptions {
         global_seqno,
         tree_id: 3,
         pin_filter: false,
         pin_index: true,
     };
-    let items = list_of(alloc, rows)?;
+    let items = list_of(alloc, rows_at(place))?;
     let writer = MultiWriter::new(alloc, TableIds::new(5), target, 0, Timestamp::from(0))?;
     let (tables, run, mut ids) = write_run_with(alloc, writer, items, &how)?;
     Ok(tables.len() == count && told(&run).as_slice() == entries && ids.next() == next)
@@ -272,7 +294,7 @@ const CUTS: &[Cut] = &[
         Some(7),
     ),
     (LONG_ROWS, 50_000, 0, 1, &[(6, 2), (0, 0), (0, 0)], Some(6)),
-    (&[], 1_024, 0, 0, &[(0, 0), (0, 0), (0, 0)], Some(6)),
+    (NO_ROWS, 1_024, 0, 0, &[(0, 0), (0, 0), (0, 0)], Some(6)),
     // The numbers are lifted. At target 0 the first id is drawn for a table without entries.
     (THREE_KEYS, 0, 10, 3, &[(1, 20), (2, 14), (1, 16)], Some(9)),
 ];
@@ -280,7 +302,7 @@ const CUTS: &[Cut] = &[
 #[test]
 fn a_run_has_the_tables_that_the_target_cuts(rt: HostRuntime) {
     for cut in CUTS {
-        assert!(rt; is_cut(rt.alloc(), cut) == Ok(true));
+        assert!(rt; matches!(is_cut(rt.alloc(), cut), Ok(true)));
     }
 }
 

@@ -1,12 +1,13 @@
 //! Point reads of several runs, of all of them and by age, and of one: what they find, the blocks
 //! that they load, and what they are refused where a table is damaged.
+use crate::tables::{cloned, number_of};
 use logpurple::{
     Table, get_runs, get_runs_by_age, get_runs_by_age_counted, get_runs_counted, read_run,
 };
 use lsm_ranges::Run;
 use sst_blocks::{Error, InternalValue, Opened, SeqNo, ValueType};
-use std::alloc::{Allocator, Global};
-use test_tables::large::add;
+use std::alloc::Global;
+use test_tables::large::{add, asked_with};
 use test_tables::rows::Row;
 use test_tables::runs::{ALL, Lists, Tables, damaged_run_of, owned_range};
 
@@ -22,16 +23,6 @@ fn damaged_runs_of(alloc: Global, runs: DamagedRuns) -> Result<Vec<Tables<Global
         add(&mut all, damaged_run_of(alloc, tables, damaged))?;
     }
     Ok(all)
-}
-
-/// The number of what a read finds.
-pub(crate) fn number_of<A: Allocator>(
-    found: Result<Option<InternalValue<A>>, Error>,
-) -> Result<Option<SeqNo>, Error> {
-    match found? {
-        Some(item) => Ok(Some(item.key.seqno)),
-        None => Ok(None),
-    }
 }
 
 // What a read finds.
@@ -59,15 +50,17 @@ fn is_read(runs: &[Tables<Global>], case: &Case) -> bool {
         && number_of(get_runs_by_age(runs, key, bound)) == by_age.0
 }
 
-// The place of the first case that is read otherwise.
-fn wrong_case(alloc: Global, runs: DamagedRuns, cases: &[Case]) -> Result<Option<usize>, Error> {
-    let runs = damaged_runs_of(alloc, runs)?;
-    for (place, case) in cases.iter().enumerate() {
+// Whether runs are read as some cases say.
+fn are_read(alloc: Global, runs: DamagedRuns, cases: &[Case]) -> bool {
+    let Ok(runs) = damaged_runs_of(alloc, runs) else {
+        return false;
+    };
+    for case in cases {
         if !is_read(&runs, case) {
-            return Ok(Some(place));
+            return false;
         }
     }
-    Ok(None)
+    true
 }
 
 const VALUE: ValueType = ValueType::Value;
@@ -163,26 +156,31 @@ const READS: &[(DamagedRuns, &[Case])] = &[
 #[test]
 fn reads_of_runs_load_a_block_of_each_table_that_is_asked(rt: HostRuntime) {
     for &(runs, cases) in READS {
-        assert!(rt; wrong_case(rt.alloc(), runs, cases) == Ok(None));
+        assert!(rt; are_read(rt.alloc(), runs, cases));
     }
 }
 
 // A run of the same tables that is not shared. `Source(2)` where there are none.
-fn unshared(alloc: Global, run: &Tables<Global>) -> Result<Run<Table>, Error> {
+fn unshared(run: &Tables<Global>, alloc: Global) -> Result<Run<Table>, Error> {
     let mut tables = Vec::new(alloc);
     for table in run.as_slice() {
-        tables.push(table.clone()?)?;
+        add(&mut tables, cloned(table))?;
     }
     Run::new(tables).ok_or(Error::Source(2))
 }
 
+// The first of two large values; the second is let go of.
+fn first_of<T: Drop, U: Drop>(both: Result<(T, U), Error>) -> Result<T, Error> {
+    let (first, second) = both?;
+    drop(second);
+    Ok(first)
+}
+
 // The number that a point read finds of a run alone, whose second table is damaged.
 fn found_alone(alloc: Global, key: &[u8]) -> Found {
-    let range = owned_range(alloc, ALL)?;
-    let run = unshared(alloc, &damaged_run_of(alloc, THREE_TABLES, 1)?)?;
-    let (found, stream) = read_run(alloc, run, key, 1, range)?;
-    drop(stream);
-    Ok(found.map(|item| item.key.seqno))
+    let run = asked_with(damaged_run_of(alloc, THREE_TABLES, 1), alloc, unshared)?;
+    let range = owned_range(alloc, ALL);
+    number_of(first_of(read_run(alloc, run, key, 1, range?)))
 }
 
 #[test]

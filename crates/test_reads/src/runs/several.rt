@@ -1,6 +1,6 @@
 //! Several runs that are read as one, from both ends: the newest version of each key, whole, and
 //! what comes behind a refused step.
-use crate::runs::walks::{Answer, is_given};
+use crate::runs::walks::{Answer, is_given, row_at};
 use sst_blocks::{Direction, Error, IterItem, ValueType};
 use std::alloc::{Allocator, Global};
 use std::ops::Bound;
@@ -14,19 +14,47 @@ const F: Direction = Direction::Front;
 
 const B: Direction = Direction::Back;
 
-// Some runs, bounds, ends, and what the steps at these give: where no step is refused, and where
-// the first or the second is. A request for what a table remembers is none that a step needs.
+// The place of some runs, bounds, ends, and what the steps at these give: where no step is refused,
+// and where the first or the second is. A request for what a table remembers is none that a step
+// needs. What is given goes by letters, and runs by their place, since a table of cases costs a
+// proof as much as it has references.
 type Case = (
-    &'static [Lists],
+    usize,
     Bounds<'static>,
     &'static [Direction],
-    &'static [&'static [Answer]],
+    &'static [&'static [u8]],
 );
 
+// The row at a place in all tables of some runs.
+fn row_of(lists: &[Lists], place: usize) -> Option<Row<'static>> {
+    let mut left = place;
+    for tables in lists {
+        match row_at(tables, left) {
+            Ok(row) => return Some(row),
+            Err(rest) => left = rest,
+        }
+    }
+    None
+}
+
+// What a letter stands for: the row at its place in all tables, `.` for nothing, and `?` for want
+// of memory.
+fn wanted_at(lists: &[Lists], letter: u8) -> Answer {
+    match letter {
+        b'.' => Ok(None),
+        b'?' => Err(Error::OutOfMemory),
+        _ => Ok(row_of(lists, usize::from(letter.saturating_sub(b'a')))),
+    }
+}
+
 // Whether some answers are those that are wanted.
-fn are_answers<A: Allocator>(given: &[Option<IterItem<A>>], wanted: &[Answer]) -> bool {
-    for (given, wanted) in given.iter().zip(wanted.iter()) {
-        if !is_given(given, wanted) {
+fn are_answers<A: Allocator>(
+    given: &[Option<IterItem<A>>],
+    lists: &[Lists],
+    wanted: &[u8],
+) -> bool {
+    for (given, letter) in given.iter().zip(wanted.iter()) {
+        if !is_given(given, &wanted_at(lists, *letter)) {
             return false;
         }
     }
@@ -34,9 +62,13 @@ fn are_answers<A: Allocator>(given: &[Option<IterItem<A>>], wanted: &[Answer]) -
 }
 
 // Which of some answers these are, if any.
-fn place_of<A: Allocator>(given: &[Option<IterItem<A>>], cases: &[&[Answer]]) -> Option<usize> {
+fn place_of<A: Allocator>(
+    given: &[Option<IterItem<A>>],
+    lists: &[Lists],
+    cases: &[&[u8]],
+) -> Option<usize> {
     for (place, wanted) in cases.iter().enumerate() {
-        if are_answers(given, wanted) {
+        if are_answers(given, lists, wanted) {
             return Some(place);
         }
     }
@@ -46,11 +78,12 @@ fn place_of<A: Allocator>(given: &[Option<IterItem<A>>], cases: &[&[Answer]]) ->
 // Which of the answers of a case its runs give, if any; an error where there is no memory for the
 // runs.
 fn which<A: Allocator + Copy>(alloc: A, case: &Case) -> Result<Option<usize>, Error> {
-    let &(lists, bounds, ends, cases) = case;
+    let &(place, bounds, ends, cases) = case;
+    let lists = lists_at(place);
     let runs = runs_of(alloc, lists)?;
     let given = answers_within(alloc, &runs, bounds, ends);
     drop(runs);
-    Ok(place_of(&given?, cases))
+    Ok(place_of(&given?, lists, cases))
 }
 
 const A9_X: Row<'static> = (b"a", 9, ValueType::Value, b"x");
@@ -69,22 +102,37 @@ const D3_X: Row<'static> = (b"d", 3, ValueType::Value, b"x");
 
 const E2_X: Row<'static> = (b"e", 2, ValueType::Value, b"x");
 
-// All rows of each kind in a run of two tables, and in two runs of two tables each.
-const IN_ONE: &[Lists] = &[&[&[A9, A7, B8, B6], &[C5, D3, D2]]];
-
-const IN_TWO: &[Lists] = &[&[&[A9, B8], &[D3]], &[&[A7, B6], &[C5, D2]]];
-
-const TWO_RUNS: &[Lists] = &[&[&[A9_X, B1_X]], &[&[A5_X, C2_X]]];
-
-// The third is of two tables.
-const THREE_RUNS: &[Lists] = &[
-    &[&[A9_X, B1_X]],
-    &[&[A5_X, C2_X]],
-    &[&[A7_X, C4_X], &[D3_X]],
+// All rows of each kind in a run of two tables, and in two runs of two tables each; two runs, and
+// three, the third of two tables; two, the first of three tables; and none.
+const RUNS: &[&[Lists]] = &[
+    &[&[&[A9, A7, B8, B6], &[C5, D3, D2]]],
+    &[&[&[A9, B8], &[D3]], &[&[A7, B6], &[C5, D2]]],
+    &[&[&[A9_X, B1_X]], &[&[A5_X, C2_X]]],
+    &[
+        &[&[A9_X, B1_X]],
+        &[&[A5_X, C2_X]],
+        &[&[A7_X, C4_X], &[D3_X]],
+    ],
+    &[&[&[A9_X], &[C4_X], &[E2_X]], &[&[B1_X, D3_X]]],
+    &[],
 ];
 
-// The first is of three tables.
-const OF_THREE_TABLES: &[Lists] = &[&[&[A9_X], &[C4_X], &[E2_X]], &[&[B1_X, D3_X]]];
+const IN_ONE: usize = 0;
+
+const IN_TWO: usize = 1;
+
+const TWO_RUNS: usize = 2;
+
+const THREE_RUNS: usize = 3;
+
+const OF_THREE_TABLES: usize = 4;
+
+const NO_RUNS: usize = 5;
+
+// The runs at a place.
+fn lists_at(place: usize) -> &'static [Lists] {
+    RUNS.get(place).copied().unwrap_or(&[])
+}
 
 const BEFORE_C: Bounds<'static> = (Bound::Included(b"a"), Bound::Excluded(b"c"));
 
@@ -96,86 +144,27 @@ const BACKS: &[Direction] = &[B, B, B, B, B];
 
 const BOTH: &[Direction] = &[B, F, F, B, F];
 
-const NOTHING: Answer = Ok(None);
-
-const REFUSED: Answer = Err(Error::OutOfMemory);
-
-const UP: &[Answer] = &[
-    Ok(Some(A9)),
-    Ok(Some(B8)),
-    Ok(Some(C5)),
-    Ok(Some(D3)),
-    NOTHING,
-];
-
-const DOWN: &[Answer] = &[
-    Ok(Some(D3)),
-    Ok(Some(C5)),
-    Ok(Some(B8)),
-    Ok(Some(A9)),
-    NOTHING,
-];
-
-const IN_TURN: &[Answer] = &[
-    Ok(Some(D3)),
-    Ok(Some(A9)),
-    Ok(Some(B8)),
-    Ok(Some(C5)),
-    NOTHING,
-];
-
-const OF_A9: Answer = Ok(Some(A9_X));
-
-const OF_B1: Answer = Ok(Some(B1_X));
-
-const OF_C4: Answer = Ok(Some(C4_X));
-
-const OF_C2: Answer = Ok(Some(C2_X));
-
-const OF_D3: Answer = Ok(Some(D3_X));
-
-const OF_E2: Answer = Ok(Some(E2_X));
-
 const CASES: &[Case] = &[
-    (IN_ONE, ALL, FRONTS, &[UP]),
-    (IN_ONE, ALL, BACKS, &[DOWN]),
-    (IN_ONE, ALL, BOTH, &[IN_TURN]),
-    (IN_TWO, ALL, FRONTS, &[UP]),
-    (IN_TWO, ALL, BACKS, &[DOWN]),
-    (IN_TWO, ALL, BOTH, &[IN_TURN]),
-    (
-        TWO_RUNS,
-        ALL,
-        &[B, F, B, F, B],
-        &[&[OF_C2, OF_A9, OF_B1, NOTHING, NOTHING]],
-    ),
-    (TWO_RUNS, BEFORE_C, &[B, B, B], &[&[OF_B1, OF_A9, NOTHING]]),
-    (TWO_RUNS, D_TO_Z, &[F, B], &[&[NOTHING, NOTHING]]),
-    (
-        THREE_RUNS,
-        ALL,
-        FRONTS,
-        &[&[OF_A9, OF_B1, OF_C4, OF_D3, NOTHING]],
-    ),
-    (
-        THREE_RUNS,
-        ALL,
-        &[B, F, B, B, B],
-        &[&[OF_D3, OF_A9, OF_C4, OF_B1, NOTHING]],
-    ),
-    (&[], ALL, &[F, B], &[&[NOTHING, NOTHING]]),
+    (IN_ONE, ALL, FRONTS, &[b"acef."]),
+    (IN_ONE, ALL, BACKS, &[b"feca."]),
+    (IN_ONE, ALL, BOTH, &[b"face."]),
+    (IN_TWO, ALL, FRONTS, &[b"abfc."]),
+    (IN_TWO, ALL, BACKS, &[b"cfba."]),
+    (IN_TWO, ALL, BOTH, &[b"cabf."]),
+    (TWO_RUNS, ALL, &[B, F, B, F, B], &[b"dab.."]),
+    (TWO_RUNS, BEFORE_C, &[B, B, B], &[b"ba."]),
+    (TWO_RUNS, D_TO_Z, &[F, B], &[b".."]),
+    (THREE_RUNS, ALL, FRONTS, &[b"abfg."]),
+    (THREE_RUNS, ALL, &[B, F, B, B, B], &[b"gafb."]),
+    (NO_RUNS, ALL, &[F, B], &[b".."]),
 ];
 
 #[test]
 fn the_newest_version_of_each_key_comes_whole_from_both_ends(rt: HostRuntime) {
     for case in CASES {
-        assert!(rt; which(rt.alloc(), case) == Ok(Some(0)));
+        assert!(rt; matches!(which(rt.alloc(), case), Ok(Some(0))));
     }
 }
-
-const FIRST_REFUSED: &[Answer] = &[
-    REFUSED, NOTHING, NOTHING, NOTHING, NOTHING, NOTHING, NOTHING,
-];
 
 // The steps behind the second one take no memory. The entry that waits at the other end comes
 // behind the refusal.
@@ -184,41 +173,25 @@ const REFUSALS: &[Case] = &[
         OF_THREE_TABLES,
         ALL,
         &[F, F, F, F, F, F, B],
-        &[
-            &[OF_A9, OF_B1, OF_C4, OF_D3, OF_E2, NOTHING, NOTHING],
-            FIRST_REFUSED,
-            &[OF_A9, REFUSED, NOTHING, NOTHING, NOTHING, NOTHING, NOTHING],
-        ],
+        &[b"adbec..", b"?......", b"a?....."],
     ),
     (
         OF_THREE_TABLES,
         ALL,
         &[B, B, B, B, B, B, F],
-        &[
-            &[OF_E2, OF_D3, OF_C4, OF_B1, OF_A9, NOTHING, NOTHING],
-            FIRST_REFUSED,
-            &[OF_E2, REFUSED, NOTHING, NOTHING, NOTHING, NOTHING, NOTHING],
-        ],
+        &[b"cebda..", b"?......", b"c?....."],
     ),
     (
         OF_THREE_TABLES,
         ALL,
         &[F, B, F, B, F, B, F],
-        &[
-            &[OF_A9, OF_E2, OF_B1, OF_D3, OF_C4, NOTHING, NOTHING],
-            FIRST_REFUSED,
-            &[OF_A9, REFUSED, OF_B1, NOTHING, NOTHING, NOTHING, NOTHING],
-        ],
+        &[b"acdeb..", b"?......", b"a?d...."],
     ),
     (
         OF_THREE_TABLES,
         ALL,
         &[B, F, F, B, F, B, F],
-        &[
-            &[OF_E2, OF_A9, OF_B1, OF_D3, OF_C4, NOTHING, NOTHING],
-            FIRST_REFUSED,
-            &[OF_E2, REFUSED, OF_D3, NOTHING, NOTHING, NOTHING, NOTHING],
-        ],
+        &[b"cadeb..", b"?......", b"c?e...."],
     ),
 ];
 

@@ -28,10 +28,12 @@ pub(crate) fn is_given<A: Allocator>(given: &Option<IterItem<A>>, wanted: &Answe
 
 // That; the step's refusal, where another answer is wanted.
 fn answers<A: Allocator>(given: Option<IterItem<A>>, wanted: &Answer) -> Result<bool, Error> {
-    let is_wanted = is_given(&given, wanted);
+    if is_given(&given, wanted) {
+        return Ok(true);
+    }
     match given {
-        Some(Err(error)) => { if is_wanted { Ok(true) } else { Err(error) } }
-        Some(Ok(_)) | None => Ok(is_wanted),
+        Some(Err(error)) => Err(error),
+        Some(Ok(_)) | None => Ok(false),
     }
 }
 
@@ -76,16 +78,16 @@ impl<A: Allocator + Copy> Walk for RunScanner<A> {
 // damaged block, and how many tables were opened then.
 type Steps = &'static [u8];
 
-// The row at a place in all tables.
-fn row_at(tables: Lists, place: u8) -> Option<Row<'static>> {
-    let mut left = usize::from(place);
+/// The row at a place in all tables of a run, or which place it is behind them.
+pub(crate) fn row_at(tables: Lists, place: usize) -> Result<Row<'static>, usize> {
+    let mut left = place;
     for rows in tables {
         match rows.get(left) {
-            Some(row) => return Some(*row),
+            Some(row) => return Ok(*row),
             None => left = left.saturating_sub(rows.len()),
         }
     }
-    None
+    Err(left)
 }
 
 // What a letter stands for.
@@ -93,7 +95,7 @@ fn wanted_at(tables: Lists, letter: u8) -> Answer {
     match letter {
         b'.' => Ok(None),
         b'!' => Err(Error::ChecksumMismatch),
-        _ => Ok(row_at(tables, letter.saturating_sub(b'a'))),
+        _ => Ok(row_at(tables, usize::from(letter.saturating_sub(b'a'))).ok()),
     }
 }
 

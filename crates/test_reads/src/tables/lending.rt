@@ -1,15 +1,13 @@
 //! Ranges and scans that lend their entries beside those that give them: the same entries and
 //! errors in the same places, and as many loads, also over damaged bytes.
-use crate::tables::walks::range_in;
-use crate::tables::{Changed, KINDS, changed_bytes};
-use logpurple::{Iter, LendingIter, Scanner};
-use sst_blocks::{BlockSource, CompressionType, Error, SeqNo, ValueType};
+use crate::tables::walks::{blocks_in, range_in};
+use crate::tables::{Changed, KINDS, Of, Pins, changed_bytes};
+use logpurple::{Iter, LendingIter};
+use sst_blocks::Error;
 use std::alloc::Global;
 use std::ops::Bound;
 use test_tables::lending::{Walk, walk_both};
-use test_tables::rows::{Row, fill, new_writer};
 use test_tables::runs::{ALL, Bounds};
-use test_tables::tables::overwritten;
 
 fn lent(range: Result<Iter, Error>) -> Result<LendingIter, Error> {
     Ok(range?.lend())
@@ -70,41 +68,27 @@ fn ranges_lend_what_they_give(rt: HostRuntime) {
 
 // ---- scans
 
-const ROWS: [Row<'static>; 7] = [
-    (b"a", 9, ValueType::Value, b"first"),
-    (b"a", 7, ValueType::Tombstone, b""),
-    (b"a", 5, ValueType::Value, b"x"),
-    (b"b", SeqNo::MAX - 5, ValueType::WeakTombstone, b""),
-    (b"c", 3, ValueType::Indirection, b"elsewhere"),
-    (b"d", 2, ValueType::Value, b"y"),
-    (b"e", 1, ValueType::Value, b"z"),
+// A table, how many of its blocks are scanned, and what the scan walks.
+type Case = (Changed<'static>, u64, Walk);
+
+const PINS: Pins = (true, true);
+
+// All three blocks, some of them, the numbers lifted up to the largest one and past it, and a
+// damaged second block.
+const CASES: &[Case] = &[
+    ((Of::Kinds, &[], PINS, 0), 3, (7, 0)),
+    ((Of::Kinds, &[], PINS, 0), 2, (5, 0)),
+    ((Of::Kinds, &[], PINS, 5), 3, (7, 0)),
+    ((Of::Kinds, &[], PINS, 6), 3, (3, 21)),
+    ((Of::Kinds, &[(100, b"?")], PINS, 0), 3, (2, 5)),
+    ((Of::Kinds, &[(100, b"?")], PINS, 0), 1, (2, 0)),
 ];
-
-// Where a scan differs from one of the table as it is: a byte that is overwritten, how many blocks
-// are read, and the global number; and what it walks.
-type Case = (&'static [(usize, &'static [u8])], u64, SeqNo, Walk);
-
-const CASES: [Case; 6] = [
-    (&[], 3, 0, (7, 0)),
-    (&[], 2, 0, (5, 0)),
-    (&[], 3, 5, (7, 0)),
-    (&[], 3, 6, (3, 21)),
-    (&[(100, b"?")], 3, 0, (2, 5)),
-    (&[(100, b"?")], 1, 0, (2, 0)),
-];
-
-// The scan of a table of the rows in three blocks: of 2 entries (69 bytes), 3 (92) and 2.
-fn scan(alloc: Global, case: &Case) -> Result<Scanner<Global>, Error> {
-    let writer = new_writer(alloc)?.use_data_block_size(7);
-    let bytes = fill(writer, alloc, &ROWS)?.bytes;
-    let source = BlockSource::new(alloc, overwritten(alloc, bytes.as_slice(), case.0)?)?;
-    Scanner::new(&source, case.1, CompressionType::None, case.2)
-}
 
 #[test]
 fn a_scan_lends_what_it_gives(rt: HostRuntime) {
-    for case in &CASES {
-        let walk = walk_both(scan(rt.alloc(), case), scan(rt.alloc(), case));
-        assert!(rt; walk == Ok(Some(case.3)));
+    for (changed, count, walk) in CASES {
+        let giving = blocks_in(rt.alloc(), changed, *count);
+        let lending = blocks_in(rt.alloc(), changed, *count);
+        assert!(rt; walk_both(giving, lending) == Ok(Some(*walk)));
     }
 }

@@ -13,14 +13,44 @@ use test_tables::rows::Row;
 use test_tables::runs::Bounds;
 use test_tables::tables::open;
 
-const ROWS: &[Row<'static>] = &[
-    (b"a", 9, ValueType::Value, b"x"),
-    (b"a", 7, ValueType::Tombstone, b""),
-    (b"a", 5, ValueType::Value, b"y"),
-    B1,
+// The lists of cases, which go by their place: a table of cases costs a proof as much as it has
+// references.
+const LISTS: &[&[Row<'static>]] = &[
+    &[],
+    &[
+        (b"a", 9, ValueType::Value, b"x"),
+        (b"a", 7, ValueType::Tombstone, b""),
+        (b"a", 5, ValueType::Value, b"y"),
+        (b"b", 1, ValueType::Value, b"z"),
+    ],
+    &[
+        (b"b", 1, ValueType::Value, b"z"),
+        (b"b", 1, ValueType::Value, b"z"),
+    ],
+    &[(b"a", u64::MAX, ValueType::Value, b"")],
+    &[
+        (b"a", 9, ValueType::WeakTombstone, b""),
+        (b"a", 8, ValueType::Value, b"x"),
+        (b"b", 7, ValueType::Tombstone, b""),
+        (b"c", 6, ValueType::WeakTombstone, b""),
+        (b"d", 5, ValueType::Indirection, b"far"),
+    ],
 ];
 
-const B1: Row<'static> = (b"b", 1, ValueType::Value, b"z");
+const NO_ROWS: usize = 0;
+
+const ROWS: usize = 1;
+
+const TWICE: usize = 2;
+
+const TOO_HIGH: usize = 3;
+
+const TOMBSTONES: usize = 4;
+
+// The rows at a place.
+fn rows_at(place: usize) -> &'static [Row<'static>] {
+    LISTS.get(place).copied().unwrap_or(&[])
+}
 
 // What a read finds, and the numbers that a scan gives, four at most; 0 where nothing comes.
 type Numbers = (Option<SeqNo>, [SeqNo; 5]);
@@ -51,19 +81,19 @@ fn all_numbers<A: Allocator + Copy>(
 // no table can be written.
 fn read_rows<A: Allocator + Copy>(
     alloc: A,
-    rows: &[Row<'_>],
+    place: usize,
     global_seqno: SeqNo,
     key: &[u8],
     seqno: SeqNo,
 ) -> Result<Option<Numbers>, Error> {
-    let items = list_of(alloc, rows)?;
+    let items = list_of(alloc, rows_at(place))?;
     let read = read_back(alloc, items, global_seqno, key, seqno);
     asked_if_any(read, all_numbers)
 }
 
-// Rows, a global number, a key and a bound, and what is read.
+// The place of rows, a global number, a key and a bound, and what is read.
 type Case = (
-    &'static [Row<'static>],
+    usize,
     SeqNo,
     &'static [u8],
     SeqNo,
@@ -82,16 +112,10 @@ const CASES: &[Case] = &[
         Ok(Some((Some(17), [19, 17, 15, 11, 0]))),
     ),
     (ROWS, 0, b"c", 8, Ok(Some((None, [9, 7, 5, 1, 0])))),
-    (&[], 3, b"a", 8, Ok(None)),
+    (NO_ROWS, 3, b"a", 8, Ok(None)),
     // It is not strict, or numbered too high.
-    (&[B1, B1], 0, b"b", 2, NOT_WRITTEN),
-    (
-        &[(b"a", u64::MAX, ValueType::Value, b"")],
-        0,
-        b"a",
-        2,
-        NOT_WRITTEN,
-    ),
+    (TWICE, 0, b"b", 2, NOT_WRITTEN),
+    (TOO_HIGH, 0, b"a", 2, NOT_WRITTEN),
     // A number passes the largest one, or none does.
     (ROWS, u64::MAX - 8, b"a", 8, Err(Error::GlobalSeqNoTooLarge)),
     (
@@ -106,10 +130,15 @@ const CASES: &[Case] = &[
     ),
 ];
 
+// Whether a list is read as its case says.
+fn is_read(alloc: Global, case: &Case) -> bool {
+    read_rows(alloc, case.0, case.1, case.2, case.3) == case.4
+}
+
 #[test]
 fn a_list_is_read_back_or_refused(rt: HostRuntime) {
-    for (rows, global_seqno, key, seqno, read) in CASES {
-        assert!(rt; read_rows(rt.alloc(), rows, *global_seqno, key, *seqno) == *read);
+    for case in CASES {
+        assert!(rt; is_read(rt.alloc(), case));
     }
 }
 
@@ -123,7 +152,7 @@ pub(crate) fn rows_are_read<A: Allocator + Copy>(alloc: A) -> Result<bool, Error
 
 // The number of the entry of a key below 8, in a list that is written and opened.
 fn found_below_8(alloc: Global, key: &[u8]) -> Result<Option<SeqNo>, Error> {
-    match write_and_find(alloc, list_of(alloc, ROWS)?, key, 8)? {
+    match write_and_find(alloc, list_of(alloc, rows_at(ROWS))?, key, 8)? {
         Some(Some(item)) => Ok(Some(item.key.seqno)),
         _ => Ok(None),
     }
@@ -201,27 +230,19 @@ fn facts_again(alloc: Global, table: &mut Table, global_seqno: SeqNo) -> Result<
     }
 }
 
-// What a table of some rows says.
-fn says(alloc: Global, rows: &[Row<'_>], global_seqno: SeqNo) -> Result<Option<Facts>, Error> {
-    let items = list_of(alloc, rows)?;
+// What a table of the rows at a place says.
+fn says(alloc: Global, place: usize, global_seqno: SeqNo) -> Result<Option<Facts>, Error> {
+    let items = list_of(alloc, rows_at(place))?;
     let table = write_and_open(alloc, 3, Timestamp::from(5), items, global_seqno);
     asked_if_any(table, |table| facts_again(alloc, table, global_seqno))
 }
-
-const TOMBSTONES: &[Row<'static>] = &[
-    (b"a", 9, ValueType::WeakTombstone, b""),
-    (b"a", 8, ValueType::Value, b"x"),
-    (b"b", 7, ValueType::Tombstone, b""),
-    (b"c", 6, ValueType::WeakTombstone, b""),
-    (b"d", 5, ValueType::Indirection, b"far"),
-];
 
 const ROWS_OVERLAP: [bool; 6] = [true, true, true, false, false, false];
 
 const UP_TO_D: [bool; 6] = [true, true, true, true, true, false];
 
-// Rows, a global number, and what the table of them says.
-const SAYS: &[(&[Row<'static>], SeqNo, Facts)] = &[
+// The place of rows, a global number, and what the table of them says.
+const SAYS: &[(usize, SeqNo, Facts)] = &[
     (ROWS, 0, ([3, 4, 1, 0, 0, 2, 1, 9, 9], *b"ab", ROWS_OVERLAP)),
     (
         ROWS,
@@ -242,7 +263,7 @@ const SAYS: &[(&[Row<'static>], SeqNo, Facts)] = &[
 
 #[test]
 fn an_opened_table_says_what_the_list_says(rt: HostRuntime) {
-    for (rows, global_seqno, facts) in SAYS {
-        assert!(rt; says(rt.alloc(), rows, *global_seqno) == Ok(Some(*facts)));
+    for (place, global_seqno, facts) in SAYS {
+        assert!(rt; says(rt.alloc(), *place, *global_seqno) == Ok(Some(*facts)));
     }
 }

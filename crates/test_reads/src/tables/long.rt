@@ -2,15 +2,15 @@
 //! one key, and a longer key than a writer takes.
 ghost use Rattle.std.specs.Prelude.{◌≡◌, []};
 
-use crate::tables::{ALL_PINS, Parted, open_with, written};
+use crate::tables::{ALL_PINS, Parted, open_with, written, written_by};
 use logpurple::Table;
 use lsm_writers::Writer;
 use sst_blocks::{
-    Block, BlockHandle, BlockSource, BlockType, CompressionType, Error, Opened, SectionName,
-    SectionWriter, SeqNo, Slice, ValueType,
+    Block, BlockHandle, BlockSource, BlockType, CompressionType, DataBlock, Error, Opened,
+    SectionName, SectionWriter, SeqNo, Slice, ValueType,
 };
 use std::alloc::Global;
-use test_tables::large::asked_with;
+use test_tables::large::{asked, asked_with};
 use test_tables::rows::{self, Row, new_writer, put_rows};
 use test_tables::tables::{load_entries, read};
 
@@ -27,10 +27,10 @@ fn answers(table: &Table, reads: &[Read<'_>]) -> Result<bool, Error> {
 }
 
 // Whether the table of some bytes answers some reads under each pair of pins.
-fn all_answered(alloc: Global, bytes: &Slice, reads: &[Read<'_>]) -> Result<bool, Error> {
+fn all_answered(bytes: &Slice, by: (Global, &[Read<'_>])) -> Result<bool, Error> {
     for pins in ALL_PINS {
-        let table = open_with(alloc, bytes.clone()?, pins, 0);
-        if !asked_with(table, reads, answers)? {
+        let table = open_with(by.0, bytes.clone()?, pins, 0);
+        if !asked_with(table, by.1, answers)? {
             return Ok(false);
         }
     }
@@ -51,19 +51,21 @@ const EACH: [(Parted, u32); 3] = [
 ];
 
 // Whether the tables of some rows answer some reads, with each kind of index and of filter.
-fn each_answers(alloc: Global, rows: &[Row<'_>], reads: &[Read<'_>]) -> Result<bool, Error> {
+fn each_answers(alloc: Global, rows: &[Row<'_>], reads: &[Read<'_>]) -> bool {
     for (parted, bits) in EACH {
-        let bytes = written(alloc, parted, rows, bits, 0)?;
-        if !all_answered(alloc, &bytes, reads)? {
-            return Ok(false);
+        let bytes = written(alloc, parted, rows, bits, 0);
+        if asked_with(bytes, (alloc, reads), all_answered) != Ok(true) {
+            return false;
         }
     }
-    Ok(true)
+    true
 }
 
 // Whether two versions of the longest key and `b` behind it are read.
-fn longest_is_read(alloc: Global) -> Result<bool, Error> {
-    let longest = vec![in alloc; 0x61u8; LONGEST]?;
+fn longest_is_read(alloc: Global) -> bool {
+    let Ok(longest) = vec![in alloc; 0x61u8; LONGEST] else {
+        return false;
+    };
     let key = longest.as_slice();
     let rows: [Row<'_>; 3] = [
         (key, 5, ValueType::Value, b"x"),
@@ -91,8 +93,8 @@ const OF_EMPTY: &[Read<'static>] = &[
 // Ranges of such keys, and what a writer does behind a longer one, the tests in Python have.
 #[test]
 fn the_longest_key_and_the_empty_one_under_each_index_and_filter(rt: HostRuntime) {
-    assert!(rt; longest_is_read(rt.alloc()) == Ok(true));
-    assert!(rt; each_answers(rt.alloc(), EMPTY, OF_EMPTY) == Ok(true));
+    assert!(rt; longest_is_read(rt.alloc()));
+    assert!(rt; each_answers(rt.alloc(), EMPTY, OF_EMPTY));
 }
 
 // ---- very many versions
@@ -113,11 +115,7 @@ fn put_versions(alloc: Global, writer: &mut Writer) -> Result<(), Error> {
 // The bytes of the table of them.
 fn finished(alloc: Global, mut writer: Writer) -> Result<Slice, Error> {
     let answer = put_versions(alloc, &mut writer);
-    let writer = rows::written(writer, answer)?;
-    match writer.finish()? {
-        Some(table) => Ok(table.bytes),
-        None => Err(Error::Source(1)),
-    }
+    written_by(rows::written(writer, answer)?, alloc, &[])
 }
 
 const VERSION_READS: &[Read<'static>] = &[
@@ -140,8 +138,11 @@ fn in_parts(alloc: Global) -> Result<Writer, Error> {
 
 // Whether reads of them are answered so.
 fn are_read(alloc: Global, writer: Result<Writer, Error>) -> Result<bool, Error> {
-    let bytes = finished(alloc, writer?)?;
-    all_answered(alloc, &bytes, VERSION_READS)
+    asked_with(
+        finished(alloc, writer?),
+        (alloc, VERSION_READS),
+        all_answered,
+    )
 }
 
 #[test]
@@ -152,42 +153,32 @@ fn a_read_loads_one_block_of_many_versions(rt: HostRuntime) {
 
 // ---- a block that no writer makes
 
-// Puts a block of a@3 with a key of a letter more than the longest has, and without a value: one
-// entry, a value, its number, the key's length, no bytes of a value.
-fn put_payload(payload: &mut Vec<u8>, key: &[u8]) -> Result<(), Error> {
-    payload.extend_from_slice(&[
-        1, 0, 0, 0, 0, 3, 0, 0, 0, 0, 0, 0, 0, 1, 0, 16, 0, 0, 0, 0, 0,
-    ])?;
-    payload.extend_from_slice(key)?;
-    Ok(())
-}
+// The front of a block of a@3 with a key of a letter more than the longest has, and without a
+// value: one entry, a value, its number, the key's length, no bytes of a value. The key follows.
+const FRONT: [u8; 21] = [
+    1, 0, 0, 0, 0, 3, 0, 0, 0, 0, 0, 0, 0, 1, 0, 16, 0, 0, 0, 0, 0,
+];
 
-// Writes a section of data of one block, and answers where it lies.
-fn put_block(writer: &mut SectionWriter, payload: &[u8]) -> Result<BlockHandle, Error>
+// Writes a section of data of that block, and answers where it lies.
+fn put_block(alloc: Global, writer: &mut SectionWriter) -> Result<BlockHandle, Error>
     requires { writer.old.started ≡ [] }
 {
-    if payload.len() > 2_000_000 {
-        return Err(Error::Source(0));
-    }
+    let mut payload = Vec::from_slice(alloc, &FRONT)?;
+    payload.resize(FRONT.len() + LONGEST + 1, 0x61)?;
     writer.start(SectionName::Data)?;
-    Block::write_into(writer, payload, BlockType::Data, CompressionType::None)
+    Block::write_into(writer, &payload, BlockType::Data, CompressionType::None)
 }
 
 // A table of such a block alone, and where it lies.
 fn table(alloc: Global) -> Result<(Slice, BlockHandle), Error> {
-    let key = vec![in alloc; 0x61u8; LONGEST + 1]?;
-    let mut payload = Vec::new(alloc);
-    let put = put_payload(&mut payload, &key);
-    let payload = rows::written(payload, put)?;
     let mut writer = SectionWriter::new(alloc)?;
-    let handle = put_block(&mut writer, &payload);
+    let handle = put_block(alloc, &mut writer);
     let (bytes, _) = writer.finish()?;
     Ok((bytes, handle?))
 }
 
 // The length of the first entry's key in a block, and its number.
-fn first(source: &BlockSource, handle: &BlockHandle) -> Result<Option<(usize, SeqNo)>, Error> {
-    let block = load_entries(source, handle, BlockType::Data, &mut Opened::none())?;
+fn first(block: &DataBlock<Global>) -> Result<Option<(usize, SeqNo)>, Error> {
     if block.is_empty() {
         return Ok(None);
     }
@@ -195,9 +186,15 @@ fn first(source: &BlockSource, handle: &BlockHandle) -> Result<Option<(usize, Se
     Ok(Some((entry.key.user_key.len(), entry.key.seqno)))
 }
 
+// Those of the block where a handle points.
+fn first_in(source: &BlockSource, handle: &BlockHandle) -> Result<Option<(usize, SeqNo)>, Error> {
+    let block = load_entries(source, handle, BlockType::Data, &mut Opened::none());
+    asked(block, first)
+}
+
 fn loaded(alloc: Global) -> Result<Option<(usize, SeqNo)>, Error> {
     let (bytes, handle) = table(alloc)?;
-    asked_with(BlockSource::new(alloc, bytes), &handle, first)
+    asked_with(BlockSource::new(alloc, bytes), &handle, first_in)
 }
 
 #[test]

@@ -99,6 +99,6 @@ fn kind_gives(alloc: Global, kind: &Kind) -> Result<bool, Error> {
 #[test]
 fn each_index_and_filter_gives_the_same(rt: HostRuntime) {
     for kind in KINDS {
-        assert!(rt; kind_gives(rt.alloc(), kind) == Ok(true));
+        assert!(rt; matches!(kind_gives(rt.alloc(), kind), Ok(true)));
     }
 }

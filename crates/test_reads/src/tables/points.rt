@@ -1,12 +1,9 @@
 //! Point reads over a source that lists what it loads.
-use crate::tables::{Of, Parted, Sought, bytes_of, number_of};
+use crate::tables::{Of, Parted, Sought, number_of, opened};
 use logpurple::{Table, point_in};
-use sst_blocks::{
-    Block, BlockHandle, BlockSource, BlockType, Counted, Error, LoadBlocks, SeqNo, Slice,
-};
+use sst_blocks::{Block, BlockHandle, BlockSource, BlockType, Counted, Error, LoadBlocks, SeqNo};
 use std::alloc::Allocator;
 use test_tables::large::asked_with;
-use test_tables::tables::open;
 
 // Where a block lies, and its size.
 type Place = (u64, u32);
@@ -34,9 +31,11 @@ impl<A: Allocator + Copy> LoadBlocks for Listing<'_, A> {
     }
 }
 
-// A key and a bound, the number that is found, and the one block that is loaded, if any. Each block
-// has a header of 24 bytes, a count of 4, and 17 bytes and the key for its one entry.
-const READS: [(Sought, Option<SeqNo>, Option<Place>); 3] = [
+// A key and a bound, the number that is found, and the one block that is loaded, if any.
+type Read = (Sought, Option<SeqNo>, Option<Place>);
+
+// Each block has a header of 24 bytes, a count of 4, and 17 bytes and the key for its one entry.
+const READS: &[Read] = &[
     ((b"a", 8), Some(7), Some((46, 46))),
     ((b"a", 5), None, Some((138, 46))),
     ((b"c", 100), None, None),
@@ -46,7 +45,7 @@ const READS: [(Sought, Option<SeqNo>, Option<Place>); 3] = [
 fn is_right<A: Allocator + Copy>(
     table: &Table<A>,
     source: &BlockSource<A>,
-    read: &(Sought, Option<SeqNo>, Option<Place>),
+    read: &Read,
 ) -> Result<bool, Error> {
     let (key, seqno) = read.0;
     let mut listing = Listing {
@@ -60,11 +59,12 @@ fn is_right<A: Allocator + Copy>(
     Ok(found? == read.1 && places == [None, read.2])
 }
 
+// Whether the reads of a table are so.
 fn all_right<A: Allocator + Copy>(
-    table: &Table<A>,
     source: &BlockSource<A>,
+    table: &Table<A>,
 ) -> Result<bool, Error> {
-    for read in &READS {
+    for read in READS {
         if !is_right(table, source, read)? {
             return Ok(false);
         }
@@ -72,17 +72,14 @@ fn all_right<A: Allocator + Copy>(
     Ok(true)
 }
 
-// Whether the reads of the table of some bytes are so.
-fn reads_in<A: Allocator + Copy>(
-    source: &BlockSource<A>,
-    by: (A, &Slice<A>),
-) -> Result<bool, Error> {
-    asked_with(open(by.0, by.1.clone()?, 0), source, all_right)
+// Whether they are so over a source of its own.
+fn reads_in<A: Allocator + Copy>(table: &Table<A>, alloc: A) -> Result<bool, Error> {
+    let bytes = table.bytes()?;
+    asked_with(BlockSource::new(alloc, bytes), table, all_right)
 }
 
 /// Whether the reads ask for one block at most.
 pub(crate) fn are_right<A: Allocator + Copy>(alloc: A) -> Result<bool, Error> {
-    let bytes = bytes_of(alloc, Of::Rows(Parted::Nothing))?;
-    let source = BlockSource::new(alloc, bytes.clone()?);
-    asked_with(source, (alloc, &bytes), reads_in)
+    let table = opened(alloc, &(Of::Rows(Parted::Nothing), &[], (true, true), 0));
+    asked_with(table, alloc, reads_in)
 }

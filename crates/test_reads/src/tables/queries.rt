@@ -43,7 +43,9 @@ fn finds<A: Allocator + Copy>(
     by: (A, &[Sought], &[Option<Name>]),
 ) -> Result<bool, Error> {
     let queries = queries_of(by.0, by.1)?;
-    Ok(are_named(&get_many(table, &queries)?, by.2))
+    let found = get_many(table, &queries);
+    drop(queries);
+    Ok(are_named(&found?, by.2))
 }
 
 const PINS: Pins = (true, true);
@@ -119,16 +121,16 @@ const CASES: &[Case] = &[
     ),
 ];
 
-// What comes of queries of a clone of a table, once the table itself is gone.
-fn found_in_clone(alloc: Global, case: &Case) -> Result<bool, Error> {
+// Whether that comes of queries of a clone of a table, once the table itself is gone.
+fn comes_of_clone(alloc: Global, case: &Case) -> bool {
     let copy = asked(opened(alloc, &case.0), cloned);
-    asked_with(copy, (alloc, case.1, case.2), finds)
+    asked_with(copy, (alloc, case.1, case.2), finds) == case.3
 }
 
 #[test]
 fn each_query_has_its_answer_in_its_place(rt: HostRuntime) {
     for case in CASES {
-        assert!(rt; found_in_clone(rt.alloc(), case) == case.3);
+        assert!(rt; comes_of_clone(rt.alloc(), case));
     }
 }
 
@@ -151,29 +153,49 @@ pub(crate) fn are_answered<A: Allocator + Copy>(alloc: A) -> Result<bool, Error>
 
 // ---- how many requests for memory reads make
 
-// How many requests for memory are made by reads one by one, and by all at once.
-fn requests_of<'h>(
-    table: &Table<&'h Refusing>,
-    by: (&'h Refusing, &[Sought]),
-) -> Result<(usize, usize), Error> {
-    let (heap, sought) = by;
-    let queries = queries_of(heap, sought)?;
-    let before = heap.requests();
+// Reads what is sought one by one.
+fn read_each<A: Allocator + Copy>(table: &Table<A>, sought: &[Sought]) -> Result<(), Error> {
     for one in sought {
         counted_read(table, one.0, one.1).0?;
     }
-    let between = heap.requests();
-    drop(get_many(table, &queries)?);
-    Ok((
-        between.saturating_sub(before),
-        heap.requests().saturating_sub(between),
-    ))
+    Ok(())
 }
 
-fn requests_in(alloc: Global, of: Of, sought: &[Sought]) -> Result<(usize, usize), Error> {
+// How many requests for memory are made by reads one by one, and by all at once. Generic in the
+// allocator, which is the heap that counts them.
+fn requests_of<A: Allocator + Copy>(
+    table: &Table<A>,
+    by: (A, &Refusing, &[Sought]),
+) -> Result<(usize, usize), Error> {
+    let (alloc, heap, sought) = by;
+    let mut before = heap.requests();
+    read_each(table, sought)?;
+    let one_by_one = heap.requests().saturating_sub(before);
+    let queries = queries_of(alloc, sought)?;
+    before = heap.requests();
+    let found = get_many(table, &queries).map(drop);
+    let at_once = heap.requests().saturating_sub(before);
+    drop(queries);
+    found.and(Ok((one_by_one, at_once)))
+}
+
+// Those of a table that is made in that heap.
+fn requests_on<A: Allocator + Copy>(
+    alloc: A,
+    heap: &Refusing,
+    of: Of,
+    sought: &[Sought],
+) -> Result<(usize, usize), Error> {
+    let table = opened(alloc, &(of, &[], (false, false), 0));
+    asked_with(table, (alloc, heap, sought), requests_of)
+}
+
+// More than there can be where anything is refused.
+const REFUSED: (usize, usize) = (usize::MAX, usize::MAX);
+
+fn requests_in(alloc: Global, of: Of, sought: &[Sought]) -> (usize, usize) {
     let heap = Refusing::new(alloc, 0);
-    let table = opened(&heap, &(of, &[], (false, false), 0));
-    asked_with(table, (&heap, sought), requests_of)
+    requests_on(&heap, &heap, of, sought).unwrap_or(REFUSED)
 }
 
 const TWO: &[Sought] = &[(b"a", 10), (b"b", 2)];
@@ -182,23 +204,23 @@ const FOUR: &[Sought] = &[(b"a", 10), (b"a", 8), (b"a", 6), (b"b", 2)];
 
 // A read asks for no memory, not for the places of a block's entries nor for those of a partition's
 // handles, and the entry shares the table's bytes; none is asked for where nothing is sought.
-fn asks_for_none(alloc: Global) -> Result<bool, Error> {
-    let none = requests_in(alloc, Of::Rows(Parted::Nothing), &[])?;
-    let in_parts = requests_in(alloc, Of::Rows(Parted::Index), TWO)?;
-    Ok(none == (0, 0) && in_parts.0 == 0)
+fn asks_for_none(alloc: Global) -> bool {
+    let none = requests_in(alloc, Of::Rows(Parted::Nothing), &[]);
+    let in_parts = requests_in(alloc, Of::Rows(Parted::Index), TWO);
+    none == (0, 0) && in_parts.0 == 0
 }
 
 // The block in which several keys stand is loaded, which takes memory for its entries' places, and
 // for all of them once; that of a lone key is not.
-fn loads_once(alloc: Global) -> Result<(bool, bool), Error> {
-    let two = requests_in(alloc, Of::Block, TWO)?;
-    let four = requests_in(alloc, Of::Block, FOUR)?;
-    let apart = requests_in(alloc, Of::Rows(Parted::Nothing), TWO)?;
-    Ok((two == four && two.0 == 0, apart.1 < two.1 && apart.0 == 0))
+fn loads_once(alloc: Global) -> bool {
+    let two = requests_in(alloc, Of::Block, TWO);
+    let four = requests_in(alloc, Of::Block, FOUR);
+    let apart = requests_in(alloc, Of::Rows(Parted::Nothing), TWO);
+    two == four && two.0 == 0 && apart.1 < two.1 && apart.0 == 0
 }
 
 #[test]
 fn reads_ask_for_no_memory_and_load_a_block_of_several_keys_once(rt: HostRuntime) {
-    assert!(rt; asks_for_none(rt.alloc()) == Ok(true));
-    assert!(rt; loads_once(rt.alloc()) == Ok((true, true)));
+    assert!(rt; asks_for_none(rt.alloc()));
+    assert!(rt; loads_once(rt.alloc()));
 }

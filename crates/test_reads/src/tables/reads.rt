@@ -7,7 +7,7 @@ use crate::tables::{
 };
 use logpurple::Table;
 use sst_blocks::{Error, SeqNo, TagName};
-use std::alloc::Global;
+use std::alloc::{Allocator, Global};
 use test_tables::large::{asked, asked_with};
 
 // What stays loaded.
@@ -28,10 +28,33 @@ fn answer_of(table: &Table, sought: Sought) -> Answer {
     Ok(counted_read(table, sought.0, sought.1))
 }
 
-// What a read of a clone of a table answers, once the table itself is gone; or why that is not
-// opened.
-fn answer(alloc: Global, changed: &Changed<'_>, sought: Sought) -> Answer {
-    asked_with(asked(opened(alloc, changed), cloned), sought, answer_of)
+// Whether a read of a clone of a table is answered so, once the table itself is gone; or why that
+// is not opened.
+fn is_answered(table: Result<Table, Error>, sought: Sought, expected: &Answer) -> bool {
+    asked_with(asked(table, cloned), sought, answer_of) == *expected
+}
+
+// Places of up to three bytes, and what these become. A reference in a table of cases costs a proof
+// more than all else in it, so most cases have none.
+type Bytes = ((usize, u8), (usize, u8), (usize, u8));
+
+// No byte.
+const NO: (usize, u8) = (usize::MAX, 0);
+
+const WHOLE: Bytes = (NO, NO, NO);
+
+// A table, some bytes, what stays loaded, and a global number.
+type Damaged = (Of, Bytes, Pins, SeqNo);
+
+// The table of them.
+fn damaged(alloc: Global, damaged: &Damaged) -> Result<Table, Error> {
+    let (first, second, third) = damaged.1;
+    let (one, two, three) = ([first.1], [second.1], [third.1]);
+    let changes: [(usize, &[u8]); 3] = [(first.0, &one), (second.0, &two), (third.0, &three)];
+    opened(
+        alloc,
+        &(damaged.0, changes.as_slice(), damaged.2, damaged.3),
+    )
 }
 
 // ---- refusals to open
@@ -52,38 +75,60 @@ const TLI_AT: usize = 1170;
 const META_AT: usize = 1234;
 
 // Changes of the table of one entry, and the fault.
-const FAULTS: &[(Changes<'static>, Error)] = &[
+static FAULTS: [(Changes<'static>, Error); 5] = [
     (
         &[(TLI_AT, &META_SLOT), (META_AT, &TLI_SLOT)],
         Error::InvalidTag(TagName::BlockType, 1),
     ),
     (&[(TLI_AT, &FF)], Error::MissingSection),
     (&[(META_AT, &FF)], Error::MissingSection),
-    // a length of 2^32
-    (&[(TLI_AT + 8, &[0, 0, 0, 0, 1])], Error::InvalidTrailer),
-    // a length of 23, and one that is a byte too short
-    (&[(META_AT + 8, &[23, 0])], Error::Truncated),
-    (&[(TLI_AT + 8, &[23])], Error::Truncated),
-    (&[(META_AT + 8, &[0x10])], Error::InvalidHeader),
-    // a position in the byte of the version
-    (&[(META_AT, &[96])], Error::InvalidHeader),
-    // the mark, the kind, the compression and the payload of the meta block and of the index
-    (&[(97, b"l")], Error::InvalidHeader),
-    (&[(101, &[2])], Error::InvalidTag(TagName::BlockType, 2)),
-    (&[(102, &[1])], Error::UnsupportedCompression),
-    (&[(121, &[30])], Error::ChecksumMismatch),
-    (&[(50, &[1])], Error::UnsupportedCompression),
-    // of two faults the first: a section that is missing, then the meta block, then the index
+    // of two faults the first
     (&[(TLI_AT, &FF), (121, &[30])], Error::MissingSection),
-    (&[(121, &[30]), (50, &[1])], Error::ChecksumMismatch),
     (&[(1250, b"l"), (META_AT, &FF)], Error::InvalidTrailer),
 ];
+
+// Bytes of that table, and the fault.
+static BYTE_FAULTS: [(Bytes, Error); 11] = [
+    // a length of 2^32
+    (
+        ((TLI_AT + 8, 0), (TLI_AT + 12, 1), NO),
+        Error::InvalidTrailer,
+    ),
+    // a length of 23, and one that is a byte too short
+    (((META_AT + 8, 23), (META_AT + 9, 0), NO), Error::Truncated),
+    (((TLI_AT + 8, 23), NO, NO), Error::Truncated),
+    (((META_AT + 8, 0x10), NO, NO), Error::InvalidHeader),
+    // a position in the byte of the version
+    (((META_AT, 96), NO, NO), Error::InvalidHeader),
+    // the mark, the kind, the compression and the payload of the meta block and of the index
+    (((97, b'l'), NO, NO), Error::InvalidHeader),
+    (((101, 2), NO, NO), Error::InvalidTag(TagName::BlockType, 2)),
+    (((102, 1), NO, NO), Error::UnsupportedCompression),
+    (((121, 30), NO, NO), Error::ChecksumMismatch),
+    (((50, 1), NO, NO), Error::UnsupportedCompression),
+    // of two faults the first: the meta block, then the index
+    (((121, 30), (50, 1), NO), Error::ChecksumMismatch),
+];
+
+// Whether a table is not opened for a fault.
+fn has_fault(table: Result<Table, Error>, fault: &Error) -> bool {
+    table.err().as_ref() == Some(fault)
+}
 
 // The place of the first fault that is not told.
 fn wrong_fault(alloc: Global, faults: &[(Changes<'static>, Error)]) -> Option<usize> {
     for (place, (changes, fault)) in faults.iter().enumerate() {
-        let changed = (Of::One, *changes, BOTH, 0);
-        if answer(alloc, &changed, BELOW_2).err().as_ref() != Some(fault) {
+        if !has_fault(opened(alloc, &(Of::One, *changes, BOTH, 0)), fault) {
+            return Some(place);
+        }
+    }
+    None
+}
+
+// That of the first one of bytes.
+fn wrong_byte_fault(alloc: Global, faults: &[(Bytes, Error)]) -> Option<usize> {
+    for (place, (bytes, fault)) in faults.iter().enumerate() {
+        if !has_fault(damaged(alloc, &(Of::One, *bytes, BOTH, 0)), fault) {
             return Some(place);
         }
     }
@@ -92,37 +137,176 @@ fn wrong_fault(alloc: Global, faults: &[(Changes<'static>, Error)]) -> Option<us
 
 #[test]
 fn the_first_fault_of_sections_and_blocks(rt: HostRuntime) {
-    assert!(rt; wrong_fault(rt.alloc(), FAULTS) == None);
+    assert!(rt; wrong_fault(rt.alloc(), &FAULTS) == None);
+    assert!(rt; wrong_byte_fault(rt.alloc(), &BYTE_FAULTS) == None);
 }
 
-// Changes of the meta block of that table, with its checksum, and the fault. Where a value is
-// shorter, that of an item which is not read is longer.
-const ITEM_FAULTS: &[(Changes<'static>, Error)] = &[
+// The checksum of the meta block of that table, the place of a byte or, where there is none, of
+// the largest number, and the fault.
+static ITEMS: [([u8; 8], usize, Option<[u8; 1]>, Error); 26] = [
     // one item with another value; a length is told where it is read as a number
     (
-        &[(113, &[117, 94, 140, 178, 166, 191, 24, 178]), (970, &[5])],
+        [117, 94, 140, 178, 166, 191, 24, 178],
+        970,
+        Some([5]),
         Error::UnsupportedTableVersion,
     ),
     (
-        &[(113, &[242, 179, 26, 48, 98, 228, 109, 91]), (517, &[2])],
+        [242, 179, 26, 48, 98, 228, 109, 91],
+        517,
+        Some([2]),
         Error::UnsupportedHashType,
     ),
     (
-        &[(113, &[234, 43, 49, 196, 235, 40, 248, 53]), (273, &[2])],
+        [234, 43, 49, 196, 235, 40, 248, 53],
+        273,
+        Some([2]),
         Error::UnsupportedChecksumType,
     ),
     (
-        &[(113, &[212, 225, 25, 10, 118, 63, 27, 186]), (846, &[2])],
+        [212, 225, 25, 10, 118, 63, 27, 186],
+        846,
+        Some([2]),
         Error::UnsupportedIndexInterval,
     ),
     (
-        &[(113, &[20, 162, 150, 90, 197, 85, 91, 209]), (305, &[1])],
+        [20, 162, 150, 90, 197, 85, 91, 209],
+        305,
+        Some([1]),
         Error::UnsupportedCompression,
     ),
     (
-        &[(113, &[58, 126, 191, 198, 65, 35, 198, 50]), (338, &[1])],
+        [58, 126, 191, 198, 65, 35, 198, 50],
+        338,
+        Some([1]),
         Error::UnsupportedCompression,
     ),
+    // an item that is read has the largest number, below which items are looked for
+    (
+        [79, 42, 223, 161, 69, 142, 167, 138],
+        126,
+        None,
+        Error::MetaKeyMissing,
+    ),
+    (
+        [79, 90, 68, 61, 55, 249, 1, 14],
+        165,
+        None,
+        Error::MetaKeyMissing,
+    ),
+    (
+        [47, 83, 245, 162, 106, 167, 134, 19],
+        206,
+        None,
+        Error::MetaKeyMissing,
+    ),
+    (
+        [79, 15, 242, 84, 221, 128, 59, 45],
+        246,
+        None,
+        Error::MetaKeyMissing,
+    ),
+    (
+        [255, 184, 27, 203, 84, 229, 63, 56],
+        275,
+        None,
+        Error::MetaKeyMissing,
+    ),
+    (
+        [111, 22, 128, 207, 89, 99, 3, 41],
+        307,
+        None,
+        Error::MetaKeyMissing,
+    ),
+    (
+        [175, 225, 88, 138, 17, 112, 102, 24],
+        374,
+        None,
+        Error::MetaKeyMissing,
+    ),
+    (
+        [159, 141, 196, 152, 218, 59, 169, 3],
+        455,
+        None,
+        Error::MetaKeyMissing,
+    ),
+    (
+        [127, 148, 146, 227, 5, 186, 137, 109],
+        487,
+        None,
+        Error::MetaKeyMissing,
+    ),
+    (
+        [207, 130, 110, 171, 226, 94, 225, 202],
+        585,
+        None,
+        Error::MetaKeyMissing,
+    ),
+    (
+        [47, 165, 179, 200, 107, 157, 103, 63],
+        618,
+        None,
+        Error::MetaKeyMissing,
+    ),
+    (
+        [63, 154, 164, 31, 166, 91, 31, 91],
+        641,
+        None,
+        Error::MetaKeyMissing,
+    ),
+    (
+        [95, 101, 35, 11, 68, 51, 120, 120],
+        810,
+        None,
+        Error::MetaKeyMissing,
+    ),
+    (
+        [47, 155, 154, 242, 96, 98, 41, 109],
+        848,
+        None,
+        Error::MetaKeyMissing,
+    ),
+    (
+        [175, 252, 174, 190, 226, 127, 166, 13],
+        880,
+        None,
+        Error::MetaKeyMissing,
+    ),
+    (
+        [223, 81, 174, 74, 41, 34, 242, 141],
+        912,
+        None,
+        Error::MetaKeyMissing,
+    ),
+    (
+        [191, 40, 90, 38, 167, 130, 188, 162],
+        943,
+        None,
+        Error::MetaKeyMissing,
+    ),
+    (
+        [239, 243, 152, 224, 174, 151, 232, 89],
+        972,
+        None,
+        Error::MetaKeyMissing,
+    ),
+    (
+        [47, 201, 42, 173, 7, 57, 1, 159],
+        1047,
+        None,
+        Error::MetaKeyMissing,
+    ),
+    (
+        [223, 14, 162, 94, 144, 55, 216, 20],
+        1090,
+        None,
+        Error::MetaKeyMissing,
+    ),
+];
+
+// Further changes of that block, with its checksum, and the fault. Where a value is shorter, that
+// of an item which is not read is longer.
+static ITEM_FAULTS: [(Changes<'static>, Error); 9] = [
     (
         &[
             (113, &[139, 166, 19, 26, 44, 226, 82, 114]),
@@ -250,160 +434,80 @@ const ITEM_FAULTS: &[(Changes<'static>, Error)] = &[
         ],
         Error::MetaKeyMissing,
     ),
-    // an item that is read has the largest number, below which items are looked for
-    (
-        &[
-            (113, &[79, 42, 223, 161, 69, 142, 167, 138]),
-            (126, LARGEST),
-        ],
-        Error::MetaKeyMissing,
-    ),
-    (
-        &[(113, &[79, 90, 68, 61, 55, 249, 1, 14]), (165, LARGEST)],
-        Error::MetaKeyMissing,
-    ),
-    (
-        &[
-            (113, &[47, 83, 245, 162, 106, 167, 134, 19]),
-            (206, LARGEST),
-        ],
-        Error::MetaKeyMissing,
-    ),
-    (
-        &[(113, &[79, 15, 242, 84, 221, 128, 59, 45]), (246, LARGEST)],
-        Error::MetaKeyMissing,
-    ),
-    (
-        &[(113, &[255, 184, 27, 203, 84, 229, 63, 56]), (275, LARGEST)],
-        Error::MetaKeyMissing,
-    ),
-    (
-        &[(113, &[111, 22, 128, 207, 89, 99, 3, 41]), (307, LARGEST)],
-        Error::MetaKeyMissing,
-    ),
-    (
-        &[
-            (113, &[175, 225, 88, 138, 17, 112, 102, 24]),
-            (374, LARGEST),
-        ],
-        Error::MetaKeyMissing,
-    ),
-    (
-        &[
-            (113, &[159, 141, 196, 152, 218, 59, 169, 3]),
-            (455, LARGEST),
-        ],
-        Error::MetaKeyMissing,
-    ),
-    (
-        &[
-            (113, &[127, 148, 146, 227, 5, 186, 137, 109]),
-            (487, LARGEST),
-        ],
-        Error::MetaKeyMissing,
-    ),
-    (
-        &[
-            (113, &[207, 130, 110, 171, 226, 94, 225, 202]),
-            (585, LARGEST),
-        ],
-        Error::MetaKeyMissing,
-    ),
-    (
-        &[
-            (113, &[47, 165, 179, 200, 107, 157, 103, 63]),
-            (618, LARGEST),
-        ],
-        Error::MetaKeyMissing,
-    ),
-    (
-        &[(113, &[63, 154, 164, 31, 166, 91, 31, 91]), (641, LARGEST)],
-        Error::MetaKeyMissing,
-    ),
-    (
-        &[(113, &[95, 101, 35, 11, 68, 51, 120, 120]), (810, LARGEST)],
-        Error::MetaKeyMissing,
-    ),
-    (
-        &[(113, &[47, 155, 154, 242, 96, 98, 41, 109]), (848, LARGEST)],
-        Error::MetaKeyMissing,
-    ),
-    (
-        &[
-            (113, &[175, 252, 174, 190, 226, 127, 166, 13]),
-            (880, LARGEST),
-        ],
-        Error::MetaKeyMissing,
-    ),
-    (
-        &[(113, &[223, 81, 174, 74, 41, 34, 242, 141]), (912, LARGEST)],
-        Error::MetaKeyMissing,
-    ),
-    (
-        &[
-            (113, &[191, 40, 90, 38, 167, 130, 188, 162]),
-            (943, LARGEST),
-        ],
-        Error::MetaKeyMissing,
-    ),
-    (
-        &[
-            (113, &[239, 243, 152, 224, 174, 151, 232, 89]),
-            (972, LARGEST),
-        ],
-        Error::MetaKeyMissing,
-    ),
-    (
-        &[(113, &[47, 201, 42, 173, 7, 57, 1, 159]), (1047, LARGEST)],
-        Error::MetaKeyMissing,
-    ),
-    (
-        &[
-            (113, &[223, 14, 162, 94, 144, 55, 216, 20]),
-            (1090, LARGEST),
-        ],
-        Error::MetaKeyMissing,
-    ),
 ];
+
+// The place of the first item whose fault is not told.
+fn wrong_item(alloc: Global, items: &[([u8; 8], usize, Option<[u8; 1]>, Error)]) -> Option<usize> {
+    for (place, (checksum, at, byte, fault)) in items.iter().enumerate() {
+        let written: &[u8] = match byte {
+            Some(byte) => byte,
+            None => LARGEST,
+        };
+        let changes: [(usize, &[u8]); 2] = [(113, checksum), (*at, written)];
+        if !has_fault(
+            opened(alloc, &(Of::One, changes.as_slice(), BOTH, 0)),
+            fault,
+        ) {
+            return Some(place);
+        }
+    }
+    None
+}
 
 // How each item is read, with any length of its value, the tests in Python have.
 #[test]
 fn the_first_fault_of_items(rt: HostRuntime) {
-    assert!(rt; wrong_fault(rt.alloc(), ITEM_FAULTS) == None);
+    assert!(rt; wrong_item(rt.alloc(), &ITEMS) == None);
+    assert!(rt; wrong_fault(rt.alloc(), &ITEM_FAULTS) == None);
+}
+
+// The stored table of one entry with another kind of checksum.
+const OTHER_CHECKSUMS: Changed<'static> = (
+    Of::One,
+    &[(113, &[234, 43, 49, 196, 235, 40, 248, 53]), (273, &[2])],
+    BOTH,
+    0,
+);
+
+/// Whether opening a table of a kind of checksum that is not known is refused so.
+pub(crate) fn checksums_are_refused<A: Allocator + Copy>(alloc: A) -> Result<bool, Error> {
+    match opened(alloc, &OTHER_CHECKSUMS).map(drop) {
+        Err(Error::UnsupportedChecksumType) => Ok(true),
+        Err(error) => Err(error),
+        Ok(()) => Ok(false),
+    }
 }
 
 // ---- reads
 
-// A read of a@1 in the table of one entry, and its answer.
-const BELOW_2: Sought = (b"a", 2);
-
+// What a read of a@1 answers in the table of one entry.
 const FINDS_1: Answer = Ok((Ok(Some(1)), [1, 0, 0]));
 
 const MISMATCH: Error = Error::ChecksumMismatch;
 
 // The last byte of the second partition of the index.
-const PART_OF_INDEX: Changed<'static> = (Of::Levels, &[(277, b"?")], BOTH, 0);
+const PART_OF_INDEX: Damaged = (Of::Levels, ((277, b'?'), NO, NO), BOTH, 0);
 
 // The last byte of the whole index.
-const WHOLE_INDEX: Changed<'static> = (Of::One, &[(95, b"?")], NO_INDEX, 0);
+const WHOLE_INDEX: Damaged = (Of::One, ((95, b'?'), NO, NO), NO_INDEX, 0);
 
 // The last byte of the whole filter.
-const WHOLE_FILTER: Changed<'static> = (Of::Filtered, &[(128, b"?")], NO_FILTER, 0);
+const WHOLE_FILTER: Damaged = (Of::Filtered, ((128, b'?'), NO, NO), NO_FILTER, 0);
 
 // The last byte of the first partition of the filter.
-const PART_OF_FILTER: Changed<'static> = (Of::FilterParts, &[(328, b"?")], BOTH, 0);
+const PART_OF_FILTER: Damaged = (Of::FilterParts, ((328, b'?'), NO, NO), BOTH, 0);
 
 // The last byte of each of four blocks of data of 44 bytes but the second.
-const THREE_BLOCKS: Changes<'static> = &[(43, b"?"), (131, b"?"), (175, b"?")];
+const THREE_BLOCKS: Bytes = ((43, b'?'), (131, b'?'), (175, b'?'));
 
-const IN_FILTER_PARTS: Changed<'static> = (Of::FilterParts, THREE_BLOCKS, BOTH, 0);
+const IN_FILTER_PARTS: Damaged = (Of::FilterParts, THREE_BLOCKS, BOTH, 0);
 
-const IN_LEVELS: Changed<'static> = (Of::Levels, THREE_BLOCKS, BOTH, 0);
+const IN_LEVELS: Damaged = (Of::Levels, THREE_BLOCKS, BOTH, 0);
 
 // The largest number.
 const LARGEST: &[u8] = &[0xff; 8];
 
-const UNCHANGED: Changed<'static> = (Of::FilterParts, &[], BOTH, 0);
+const UNCHANGED: Damaged = (Of::FilterParts, WHOLE, BOTH, 0);
 
 // The first handle of the filter's top level, that of `a`, gets the largest number, and the block
 // its checksum.
@@ -429,11 +533,10 @@ const LARGEST_AT_LAST: Changed<'static> = (
     0,
 );
 
-const READS: &[(Changed<'static>, Sought, Answer)] = &[
-    // changes that opening does not see: none; no data section; another version behind the index
-    ((Of::One, &[], BOTH, 0), BELOW_2, FINDS_1),
-    ((Of::One, &[(DATA_AT, &FF)], BOTH, 0), BELOW_2, FINDS_1),
-    ((Of::One, &[(96, &[9])], BOTH, 0), BELOW_2, FINDS_1),
+// Further changes than of three bytes, a read, and its answer.
+static CHANGED_READS: [(Changed<'static>, Sought, Answer); 10] = [
+    // changes that opening does not see: no data section;
+    ((Of::One, &[(DATA_AT, &FF)], BOTH, 0), (b"a", 2), FINDS_1),
     // an item of the meta block is read below the largest number, and whatever its tag is
     (
         (
@@ -445,7 +548,7 @@ const READS: &[(Changed<'static>, Sought, Answer)] = &[
             BOTH,
             0,
         ),
-        BELOW_2,
+        (b"a", 2),
         FINDS_1,
     ),
     (
@@ -455,109 +558,9 @@ const READS: &[(Changed<'static>, Sought, Answer)] = &[
             BOTH,
             0,
         ),
-        BELOW_2,
+        (b"a", 2),
         FINDS_1,
     ),
-    // the value, and the compression of the data block
-    (
-        (Of::One, &[(44, b"y")], BOTH, 0),
-        BELOW_2,
-        Ok((Err(MISMATCH), [1, 0, 0])),
-    ),
-    (
-        (Of::One, &[(5, &[1])], BOTH, 0),
-        BELOW_2,
-        Ok((Err(Error::UnsupportedCompression), [1, 0, 0])),
-    ),
-    // the global number is tested between the meta block and the index
-    (
-        (Of::One, &[], BOTH, SeqNo::MAX),
-        BELOW_2,
-        Err(Error::GlobalSeqNoTooLarge),
-    ),
-    (
-        (Of::One, &[], BOTH, SeqNo::MAX - 1),
-        BELOW_2,
-        Ok((Ok(None), [0, 0, 0])),
-    ),
-    (
-        (Of::One, &[(121, &[30])], BOTH, SeqNo::MAX),
-        BELOW_2,
-        Err(MISMATCH),
-    ),
-    (
-        (Of::One, &[(50, &[1])], BOTH, SeqNo::MAX),
-        BELOW_2,
-        Err(Error::GlobalSeqNoTooLarge),
-    ),
-    // opening loads a whole index and a whole filter that are to stay loaded
-    ((Of::One, &[(95, b"?")], BOTH, 0), BELOW_2, Err(MISMATCH)),
-    (
-        (Of::Filtered, &[(128, b"?")], BOTH, 0),
-        BELOW_2,
-        Err(MISMATCH),
-    ),
-    // and a top level, which stays loaded in any case
-    (
-        (Of::Levels, &[(499, b"?")], NEITHER, 0),
-        BELOW_2,
-        Err(MISMATCH),
-    ),
-    (
-        (Of::FilterParts, &[(435, b"?")], BOTH, 0),
-        BELOW_2,
-        Err(MISMATCH),
-    ),
-    (
-        (Of::FilterParts, &[(435, b"?")], NO_FILTER, 0),
-        BELOW_2,
-        Err(MISMATCH),
-    ),
-    (
-        (Of::FilterParts, &[(435, b"?")], NO_INDEX, 0),
-        BELOW_2,
-        Err(MISMATCH),
-    ),
-    (
-        (Of::FilterParts, &[(435, b"?")], NEITHER, 0),
-        BELOW_2,
-        Err(MISMATCH),
-    ),
-    // the read behind the damaged partition of the index alone
-    (PART_OF_INDEX, (b"a", 8), Ok((Err(MISMATCH), [0, 1, 0]))),
-    (PART_OF_INDEX, (b"a", 10), Ok((Ok(Some(9)), [1, 1, 0]))),
-    (PART_OF_INDEX, (b"a", 6), Ok((Ok(Some(5)), [1, 1, 0]))),
-    (PART_OF_INDEX, (b"b", 2), Ok((Ok(Some(1)), [1, 1, 0]))),
-    (PART_OF_INDEX, (b"c", 8), Ok((Ok(None), [0, 0, 0]))),
-    // each read that comes to the index
-    (WHOLE_INDEX, (b"a", 2), Ok((Err(MISMATCH), [0, 1, 0]))),
-    (WHOLE_INDEX, (b"c", 2), Ok((Err(MISMATCH), [0, 1, 0]))),
-    (WHOLE_INDEX, (b"a", 1), Ok((Ok(None), [0, 0, 0]))),
-    // each read that comes to the filter; a bound at the lowest number asks nothing
-    (WHOLE_FILTER, (b"a", 2), Ok((Err(MISMATCH), [0, 0, 1]))),
-    (WHOLE_FILTER, (b"c", 2), Ok((Err(MISMATCH), [0, 0, 1]))),
-    (WHOLE_FILTER, (b"a", 1), Ok((Ok(None), [0, 0, 0]))),
-    // the reads of the damaged partition's keys alone; behind the last partition nothing is asked
-    (PART_OF_FILTER, (b"a", 8), Ok((Err(MISMATCH), [0, 0, 1]))),
-    (PART_OF_FILTER, (b"", 8), Ok((Err(MISMATCH), [0, 0, 1]))),
-    (PART_OF_FILTER, (b"b", 2), Ok((Ok(Some(1)), [1, 0, 1]))),
-    (PART_OF_FILTER, (b"a", 1), Ok((Ok(None), [0, 0, 0]))),
-    (PART_OF_FILTER, (b"c", 8), Ok((Ok(None), [0, 0, 0]))),
-    // a damaged block of data refuses its own reads
-    (IN_FILTER_PARTS, (b"a", 8), Ok((Ok(Some(7)), [1, 0, 1]))),
-    (IN_FILTER_PARTS, (b"a", 10), Ok((Err(MISMATCH), [1, 0, 1]))),
-    (IN_FILTER_PARTS, (b"a", 6), Ok((Err(MISMATCH), [1, 0, 1]))),
-    (IN_FILTER_PARTS, (b"a", 5), Ok((Err(MISMATCH), [1, 0, 1]))),
-    (IN_FILTER_PARTS, (b"b", 2), Ok((Err(MISMATCH), [1, 0, 1]))),
-    (IN_LEVELS, (b"a", 8), Ok((Ok(Some(7)), [1, 1, 0]))),
-    (IN_LEVELS, (b"a", 10), Ok((Err(MISMATCH), [1, 1, 0]))),
-    (IN_LEVELS, (b"a", 6), Ok((Err(MISMATCH), [1, 1, 0]))),
-    (IN_LEVELS, (b"a", 5), Ok((Err(MISMATCH), [1, 1, 0]))),
-    (IN_LEVELS, (b"b", 2), Ok((Err(MISMATCH), [1, 1, 0]))),
-    // which partition of a filter a read asks: that of the first handle whose end key is greater,
-    // or equal and numbered below `u64::MAX`
-    (UNCHANGED, (b"a", 10), Ok((Ok(Some(9)), [1, 0, 1]))),
-    (UNCHANGED, (b"b", 2), Ok((Ok(Some(1)), [1, 0, 1]))),
     // the partition of `b` is asked, and does not have `a`
     (LARGEST_AT_FIRST, (b"a", 10), Ok((Ok(None), [0, 0, 1]))),
     (
@@ -574,76 +577,212 @@ const READS: &[(Changed<'static>, Sought, Answer)] = &[
         Ok((Ok(None), [0, 0, 0])),
     ),
     (LARGEST_AT_LAST, (b"a", 10), Ok((Ok(Some(9)), [1, 0, 1]))),
+    // no handle is numbered below the bound less the global number, whatever the meta block says
+    (BELITTLED, (b"a", SeqNo::MAX), Ok((Ok(None), [0, 0, 0]))),
+];
+
+// Stands for the empty key.
+const EMPTY: u8 = 0;
+
+fn key_of(letter: u8) -> &'static [u8] {
+    match letter {
+        b'a' => b"a",
+        b'b' => b"b",
+        b'c' => b"c",
+        _ => b"",
+    }
+}
+
+// A damaged table, a key of one letter and a bound, and the answer.
+type Read = (Damaged, (u8, SeqNo), Answer);
+
+static READS: [Read; 55] = [
+    // changes that opening does not see: none; another version behind the index
+    ((Of::One, WHOLE, BOTH, 0), (b'a', 2), FINDS_1),
+    ((Of::One, ((96, 9), NO, NO), BOTH, 0), (b'a', 2), FINDS_1),
+    // the value, and the compression of the data block
+    (
+        (Of::One, ((44, b'y'), NO, NO), BOTH, 0),
+        (b'a', 2),
+        Ok((Err(MISMATCH), [1, 0, 0])),
+    ),
+    (
+        (Of::One, ((5, 1), NO, NO), BOTH, 0),
+        (b'a', 2),
+        Ok((Err(Error::UnsupportedCompression), [1, 0, 0])),
+    ),
+    // the global number is tested between the meta block and the index
+    (
+        (Of::One, WHOLE, BOTH, SeqNo::MAX),
+        (b'a', 2),
+        Err(Error::GlobalSeqNoTooLarge),
+    ),
+    (
+        (Of::One, WHOLE, BOTH, SeqNo::MAX - 1),
+        (b'a', 2),
+        Ok((Ok(None), [0, 0, 0])),
+    ),
+    (
+        (Of::One, ((121, 30), NO, NO), BOTH, SeqNo::MAX),
+        (b'a', 2),
+        Err(MISMATCH),
+    ),
+    (
+        (Of::One, ((50, 1), NO, NO), BOTH, SeqNo::MAX),
+        (b'a', 2),
+        Err(Error::GlobalSeqNoTooLarge),
+    ),
+    // opening loads a whole index and a whole filter that are to stay loaded
+    (
+        (Of::One, ((95, b'?'), NO, NO), BOTH, 0),
+        (b'a', 2),
+        Err(MISMATCH),
+    ),
+    (
+        (Of::Filtered, ((128, b'?'), NO, NO), BOTH, 0),
+        (b'a', 2),
+        Err(MISMATCH),
+    ),
+    // and a top level, which stays loaded in any case
+    (
+        (Of::Levels, ((499, b'?'), NO, NO), NEITHER, 0),
+        (b'a', 2),
+        Err(MISMATCH),
+    ),
+    (
+        (Of::FilterParts, ((435, b'?'), NO, NO), BOTH, 0),
+        (b'a', 2),
+        Err(MISMATCH),
+    ),
+    (
+        (Of::FilterParts, ((435, b'?'), NO, NO), NO_FILTER, 0),
+        (b'a', 2),
+        Err(MISMATCH),
+    ),
+    (
+        (Of::FilterParts, ((435, b'?'), NO, NO), NO_INDEX, 0),
+        (b'a', 2),
+        Err(MISMATCH),
+    ),
+    (
+        (Of::FilterParts, ((435, b'?'), NO, NO), NEITHER, 0),
+        (b'a', 2),
+        Err(MISMATCH),
+    ),
+    // the read behind the damaged partition of the index alone
+    (PART_OF_INDEX, (b'a', 8), Ok((Err(MISMATCH), [0, 1, 0]))),
+    (PART_OF_INDEX, (b'a', 10), Ok((Ok(Some(9)), [1, 1, 0]))),
+    (PART_OF_INDEX, (b'a', 6), Ok((Ok(Some(5)), [1, 1, 0]))),
+    (PART_OF_INDEX, (b'b', 2), Ok((Ok(Some(1)), [1, 1, 0]))),
+    (PART_OF_INDEX, (b'c', 8), Ok((Ok(None), [0, 0, 0]))),
+    // each read that comes to the index
+    (WHOLE_INDEX, (b'a', 2), Ok((Err(MISMATCH), [0, 1, 0]))),
+    (WHOLE_INDEX, (b'c', 2), Ok((Err(MISMATCH), [0, 1, 0]))),
+    (WHOLE_INDEX, (b'a', 1), Ok((Ok(None), [0, 0, 0]))),
+    // each read that comes to the filter; a bound at the lowest number asks nothing
+    (WHOLE_FILTER, (b'a', 2), Ok((Err(MISMATCH), [0, 0, 1]))),
+    (WHOLE_FILTER, (b'c', 2), Ok((Err(MISMATCH), [0, 0, 1]))),
+    (WHOLE_FILTER, (b'a', 1), Ok((Ok(None), [0, 0, 0]))),
+    // the reads of the damaged partition's keys alone; behind the last partition nothing is asked
+    (PART_OF_FILTER, (b'a', 8), Ok((Err(MISMATCH), [0, 0, 1]))),
+    (PART_OF_FILTER, (EMPTY, 8), Ok((Err(MISMATCH), [0, 0, 1]))),
+    (PART_OF_FILTER, (b'b', 2), Ok((Ok(Some(1)), [1, 0, 1]))),
+    (PART_OF_FILTER, (b'a', 1), Ok((Ok(None), [0, 0, 0]))),
+    (PART_OF_FILTER, (b'c', 8), Ok((Ok(None), [0, 0, 0]))),
+    // a damaged block of data refuses its own reads
+    (IN_FILTER_PARTS, (b'a', 8), Ok((Ok(Some(7)), [1, 0, 1]))),
+    (IN_FILTER_PARTS, (b'a', 10), Ok((Err(MISMATCH), [1, 0, 1]))),
+    (IN_FILTER_PARTS, (b'a', 6), Ok((Err(MISMATCH), [1, 0, 1]))),
+    (IN_FILTER_PARTS, (b'a', 5), Ok((Err(MISMATCH), [1, 0, 1]))),
+    (IN_FILTER_PARTS, (b'b', 2), Ok((Err(MISMATCH), [1, 0, 1]))),
+    (IN_LEVELS, (b'a', 8), Ok((Ok(Some(7)), [1, 1, 0]))),
+    (IN_LEVELS, (b'a', 10), Ok((Err(MISMATCH), [1, 1, 0]))),
+    (IN_LEVELS, (b'a', 6), Ok((Err(MISMATCH), [1, 1, 0]))),
+    (IN_LEVELS, (b'a', 5), Ok((Err(MISMATCH), [1, 1, 0]))),
+    (IN_LEVELS, (b'b', 2), Ok((Err(MISMATCH), [1, 1, 0]))),
+    // which partition of a filter a read asks: that of the first handle whose end key is greater,
+    // or equal and numbered below `u64::MAX`
+    (UNCHANGED, (b'a', 10), Ok((Ok(Some(9)), [1, 0, 1]))),
+    (UNCHANGED, (b'b', 2), Ok((Ok(Some(1)), [1, 0, 1]))),
     // the global number is added, up to the largest number, which is below no bound
     (
-        (Of::Numbered(SeqNo::MAX - 1), &[], BOTH, 0),
-        (b"a", SeqNo::MAX),
+        (Of::Numbered(SeqNo::MAX - 1), WHOLE, BOTH, 0),
+        (b'a', SeqNo::MAX),
         Ok((Ok(Some(SeqNo::MAX - 1)), [1, 0, 0])),
     ),
     (
-        (Of::Numbered(SeqNo::MAX - 1), &[], BOTH, 1),
-        (b"a", SeqNo::MAX),
+        (Of::Numbered(SeqNo::MAX - 1), WHOLE, BOTH, 1),
+        (b'a', SeqNo::MAX),
         Ok((Ok(None), [0, 0, 0])),
     ),
     (
-        (Of::Numbered(SeqNo::MAX - 1), &[], BOTH, 2),
-        (b"a", SeqNo::MAX),
+        (Of::Numbered(SeqNo::MAX - 1), WHOLE, BOTH, 2),
+        (b'a', SeqNo::MAX),
         Err(Error::GlobalSeqNoTooLarge),
     ),
     (
-        (Of::Numbered(0), &[], BOTH, SeqNo::MAX - 1),
-        (b"a", SeqNo::MAX),
+        (Of::Numbered(0), WHOLE, BOTH, SeqNo::MAX - 1),
+        (b'a', SeqNo::MAX),
         Ok((Ok(Some(SeqNo::MAX - 1)), [1, 0, 0])),
     ),
     (
-        (Of::Numbered(0), &[], BOTH, SeqNo::MAX),
-        (b"a", SeqNo::MAX),
+        (Of::Numbered(0), WHOLE, BOTH, SeqNo::MAX),
+        (b'a', SeqNo::MAX),
         Ok((Ok(None), [0, 0, 0])),
     ),
     (
-        (Of::Numbered(1), &[], BOTH, SeqNo::MAX),
-        (b"a", SeqNo::MAX),
+        (Of::Numbered(1), WHOLE, BOTH, SeqNo::MAX),
+        (b'a', SeqNo::MAX),
         Err(Error::GlobalSeqNoTooLarge),
     ),
     (
-        (Of::Numbered(3), &[], BOTH, SeqNo::MAX - 3),
-        (b"a", SeqNo::MAX),
+        (Of::Numbered(3), WHOLE, BOTH, SeqNo::MAX - 3),
+        (b'a', SeqNo::MAX),
         Ok((Ok(None), [0, 0, 0])),
     ),
     (
-        (Of::Numbered(3), &[], BOTH, SeqNo::MAX - 2),
-        (b"a", SeqNo::MAX),
+        (Of::Numbered(3), WHOLE, BOTH, SeqNo::MAX - 2),
+        (b'a', SeqNo::MAX),
         Err(Error::GlobalSeqNoTooLarge),
     ),
     (
-        (Of::Numbered(3), &[], BOTH, 10),
-        (b"a", 14),
+        (Of::Numbered(3), WHOLE, BOTH, 10),
+        (b'a', 14),
         Ok((Ok(Some(13)), [1, 0, 0])),
     ),
     (
-        (Of::Numbered(3), &[], BOTH, 10),
-        (b"a", 13),
+        (Of::Numbered(3), WHOLE, BOTH, 10),
+        (b'a', 13),
         Ok((Ok(None), [0, 0, 0])),
     ),
     (
-        (Of::Numbered(3), &[], BOTH, 10),
-        (b"a", 10),
+        (Of::Numbered(3), WHOLE, BOTH, 10),
+        (b'a', 10),
         Ok((Ok(None), [0, 0, 0])),
     ),
-    // no handle is numbered below the bound less the global number, whatever the meta block says
-    (BELITTLED, (b"a", SeqNo::MAX), Ok((Ok(None), [0, 0, 0]))),
     // an index with an interval of two is written, and not opened
     (
-        (Of::Interval, &[], BOTH, 0),
-        BELOW_2,
+        (Of::Interval, WHOLE, BOTH, 0),
+        (b'a', 2),
         Err(Error::UnsupportedIndexInterval),
     ),
 ];
 
 // The place of the first read that is answered otherwise.
-fn wrong_read(alloc: Global, reads: &[(Changed<'static>, Sought, Answer)]) -> Option<usize> {
-    for (place, (changed, sought, expected)) in reads.iter().enumerate() {
-        if answer(alloc, changed, *sought) != *expected {
+fn wrong_read(alloc: Global, reads: &[Read]) -> Option<usize> {
+    for (place, (table, (letter, bound), expected)) in reads.iter().enumerate() {
+        let sought = (key_of(*letter), *bound);
+        if !is_answered(damaged(alloc, table), sought, expected) {
+            return Some(place);
+        }
+    }
+    None
+}
+
+// That of the first one of other changes.
+fn wrong_changed_read(alloc: Global) -> Option<usize> {
+    for (place, (changed, sought, expected)) in CHANGED_READS.iter().enumerate() {
+        if !is_answered(opened(alloc, changed), *sought, expected) {
             return Some(place);
         }
     }
@@ -652,7 +791,8 @@ fn wrong_read(alloc: Global, reads: &[(Changed<'static>, Sought, Answer)]) -> Op
 
 #[test]
 fn what_does_not_rest_on_the_damage_is_read(rt: HostRuntime) {
-    assert!(rt; wrong_read(rt.alloc(), READS) == None);
+    assert!(rt; wrong_read(rt.alloc(), &READS) == None);
+    assert!(rt; wrong_changed_read(rt.alloc()) == None);
 }
 
 // ---- each pair of pins
@@ -695,26 +835,27 @@ const OF_FILTER_PARTS: [Pinned; 8] = [
 ];
 
 // Whether a table has these sizes, and answers some reads under the pair of pins at a place.
-fn answers(table: &Table, by: (&Sizes, &[Pinned], usize)) -> Result<bool, Error> {
+fn answers(table: &Table, by: (&[Sizes; 4], &[Pinned], usize)) -> Result<bool, Error> {
     let sizes = (
         table.filter_size(),
         table.pinned_filter_size(),
         table.pinned_block_index_size(),
     );
-    for (key, seqno, found, loads) in by.1 {
-        let loads = loads.get(by.2).copied().unwrap_or_default();
-        if counted_read(table, key, *seqno) != (Ok(*found), loads) {
+    let (all, reads, at) = by;
+    for (key, seqno, found, loads) in reads {
+        let (number, loaded) = counted_read(table, key, *seqno);
+        if number != Ok(*found) || loads.get(at) != Some(&loaded) {
             return Ok(false);
         }
     }
-    Ok(sizes == *by.0)
+    Ok(all.get(at) == Some(&sizes))
 }
 
 // Whether a table does so under each pair of pins.
 fn all_answer(alloc: Global, of: Of, all: &[Sizes; 4], reads: &[Pinned]) -> bool {
-    for (at, (sizes, pins)) in all.iter().zip(ALL_PINS).enumerate() {
-        let table = opened(alloc, &(of, &[], pins, 0));
-        if asked_with(table, (sizes, reads, at), answers) != Ok(true) {
+    for (at, pins) in ALL_PINS.iter().enumerate() {
+        let table = opened(alloc, &(of, &[], *pins, 0));
+        if !matches!(asked_with(table, (all, reads, at), answers), Ok(true)) {
             return false;
         }
     }

@@ -39,7 +39,7 @@ type Told = (
     Result<Verified, VerifyError>,
 );
 
-const SOUND_AND_NOT: &[Told] = &[
+static SOUND_AND_NOT: [Told; 4] = [
     (ONE, None, ONE_ITEM),
     (WRITTEN, Some(OF_WRITTEN), ONE_ITEM),
     (WRITTEN, Some(0), OTHER_CHECKSUM),
@@ -71,13 +71,13 @@ fn wrong_table(alloc: Global, rows: &[Told]) -> Option<usize> {
 
 #[test]
 fn a_table_is_verified_or_its_first_fault_is_found(rt: HostRuntime) {
-    assert!(rt; wrong_table(rt.alloc(), SOUND_AND_NOT) == None);
+    assert!(rt; wrong_table(rt.alloc(), &SOUND_AND_NOT) == None);
 }
 
 // Changes of the meta block of the table of one entry, with its checksum, and the item that the
 // entry bears out no more: the counts and numbers are 0 or 3, and the keys are empty, for which the
 // count of keys has a byte more.
-const UNBORNE: &[(Changes<'static>, ItemName)] = &[
+static UNBORNE: [(Changes<'static>, ItemName); 12] = [
     (
         &[(113, &[234, 147, 139, 237, 2, 77, 208, 19]), (156, &[0])],
         ItemName::BlockCountData,
@@ -161,14 +161,15 @@ fn unborne(item: ItemName) -> VerifyError {
     })
 }
 
+// Whether the table of one entry, so changed, does not bear an item out.
+fn is_unborne(alloc: Global, changes: Changes<'_>, item: ItemName) -> bool {
+    let table = opened(alloc, &(Of::One, changes, PINS, 0));
+    asked_with(table, None, verified) == Ok(Err(unborne(item)))
+}
+
 #[test]
 fn a_verification_finds_an_item_that_is_not_borne_out(rt: HostRuntime) {
-    for &(changes, item) in UNBORNE {
-        let found = asked_with(
-            opened(rt.alloc(), &(Of::One, changes, PINS, 0)),
-            None,
-            verified,
-        );
-        assert!(rt; found == Ok(Err(unborne(item))));
+    for (changes, item) in &UNBORNE {
+        assert!(rt; is_unborne(rt.alloc(), changes, *item));
     }
 }

@@ -132,11 +132,10 @@ fn answered<W: Walk>(walk: &mut W, is_loaded: bool, calls: &[Call]) -> Result<()
 // Whether nothing comes at either end, and nothing is loaded.
 fn is_over<W: Walk>(walk: &mut W) -> bool {
     let before = walk.loads();
-    walk.comes(&Call::Front(None), false) == Ok(true)
-        && walk.comes(&Call::Back(None), false) == Ok(true)
-        && walk.comes(&Call::Front(None), false) == Ok(true)
-        && walk.loads() == before
+    answered(walk, false, ENDS).is_ok() && walk.loads() == before
 }
+
+const ENDS: &[Call] = &[Call::Front(None), Call::Back(None), Call::Front(None)];
 
 // Whether that is so, also behind further seeks.
 fn stays_over<W: Walk>(walk: &mut W) -> bool {
@@ -587,7 +586,7 @@ const SCANNED: &[Call] = &[
 const PARTED: Changed<'static> = (Of::Rows(Parted::Index), &[], (false, false), 0);
 
 // A seek in an index that stays loaded takes no memory.
-const REFUSED: &[Refused] = &[
+static REFUSED: [Refused; 12] = [
     (ON_DEMAND, ALL_OF_IT, FROM_BOTH_ENDS, 0, 0),
     (TWO_LEVELS, ALL_OF_IT, FROM_BOTH_ENDS, 0, 0),
     (OLDER, ALL_OF_IT, FROM_BOTH_ENDS, 0, 0),
@@ -648,11 +647,19 @@ fn wrong_refused(alloc: Global, rows: &[Refused]) -> Option<usize> {
     None
 }
 
+const UNSTEPPED: Refused = (PARTED, Subject::Scan, &[], 0, 0);
+
+const STEPPED: Refused = (PARTED, Subject::Scan, SCANNED, 0, 0);
+
+// Whether the steps of a scan make requests.
+fn steps_make_requests(alloc: Global) -> bool {
+    let (_, before) = outcome_at(alloc, 0, &UNSTEPPED);
+    let (_, whole) = outcome_at(alloc, 0, &STEPPED);
+    before < whole
+}
+
 #[test]
 fn a_refused_request_ends_what_is_walked(rt: HostRuntime) {
-    let (_, before) = outcome_at(rt.alloc(), 0, &(PARTED, Subject::Scan, &[], 0, 0));
-    let (_, whole) = outcome_at(rt.alloc(), 0, &(PARTED, Subject::Scan, SCANNED, 0, 0));
-    assert!(rt; wrong_refused(rt.alloc(), REFUSED) == None);
-    // The steps of a scan make requests.
-    assert!(rt; before < whole);
+    assert!(rt; wrong_refused(rt.alloc(), &REFUSED) == None);
+    assert!(rt; steps_make_requests(rt.alloc()));
 }

@@ -1,0 +1,76 @@
+//! Tables and runs that are written, opened, read and compacted with each request for memory
+//! refused in turn. One function tries all that is done, so that its call is proved once.
+use crate::runs::{compactions, lists as run_lists, part, walks};
+use crate::tables::{lists, points, queries, reads};
+use sst_blocks::Error;
+use std::alloc::{Allocator, Global};
+use test_refusing::{Refusing, each_refused};
+use test_tables::runs::is_right;
+
+// What is done: with a table, or with a run, as a case of a table at its place or a work of its
+// own.
+enum Work {
+    List,
+    Points,
+    Queries,
+    Fault,
+    Walk(usize),
+    RunList(usize),
+    CutList,
+    Part,
+    NewTables,
+}
+
+// Whether what is named is done right, some of it over memory that is plenty.
+fn answer<A: Allocator + Copy>(
+    alloc: A,
+    plenty: A,
+    work: &Work,
+    may_fail: bool,
+) -> Result<bool, Error> {
+    match work {
+        Work::List => lists::rows_are_read(alloc),
+        Work::Points => points::are_right(alloc),
+        Work::Queries => queries::are_answered(alloc),
+        Work::Fault => reads::checksums_are_refused(alloc),
+        Work::Walk(place) => walks::case_is_read(alloc, *place),
+        Work::RunList(place) => run_lists::case_is_read(alloc, *place),
+        Work::CutList => run_lists::target_cuts(alloc),
+        Work::Part => part::zeroed_is_found(alloc, plenty),
+        Work::NewTables => Ok(compactions::leaves_its_runs(alloc, plenty, may_fail) == Ok(true)),
+    }
+}
+
+// Whether what is named makes more requests than so many, and is done right with nothing refused
+// and with each request refused in turn.
+fn is_right_refused(alloc: Global, work: &Work, least: usize) -> bool {
+    let requests = each_refused(alloc, |heap: &Refusing, may_fail: bool| {
+        let plenty = Refusing::new(alloc, 0);
+        is_right(answer(heap, &plenty, work, may_fail), may_fail)
+    });
+    requests.is_ok_and(|requests| requests > least)
+}
+
+// What is done, and how many requests it makes at least. A run is read by its reader, by that of a
+// span, and by a scan; a list as it is, and what is kept of one.
+const WORKS: &[(Work, usize)] = &[
+    (Work::List, 20),
+    (Work::Points, 20),
+    (Work::Queries, 20),
+    (Work::Fault, 2),
+    (Work::Walk(walks::IN_TURN_WITHIN), 20),
+    (Work::Walk(walks::IN_TURN_BY_SPAN), 20),
+    (Work::Walk(walks::BY_SCAN), 20),
+    (Work::RunList(run_lists::AS_IT_IS), 20),
+    (Work::RunList(run_lists::KEPT_OF_IT), 20),
+    (Work::CutList, 20),
+    (Work::Part, 20),
+    (Work::NewTables, 20),
+];
+
+#[test]
+fn tables_and_runs_are_made_and_read_with_each_request_refused(rt: HostRuntime) {
+    for (work, least) in WORKS {
+        assert!(rt; is_right_refused(rt.alloc(), work, *least));
+    }
+}
