@@ -14,7 +14,7 @@ const DONE: &str = "####################";
 const LEFT: &str = "....................";
 
 /// How far the work on several files has come.
-#[derive(Clone, Copy, Debug)]
+#[derive(Clone, Copy)]
 pub(crate) struct Work {
     // when it began, if the clock said so
     started: Option<Duration>,

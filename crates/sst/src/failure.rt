@@ -10,7 +10,7 @@ use tool_make::{CompactError, MakeError};
 use tool_show::ShowError;
 
 /// Which key on the command line is meant: shown as it is called there.
-#[derive(Clone, Copy, Debug)]
+#[derive(Clone, Copy)]
 pub(crate) enum KeyWord {
     /// The one that is looked for.
     Key,
@@ -31,7 +31,7 @@ impl fmt::Display for KeyWord {
 }
 
 /// Why a command did not succeed: shown as a sentence.
-#[derive(Debug, Drop)]
+#[derive(Drop)]
 pub(crate) enum Failure<'a> {
     /// A key on the command line is none: which one, and why.
     Key(KeyWord, LineError),

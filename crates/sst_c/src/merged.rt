@@ -45,7 +45,7 @@ fn newest_within(
     Ok(Asked::new(range_runs_at(alloc, runs.as_slice(), range, seqno)?))
 }
 
-// The same, within bounds of these kinds.
+// The newest entries of several runs within bounds of these kinds.
 fn merged_within(
     alloc: Global,
     runs: &RunList,

@@ -1,7 +1,7 @@
 //! Tables and runs that are written, opened, read and compacted with each request for memory
 //! refused in turn. One function tries all that is done, so that its call is proved once.
 use crate::runs::{compactions, lists as run_lists, part, walks};
-use crate::tables::{lists, points, queries, reads};
+use crate::tables::{lists, points, queries, refusals};
 use sst_blocks::Error;
 use std::alloc::{Allocator, Global};
 use test_refusing::{Refusing, each_refused};
@@ -32,7 +32,7 @@ fn answer<A: Allocator + Copy>(
         Work::List => lists::rows_are_read(alloc),
         Work::Points => points::are_right(alloc),
         Work::Queries => queries::are_answered(alloc),
-        Work::Fault => reads::checksums_are_refused(alloc),
+        Work::Fault => refusals::checksums_are_refused(alloc),
         Work::Walk(place) => walks::case_is_read(alloc, *place),
         Work::RunList(place) => run_lists::case_is_read(alloc, *place),
         Work::CutList => run_lists::target_cuts(alloc),

@@ -14,6 +14,7 @@ mod one_answer;
 pub mod points;
 pub mod queries;
 pub mod reads;
+pub mod refusals;
 mod sizes;
 mod verified;
 mod walks;

@@ -47,7 +47,7 @@ fn answers_in<S: DoubleEndedIterator<Item = IterItem<A>>, A: Allocator + Copy>(
     Ok(answers_at(alloc, stream, ends)?)
 }
 
-// The same of several runs. This alone hands their stream, and `answers_last` alone lets it go.
+// What the stream of several runs answers at some ends. This alone hands that stream, and `answers_last` alone
 fn answers_of<A: Allocator + Copy>(
     alloc: A,
     stream: &mut Stream<A>,

@@ -1,17 +1,18 @@
-//! What opening a table and reading it answers: tables that an independent program stored, as they
-//! are and with some of their bytes changed, where each read that rests on the damage is refused,
-//! and no other; and written ones, with what each read loads. `test_vectors` changes each byte in
-//! turn, and compares all that is read.
+//! What reading a table answers: tables that an independent program stored, as they are and with
+//! some of their bytes changed, where each read that rests on the damage is refused, and no other;
+//! and written ones, with what each read loads. `test_vectors` changes each byte in turn, and
+//! compares all that is read.
+use crate::tables::refusals::{DATA_AT, FF};
 use crate::tables::{
-    ALL_PINS, BELITTLED, Changed, Changes, Of, Parted, Pins, Sought, cloned, counted_read, opened,
+    ALL_PINS, BELITTLED, Changed, Of, Parted, Pins, Sought, cloned, counted_read, opened,
 };
 use logpurple::Table;
-use sst_blocks::{Error, SeqNo, TagName};
-use std::alloc::{Allocator, Global};
+use sst_blocks::{Error, SeqNo};
+use std::alloc::Global;
 use test_tables::large::{asked, asked_with};
 
 // What stays loaded.
-const BOTH: Pins = (true, true);
+pub(crate) const BOTH: Pins = (true, true);
 
 const NO_FILTER: Pins = (false, true);
 
@@ -36,18 +37,18 @@ fn is_answered(table: Result<Table, Error>, sought: Sought, expected: &Answer) -
 
 // Places of up to three bytes, and what these become. A reference in a table of cases costs a proof
 // more than all else in it, so most cases have none.
-type Bytes = ((usize, u8), (usize, u8), (usize, u8));
+pub(crate) type Bytes = ((usize, u8), (usize, u8), (usize, u8));
 
 // No byte.
-const NO: (usize, u8) = (usize::MAX, 0);
+pub(crate) const NO: (usize, u8) = (usize::MAX, 0);
 
 const WHOLE: Bytes = (NO, NO, NO);
 
 // A table, some bytes, what stays loaded, and a global number.
-type Damaged = (Of, Bytes, Pins, SeqNo);
+pub(crate) type Damaged = (Of, Bytes, Pins, SeqNo);
 
 // The table of them.
-fn damaged(alloc: Global, damaged: &Damaged) -> Result<Table, Error> {
+pub(crate) fn damaged(alloc: Global, damaged: &Damaged) -> Result<Table, Error> {
     let (first, second, third) = damaged.1;
     let (one, two, three) = ([first.1], [second.1], [third.1]);
     let changes: [(usize, &[u8]); 3] = [(first.0, &one), (second.0, &two), (third.0, &three)];
@@ -56,429 +57,6 @@ fn damaged(alloc: Global, damaged: &Damaged) -> Result<Table, Error> {
         &(damaged.0, changes.as_slice(), damaged.2, damaged.3),
     )
 }
-
-// ---- refusals to open
-
-const FF: [u8; 16] = [0xff; 16];
-
-// What the trailer of the table of one entry says of the index and of the meta block.
-const TLI_SLOT: [u8; 16] = [45, 0, 0, 0, 0, 0, 0, 0, 51, 0, 0, 0, 0, 0, 0, 0];
-
-const META_SLOT: [u8; 16] = [97, 0, 0, 0, 0, 0, 0, 0, 0x11, 4, 0, 0, 0, 0, 0, 0];
-
-// The slots of the trailer begin at 1,138: that of the data, then, 32 bytes on, of the index, and
-// 64 bytes on of the meta block.
-const DATA_AT: usize = 1138;
-
-const TLI_AT: usize = 1170;
-
-const META_AT: usize = 1234;
-
-// Changes of the table of one entry, and the fault.
-static FAULTS: [(Changes<'static>, Error); 5] = [
-    (
-        &[(TLI_AT, &META_SLOT), (META_AT, &TLI_SLOT)],
-        Error::InvalidTag(TagName::BlockType, 1),
-    ),
-    (&[(TLI_AT, &FF)], Error::MissingSection),
-    (&[(META_AT, &FF)], Error::MissingSection),
-    // of two faults the first
-    (&[(TLI_AT, &FF), (121, &[30])], Error::MissingSection),
-    (&[(1250, b"l"), (META_AT, &FF)], Error::InvalidTrailer),
-];
-
-// Bytes of that table, and the fault.
-static BYTE_FAULTS: [(Bytes, Error); 11] = [
-    // a length of 2^32
-    (
-        ((TLI_AT + 8, 0), (TLI_AT + 12, 1), NO),
-        Error::InvalidTrailer,
-    ),
-    // a length of 23, and one that is a byte too short
-    (((META_AT + 8, 23), (META_AT + 9, 0), NO), Error::Truncated),
-    (((TLI_AT + 8, 23), NO, NO), Error::Truncated),
-    (((META_AT + 8, 0x10), NO, NO), Error::InvalidHeader),
-    // a position in the byte of the version
-    (((META_AT, 96), NO, NO), Error::InvalidHeader),
-    // the mark, the kind, the compression and the payload of the meta block and of the index
-    (((97, b'l'), NO, NO), Error::InvalidHeader),
-    (((101, 2), NO, NO), Error::InvalidTag(TagName::BlockType, 2)),
-    (((102, 1), NO, NO), Error::UnsupportedCompression),
-    (((121, 30), NO, NO), Error::ChecksumMismatch),
-    (((50, 1), NO, NO), Error::UnsupportedCompression),
-    // of two faults the first: the meta block, then the index
-    (((121, 30), (50, 1), NO), Error::ChecksumMismatch),
-];
-
-// Whether a table is not opened for a fault.
-fn has_fault(table: Result<Table, Error>, fault: &Error) -> bool {
-    table.err().as_ref() == Some(fault)
-}
-
-// The place of the first fault that is not told.
-fn wrong_fault(alloc: Global, faults: &[(Changes<'static>, Error)]) -> Option<usize> {
-    for (place, (changes, fault)) in faults.iter().enumerate() {
-        if !has_fault(opened(alloc, &(Of::One, *changes, BOTH, 0)), fault) {
-            return Some(place);
-        }
-    }
-    None
-}
-
-// That of the first one of bytes.
-fn wrong_byte_fault(alloc: Global, faults: &[(Bytes, Error)]) -> Option<usize> {
-    for (place, (bytes, fault)) in faults.iter().enumerate() {
-        if !has_fault(damaged(alloc, &(Of::One, *bytes, BOTH, 0)), fault) {
-            return Some(place);
-        }
-    }
-    None
-}
-
-#[test]
-fn the_first_fault_of_sections_and_blocks(rt: HostRuntime) {
-    assert!(rt; wrong_fault(rt.alloc(), &FAULTS) == None);
-    assert!(rt; wrong_byte_fault(rt.alloc(), &BYTE_FAULTS) == None);
-}
-
-// The checksum of the meta block of that table, the place of a byte or, where there is none, of
-// the largest number, and the fault.
-static ITEMS: [([u8; 8], usize, Option<[u8; 1]>, Error); 26] = [
-    // one item with another value; a length is told where it is read as a number
-    (
-        [117, 94, 140, 178, 166, 191, 24, 178],
-        970,
-        Some([5]),
-        Error::UnsupportedTableVersion,
-    ),
-    (
-        [242, 179, 26, 48, 98, 228, 109, 91],
-        517,
-        Some([2]),
-        Error::UnsupportedHashType,
-    ),
-    (
-        [234, 43, 49, 196, 235, 40, 248, 53],
-        273,
-        Some([2]),
-        Error::UnsupportedChecksumType,
-    ),
-    (
-        [212, 225, 25, 10, 118, 63, 27, 186],
-        846,
-        Some([2]),
-        Error::UnsupportedIndexInterval,
-    ),
-    (
-        [20, 162, 150, 90, 197, 85, 91, 209],
-        305,
-        Some([1]),
-        Error::UnsupportedCompression,
-    ),
-    (
-        [58, 126, 191, 198, 65, 35, 198, 50],
-        338,
-        Some([1]),
-        Error::UnsupportedCompression,
-    ),
-    // an item that is read has the largest number, below which items are looked for
-    (
-        [79, 42, 223, 161, 69, 142, 167, 138],
-        126,
-        None,
-        Error::MetaKeyMissing,
-    ),
-    (
-        [79, 90, 68, 61, 55, 249, 1, 14],
-        165,
-        None,
-        Error::MetaKeyMissing,
-    ),
-    (
-        [47, 83, 245, 162, 106, 167, 134, 19],
-        206,
-        None,
-        Error::MetaKeyMissing,
-    ),
-    (
-        [79, 15, 242, 84, 221, 128, 59, 45],
-        246,
-        None,
-        Error::MetaKeyMissing,
-    ),
-    (
-        [255, 184, 27, 203, 84, 229, 63, 56],
-        275,
-        None,
-        Error::MetaKeyMissing,
-    ),
-    (
-        [111, 22, 128, 207, 89, 99, 3, 41],
-        307,
-        None,
-        Error::MetaKeyMissing,
-    ),
-    (
-        [175, 225, 88, 138, 17, 112, 102, 24],
-        374,
-        None,
-        Error::MetaKeyMissing,
-    ),
-    (
-        [159, 141, 196, 152, 218, 59, 169, 3],
-        455,
-        None,
-        Error::MetaKeyMissing,
-    ),
-    (
-        [127, 148, 146, 227, 5, 186, 137, 109],
-        487,
-        None,
-        Error::MetaKeyMissing,
-    ),
-    (
-        [207, 130, 110, 171, 226, 94, 225, 202],
-        585,
-        None,
-        Error::MetaKeyMissing,
-    ),
-    (
-        [47, 165, 179, 200, 107, 157, 103, 63],
-        618,
-        None,
-        Error::MetaKeyMissing,
-    ),
-    (
-        [63, 154, 164, 31, 166, 91, 31, 91],
-        641,
-        None,
-        Error::MetaKeyMissing,
-    ),
-    (
-        [95, 101, 35, 11, 68, 51, 120, 120],
-        810,
-        None,
-        Error::MetaKeyMissing,
-    ),
-    (
-        [47, 155, 154, 242, 96, 98, 41, 109],
-        848,
-        None,
-        Error::MetaKeyMissing,
-    ),
-    (
-        [175, 252, 174, 190, 226, 127, 166, 13],
-        880,
-        None,
-        Error::MetaKeyMissing,
-    ),
-    (
-        [223, 81, 174, 74, 41, 34, 242, 141],
-        912,
-        None,
-        Error::MetaKeyMissing,
-    ),
-    (
-        [191, 40, 90, 38, 167, 130, 188, 162],
-        943,
-        None,
-        Error::MetaKeyMissing,
-    ),
-    (
-        [239, 243, 152, 224, 174, 151, 232, 89],
-        972,
-        None,
-        Error::MetaKeyMissing,
-    ),
-    (
-        [47, 201, 42, 173, 7, 57, 1, 159],
-        1047,
-        None,
-        Error::MetaKeyMissing,
-    ),
-    (
-        [223, 14, 162, 94, 144, 55, 216, 20],
-        1090,
-        None,
-        Error::MetaKeyMissing,
-    ),
-];
-
-// Further changes of that block, with its checksum, and the fault. Where a value is shorter, that
-// of an item which is not read is longer.
-static ITEM_FAULTS: [(Changes<'static>, Error); 9] = [
-    (
-        &[
-            (113, &[139, 166, 19, 26, 44, 226, 82, 114]),
-            (595, &[7]),
-            (
-                625,
-                &[7, 0, 1, 0, 0, 0, 107, 101, 121, 35, 109, 97, 120, 97, 0],
-            ),
-            (
-                648,
-                &[7, 0, 1, 0, 0, 0, 107, 101, 121, 35, 109, 105, 110, 97, 0],
-            ),
-            (
-                671,
-                &[
-                    9, 0, 9, 0, 0, 0, 107, 101, 121, 95, 99, 111, 117, 110, 116, 1, 0,
-                ],
-            ),
-        ],
-        Error::InvalidMetaValue,
-    ),
-    (
-        &[
-            (113, &[239, 109, 67, 102, 55, 82, 206, 218]),
-            (317, &[0]),
-            (
-                347,
-                &[
-                    13, 0, 7, 0, 0, 0, 99, 114, 97, 116, 101, 95, 118, 101, 114, 115, 105, 111,
-                    110, 51, 46, 49, 46, 49, 48, 32,
-                ],
-            ),
-        ],
-        Error::InvalidMetaValue,
-    ),
-    (
-        &[
-            (113, &[32, 222, 7, 88, 253, 195, 76, 43]),
-            (256, &[0]),
-            (273, &[0]),
-            (
-                282,
-                &[
-                    16, 0, 1, 0, 0, 0, 99, 111, 109, 112, 114, 101, 115, 115, 105, 111, 110, 35,
-                    100, 97, 116, 97, 0,
-                ],
-            ),
-            (
-                314,
-                &[
-                    17, 0, 1, 0, 0, 0, 99, 111, 109, 112, 114, 101, 115, 115, 105, 111, 110, 35,
-                    105, 110, 100, 101, 120, 0,
-                ],
-            ),
-            (
-                347,
-                &[
-                    13, 0, 7, 0, 0, 0, 99, 114, 97, 116, 101, 95, 118, 101, 114, 115, 105, 111,
-                    110, 51, 46, 49, 46, 49, 48, 32,
-                ],
-            ),
-        ],
-        Error::UnsupportedChecksumType,
-    ),
-    // of two faults the first
-    (
-        &[
-            (113, &[142, 209, 40, 219, 161, 189, 104, 236]),
-            (487, LARGEST),
-            (970, &[2]),
-        ],
-        Error::UnsupportedTableVersion,
-    ),
-    (
-        &[
-            (113, &[143, 152, 229, 14, 85, 242, 253, 125]),
-            (273, &[2]),
-            (517, &[2]),
-        ],
-        Error::UnsupportedHashType,
-    ),
-    (
-        &[
-            (113, &[114, 108, 169, 88, 222, 168, 152, 219]),
-            (273, &[2]),
-            (810, LARGEST),
-        ],
-        Error::UnsupportedChecksumType,
-    ),
-    (
-        &[
-            (113, &[252, 32, 229, 250, 179, 213, 94, 163]),
-            (846, &[2]),
-            (912, LARGEST),
-        ],
-        Error::UnsupportedIndexInterval,
-    ),
-    (
-        &[
-            (113, &[19, 163, 55, 93, 91, 102, 3, 109]),
-            (595, &[7]),
-            (
-                625,
-                &[7, 0, 1, 0, 0, 0, 107, 101, 121, 35, 109, 97, 120, 97, 0],
-            ),
-            (
-                648,
-                &[7, 0, 1, 0, 0, 0, 107, 101, 121, 35, 109, 105, 110, 97, 0],
-            ),
-            (
-                671,
-                &[
-                    9, 0, 9, 0, 0, 0, 107, 101, 121, 95, 99, 111, 117, 110, 116, 1, 0,
-                ],
-            ),
-            (912, LARGEST),
-        ],
-        Error::MetaKeyMissing,
-    ),
-    (
-        &[
-            (113, &[205, 48, 25, 228, 127, 246, 46, 208]),
-            (305, &[2]),
-            (848, LARGEST),
-        ],
-        Error::MetaKeyMissing,
-    ),
-];
-
-// The place of the first item whose fault is not told.
-fn wrong_item(alloc: Global, items: &[([u8; 8], usize, Option<[u8; 1]>, Error)]) -> Option<usize> {
-    for (place, (checksum, at, byte, fault)) in items.iter().enumerate() {
-        let written: &[u8] = match byte {
-            Some(byte) => byte,
-            None => LARGEST,
-        };
-        let changes: [(usize, &[u8]); 2] = [(113, checksum), (*at, written)];
-        if !has_fault(
-            opened(alloc, &(Of::One, changes.as_slice(), BOTH, 0)),
-            fault,
-        ) {
-            return Some(place);
-        }
-    }
-    None
-}
-
-// How each item is read, with any length of its value, the tests in Python have.
-#[test]
-fn the_first_fault_of_items(rt: HostRuntime) {
-    assert!(rt; wrong_item(rt.alloc(), &ITEMS) == None);
-    assert!(rt; wrong_fault(rt.alloc(), &ITEM_FAULTS) == None);
-}
-
-// The stored table of one entry with another kind of checksum.
-const OTHER_CHECKSUMS: Changed<'static> = (
-    Of::One,
-    &[(113, &[234, 43, 49, 196, 235, 40, 248, 53]), (273, &[2])],
-    BOTH,
-    0,
-);
-
-/// Whether opening a table of a kind of checksum that is not known is refused so.
-pub(crate) fn checksums_are_refused<A: Allocator + Copy>(alloc: A) -> Result<bool, Error> {
-    match opened(alloc, &OTHER_CHECKSUMS).map(drop) {
-        Err(Error::UnsupportedChecksumType) => Ok(true),
-        Err(error) => Err(error),
-        Ok(()) => Ok(false),
-    }
-}
-
-// ---- reads
 
 // What a read of a@1 answers in the table of one entry.
 const FINDS_1: Answer = Ok((Ok(Some(1)), [1, 0, 0]));
@@ -505,7 +83,7 @@ const IN_FILTER_PARTS: Damaged = (Of::FilterParts, THREE_BLOCKS, BOTH, 0);
 const IN_LEVELS: Damaged = (Of::Levels, THREE_BLOCKS, BOTH, 0);
 
 // The largest number.
-const LARGEST: &[u8] = &[0xff; 8];
+pub(crate) const LARGEST: &[u8] = &[0xff; 8];
 
 const UNCHANGED: Damaged = (Of::FilterParts, WHOLE, BOTH, 0);
 
