@@ -47,7 +47,8 @@ fn answers_in<S: DoubleEndedIterator<Item = IterItem<A>>, A: Allocator + Copy>(
     Ok(answers_at(alloc, stream, ends)?)
 }
 
-// What the stream of several runs answers at some ends. This alone hands that stream, and `answers_last` alone
+// What the stream of several runs answers at some ends. This alone hands that stream on, and
+// `answers_last` alone lets it go.
 fn answers_of<A: Allocator + Copy>(
     alloc: A,
     stream: &mut Stream<A>,

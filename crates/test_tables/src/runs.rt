@@ -115,16 +115,6 @@ pub fn owned_range<A: Allocator + Copy>(
     Ok((owned(alloc, bounds.0)?, owned(alloc, bounds.1)?))
 }
 
-/// From a key to a key, both included.
-pub fn from_to<'a>(low: &'a [u8], high: &'a [u8]) -> Bounds<'a> {
-    (Bound::Included(low), Bound::Included(high))
-}
-
-/// From a key up to a key that is left out.
-pub fn from_before<'a>(low: &'a [u8], high: &'a [u8]) -> Bounds<'a> {
-    (Bound::Included(low), Bound::Excluded(high))
-}
-
 /// The name of an entry.
 pub(crate) fn name_in<A: Allocator>(item: &InternalValue<A>) -> Name {
     match item.key.user_key.as_slice() {

@@ -1,8 +1,7 @@
 //! Opening a table, changing its bytes and reading from it, for the tests.
 use logpurple::Table;
 use sst_blocks::{
-    Block, BlockHandle, BlockSource, BlockType, Checksum, DataBlock, Error, IndexBlock, Opened,
-    SeqNo, Slice,
+    Block, BlockHandle, BlockSource, BlockType, Checksum, DataBlock, Error, Opened, SeqNo, Slice,
 };
 use std::alloc::Allocator;
 
@@ -63,21 +62,4 @@ pub fn load_entries<A: Allocator + Clone>(
     opened: &mut Opened,
 ) -> Result<DataBlock<A>, Error> {
     entries_of(source.load(handle, kind, opened)?)
-}
-
-// The handles of a block, where it has a kind that holds them.
-fn handles_of<A: Allocator>(block: Block<A>) -> Result<IndexBlock<A>, Error> {
-    match block.kind() {
-        BlockType::Index => Ok(IndexBlock::new(block)),
-        BlockType::Data | BlockType::Meta | BlockType::Filter => Err(Error::Source(3)),
-    }
-}
-
-/// The handles of an index block.
-pub fn load_handles<A: Allocator + Clone>(
-    source: &BlockSource<A>,
-    handle: &BlockHandle,
-    opened: &mut Opened,
-) -> Result<IndexBlock<A>, Error> {
-    handles_of(source.load(handle, BlockType::Index, opened)?)
 }

@@ -1,7 +1,7 @@
 //! Many point reads at once.
 use crate::digest::{Digest, code};
 use crate::files::open_copy;
-use logpurple::{Query, Table, get_many};
+use logpurple::{Query, get_many};
 use sst_blocks::{Error, InternalValue, SeqNo, Slice};
 use std::alloc::Global;
 
@@ -31,11 +31,6 @@ fn add_found(found: &[Option<InternalValue>], digest: &mut Digest) {
     }
 }
 
-fn get_batch(table: &Table, queries: &[Query], digest: &mut Digest) -> Result<(), Error> {
-    add_found(&get_many(table, queries)?, digest);
-    Ok(())
-}
-
 fn batch_passes(
     alloc: Global,
     file: &[u8],
@@ -48,7 +43,7 @@ fn batch_passes(
     let queries = queries_of(alloc, keys, key_len)?;
     for _ in 0..passes {
         *digest = Digest::empty();
-        get_batch(&table, &queries, digest)?;
+        add_found(&get_many(&table, &queries)?, digest);
     }
     Ok(())
 }

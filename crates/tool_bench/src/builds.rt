@@ -161,13 +161,8 @@ pub(crate) fn finished(
     writer: Writer,
     wrote: Result<(), Error>,
 ) -> Result<Option<FinishedTable>, Error> {
-    match wrote {
-        Ok(()) => writer.finish(),
-        Err(error) => {
-            drop(writer);
-            Err(error)
-        }
-    }
+    wrote?;
+    writer.finish()
 }
 
 // Finishes a table, if all was written, and copies it out.
