@@ -1,6 +1,6 @@
 //! What the matches of a command say, as a task.
-ghost use Rattle.std.specs.Prelude.{◌≡◌, ◌↔◌, IfErr, IfOk, IfSome, IfNone, IsTrue, Some, option_map};
-ghost use Rattle.std.specs.Prelude.{codes, ℕ};
+ghost use Rattle.std.specs.Prelude.{◌≡◌, ◌↔◌, IfErr, IfOk, IfSome, IfNone, IsTrue, Some, codes, ℕ};
+ghost use Rattle.std.specs.Prelude.{option_map};
 ghost use Rattle.clap.specs.Words.{Text, first_of, found_of, one_of, rows_of};
 ghost use Rattle.tool_options.specs.Tasks.{AsksFor, Has, Misreads, Spells, SpellsBits};
 ghost use Rattle.tool_options.specs.Tasks.{placed, text_in, texts_of};
