@@ -1,4 +1,5 @@
 //! Ranges over runs that lend, beside those that give.
+ghost use Rattle.std.specs.Iterator.{IsFinite};
 ghost use Rattle.sst_entries.specs.Stream.{CanDeal, nowhere};
 
 use logpurple::{LentNewestOf, NewestOf, lend_runs_at, range_runs_at};
@@ -43,23 +44,45 @@ fn random_runs(alloc: Global, mut seed: u64) -> Result<Vec<Tables<Global>>, Erro
     Ok(runs)
 }
 
-// Whether newest versions come lent as they are given, from the front. Generic in what they are
-// over: a whole concrete stream costs a proof much where it is handed to a function that is generic
-// in streams.
+// The entries of newest versions that are given. Generic in what they are over: a whole concrete
+// stream costs a proof much where it is handed to a function that is generic in streams.
+fn all_given<S: Iterator<Item = IterItem<Global>> + Drop>(
+    alloc: Global,
+    items: NewestOf<S, Global>,
+) -> Result<Vec<IterItem<Global>>, Error>
+    requires can { ⟦<NewestOf<S, Global> as Iterator>⟧.can_next items }
+    requires finite { IsFinite (⟦<NewestOf<S, Global> as Iterator>⟧.remaining items) }
+{
+    let mut given = Vec::new(alloc);
+    for item in items {
+        given.push(item)?;
+    }
+    Ok(given)
+}
+
+// The newest versions below a bound as they are given, from the front.
+fn given_within(
+    alloc: Global,
+    runs: &[Tables<Global>],
+    bounds: Bounds<'_>,
+    seqno: SeqNo,
+) -> Result<Vec<IterItem<Global>>, Error> {
+    let range = owned_range(alloc, bounds)?;
+    let given = range_runs_at(alloc, runs, range, seqno)?;
+    all_given(alloc, given)
+}
+
+// Whether newest versions come lent as these, from the front. Generic as `all_given`.
 #[tactic(auto, using(sst_entries::proofs::FrontLemmas::can_in_front))]
-fn agree_newest<S: DoubleEndedIterator<Item = IterItem<Global>> + Drop, L: Lending + Drop>(
-    given: NewestOf<S, Global>,
+fn agree_newest<L: Lending + Drop>(
+    given: Vec<IterItem<Global>>,
     lent: LentNewestOf<L, Global>,
 ) -> Result<bool, Error>
-    requires given { CanDeal ⟦<NewestOf<S, Global> as Iterator>⟧.next_gives
-        ⟦<NewestOf<S, Global> as DoubleEndedIterator>⟧.next_back_gives
-        ⟦<NewestOf<S, Global> as Iterator>⟧.can_next
-        ⟦<NewestOf<S, Global> as DoubleEndedIterator>⟧.can_next_back given }
     requires lent { CanDeal ⟦<LentNewestOf<L, Global> as Lending>⟧.advances nowhere
         ⟦<LentNewestOf<L, Global> as Lending>⟧.can_advance
         ⟦<LentNewestOf<L, Global> as Lending>⟧.can_advance lent }
 {
-    agree(given, lent, KEYS.len() + 3)
+    agree(given.into_iter(), lent, KEYS.len() + 3)
 }
 
 // Whether the newest versions below a bound come lent as they are given, from the front.
@@ -69,12 +92,10 @@ fn lends_what_it_gives(
     bounds: Bounds<'_>,
     seqno: SeqNo,
 ) -> Result<bool, Error> {
-    let given = owned_range(alloc, bounds)?;
-    let lent = owned_range(alloc, bounds)?;
-    agree_newest(
-        range_runs_at(alloc, runs, given, seqno)?,
-        lend_runs_at(alloc, runs, lent, seqno)?,
-    )
+    let given = given_within(alloc, runs, bounds, seqno)?;
+    let range = owned_range(alloc, bounds)?;
+    let lent = lend_runs_at(alloc, runs, range, seqno)?;
+    agree_newest(given, lent)
 }
 
 const WITHIN: &[Bounds<'static>] = &[
