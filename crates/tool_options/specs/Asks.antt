@@ -3,7 +3,9 @@ use Rattle.std.specs.Prelude.{◌≡◌, ◌≢◌, ◌⊎◌, ⊤, [], List, No
 use Rattle.clap.specs.Words.{App, IsAmong, Kinds, Row, Text, fault_of, subcommand_of}
 use Rattle.clap.specs.declared.error.kind.ErrorKind.{ErrorKind}
 use Rattle.clap.specs.declared.error.kind.ErrorKind.TheVariants as kind
-use Rattle.tool_options.specs.Commands.{commands, commands_in}
+use Rattle.tool_options.specs.Commands.{choices, choices_in, commands, commands_in}
+use Rattle.tool_options.specs.Program.{program_of}
+use Rattle.tool_options.specs.declared.texts.CommandText.{CommandText}
 use Rattle.tool_options.specs.Tasks.{AsksFor, AsksForNone}
 use Rattle.tool_options.specs.declared.words.Parsed.{Parsed}
 use Rattle.tool_options.specs.declared.words.Parsed.TheVariants as parsed
@@ -60,6 +62,9 @@ Explains kinds (parsed.Mistaken text) = (k : ErrorKind) × IsAmong k kinds × (k
 abbrev pub AnswersBy : App → List Text → Parsed → Type 0
 AnswersBy a words p = ((fault_of a words ≡ []) × AnswersCommand (subcommand_of a words) p) ⊎ Explains (fault_of a words) p
 
--- what the words of a command line ask for, by the program's commands, and what answers them
+-- what the words of a command line ask for, by a program that is made of texts and has these
+-- commands, and what answers them
 abbrev pub AsksFrom : List Text → Parsed → Type 0
-AsksFrom words p = (a : App) × (commands_in a ≡ commands) × AsksBy (subcommand_of a words) p × AnswersBy a words p
+AsksFrom words p = (texts : List CommandText) × (commands_in (program_of texts) ≡ commands)
+    × (choices_in (program_of texts) ≡ choices)
+    × AsksBy (subcommand_of (program_of texts) words) p × AnswersBy (program_of texts) words p
