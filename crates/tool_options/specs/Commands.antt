@@ -98,21 +98,21 @@ choices_in a = map {A = Shape} (λ s. map {A = Rule} (λ r. choice_of r.parser) 
 abbrev any : Option (ℕ × ℕ) × List Text
 any = (None, [])
 
-abbrev within : ℕ → ℕ → Option (ℕ × ℕ) × List Text
-within least most = (Some (least, most), [])
+abbrev number_within : ℕ → ℕ → Option (ℕ × ℕ) × List Text
+number_within least most = (Some (least, most), [])
 
 abbrev one_of_words : List Text → Option (ℕ × ℕ) × List Text
 one_of_words words = (None, words)
 
 -- what each value of the program's commands has to be
 unfoldable pub choices : List (List (Option (ℕ × ℕ) × List Text))
-choices = (any ∷ one_of_words (codes "full" ∷ codes "partitioned" ∷ []) ∷ any ∷ within 1 4194304
-    ∷ within 1 4194304 ∷ within 0 255 ∷ within 1 18446744073709551615 ∷ any ∷ any ∷ [])
-    ∷ (any ∷ any ∷ any ∷ any ∷ within 0 18446744073709551615 ∷ any ∷ [])
-    ∷ (any ∷ within 0 18446744073709551615 ∷ any ∷ any ∷ [])
+choices = (any ∷ one_of_words (codes "full" ∷ codes "partitioned" ∷ []) ∷ any ∷ number_within 1 4194304
+    ∷ number_within 1 4194304 ∷ number_within 0 255 ∷ number_within 1 18446744073709551615 ∷ any ∷ any ∷ [])
+    ∷ (any ∷ any ∷ any ∷ any ∷ number_within 0 18446744073709551615 ∷ any ∷ [])
+    ∷ (any ∷ number_within 0 18446744073709551615 ∷ any ∷ any ∷ [])
     ∷ (any ∷ any ∷ [])
     ∷ (any ∷ [])
-    ∷ (any ∷ any ∷ within 0 18446744073709551615 ∷ any ∷ any ∷ within 1 18446744073709551615 ∷ [])
+    ∷ (any ∷ any ∷ number_within 0 18446744073709551615 ∷ any ∷ any ∷ number_within 1 18446744073709551615 ∷ [])
     ∷ (any ∷ [])
     ∷ (one_of_words (codes "bash" ∷ []) ∷ [])
     ∷ []
