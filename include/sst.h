@@ -392,13 +392,14 @@ uint32_t sst_writer_open(const sst_options *options, sst_handle *writer);
 /* Writes an entry, whose key and value are copied. Entries come by key up, and of one key by number
  * down: SST_OUT_OF_ORDER where one does not, or where its number is UINT64_MAX; SST_NO_SUCH where
  * there is no such kind. The writer stays as it is then. After any other refusal an entry that may
- * follow is refused 23, or for want of memory.
+ * follow is refused 23. What is wrong with an entry is found before any memory is taken.
  */
 uint32_t sst_writer_add(sst_handle *writer, const uint8_t *key, size_t key_len, uint64_t seqno,
                         uint32_t kind, const uint8_t *value, size_t value_len);
 
 /* Finishes the table: the handle holds it then, in the writer's place, or none where nothing was
- * written. Where it is refused, what was written is given up.
+ * written. Where it is refused, what was written is given up. Refused 23 where an entry was, before
+ * any memory is taken; where nothing was written and no entry refused, it is not refused.
  */
 uint32_t sst_writer_finish(sst_handle *writer);
 

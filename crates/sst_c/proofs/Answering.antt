@@ -1,5 +1,5 @@
 -- What a call answers of what a call of the library did. Assumes `Logic`.
-use Rattle.std.proofs.Common.{◌≡◌, ℕ, ◌⊎◌, false, Option, Some, None, Result, Ok, Err, refl, sym, ap, ◌∙◌, inl, inr, subst}
+use Rattle.std.proofs.Common.{◌≡◌, ℕ, ◌⊎◌, Bool, true, false, List, [], Option, Some, None, Result, Ok, Err, refl, sym, ap, ◌∙◌, inl, inr, subst}
 use Rattle.sst_entries.specs.Entry.{Entry}
 use Rattle.sst_entries.specs.declared.error.Error.{Error}
 use Rattle.sst_entries.specs.declared.error.Error.TheVariants.{OutOfMemory}
@@ -29,8 +29,10 @@ use Rattle.sst_entries.specs.declared.error.Error.TheVariants.{Source}
 use Rattle.sst_entries.specs.Error.{Fails, Gives, is_memory, number_of}
 use Rattle.sst_entries.specs.Error.{FaultsFirst, Refuses}
 use Rattle.std.specs.Prelude.{IsOk}
+use Rattle.lsm_formats.specs.Failed.{failed_fault}
+use Rattle.lsm_writers.specs.Writing.{Writing, finish_fault, written}
 use Rattle.sst_c.specs.Codes.{TellsCode, TellsFirst, result_code, fault_code}
-use Rattle.sst_c.specs.Writing.{FaultTold}
+use Rattle.sst_c.specs.Writing.{FaultAnswered, FaultTold, FinishTold}
 use Rattle.sst_c.specs.Told.{AnswersRead, found_of}
 
 -- a refusal wants memory, whose number is 1, or does not
@@ -148,6 +150,51 @@ pub memory_tells : (told : Option Error) → FaultTold 1 told
 unfolding FaultTold
 memory_tells told = inl refl
 
+-- a fault that comes first is what is answered, and where there is none, 0 or want of memory
+pub refused_answered : (e : Error) (told : Option Error) → (is_memory e ≡ false → told ≡ Some e)
+    → ((f : Error) → told ≡ Some f → Some f ≡ Some e) → FaultAnswered (number_of e) told
+unfolding FaultAnswered
+refused_answered e None fails first = elim (is_one_or_not e) [ inl one ↦ inr one | inr other ↦ no_fault e (fails other) ]
+  where
+    no_fault : (e : Error) → None ≡ Some e → (number_of e ≡ 0) ⊎ (number_of e ≡ 1)
+    no_fault e same = absurd (let no : ⊥ = cc in no)
+refused_answered e (Some f) fails first = ap fault_code (sym (first f refl))
+
+pub taken_answered : (told : Option Error) → told ≡ None → FaultAnswered 0 told
+unfolding FaultAnswered
+taken_answered None none = inl refl
+taken_answered (Some e) none = absurd (let no : ⊥ = cc in no)
+
+-- no fault comes first where a call did not refuse
+passes_first : (code : ℕ) (told : Option Error) → ((f : Error) → told ≡ Some f → Some f ≡ None)
+    → TellsFirst code told
+passes_first code told first f is = absurd (no_fault f (first f is))
+  where
+    no_fault : (f : Error) → Some f ≡ None → ⊥
+    no_fault f same = cc
+
+-- what finishing a writer answers that is refused
+pub finish_refused : (e : Error) (w : Writing) → (is_memory e ≡ false → finish_fault w ≡ Some e)
+    → ((f : Error) → failed_fault w.failed ≡ Some f → Some f ≡ Some e) → (written w ≡ [] → w.failed ≡ true)
+    → FinishTold (number_of e) w
+unfolding FinishTold
+finish_refused e w fails first idle = fault_tells e (finish_fault w) fails, (λ f is. ap fault_code (sym (first f is))), λ none works. absurd (no_both w.failed (idle none) works)
+  where
+    no_both : (b : Bool) → b ≡ true → b ≡ false → ⊥
+    no_both b yes no = cc
+
+-- of one that is not
+pub finish_done : (w : Writing) → finish_fault w ≡ None → ((f : Error) → failed_fault w.failed ≡ Some f → Some f ≡ None)
+    → FinishTold 0 w
+unfolding FinishTold
+finish_done w fine first = no_fault_tells (finish_fault w) fine, passes_first 0 (failed_fault w.failed) first, λ none works. refl
+
+-- of one whose table has no place
+pub finish_unplaced : (w : Writing) → ((f : Error) → failed_fault w.failed ≡ Some f → Some f ≡ None) → (written w ≡ [] → ⊥)
+    → FinishTold 1 w
+unfolding FinishTold
+finish_unplaced w first some = memory_tells (finish_fault w), passes_first 1 (failed_fault w.failed) first, λ none works. absurd (some none)
+
 -- what is begun where no fault is told answers 0, or 1 for want of memory
 pub begun_tells : (code : ℕ) (told : Option Error) → (code ≡ 0) ⊎ (code ≡ 1) → told ≡ None
     → FaultTold code told
@@ -157,4 +204,4 @@ begun_tells code told codes none = elim codes [
   | inr one ↦ inl one
 ]
 
-pub ruleset tell = (fault_tells, no_fault_tells, begun_tells, not_zero)
+pub ruleset tell = (fault_tells, no_fault_tells, begun_tells, not_zero, refused_answered, taken_answered, finish_refused, finish_done)

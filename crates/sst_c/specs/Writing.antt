@@ -1,14 +1,17 @@
 -- Writing a table, as C sees it.
-use Rattle.std.specs.Prelude.{◌≡◌, ◌≢◌, ℕ, ◌==◌, ◌-◌, ◌⊎◌, true, List, [], ◌∷◌, ◌++◌}
-use Rattle.std.specs.Prelude.{Option, None, if◌then◌else◌}
+use Rattle.std.specs.Prelude.{◌≡◌, ◌≢◌, ℕ, ◌==◌, ◌-◌, ◌⊎◌, true, false, List, [], ◌∷◌, ◌++◌}
+use Rattle.std.specs.Prelude.{Option, None, Some, if◌then◌else◌}
 use Rattle.std.specs.Global.{Global}
 use Rattle.sst_entries.specs.Entry.{Entry}
+use Rattle.sst_entries.specs.Error.{number_of}
 use Rattle.sst_entries.specs.Kind.{kind_of}
 use Rattle.sst_entries.specs.declared.error.Error.{Error}
 use Rattle.sst_entries.specs.declared.value_type.ValueType.{ValueType}
 use Rattle.lsm_writers.specs.declared.writer.FinishedTable.{FinishedTable}
-use Rattle.lsm_writers.specs.Writing.{IsFinished, Writing, gained, write_fault, written}
-use Rattle.sst_c.specs.Codes.{fault_code}
+use Rattle.lsm_formats.specs.Failed.{failed_fault}
+use Rattle.lsm_writers.specs.Writing.{IsFinished, Writing, finish_fault, gained, write_fault}
+use Rattle.lsm_writers.specs.Writing.{written}
+use Rattle.sst_c.specs.Codes.{TellsFirst, fault_code}
 
 -- a kind of entry that C names by one more than its tag
 abbrev pub kind_told : ℕ → Option ValueType
@@ -18,11 +21,23 @@ kind_told kind = if kind == 0 then None else kind_of (kind - 1)
 unfoldable pub FaultTold : ℕ → Option Error → Type 0
 FaultTold code fault = (code ≡ 1) ⊎ (code ≡ fault_code fault)
 
+-- a fault is what is answered, whatever memory there is; where there is none, 0 or want of memory
+unfoldable pub FaultAnswered : ℕ → Option Error → Type 0
+FaultAnswered code None = (code ≡ 0) ⊎ (code ≡ 1)
+FaultAnswered code (Some e) = code ≡ number_of e
+
 -- a writer took an entry, or has refused it and failed
 unfoldable pub TookEntry : Writing → Entry → ℕ → Writing → Type 0
 TookEntry w e code v =
-    FaultTold code (write_fault w e) × (code ≡ 0 → v ≡ gained w e)
+    FaultAnswered code (write_fault w e) × (code ≡ 0 → v ≡ gained w e)
     × (code ≢ 0 → v ≡ record w { failed = true })
+
+-- finishing answers the first fault, or 0. Want of memory may stand in the place of these, but not
+-- of that of a writer which had failed, nor of 0 where nothing was written
+unfoldable pub FinishTold : ℕ → Writing → Type 0
+FinishTold code w =
+    FaultTold code (finish_fault w) × TellsFirst code (failed_fault w.failed)
+    × (written w ≡ [] → w.failed ≡ false → code ≡ 0)
 
 -- the one finished table of what was written stands behind others, or none where nothing was
 unfoldable pub AddsFileOf : Writing → List (FinishedTable Global) → List (FinishedTable Global)

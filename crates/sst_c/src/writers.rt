@@ -4,11 +4,10 @@ ghost use Rattle.std.specs.Prelude.{Some, is_some, true};
 ghost use Rattle.sst_entries.specs.Entry.{entry};
 ghost use Rattle.sst_entries.specs.declared.error.Error.TheVariants.{OutOfMemory};
 ghost use Rattle.sst_entries.specs.declared.value_type.ValueType.{ValueType as Kind};
-ghost use Rattle.lsm_writers.specs.Writing.{Writing as WritingValue, finish_fault, may_be_written};
-ghost use Rattle.lsm_writers.specs.Writing.{written};
+ghost use Rattle.lsm_writers.specs.Writing.{Writing as WritingValue, may_be_written, written};
 ghost use Rattle.sst_c.specs.Options.{are_usable, writing_told};
 ghost use Rattle.sst_c.specs.What.{are_files, files_held, writer_in};
-ghost use Rattle.sst_c.specs.Writing.{AddsFileOf, FaultTold, TookEntry, kind_told};
+ghost use Rattle.sst_c.specs.Writing.{AddsFileOf, FinishTold, TookEntry, kind_told};
 ghost use Rattle.sst_c.specs.declared.held.Held.{Held as HeldValue};
 
 use crate::codes::{CLOSED, NO_MEMORY, NO_SUCH, OPEN, OTHER_KIND, OUT_OF_ORDER};
@@ -189,6 +188,7 @@ pub extern "C" fn sst_writer_add(
         may_be_written (written w) key.now seqno ≡ false →
         (result ≡ 104) × IsSomeAnd writer.new.boxed.value (λ k. k.what ≡ h.what) }
     // An entry that may follow is taken, or refused with the first fault: the writer has failed.
+    // Where there is a fault, no want of memory is told.
     ensures took { (h : HeldValue) (w : WritingValue) (k : Kind) → writer.old.boxed.value ≡ Some h →
         writer_in h.what ≡ Some w → kind_told kind ≡ Some k →
         may_be_written (written w) key.now seqno ≡ true →
@@ -212,7 +212,7 @@ pub extern "C" fn sst_writer_add(
 // Finishes a writer, and puts its table behind others, where something was written.
 #[tactic(auto, using(crate::proofs::Answering::tell), unfolding(crate::specs::Writing::AddsFileOf))]
 fn finish_behind(tables: &mut Vec<FinishedTable>, writer: Writer) -> u32
-    ensures told { FaultTold result (finish_fault writer) }
+    ensures told { FinishTold result writer }
     ensures finished { result ≡ 0 → AddsFileOf writer tables.old.items tables.new.items }
     ensures refused { result ≢ 0 → tables.new.items ≡ tables.old.items }
 {
@@ -233,7 +233,7 @@ fn finish_behind(tables: &mut Vec<FinishedTable>, writer: Writer) -> u32
 fn finish_files(files: &mut Files) -> u32
     ensures none { files.old.writer ≡ None → (result ≡ 102) × (files.new ≡ files.old) }
     ensures told { (w : WritingValue) → files.old.writer ≡ Some w →
-        FaultTold result (finish_fault w) }
+        FinishTold result w }
     ensures given { (w : WritingValue) → files.old.writer ≡ Some w → files.new.writer ≡ None }
     ensures finished { (w : WritingValue) → files.old.writer ≡ Some w → result ≡ 0 →
         AddsFileOf w files.old.tables.items files.new.tables.items }
@@ -250,7 +250,7 @@ fn finish(held: &mut Held) -> u32
     ensures other { writer_in held.old.what ≡ None →
         (result ≡ 102) × (held.new.what ≡ held.old.what) }
     ensures told { (w : WritingValue) → writer_in held.old.what ≡ Some w →
-        FaultTold result (finish_fault w) }
+        FinishTold result w }
     ensures given { (w : WritingValue) → writer_in held.old.what ≡ Some w →
         writer_in held.new.what ≡ None }
     ensures kind { are_files held.new.what ≡ are_files held.old.what }
@@ -275,8 +275,9 @@ pub extern "C" fn sst_writer_finish(alloc: Global, writer: &mut Handle) -> u32
         (result ≡ 100) × (writer.new.boxed.value ≡ None) }
     ensures other { (h : HeldValue) → writer.old.boxed.value ≡ Some h → writer_in h.what ≡ None →
         (result ≡ 102) × IsSomeAnd writer.new.boxed.value (λ k. k.what ≡ h.what) }
+    // Of a writer that had failed, and where nothing was written, no want of memory is told.
     ensures told { (h : HeldValue) (w : WritingValue) → writer.old.boxed.value ≡ Some h →
-        writer_in h.what ≡ Some w → FaultTold result (finish_fault w) }
+        writer_in h.what ≡ Some w → FinishTold result w }
     ensures given { (h : HeldValue) (w : WritingValue) → writer.old.boxed.value ≡ Some h →
         writer_in h.what ≡ Some w →
         IsSomeAnd writer.new.boxed.value (λ k. writer_in k.what ≡ None) }
