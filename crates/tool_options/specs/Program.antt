@@ -37,13 +37,17 @@ formed form.Files r = record r {
   range = Some (record { start_inclusive = r.value_names; end_inclusive = usize_max });
 }
 
-abbrev pub argument_rule : ArgumentText → Rule
-argument_rule t = formed t.form (record (new_rule t.name.now) {
+-- the argument, but for its form
+abbrev pub unformed : ArgumentText → Rule
+unformed t = record (new_rule t.name.now) {
   value_names = length t.values.now;
   defaults = texts_of t.standard.now;
   parser = Some (parser_of t.form);
   required = t.required;
-})
+}
+
+abbrev pub argument_rule : ArgumentText → Rule
+argument_rule t = formed t.form (unformed t)
 
 abbrev pub with_argument : App → ArgumentText → App
 with_argument a t = with_rule a (argument_rule t)
