@@ -1,7 +1,8 @@
 -- What C is told of a verification.
-use Rattle.std.specs.Prelude.{◌≡◌, ℕ, ◌+◌, ◌⊎◌, Option, Some, Result, Ok, Err}
+use Rattle.std.specs.Prelude.{◌≡◌, ℕ, ◌+◌, ◌⊎◌, List, length, Option, Some, Result, Ok, Err}
 use Rattle.sst_entries.specs.Error.{number_of}
 use Rattle.sst_sections.specs.Sections.{slot_index}
+use Rattle.lsm_readers.specs.Words.{Entry, StoresList}
 use Rattle.lsm_readers.specs.declared.verify.Fault.{Fault}
 use Rattle.lsm_readers.specs.declared.verify.Fault.TheVariants.{Unloaded, Hollow, Misplaced}
 use Rattle.lsm_readers.specs.declared.verify.Fault.TheVariants.{TooHigh, Unordered, Denied}
@@ -81,3 +82,9 @@ TellsFinding code told early =
 abbrev pub TellsWrong : (Finding → Type 0) → ℕ → VerifyTold → Type 0
 TellsWrong is_first code told =
     code ≡ 107 → (f : Finding) × (told ≡ finding_told f) × is_first f
+
+-- the bytes of a table that is verified store a list, and how many entries and data blocks it has is
+-- told
+abbrev pub TellsCounts : List ℕ → VerifyTold → Type 0
+TellsCounts bytes told = (es : List Entry) × (t : StoresList bytes es)
+    × (told.item_count ≡ length es) × (told.data_block_count ≡ length t.handles)

@@ -61,8 +61,8 @@ fn tell_file(held: &Held, index: u64, told: &mut FileTold) -> u32
 }
 
 /// Tells what a finished table is called and how long it is: the one at a place, from 0 on. Refused
-/// 100 where the handle is closed, 102 where it holds no finished tables, and 105 where there is
-/// none at that place; what `told` says stays then.
+/// 100 where the handle is closed, 102 where it holds neither finished tables nor a writer, and 105
+/// where there is none at that place; what `told` says stays then.
 #[unsafe(no_mangle)]
 pub extern "C" fn sst_files_tell(
     alloc: Global,
@@ -129,9 +129,9 @@ fn copy_file(held: &Held, index: u64, offset: u64, room: &mut [u8], count: &mut 
 }
 
 /// Copies a finished table's bytes from an offset on, as many as there is room for, and tells how
-/// many: 0 at the end. Refused 100 where the handle is closed, 102 where it holds no finished
-/// tables, and 105 where there is none at that place or the offset is past its end; nothing is
-/// copied then.
+/// many: 0 at the end. Refused 100 where the handle is closed, 102 where it holds neither finished
+/// tables nor a writer, and 105 where there is none at that place or the offset is past its end;
+/// nothing is copied then.
 #[unsafe(no_mangle)]
 pub extern "C" fn sst_files_copy(
     alloc: Global,
@@ -179,8 +179,8 @@ fn count_files(held: &Held, count: &mut u64) -> u32
     }
 }
 
-/// Tells how many finished tables there are. Refused 100 where the handle is closed and 102 where
-/// it holds no finished tables; what `count` says stays then.
+/// Tells how many finished tables there are, of a writer 0. Refused 100 where the handle is closed
+/// and 102 where it holds neither; what `count` says stays then.
 #[unsafe(no_mangle)]
 pub extern "C" fn sst_files_count(alloc: Global, files: &mut Handle, count: &mut u64) -> u32
     ensures kept { files.new.boxed.value ≡ files.old.boxed.value }

@@ -21,7 +21,8 @@ pub struct TableMemory {
     /// How many of them the index has that stays loaded, the whole or the top level; 0 where none
     /// does.
     pub pinned_index_size: u64,
-    /// How many of them the filter has that stays loaded; 0 where none does.
+    /// How many of them the filter has that stays loaded; 0 where none does, and of a filter in
+    /// partitions.
     pub pinned_filter_size: u64,
     /// How many bytes it takes to remember which blocks were compared; 0 where there was no memory
     /// for them.

@@ -1,12 +1,13 @@
 //! Verifying a table.
-ghost use Rattle.std.specs.Prelude.{◌≡◌, ◌≢◌, List, None, Some, false, length};
+ghost use Rattle.std.specs.Prelude.{◌≡◌, ◌≢◌, List, None, Some, false};
 ghost use Rattle.sst_sections.specs.Sections.{body_of};
 ghost use Rattle.lsm_readers.specs.Findings.{IsFirstFinding};
 ghost use Rattle.lsm_readers.specs.Verify.{table_early, table_found};
 ghost use Rattle.lsm_readers.specs.Words.{Entry, OpenTable, StoresList};
 ghost use Rattle.lsm_readers.specs.declared.verify.Finding.{Finding as FindingValue};
-ghost use Rattle.sst_c.specs.Verify.{TellsFinding, TellsWrong, VerifyAnswers, detail_of};
-ghost use Rattle.sst_c.specs.Verify.{fault_number, finding_told, no_finding, verified_told};
+ghost use Rattle.sst_c.specs.Verify.{TellsCounts, TellsFinding, TellsWrong, VerifyAnswers};
+ghost use Rattle.sst_c.specs.Verify.{detail_of, fault_number, finding_told, no_finding};
+ghost use Rattle.sst_c.specs.Verify.{verified_told};
 ghost use Rattle.sst_c.specs.What.{is_table};
 ghost use Rattle.sst_c.specs.declared.held.Held.{Held as HeldValue};
 ghost use Rattle.sst_c.specs.declared.held.What.TheVariants.{Table as TableOf};
@@ -125,8 +126,7 @@ fn verify(table: &Table, told: &mut VerifyTold) -> u32
         TellsFinding result told.new (table_early body table.now.parts) }
     ensures first { let body = body_of table.now.bytes in
         TellsWrong (IsFirstFinding body table.now.parts) result told.new }
-    ensures sound { result ≡ 0 → (es : List Entry) × StoresList table.now.bytes es ×
-        (told.new.item_count ≡ length es) }
+    ensures sound { result ≡ 0 → TellsCounts table.now.bytes told.new }
     ensures complete { (es : List Entry) → StoresList table.now.bytes es → result ≢ 107 }
 {
     match table.verify() {
@@ -152,7 +152,7 @@ fn verify_held(held: &Held, told: &mut VerifyTold) -> u32
     ensures first { (t : OpenTable) → held.now.what ≡ TableOf t →
         TellsWrong (IsFirstFinding (body_of t.bytes) t.parts) result told.new }
     ensures sound { (t : OpenTable) → held.now.what ≡ TableOf t → result ≡ 0 →
-        (es : List Entry) × StoresList t.bytes es × (told.new.item_count ≡ length es) }
+        TellsCounts t.bytes told.new }
     ensures complete { (t : OpenTable) (es : List Entry) → held.now.what ≡ TableOf t →
         StoresList t.bytes es → result ≢ 107 }
 {
@@ -184,10 +184,9 @@ pub extern "C" fn sst_table_verify(alloc: Global, table: &mut Handle, told: &mut
     ensures first { (h : HeldValue) (t : OpenTable) → table.old.boxed.value ≡ Some h →
         h.what ≡ TableOf t →
         TellsWrong (IsFirstFinding (body_of t.bytes) t.parts) result told.new }
-    // A table that is verified stores a list, which has as many entries;
+    // A table that is verified stores a list, which has as many entries and data blocks;
     ensures sound { (h : HeldValue) (t : OpenTable) → table.old.boxed.value ≡ Some h →
-        h.what ≡ TableOf t → result ≡ 0 →
-        (es : List Entry) × StoresList t.bytes es × (told.new.item_count ≡ length es) }
+        h.what ≡ TableOf t → result ≡ 0 → TellsCounts t.bytes told.new }
     // in one that stores a list nothing wrong is found.
     ensures complete { (h : HeldValue) (t : OpenTable) (es : List Entry) →
         table.old.boxed.value ≡ Some h → h.what ≡ TableOf t → StoresList t.bytes es →
