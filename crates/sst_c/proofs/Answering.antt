@@ -178,22 +178,23 @@ pub finish_refused : (e : Error) (w : Writing) → (is_memory e ≡ false → fi
     → ((f : Error) → failed_fault w.failed ≡ Some f → Some f ≡ Some e) → (written w ≡ [] → w.failed ≡ true)
     → FinishTold (number_of e) w
 unfolding FinishTold
-finish_refused e w fails first idle = fault_tells e (finish_fault w) fails, (λ f is. ap fault_code (sym (first f is))), λ none works. absurd (no_both w.failed (idle none) works)
+finish_refused e w fails first idle =
+    (fault_tells e (finish_fault w) fails, (λ f is. ap fault_code (sym (first f is))), λ none works. absurd (no_both w.failed (idle none) works))
   where
     no_both : (b : Bool) → b ≡ true → b ≡ false → ⊥
-    no_both b yes no = cc
+    no_both b is other = cc
 
 -- of one that is not
 pub finish_done : (w : Writing) → finish_fault w ≡ None → ((f : Error) → failed_fault w.failed ≡ Some f → Some f ≡ None)
     → FinishTold 0 w
 unfolding FinishTold
-finish_done w fine first = no_fault_tells (finish_fault w) fine, passes_first 0 (failed_fault w.failed) first, λ none works. refl
+finish_done w fine first = (no_fault_tells (finish_fault w) fine, passes_first 0 (failed_fault w.failed) first, λ none works. refl)
 
 -- of one whose table has no place
 pub finish_unplaced : (w : Writing) → ((f : Error) → failed_fault w.failed ≡ Some f → Some f ≡ None) → (written w ≡ [] → ⊥)
     → FinishTold 1 w
 unfolding FinishTold
-finish_unplaced w first some = memory_tells (finish_fault w), passes_first 1 (failed_fault w.failed) first, λ none works. absurd (some none)
+finish_unplaced w first some = (memory_tells (finish_fault w), passes_first 1 (failed_fault w.failed) first, λ none works. absurd (some none))
 
 -- what is begun where no fault is told answers 0, or 1 for want of memory
 pub begun_tells : (code : ℕ) (told : Option Error) → (code ≡ 0) ⊎ (code ≡ 1) → told ≡ None

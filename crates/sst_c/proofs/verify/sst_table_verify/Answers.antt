@@ -14,3 +14,9 @@ returns-clause-early c h t same is =
     let one = same_held c.args.table.now.boxed.value c.in-Some.held.value h c.in-Some.ensures.taken same in
     let lent = ap (λ (x : Held). x.what) (c.deref.ensures ∙ one) in
     c.verify_held-code.ensures.early t (lent ∙ is)
+
+pub returns-clause-sound : goal.returns-clause-sound
+returns-clause-sound c h t same is zero =
+    let one = same_held c.args.table.now.boxed.value c.in-Some.held.value h c.in-Some.ensures.taken same in
+    let lent = ap (λ (x : Held). x.what) (c.deref.ensures ∙ one) in
+    c.verify_held-code.ensures.sound t (lent ∙ is) zero

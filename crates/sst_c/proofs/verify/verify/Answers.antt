@@ -1,5 +1,7 @@
-use Rattle.std.proofs.Common.{sym, ◌∙◌}
+use Rattle.std.proofs.Common.{subst, sym, ◌∙◌}
 use Rattle.sst_c.proofs.Verifying.{found_is_no_memory}
+use Rattle.sst_c.specs.Verify.{TellsCounts}
+use Rattle.sst_c.specs.declared.verify.VerifyTold.{VerifyTold}
 use Rattle.sst_c.proofs.verify.verify.Goals as goal
 
 pub returns-in-Err-Found-clause-complete : goal.returns-in-Err-Found-clause-complete
@@ -12,3 +14,8 @@ pub returns-in-Err-Found-clause-first : goal.returns-in-Err-Found-clause-first
 returns-in-Err-Found-clause-first c code =
     let found = c.in-Err-Found in
     (found.finding, c.tell_finding.ensures, found.ensures.first found.finding found.field-0-is)
+
+pub returns-in-Ok-clause-sound : goal.returns-in-Ok-clause-sound
+returns-in-Ok-clause-sound c zero =
+    let P : VerifyTold → Type 0 = λ v. TellsCounts c.args.table.now.bytes v in
+    subst P (sym c.tell_verified.ensures) c.in-Ok.ensures.sound
