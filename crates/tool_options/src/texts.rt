@@ -315,9 +315,9 @@ pub(crate) static COMMANDS: [CommandText; 9] = [
         notes: "\
 The entries come in order, by key and then from the largest number down. The
 first line out of order is refused, unless --sort is there. The file is
-written beside its name and renamed once it is whole, so a write that is
-refused leaves what was there. With --target the tables are FILE.1, FILE.2 and
-so on.",
+written beside its name and renamed once it is whole and synced: a write that
+is refused before that leaves what was there. With --target the tables are
+FILE.1, FILE.2 and so on; those that are renamed before a refusal stay.",
     },
     CommandText {
         name: "dump",
@@ -342,23 +342,29 @@ where the key has no version below N.",
         about: "Prints what tables say of themselves",
         usage: "sst stat [OPTIONS] <FILE>...",
         arguments: &STAT,
-        notes: "",
+        notes: "\
+Tells the data blocks, too. Where there are more than 32 they share lines, as
+many on each but for the last; an object of JSON has each by itself.",
     },
     CommandText {
         name: "verify",
-        about: "Reads all of tables and reports each fault",
+        about: "Reads all of tables and reports what is wrong",
         usage: "sst verify <FILE>...",
         arguments: &[FILES],
         notes: "\
-Reads every block, the index and the filter, and compares them with what the
-table says of itself. Exits with 1 if there is a fault.",
+Reads every block, the index and the filter, and compares with the entries
+what the table says of its keys, numbers, data blocks, entries and tombstones.
+Prints that a file is sound, or its first fault and behind it each further
+block that does not load. Exits with 1 if there is a fault.",
     },
     CommandText {
         name: "compact",
         about: "Merges tables into new ones",
         usage: "sst compact [OPTIONS] --to <FOLDER> <FILE>...",
         arguments: &COMPACT,
-        notes: "Of each key the versions stay that a reader at the watermark or later may see.",
+        notes: "\
+The new tables are 1.sst, 2.sst and so on in FOLDER. Of each key the versions
+stay that a reader at the watermark or later may see.",
     },
     CommandText {
         name: "pack",
