@@ -105,7 +105,10 @@ fn steps_find_what_is_found_at_once() {
     for place in 0..file.len() {
         let mut damaged = file.clone();
         damaged[place] ^= 0xff;
-        let Ok(table) = Table::open_kept(&damaged) else { continue };
+        let table = match Table::open_kept(&damaged) {
+            Ok(table) => table,
+            Err(_) => continue,
+        };
         let answer = by_steps(&table);
         assert_eq!(answer, table.verify());
         found += usize::from(answer.is_err());
