@@ -1,6 +1,6 @@
 // CRC-32C by the processor's instruction, under the name by which LevelDB asks a library for it.
-// The instruction takes eight bytes and waits three cycles for the one before it, so three chains of
-// it run beside one another.
+// The instruction takes eight bytes and waits three cycles for the one before it, so three chains
+// of it run beside one another.
 #pragma once
 
 #include <nmmintrin.h>
@@ -17,8 +17,8 @@ inline uint64_t Word(const uint8_t* data) {
   return word;
 }
 
-// What so many zero bytes, a multiple of 8, make of a sum. It is linear in the sum's bits, so a table
-// for each of the sum's bytes gives it.
+// What so many zero bytes, a multiple of 8, make of a sum. It is linear in the sum's bits, so a
+// table for each of the sum's bytes gives it.
 template <size_t kBytes>
 class Zeros {
  public:

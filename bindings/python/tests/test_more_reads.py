@@ -1,5 +1,5 @@
-"""Tables whose parts are laid out, changed or cut short on purpose, the longest keys and the largest
-numbers, and every range of every small list."""
+"""Tables whose parts are laid out, changed or cut short on purpose, the longest keys and the
+largest numbers, and every range of every small list."""
 
 import itertools
 import struct
@@ -181,7 +181,8 @@ class Items(unittest.TestCase):
 
 
 class Laid(unittest.TestCase):
-    """Where the sections of written tables lie, and how many blocks of index and filter there are."""
+    """Where the sections of written tables lie, and how many blocks of index and filter there
+    are."""
 
     def check(self, entries, laid, index, filters, **options):
         file = file_of(entries, id=1, **options)

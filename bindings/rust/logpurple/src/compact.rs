@@ -9,8 +9,8 @@ use logpurple_sys as sys;
 /// What [`Runs::compact`](crate::Runs::compact) keeps, and what it writes.
 ///
 /// Of each key the versions down to the newest one below the watermark are kept, and the older
-/// ones, which no reader sees, go. A weak tombstone below the watermark goes with the value directly
-/// behind it.
+/// ones, which no reader sees, go. A weak tombstone below the watermark goes with the value
+/// directly behind it.
 ///
 /// Refused with `NoSuch` where an option is out of its range, with `OutOfOrder` where a table does
 /// not hold what a writer makes or two tables have one key under one number; else with the first
@@ -20,8 +20,8 @@ use logpurple_sys as sys;
 pub struct Compaction {
     /// No reader stands below it.
     pub watermark: SeqNo,
-    /// Whether the last version of a key that is kept goes too where it is a deletion: only for runs
-    /// behind which no older table stands.
+    /// Whether the last version of a key that is kept goes too where it is a deletion: only for
+    /// runs behind which no older table stands.
     pub evict_tombstones: bool,
     /// Whether numbers below the watermark become 0.
     pub zero_seqnos: bool,

@@ -82,8 +82,9 @@ impl<'f> Runs<'f> {
     /// newer.write(b"apple", 5, ValueType::Value, b"red")?;
     /// older.write(b"apple", 3, ValueType::Value, b"green")?;
     /// older.write(b"pear", 4, ValueType::Value, b"yellow")?;
-    /// let tables = [Table::open(newer.finish()?.unwrap())?, Table::open(older.finish()?.unwrap())?];
-    /// let runs = Runs::from_tables(tables)?;
+    /// let newer = Table::open(newer.finish()?.unwrap())?;
+    /// let older = Table::open(older.finish()?.unwrap())?;
+    /// let runs = Runs::from_tables([newer, older])?;
     /// let mut range = runs.range("a".., NEWEST)?;
     /// assert_eq!(range.next().unwrap()?.value, b"red");
     /// assert_eq!(range.next_back().unwrap()?.value, b"yellow");

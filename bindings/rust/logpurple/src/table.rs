@@ -12,10 +12,11 @@ use std::ops::RangeBounds;
 
 /// An opened table.
 ///
-/// It has a copy of its bytes, or reads bytes that are kept for `'f`, and shares them with its clones, its ranges and the runs that it was
-/// pushed to. Threads that use different ones of these at once need nothing between them, as the
-/// header says: a table's bytes and blocks are never written, shares are counted by atomic steps,
-/// and so is noted which blocks were compared. So it is `Send`, and each thread reads by a clone:
+/// It has a copy of its bytes, or reads bytes that are kept for `'f`, and shares them with its
+/// clones, its ranges and the runs that it was pushed to. Threads that use different ones of these
+/// at once need nothing between them, as the header says: a table's bytes and blocks are never
+/// written, shares are counted by atomic steps, and so is noted which blocks were compared. So it
+/// is `Send`, and each thread reads by a clone:
 ///
 /// ```
 /// use logpurple::{Table, ValueType, Writer, NEWEST};
@@ -199,9 +200,9 @@ impl<'f> Table<'f> {
         unsafe { self.handle.lend(told) }
     }
 
-    /// Finds of each of some keys what `get` finds, in their order, and copies it. The keys may stand
-    /// in any order and repeat; a block in which several stand is loaded once for them. Refused as
-    /// the read of the first key is that is refused, and for want of memory.
+    /// Finds of each of some keys what `get` finds, in their order, and copies it. The keys may
+    /// stand in any order and repeat; a block in which several stand is loaded once for them.
+    /// Refused as the read of the first key is that is refused, and for want of memory.
     ///
     /// ```
     /// # use logpurple::{Table, ValueType, Writer, NEWEST};

@@ -22,8 +22,8 @@ impl<'f> Verification<'f> {
         Ok(Verification { handle, told: sys::sst_progress { data_size, ..Default::default() } })
     }
 
-    /// Reads one further block, of the filter, of the index or a data block. `None` says that more is
-    /// to be read; at the end it answers what [`Table::verify`] does, and is refused as that is.
+    /// Reads one further block, of the filter, of the index or a data block. `None` says that more
+    /// is to be read; at the end it answers what [`Table::verify`] does, and is refused as that is.
     ///
     /// Where it answers or is refused nothing changes: a step that wanted memory can be made again,
     /// and one that found something wrong finds it again.

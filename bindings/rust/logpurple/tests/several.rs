@@ -85,7 +85,8 @@ fn tables_are_packed_as_far_as_they_lie_apart() {
         }
         for older in 0..spans.len() {
             assert!(run_of[older] < packing.runs.len());
-            assert!((0..older).all(|newer| !overlap(newer, older) || run_of[newer] < run_of[older]));
+            let mut overlapped = (0..older).filter(|newer| overlap(*newer, older));
+            assert!(overlapped.all(|newer| run_of[newer] < run_of[older]));
         }
         assert_eq!(packing.chain.len(), packing.runs.len());
         assert!(packing.chain.windows(2).all(|two| two[0] < two[1] && overlap(two[0], two[1])));

@@ -95,17 +95,17 @@ fn ranges_are_read_from_both_ends() {
     let table = Table::open(write(&small(1), &all)).unwrap();
     assert_eq!(collect(table.iter().unwrap()), all);
     assert_eq!(collect(table.iter().unwrap().rev()), all.iter().rev().cloned().collect::<Vec<_>>());
-    for turn in 2..5 {
-        assert_eq!(in_turn(&table, turn), all);
+    for nth in 2..5 {
+        assert_eq!(in_turn(&table, nth), all);
     }
 }
 
-/// All entries, each so-manieth from the back.
-fn in_turn(table: &Table, turn: usize) -> Vec<InternalValue> {
+/// All entries, every nth from the back.
+fn in_turn(table: &Table, nth: usize) -> Vec<InternalValue> {
     let mut range = table.iter().unwrap();
     let (mut front, mut back) = (Vec::new(), Vec::new());
     for step in 1.. {
-        let (lent, taken) = match step % turn {
+        let (lent, taken) = match step % nth {
             0 => (range.next_back_lent().unwrap(), &mut back),
             _ => (range.next_lent().unwrap(), &mut front),
         };
