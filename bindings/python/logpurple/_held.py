@@ -2,13 +2,14 @@
 
 import operator
 import threading
-from typing import Any, Optional, Tuple
+from typing import Any, Optional, Tuple, TypeVar
 
 from . import _calls
 from ._calls import addressof, copied
 from ._errors import test
 from ._told import Entry, Kind
 
+_SomeHeld = TypeVar("_SomeHeld", bound="Held")
 _KINDS = {int(kind): kind for kind in Kind}
 
 
@@ -66,11 +67,31 @@ class Held:
         self._told_ref, self._lent_ref = addressof(self._told), addressof(self._lent)
 
     def close(self) -> None:
-        """Lets go what is held. It may be closed twice."""
+        """Lets go what is held. It may be closed twice.
+
+        >>> writer = Writer()
+        >>> writer.add(b"a", b"1")
+        >>> table = Table.open(writer.finish())
+        >>> table.close()
+        >>> table[b"a"]
+        Traceback (most recent call last):
+        ..
+        logpurple.Closed: the handle is closed (100)
+        """
         with self._turn:
             self._let_go()
 
-    def __enter__(self):
+    def __enter__(self: _SomeHeld) -> _SomeHeld:
+        """Closes it where the `with` ends.
+
+        >>> with Runs() as runs:
+        ...     runs.get(b"a", b"none")
+        b'none'
+        >>> runs.get(b"a")
+        Traceback (most recent call last):
+        ..
+        logpurple.Closed: the handle is closed (100)
+        """
         return self
 
     def __exit__(self, *_: object) -> None:

@@ -58,6 +58,7 @@ class Scan(_Steps):
     """
 
     def __iter__(self) -> "Scan":
+        """Itself: what was read does not come again."""
         return self
 
     def __next__(self) -> Entry:
@@ -88,10 +89,19 @@ class Entries(_Steps):
         self._reverse = bool(reverse)
 
     def take(self, reverse: bool = False) -> Optional[Entry]:
-        """The next entry from the front or, in reverse, from the back; `None` at the end."""
+        """The next entry from the front or, in reverse, from the back; `None` at the end.
+
+        >>> writer = Writer()
+        >>> for key in (b"a", b"b"):
+        ...     writer.add(key, b"")
+        >>> entries = Table.open(writer.finish()).entries()
+        >>> entries.take(reverse=True).key, entries.take().key, entries.take()
+        (b'b', b'a', None)
+        """
         return self._step(_calls.range_next, bool(reverse))
 
     def __iter__(self) -> "Entries":
+        """Itself: what was taken does not come again."""
         return self
 
     def __next__(self) -> Entry:
@@ -173,15 +183,46 @@ class _Read(Held):
         raise NotImplementedError
 
     def __getitem__(self, key: BytesLike) -> bytes:
+        """The newest value of a key. `KeyError` where it has none, as where it is deleted.
+
+        >>> writer = Writer()
+        >>> writer.add(b"a", b"1")
+        >>> table = Table.open(writer.finish())
+        >>> table[b"a"]
+        b'1'
+        >>> table[b"b"]
+        Traceback (most recent call last):
+        ..
+        KeyError: b'b'
+        """
         found = self.get(key)
         if found is None:
             raise KeyError(key)
         return found
 
     def __contains__(self, key: BytesLike) -> bool:
+        """Whether a key has a newest value.
+
+        >>> writer = Writer()
+        >>> writer.add(b"a", b"1")
+        >>> writer.delete(b"b")
+        >>> table = Table.open(writer.finish())
+        >>> b"a" in table, b"b" in table, b"c" in Runs(table)
+        (True, False, False)
+        """
         return self.get(key) is not None
 
     def __iter__(self) -> Iterator[bytes]:
+        """The keys that have a newest value, in order.
+
+        >>> writer = Writer()
+        >>> writer.add(b"a", b"1")
+        >>> writer.delete(b"b")
+        >>> writer.add(b"c", b"2")
+        >>> table = Table.open(writer.finish())
+        >>> list(table), list(Runs(table))
+        ([b'a', b'c'], [b'a', b'c'])
+        """
         return (key for key, _ in self.range())
 
 
@@ -316,7 +357,14 @@ class Table(_Read):
         return told, answers
 
     def __len__(self) -> int:
-        """How many entries there are: versions, not keys."""
+        """How many entries there are: versions, not keys.
+
+        >>> writer = Writer()
+        >>> writer.add(b"a", b"1", seqno=2)
+        >>> writer.delete(b"a", seqno=1)
+        >>> len(Table.open(writer.finish()))
+        2
+        """
         return self.facts().item_count
 
     def entries(self, lower: Optional[BytesLike] = None, upper: Optional[BytesLike] = None,
@@ -520,7 +568,6 @@ class Runs(_Read):
         ([(b'b', b'more')], [(b'b', b'more'), (b'a', b'old')])
         """
         return _shown(self.entries(lower, upper, reverse, at), NEWEST, reverse)
-
 
     def packed(self) -> "Runs":
         """The same tables in as few runs as there can be, so that each key keeps the order of its

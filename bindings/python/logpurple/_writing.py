@@ -50,8 +50,16 @@ class Writer(Held):
     entries, 1 to 255; `data_block_hash_ratio`, buckets an entry, in thousandths;
     `index_partition_size` and `filter_partition_size`, in bytes, at most 4 MiB, 0 for one block;
     `filter_bits_per_key`, in tenths of a bit, 0 for no filter. Where nothing else is said, blocks
-    have 4,096 bytes, index and filter one block each, a key ten bits, and the rest is 0.
+    have 4,096 bytes and a place to restart at after 16 entries, index and filter one block each, a
+    key ten bits, and the rest is 0.
 
+    Where a `with` ends, the writer is closed: what was written and not finished is given up.
+
+    >>> with Writer() as writer:
+    ...     writer.add(b"a", b"1")
+    ...     file = writer.finish()
+    >>> Table.open(file)[b"a"]
+    b'1'
     >>> writer = Writer(id=7, filter_bits_per_key=0)
     >>> writer.add(b"b", b"")
     >>> writer.add(b"a", b"")
