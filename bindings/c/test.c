@@ -548,6 +548,9 @@ static void test_runs(const sst_options *options, const uint8_t *file, size_t le
   CHECK(sst_table_open(newer_file, newer_len, 0, false, false, &newer) == 0);
   CHECK(sst_table_open(file, len, 0, true, true, &older) == 0);
   CHECK(sst_runs_add(&runs, &newer) == SST_CLOSED);
+  memset(&entry, 7, sizeof entry);
+  CHECK(sst_runs_get(&runs, bytes("other"), 5, SST_NEWEST, &entry) == SST_CLOSED);
+  CHECK(entry.kind == SST_NO_ENTRY && entry.key_len == 0);
   CHECK(sst_runs_open(&runs) == 0 && sst_runs_open(&runs) == SST_OPEN);
   CHECK(sst_runs_get(&runs, bytes("other"), 5, SST_NEWEST, &entry) == 0 && entry.kind == 0);
   CHECK(sst_runs_add(&runs, &writer) == SST_OTHER_KIND);
@@ -569,7 +572,9 @@ static void test_runs(const sst_options *options, const uint8_t *file, size_t le
   sst_close(&writer);
 }
 
-/* Each kind of handle in each call that takes another. */
+/* Closed handles, open ones, and those of one or a few other kinds, in calls that take none of
+ * these; and entries that a writer refuses.
+ */
 static void test_misuse(const sst_options *options, const uint8_t *file, size_t len) {
   sst_handle closed = {0}, writer = {0}, table = {0};
   sst_options wrong = *options;

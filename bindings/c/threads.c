@@ -1,5 +1,5 @@
-/* Several threads that read one table at once, each by handles of its own: `bindings/test` builds it
- * and runs it under helgrind, or with ThreadSanitizer. It answers 1 where a read is wrong.
+/* Several threads that read one table at once, each by handles of its own: `bindings/test` builds
+ * it and runs it, under helgrind too where valgrind is there. It answers 1 where a read is wrong.
  */
 #include "sst.h"
 

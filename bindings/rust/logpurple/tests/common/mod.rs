@@ -68,7 +68,7 @@ pub fn newest(entries: &Entries, key: &[u8], seqno: SeqNo) -> Option<InternalVal
         .then(|| InternalValue::from_components(key, entry.1.clone(), found.1 .0, entry.0))
 }
 
-/// Small blocks, with and without partitions.
+/// Small blocks, with and without partitions and a filter.
 pub fn small(seed: u64) -> Options {
     Options {
         id: seed,
@@ -76,6 +76,7 @@ pub fn small(seed: u64) -> Options {
         data_block_hash_ratio: 500 * (seed as u32 % 3),
         index_partition_size: 100 * (seed as u32 % 2),
         filter_partition_size: 50 * (seed as u32 / 2 % 2),
+        filter_bits_per_key: 100 * u32::from(seed % 5 > 0),
         ..Options::default()
     }
 }
