@@ -525,7 +525,7 @@ static void test_out_of_order(const sst_options *options, const uint8_t *file, s
   CHECK(sst_table_open(file, len, 0, true, true, &table) == 0);
   CHECK(sst_runs_open(&runs) == 0);
   CHECK(sst_compact(&runs, options, 0, false, false, 1, &files, &next_id) == 0);
-  CHECK(sst_files_count(&files, &count) == 0 && count == 0);
+  CHECK(sst_files_count(&files, &count) == 0 && count == 0 && next_id == options->id + 1);
   sst_close(&files);
   CHECK(sst_runs_add(&runs, &table) == 0 && sst_runs_add(&runs, &table) == 0);
   next_id = 7;

@@ -50,7 +50,7 @@ impl Default for Compaction {
 pub struct Compacted {
     /// The tables, in order of their keys; none where nothing was kept.
     pub tables: Vec<FinishedTable>,
-    /// The first id that is left.
+    /// The first id that is left; that of the options is taken where nothing was kept, too.
     pub next_id: Option<u64>,
 }
 
@@ -72,8 +72,6 @@ impl Compacted {
             )
         })?;
         let tables = finished_tables(&files)?;
-        // Where none was written, the first is left, whatever it is.
-        let is_left = next_id > 0 || tables.is_empty();
-        Ok(Compacted { tables, next_id: is_left.then_some(next_id) })
+        Ok(Compacted { tables, next_id: (next_id > 0).then_some(next_id) })
     }
 }

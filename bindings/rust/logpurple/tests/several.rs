@@ -215,7 +215,11 @@ fn a_compaction_that_is_refused() {
     let twice = Runs::from_tables([table.clone(), table.clone()]).unwrap();
     assert_eq!(twice.compact(&Compaction::default()), Err(Error::OutOfOrder));
     let none = Runs::new().unwrap();
-    assert!(none.compact(&Compaction::default()).unwrap().tables.is_empty());
+    for (id, next_id) in [(0, Some(1)), (7, Some(8)), (u64::MAX, None)] {
+        let options = Options { id, ..Options::default() };
+        let compacted = none.compact(&Compaction { options, ..Compaction::default() }).unwrap();
+        assert_eq!((compacted.tables.len(), compacted.next_id), (0, next_id));
+    }
     assert!(none.iter(NEWEST).unwrap().next().is_none());
     assert_eq!(none.get(b"", NEWEST), Ok(None));
 }
