@@ -26,9 +26,19 @@
  * lists of runs of it. A handle that goes from one thread to another, as one that is made for it,
  * needs what orders memory between the two, as a lock, a thread's start or its join.
  *
- * Each call answers 0, or the number of what refused it. 1 to 24 are the library's refusals; 23 is
- * a writer that has refused before, 5 a block that was damaged. From 100 on they are those of the
- * calls below. `sst_strerror` has a sentence for each.
+ * Each call answers 0, or the number of what refused it, but for `sst_version`, `sst_close`,
+ * `sst_options_default` and `sst_strerror_copy`, which nothing refuses. 1 to 24 are the library's
+ * refusals; 23 is a writer that has refused before, 5 a block that was damaged. From 100 on they
+ * are those of the calls below. `sst_strerror` has a sentence for each.
+ *
+ * Where several apply, SST_OPEN is answered before SST_CLOSED, this before SST_OTHER_KIND, then
+ * SST_NO_SUCH and SST_NO_ROOM, and each of these before any other. A call that opens, reads,
+ * verifies, adds, packs, writes or compacts may be refused for want of memory, whether its comment
+ * says so or not. Where a call is refused, what a comment does not name stays as it was: what
+ * handles hold, and what the call would have told. But `sst_table_get`, `sst_runs_get`,
+ * `sst_range_next` and `sst_scan_next` tell zeros then and keep nothing; and `sst_table_verify` and
+ * `sst_verification_step` tell zeros where they are refused other than by SST_FAULTY, but for how
+ * far a verification is.
  *
  * Pointers: none may be NULL, and each is aligned as what it points to. Bytes, and other arrays,
  * are a pointer and how many there are, in this order; where there are none, any such pointer that
@@ -81,7 +91,11 @@ enum {
 /* Bounds of a range. */
 enum { SST_UNBOUNDED = 0, SST_INCLUDED = 1, SST_EXCLUDED = 2 };
 
-/* A number that is above that of every entry: a read at it finds the newest version. */
+/* The largest number: a read at it finds the newest version of those that are numbered below it.
+ * No writer takes an entry of this number itself; a global number may lift one to it, and bytes
+ * from elsewhere may have one. No read at a number finds it; a range or a scan of the table gives
+ * it.
+ */
 #define SST_NEWEST UINT64_MAX
 
 typedef struct sst_handle {
@@ -169,6 +183,7 @@ typedef struct sst_facts {
   uint64_t data_size; /* how many bytes the data blocks have */
 } sst_facts;
 
+/* Tells what a table says of itself, which may be wrong in bytes from elsewhere. */
 uint32_t sst_table_facts(sst_handle *table, sst_facts *facts);
 
 /* How much memory a table holds, in bytes, once for all of its handles and for what was opened from
@@ -379,8 +394,9 @@ typedef struct sst_options {
   uint32_t unused;
 } sst_options;
 
-/* Fills in what is written with where nothing else is asked for: blocks of 4,096 bytes, an index
- * and a filter in one block each, ten bits a key; id, moment and level are 0.
+/* Fills in what is written with where nothing else is asked for: blocks of 4,096 bytes that restart
+ * at each 16th entry and have no buckets, an index and a filter in one block each, ten bits a key;
+ * id, moment and level are 0.
  */
 void sst_options_default(sst_options *options);
 
@@ -414,8 +430,8 @@ uint32_t sst_writer_finish(sst_handle *writer);
  * which no older table stands. Where `zero_seqnos` is set, numbers below the watermark become 0. A
  * new table begins at the next key once the data blocks of the present one have `target_size`
  * bytes; with UINT64_MAX there is one. The tables are written with `options`, and their ids run on
- * from `options->id`, or from the one behind it where `target_size` is 0; `next_id` is told the
- * first that is left, 0 where none is.
+ * from `options->id`, or from the one behind it where `target_size` is 0. `next_id` is told the
+ * first that is left, 0 where none is; `options->id` is taken where nothing is kept, too.
  *
  * SST_NO_SUCH where an option is out of its range; SST_OUT_OF_ORDER where an entry comes that does
  * not follow the one before it, or whose number is UINT64_MAX: a table does not hold what a writer
@@ -441,7 +457,7 @@ typedef struct sst_file {
 uint32_t sst_files_count(sst_handle *files, uint64_t *count);
 
 /* Tells what a finished table is called and how long it is. SST_NO_SUCH where there is none at that
- * place.
+ * place, as of a writer that is not finished.
  */
 uint32_t sst_files_tell(sst_handle *files, uint64_t index, sst_file *file);
 

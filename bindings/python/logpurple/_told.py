@@ -3,7 +3,8 @@
 import enum
 from typing import List, NamedTuple
 
-#: A number above that of every entry: a read at it finds the newest version.
+#: The largest number: a read at it finds the newest version of those that are numbered below it,
+#: as all are that a `Writer` takes, where no global number lifts one to it.
 NEWEST = 2**64 - 1
 
 

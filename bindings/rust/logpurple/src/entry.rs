@@ -5,7 +5,8 @@ use crate::Error;
 /// A version's number. Reads at a number see the versions that are numbered below it.
 pub type SeqNo = u64;
 
-/// A number above that of every entry: a read at it finds the newest version.
+/// The largest number: a read at it finds the newest version of those that are numbered below it,
+/// as all are that a [`Writer`](crate::Writer) takes, where no global number lifts one to it.
 pub const NEWEST: SeqNo = logpurple_sys::SST_NEWEST;
 
 /// A key's bytes.

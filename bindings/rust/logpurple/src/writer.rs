@@ -29,8 +29,8 @@ pub struct Options {
 }
 
 impl Default for Options {
-    /// Blocks of 4,096 bytes, an index and a filter in one block each, ten bits a key; id, moment
-    /// and level are 0.
+    /// Blocks of 4,096 bytes that restart at each 16th entry and have no hash index, an index and a
+    /// filter in one block each, ten bits a key; id, moment and level are 0.
     fn default() -> Options {
         require_version();
         let mut told = sys::sst_options::default();
