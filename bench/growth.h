@@ -53,7 +53,8 @@ inline Spent SpentOn(const std::function<uint32_t()>& call) {
   waitpid(child, &status, 0);
   close(ends[0]);
   close(ends[1]);
-  Require(told && WIFEXITED(status) && WEXITSTATUS(status) == 0, "a call of the growth was refused");
+  Require(told && WIFEXITED(status) && WEXITSTATUS(status) == 0,
+          "a call of the growth was refused");
   return spent;
 }
 
@@ -120,8 +121,8 @@ inline void PrintGrowthOf(size_t count) {
 
 inline void PrintGrowth(const std::vector<size_t>& counts) {
   printf(
-      "\n| Entries | table, MiB | build, ns an entry | open, ms | memory of an open table beside its "
-      "bytes, MiB | get, ns | scan, ns an entry | memory of building, MiB | memory of a scan beside "
-      "the bytes, MiB |\n|---|---|---|---|---|---|---|---|---|\n");
+      "\n| Entries | table, MiB | build, ns an entry | open, ms | memory of an open table beside "
+      "its bytes, MiB | get, ns | scan, ns an entry | memory of building, MiB | memory of a scan "
+      "beside the bytes, MiB |\n|---|---|---|---|---|---|---|---|---|\n");
   for (size_t count : counts) PrintGrowthOf(count);
 }

@@ -38,15 +38,18 @@ uint32_t tool_bench_get(const uint8_t* file, size_t file_len, const uint8_t* key
 uint32_t tool_bench_get_many(const uint8_t* file, size_t file_len, const uint8_t* keys,
                             size_t keys_len, size_t key_len, uint64_t passes, Digest* digest);
 uint32_t tool_bench_scan(const uint8_t* file, size_t file_len, uint64_t passes, Digest* digest);
-uint32_t tool_bench_scan_lent(const uint8_t* file, size_t file_len, uint64_t passes, Digest* digest);
+uint32_t tool_bench_scan_lent(const uint8_t* file, size_t file_len, uint64_t passes,
+                              Digest* digest);
 uint32_t tool_bench_iter(const uint8_t* file, size_t file_len, uint64_t passes, Digest* digest);
-uint32_t tool_bench_iter_back(const uint8_t* file, size_t file_len, uint64_t passes, Digest* digest);
+uint32_t tool_bench_iter_back(const uint8_t* file, size_t file_len, uint64_t passes,
+                              Digest* digest);
 uint32_t tool_bench_merge(const uint8_t* files, size_t files_len, const uint64_t* lens,
                          size_t lens_len, uint64_t passes, Digest* digest);
 uint32_t tool_bench_merge_lent(const uint8_t* files, size_t files_len, const uint64_t* lens,
                          size_t lens_len, uint64_t passes, Digest* digest);
-uint32_t tool_bench_range(const uint8_t* file, size_t file_len, const uint8_t* keys, size_t keys_len,
-                         size_t key_len, size_t count, uint64_t passes, Digest* digest);
+uint32_t tool_bench_range(const uint8_t* file, size_t file_len, const uint8_t* keys,
+                          size_t keys_len, size_t key_len, size_t count, uint64_t passes,
+                          Digest* digest);
 uint32_t tool_bench_range_lent(const uint8_t* file, size_t file_len, const uint8_t* keys,
                                size_t keys_len, size_t key_len, size_t count, uint64_t passes,
                                Digest* digest);

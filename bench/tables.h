@@ -301,8 +301,8 @@ class TableBench {
   void Compact(uint64_t passes) {
     Written written{};
     times_.Take("compact " + std::to_string(passes), [&] {
-      Answered(tool_bench_compact(Bytes(files_), files_.size(), lens_.data(), lens_.size(), Target(),
-                                 passes, &written));
+      Answered(tool_bench_compact(Bytes(files_), files_.size(), lens_.data(), lens_.size(),
+                                  Target(), passes, &written));
     });
     RequireCompacted(passes, written);
   }
@@ -480,7 +480,8 @@ class TableBench {
     PassRows("range of 50 entries, lent", "", "range_lent", "range", data * kBeside, keys, again,
              &rows);
     PassRows("merge of 8", an_entry, "merge", "merge", read_ * kBeside, merged, 1, &rows);
-    PassRows("merge of 8, lent", an_entry, "merge_lent", "merge", read_ * kBeside, merged, 1, &rows);
+    PassRows("merge of 8, lent", an_entry, "merge_lent", "merge", read_ * kBeside, merged, 1,
+             &rows);
     PassRows("range of 8 runs", an_entry, "runs", "merge", read_ * kBeside, merged, 1, &rows);
     PassRows("range of 8 runs, lent", an_entry, "runs_lent", "merge", read_ * kBeside, merged, 1,
              &rows);
