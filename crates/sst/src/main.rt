@@ -76,7 +76,11 @@ fn run_words(rt: &HostRuntime) -> u8 {
         Err(error) => {
             // A status is all that is left where not even this can be printed.
             let _ = writeln!(rt.stderr(), "sst: the words of the command line: {error}");
-            2
+            if error.kind() == io::ErrorKind::OutOfMemory {
+                1
+            } else {
+                2
+            }
         }
     }
 }
