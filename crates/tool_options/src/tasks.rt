@@ -11,7 +11,7 @@ pub enum Task<'a> {
     Get(GetTask<'a>),
     /// Prints what tables say of themselves.
     Stat(StatTask<'a>),
-    /// Reads all of tables and reports each fault.
+    /// Reads all of tables and reports what is wrong.
     Verify(VerifyTask<'a>),
     /// Merges tables into new ones.
     Compact(CompactTask<'a>),
