@@ -13,7 +13,7 @@ use Rattle.tool_files.specs.Files.{path_text}
 use Rattle.tool_files.specs.Opened.{AreOpenedFrom, HasContent, IsToldByBytes, StopsOpening}
 use Rattle.tool_files.specs.Opened.{TellsRefused}
 use Rattle.tool_files.specs.declared.file_error.FileError.{FileError}
-use Rattle.tool_lines.specs.Escapes.{WordMeans}
+use Rattle.tool_lines.specs.Escapes.{BeginsSome, WordMeans}
 use Rattle.tool_lines.specs.Faults.{lacks_memory}
 use Rattle.tool_lines.specs.declared.entry_line.LineError.{LineError}
 use Rattle.tool_lines.specs.declared.entry_line.LineError.TheVariants as line
@@ -127,10 +127,11 @@ StatsEach json content (name ∷ names) old new = (t : OpenTable) × IsToldByByt
 -- ---- refusals
 
 -- a key on the command line is refused: it is told which one, and that its word means no bytes; or
--- that memory is wanted
+-- that memory is wanted, but not of a word that begins with no byte's code
 abbrev pub RefusesKey : KeyWord → List ℕ → Failure → Type 0
 RefusesKey which word e = (error : LineError) × (e ≡ failure.Key which error)
     × (lacks_memory error ≡ false → (error ≡ line.Key) × ((bytes : List ℕ) → ¬ WordMeans word bytes))
+    × (¬ BeginsSome word → error ≡ line.Key)
 
 -- so one that may be left out
 abbrev pub RefusesBound : KeyWord → Option (Bor (List ℕ)) → Failure → Type 0
