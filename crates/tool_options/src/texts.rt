@@ -80,15 +80,17 @@ pub(crate) const ABOUT: &str = "Writes, reads, checks and compacts files of sort
 pub(crate) const NOTES: &str = "\
 Without arguments the program reads a script from standard input.
 
-An entry is a line 'KEY NUMBER KIND VALUE', with one space between. Kinds are
-V value, T tombstone, W weak tombstone and I indirection. A byte that is not
-visible ASCII, and a backslash, is written \\xNN; '-' is the empty key or
-value. Keys on the command line are written the same way. With --json an entry
-is an object: {\"key\":\"k\",\"seqno\":7,\"kind\":\"value\",\"value\":\"v\"},
-and bytes that are no UTF-8 are {\"hex\":\"ff00\"}.
+An entry is a line 'KEY NUMBER KIND VALUE', with one space between, such as
+'alice 7 V red'. Of a key the version with the largest number is the newest.
+Kinds are V value, T tombstone, W weak tombstone and I indirection. A byte that
+is not visible ASCII, and a backslash, is written \\xNN, in lower case; '-' is
+the empty key or value, and \\x2d is a '-' alone. Keys on the command line are
+written the same way. With --json an entry is an object, one on each line:
+{\"key\":\"k\",\"seqno\":7,\"kind\":\"value\",\"value\":\"v\"}, and bytes that are no
+UTF-8 are {\"hex\":\"ff00\"}.
 
-The exit status is 0, or 1 where something was refused or found at fault, or 2
-where the command line is at fault.";
+The exit status is 0, or 1 where something was refused, found at fault or not
+found, or 2 where the command line is at fault.";
 
 const FILE: ArgumentText = ArgumentText {
     name: "file",
@@ -314,10 +316,13 @@ pub(crate) static COMMANDS: [CommandText; 9] = [
         arguments: &WRITE,
         notes: "\
 The entries come in order, by key and then from the largest number down. The
-first line out of order is refused, unless --sort is there. The file is
-written beside its name and renamed once it is whole and synced: a write that
-is refused before that leaves what was there. With --target the tables are
-FILE.1, FILE.2 and so on; those that are renamed before a refusal stay.",
+first line out of order is refused, unless --sort is there. A block is cut once
+its keys and values have so many bytes, and a table ends, before the next key,
+once its data blocks have. The file is written beside its name and renamed once
+it is whole and synced: a write that is refused before that leaves what was
+there. With --target the tables are FILE.1, FILE.2 and so on; those that are
+renamed before a refusal stay, and what an earlier write left behind the last
+of them has to be removed first.",
     },
     CommandText {
         name: "dump",
@@ -334,8 +339,9 @@ its end.",
         usage: "sst get [OPTIONS] <FILE>... <KEY>",
         arguments: &GET,
         notes: "\
-Each file is a run of its own. Prints none, with --json null, and exits with 1,
-where the key has no version below N.",
+Each file is a run of its own. Options stand before the files or behind the
+key. Prints the version, be it a tombstone; or none, with --json null, and
+exits with 1, where the key has no version below N.",
     },
     CommandText {
         name: "stat",
@@ -355,7 +361,9 @@ many on each but for the last; an object of JSON has each by itself.",
 Reads every block, the index and the filter, and compares with the entries
 what the table says of its keys, numbers, data blocks, entries and tombstones.
 Prints that a file is sound, or its first fault and behind it each further
-block that does not load. Exits with 1 if there is a fault.",
+block that does not load. Exits with 1 if there is a fault. What no read needs
+is not compared: the byte of the version, and where the trailer says that it
+and the data blocks lie.",
     },
     CommandText {
         name: "compact",
@@ -363,8 +371,11 @@ block that does not load. Exits with 1 if there is a fault.",
         usage: "sst compact [OPTIONS] --to <FOLDER> <FILE>...",
         arguments: &COMPACT,
         notes: "\
-The new tables are 1.sst, 2.sst and so on in FOLDER. Of each key the versions
-stay that a reader at the watermark or later may see.",
+The new tables are 1.sst, 2.sst and so on in FOLDER, written as write does
+without options. Of each key the versions stay that a reader at the watermark
+or later may see: without a watermark, all. A weak tombstone below it goes with
+the value that it hides; with --evict a tombstone that is the newest below it
+goes too.",
     },
     CommandText {
         name: "pack",
@@ -380,7 +391,7 @@ fewer will not do.",
         about: "Prints the script that completes commands in a shell",
         usage: "sst completion <SHELL>",
         arguments: &[SHELL],
-        notes: "In bash: source <(sst completion bash)",
+        notes: "For bash alone: source <(sst completion bash)",
     },
     CommandText {
         name: "man",
