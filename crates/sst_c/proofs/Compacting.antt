@@ -30,20 +30,6 @@ pub both_some : {X : Type 0} (o : Option X) (P Q : X → Type 0) → IsSomeAnd o
 both_some (Some x) P Q p q = (p, q)
 both_some None P Q p q = p
 
--- want of memory comes of any compaction
-pub wants_memory : (runs : List (List OpenTable)) (rules : Rules) (w : TablesWriting)
-    → IsCompactionOf runs rules w (Err OutOfMemory)
-wants_memory runs rules w = record {
-  tables = λ able lists hold. tt;
-  refused = λ able lists hold other. absurd (let no : ⊥ = cc in no);
-  taken = λ able lists hold fits. refl;
-  merged = λ lists hold some. tt;
-  faulted = λ lists hold some other. absurd (let no : ⊥ = cc in no);
-  any = λ ascend. inl (λ other. absurd (let no : ⊥ = cc in no));
-  made = tt;
-  through = tt;
-}
-
 abbrev finished_in : CompactionOutcome Global → List (FinishedTable Global)
 finished_in (Tables tables left) = tables.items
 finished_in OutOfOrder = []

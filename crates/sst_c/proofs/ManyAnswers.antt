@@ -3,7 +3,7 @@ use Rattle.std.proofs.Common.{◌≡◌, ℕ, suc, ◌+◌, ◌-◌, ◌<◌, �
 use Rattle.std.specs.Prelude.{map, take, drop, slice_set, slice_index_or, Option, Some, None, Result, Ok, Err}
 use Rattle.std.proofs.lemmas.List.{drop_more, map_more, set-append_right, length-map, length-take-le}
 use Rattle.sst_entries.specs.Entry.{Entry}
-use Rattle.sst_entries.specs.Error.{Fails, number_of}
+use Rattle.sst_entries.specs.Error.{Fails, Gives, number_of}
 use Rattle.sst_entries.specs.declared.error.Error.{Error}
 use Rattle.lsm_readers.specs.Many.{answers_to}
 use Rattle.lsm_readers.specs.Read.{◌>>=◌}
@@ -97,4 +97,11 @@ pub kept_many : (o : Option Held) (found : List (Option Entry))
 kept_many (Some h) found is = is
 kept_many None found is = absurd is
 
-pub ruleset answers_many = (many_err, many_ok)
+-- what a call gives is what is told
+pub gives_ok : {X Y : Type 0} (view : X → Y) (r : Result X Error) (x : X) (told : Result Y Error) → r ≡ Ok x → Gives view r told
+    → told ≡ Ok (view x)
+gives_ok {X} view r x told is gives = subst (λ (s : Result X Error). Gives view s told) is gives
+
+pub gives_err : {X Y : Type 0} (view : X → Y) (r : Result X Error) (e : Error) (told : Result Y Error) → r ≡ Err e
+    → Gives view r told → Fails e told
+gives_err {X} view r e told is gives = subst (λ (s : Result X Error). Gives view s told) is gives

@@ -1,8 +1,14 @@
 -- What a verification answers of what is found. Assumes `Logic`.
-use Rattle.std.proofs.Common.{◌≡◌, Option, Some, None, Result, Ok, Err, refl, sym, ap, ◌∙◌, inl, inr, subst}
+use Rattle.std.proofs.Common.{◌≡◌, ℕ, List, length, Option, Some, None, Result, Ok, Err, refl, sym, ap, ◌∙◌, inl, inr, subst}
 use Rattle.lsm_readers.specs.declared.verify.Finding.{Finding}
 use Rattle.lsm_readers.specs.declared.verify.Verified.{Verified}
-use Rattle.sst_c.specs.Verify.{VerifyAnswers, finding_told, no_finding, verified_told}
+use Rattle.std.specs.Prelude.{IfErr, IfOk}
+use Rattle.std.specs.Result.{IsErrAnd}
+use Rattle.lsm_readers.specs.Verify.{Finds, FindsFirst}
+use Rattle.lsm_readers.specs.Words.{Entry, StoresList}
+use Rattle.lsm_readers.specs.declared.verify.VerifyError.{VerifyError}
+use Rattle.sst_c.specs.Verify.{TellsCounts, TellsFinding, TellsWrong, VerifyAnswers}
+use Rattle.sst_c.specs.Verify.{finding_told, no_finding, verified_told, verify_code, verify_told}
 use Rattle.lsm_readers.specs.Table.{OpenTable}
 use Rattle.lsm_readers.specs.declared.verify.VerifyError.TheVariants.{Found, OutOfMemory}
 use Rattle.sst_c.specs.declared.held.Held.{Held}
@@ -46,5 +52,48 @@ held_or h None = h
 
 pub same_held : (o : Option Held) (k h : Held) → o ≡ Some k → o ≡ Some h → k ≡ h
 same_held o k h is same = ap (held_or h) (sym is) ∙ ap (held_or h) same
+
+-- what holds of a code and of what is told holds of what equals them
+pub at_both : (P : ℕ → VerifyTold → Type 0) (code other : ℕ) (v w : VerifyTold) → code ≡ other → v ≡ w → P other w → P code v
+at_both P code other v w one two holds = subst (λ (n : ℕ). P n v) (sym one) (subst (λ (x : VerifyTold). P other x) (sym two) holds)
+
+-- what a verification came to is told, memory aside
+pub came_answers : (r : Result Verified VerifyError) (told : Result Verified Finding) → Finds (λ (v : Verified). v) r told
+    → VerifyAnswers (verify_code r) (verify_told r) told
+came_answers (Ok v) told same = answers_ok v told same
+came_answers (Err OutOfMemory) told misses = answers_memory told no_finding refl
+came_answers (Err (Found f)) told misses = answers_err f told (misses f refl)
+
+-- and what takes no memory to be found, whatever memory there is;
+pub came_early : (r : Result Verified VerifyError) (early : Option Finding) → FindsFirst r early
+    → TellsFinding (verify_code r) (verify_told r) early
+came_early r early first f is = found_told r f (first f is)
+  where
+    found_told : (r : Result Verified VerifyError) (f : Finding) → IsErrAnd r (λ e. e ≡ Found f)
+        → (verify_code r ≡ 107) × (verify_told r ≡ finding_told f)
+    found_told (Ok v) f same = elim same [ ]
+    found_told (Err e) f same = (ap (λ (x : VerifyError). verify_code (Err x)) same, ap (λ (x : VerifyError). verify_told (Err x)) same)
+
+-- what is told is the first that is wrong;
+pub came_wrong : (r : Result Verified VerifyError) (IsFirst : Finding → Type 0)
+    → IfErr r (λ e. (f : Finding) → e ≡ Found f → IsFirst f) → TellsWrong IsFirst (verify_code r) (verify_told r)
+came_wrong (Ok v) IsFirst firsts code = absurd (let no : ⊥ = cc in no)
+came_wrong (Err OutOfMemory) IsFirst firsts code = absurd (let no : ⊥ = cc in no)
+came_wrong (Err (Found f)) IsFirst firsts code = (f, refl, firsts f refl)
+
+-- a table that is verified has what is told;
+pub came_counts : (r : Result Verified VerifyError) (bytes : List ℕ)
+    → IfOk r (λ v. (es : List Entry) × (t : StoresList bytes es) × (v.item_count ≡ length es)
+    × (v.data_block_count ≡ length t.handles))
+    → verify_code r ≡ 0 → TellsCounts bytes (verify_told r)
+came_counts (Ok v) bytes stores code = stores
+came_counts (Err OutOfMemory) bytes stores code = absurd (let no : ⊥ = cc in no)
+came_counts (Err (Found f)) bytes stores code = absurd (let no : ⊥ = cc in no)
+
+-- and in one that stores a list nothing wrong is found
+pub came_fine : (r : Result Verified VerifyError) → IfErr r (λ e. e ≡ OutOfMemory) → verify_code r ≡ 107 → ⊥
+came_fine (Ok v) fine code = cc
+came_fine (Err OutOfMemory) fine code = cc
+came_fine (Err (Found f)) fine code = found_is_no_memory f fine
 
 pub ruleset found_answers = (answers_ok, answers_err, answers_memory)

@@ -10,6 +10,8 @@ use Rattle.lsm_readers.specs.declared.verify.Fault.TheVariants.{Unfiltered, Othe
 use Rattle.lsm_readers.specs.declared.verify.Fault.TheVariants.{Unborne, Unnamed, OtherChecksum}
 use Rattle.lsm_readers.specs.declared.verify.Finding.{Finding}
 use Rattle.lsm_readers.specs.declared.verify.Verified.{Verified}
+use Rattle.lsm_readers.specs.declared.verify.VerifyError.{VerifyError}
+use Rattle.lsm_readers.specs.declared.verify.VerifyError.TheVariants.{Found, OutOfMemory}
 use Rattle.sst_c.specs.declared.verify.VerifyTold.{VerifyTold}
 
 abbrev pub no_finding : VerifyTold
@@ -65,6 +67,18 @@ verified_told v = record {
   unused = 0;
 }
 
+-- the code of what a verification came to
+abbrev pub verify_code : Result Verified VerifyError → ℕ
+verify_code (Ok v) = 0
+verify_code (Err OutOfMemory) = 1
+verify_code (Err (Found f)) = 107
+
+-- what there is, or what is found; of want of memory nothing
+abbrev pub verify_told : Result Verified VerifyError → VerifyTold
+verify_told (Ok v) = verified_told v
+verify_told (Err OutOfMemory) = no_finding
+verify_told (Err (Found f)) = finding_told f
+
 -- want of memory aside, whose number is 1, what is found is told with 107, else what there is; of
 -- want of memory nothing
 unfoldable pub VerifyAnswers : ℕ → VerifyTold → Result Verified Finding → Type 0
@@ -83,8 +97,8 @@ abbrev pub TellsWrong : (Finding → Type 0) → ℕ → VerifyTold → Type 0
 TellsWrong is_first code told =
     code ≡ 107 → (f : Finding) × (told ≡ finding_told f) × is_first f
 
--- the bytes of a table that is verified store a list, and how many entries and data blocks it has is
--- told
+-- the bytes of a table that is verified store a list, and how many entries and data blocks it has
+-- is told
 abbrev pub TellsCounts : List ℕ → VerifyTold → Type 0
 TellsCounts bytes told = (es : List Entry) × (t : StoresList bytes es)
     × (told.item_count ≡ length es) × (told.data_block_count ≡ length t.handles)

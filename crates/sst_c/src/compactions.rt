@@ -98,28 +98,28 @@ fn tell_tables(
 #[tactic(auto, using(crate::proofs::Compacting::told_outcomes))]
 fn tell_outcome(
     alloc: Global,
-    outcome: CompactionOutcome,
+    came: Result<CompactionOutcome, Error>,
     files: &mut Handle,
     next_id: &mut u64,
 ) -> u32
     requires empty { files.old.boxed.value ≡ None }
-    requires through { GoesThrough outcome }
-    ensures told { TellsOutcome result files.new.boxed.value next_id.new (Ok outcome) }
+    requires through { IfOk came GoesThrough }
+    ensures told { TellsOutcome result files.new.boxed.value next_id.new came }
     ensures left { result ≢ 0 →
         (next_id.new ≡ next_id.old) × (files.new.boxed.value ≡ None) }
 {
-    match outcome {
-        CompactionOutcome::Tables(tables, left) => {
+    match came {
+        Ok(CompactionOutcome::Tables(tables, left)) => {
             tell_tables(alloc, tables, left, files, next_id)
         }
-        CompactionOutcome::OutOfOrder => OUT_OF_ORDER,
+        Ok(CompactionOutcome::OutOfOrder) => OUT_OF_ORDER,
         // No observer stops it.
-        CompactionOutcome::Stopped => OUT_OF_ORDER,
+        Ok(CompactionOutcome::Stopped) => OUT_OF_ORDER,
+        Err(error) => u32::from(error.number()),
     }
 }
 
 // Compacts a list of runs into a handle that holds nothing.
-#[tactic(auto, using(crate::proofs::Compacting::told_outcomes))]
 fn compact_into(
     alloc: Global,
     runs: &RunList,
@@ -136,10 +136,8 @@ fn compact_into(
     ensures left { result ≢ 0 →
         (next_id.new ≡ next_id.old) × (files.new.boxed.value ≡ None) }
 {
-    match compacted(alloc, runs, options, rules, target_size) {
-        Ok(outcome) => tell_outcome(alloc, outcome, files, next_id),
-        Err(error) => u32::from(error.number()),
-    }
+    let came = compacted(alloc, runs, options, rules, target_size);
+    tell_outcome(alloc, came, files, next_id)
 }
 
 fn compact_held(

@@ -19,7 +19,7 @@ pub(crate) fn copy_out(bytes: &[u8], room: &mut [u8])
     room[..bytes.len()].copy_from_slice(bytes);
 }
 
-// Copies the key and the value of an entry, or nothing where one of them has no room.
+/// Copies the key and the value of an entry, or nothing where one of them has no room.
 pub(crate) fn copy_item(item: &InternalValue, key: &mut [u8], value: &mut [u8]) -> u32
     ensures code { result ≡ copy_code (Some item.now) key.old value.old }
     ensures key { result ≡ 0 → key.new ≡ laid_over item.now.user_key key.old }

@@ -22,16 +22,6 @@ pub struct Handle {
 fn crosses<T: Send>(_held: &T) {}
 
 impl Handle {
-    /// A handle that holds nothing, as one of zeros.
-    pub(crate) fn closed(alloc: Global) -> Handle
-        ensures { result.boxed.value ≡ None }
-    {
-        Handle {
-            is_open: 0,
-            boxed: no_box(alloc),
-        }
-    }
-
     /// Puts a box into a handle that holds nothing.
     pub(crate) fn put(&mut self, held: Box<Held>)
         requires { self.old.boxed.value ≡ None }

@@ -12,9 +12,9 @@ use sst_blocks::Slice;
 use std::alloc::Global;
 
 /// Opens a table over bytes that stay where and as they are, of which none is copied, into a handle
-/// that holds nothing. What is opened from it (ranges, shares, runs, answers, verifications) reads
-/// these bytes too. Refused 101 where the handle holds something, and as `Table::recover`; the
-/// handle stays as it is then.
+/// that holds nothing. What is opened from it (ranges, scans, shares, runs, answers, verifications)
+/// reads these bytes too. Refused 101 where the handle holds something, and as `Table::recover`;
+/// the handle stays as it is then.
 #[unsafe(no_mangle)]
 pub extern "C" fn sst_table_open_kept(
     alloc: Global,

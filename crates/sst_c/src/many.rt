@@ -1,8 +1,11 @@
 //! Many reads of a table at once, and what they found.
 ghost use Rattle.std.specs.Prelude.{◌≡◌, ◌≢◌, ◌<◌, ◌≤◌, ◌==◌, ◌⊎◌, false, true, IfErr, IfOk, List};
-ghost use Rattle.std.specs.Prelude.{IsSomeAnd, None, Ok, Some, is_some, length, map};
+ghost use Rattle.std.specs.Prelude.{IsSomeAnd, None, Ok, Option, Result, Some, is_some, length};
+ghost use Rattle.std.specs.Prelude.{map};
 ghost use Rattle.std.specs.List.{sum};
-ghost use Rattle.sst_entries.specs.Error.{Gives};
+ghost use Rattle.sst_entries.specs.Entry.{Entry as EntryValue};
+ghost use Rattle.sst_entries.specs.Error.{Gives, number_of};
+ghost use Rattle.sst_entries.specs.declared.error.Error.{Error as ErrorValue};
 ghost use Rattle.sst_entries.specs.declared.error.Error.TheVariants.{OutOfMemory};
 ghost use Rattle.lsm_readers.specs.Many.{many_told};
 ghost use Rattle.lsm_readers.specs.Words.{Entry, OpenTable, StoresList, lift, point};
@@ -125,8 +128,30 @@ fn keep_each(
     }
 }
 
+// Keeps and tells what reads came to.
+fn keep_found(
+    alloc: Global,
+    found: Result<Vec<Option<InternalValue>>, Error>,
+    entries: &mut [EntryTold],
+    answers: &mut Handle,
+) -> u32
+    requires empty { answers.old.boxed.value ≡ None }
+    requires room { IfOk found (λ each. length each.items ≤ length entries.old) }
+    ensures refused { IfErr found (λ e. result ≡ number_of e) }
+    ensures told { (told : Result (List (Option EntryValue)) ErrorValue) →
+        Gives (λ each. each.items) found told → let kept = many_kept answers.new.boxed.value in
+        AnswersMany result kept entries.old entries.new told }
+    ensures new { result ≡ 0 → IsSomeAnd answers.new.boxed.value (λ k. k.found ≡ None) }
+    ensures left { result ≢ 0 →
+        (entries.new ≡ entries.old) × (answers.new.boxed.value ≡ None) }
+{
+    match found {
+        Ok(each) => keep_each(alloc, each, entries, answers),
+        Err(error) => u32::from(error.number()),
+    }
+}
+
 // Reads for these keys.
-#[tactic(auto, using(crate::proofs::ManyAnswers::answers_many))]
 fn read_each(
     alloc: Global,
     table: &Table,
@@ -151,10 +176,8 @@ fn read_each(
     ensures left { result ≢ 0 →
         (entries.new ≡ entries.old) × (answers.new.boxed.value ≡ None) }
 {
-    match found_of(alloc, table, keys, lens, seqno) {
-        Ok(found) => keep_each(alloc, found, entries, answers),
-        Err(error) => u32::from(error.number()),
-    }
+    let found = found_of(alloc, table, keys, lens, seqno);
+    keep_found(alloc, found, entries, answers)
 }
 
 fn get_each(

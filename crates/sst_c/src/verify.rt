@@ -7,7 +7,7 @@ ghost use Rattle.lsm_readers.specs.Words.{Entry, OpenTable, StoresList};
 ghost use Rattle.lsm_readers.specs.declared.verify.Finding.{Finding as FindingValue};
 ghost use Rattle.sst_c.specs.Verify.{TellsCounts, TellsFinding, TellsWrong, VerifyAnswers};
 ghost use Rattle.sst_c.specs.Verify.{detail_of, fault_number, finding_told, no_finding};
-ghost use Rattle.sst_c.specs.Verify.{verified_told};
+ghost use Rattle.sst_c.specs.Verify.{verified_told, verify_code, verify_told};
 ghost use Rattle.sst_c.specs.What.{is_table};
 ghost use Rattle.sst_c.specs.declared.held.Held.{Held as HeldValue};
 ghost use Rattle.sst_c.specs.declared.held.What.TheVariants.{Table as TableOf};
@@ -129,14 +129,23 @@ fn verify(table: &Table, told: &mut VerifyTold) -> u32
     ensures sound { result ≡ 0 → TellsCounts table.now.bytes told.new }
     ensures complete { (es : List Entry) → StoresList table.now.bytes es → result ≢ 107 }
 {
-    match table.verify() {
+    tell(&table.verify(), told)
+}
+
+// Tells what a verification came to.
+fn tell(came: &Result<Verified, VerifyError>, told: &mut VerifyTold) -> u32
+    requires { told.old ≡ no_finding }
+    ensures code { result ≡ verify_code came.now }
+    ensures told { told.new ≡ verify_told came.now }
+{
+    match came {
         Ok(verified) => {
-            *told = tell_verified(verified);
+            *told = tell_verified(*verified);
             0
         }
         Err(VerifyError::OutOfMemory) => NO_MEMORY,
         Err(VerifyError::Found(finding)) => {
-            *told = tell_finding(&finding);
+            *told = tell_finding(finding);
             FAULTY
         }
     }

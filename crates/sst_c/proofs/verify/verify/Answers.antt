@@ -1,21 +1,31 @@
-use Rattle.std.proofs.Common.{subst, sym, ◌∙◌}
-use Rattle.sst_c.proofs.Verifying.{found_is_no_memory}
-use Rattle.sst_c.specs.Verify.{TellsCounts}
+use Rattle.std.proofs.Common.{ℕ, ◌∙◌, subst, sym}
+use Rattle.sst_sections.specs.Sections.{body_of}
+use Rattle.lsm_readers.specs.Findings.{IsFirstFinding}
+use Rattle.lsm_readers.specs.Verify.{table_early, table_found}
+use Rattle.sst_c.specs.Verify.{TellsCounts, TellsFinding, TellsWrong, VerifyAnswers, verify_code, verify_told}
 use Rattle.sst_c.specs.declared.verify.VerifyTold.{VerifyTold}
+use Rattle.sst_c.proofs.Verifying.{at_both, came_answers, came_counts, came_early, came_fine, came_wrong}
 use Rattle.sst_c.proofs.verify.verify.Goals as goal
 
-pub returns-in-Err-Found-clause-complete : goal.returns-in-Err-Found-clause-complete
-returns-in-Err-Found-clause-complete c es stores same =
-    let found = c.in-Err-Found in
-    found_is_no_memory found.finding (sym found.field-0-is ∙ found.ensures.complete es stores)
-
--- what is found is the first that is wrong
-pub returns-in-Err-Found-clause-first : goal.returns-in-Err-Found-clause-first
-returns-in-Err-Found-clause-first c code =
-    let found = c.in-Err-Found in
-    (found.finding, c.tell_finding.ensures, found.ensures.first found.finding found.field-0-is)
-
-pub returns-in-Ok-clause-sound : goal.returns-in-Ok-clause-sound
-returns-in-Ok-clause-sound c zero =
-    let P : VerifyTold → Type 0 = λ v. TellsCounts c.args.table.now.bytes v in
-    subst P (sym c.tell_verified.ensures) c.in-Ok.ensures.sound
+pub returns : goal.returns
+returns c =
+    let r = c.verify.result in
+    let code = c.tell.result in
+    let told = c.tell.new.told in
+    let one = c.tell.ensures.code in
+    let two = c.tell.ensures.told in
+    let t = c.args.table.now in
+    let found = table_found (body_of t.bytes) t.parts in
+    let early = table_early (body_of t.bytes) t.parts in
+    let First = IsFirstFinding (body_of t.bytes) t.parts in
+    record {
+      told = at_both (λ n v. VerifyAnswers n v found) code (verify_code r) told (verify_told r) one two
+          (came_answers r found c.verify.ensures.told);
+      early = at_both (λ n v. TellsFinding n v early) code (verify_code r) told (verify_told r) one two
+          (came_early r early c.verify.ensures.early);
+      first = at_both (λ n v. TellsWrong First n v) code (verify_code r) told (verify_told r) one two
+          (came_wrong r First c.verify.ensures.first);
+      sound = λ zero. subst (λ (v : VerifyTold). TellsCounts t.bytes v) (sym two)
+          (came_counts r t.bytes c.verify.ensures.sound (sym one ∙ zero));
+      complete = λ es stores wrong. came_fine r (c.verify.ensures.complete es stores) (sym one ∙ wrong);
+    }
