@@ -1,8 +1,10 @@
 -- What a range of a store shows is what its story says.
 use Rattle.std.proofs.Common.{◌≡◌, refl, sym, ◌∙◌, ap, subst, ℕ, ◌<◌, ◌≤◌, inl, inr, Bool, true}
 use Rattle.std.proofs.Common.{false, cond, List, [], ◌∷◌, ◌++◌, append-nil, filter, arith}
-use Rattle.std.specs.Prelude.{Option, Some, None, nat_lt, ◌&&◌, map, IfOk, Result, Ok, Err}
+use Rattle.std.specs.Prelude.{Option, Some, None, nat_lt, ◌&&◌, map, All, IfOk, Result, Ok, Err}
 use Rattle.std.specs.List.{AllByRecursion}
+use Rattle.std.specs.Result.{IsOkAnd}
+use Rattle.std.proofs.lemmas.List.Elements.{All-from_recursion}
 use Rattle.std.specs.declared.ops.Bound.{Bound}
 use Rattle.std.proofs.lemmas.Bool.{cases_Bool, lt-ltb, ltb-true}
 use Rattle.logpurple.specs.Words.{DealWithin, DealsList, Entry, Error, IsStrict, all_shown}
@@ -147,9 +149,18 @@ dealt_as front back r f xs ys same = subst (λ (es : List Entry).
 
 -- one source, of a list in order
 pub one_source : {S : Type 0} (front back : S → Option (Result Entry Error) → S → Type 0)
-    (low high : Bound (List ℕ)) (sources : List S) (s : S) (es : List Entry) → sources ≡ s ∷ []
-    → IsStrict es → DealsList front back (within low high es) s
+    (low high : Bound (List ℕ)) (source : Result S Error) (sources : List S) (es : List Entry)
+    → IsOkAnd source (λ s. sources ≡ s ∷ []) → IsStrict es
+    → IfOk source (DealsList front back (within low high es))
     → DealWithin front back low high sources (es ∷ [])
-one_source {S} front back low high sources s es is strict deals =
+one_source {S} front back low high (Ok s) sources es is strict deals =
     subst (λ (ss : List S). DealWithin front back low high ss (es ∷ [])) (sym is)
     (record { ascend = (ascends_of es (as_pairs es strict), tt); deal = (deals, tt) })
+one_source front back low high (Err e) sources es is strict deals = absurd is
+
+-- so of a source, and of the one in a list
+pub one_of : {S : Type 0} (P : S → Type 0) (source : Result S Error) (sources : List S)
+    → IsOkAnd source (λ s. sources ≡ s ∷ []) → IfOk source P → All P sources
+one_of {S} P (Ok s) sources is holds =
+    subst (All P) (sym is) (All-from_recursion P (s ∷ []) (holds, tt))
+one_of P (Err e) sources is holds = absurd is

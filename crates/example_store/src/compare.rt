@@ -1,9 +1,10 @@
 //! A store at a snapshot, compared with a plain map.
 ghost use Rattle.std.specs.Iterator.{IsFinite};
+ghost use Rattle.std.specs.Prelude.{IfOk};
 
 use crate::store::Store;
-use logpurple::{Direction, Error, InternalValue, IterItem, NewestOf, SeqNo, Slice};
-use std::alloc::Global;
+use logpurple::{Below, Direction, Error, InternalValue, IterItem, NewestOf, SeqNo, Slice};
+use std::alloc::{Allocator, Global};
 use std::collections::BTreeMap;
 use std::ops::Bound;
 
@@ -47,11 +48,13 @@ pub struct Compared {
 
 // Whether a value is this number.
 fn is_value(found: &Option<Slice>, want: Option<&u32>) -> bool {
-    match (found, want) {
-        (Some(found), Some(want)) => found.as_slice() == want.to_be_bytes().as_slice(),
-        (None, None) => true,
-        _ => false,
-    }
+    let Some(want) = want else {
+        return found.is_none();
+    };
+    let Some(found) = found else {
+        return false;
+    };
+    found.as_slice() == want.to_be_bytes().as_slice()
 }
 
 // Whether a key has what it should.
@@ -81,7 +84,7 @@ fn rows_of(alloc: Global, plain: &Plain) -> Result<Rows, Error> {
 }
 
 // Whether an entry has this key and this value.
-fn is_row(item: &InternalValue<Global>, want: Option<&(u32, u32)>) -> bool {
+fn is_row<A: Allocator>(item: &InternalValue<A>, want: Option<&(u32, u32)>) -> bool {
     match want {
         Some((key, value)) => {
             item.key.user_key.as_slice() == key.to_be_bytes().as_slice()
@@ -92,7 +95,7 @@ fn is_row(item: &InternalValue<Global>, want: Option<&(u32, u32)>) -> bool {
 }
 
 // Compares the next entry, where it has a value.
-fn compare_item(item: &InternalValue<Global>, rows: &[(u32, u32)], count: &mut Count) {
+fn compare_item<A: Allocator>(item: &InternalValue<A>, rows: &[(u32, u32)], count: &mut Count) {
     if !item.is_tombstone() {
         let want = rows.get(count.all);
         count.add(is_row(item, want));
@@ -100,7 +103,7 @@ fn compare_item(item: &InternalValue<Global>, rows: &[(u32, u32)], count: &mut C
 }
 
 // Compares all entries in turn, which should have the values of these rows.
-fn compare_each<I: Iterator<Item = IterItem<Global>> + Drop>(
+fn compare_each<I: Iterator<Item = IterItem<A>> + Drop, A: Allocator>(
     items: I,
     rows: &[(u32, u32)],
 ) -> Result<Count, Error>
@@ -118,7 +121,7 @@ fn compare_each<I: Iterator<Item = IterItem<Global>> + Drop>(
 
 // Compares all entries from one end on. Generic in what has them, so that its parts are looked at
 // once for both ends.
-fn compare_from<I: DoubleEndedIterator<Item = IterItem<Global>> + Drop>(
+fn compare_from<I: DoubleEndedIterator<Item = IterItem<A>> + Drop, A: Allocator>(
     end: Direction,
     items: I,
     rows: &[(u32, u32)],
@@ -135,26 +138,46 @@ fn compare_from<I: DoubleEndedIterator<Item = IterItem<Global>> + Drop>(
 
 // Compares newest versions from one end on. Generic in what these are over: a whole concrete stream
 // costs a proof much where it is handed to a function that is generic in streams.
-fn compare_newest<S: DoubleEndedIterator<Item = IterItem<Global>> + Drop>(
+fn compare_newest<S: DoubleEndedIterator<Item = IterItem<A>> + Drop, A: Allocator>(
     end: Direction,
-    items: NewestOf<S, Global>,
+    items: Result<NewestOf<S, A>, Error>,
     rows: &[(u32, u32)],
 ) -> Result<Count, Error>
-    requires can { ⟦<NewestOf<S, Global> as Iterator>⟧.can_next items }
-    requires can_back { ⟦<NewestOf<S, Global> as DoubleEndedIterator>⟧.can_next_back items }
-    requires finite { IsFinite (⟦<NewestOf<S, Global> as Iterator>⟧.remaining items) }
+    requires can { IfOk items (λ s. ⟦<NewestOf<S, A> as Iterator>⟧.can_next s) }
+    requires can_back { IfOk items (λ s.
+        ⟦<NewestOf<S, A> as DoubleEndedIterator>⟧.can_next_back s) }
+    requires finite { IfOk items (λ s.
+        IsFinite (⟦<NewestOf<S, A> as Iterator>⟧.remaining s)) }
 {
-    compare_from(end, items, rows)
+    compare_from(end, items?, rows)
 }
 
-fn compare_range(
+// Compares newest versions of what is numbered below a bound, generic in what that comes from: each
+// layer with which a concrete stream is handed on costs a proof about half as much again.
+fn compare_below<S: DoubleEndedIterator<Item = IterItem<A>> + Drop, A: Allocator>(
     end: Direction,
-    store: &Store,
+    items: Result<NewestOf<Below<S>, A>, Error>,
+    rows: &[(u32, u32)],
+) -> Result<Count, Error>
+    requires can { IfOk items (λ s. ⟦<NewestOf<Below<S>, A> as Iterator>⟧.can_next s) }
+    requires can_back { IfOk items (λ s.
+        ⟦<NewestOf<Below<S>, A> as DoubleEndedIterator>⟧.can_next_back s) }
+    requires finite { IfOk items (λ s.
+        IsFinite (⟦<NewestOf<Below<S>, A> as Iterator>⟧.remaining s)) }
+{
+    compare_newest(end, items, rows)
+}
+
+// Compares all that a store has at a snapshot, from one end on. Generic in the allocator: with a
+// concrete one a proof looks at more of each part.
+fn compare_range<A: Allocator + Clone>(
+    end: Direction,
+    store: &Store<A>,
     rows: &[(u32, u32)],
     snapshot: SeqNo,
 ) -> Result<Count, Error> {
     let all = (Bound::Unbounded, Bound::Unbounded);
-    compare_newest(end, store.range(all, snapshot)?, rows)
+    compare_below(end, store.range(all, snapshot), rows)
 }
 
 /// Compares what each key has at a snapshot, and what there is from either end.

@@ -85,7 +85,7 @@ impl<A: Allocator + Clone> Memtable<A> {
     }
 
     /// The entries, shared: no bytes are copied. Refused for want of memory alone.
-    pub fn share(&self, alloc: A) -> Result<Vec<InternalValue<A>, A>, Error>
+    pub fn share(&self, alloc: &A) -> Result<Vec<InternalValue<A>, A>, Error>
         ensures items { IfOk result (λ shared. shared.items ≡ self.now) }
         ensures strict { IsStrict self.now }
         ensures memory { IfErr result (λ e. e ≡ OutOfMemory) }
@@ -97,7 +97,7 @@ impl<A: Allocator + Clone> Memtable<A> {
     /// alone.
     pub fn within(
         &self,
-        alloc: A,
+        alloc: &A,
         bounds: &(Bound<UserKey<A>>, Bound<UserKey<A>>),
     ) -> Result<IntoIter<IterItem<A>, A>, Error>
         ensures list { let gives = ⟦<IntoIter<IterItem<A>, A> as Iterator>⟧.next_gives in
@@ -144,14 +144,14 @@ fn count_up_to<A: Allocator>(items: &[InternalValue<A>], key: &[u8], seqno: SeqN
 }
 
 // Shares of some entries.
-fn share_items<A: Allocator>(
-    alloc: A,
+fn share_items<A: Allocator + Clone>(
+    alloc: &A,
     items: &[InternalValue<A>],
 ) -> Result<Vec<InternalValue<A>, A>, Error>
     ensures items { IfOk result (λ shared. shared.items ≡ items.now) }
     ensures memory { IfErr result (λ e. e ≡ OutOfMemory) }
 {
-    let mut shared = Vec::new(alloc);
+    let mut shared = Vec::new(alloc.clone()?);
     for item in items {
         shared.push(item.clone()?)?;
     }
@@ -159,8 +159,8 @@ fn share_items<A: Allocator>(
 }
 
 // Shares of the entries whose keys lie within two bounds.
-fn items_within<A: Allocator>(
-    alloc: A,
+fn items_within<A: Allocator + Clone>(
+    alloc: &A,
     items: &[InternalValue<A>],
     bounds: &(Bound<UserKey<A>>, Bound<UserKey<A>>),
 ) -> Result<Vec<IterItem<A>, A>, Error>
@@ -168,7 +168,7 @@ fn items_within<A: Allocator>(
         found.items ≡ ok_results (within bounds.now.0 bounds.now.1 items.now)) }
     ensures memory { IfErr result (λ e. e ≡ OutOfMemory) }
 {
-    let mut found = Vec::new(alloc);
+    let mut found = Vec::new(alloc.clone()?);
     for item in items {
         if !is_within(bounds, item.key.user_key.as_slice()) {
             continue;

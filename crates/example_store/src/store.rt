@@ -254,7 +254,7 @@ impl<A: Allocator + Clone> Store<A> {
         ensures refused { IfErr result (λ e. is_memory e ≡ false →
             tables_fault self.old.ids self.old.target 0 self.old.recent ≡ Some e) }
     {
-        let items = self.memtable.share(self.alloc.clone()?)?;
+        let items = self.memtable.share(&self.alloc)?;
         let (run, ids) = run_of(&self.alloc, self.ids, self.target, items)?;
         match run {
             Some(run) => self.put_in_front(run, ids),
@@ -404,8 +404,11 @@ fn find_in<A: Allocator + Clone>(
 fn value_of<A: Allocator>(found: Option<InternalValue<A>>) -> Option<Slice<A>>
     ensures { result ≡ option_map (λ v. v.1) (shown found) }
 {
-    match found {
-        Some(item) if !item.is_tombstone() => Some(item.value),
-        _ => None,
+    let Some(item) = found else {
+        return None;
+    };
+    if item.is_tombstone() {
+        return None;
     }
+    Some(item.value)
 }

@@ -1,17 +1,18 @@
 //! Ranges of a store at a snapshot.
-ghost use Rattle.std.specs.Prelude.{◌≡◌, [], ◌∷◌, ◌≤◌, All, IfErr, IfOk, List};
+ghost use Rattle.std.specs.Prelude.{◌≡◌, [], ◌∷◌, ◌≤◌, IfErr, IfOk, List, map};
+ghost use Rattle.std.specs.Arc.{arc_value};
 ghost use Rattle.std.specs.Iterator.{IsFinite};
+ghost use Rattle.std.specs.Result.{IsOkAnd};
 ghost use Rattle.example_store.specs.Story.{IsTold};
-ghost use Rattle.logpurple.specs.Words.{CanDeal, DealWithin, DealsList, Entry, IsStrict};
-ghost use Rattle.logpurple.specs.Words.{OutOfMemory, RunsHoldLists, all_shown};
-ghost use Rattle.logpurple.specs.Words.{newest, numbered_below, single, sort_entries, union_in};
-ghost use Rattle.logpurple.specs.Words.{within};
+ghost use Rattle.logpurple.specs.Words.{CanDeal, DealsList, Entry, IsStrict, OutOfMemory};
+ghost use Rattle.logpurple.specs.Words.{RunsHoldLists, all_shown, newest, numbered_below, single};
+ghost use Rattle.logpurple.specs.Words.{sort_entries, union_in, within};
 
-use crate::memtable::Memtable;
 use crate::store::Store;
-use logpurple::{Error, IterItem, NewestOfSourcesAt, SeqNo, UserKey, range_sources_at};
+use logpurple::{Error, IterItem, NewestOfSourcesAt, Run, SeqNo, Table, UserKey, range_sources_at};
 use std::alloc::Allocator;
 use std::ops::Bound;
+use std::sync::Arc;
 use std::vec::IntoIter;
 
 /// The newest entry of each key that a snapshot sees, from both ends: what [`Store::range`] gives.
@@ -44,34 +45,52 @@ impl<A: Allocator + Clone> Store<A> {
             ⟦<Range<A> as DoubleEndedIterator>⟧.can_next_back s) }
         ensures memory { IfErr result (λ e. e ≡ OutOfMemory) }
     {
-        let alloc = self.alloc.clone()?;
-        let sources = source_of(&alloc, &self.memtable, &bounds)?;
-        range_sources_at(alloc, &self.runs, sources, bounds, snapshot)
+        let recent = self.memtable.within(&self.alloc, &bounds);
+        range_beside(&self.alloc, &self.runs, recent, bounds, snapshot)
     }
 }
 
-// The memtable's entries within two bounds, as the one further source of a range.
-fn source_of<A: Allocator + Clone>(
+// What runs and one further source have at a snapshot; the source, of what lies within the bounds,
+// may have been refused. It is generic in it, so that none of its parts is looked at.
+fn range_beside<S: DoubleEndedIterator<Item = IterItem<A>> + Drop, A: Allocator + Clone>(
     alloc: &A,
-    memtable: &Memtable<A>,
-    bounds: &(Bound<UserKey<A>>, Bound<UserKey<A>>),
-) -> Result<Vec<IntoIter<IterItem<A>, A>, A>, Error>
-    ensures list { let gives = ⟦<IntoIter<IterItem<A>, A> as Iterator>⟧.next_gives in
-        let back_gives = ⟦<IntoIter<IterItem<A>, A> as DoubleEndedIterator>⟧.next_back_gives in
-        IfOk result (λ sources. DealWithin gives back_gives bounds.now.0 bounds.now.1
-        sources.items (memtable.now ∷ [])) }
-    ensures strict { IfOk result (λ _. IsStrict memtable.now) }
-    ensures can { IfOk result (λ sources. All (CanDeal
-        ⟦<IntoIter<IterItem<A>, A> as Iterator>⟧.next_gives
-        ⟦<IntoIter<IterItem<A>, A> as DoubleEndedIterator>⟧.next_back_gives
-        ⟦<IntoIter<IterItem<A>, A> as Iterator>⟧.can_next
-        ⟦<IntoIter<IterItem<A>, A> as DoubleEndedIterator>⟧.can_next_back) sources.items) }
-    ensures ends { IfOk result (λ sources. All (λ s.
-        IsFinite (⟦<IntoIter<IterItem<A>, A> as Iterator>⟧.remaining s)) sources.items) }
-    ensures memory { IfErr result (λ e. e ≡ OutOfMemory) }
+    runs: &[Arc<Run<Table<A>, A>, A>],
+    source: Result<S, Error>,
+    bounds: (Bound<UserKey<A>>, Bound<UserKey<A>>),
+    snapshot: SeqNo,
+) -> Result<NewestOfSourcesAt<S, A>, Error>
+    ensures list { let gives = ⟦<NewestOfSourcesAt<S, A> as Iterator>⟧.next_gives in
+        let back_gives = ⟦<NewestOfSourcesAt<S, A> as DoubleEndedIterator>⟧.next_back_gives in
+        (lists : List (List (List Entry))) → RunsHoldLists (map arc_value runs.now) lists →
+        (es : List Entry) → IsStrict es →
+        IfOk source (DealsList S.next_gives S.next_back_gives (within bounds.0 bounds.1 es)) →
+        IfOk result (DealsList gives back_gives (newest (numbered_below snapshot
+        (within bounds.0 bounds.1 (union_in (single es ∷ lists)))))) }
+    ensures next { IfOk source
+        (CanDeal S.next_gives S.next_back_gives S.can_next S.can_next_back) →
+        IfOk source (λ s. IsFinite (S.remaining s)) →
+        IfOk result (λ s. ⟦<NewestOfSourcesAt<S, A> as Iterator>⟧.can_next s) }
+    ensures next_back { IfOk source
+        (CanDeal S.next_gives S.next_back_gives S.can_next S.can_next_back) →
+        IfOk source (λ s. IsFinite (S.remaining s)) →
+        IfOk result (λ s. ⟦<NewestOfSourcesAt<S, A> as DoubleEndedIterator>⟧.can_next_back s) }
+    ensures memory { IfErr source (λ e. e ≡ OutOfMemory) → IfErr result (λ e. e ≡ OutOfMemory) }
 {
-    let recent = memtable.within(alloc.clone()?, bounds)?;
+    let (alloc, sources) = one_source(alloc, source)?;
+    range_sources_at(alloc, runs, sources, bounds, snapshot)
+}
+
+// A list of one source, and an allocator beside it.
+fn one_source<S: Drop, A: Allocator + Clone>(
+    alloc: &A,
+    source: Result<S, Error>,
+) -> Result<(A, Vec<S, A>), Error>
+    ensures one { IfOk result (λ r. IsOkAnd source (λ s. r.1.items ≡ s ∷ [])) }
+    ensures memory { IfErr source (λ e. e ≡ OutOfMemory) → IfErr result (λ e. e ≡ OutOfMemory) }
+{
+    let source = source?;
+    let beside = alloc.clone()?;
     let mut sources = Vec::new(alloc.clone()?);
-    sources.push(recent)?;
-    Ok(sources)
+    sources.push(source)?;
+    Ok((beside, sources))
 }

@@ -14,7 +14,7 @@ loop-item-preserved g c =
     let key = c.as_slice.ensures in
     let view = ap (λ (e : Entry). e.user_key) c.item.view_is in
     let inside : (is_from low item.user_key && is_to high item.user_key) ≡ true = cc in
-    rw (c.in_ok-push.ensures.items, c.in_ok-clone.ensures.cases)
+    rw (c.in_ok-push.ensures.items, c.in_ok-clone-2.ensures.cases)
     (one_within low high c.args.items.now c.loop-item.item-index item c.loop-item-test.true c.item-item.is c.loop-item.found.items c.loop-item.invariant inside)
 
 pub loop-item-preserved-then-not-is_within : goal.loop-item-preserved-then-not-is_within

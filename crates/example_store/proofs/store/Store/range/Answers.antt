@@ -17,8 +17,8 @@ returns-clause-read g c lists held =
     let recent : es ≡ s.recent = ap (λ (h : Holding). h.recent) is in
     let same : map arc_value c.deref.result.now ≡ s.runs = ap (map arc_value) c.deref.ensures.value ∙ ap (λ (h : Holding). h.runs) is in
     let hold = subst (λ (rs : List (List OpenTable)). RunsHoldLists rs lists) (sym same) held in
-    dealt_as _ _ c.range_sources_at.result (λ (xs : List Entry). newest (numbered_below c.args.snapshot (within low high (union_in (single xs ∷ lists))))) es s.recent recent
-    (c.range_sources_at.ensures.list lists hold (es ∷ []) c.in_ok-sources.ensures.list)
+    dealt_as _ _ c.range_beside.result (λ (xs : List Entry). newest (numbered_below c.args.snapshot (within low high (union_in (single xs ∷ lists))))) es s.recent recent
+    (c.range_beside.ensures.list lists hold es c.within-recent.ensures.strict c.within-recent.ensures.list)
 
 pub returns-clause-told : goal.returns-clause-told
 returns-clause-told g c ws told kept =
@@ -28,12 +28,13 @@ returns-clause-told g c ws told kept =
     let high = c.args.bounds.1 in
     let below = c.args.snapshot in
     let es = c.self.inside.memtable in
+    let strict = c.within-recent.ensures.strict in
     let recent = ap (λ (h : Holding). h.recent) is in
     let same : map arc_value c.deref.result.now ≡ s.runs = ap (map arc_value) c.deref.ensures.value ∙ ap (λ (h : Holding). h.runs) is in
     let hold = subst (λ (rs : List (List OpenTable)). RunsHoldLists rs told.lists) (sym same) told.hold in
     let found = newest (numbered_below below (within low high (union_in (map single (es ∷ []) ++ told.lists)))) in
     let says = all_shown (newest (numbered_below below (within low high (sort_entries ws)))) in
-    dealt_told _ _ (λ (xs : List Entry). all_shown xs ≡ says) c.range_sources_at.result found
-    (c.range_sources_at.ensures.list told.lists hold (es ∷ []) c.in_ok-sources.ensures.list)
+    dealt_told _ _ (λ (xs : List Entry). all_shown xs ≡ says) c.range_beside.result found
+    (c.range_beside.ensures.list told.lists hold es strict c.within-recent.ensures.list)
     (subst (λ (xs : List Entry). all_shown (newest (numbered_below below (within low high (union_in (map single (xs ∷ []) ++ told.lists))))) ≡ says) (sym recent)
-    (range_told s ws low high below (subst IsStore is c.self.invariant) (subst IsStrict recent c.in_ok-sources.ensures.strict) told kept))
+    (range_told s ws low high below (subst IsStore is c.self.invariant) (subst IsStrict recent strict) told kept))

@@ -1,14 +1,27 @@
-use Rattle.std.proofs.Common.{◌≡◌, sym, ◌∙◌, ap, subst, length, rules, ℕ}
-use Rattle.logpurple.specs.Words.{AreCutOf, HaveAll, ids_behind, kept_in, run_label}
-use Rattle.std.specs.Prelude.{IfSome, map, sum_by}
+use Rattle.std.proofs.Common.{◌≡◌, sym, ◌∙◌, ap, subst, length, rules, ℕ, false}
+use Rattle.logpurple.specs.Words.{AreCompactable, AreCutOf, HaveAll, ids_behind, is_memory, kept_in}
+use Rattle.logpurple.specs.Words.{run_label, tables_fault}
+use Rattle.std.specs.Prelude.{IfSome, Some, map, sum_by}
 use Rattle.std.specs.Arc.{arc_value}
 use Rattle.std.specs.List.{AllByRecursion}
 use Rattle.example_store.specs.Story.{IsOwnRun}
-use Rattle.example_store.proofs.Compacting.{made_of}
+use Rattle.example_store.proofs.Compacting.{able_of, made_of}
 use Rattle.example_store.proofs.Counters.{cut_listed, few_tables}
 use Rattle.example_store.proofs.Own.{cut_own, listed_own, own_kept, own_run_lists, own_union}
-use Rattle.example_store.proofs.Refusing.{run_list}
+use Rattle.example_store.proofs.Refusing.{passed_on, run_list}
 use Rattle.example_store.proofs.store.compact.compacted.Goals as goal
+
+pub returns-in_err-run-clause-refused : goal.returns-in_err-run-clause-refused
+returns-in_err-run-clause-refused g c lists hold =
+    let moment : c.from-created_at.result ≡ 0 = search rules in
+    let e = c.in_err-run.field-0.0 in
+    let left = kept_in c.args.rules lists in
+    passed_on c.from_residual-in_err-run.result e (tables_fault c.args.ids c.args.target 0 left) c.from_residual-in_err-run.ensures.1
+    (subst (λ (n : ℕ). is_memory e ≡ false → tables_fault c.args.ids c.args.target n left ≡ Some e) moment (c.in_err-run.ensures.refused lists hold))
+
+pub returns-clause-able : goal.returns-clause-able
+returns-clause-able g c =
+    subst AreCompactable (sym c.in_ok-at_most_one.ensures.ok) (able_of c.in_ok-run.run' c.in_ok-run.ensures.able)
 
 pub returns-clause-kept : goal.returns-clause-kept
 returns-clause-kept g c lists hold =
