@@ -1,7 +1,7 @@
 -- What was closed, opened again.
-use Rattle.std.proofs.Common.{◌≡◌, refl, sym, ◌∙◌, ap, subst, ℕ, ◌+◌, ◌-◌, ◌^◌, ◌<◌, inl, inr}
+use Rattle.std.proofs.Common.{◌≡◌, ◌≢◌, refl, sym, ◌∙◌, ap, subst, ℕ, ◌+◌, ◌-◌, ◌^◌, ◌<◌, inl}
 use Rattle.std.proofs.Common.{true, false, List, [], ◌∷◌, ◌++◌, count_by, length, take, get_or}
-use Rattle.std.proofs.Common.{zero, suc, arith, ltb, le-ltb}
+use Rattle.std.proofs.Common.{inr, zero, suc, arith, ltb, le-ltb}
 use Rattle.std.specs.Prelude.{Ok, Err, IfOk, Result, map}
 use Rattle.std.specs.List.{AllByRecursion}
 use Rattle.std.proofs.lemmas.Bool.{cases_Bool}
@@ -126,6 +126,11 @@ module _ {X Y Z : Type 0} (f : X → Z) (h : Y → Z) (P : X → Type 0) where
       ∙ ap (λ (zs : List Z). zs ++ f x ∷ []) so_far
       ∙ ap (λ (z : Z). map h (take i ys) ++ z ∷ []) (one ∙ ap h is)
       ∙ sym (ap (map h) (take_more ys i y less) ∙ map-append h (take i ys) (get_or ys i y ∷ []))
+
+-- a list that is not empty has an element
+pub some_there : {X : Type 0} (xs : List X) → xs ≢ [] → 0 < length xs
+some_there [] other = absurd (other refl)
+some_there (x ∷ xs) other = omega arith
 
 -- ---- tables of the same bytes stand in the same order
 

@@ -11,14 +11,12 @@ use Rattle.logpurple.specs.Words.{Deals, DealsList, Entry, Error, answer_stops, 
 use Rattle.logpurple.specs.Words.{ok_results, within}
 use Rattle.logpurple.proofs.Laws.{map_append, vec_deals}
 
-pub shared_more : {X Y : Type 0} (f : X → Y) (shared : List X) (x : X) (y : Y)
-    (before rest all : List Y) → f x ≡ y → before ≡ y ∷ rest → map f shared ++ before ≡ all
-    → map f (shared ++ x ∷ []) ++ rest ≡ all
-shared_more {X} {Y} f shared x y before rest all is next so_far =
-    ap (λ (ys : List Y). ys ++ rest) (map-append f shared (x ∷ []))
-    ∙ append_assoc (map f shared) (f x ∷ []) rest
-    ∙ ap (λ (z : Y). map f shared ++ z ∷ rest) is
-    ∙ ap (λ (ys : List Y). map f shared ++ ys) (sym next)
+pub shared_more : {Y : Type 0} (shared made : List Y) (y : Y) (before rest all : List Y)
+    → made ≡ shared ++ y ∷ [] → before ≡ y ∷ rest → shared ++ before ≡ all → made ++ rest ≡ all
+shared_more {Y} shared made y before rest all is next so_far =
+    ap (λ (ys : List Y). ys ++ rest) is
+    ∙ append_assoc shared (y ∷ []) rest
+    ∙ ap (λ (ys : List Y). shared ++ ys) (sym next)
     ∙ so_far
 
 pub shared_all : {X Y : Type 0} (f : X → Y) (shared : List X) (rest all : List Y) → rest ≡ []

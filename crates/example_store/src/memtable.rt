@@ -90,7 +90,8 @@ impl<A: Allocator + Clone> Memtable<A> {
         ensures strict { IsStrict self.now }
         ensures memory { IfErr result (λ e. e ≡ OutOfMemory) }
     {
-        share_items(alloc, &self.items)
+        let items = self.items.as_slice();
+        Ok(Vec::from_clones(alloc.clone()?, items)?)
     }
 
     /// The entries within two bounds, shared, in order, from both ends. Refused for want of memory
@@ -141,21 +142,6 @@ fn count_up_to<A: Allocator>(items: &[InternalValue<A>], key: &[u8], seqno: SeqN
             .then(found.seqno.cmp(&seqno))
             .is_lt()
     })
-}
-
-// Shares of some entries.
-fn share_items<A: Allocator + Clone>(
-    alloc: &A,
-    items: &[InternalValue<A>],
-) -> Result<Vec<InternalValue<A>, A>, Error>
-    ensures items { IfOk result (λ shared. shared.items ≡ items.now) }
-    ensures memory { IfErr result (λ e. e ≡ OutOfMemory) }
-{
-    let mut shared = Vec::new(alloc.clone()?);
-    for item in items {
-        shared.push(item.clone()?)?;
-    }
-    Ok(shared)
 }
 
 // Shares of the entries whose keys lie within two bounds.

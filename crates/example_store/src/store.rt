@@ -335,9 +335,17 @@ fn entry_of<A: Allocator + Clone>(
     ensures ok { IfOk result (λ item. item ≡ entry key.now value.now seqno kind) }
     ensures memory { IfErr result (λ e. e ≡ OutOfMemory) }
 {
-    let key = Slice::from(alloc.clone()?, key)?;
-    let value = Slice::from(alloc.clone()?, value)?;
+    let key = slice_of(alloc, key)?;
+    let value = slice_of(alloc, value)?;
     Ok(InternalValue::from_components(key, value, seqno, kind))
+}
+
+// A copy of some bytes.
+fn slice_of<A: Allocator + Clone>(alloc: &A, bytes: &[u8]) -> Result<Slice<A>, Error>
+    ensures ok { IfOk result (λ slice. slice ≡ bytes.now) }
+    ensures memory { IfErr result (λ e. e ≡ OutOfMemory) }
+{
+    Slice::from(alloc.clone()?, bytes)
 }
 
 // A run of a list that can be written, none where it has no entry, and the counter of ids behind

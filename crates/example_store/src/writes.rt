@@ -94,6 +94,19 @@ struct Plains {
     second_at: SeqNo,
 }
 
+// Compares at one snapshot.
+fn compare_one(
+    alloc: Global,
+    moment: &'static str,
+    store: &Store,
+    plain: &Plain,
+    snapshot: SeqNo,
+    all: &mut Vec<Compared>,
+) -> Result<(), Error> {
+    all.push(compare(alloc, moment, store, plain, snapshot)?)?;
+    Ok(())
+}
+
 // Compares at both snapshots.
 fn compare_both(
     alloc: Global,
@@ -102,9 +115,8 @@ fn compare_both(
     plains: &Plains,
     all: &mut Vec<Compared>,
 ) -> Result<(), Error> {
-    all.push(compare(alloc, moment, store, &plains.first, plains.first_at)?)?;
-    all.push(compare(alloc, moment, store, &plains.second, plains.second_at)?)?;
-    Ok(())
+    compare_one(alloc, moment, store, &plains.first, plains.first_at, all)?;
+    compare_one(alloc, moment, store, &plains.second, plains.second_at, all)
 }
 
 fn write_both(store: &mut Store, plains: &mut Plains) -> Result<(), Error> {
@@ -156,8 +168,7 @@ fn compare_compacted(
     compare_both(alloc, "packed again", store, plains, all)?;
     store.compact(plains.second_at)?;
     let (second, at) = (&plains.second, plains.second_at);
-    all.push(compare(alloc, "compacted again", store, second, at)?)?;
-    Ok(())
+    compare_one(alloc, "compacted again", store, second, at, all)
 }
 
 fn compare_over(

@@ -1,6 +1,6 @@
 //! Compacting and packing the runs of a store.
-ghost use Rattle.std.specs.Prelude.{◌≡◌, ◌≤◌, IfErr, IfOk, List, OnErr, OnOk, Some, false};
-ghost use Rattle.std.specs.Prelude.{length, map, max, min, sum_by, true, ℕ};
+ghost use Rattle.std.specs.Prelude.{◌≡◌, ◌+◌, ◌≤◌, [], ◌∷◌, ◌++◌, IfErr, IfOk, List, OnErr, OnOk};
+ghost use Rattle.std.specs.Prelude.{Some, false, length, map, max, min, sum_by, true, ℕ};
 ghost use Rattle.std.specs.Arc.{arc_value};
 ghost use Rattle.std.specs.List.{AllByRecursion};
 ghost use Rattle.example_store.specs.Ids.{AreMadeOf};
@@ -12,7 +12,7 @@ ghost use Rattle.logpurple.specs.Words.{rules_by, run_label, tables_fault, union
 
 use crate::store::Store;
 use logpurple::{Error, Rules, Run, SeqNo, Table, TableIds, Timestamp, compact_to_run, pack_runs};
-use std::alloc::Allocator;
+use std::alloc::{AllocError, Allocator};
 use std::sync::Arc;
 
 /// Runs that a store shares, the newest first.
@@ -132,8 +132,22 @@ fn at_most_one<T: Drop, A: Allocator + Clone>(
     let Some(run) = run else {
         return Ok(shared);
     };
-    shared.push(Arc::new(alloc.clone()?, run)?)?;
+    push_shared(&mut shared, alloc, run)?;
     Ok(shared)
+}
+
+// Adds a run that can be shared. It is generic in what a run is, as above.
+pub(crate) fn push_shared<T: Drop, A: Allocator + Clone>(
+    shared: &mut Vec<Arc<T, A>, A>,
+    alloc: &A,
+    run: T,
+) -> Result<(), AllocError>
+    ensures pushed { OnOk result (map arc_value shared.new.items
+        ≡ map arc_value shared.old.items ++ run ∷ []) }
+    ensures one { OnOk result (length shared.new.items ≡ length shared.old.items + 1) }
+{
+    shared.push(Arc::new(alloc.clone()?, run)?)?;
+    Ok(())
 }
 
 // The tables of some runs in the fewest runs.
@@ -169,7 +183,7 @@ fn share_all<T: Drop, A: Allocator + Clone>(
 {
     let mut shared = Vec::new(alloc.clone()?);
     for run in runs {
-        shared.push(Arc::new(alloc.clone()?, run)?)?;
+        push_shared(&mut shared, alloc, run)?;
     }
     Ok(shared)
 }

@@ -18,7 +18,7 @@ ghost use Rattle.logpurple.specs.Words.{RunsHoldLists, StoresList, is_memory, ra
 ghost use Rattle.logpurple.specs.Words.{recovered_told, union_in};
 
 use crate::memtable::Memtable;
-use crate::store::compact::Runs;
+use crate::store::compact::{Runs, push_shared};
 use crate::store::order::are_strict;
 use crate::store::{Closed, Store};
 use logpurple::{Checksum, Error, Finding, Run, SeqNo, Slice, Table, VerifyError};
@@ -170,7 +170,7 @@ fn open_runs<A: Allocator + Clone>(
     let mut runs = Vec::new(alloc.clone()?);
     for run in files {
         let opened = open_run(alloc, run.as_slice(), next, runs.len())?;
-        runs.push(Arc::new(alloc.clone()?, opened)?)?;
+        push_shared(&mut runs, alloc, opened)?;
     }
     Ok(runs)
 }
@@ -190,7 +190,7 @@ fn open_run<A: Allocator + Clone>(
 {
     let mut tables = Vec::new(alloc.clone()?);
     for bytes in files {
-        let table = open_file(alloc.clone()?, bytes, next, (place, tables.len()))?;
+        let table = open_file(alloc, bytes, next, (place, tables.len()))?;
         tables.push(table)?;
     }
     run_of_tables(tables, place)
@@ -219,7 +219,7 @@ fn run_of_tables<A: Allocator + Clone>(
 
 // The table of a file, where it may be a store's. Refusals name the place.
 fn open_file<A: Allocator + Clone>(
-    alloc: A,
+    alloc: &A,
     bytes: &Slice<A>,
     next: SeqNo,
     place: (usize, usize),
@@ -230,7 +230,7 @@ fn open_file<A: Allocator + Clone>(
         IfErr result (λ e. e ≡ OutOfMemory) }
     ensures named { IfErr result (NamesFile next bytes.now place.0 place.1) }
 {
-    let table = open_table(alloc, bytes.clone()?, place)?;
+    let table = open_table(alloc.clone()?, bytes.clone()?, place)?;
     test_table(&table, next, place)?;
     Ok(table)
 }

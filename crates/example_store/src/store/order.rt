@@ -29,8 +29,7 @@ pub fn are_strict<A: Allocator + Clone>(
         IfErr result (λ e. e ≡ OutOfMemory) }
 {
     let scanners = scanners_of(alloc, runs)?;
-    let entries = merged(alloc, scanners)?;
-    comes_in_order(entries)
+    come_in_order(alloc, scanners)
 }
 
 // A scanner of each run.
@@ -67,21 +66,24 @@ fn scanner_of<A: Allocator + Clone>(run: &Arc<Run<Table<A>, A>, A>) -> Result<Ru
     RunScanner::culled(run.clone()?, (None, None))
 }
 
-// Several sources as one. It is generic in these, so that none of a scanner's parts is looked at.
-fn merged<I: Iterator<Item = IterItem<A>>, A: Allocator + Clone>(
+// Whether the entries of several sources come strictly one after another, sorted together. It is
+// generic in these, so that none of a scanner's parts is looked at. Refused as they are, and for
+// want of memory.
+fn come_in_order<I: Iterator<Item = IterItem<A>> + Drop, A: Allocator + Clone>(
     alloc: &A,
     sources: Vec<I, A>,
-) -> Result<Merger<I, A>, Error>
-    ensures can { All (CanDeal I.next_gives nowhere I.can_next I.can_next) sources.items →
-        All (λ s. IsFinite (I.remaining s)) sources.items →
-        IfOk result ⟦<Merger<I, A> as Iterator>⟧.can_next }
-    ensures list { let gives = ⟦<Merger<I, A> as Iterator>⟧.next_gives in
-        (lists : List (List (List Entry))) →
+) -> Result<bool, Error>
+    requires can { All (CanDeal I.next_gives nowhere I.can_next I.can_next) sources.items }
+    requires finite { All (λ s. IsFinite (I.remaining s)) sources.items }
+    ensures exact { (lists : List (List (List Entry))) →
         DealTogether I.next_gives nowhere sources.items (map joined lists) →
-        IfOk result (DealsList gives nowhere (union_in lists)) }
-    ensures memory { IfErr result (λ e. e ≡ OutOfMemory) }
+        IfOk result (λ b. IsTrue b ↔ IsStrict (union_in lists)) }
+    ensures memory { (lists : List (List (List Entry))) →
+        DealTogether I.next_gives nowhere sources.items (map joined lists) →
+        IfErr result (λ e. e ≡ OutOfMemory) }
 {
-    Merger::new(alloc.clone()?, sources)
+    let entries = Merger::new(alloc.clone()?, sources)?;
+    comes_in_order(entries)
 }
 
 // Whether each entry of a stream comes strictly after the one before it. Refused as the stream is.

@@ -104,8 +104,23 @@ fn side_by_side<T: Drop, A: Allocator + Clone>(
     ensures memory { IfErr result (λ e. e ≡ OutOfMemory) }
 {
     let mut runs = Vec::new(alloc.clone()?);
-    share_behind(&mut runs, front)?;
-    share_behind(&mut runs, made)?;
-    share_behind(&mut runs, behind)?;
+    share_three(&mut runs, front, made, behind)?;
     Ok(runs)
+}
+
+// Shares three parts, one behind another, which may be refused each.
+fn share_three<T: Drop, A: Allocator>(
+    shared: &mut Vec<Arc<T, A>, A>,
+    front: &[Arc<T, A>],
+    made: &[Arc<T, A>],
+    behind: &[Arc<T, A>],
+) -> Result<(), Error>
+    ensures runs { OnOk result (map arc_value shared.new.items
+        ≡ map arc_value shared.old.items ++ (map arc_value front.now
+        ++ (map arc_value made.now ++ map arc_value behind.now))) }
+    ensures memory { IfErr result (λ e. e ≡ OutOfMemory) }
+{
+    share_behind(shared, front)?;
+    share_behind(shared, made)?;
+    share_behind(shared, behind)
 }

@@ -1,14 +1,43 @@
 use Rattle.std.proofs.Common.{◌≡◌, ◌≤◌, sym, ◌∙◌, ap, subst, ℕ, List, true, false, arith, rules}
-use Rattle.std.specs.Prelude.{length, map, max, min, sum_by}
+use Rattle.std.specs.Prelude.{Some, length, map, max, min, sum_by}
 use Rattle.std.specs.Arc.{arc_value}
 use Rattle.std.specs.List.{AllByRecursion}
 use Rattle.std.proofs.lemmas.List.{length-map}
-use Rattle.logpurple.specs.Words.{AreCutOf, OpenTable, RunsHoldLists, ids_behind, kept_in, rules_by}
-use Rattle.logpurple.specs.Words.{run_label}
+use Rattle.logpurple.specs.Words.{AreCompactable, AreCutOf, OpenTable, RunsHoldLists, ids_behind}
+use Rattle.logpurple.specs.Words.{is_memory, kept_in, rules_by, run_label, tables_fault}
 use Rattle.example_store.specs.Ids.{AreMadeOf}
 use Rattle.example_store.specs.Story.{Holding, IsOwnRun, IsStore}
 use Rattle.example_store.proofs.Compacting.{sound_replaced, tells_compacted}
+use Rattle.example_store.proofs.Refusing.{passed_on}
 use Rattle.example_store.proofs.store.Store.compact.Goals as goal
+
+pub compacted-requires : goal.compacted-requires
+compacted-requires g c =
+    subst AreCompactable (sym (ap (map arc_value) c.deref.ensures.value)) c.self.invariant.runs.able
+
+pub returns-in_err-runs-clause-refused : goal.returns-in_err-runs-clause-refused
+returns-in_err-runs-clause-refused g c lists hold =
+    let is = c.self.view_is in
+    let i = c.self.inside in
+    let e = c.in_err-runs.field-0.0 in
+    let same : map arc_value c.deref.result.now ≡ c.args.self.now.runs = ap (map arc_value) c.deref.ensures.value ∙ ap (λ (h : Holding). h.runs) is in
+    let held = subst (λ (rs : List (List OpenTable)). RunsHoldLists rs lists) (sym same) hold in
+    let lowest : c.min-watermark.result ≡ min c.args.watermark i.next = search rules in
+    passed_on c.from_residual.result e _ c.from_residual.ensures.1
+    (subst (λ (h : Holding). is_memory e ≡ false → tables_fault h.ids h.target 0 (kept_in (rules_by (min c.args.watermark h.next) true false) lists) ≡ Some e) is
+    (subst (λ (n : ℕ). is_memory e ≡ false → tables_fault i.ids i.target 0 (kept_in (rules_by n true false) lists) ≡ Some e) lowest
+    (c.in_err-runs.ensures.refused lists held)))
+
+pub returns-clause-few : goal.returns-clause-few
+returns-clause-few g c =
+    subst (λ (n : ℕ). n ≤ 1) (sym (length-map c.in_ok-runs.runs.items arc_value)) c.in_ok-runs.ensures.few
+
+pub returns-clause-oldest : goal.returns-clause-oldest
+returns-clause-oldest g c =
+    let lowest : c.min-watermark.result ≡ min c.args.watermark c.self.inside.next = search rules in
+    let highest : c.max-self-inside.result ≡ max c.self.inside.oldest c.min-watermark.result = search rules in
+    highest ∙ ap (max c.self.inside.oldest) lowest
+    ∙ ap (λ (h : Holding). max h.oldest (min c.args.watermark h.next)) c.self.view_is
 
 pub invariant_of-self : goal.invariant_of-self
 invariant_of-self g c =

@@ -1,4 +1,5 @@
 use Rattle.std.proofs.Common.{◌≡◌, ◌∙◌, refl, sym, []}
+use Rattle.std.specs.Prelude.{map}
 use Rattle.std.specs.Arc.{arc_value}
 use Rattle.std.proofs.lemmas.List.{nil_from_length}
 use Rattle.example_store.proofs.Shares.{shared_all, shared_more}
@@ -9,8 +10,7 @@ loop-run-init g c = rw (c.new-shared.ensures.items, c.into_iter-run-iterator.ens
 
 pub loop-run-preserved : goal.loop-run-preserved
 loop-run-preserved g c =
-    rw c.in_ok-push.ensures.items
-    (shared_more arc_value c.loop-run.shared.items c.in_ok-new.field-0 c.in-Some.run' c.loop-run.run-iterator.rest.items c.next.new.self.rest.items c.args.runs.items c.in_ok-new.ensures.ok c.in-Some.ensures.steps.0 c.loop-run.invariant)
+    shared_more (map arc_value c.loop-run.shared.items) _ c.in-Some.run' c.loop-run.run-iterator.rest.items c.next.new.self.rest.items c.args.runs.items c.in_ok-push_shared.ensures.pushed c.in-Some.ensures.steps.0 c.loop-run.invariant
 
 pub returns-clause-ok : goal.returns-clause-ok
 returns-clause-ok g c =

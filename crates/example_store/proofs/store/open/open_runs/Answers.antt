@@ -1,16 +1,14 @@
 use Rattle.std.proofs.Common.{refl, sym, ◌∙◌, ap, subst, ℕ, [], ◌∷◌}
 use Rattle.std.specs.Prelude.{map}
 use Rattle.std.specs.Arc.{arc_value}
-use Rattle.std.specs.List.{AllByRecursion}
-use Rattle.std.proofs.lemmas.List.{map-append, take_all}
-use Rattle.std.proofs.lemmas.Simd.{map-map}
+use Rattle.std.proofs.lemmas.List.{length-map, take_all}
 use Rattle.logpurple.proofs.Laws.{all_append}
 use Rattle.example_store.specs.Story.{IsOwnRun}
 use Rattle.example_store.specs.declared.store.open.OpenError.TheVariants.{OutOfMemory}
 use Rattle.example_store.proofs.Opening.{one_seen, seen_at}
 use Rattle.example_store.proofs.Own.{bytes_of}
 use Rattle.example_store.proofs.Refusing.{wanted}
-use Rattle.example_store.specs.Faulty.{AreOwnFiles, IsFirstFault, NamesInRun}
+use Rattle.example_store.specs.Faulty.{IsFirstFault, NamesInRun}
 use Rattle.example_store.proofs.Faults.{names_first_run, own_run_files, passed}
 use Rattle.example_store.proofs.store.open.open_runs.Goals as goal
 
@@ -23,14 +21,12 @@ loop-run-init g c = record {
 pub loop-run-preserved : goal.loop-run-preserved
 loop-run-preserved g c =
     let P = IsOwnRun c.args.next in
-    let made = c.loop-run.runs.items in
-    let x = c.in_ok-new.field-0 in
+    let made = map arc_value c.loop-run.runs.items in
+    let run = c.in_ok-opened.opened in
     record {
-      own = rw c.in_ok-push.ensures.items (subst (AllByRecursion P) (sym (map-append arc_value made (x ∷ [])))
-          (all_append P (map arc_value made) (arc_value x ∷ []) c.loop-run.invariant.own
-          (subst P (sym c.in_ok-new.ensures.ok) c.in_ok-opened.ensures.own, tt)));
-      made = rw c.in_ok-push.ensures.items (one_seen (λ run. map bytes_of (arc_value run)) (λ run. run.items) (λ _. Unit {0}) made c.args.files.now c.loop-run.run-index x c.run-item.result c.loop-run.invariant.made c.loop-run-test.true c.run-item.is
-          (ap (map bytes_of) c.in_ok-new.ensures.ok ∙ c.in_ok-opened.ensures.files ∙ c.as_slice.ensures.value));
+      own = rw c.in_ok-push_shared.ensures.pushed (all_append P made (run ∷ []) c.loop-run.invariant.own (c.in_ok-opened.ensures.own, tt));
+      made = rw c.in_ok-push_shared.ensures.pushed (one_seen (map bytes_of) (λ run. run.items) (λ _. Unit {0}) made c.args.files.now c.loop-run.run-index run c.run-item.result c.loop-run.invariant.made c.loop-run-test.true c.run-item.is
+          (c.in_ok-opened.ensures.files ∙ c.as_slice.ensures.value));
     }
 
 pub returns-in_err-opened-clause-taken : goal.returns-in_err-opened-clause-taken
@@ -41,17 +37,17 @@ returns-in_err-opened-clause-taken g c runs own same =
 
 pub returns-clause-files : goal.returns-clause-files
 returns-clause-files g c =
-    map-map (map bytes_of) arc_value c.loop-run.runs.items ∙ c.loop-run.invariant.made
-    ∙ ap (map (λ run. run.items)) (take_all c.loop-run.run-index c.args.files.now c.loop-run-test.false)
+    c.loop-run.invariant.made ∙ ap (map (λ run. run.items)) (take_all c.loop-run.run-index c.args.files.now c.loop-run-test.false)
 
 pub returns-in_err-opened-clause-named : goal.returns-in_err-opened-clause-named
 returns-in_err-opened-clause-named g c =
     let r = c.from_residual-in_err-opened in
     let n = c.args.next in
-    let runs = c.loop-run.runs.items in
+    let runs = c.loop-run.runs in
+    let made = map arc_value runs.items in
     let m = c.loop-run.invariant in
     let e = c.in_err-opened.field-0.0 in
     passed (IsFirstFault n (map (λ run. run.items) c.args.files.now)) r.result e r.ensures.1
-    (names_first_run n (λ run. map bytes_of (arc_value run)) (λ run. run.items) runs c.args.files.now c.loop-run.run-index c.run-item.result e m.made c.loop-run-test.true c.run-item.is
-    (subst (AllByRecursion (AreOwnFiles n)) (map-map (map bytes_of) arc_value runs) (own_run_files n (map arc_value runs) m.own))
-    (subst (λ (k : ℕ). NamesInRun n c.run-item.result.items k e) (c.len.ensures ∙ c.loop-run.runs.ok.0) (subst (λ fs. NamesInRun n fs c.len.result e) c.as_slice.ensures.value c.in_err-opened.ensures.named)))
+    (names_first_run n (map bytes_of) (λ run. run.items) made c.args.files.now c.loop-run.run-index c.run-item.result e m.made c.loop-run-test.true c.run-item.is
+    (own_run_files n made m.own)
+    (subst (λ (k : ℕ). NamesInRun n c.run-item.result.items k e) (c.len.ensures ∙ runs.ok.0 ∙ sym (length-map runs.items arc_value)) (subst (λ fs. NamesInRun n fs c.len.result e) c.as_slice.ensures.value c.in_err-opened.ensures.named)))

@@ -9,6 +9,6 @@ use Rattle.example_store.proofs.store.open.open_runs.Given as goal
 abbrev pub invariant-loop-run : goal.invariant-loop-run
 invariant-loop-run g l = record {
   own : AllByRecursion (IsOwnRun l.next) (map arc_value l.runs.items);
-  made : map (λ run. map bytes_of (arc_value run)) l.runs.items
+  made : map (map bytes_of) (map arc_value l.runs.items)
       ≡ map (λ run. run.items) (take l.run-index l.files);
 }

@@ -1,14 +1,14 @@
-use Rattle.logpurple.specs.Words.{OutOfMemory, union_in}
+use Rattle.logpurple.specs.Words.{OutOfMemory}
 use Rattle.logpurple.proofs.Laws.{all_of, scan_asked}
 use Rattle.example_store.proofs.Refusing.{wanted}
 use Rattle.example_store.proofs.store.order.are_strict.Goals as goal
 
-pub comes_in_order-requires : goal.comes_in_order-requires
-comes_in_order-requires g c =
+pub come_in_order-requires : goal.come_in_order-requires
+come_in_order-requires g c =
     let scanners = c.in_ok-scanners.scanners.items in
     record {
-      can = c.in_ok-entries.ensures.can (all_of _ scan_asked scanners) (all_of _ (λ s. tt) scanners);
-      finite = tt;
+      can = all_of _ scan_asked scanners;
+      finite = all_of _ (λ s. tt) scanners;
     }
 
 pub returns-in_err-scanners-clause-memory : goal.returns-in_err-scanners-clause-memory
@@ -17,8 +17,8 @@ returns-in_err-scanners-clause-memory g c lists held some =
 
 pub returns-clause-exact : goal.returns-clause-exact
 returns-clause-exact g c lists held some =
-    c.comes_in_order.ensures.exact (union_in lists) (c.in_ok-entries.ensures.list lists (c.in_ok-scanners.ensures.list lists held some))
+    c.come_in_order.ensures.exact lists (c.in_ok-scanners.ensures.list lists held some)
 
 pub returns-clause-memory : goal.returns-clause-memory
 returns-clause-memory g c lists held some =
-    c.comes_in_order.ensures.memory (union_in lists) (c.in_ok-entries.ensures.list lists (c.in_ok-scanners.ensures.list lists held some))
+    c.come_in_order.ensures.memory lists (c.in_ok-scanners.ensures.list lists held some)

@@ -1,5 +1,4 @@
 use Rattle.std.proofs.Common.{[], ◌∷◌}
-use Rattle.std.specs.Iterator.{IsFinite}
 use Rattle.example_store.proofs.Ranges.{one_of, one_source}
 use Rattle.example_store.proofs.store.range.range_beside.Goals as goal
 
