@@ -28,8 +28,8 @@
  *
  * Each call answers 0, or the number of what refused it, but for `sst_version`, `sst_close`,
  * `sst_options_default` and `sst_strerror_copy`, which nothing refuses. 1 to 24 are the library's
- * refusals; 23 is a writer that has refused before, 5 a block that was damaged. From 100 on they
- * are those of the calls below. `sst_strerror` has a sentence for each.
+ * refusals, from SST_OUT_OF_MEMORY to SST_SOURCE_ERROR, and from 100 on those of the calls below.
+ * `sst_strerror` has a sentence for each.
  *
  * Where several apply, SST_OPEN is answered before SST_CLOSED, this before SST_OTHER_KIND, then
  * SST_NO_SUCH and SST_NO_ROOM, and each of these before any other. A call that opens, reads,
@@ -68,7 +68,35 @@ extern "C" {
 
 /* What a call answers beside 0 and the library's refusals. */
 enum {
-  SST_NO_MEMORY = 1,
+  SST_OUT_OF_MEMORY = 1,
+  SST_TRUNCATED = 2,         /* a block reaches past the sections */
+  SST_INVALID_HEADER = 3,    /* of a block */
+  SST_INVALID_TAG = 4,       /* a block is of another kind than is asked for */
+  SST_CHECKSUM_MISMATCH = 5, /* a block was damaged */
+  SST_INVALID_BLOCK = 6,     /* a block's payload is none */
+  SST_KEY_TOO_LONG = 7,
+  SST_VALUE_TOO_LONG = 8,
+  SST_BLOCK_TOO_LARGE = 9,
+  SST_SECTION_TOO_LARGE = 10,
+  SST_INVALID_TRAILER = 11, /* the bytes do not end as a table does */
+  SST_MISSING_SECTION = 12,
+  SST_META_KEY_MISSING = 13,          /* an item of the meta block is not there */
+  SST_INVALID_META_VALUE = 14,        /* the value of an item of the meta block is too short */
+  SST_UNSUPPORTED_TABLE_VERSION = 15, /* it is not 3 or 4 */
+  SST_UNSUPPORTED_HASH_TYPE = 16,
+  SST_UNSUPPORTED_CHECKSUM_TYPE = 17,
+  SST_UNSUPPORTED_INDEX_INTERVAL = 18,
+  SST_UNSUPPORTED_COMPRESSION = 19,
+  SST_GLOBAL_SEQNO_TOO_LARGE = 20, /* the highest stored number and the global one have no sum */
+  SST_SEQNO_OVERFLOW = 21,         /* an entry's number and the global one have no sum */
+  SST_TABLE_IDS_SPENT = 22,
+  SST_WRITER_FAILED = 23, /* the writer has refused before */
+  SST_SOURCE_ERROR = 24   /* of a source of entries, which none of these calls has */
+};
+
+/* The same, of the calls themselves; and a further name of SST_OUT_OF_MEMORY. */
+enum {
+  SST_NO_MEMORY = SST_OUT_OF_MEMORY,
   SST_CLOSED = 100,       /* the handle holds nothing */
   SST_OPEN = 101,         /* the handle that is to be filled holds something */
   SST_OTHER_KIND = 102,   /* the handle holds something of another kind */
@@ -237,20 +265,40 @@ uint32_t sst_answers_lend(sst_handle *answers, uint64_t index, sst_lent *lent);
 uint32_t sst_answers_copy(sst_handle *answers, uint64_t index, uint8_t *key, size_t key_room,
                           uint8_t *value, size_t value_room);
 
+/* Sections of a table. */
+enum {
+  SST_SECTION_DATA = 1,
+  SST_SECTION_INDEX = 2,      /* the partitions of a partitioned index */
+  SST_SECTION_TLI = 3,        /* the top level of the index, or the whole of it */
+  SST_SECTION_FILTER = 4,     /* the full filter, or the partitions of a partitioned one */
+  SST_SECTION_FILTER_TLI = 5, /* the top level of a partitioned filter */
+  SST_SECTION_TABLE_VERSION = 6,
+  SST_SECTION_META = 7
+};
+
+/* What may be wrong with a block. 12, another checksum of the file, is not told by these calls. */
+enum {
+  SST_FAULT_UNLOADED = 1,     /* it does not load */
+  SST_FAULT_HOLLOW = 2,       /* it is empty */
+  SST_FAULT_MISPLACED = 3,    /* it does not begin where the one before it ended */
+  SST_FAULT_TOO_HIGH = 4,     /* an entry has the largest number */
+  SST_FAULT_UNORDERED = 5,    /* an entry does not follow the one before it */
+  SST_FAULT_DENIED = 6,       /* the filter denies a key */
+  SST_FAULT_UNFILTERED = 7,   /* a block of the filter does not load */
+  SST_FAULT_OTHER_KEY = 8,    /* what names a block in the index says another key */
+  SST_FAULT_OTHER_NUMBER = 9, /* what names a block in the index says another number */
+  SST_FAULT_UNBORNE = 10,     /* the entries do not bear out an item of the meta block */
+  SST_FAULT_UNNAMED = 11      /* nothing in the index names a data block */
+};
+
 /* What a verification found: the first two where the table is sound, else the rest. */
 typedef struct sst_verified {
   uint64_t item_count;
   uint64_t data_block_count;
   uint64_t offset;  /* where the block begins at which something is wrong */
-  uint32_t section; /* 1 data blocks, 2 partitions of the index, 3 index, 4 filter, 5 top level of
-                       the filter, 6 version, 7 meta block */
-  uint32_t fault;   /* 1 the block does not load, 2 it is empty, 3 it does not begin where the one
-                       before it ended, 4 an entry has the largest number, 5 an entry does not
-                       follow, 6 the filter denies a key, 7 a block of the filter does not load,
-                       8 a handle names another key, 9 another number, 10 the entries do not bear
-                       out an item of the meta block, 11 no handle names a data block; 12,
-                       another checksum of the file, is not told by these calls */
-  uint32_t detail;  /* of faults 1 and 7 the load's refusal */
+  uint32_t section; /* one of the sections above */
+  uint32_t fault;   /* one of the faults above */
+  uint32_t detail;  /* of SST_FAULT_UNLOADED and SST_FAULT_UNFILTERED the load's refusal */
   uint32_t unused;
 } sst_verified;
 

@@ -28,7 +28,7 @@ static void open_first(sst_handle *files, sst_handle *table) {
   uint64_t count;
   test(sst_files_tell(files, 0, &told));
   uint8_t *bytes = (uint8_t *)malloc(told.len);
-  if (bytes == NULL) test(SST_NO_MEMORY);
+  if (bytes == NULL) test(SST_OUT_OF_MEMORY);
   test(sst_files_copy(files, 0, 0, bytes, told.len, &count)); /* or into a file, piece by piece */
   test(sst_table_open(bytes, told.len, 0, true, true, table));
   free(bytes); /* the table has a copy */

@@ -788,7 +788,8 @@ int main(void) {
   test_table(&options, 1000, SIZE_MAX, true);
   test_table(&options, 5, SIZE_MAX, false);
   test_sentences();
-  CHECK(strcmp(sst_strerror(5), "checksum mismatch") == 0);
+  CHECK(strcmp(sst_strerror(SST_CHECKSUM_MISMATCH), "checksum mismatch") == 0);
+  CHECK(strcmp(sst_strerror(SST_SOURCE_ERROR), "source error") == 0 && SST_SOURCE_ERROR == 24);
   CHECK(strcmp(sst_strerror(SST_FAULTY), "the table is not sound") == 0);
   CHECK(strcmp(sst_strerror(99), "unknown refusal") == 0);
   if (failures == 0) printf("all as it should be\n");

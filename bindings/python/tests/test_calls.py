@@ -7,7 +7,7 @@ import unittest
 
 from common import HERE
 
-from logpurple import _calls
+from logpurple import Fault, Section, _calls, _errors
 
 HEADER = os.path.join(HERE, "..", "..", "..", "include", "sst.h")
 # What a word of the header is in ctypes; a pointer to another struct stands by its name.
@@ -60,6 +60,25 @@ class Calls(unittest.TestCase):
                     self.assertEqual(kind._type_, STRUCTS[word], name)
                 else:
                     self.assertTrue(is_pointer(kind), name)
+
+    # The numbers of the header's enumeration that has a name, without what its names begin with.
+    def numbers(self, name, begin="SST_"):
+        body = next(body for body in re.findall(r"enum \{(.*?)\};", self.header, re.S)
+                    if re.search(r"\b%s =" % name, body))
+        return {name[len(begin):]: int(number)
+                for name, number in re.findall(r"(\w+) = (\d+)", body)}
+
+    def test_names(self):
+        self.assertEqual(self.numbers("SST_SECTION_DATA", "SST_SECTION_"),
+                         {section.name: section.value for section in Section})
+        self.assertEqual(self.numbers("SST_FAULT_HOLLOW", "SST_FAULT_"),
+                         {fault.name: fault.value for fault in Fault})
+        refusals = {**self.numbers("SST_TRUNCATED"), **self.numbers("SST_CLOSED")}
+        self.assertEqual(len(refusals), len(_errors.BY_CODE))
+        for name, number in refusals.items():
+            kind = _errors.BY_CODE[number]
+            self.assertEqual(kind.__name__.replace("Already", "").lower(),
+                             name.replace("_", "").lower())
 
 
 if __name__ == "__main__":

@@ -7,7 +7,32 @@
 /// The version of the calls that these declarations name.
 pub const SST_VERSION: u32 = 4;
 
-pub const SST_NO_MEMORY: u32 = 1;
+pub const SST_OUT_OF_MEMORY: u32 = 1;
+pub const SST_TRUNCATED: u32 = 2;
+pub const SST_INVALID_HEADER: u32 = 3;
+pub const SST_INVALID_TAG: u32 = 4;
+pub const SST_CHECKSUM_MISMATCH: u32 = 5;
+pub const SST_INVALID_BLOCK: u32 = 6;
+pub const SST_KEY_TOO_LONG: u32 = 7;
+pub const SST_VALUE_TOO_LONG: u32 = 8;
+pub const SST_BLOCK_TOO_LARGE: u32 = 9;
+pub const SST_SECTION_TOO_LARGE: u32 = 10;
+pub const SST_INVALID_TRAILER: u32 = 11;
+pub const SST_MISSING_SECTION: u32 = 12;
+pub const SST_META_KEY_MISSING: u32 = 13;
+pub const SST_INVALID_META_VALUE: u32 = 14;
+pub const SST_UNSUPPORTED_TABLE_VERSION: u32 = 15;
+pub const SST_UNSUPPORTED_HASH_TYPE: u32 = 16;
+pub const SST_UNSUPPORTED_CHECKSUM_TYPE: u32 = 17;
+pub const SST_UNSUPPORTED_INDEX_INTERVAL: u32 = 18;
+pub const SST_UNSUPPORTED_COMPRESSION: u32 = 19;
+pub const SST_GLOBAL_SEQNO_TOO_LARGE: u32 = 20;
+pub const SST_SEQNO_OVERFLOW: u32 = 21;
+pub const SST_TABLE_IDS_SPENT: u32 = 22;
+pub const SST_WRITER_FAILED: u32 = 23;
+pub const SST_SOURCE_ERROR: u32 = 24;
+
+pub const SST_NO_MEMORY: u32 = SST_OUT_OF_MEMORY;
 pub const SST_CLOSED: u32 = 100;
 pub const SST_OPEN: u32 = 101;
 pub const SST_OTHER_KIND: u32 = 102;
@@ -22,6 +47,26 @@ pub const SST_VALUE: u64 = 1;
 pub const SST_TOMBSTONE: u64 = 2;
 pub const SST_WEAK_TOMBSTONE: u64 = 3;
 pub const SST_INDIRECTION: u64 = 5;
+
+pub const SST_SECTION_DATA: u32 = 1;
+pub const SST_SECTION_INDEX: u32 = 2;
+pub const SST_SECTION_TLI: u32 = 3;
+pub const SST_SECTION_FILTER: u32 = 4;
+pub const SST_SECTION_FILTER_TLI: u32 = 5;
+pub const SST_SECTION_TABLE_VERSION: u32 = 6;
+pub const SST_SECTION_META: u32 = 7;
+
+pub const SST_FAULT_UNLOADED: u32 = 1;
+pub const SST_FAULT_HOLLOW: u32 = 2;
+pub const SST_FAULT_MISPLACED: u32 = 3;
+pub const SST_FAULT_TOO_HIGH: u32 = 4;
+pub const SST_FAULT_UNORDERED: u32 = 5;
+pub const SST_FAULT_DENIED: u32 = 6;
+pub const SST_FAULT_UNFILTERED: u32 = 7;
+pub const SST_FAULT_OTHER_KEY: u32 = 8;
+pub const SST_FAULT_OTHER_NUMBER: u32 = 9;
+pub const SST_FAULT_UNBORNE: u32 = 10;
+pub const SST_FAULT_UNNAMED: u32 = 11;
 
 pub const SST_UNBOUNDED: u32 = 0;
 pub const SST_INCLUDED: u32 = 1;

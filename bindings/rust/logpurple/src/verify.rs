@@ -105,13 +105,13 @@ impl Verified {
 impl SectionName {
     fn of(number: u32) -> SectionName {
         match number {
-            1 => SectionName::Data,
-            2 => SectionName::Index,
-            3 => SectionName::Tli,
-            4 => SectionName::Filter,
-            5 => SectionName::FilterTli,
-            6 => SectionName::TableVersion,
-            7 => SectionName::Meta,
+            sys::SST_SECTION_DATA => SectionName::Data,
+            sys::SST_SECTION_INDEX => SectionName::Index,
+            sys::SST_SECTION_TLI => SectionName::Tli,
+            sys::SST_SECTION_FILTER => SectionName::Filter,
+            sys::SST_SECTION_FILTER_TLI => SectionName::FilterTli,
+            sys::SST_SECTION_TABLE_VERSION => SectionName::TableVersion,
+            sys::SST_SECTION_META => SectionName::Meta,
             other => SectionName::Unknown(other),
         }
     }
@@ -120,17 +120,17 @@ impl SectionName {
 impl Fault {
     fn of(number: u32, detail: u32) -> Fault {
         match number {
-            1 => Fault::Unloaded(Error::of(detail)),
-            2 => Fault::Hollow,
-            3 => Fault::Misplaced,
-            4 => Fault::TooHigh,
-            5 => Fault::Unordered,
-            6 => Fault::Denied,
-            7 => Fault::Unfiltered(Error::of(detail)),
-            8 => Fault::OtherKey,
-            9 => Fault::OtherNumber,
-            10 => Fault::Unborne,
-            11 => Fault::Unnamed,
+            sys::SST_FAULT_UNLOADED => Fault::Unloaded(Error::of(detail)),
+            sys::SST_FAULT_HOLLOW => Fault::Hollow,
+            sys::SST_FAULT_MISPLACED => Fault::Misplaced,
+            sys::SST_FAULT_TOO_HIGH => Fault::TooHigh,
+            sys::SST_FAULT_UNORDERED => Fault::Unordered,
+            sys::SST_FAULT_DENIED => Fault::Denied,
+            sys::SST_FAULT_UNFILTERED => Fault::Unfiltered(Error::of(detail)),
+            sys::SST_FAULT_OTHER_KEY => Fault::OtherKey,
+            sys::SST_FAULT_OTHER_NUMBER => Fault::OtherNumber,
+            sys::SST_FAULT_UNBORNE => Fault::Unborne,
+            sys::SST_FAULT_UNNAMED => Fault::Unnamed,
             other => Fault::Unknown(other),
         }
     }
