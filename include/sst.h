@@ -472,19 +472,24 @@ uint32_t sst_writer_finish(sst_handle *writer);
 /* Writes what is kept of all entries of a list of runs into new tables, which a handle that holds
  * nothing gets, all finished; none where nothing is kept. The list and its tables stay.
  *
- * No reader stands below `watermark`: of each key the versions that only such a reader sees go.
- * A weak tombstone below it goes with the value directly behind it. Where `evict_tombstones` is
- * set, the last version that is kept of a key goes where it is a deletion: only for a list behind
- * which no older table stands. Where `zero_seqnos` is set, numbers below the watermark become 0. A
- * new table begins at the next key once the data blocks of the present one have `target_size`
- * bytes; with UINT64_MAX there is one. The tables are written with `options`, and their ids run on
- * from `options->id`, or from the one behind it where `target_size` is 0. `next_id` is told the
- * first that is left, 0 where none is; `options->id` is taken where nothing is kept, too.
+ * No reader stands below `watermark`: of each key the versions that are not below it are kept, and
+ * the newest one that is; all older ones go. Of those that are kept the oldest alone may go too: a
+ * weak tombstone goes where the version directly behind it, which goes, is an SST_VALUE; where
+ * `evict_tombstones` is set, an SST_TOMBSTONE goes, and a weak tombstone behind which the list has
+ * no version of its key. A weak tombstone with any other version behind it stays, and so does any
+ * deletion that is not the oldest. With `watermark` 0 and no eviction all entries are kept.
  *
- * SST_NO_SUCH where an option is out of its range; SST_OUT_OF_ORDER where an entry comes that does
- * not follow the one before it, or whose number is UINT64_MAX: a table does not hold what a writer
- * makes, or two tables have one key under one number. Else refused with the first fault of the
- * blocks, as a writer is, with 22 where no id is left, and for want of memory. No table is kept
+ * `evict_tombstones` is only for a list behind which no older table stands. Where `zero_seqnos` is
+ * set, numbers below the watermark become 0. A new table begins at the next key once the data
+ * blocks of the present one have `target_size` bytes; with UINT64_MAX there is one. The tables are
+ * written with `options`, and their ids run on from `options->id`, or from the one behind it where
+ * `target_size` is 0. `next_id` is told the first that is left, 0 where none is; `options->id` is
+ * taken where nothing is kept, too.
+ *
+ * SST_NO_SUCH as of `sst_writer_open`; SST_OUT_OF_ORDER where an entry comes that does not follow
+ * the one before it, or whose number is UINT64_MAX: a table does not hold what a writer makes, or
+ * two tables have one key under one number. Else refused with the first fault of the blocks, as a
+ * writer is, SST_TABLE_IDS_SPENT where no id is left, and for want of memory. No table is kept
  * then, and `next_id` stays.
  */
 uint32_t sst_compact(sst_handle *runs, const sst_options *options, uint64_t watermark,

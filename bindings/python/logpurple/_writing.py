@@ -120,15 +120,21 @@ def compact(tables: Union[Runs, Iterable[Table]], *, watermark: int = 0, evict: 
     """Writes what is kept of all entries of some tables, the newest first, into new ones, and
     answers their bytes, in order of their keys; none where nothing is kept. The tables stay.
 
-    No reader stands below `watermark`: of each key the versions down to the newest one below it are
-    kept, and older ones go; a weak tombstone below it goes with the value directly behind it. With
-    `evict` the last version of a key that is kept goes too where it is a deletion: only for tables
-    behind which no older one stands. With `zero` numbers below the watermark become 0. A new table
-    begins at the next key once the data blocks of the present one have `target` bytes. The
-    tables are written with `options`, which a `Writer` takes too, and their ids run on from `id`.
+    No reader stands below `watermark`: of each key the versions that are not below it are kept, and
+    the newest one that is; all older ones go. Of those that are kept the oldest alone may go too: a
+    weak tombstone goes where the version directly behind it, which goes, is a `Kind.VALUE`; with
+    `evict` a `Kind.TOMBSTONE` goes, and a weak tombstone behind which the tables have no version of
+    its key. Any other deletion stays. With a watermark of 0 and without `evict` all entries are
+    kept. `evict` is only for tables behind which no older one stands.
+
+    With `zero` numbers below the watermark become 0. A new table begins at the next key once the
+    data blocks of the present one have `target` bytes; with `NEWEST` there is one. The tables are
+    written with `options`, which a `Writer` takes too, and their ids run on from `id`, or from the
+    one behind it where `target` is 0.
 
     Refused with `OutOfOrder` where a table does not hold what a writer makes, or two of them have
-    one key under one number.
+    one key under one number; with `NoSuch` as a `Writer` is, and with `TableIdsSpent` where no id
+    is left.
 
     >>> newer, older = Writer(), Writer()
     >>> newer.delete(b"a", seqno=9)

@@ -8,9 +8,11 @@ use logpurple_sys as sys;
 
 /// What [`Runs::compact`](crate::Runs::compact) keeps, and what it writes.
 ///
-/// Of each key the versions down to the newest one below the watermark are kept, and the older
-/// ones, which no reader sees, go. A weak tombstone below the watermark goes with the value
-/// directly behind it.
+/// Of each key the versions that are not below the watermark are kept, and the newest one that is;
+/// all older ones, which no reader sees, go. Of those that are kept the oldest alone may go too: a
+/// weak tombstone goes where the version directly behind it, which goes, is a `ValueType::Value`;
+/// with `evict_tombstones` a `ValueType::Tombstone` goes, and a weak tombstone behind which the
+/// runs have no version of its key. Any other deletion stays.
 ///
 /// Refused with `NoSuch` where an option is out of its range, with `OutOfOrder` where a table does
 /// not hold what a writer makes or two tables have one key under one number; else with the first
@@ -20,7 +22,7 @@ use logpurple_sys as sys;
 pub struct Compaction {
     /// No reader stands below it.
     pub watermark: SeqNo,
-    /// Whether the last version of a key that is kept goes too where it is a deletion: only for
+    /// Whether deletions go behind which there is nothing to delete, as is said above: only for
     /// runs behind which no older table stands.
     pub evict_tombstones: bool,
     /// Whether numbers below the watermark become 0.
@@ -28,7 +30,8 @@ pub struct Compaction {
     /// A new table begins at the next key once the data blocks of the present one have so many
     /// bytes; with `u64::MAX` there is one.
     pub target_size: u64,
-    /// What the tables are written with. Their ids run on from `options.id`.
+    /// What the tables are written with. Their ids run on from `options.id`, or from the one behind
+    /// it where `target_size` is 0.
     pub options: Options,
 }
 
