@@ -66,7 +66,7 @@ extern "C" {
 /* The version of these calls; `sst_version` answers that of the library. */
 #define SST_VERSION 4
 
-/* What a call answers beside 0 and the library's refusals. */
+/* What a call answers beside 0: the library's refusals. */
 enum {
   SST_OUT_OF_MEMORY = 1,
   SST_TRUNCATED = 2,         /* a block reaches past the sections */
@@ -449,21 +449,29 @@ typedef struct sst_options {
 void sst_options_default(sst_options *options);
 
 /* Begins to write a table, into a handle that holds nothing. SST_NO_SUCH where an option is out of
- * its range.
+ * its range: `level` is at most 255, `data_block_restart_interval` at least 1 and at most 255, and
+ * `data_block_size`, `index_partition_size` and `filter_partition_size` at most 4,194,304 each. The
+ * others may have any value.
  */
 uint32_t sst_writer_open(const sst_options *options, sst_handle *writer);
 
 /* Writes an entry, whose key and value are copied. Entries come by key up, and of one key by number
  * down: SST_OUT_OF_ORDER where one does not, or where its number is UINT64_MAX; SST_NO_SUCH where
- * there is no such kind. The writer stays as it is then. After any other refusal an entry that may
- * follow is refused 23. What is wrong with an entry is found before any memory is taken.
+ * there is no such kind. The writer stays as it is then.
+ *
+ * SST_KEY_TOO_LONG where the key has more than 1,048,576 bytes, SST_VALUE_TOO_LONG where the value
+ * has 2^32 or more; else SST_BLOCK_TOO_LARGE where the data block that is being filled would have
+ * 2^32 or more: 28, and of each of its entries 17, the key and the value. After one of these, or
+ * want of memory, an entry that may follow is refused SST_WRITER_FAILED. What is wrong with an
+ * entry is found before any memory is taken. An entry of any kind may have a value.
  */
 uint32_t sst_writer_add(sst_handle *writer, const uint8_t *key, size_t key_len, uint64_t seqno,
                         uint32_t kind, const uint8_t *value, size_t value_len);
 
 /* Finishes the table: the handle holds it then, in the writer's place, or none where nothing was
- * written. Where it is refused, what was written is given up. Refused 23 where an entry was, before
- * any memory is taken; where nothing was written and no entry refused, it is not refused.
+ * written. Where it is refused, what was written is given up. SST_WRITER_FAILED where an entry was
+ * refused other than by SST_OUT_OF_ORDER and SST_NO_SUCH, before any memory is taken; where nothing
+ * was written and no entry refused, it is not refused.
  */
 uint32_t sst_writer_finish(sst_handle *writer);
 

@@ -74,25 +74,25 @@ class InvalidBlock(TableError):
 
 
 class KeyTooLong(TableError):
-    """A key has more bytes than a table stores."""
+    """A key has more than 1,048,576 bytes."""
 
     code, text = 7, "key too long"
 
 
 class ValueTooLong(TableError):
-    """A value has more bytes than a table stores."""
+    """A value has 2^32 bytes or more."""
 
     code, text = 8, "value too long"
 
 
 class BlockTooLarge(TableError):
-    """A block would have more bytes than one may have."""
+    """A block would have 2^32 bytes or more."""
 
     code, text = 9, "block too large"
 
 
 class SectionTooLarge(TableError):
-    """A section would have, or has, more bytes than one may have."""
+    """A section would have, or has, 2^32 bytes or more."""
 
     code, text = 10, "section too large"
 
@@ -212,7 +212,7 @@ class OutOfOrder(TableError, ValueError):
 
 
 class NoSuch(TableError, ValueError):
-    """A number names none of what it may name: an option, or a kind."""
+    """An option is out of its range, as `Writer` has them, or there is no such kind."""
 
     code, text = 105, "there is no such number"
 

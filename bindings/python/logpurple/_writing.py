@@ -51,7 +51,9 @@ class Writer(Held):
     `index_partition_size` and `filter_partition_size`, in bytes, at most 4 MiB, 0 for one block;
     `filter_bits_per_key`, in tenths of a bit, 0 for no filter. Where nothing else is said, blocks
     have 4,096 bytes and a place to restart at after 16 entries, index and filter one block each, a
-    key ten bits, and the rest is 0.
+    key ten bits, and the rest is 0. `NoSuch` is raised where one of these bounds is passed (4 MiB
+    are 4,194,304 bytes), `OverflowError` where a number is negative or has no place in its word: 64
+    bits of `id` and `created_at`, 32 of the others.
 
     Where a `with` ends, the writer is closed: what was written and not finished is given up.
 
@@ -77,8 +79,14 @@ class Writer(Held):
     def add(self, key: BytesLike, value: BytesLike, seqno: int = 0,
             kind: Kind = Kind.VALUE) -> None:
         """Writes an entry, whose key and value are copied. Refused with `OutOfOrder` where it does
-        not follow the one before it, or is numbered `NEWEST`; the writer stays as it is then. After
-        any other refusal an entry that may follow is refused with `WriterFailed`.
+        not follow the one before it, or is numbered `NEWEST`, and with `NoSuch` where there is no
+        such kind; the writer stays as it is then.
+
+        Refused with `KeyTooLong` where the key has more than 1,048,576 bytes, with `ValueTooLong`
+        where the value has 2^32 or more, and with `BlockTooLarge` where the data block that is
+        being filled would have 2^32 or more: 28, and of each of its entries 17, the key and the
+        value. After one of these, or want of memory, an entry that may follow is refused with
+        `WriterFailed`.
 
         >>> writer = Writer()
         >>> writer.add(b"a", b"1", seqno=2)

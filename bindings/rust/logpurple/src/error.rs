@@ -54,13 +54,13 @@ refusals! {
     5 ChecksumMismatch "checksum mismatch",
     /// A block's payload is none.
     6 InvalidBlock "invalid block payload",
-    /// A key has more bytes than a table stores.
+    /// A key has more than 1,048,576 bytes.
     7 KeyTooLong "key too long",
-    /// A value has more bytes than a table stores.
+    /// A value has 2^32 bytes or more.
     8 ValueTooLong "value too long",
-    /// A block would have more bytes than one may have.
+    /// A block would have 2^32 bytes or more.
     9 BlockTooLarge "block too large",
-    /// A section would have, or has, more bytes than one may have.
+    /// A section would have, or has, 2^32 bytes or more.
     10 SectionTooLarge "section too large",
     /// The bytes do not end as a table does.
     11 InvalidTrailer "invalid trailer",
@@ -100,7 +100,7 @@ refusals! {
     103 NoRoom "the room is too small",
     /// An entry does not follow the one before it, or a table's greatest key its least.
     104 OutOfOrder "an entry is out of order",
-    /// An option is out of its range.
+    /// An option is out of its range, as `Options` has them.
     105 NoSuch "there is no such number",
     /// Nothing was found. No safe call is refused so: it answers `None`.
     106 Nothing "nothing was found",

@@ -51,8 +51,9 @@ impl Default for Options {
 }
 
 impl Options {
-    /// Begins to write a table. Refused with `NoSuch` where an option is out of its range, and for
-    /// want of memory.
+    /// Begins to write a table. Refused with `NoSuch` where `data_block_restart_interval` is 0, or
+    /// one of `data_block_size`, `index_partition_size` and `filter_partition_size` is above
+    /// 4,194,304, and for want of memory. The others may have any value.
     pub fn open(&self) -> Result<Writer, Error> {
         let asked = self.told();
         let handle = Handle::closed();
@@ -107,9 +108,13 @@ impl Writer {
     }
 
     /// Writes an entry, whose key and value are copied. Refused with `OutOfOrder` where it does not
-    /// follow the one before it or is numbered `u64::MAX`; the writer stays as it is then. After
-    /// any other refusal an entry that may follow is refused with `WriterFailed`, or for want of
-    /// memory.
+    /// follow the one before it or is numbered `u64::MAX`; the writer stays as it is then.
+    ///
+    /// Refused with `KeyTooLong` where the key has more than 1,048,576 bytes, with `ValueTooLong`
+    /// where the value has 2^32 or more, and with `BlockTooLarge` where the data block that is
+    /// being filled would have 2^32 or more: 28, and of each of its entries 17, the key and the
+    /// value. After one of these, or want of memory, an entry that may follow is refused with
+    /// `WriterFailed`.
     pub fn write(
         &mut self,
         key: &[u8],
