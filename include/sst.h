@@ -302,9 +302,13 @@ typedef struct sst_verified {
   uint32_t unused;
 } sst_verified;
 
-/* Reads a whole table once, and says whether its bytes store a list of entries in order, whoever
- * wrote them. SST_FAULTY where they do not: `verified` says what is wrong first, and where. Refused
- * for want of memory too, which says nothing of the table.
+/* Reads all blocks of a table once, and says whether its bytes store a list of entries in order,
+ * whoever wrote them. SST_FAULTY where they do not: `verified` says what is wrong first, and where.
+ * Refused for want of memory too, which says nothing of the table.
+ *
+ * Bytes that no read needs are not looked at, as that of the version section, and where the
+ * trailer says that this section, the data blocks and partitions lie: a file in which one of these
+ * differs may open, and be verified. The `checksum` of an `sst_file` is that of every byte.
  */
 uint32_t sst_table_verify(sst_handle *table, sst_verified *verified);
 
@@ -327,10 +331,10 @@ typedef struct sst_progress {
  *       code = sst_verification_step(&verification, &progress, &verified);
  *     }
  *
- * At the end, and where it is refused, it tells and answers what `sst_table_verify` does; nothing
- * changes then. So a step that was refused for want of memory can be made again, and one that found
- * something wrong, SST_FAULTY, may be made again too: what it found is wrong in the next block, or
- * at the end where none is left.
+ * Until the end `verified` is told zeros. At the end, and where it is refused, it tells and answers
+ * what `sst_table_verify` does; nothing changes then. So a step that was refused for want of memory
+ * can be made again, and one that found something wrong, SST_FAULTY, may be made again too: what it
+ * found is wrong in the next block, or at the end where none is left.
  */
 uint32_t sst_verification_step(sst_handle *verification, sst_progress *progress,
                                sst_verified *verified);

@@ -446,8 +446,12 @@ class Table(_Read):
         return Facts(*(getattr(told, name) for name in Facts._fields))
 
     def verify(self, progress: Optional[Callable[[int, int], object]] = None) -> Verified:
-        """Reads all of the table, and raises `Faulty` where its bytes store no list of entries in
-        order, whoever wrote them; its `finding` says what is wrong first, and where.
+        """Reads all blocks of the table, and raises `Faulty` where its bytes store no list of
+        entries in order, whoever wrote them; its `finding` says what is wrong first, and where.
+
+        Bytes that no read needs are not looked at, as that of the version section, and where the
+        trailer says that this section, the data blocks and partitions lie: a file in which one of
+        these differs may open, and be verified. A sum of the whole file finds that.
 
         `progress` is called behind each block that is read, with how many bytes of data blocks were
         read of how many; what it raises ends this. It may use the table meanwhile.

@@ -335,9 +335,14 @@ impl<'f> Table<'f> {
         facts
     }
 
-    /// Reads the whole table once, and says whether its bytes store a list of entries in order,
-    /// whoever wrote them; else what is wrong first, and where. Refused for want of memory too,
-    /// which says nothing of the table.
+    /// Reads all blocks of the table once, and says whether its bytes store a list of entries in
+    /// order, whoever wrote them; else what is wrong first, and where. Refused for want of memory
+    /// too, which says nothing of the table.
+    ///
+    /// Bytes that no read needs are not looked at, as that of the version section, and where the
+    /// trailer says that this section, the data blocks and partitions lie: a file in which one of
+    /// these differs may open, and be verified. The checksum of a
+    /// [`FinishedTable`](crate::FinishedTable) is that of every byte.
     pub fn verify(&self) -> Result<Verified, VerifyError> {
         let mut told = sys::sst_verified::default();
         // SAFETY: both are references of this call.
