@@ -153,7 +153,8 @@ uint32_t sst_version(void);
 void sst_close(sst_handle *handle);
 
 /* What a read found. A read (`sst_table_get`, `sst_runs_get`, `sst_range_next`, `sst_scan_next`)
- * keeps the entry that it found, and the handle keeps it until the next read by it.
+ * keeps the entry that it found, and the handle keeps it until the next read by it. Where the
+ * last read found nothing, or none was made, the two calls answer SST_NOTHING, whatever is held.
  */
 
 /* Copies the key and the value of what the last read by a handle found. SST_NOTHING where nothing
@@ -343,7 +344,8 @@ uint32_t sst_verification_step(sst_handle *verification, sst_progress *progress,
 
 /* Begins to read the entries of a table whose keys lie within two bounds, into a handle that holds
  * nothing. Nothing is loaded yet. A bound that is SST_UNBOUNDED does not look at its key; one of a
- * kind that is none is SST_NO_SUCH.
+ * kind that is none is SST_NO_SUCH. Bounds between which no key lies, as where the lower one is
+ * above the upper one, are not refused: the range has no entry.
  */
 uint32_t sst_range_open(sst_handle *table, uint32_t lower_kind, const uint8_t *lower,
                         size_t lower_len, uint32_t upper_kind, const uint8_t *upper,
@@ -533,7 +535,7 @@ uint32_t sst_files_copy(sst_handle *files, uint64_t index, uint64_t offset, uint
                         size_t room_len, uint64_t *count);
 
 /* Copies a sentence for what a call answers, the one that `sst_strerror` has, as many bytes as
- * there is room for and no zero behind it, and answers how many it has.
+ * there is room for and no zero behind it, and answers how many bytes the sentence has.
  */
 uint64_t sst_strerror_copy(uint32_t code, uint8_t *room, size_t room_len);
 

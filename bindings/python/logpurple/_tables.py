@@ -156,7 +156,8 @@ class _Read(Held):
 
     def get(self, key: BytesLike, default: Optional[_Default] = None,
             at: int = NEWEST) -> Union[bytes, Optional[_Default]]:
-        """The value of a key as a reader at a number sees it; `default` where it has none.
+        """The value of a key as a reader at a number sees it; `default` where it has none. Of a
+        `Kind.INDIRECTION` it is what is stored, as `entry` tells with the kind.
 
         >>> writer = Writer()
         >>> writer.add(b"a", b"1", seqno=4)
@@ -369,7 +370,8 @@ class Table(_Read):
 
     def entries(self, lower: Optional[BytesLike] = None, upper: Optional[BytesLike] = None,
                 reverse: bool = False) -> Entries:
-        """Every version of each key from `lower` on and below `upper`, in order.
+        """Every version of each key from `lower` on and below `upper`, in order; none where
+        `lower` is not below `upper`.
 
         >>> writer = Writer()
         >>> for key, seqno in ((b"a", 2), (b"a", 1), (b"b", 3)):
@@ -387,7 +389,8 @@ class Table(_Read):
     def range(self, lower: Optional[BytesLike] = None, upper: Optional[BytesLike] = None,
               reverse: bool = False, at: int = NEWEST) -> Iterator[Tuple[bytes, bytes]]:
         """Keys from `lower` on and below `upper`, and their values: of each key the newest version
-        that is numbered below `at`, and none where that is a deletion.
+        that is numbered below `at`, and none where that is a deletion. Nothing comes where `lower`
+        is not below `upper`. The value of a `Kind.INDIRECTION` is what is stored of it.
 
         >>> writer = Writer()
         >>> for key, seqno in ((b"a", 2), (b"a", 1), (b"b", 3)):
@@ -541,7 +544,8 @@ class Runs(_Read):
     def entries(self, lower: Optional[BytesLike] = None, upper: Optional[BytesLike] = None,
                 reverse: bool = False, at: int = NEWEST) -> Entries:
         """Of each key from `lower` on and below `upper` the newest version that is numbered below
-        `at`, a deletion too, in order. A table that is added later is not in it.
+        `at`, a deletion too, in order; none where `lower` is not below `upper`. A table that is
+        added later is not in it.
 
         >>> newer, older = Writer(), Writer()
         >>> newer.delete(b"a", seqno=2)
@@ -561,7 +565,8 @@ class Runs(_Read):
     def range(self, lower: Optional[BytesLike] = None, upper: Optional[BytesLike] = None,
               reverse: bool = False, at: int = NEWEST) -> Iterator[Tuple[bytes, bytes]]:
         """Keys from `lower` on and below `upper`, and their values, as a reader at a number sees
-        them in all tables together.
+        them in all tables together. Nothing comes where `lower` is not below `upper`. The value of
+        a `Kind.INDIRECTION` is what is stored of it.
 
         >>> newer, older = Writer(), Writer()
         >>> newer.delete(b"a", seqno=2)

@@ -71,8 +71,8 @@ impl<'f> Runs<'f> {
     }
 
     /// What all tables have together within bounds, from both ends: of each key the newest version
-    /// that is numbered below `seqno`, a deletion too. Nothing is loaded yet. A table that is
-    /// pushed later is not in it.
+    /// that is numbered below `seqno`, a deletion too. Bounds are as in [`Table::range`]. Nothing
+    /// is loaded yet. A table that is pushed later is not in it.
     ///
     /// ```
     /// use logpurple::{Runs, Table, ValueType, Writer, NEWEST};

@@ -130,7 +130,8 @@ pub struct Metadata {
     pub data_block_count: u64,
     /// How many index blocks there are.
     pub index_block_count: u64,
-    /// How many bytes the data blocks have.
+    /// How many bytes the data blocks have, and not the file, whose bytes [`Memory::file_len`]
+    /// counts. The name is that of the meta block's item.
     pub file_size: u64,
 }
 
@@ -204,6 +205,9 @@ impl<'f> Table<'f> {
     /// stand in any order and repeat; a block in which several stand is loaded once for them.
     /// Refused as the read of the first key is that is refused, and for want of memory.
     ///
+    /// All keys are of one type: byte strings of several lengths are given as slices, as
+    /// `&[&b"pear"[..], b"fig"]`.
+    ///
     /// ```
     /// # use logpurple::{Table, ValueType, Writer, NEWEST};
     /// # fn main() -> Result<(), Box<dyn std::error::Error>> {
@@ -234,8 +238,30 @@ impl<'f> Table<'f> {
         Answers::of(self, keys, seqno)
     }
 
-    /// The entries whose keys lie within bounds, each version of a key, from both ends. Nothing is
+    /// The entries whose keys lie within bounds, each version of a key, from both ends; none where
+    /// no key lies between the bounds, as where the lower one is above the upper one. Nothing is
     /// loaded yet.
+    ///
+    /// ```
+    /// # use logpurple::{Table, ValueType, Writer};
+    /// # fn main() -> Result<(), Box<dyn std::error::Error>> {
+    /// use std::ops::Bound;
+    ///
+    /// # let mut writer = Writer::new(1)?;
+    /// # for key in [b"a", b"b", b"c"] {
+    /// #     writer.write(key, 2, ValueType::Value, b"")?;
+    /// # }
+    /// # let table = Table::open(writer.finish()?.unwrap())?;
+    /// let (a, b) = (b"a".to_vec(), b"b".to_vec());
+    /// let (from_a, after_a) = (Bound::Included(&a[..]), Bound::Excluded(&a[..]));
+    /// assert_eq!(table.range("a".."c")?.count(), 2);
+    /// assert_eq!(table.range(&a[..]..=&b[..])?.count(), 2);
+    /// assert_eq!(table.range::<&[u8], _>((after_a, Bound::Unbounded))?.count(), 2);
+    /// assert_eq!(table.range::<&[u8], _>((from_a, Bound::Excluded(&b[..])))?.count(), 1);
+    /// assert_eq!(table.range("c".."a")?.count(), 0);
+    /// # Ok(())
+    /// # }
+    /// ```
     pub fn range<K, R>(&self, bounds: R) -> Result<Range<'f>, Error>
     where
         K: AsRef<[u8]>,
