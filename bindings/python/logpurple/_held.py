@@ -2,7 +2,7 @@
 
 import operator
 import threading
-from typing import Any, Optional, Tuple, TypeVar
+from typing import Any, NoReturn, Optional, Tuple, Type, TypeVar
 
 from . import _calls
 from ._calls import addressof, copied
@@ -66,6 +66,13 @@ class Held:
         self._told, self._lent = _calls.EntryTold(), _calls.Lent()
         self._told_ref, self._lent_ref = addressof(self._told), addressof(self._lent)
 
+    # One that a call fills next, whatever its class says to those who make one by its name.
+    @classmethod
+    def _begun(cls: Type[_SomeHeld]) -> _SomeHeld:
+        held = cls.__new__(cls)
+        Held.__init__(held)
+        return held
+
     def close(self) -> None:
         """Lets go what is held. It may be closed twice.
 
@@ -123,6 +130,15 @@ class Held:
             return None
         test(_calls.found_lend(self._ref, self._lent_ref))
         return entry_of(told.kind, told.seqno, lent)
+
+
+class Made(Held):
+    """What calls alone make, as `_by` says."""
+
+    _by = ""
+
+    def __init__(self, *_: object, **__: object) -> NoReturn:
+        raise TypeError(f"a {type(self).__name__} is {self._by}")
 
 
 def entry_of(kind: int, seqno: int, lent: _calls.Lent) -> Entry:

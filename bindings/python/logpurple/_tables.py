@@ -7,7 +7,7 @@ from typing import Callable, Iterable, Iterator, List, Optional, Tuple, Type, Ty
 from . import _calls
 from ._calls import byref, copied
 from ._errors import Closed, Faulty, of, test
-from ._held import Held, entry_of, number, plain
+from ._held import Held, Made, entry_of, number, plain
 from ._told import (NEWEST, Entry, Facts, Fault, Finding, Kind, Memory, Packing, Section,
                     Verified)
 
@@ -19,13 +19,11 @@ _SomeTable = TypeVar("_SomeTable", bound="Table")
 _DELETIONS = (int(Kind.TOMBSTONE), int(Kind.WEAK_TOMBSTONE))
 
 
-class _Steps(Held):
+class _Steps(Made):
     """Reads entries one by one. It has a share of what it reads, which may be closed meanwhile.
     Where it is refused nothing more comes."""
 
-    def __init__(self) -> None:
-        super().__init__()
-        self._is_over = False
+    _is_over = False
 
     # The next entry that a call gives, with these words of its own; `None` at the end.
     def _step(self, call: Callable[..., int], *words: bool) -> Optional[Entry]:
@@ -57,6 +55,8 @@ class Scan(_Steps):
     (b'a', [b'b'])
     """
 
+    _by = "made by Table.scan"
+
     def __iter__(self) -> "Scan":
         """Itself: what was read does not come again."""
         return self
@@ -84,9 +84,8 @@ class Entries(_Steps):
     [b'b']
     """
 
-    def __init__(self, reverse: bool = False) -> None:
-        super().__init__()
-        self._reverse = bool(reverse)
+    _by = "made by Table.entries and Runs.entries"
+    _reverse = False
 
     def take(self, reverse: bool = False) -> Optional[Entry]:
         """The next entry from the front or, in reverse, from the back; `None` at the end.
@@ -109,6 +108,13 @@ class Entries(_Steps):
         if found is None:
             raise StopIteration
         return found
+
+
+# Entries that a call begins next; as an iterator they go from the back in reverse.
+def _entries(reverse: bool) -> Entries:
+    entries = Entries._begun()
+    entries._reverse = bool(reverse)
+    return entries
 
 
 # The bounds of a range as a call takes them: from the lower one on, and below the upper one.
@@ -227,8 +233,8 @@ class _Read(Held):
         return (key for key, _ in self.range())
 
 
-class Table(_Read):
-    """An opened table.
+class Table(Made, _Read):
+    """An opened table, as `Table.open` makes it.
 
     >>> writer = Writer()
     >>> writer.add(b"a", b"1")
@@ -237,6 +243,7 @@ class Table(_Read):
     (1, [b'a'], {b'a': b'1'})
     """
 
+    _by = "opened by Table.open"
     _get = staticmethod(_calls.table_get)
 
     @classmethod
@@ -271,7 +278,7 @@ class Table(_Read):
             kept = True
             with open(source, "rb") as file:
                 source = file.read()
-        table = cls()
+        table = cls._begun()
         if kept:
             source, call = _calls.kept(source), _calls.table_open_kept
             table._kept = (source,)
@@ -292,7 +299,7 @@ class Table(_Read):
         >>> other[b"a"]
         b'1'
         """
-        other = type(self)()
+        other = self._begun()
         with self._turn:
             other._kept = self._kept
             test(_calls.table_share(self._ref, other._ref))
@@ -380,7 +387,7 @@ class Table(_Read):
         >>> [(entry.key, entry.seqno) for entry in table.entries(b"a", b"b", reverse=True)]
         [(b'a', 1), (b'a', 2)]
         """
-        bounds, entries = _bounds(lower, upper), Entries(reverse)
+        bounds, entries = _bounds(lower, upper), _entries(reverse)
         with self._turn:
             entries._kept = self._kept
             test(_calls.range_open(self._ref, *bounds, entries._ref))
@@ -413,7 +420,7 @@ class Table(_Read):
         ...     [(entry.key, entry.seqno) for entry in table.scan()]
         [(b'a', 2), (b'a', 1), (b'b', 3)]
         """
-        scan = Scan()
+        scan = Scan._begun()
         with self._turn:
             scan._kept = self._kept
             test(_calls.scan_open(self._ref, scan._ref))
@@ -556,7 +563,7 @@ class Runs(_Read):
         >>> [entry.kind.name for entry in runs.entries(at=2)]
         ['VALUE']
         """
-        bounds, at, entries = _bounds(lower, upper), number(at), Entries(reverse)
+        bounds, at, entries = _bounds(lower, upper), number(at), _entries(reverse)
         with self._turn:
             entries._kept = self._kept
             test(_calls.runs_range_open(self._ref, *bounds, at, entries._ref))
@@ -590,8 +597,7 @@ class Runs(_Read):
         >>> list(runs.packed().range())
         [(b'a', b'1'), (b'b', b'1')]
         """
-        packed = type(self).__new__(type(self))
-        Held.__init__(packed)
+        packed = self._begun()
         with self._turn:
             packed._kept = self._kept
             test(_calls.runs_pack(self._ref, packed._ref))

@@ -249,7 +249,15 @@ class Places(unittest.TestCase):
     def test_what_was_never_begun_is_let_go(self):
         Table.__new__(Table).__del__()
         with self.assertRaises(logpurple.Closed):
-            Table().get(b"a")
+            Table._begun().get(b"a")
+
+    def test_what_calls_alone_make(self):
+        for kind, by in ((Table, "a Table is opened by Table.open"),
+                         (logpurple.Entries, "Table.entries and Runs.entries"),
+                         (logpurple.Scan, "a Scan is made by Table.scan")):
+            for parts, named in (((), {}), (("fruit.sst",), {}), ((), {"reverse": True})):
+                with self.assertRaisesRegex(TypeError, by):
+                    kind(*parts, **named)
 
     def test_a_call_within_a_call(self):
         table = table_of(entries_of(3, 50))
