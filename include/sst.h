@@ -286,10 +286,10 @@ enum {
   SST_FAULT_UNORDERED = 5,    /* an entry does not follow the one before it */
   SST_FAULT_DENIED = 6,       /* the filter denies a key */
   SST_FAULT_UNFILTERED = 7,   /* a block of the filter does not load */
-  SST_FAULT_OTHER_KEY = 8,    /* what names a block in the index says another key */
-  SST_FAULT_OTHER_NUMBER = 9, /* what names a block in the index says another number */
+  SST_FAULT_OTHER_KEY = 8,    /* it does not end with the key by which it is named */
+  SST_FAULT_OTHER_NUMBER = 9, /* it does not end with the number by which it is named */
   SST_FAULT_UNBORNE = 10,     /* the entries do not bear out an item of the meta block */
-  SST_FAULT_UNNAMED = 11      /* nothing in the index names a data block */
+  SST_FAULT_UNNAMED = 11      /* a data block that the index does not name */
 };
 
 /* What a verification found: the first two where the table is sound, else the rest. */

@@ -73,13 +73,13 @@ pub enum Fault {
     Denied,
     /// A block of the filter does not load.
     Unfiltered(Error),
-    /// A handle names another key.
+    /// It does not end with the key by which it is named.
     OtherKey,
-    /// A handle names another number.
+    /// It does not end with the number by which it is named.
     OtherNumber,
     /// The entries do not bear out an item of the meta block.
     Unborne,
-    /// No handle names a data block.
+    /// A data block that the index does not name.
     Unnamed,
     /// A number that this crate does not know.
     Unknown(u32),
