@@ -17,6 +17,13 @@ False
 >>> [(entry.key, entry.seqno, entry.kind.name) for entry in table.entries()]
 [(b'apple', 2, 'VALUE'), (b'apple', 1, 'VALUE'), (b'pear', 3, 'TOMBSTONE')]
 
+`Table`, several as one in `Runs`, `Writer` and `compact` are what is used; their pages, as
+`help(logpurple.Table)` shows them, have an example of each call. A range is from its lower bound on
+and below its upper one. `NEWEST` is the largest number: reads at it, as where none is named, find
+the newest version. What is told are named tuples: `Entry`, `Facts`, `Memory`, `Packing`,
+`Verified`, `Finding`. What is refused is an exception of the class `TableError`; a table that is
+not sound is `Faulty`. `BytesLike` is what has bytes.
+
 Any number of threads may use what they share: those that use one object take turns, and those that
 have a share of a table each, made by `Table.share`, read at the same time. A process that was
 forked may use what no thread was at work on. What is opened is neither copied nor pickled.
