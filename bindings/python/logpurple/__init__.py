@@ -21,8 +21,9 @@ False
 `help(logpurple.Table)` shows them, have an example of each call. A range is from its lower bound on
 and below its upper one. `NEWEST` is the largest number: reads at it, as where none is named, find
 the newest version. What is told are named tuples: `Entry`, `Facts`, `Memory`, `Packing`,
-`Verified`, `Finding`. What is refused is an exception of the class `TableError`; a table that is
-not sound is `Faulty`. `BytesLike` is what has bytes.
+`Verified`, `Finding`. What is written is bytes, a `FinishedTable` with its `checksum`. What is
+refused is an exception of the class `TableError`; a table that is not sound is `Faulty`.
+`BytesLike` is what has bytes.
 
 Any number of threads may use what they share: those that use one object take turns, and those that
 have a share of a table each, made by `Table.share`, read at the same time. A process that was
@@ -36,11 +37,11 @@ from ._errors import *  # noqa: F401,F403
 from ._tables import BytesLike, Entries, Runs, Scan, Table
 from ._told import (NEWEST, Entry, Facts, Fault, Finding, Kind, Memory, Packing, Section,
                     Verified)
-from ._writing import Writer, compact
+from ._writing import Compacted, FinishedTable, Writer, compact
 
-__all__ = ["NEWEST", "BytesLike", "Entries", "Entry", "Facts", "Fault", "Finding", "Kind",
-           "Memory", "Packing", "Runs", "Scan", "Section", "Table", "Verified", "Writer",
-           "compact"]
+__all__ = ["NEWEST", "BytesLike", "Compacted", "Entries", "Entry", "Facts", "Fault", "Finding",
+           "FinishedTable", "Kind", "Memory", "Packing", "Runs", "Scan", "Section", "Table",
+           "Verified", "Writer", "compact"]
 __all__ += _errors.__all__
 
 # What is public says that it is of this package.

@@ -148,7 +148,7 @@ files_copy = _call("sst_files_copy", _handle, c_uint64, c_uint64, c_char_p, c_si
                    POINTER(c_uint64))
 
 
-# What of CPython itself lends a buffer's bytes and makes bytes that are not filled yet.
+# What of CPython itself lends a buffer's bytes.
 
 
 class _Buffer(Structure):
@@ -164,9 +164,6 @@ _get_buffer.argtypes = (ctypes.py_object, POINTER(_Buffer), c_int)
 _release_buffer = ctypes.pythonapi.PyBuffer_Release
 _release_buffer.argtypes = (POINTER(_Buffer),)
 _release_buffer.restype = None
-_new_bytes = ctypes.pythonapi.PyBytes_FromStringAndSize
-_new_bytes.argtypes = (c_void_p, c_ssize_t)
-_new_bytes.restype = ctypes.py_object
 
 
 class Lending:
@@ -203,15 +200,6 @@ def kept(source):
     if not view.readonly or view.obj is not None and not memoryview(view.obj).readonly:
         raise BufferError("bytes that are kept have to be read-only")
     return view
-
-
-def filled(length, fill):
-    """New bytes of a length, which a call fills. Nothing else sees them before they are filled."""
-    if length == 0:
-        return b""
-    made = _new_bytes(None, length)
-    fill(made)
-    return made
 
 
 def copied(address, length):

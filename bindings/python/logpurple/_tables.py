@@ -461,7 +461,8 @@ class Table(Made, _Read):
 
         Bytes that no read needs are not looked at, as that of the version section, and where the
         trailer says that this section, the data blocks and partitions lie: a file in which one of
-        these differs may open, and be verified. A sum of the whole file finds that.
+        these differs may open, and be verified. The `checksum` of a `FinishedTable` is that of
+        every byte.
 
         `progress` is called behind each block that is read, with how many bytes of data blocks were
         read of how many; what it raises ends this. It may use the table meanwhile.

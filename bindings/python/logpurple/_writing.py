@@ -25,21 +25,36 @@ def _chosen(options: Dict[str, int]) -> _calls.Options:
     return chosen
 
 
-# The bytes of finished tables.
-def _files(files: Held) -> List[bytes]:
+class FinishedTable(bytes):
+    """The bytes of a table that was written. `id` is the table's, and `checksum` the FNV-1a sum of
+    all bytes, which stands nowhere in them."""
+
+    id: int
+    checksum: int
+
+
+class Compacted(List[FinishedTable]):
+    """The tables that a compaction wrote, in order of their keys; none where nothing was kept.
+    `next_id` is the first id that is left, and `None` where none is."""
+
+    next_id: Optional[int]
+
+
+# Finished tables.
+def _files(files: Held) -> List[FinishedTable]:
     count = _calls.c_uint64()
     test(_calls.files_count(files._ref, byref(count)))
     return [_file(files, place) for place in range(count.value)]
 
 
-def _file(files: Held, place: int) -> bytes:
+def _file(files: Held, place: int) -> FinishedTable:
     told, count = _calls.FileTold(), _calls.c_uint64()
     test(_calls.files_tell(files._ref, place, byref(told)))
-
-    def fill(room: bytes) -> None:
-        test(_calls.files_copy(files._ref, place, 0, room, told.len, byref(count)))
-
-    return _calls.filled(told.len, fill)
+    # Zeros, which nothing else sees before they are written over.
+    file = FinishedTable(told.len)
+    test(_calls.files_copy(files._ref, place, 0, file, told.len, byref(count)))
+    file.id, file.checksum = told.id, told.checksum
+    return file
 
 
 class Writer(Held):
@@ -108,11 +123,16 @@ class Writer(Held):
         """
         self.add(key, b"", seqno, Kind.TOMBSTONE)
 
-    def finish(self) -> Optional[bytes]:
+    def finish(self) -> Optional[FinishedTable]:
         """The bytes of the table; `None` where nothing was written. The writer is closed then.
 
         >>> Writer().finish() is None
         True
+        >>> writer = Writer(id=4)
+        >>> writer.add(b"a", b"1")
+        >>> file = writer.finish()
+        >>> isinstance(file, bytes), file.id, f"{file.checksum:016x}"
+        (True, 4, '8836759aab92fee1')
         """
         with self._turn:
             try:
@@ -124,7 +144,7 @@ class Writer(Held):
 
 
 def compact(tables: Union[Runs, Iterable[Table]], *, watermark: int = 0, evict: bool = False,
-            zero: bool = False, target: int = NEWEST, **options: int) -> List[bytes]:
+            zero: bool = False, target: int = NEWEST, **options: int) -> Compacted:
     """Writes what is kept of all entries of some tables, the newest first, into new ones, and
     answers their bytes, in order of their keys; none where nothing is kept. The tables stay.
 
@@ -138,7 +158,8 @@ def compact(tables: Union[Runs, Iterable[Table]], *, watermark: int = 0, evict: 
     With `zero` numbers below the watermark become 0. A new table begins at the next key once the
     data blocks of the present one have `target` bytes; with `NEWEST` there is one. The tables are
     written with `options`, which a `Writer` takes too, and their ids run on from `id`, or from the
-    one behind it where `target` is 0.
+    one behind it where `target` is 0. The first that is left is `next_id` of what is answered; that
+    of `id` is taken where nothing is kept, too.
 
     Refused with `OutOfOrder` where a table does not hold what a writer makes, or two of them have
     one key under one number; with `NoSuch` as a `Writer` is, and with `TableIdsSpent` where no id
@@ -149,10 +170,9 @@ def compact(tables: Union[Runs, Iterable[Table]], *, watermark: int = 0, evict: 
     >>> older.add(b"a", b"old", seqno=1)
     >>> older.add(b"b", b"more", seqno=2)
     >>> tables = [Table.open(writer.finish()) for writer in (newer, older)]
-    >>> for file in compact(tables, watermark=10, evict=True, id=8):
-    ...     compacted = Table.open(file)
-    ...     compacted.facts().id, list(compacted.range())
-    (8, [(b'b', b'more')])
+    >>> files = compact(tables, watermark=10, evict=True, id=8)
+    >>> [(file.id, list(Table.open(file).range())) for file in files], files.next_id
+    ([(8, [(b'b', b'more')])], 9)
     """
     watermark, target, chosen = number(watermark), number(target), _chosen(options)
     runs = tables if isinstance(tables, Runs) else Runs(*listed(tables))
@@ -161,4 +181,6 @@ def compact(tables: Union[Runs, Iterable[Table]], *, watermark: int = 0, evict: 
         with runs._turn:
             test(_calls.compact(runs._ref, byref(chosen), watermark, bool(evict), bool(zero),
                                 target, files._ref, byref(next_id)))
-        return _files(files)
+        compacted = Compacted(_files(files))
+        compacted.next_id = next_id.value or None
+        return compacted

@@ -116,6 +116,7 @@ class Several(unittest.TestCase):
             self.assertEqual((list(runs.entries()), runs.get(b"a")), ([], None))
             self.assertEqual(compact(runs), [])
         self.assertEqual(compact([]), [])
+        self.assertEqual((compact([], id=5).next_id, compact([], id=2**64 - 1).next_id), (6, None))
 
     def test_compaction(self):
         for evict, zero, watermark in itertools.product([False, True], [False, True],
@@ -141,6 +142,8 @@ class Several(unittest.TestCase):
             first = 10 if target == 0 else 9
             self.assertEqual([table.facts().id for table in tables],
                              list(range(first, first + len(tables))))
+            self.assertEqual([file.id for file in files], [table.facts().id for table in tables])
+            self.assertEqual(files.next_id, first + len(tables))
             wanted = kept(self.all, NEWEST, False, False)
             self.assertEqual([e for table in tables for e in table.entries()], wanted)
             self.assertEqual(list(Runs(*tables).entries()), seen(wanted))
@@ -153,7 +156,8 @@ class Several(unittest.TestCase):
             compact(self.tables, id=2**64 - 1, target=1, data_block_size=64)
         with self.assertRaises(logpurple.NoSuch):
             compact(self.tables, data_block_restart_interval=0)
-        self.assertEqual(len(compact(self.tables, id=2**64 - 1)), 1)
+        made = compact(self.tables, id=2**64 - 1)
+        self.assertEqual((len(made), made.next_id), (1, None))
         for options in ({"watermark": -1}, {"target": 2**64}, {"id": 2**64}):
             with self.assertRaises(OverflowError):
                 compact(self.tables, **options)

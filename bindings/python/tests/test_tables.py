@@ -1,9 +1,11 @@
 """A table, compared with the list of its entries."""
 
 import array
+import copy
 import mmap
 import os
 import pathlib
+import pickle
 import tempfile
 import unittest
 
@@ -147,6 +149,15 @@ class Tables(unittest.TestCase):
             Table.open(file)
         file.append(0)
         self.assertEqual(list(table.entries()), entries_of(2, 9))
+
+    def test_a_finished_table(self):
+        file, checksum = file_of(entries_of(3, 20), id=6), 0xcbf29ce484222325
+        for byte in file:
+            checksum = (checksum ^ byte) * 0x100000001b3 % 2**64
+        for each in (file, copy.copy(file), pickle.loads(pickle.dumps(file))):
+            self.assertEqual((each.id, each.checksum, bytes(each)), (6, checksum, bytes(file)))
+            self.assertEqual(hash(each), hash(bytes(file)))
+        self.assertEqual(list(Table.open(file, kept=True).entries()), entries_of(3, 20))
 
     def test_a_global_number(self):
         table = Table.open(file_of(entries_of(3, 20)), global_seqno=100)
