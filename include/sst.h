@@ -476,8 +476,8 @@ uint32_t sst_writer_add(sst_handle *writer, const uint8_t *key, size_t key_len, 
 
 /* Finishes the table: the handle holds it then, in the writer's place, or none where nothing was
  * written. Where it is refused, what was written is given up. SST_WRITER_FAILED where an entry was
- * refused other than by SST_OUT_OF_ORDER and SST_NO_SUCH, before any memory is taken; where nothing
- * was written and no entry refused, it is not refused.
+ * refused other than by SST_OUT_OF_ORDER and SST_NO_SUCH, before any memory is taken; else, where
+ * nothing was written, it is not refused.
  */
 uint32_t sst_writer_finish(sst_handle *writer);
 
