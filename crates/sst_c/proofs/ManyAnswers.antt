@@ -8,7 +8,7 @@ use Rattle.sst_entries.specs.declared.error.Error.{Error}
 use Rattle.lsm_readers.specs.Many.{answers_to}
 use Rattle.lsm_readers.specs.Read.{◌>>=◌}
 use Rattle.sst_c.specs.Copies.{laid_over}
-use Rattle.sst_c.specs.Many.{AnswersMany, keys_cut, many_kept, queries_for}
+use Rattle.sst_c.specs.Many.{AnswersMany, many_kept, queries_for}
 use Rattle.std.specs.Prelude.{IsSomeAnd}
 use Rattle.sst_c.specs.What.{many_in}
 use Rattle.sst_c.specs.declared.held.Held.{Held}

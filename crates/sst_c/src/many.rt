@@ -3,7 +3,6 @@ ghost use Rattle.std.specs.Prelude.{◌≡◌, ◌≢◌, ◌<◌, ◌≤◌, �
 ghost use Rattle.std.specs.Prelude.{IsSomeAnd, None, Ok, Option, Result, Some, is_some, length};
 ghost use Rattle.std.specs.Prelude.{map};
 ghost use Rattle.std.specs.List.{sum};
-ghost use Rattle.sst_entries.specs.Entry.{Entry as EntryValue};
 ghost use Rattle.sst_entries.specs.Error.{Gives, number_of};
 ghost use Rattle.sst_entries.specs.declared.error.Error.{Error as ErrorValue};
 ghost use Rattle.sst_entries.specs.declared.error.Error.TheVariants.{OutOfMemory};
@@ -138,7 +137,7 @@ fn keep_found(
     requires empty { answers.old.boxed.value ≡ None }
     requires room { IfOk found (λ each. length each.items ≤ length entries.old) }
     ensures refused { IfErr found (λ e. result ≡ number_of e) }
-    ensures told { (told : Result (List (Option EntryValue)) ErrorValue) →
+    ensures told { (told : Result (List (Option Entry)) ErrorValue) →
         Gives (λ each. each.items) found told → let kept = many_kept answers.new.boxed.value in
         AnswersMany result kept entries.old entries.new told }
     ensures new { result ≡ 0 → IsSomeAnd answers.new.boxed.value (λ k. k.found ≡ None) }

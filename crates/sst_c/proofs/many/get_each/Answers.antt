@@ -1,4 +1,4 @@
-use Rattle.std.proofs.Common.{List, Ok, subst, sym}
+use Rattle.std.proofs.Common.{Ok, subst, sym}
 use Rattle.std.specs.Prelude.{map}
 use Rattle.lsm_readers.specs.Words.{OpenTable, StoresList, lift, point}
 use Rattle.sst_c.specs.Many.{AnswersMany, keys_cut, many_kept}
