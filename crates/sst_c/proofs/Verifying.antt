@@ -95,5 +95,3 @@ pub came_fine : (r : Result Verified VerifyError) → IfErr r (λ e. e ≡ OutOf
 came_fine (Ok v) fine code = cc
 came_fine (Err OutOfMemory) fine code = cc
 came_fine (Err (Found f)) fine code = found_is_no_memory f fine
-
-pub ruleset found_answers = (answers_ok, answers_err, answers_memory)

@@ -117,7 +117,6 @@ pub(crate) fn tell_verified(verified: Verified) -> VerifyTold
     }
 }
 
-#[tactic(auto, using(crate::proofs::Verifying::found_answers))]
 fn verify(table: &Table, told: &mut VerifyTold) -> u32
     requires { told.old ≡ no_finding }
     ensures told { VerifyAnswers result told.new
