@@ -440,17 +440,17 @@ typedef struct sst_options {
   uint64_t created_at; /* in nanoseconds since 1970 */
   uint32_t level;      /* at most 255 */
   uint32_t data_block_size;             /* in bytes of keys and values, at most 4 MiB */
-  uint32_t data_block_restart_interval; /* in entries, 1 to 255 */
-  uint32_t data_block_hash_ratio;       /* buckets an entry, in thousandths; 0 for none */
+  uint32_t data_block_restart_interval; /* 1 to 255; stored in the meta block, nothing else */
+  uint32_t data_block_hash_ratio;       /* stored in the meta block, nothing else */
   uint32_t index_partition_size;        /* in bytes, at most 4 MiB; 0 for one block */
   uint32_t filter_partition_size;       /* in bytes, at most 4 MiB; 0 for one block */
   uint32_t filter_bits_per_key;         /* in tenths of a bit; 0 for no filter */
   uint32_t unused;
 } sst_options;
 
-/* Fills in what is written with where nothing else is asked for: blocks of 4,096 bytes that restart
- * at each 16th entry and have no buckets, an index and a filter in one block each, ten bits a key;
- * id, moment and level are 0.
+/* Fills in the defaults: blocks of 4,096 bytes, an index and a filter in one block each, ten bits a
+ * key. The id, the timestamp and the level are 0, the restart interval is 16, the hash ratio 0; the
+ * last two change nothing but the meta block.
  */
 void sst_options_default(sst_options *options);
 

@@ -60,15 +60,15 @@ def _file(files: Held, place: int) -> FinishedTable:
 class Writer(Held):
     """Writes a table. Keys ascend, and the numbers of one key descend.
 
-    What it is written with: `id`; `created_at`, in nanoseconds since 1970; `level`, at most 255;
-    `data_block_size`, in bytes of keys and values, at most 4 MiB; `data_block_restart_interval`, in
-    entries, 1 to 255; `data_block_hash_ratio`, buckets an entry, in thousandths;
-    `index_partition_size` and `filter_partition_size`, in bytes, at most 4 MiB, 0 for one block;
-    `filter_bits_per_key`, in tenths of a bit, 0 for no filter. Where nothing else is said, blocks
-    have 4,096 bytes and a place to restart at after 16 entries, index and filter one block each, a
-    key ten bits, and the rest is 0. `NoSuch` is raised where one of these bounds is passed (4 MiB
-    are 4,194,304 bytes), `OverflowError` where a number is negative or has no place in its word: 64
-    bits of `id` and `created_at`, 32 of the others.
+    Options: `id`; `created_at`, in nanoseconds since 1970; `level`, at most 255; `data_block_size`,
+    in bytes of keys and values, at most 4 MiB; `index_partition_size` and `filter_partition_size`,
+    in bytes, at most 4 MiB, 0 for one block; `filter_bits_per_key`, in tenths of a bit, 0 for no
+    filter. `data_block_restart_interval` (1 to 255) and `data_block_hash_ratio` are stored in the
+    meta block and change nothing else. By default blocks have 4,096 bytes, index and filter are one
+    block each, a key has ten bits, the restart interval is 16, and the rest is 0. `NoSuch` is
+    raised if an option is out of its range (4 MiB are 4,194,304 bytes). `OverflowError` is raised
+    if a number is negative or does not fit its field: 64 bits for `id` and `created_at`, 32 for the
+    others.
 
     Where a `with` ends, the writer is closed: what was written and not finished is given up.
 

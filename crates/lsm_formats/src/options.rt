@@ -50,12 +50,13 @@ impl FilterKind {
 /// What a table is written with.
 #[derive(Clone, Copy, Debug, PartialEq, Eq)]
 pub struct Options {
-    /// After how many entries at most a data block has a place where reading can restart.
+    /// Restart interval of data blocks, at least 1. It is stored in the meta block and changes nothing
+    /// else.
     pub data_block_restart_interval: u8,
-    /// After how many handles at most an index block has a place where reading can restart: 1 where
-    /// the table is to be opened.
+    /// Restart interval of index blocks. It is stored in the meta block and changes no index block.
+    /// Only tables written with 1 can be opened.
     pub index_block_restart_interval: u8,
-    /// How many buckets a data block's hash index has for each entry, in thousandths; 0 for none.
+    /// Hash ratio of data blocks. It is stored in the meta block and changes nothing else.
     pub data_block_hash_ratio: u32,
     /// How many bytes of keys and values a data block has when it is cut.
     pub data_block_size: u32,

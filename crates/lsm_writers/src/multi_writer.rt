@@ -262,7 +262,8 @@ impl<A: Allocator + Clone> MultiWriter<A> {
         self.with_options(options)
     }
 
-    /// After how many entries at most a data block has a place where reading can restart.
+    /// Sets the restart interval of data blocks. It is stored in the meta block and changes nothing
+    /// else.
     pub fn use_data_block_restart_interval(self, interval: u8) -> MultiWriter<A>
         requires fresh { IsFreshRun self }
         requires some { 0 < interval }
@@ -277,8 +278,8 @@ impl<A: Allocator + Clone> MultiWriter<A> {
         self.with_options(options)
     }
 
-    /// Sets after how many handles at most an index block has a place where reading can restart.
-    /// Only tables written with 1 can be opened.
+    /// Sets the restart interval of index blocks. It is stored in the meta block and changes no index
+    /// block. Only tables written with 1 can be opened.
     pub fn use_index_block_restart_interval(self, interval: u8) -> MultiWriter<A>
         requires { IsFreshRun self }
         ensures { result ≡
@@ -292,7 +293,7 @@ impl<A: Allocator + Clone> MultiWriter<A> {
         self.with_options(options)
     }
 
-    /// How many buckets a data block's hash index has for each entry, in thousandths; 0 for none.
+    /// Sets the hash ratio of data blocks. It is stored in the meta block and changes nothing else.
     pub fn use_data_block_hash_ratio(self, ratio: u32) -> MultiWriter<A>
         requires { IsFreshRun self }
         ensures { result ≡

@@ -395,7 +395,8 @@ impl<A: Allocator + Clone> Writer<A> {
         self.with_options(options)
     }
 
-    /// After how many entries at most a data block has a place where reading can restart.
+    /// Sets the restart interval of data blocks. It is stored in the meta block and changes nothing
+    /// else.
     pub fn use_data_block_restart_interval(mut self, interval: u8) -> Writer<A>
         requires fresh { IsFresh self }
         requires some { 0 < interval }
@@ -409,8 +410,8 @@ impl<A: Allocator + Clone> Writer<A> {
         self
     }
 
-    /// Sets after how many handles at most an index block has a place where reading can restart.
-    /// Only tables written with 1 can be opened.
+    /// Sets the restart interval of index blocks. It is stored in the meta block and changes no index
+    /// block. Only tables written with 1 can be opened.
     pub fn use_index_block_restart_interval(mut self, interval: u8) -> Writer<A>
         requires { IsFresh self }
         ensures { result ≡ record self {
@@ -423,7 +424,7 @@ impl<A: Allocator + Clone> Writer<A> {
         self
     }
 
-    /// How many buckets a data block's hash index has for each entry, in thousandths; 0 for none.
+    /// Sets the hash ratio of data blocks. It is stored in the meta block and changes nothing else.
     pub fn use_data_block_hash_ratio(mut self, ratio: u32) -> Writer<A>
         requires { IsFresh self }
         ensures { result ≡ record self {

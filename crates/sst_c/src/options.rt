@@ -18,9 +18,10 @@ pub struct TableOptions {
     pub level: u32,
     /// How many bytes of keys and values a data block has when it is cut, at most 4 MiB.
     pub data_block_size: u32,
-    /// After how many entries at most a data block has a place where reading can restart: 1 to 255.
+    /// Restart interval of data blocks, 1 to 255. It is stored in the meta block and changes nothing
+    /// else.
     pub data_block_restart_interval: u32,
-    /// How many buckets a data block's hash index has for each entry, in thousandths; 0 for none.
+    /// Hash ratio of data blocks. It is stored in the meta block and changes nothing else.
     pub data_block_hash_ratio: u32,
     /// How many bytes a partition of the index has when it is cut, at most 4 MiB; 0 for one block.
     pub index_partition_size: u32,

@@ -16,9 +16,10 @@ pub struct Options {
     pub level: u8,
     /// How many bytes of keys and values a data block has when it is cut, at most 4 MiB.
     pub data_block_size: u32,
-    /// After how many entries at most reading can restart in a data block: 1 to 255.
+    /// Restart interval of data blocks, 1 to 255. It is stored in the meta block and changes nothing
+    /// else.
     pub data_block_restart_interval: u8,
-    /// How many buckets a data block's hash index has for each entry, in thousandths; 0 for none.
+    /// Hash ratio of data blocks. It is stored in the meta block and changes nothing else.
     pub data_block_hash_ratio: u32,
     /// How many bytes a partition of the index has when it is cut, at most 4 MiB; 0 for one block.
     pub index_partition_size: u32,
@@ -29,8 +30,8 @@ pub struct Options {
 }
 
 impl Default for Options {
-    /// Blocks of 4,096 bytes that restart at each 16th entry and have no hash index, an index and a
-    /// filter in one block each, ten bits a key; id, moment and level are 0.
+    /// Blocks of 4,096 bytes, an index and a filter in one block each, ten bits a key. The id, the
+    /// timestamp and the level are 0, the restart interval is 16, the hash ratio 0.
     fn default() -> Options {
         require_version();
         let mut told = sys::sst_options::default();
