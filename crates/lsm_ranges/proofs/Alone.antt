@@ -34,6 +34,11 @@ alone_all {T} runs rest all none so_far =
     ∙ ap (λ (ts : List T). runs ++ alone (length runs) ts) (sym none)
     ∙ so_far
 
+-- there is a table alone where there is one
+pub alone_none : {T : Type 0} (place : ℕ) (ts : List T) → tables_in (alone place ts) ≡ [] → ts ≡ []
+alone_none place [] none = refl
+alone_none place (t ∷ ts) none = absurd cc
+
 -- ---- runs of one table each are apart
 
 module _ {T : Type 0} (range : T → Interval) where

@@ -1,7 +1,7 @@
 //! Tables that are packed from runs of their own.
 ghost use Rattle.std.specs.Prelude.{◌≡◌, ◌∷◌, [], IfErr, IfOk};
 ghost use Rattle.sst_entries.specs.declared.error.Error.TheVariants.{OutOfMemory};
-ghost use Rattle.lsm_ranges.specs.Packing.{AreTablesWellFormed};
+ghost use Rattle.lsm_ranges.specs.Packing.{AreTablesWellFormed, IsChain, SameTables};
 ghost use Rattle.lsm_ranges.specs.Packed.{IsPackedOf, alone, placed};
 
 use crate::{KeyRange, Ranged, Run, optimize_runs, overlap_chain};
@@ -85,14 +85,24 @@ fn runs_of<T: Ranged + Drop, A: Allocator + Copy>(
     Ok(runs)
 }
 
-/// Packs tables, each a run of its own, the first the newest, in as few runs as there can be, and
-/// tells why there are no fewer. Each key keeps the order of its tables.
+/// Packs tables, each a run of its own, the newest first, into as few runs as possible. Each key
+/// keeps the order of its tables, and the chain shows why no fewer runs do. This holds if all
+/// ranges are well-formed ([`KeyRange::is_well_formed`]).
 ///
-/// Refused [`Error::OutOfMemory`] alone; the tables are given up then.
+/// Whatever the ranges, each table comes back exactly once. In the chain each table overlaps the
+/// next one, and the chain is empty only if there are no tables.
+///
+/// # Errors
+///
+/// [`Error::OutOfMemory`] alone. The tables are dropped then.
 pub fn pack_each<T: Clone + Ranged + Drop, A: Allocator + Copy>(
     alloc: A,
     tables: Vec<T, A>,
 ) -> Result<Packed<T, A>, Error>
+    ensures same { IfOk result (λ p. SameTables (alone 0 tables.items) p.runs.items) }
+    ensures chain { IfOk result (λ p.
+        IsChain (λ t. T.range t.table) (alone 0 tables.items) p.chain.items) }
+    ensures some { IfOk result (λ p. p.chain.items ≡ [] → tables.items ≡ []) }
     ensures packed { IfOk result (λ p. AreTablesWellFormed T.range tables.items →
         IsPackedOf T.range tables.items p) }
     ensures err { IfErr result (λ e. e ≡ OutOfMemory) }

@@ -36,7 +36,7 @@ pub struct Metadata<A: Allocator = Global> {
     pub uncompressed_size: u64,
     /// The first key.
     pub first_key: Option<UserKey<A>>,
-    /// The last key of the blocks that were cut.
+    /// The last key of the blocks that were cut, in memory that the cuts reuse.
     pub last_key: Option<KeyBuffer<A>>,
     /// The lowest number, `u64::MAX` where there is none.
     pub lowest_seqno: SeqNo,
