@@ -1,5 +1,5 @@
 //! The edges between which an iterator deals.
-ghost use Rattle.std.specs.Prelude.{◌≡◌, Some, None, OnOk, OnErr, IfErr};
+ghost use Rattle.std.specs.Prelude.{◌≡◌, ◌↔◌, IsTrue, Some, None, OnOk, OnErr, IfErr};
 ghost use Rattle.sst_entries.specs.declared.error.Error.TheVariants.{OutOfMemory};
 ghost use Rattle.lsm_block_indexes.specs.Words.{rest_in, window};
 
@@ -34,6 +34,13 @@ impl<A: Allocator + Clone> Edges<A> {
             lower: None,
             upper: None,
         }
+    }
+
+    /// Whether neither edge was sought.
+    pub fn are_none(&self) -> bool
+        ensures { IsTrue result ↔ (self.now ≡ (None, None)) }
+    {
+        self.lower.is_none() && self.upper.is_none()
     }
 
     /// Keeps a copy of the lower edge. Refused [`Error::OutOfMemory`] alone; the edges are then as

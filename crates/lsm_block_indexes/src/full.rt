@@ -96,6 +96,15 @@ impl<A: Allocator> Model for Iter<A> {
     ghost view = { λ i. i.0 };
 }
 
+impl<A: Allocator> Iter<A> {
+    /// Whether all handles are left: no edge was sought, and no step was made.
+    pub(crate) fn is_unsought(&self) -> bool
+        ensures { IsTrue result ↔ IsSpanSought self.now None None }
+    {
+        self.0.is_whole()
+    }
+}
+
 impl<A: Allocator> Iterator for Iter<A> {
     type Item = Result<KeyedBlockHandle<A>, Error>;
 

@@ -117,6 +117,20 @@ impl<A: Allocator> OwnedIndexBlockIter<A> {
         }
     }
 
+    /// Whether all handles of the block are left.
+    pub(crate) fn is_whole(&self) -> bool
+        ensures { IsTrue result ↔ (rest_in self.now ≡ self.now.list) }
+    {
+        self.to.saturating_sub(self.from) == self.block.len()
+    }
+
+    /// Whether no handle is left.
+    pub(crate) fn is_empty(&self) -> bool
+        ensures { IsTrue result ↔ (rest_in self.now ≡ []) }
+    {
+        self.to <= self.from
+    }
+
     /// Lets go what is left.
     pub(crate) fn end(&mut self)
         ensures rest { rest_in self.new ≡ [] }

@@ -1,6 +1,6 @@
 //! What every block index gives, and the three kinds of them.
 ghost use Rattle.std.specs.Prelude.{◌≡◌, ℕ, Bool, List, Option, [], Some, None, false, MatchOption};
-ghost use Rattle.std.specs.Prelude.{OnOk, OnErr, IfOk, IfErr};
+ghost use Rattle.std.specs.Prelude.{◌↔◌, IsTrue, OnOk, OnErr, IfOk, IfErr};
 ghost use Rattle.std.specs.Iterator.{at_most};
 ghost use Rattle.sst_entries.specs.declared.error.Error.TheVariants.{OutOfMemory};
 ghost use Rattle.lsm_block_indexes.specs.Words.{DealsEnding, Index, IsBetween, IsEnded, Left};
@@ -178,6 +178,18 @@ pub enum BlockIndexIterImpl<A: Allocator = Global> {
 }
 
 impl<A: Allocator + Clone> BlockIndexIterImpl<A> {
+    /// Whether an edge may be sought: none was, and no step was made. One that left nothing out, of
+    /// an index that stays loaded, does not count.
+    pub fn is_unsought(&self) -> bool
+        ensures { IsTrue result ↔ IsSought self.now None None }
+    {
+        match self {
+            BlockIndexIterImpl::Full(iter) => iter.is_unsought(),
+            BlockIndexIterImpl::Volatile(iter) => iter.is_unsought(),
+            BlockIndexIterImpl::TwoLevel(iter) => iter.is_unsought(),
+        }
+    }
+
     /// A step at the front, by the kind.
     #[inline]
     fn step(&mut self) -> Option<Result<KeyedBlockHandle<A>, Error>>

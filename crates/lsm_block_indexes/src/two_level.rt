@@ -1,6 +1,6 @@
 //! The index of two levels: a top level that stays loaded, and partitions that each iterator loads
 //! one after another.
-ghost use Rattle.std.specs.Prelude.{◌≡◌, [], Some, None, IfOk, IfErr};
+ghost use Rattle.std.specs.Prelude.{◌≡◌, ◌↔◌, [], IsTrue, Some, None, IfOk, IfErr};
 ghost use Rattle.std.specs.Iterator.{at_most};
 ghost use Rattle.sst_entries.specs.declared.error.Error.TheVariants.{OutOfMemory};
 ghost use Rattle.lsm_block_indexes.specs.Words.{AnswersTrue, DealsEnding, IsBetween};
@@ -8,8 +8,8 @@ ghost use Rattle.lsm_block_indexes.specs.Words.{IsTwoLevelSought, TwoLevelGives,
 ghost use Rattle.lsm_block_indexes.specs.Words.{back_needs, back_of, body_of, fault_at};
 ghost use Rattle.lsm_block_indexes.specs.Words.{front_early};
 ghost use Rattle.lsm_block_indexes.specs.Words.{front_needs, front_of, left_size, needs_at};
-ghost use Rattle.lsm_block_indexes.specs.Words.{new_two_level, none_opened, taken_at, two_level};
-ghost use Rattle.lsm_block_indexes.specs.Words.{two_level_left};
+ghost use Rattle.lsm_block_indexes.specs.Words.{new_two_level, none_opened, rest_of, taken_at};
+ghost use Rattle.lsm_block_indexes.specs.Words.{two_level, two_level_left};
 
 use crate::edges::Edges;
 use crate::iter::OwnedIndexBlockIter;
@@ -103,6 +103,16 @@ impl<A: Allocator + Clone> TwoLevelBlockIndex<A> {
     }
 }
 
+// Whether nothing is left of a partition, where one is loaded.
+fn is_over<A: Allocator>(part: &Option<OwnedIndexBlockIter<A>>) -> bool
+    ensures { IsTrue result ↔ (rest_of part.now ≡ []) }
+{
+    match part {
+        Some(part) => part.is_empty(),
+        None => true,
+    }
+}
+
 /// The handles of an index of two levels, dealt from both ends. A partition is loaded where a step
 /// first needs it, and no step loads more than it needs; each load is counted; where one cannot be
 /// loaded, the fault comes in the place of its handles, and one that needs no memory to be found
@@ -123,6 +133,15 @@ impl<A: Allocator> Model for Iter<A> {
 }
 
 impl<A: Allocator + Clone> Iter<A> {
+    /// Whether no edge was sought, and no step was made.
+    pub(crate) fn is_unsought(&self) -> bool
+        ensures { IsTrue result ↔ IsTwoLevelSought self.now None None }
+    {
+        let parts = &self.walk.parts;
+        let whole = parts.tops.is_whole() && parts.edges.are_none();
+        whole && is_over(&self.walk.front) && is_over(&self.walk.back)
+    }
+
     /// The answer at an end.
     #[inline(always)]
     fn answer(&mut self, at: Direction) -> Option<Result<KeyedBlockHandle<A>, Error>>

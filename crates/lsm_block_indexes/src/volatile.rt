@@ -1,5 +1,5 @@
 //! The index on demand: one block with the handle of every data block, which each iterator loads.
-ghost use Rattle.std.specs.Prelude.{◌≡◌, [], Some, None, IfOk, IfErr};
+ghost use Rattle.std.specs.Prelude.{◌≡◌, ◌↔◌, [], IsTrue, Some, None, IfOk, IfErr};
 ghost use Rattle.std.specs.Iterator.{at_most};
 ghost use Rattle.sst_entries.specs.declared.error.Error.TheVariants.{OutOfMemory};
 ghost use Rattle.lsm_block_indexes.specs.Words.{AnswersTrue, DealsEnding, IsBetween};
@@ -113,6 +113,15 @@ impl<A: Allocator> Model for Iter<A> {
       part = i.part;
       opened = i.opened;
     } };
+}
+
+impl<A: Allocator + Clone> Iter<A> {
+    /// Whether no edge was sought, and no step was made.
+    pub(crate) fn is_unsought(&self) -> bool
+        ensures { IsTrue result ↔ IsDemandSought self.now None None }
+    {
+        self.part.is_none() && self.edges.are_none()
+    }
 }
 
 impl<A: Allocator> Iter<A> {

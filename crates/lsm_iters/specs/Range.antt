@@ -60,6 +60,10 @@ new_range body g iter = record {
   opened = none_opened;
 }
 
+-- whether the edges of its index were sought
+abbrev pub with_sought : {A : Type 0} → Bool → Range A → Range A
+with_sought sought s = record s { handles = record s.handles { sought = sought } }
+
 -- the handles of the blocks that are not loaded; before the first step those that the index has
 -- between two edges
 abbrev pub to_seek : {A : Type 0} → Handles A → Option (List ℕ × ℕ) → Option (List ℕ)

@@ -1,5 +1,6 @@
 //! The handles of the blocks that are not loaded.
-ghost use Rattle.std.specs.Prelude.{◌≡◌, None, true, false, OnOk, OnErr, IfErr, List, ℕ, Option};
+ghost use Rattle.std.specs.Prelude.{◌≡◌, ◌↔◌, None, true, false, OnOk, OnErr, IfErr, List, ℕ};
+ghost use Rattle.std.specs.Prelude.{Option};
 ghost use Rattle.sst_entries.specs.declared.error.Error.TheVariants.{OutOfMemory};
 ghost use Rattle.lsm_iters.specs.Words.{IsSought, LeftGives, LoadsNone, SeeksOnce, TakesMemory};
 ghost use Rattle.lsm_iters.specs.Words.{all_over};
@@ -13,7 +14,8 @@ use sst_entries::Direction;
 use std::alloc::Allocator;
 use std::marker::Model;
 
-/// The handles that an index still deals. Its edges are sought once, before its first step.
+/// The handles that an index still yields. Its edges are sought once, before its first step, unless
+/// an edge was sought or a step made before: then its handles are taken as they are.
 #[derive(Drop)]
 pub struct Handles<A: Allocator> {
     iter: BlockIndexIterImpl<A>,
@@ -34,14 +36,15 @@ impl<A: Allocator> Model for Handles<A> {
 }
 
 impl<A: Allocator + Clone> Handles<A> {
-    /// Of an iterator whose edges were not sought, and of which no step was made.
+    /// Of any index iterator. Its edges are to be sought where none was, and no step was made.
     pub fn new(iter: BlockIndexIterImpl<A>) -> Handles<A>
-        requires { IsSought iter None None }
-        ensures { result ≡ record { iter = iter; sought = false; ended = false } }
+        ensures is { result ≡ record { iter = iter; sought = result.sought; ended = false } }
+        ensures unsought { (result.sought ≡ false) ↔ IsSought iter None None }
     {
+        let sought = !iter.is_unsought();
         Handles {
             iter,
-            sought: false,
+            sought,
             ended: false,
         }
     }

@@ -1,11 +1,11 @@
 //! The entries of a table within bounds, from both ends.
-ghost use Rattle.std.specs.Prelude.{◌≡◌, None, IfOk, IfErr};
+ghost use Rattle.std.specs.Prelude.{◌≡◌, ◌↔◌, None, IfOk, IfErr, false, true};
 ghost use Rattle.std.specs.Iterator.{at_most};
 ghost use Rattle.sst_entries.specs.declared.error.Error.TheVariants.{OutOfMemory};
 ghost use Rattle.lsm_iters.specs.Words.{DealsEnding, IsSought, RangeGives, back_next, back_of};
 ghost use Rattle.lsm_iters.specs.Words.{body_of, edge_of, front_next, front_of, new_range, next_at};
 ghost use Rattle.lsm_iters.specs.Words.{nowhere, opened_in, over, range_left, range_remains};
-ghost use Rattle.lsm_iters.specs.Words.{range_size, stopped, taken_at, unlent_range};
+ghost use Rattle.lsm_iters.specs.Words.{range_size, stopped, taken_at, unlent_range, with_sought};
 
 use crate::blocks::Blocks;
 use crate::cut::lift_answer;
@@ -44,19 +44,32 @@ impl<A: Allocator> Model for Iter<A> {
 }
 
 impl<A: Allocator + Clone> Iter<A> {
-    /// The entries of the blocks that an index names, with no bounds yet. The index iterator is to
-    /// be one whose edges were not sought, and of which no step was made: its edges are sought by
-    /// the first step, where bounds are set. Nothing is loaded. Refused [`Error::OutOfMemory`]
-    /// alone.
+    /// The entries of the blocks that an index iterator yields, without bounds.
+    ///
+    /// The first step seeks the bounds in the index. An index iterator that was already sought or
+    /// advanced is not sought again: each block that it still yields is loaded, and entries outside
+    /// of the bounds are left out. Nothing is loaded yet.
+    ///
+    /// # Errors
+    ///
+    /// [`Error::OutOfMemory`] only.
     pub fn new(
         global_seqno: SeqNo,
         source: &BlockSource<A>,
         index_iter: BlockIndexIterImpl<A>,
         compression: CompressionType,
     ) -> Result<Iter<A>, Error>
-        requires { IsSought index_iter None None }
+        // Nothing is loaded and no bound is set, whatever was done to the index iterator.
+        ensures is { let range = new_range (body_of source.now) global_seqno index_iter in
+            IfOk result (λ i. i ≡ with_sought i.handles.sought range) }
+        // It is to be sought exactly where no edge was sought and no step was made.
+        ensures unsought { IfOk result
+            (λ i. (i.handles.sought ≡ false) ↔ IsSought index_iter None None) }
         ensures whole { let range = new_range (body_of source.now) global_seqno index_iter in
-            IfOk result (λ i. i ≡ range) }
+            IsSought index_iter None None → IfOk result (λ i. i ≡ range) }
+        // Else its handles are those that the index iterator still yields.
+        ensures rest { let range = new_range (body_of source.now) global_seqno index_iter in
+            (IsSought index_iter None None → ⊥) → IfOk result (λ i. i ≡ with_sought true range) }
         ensures deals { let gives = ⟦<Iter<A> as Iterator>⟧.next_gives in
             let back_gives = ⟦<Iter<A> as DoubleEndedIterator>⟧.next_back_gives in
             IfOk result (λ i. DealsEnding gives back_gives (λ _. Unit {0}) (λ _. Unit {0}) i

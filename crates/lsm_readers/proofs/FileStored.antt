@@ -31,6 +31,7 @@ use Rattle.lsm_formats.specs.declared.options.FilterKind.TheVariants.{
 use Rattle.lsm_formats.specs.declared.options.Options.{Options}
 use Rattle.lsm_points.specs.declared.regions.ParsedRegions.{ParsedRegions}
 use Rattle.lsm_points.specs.Answer.{filter_admits}
+use Rattle.lsm_readers.specs.BlockIndexes.{StoresItsBlocks}
 use Rattle.lsm_readers.specs.OfList.{filter_said, filter_tops_said, regions_said}
 use Rattle.lsm_readers.specs.Stored.{Admits, BearsOut, FilterHas, IndexHas, NamesChunk, StoresList}
 use Rattle.lsm_points.specs.Table.{IsOpen, OpenTable}
@@ -183,10 +184,6 @@ module _ (v : TableVersion) (label : Label) (options : Options) (spills : List �
   )
 
 -- ---- a table of a list
-
-abbrev pub StoresItsBlocks : {bytes : List ℕ} {es : List Entry} → IsTable bytes es → Type 0
-StoresItsBlocks {bytes} {es} t =
-    (s : StoresList bytes es) × (s.handles ≡ handles t.version ((t.file).content).blocks)
 
 -- a table that readers read
 pub table_stores : (bytes : List ℕ) (es : List Entry) (t : IsTable bytes es)

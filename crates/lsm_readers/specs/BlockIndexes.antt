@@ -4,6 +4,7 @@ use Rattle.sst_entries.specs.Entry.{Entry}
 use Rattle.sst_entries.specs.Stream.{ok_results}
 use Rattle.sst_blocks.specs.Handles.{window}
 use Rattle.sst_sections.specs.Sections.{body_of}
+use Rattle.lsm_formats.specs.Index.{handles}
 use Rattle.lsm_formats.specs.Table.{IsTable}
 use Rattle.lsm_block_indexes.specs.Index.{Index}
 use Rattle.lsm_points.specs.IndexKinds.{index_over}
@@ -19,6 +20,12 @@ table_index t = index_over (body_of t.bytes) t.parts.pinned.index t.parts.region
 abbrev pub NamesBlocksOf : {bytes : List ℕ} {es : List Entry} → StoresList bytes es → Index → Type 0
 NamesBlocksOf t index = (lower : Option (List ℕ × ℕ)) (upper : Option (List ℕ)) →
     index.told lower upper ≡ ok_results (window t.handles lower upper)
+
+-- the bytes of a written table store its list, and the handles are those of the list's data blocks,
+-- chunk by chunk as writing cut it
+abbrev pub StoresItsBlocks : {bytes : List ℕ} {es : List Entry} → IsTable bytes es → Type 0
+StoresItsBlocks {bytes} {es} t =
+    (s : StoresList bytes es) × (s.handles ≡ handles t.version ((t.file).content).blocks)
 
 -- two tables of a list are cut alike: in one version, for data blocks of one size, with spills in
 -- the same places

@@ -14,8 +14,8 @@ pub use Rattle.sst_filters.specs.Filter.{BloomFilter}
 pub use Rattle.lsm_ranges.specs.KeyRange.{key_bound, overlaps_bounds}
 pub use Rattle.lsm_formats.specs.Table.{IsTable}
 pub use Rattle.lsm_block_indexes.specs.Kinds.{index_of as index_read}
-pub use Rattle.lsm_readers.specs.BlockIndexes.{AreCutAlike, NamesBlocksOf, TellAlike}
-pub use Rattle.lsm_readers.specs.BlockIndexes.{table_index}
+pub use Rattle.lsm_readers.specs.BlockIndexes.{AreCutAlike, NamesBlocksOf, StoresItsBlocks}
+pub use Rattle.lsm_readers.specs.BlockIndexes.{TellAlike, table_index}
 pub use Rattle.lsm_points.specs.Answer.{LoadsFew, admission, admitted_handle, answer, block_admits}
 pub use Rattle.lsm_points.specs.Answer.{filter_admits}
 pub use Rattle.lsm_points.specs.Answer.{lift, lifted, match_at, table_answer}

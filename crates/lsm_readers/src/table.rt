@@ -12,7 +12,8 @@ ghost use Rattle.lsm_readers.specs.Words.{facts_of, fault_of, filter_len, filter
 ghost use Rattle.lsm_readers.specs.Words.{fitting_told, hash_of, index_len, key_bound, lift};
 ghost use Rattle.lsm_readers.specs.Words.{list_told, load_at_told, load_told, none_opened, nowhere};
 ghost use Rattle.lsm_readers.specs.Words.{facts_fitting, overlaps_bounds, parts_of, parts_told};
-ghost use Rattle.lsm_readers.specs.Words.{AreCutAlike, OpenedWith, TellAlike, kind_for};
+ghost use Rattle.lsm_readers.specs.Words.{AreCutAlike, OpenedWith, StoresItsBlocks, TellAlike};
+ghost use Rattle.lsm_readers.specs.Words.{kind_for};
 ghost use Rattle.lsm_readers.specs.Words.{index_kind_of};
 ghost use Rattle.lsm_readers.specs.Words.{index_read, pinned_filter, pinned_of, pinned_told};
 ghost use Rattle.lsm_readers.specs.Words.{place_fault, place_size, places_told, point, table_index};
@@ -482,7 +483,8 @@ impl<A: Allocator + Clone> Table<A> {
 impl<A: Allocator> Table<A> {
     /// A law, which does nothing: a table whose bytes store a list says of itself what the list
     /// says, and its key range is the list's ends; they store no other list; what writers make of a
-    /// list stores it; and any table was recovered from its bytes, which are in memory.
+    /// list stores it, with a handle for each chunk into which they cut it; and any table was
+    /// recovered from its bytes, which are in memory.
     pub fn tells_its_list(&self)
         ensures parts { (es : List Entry) (t : IsTable self.now.bytes es) →
             SaysList t self.now.parts }
@@ -492,8 +494,8 @@ impl<A: Allocator> Table<A> {
             ⟦<Table<A> as Ranged>⟧.range self.now ≡ ends_of es }
         ensures one { (xs ys : List Entry) → StoresList self.now.bytes xs →
             StoresList self.now.bytes ys → xs ≡ ys }
-        ensures written { (es : List Entry) → IsTable self.now.bytes es →
-            StoresList self.now.bytes es }
+        ensures written { (es : List Entry) (t : IsTable self.now.bytes es) →
+            StoresItsBlocks t }
         ensures open { IsOpen self.now }
     {
         let _source: &BlockSource<A> = &self.source;

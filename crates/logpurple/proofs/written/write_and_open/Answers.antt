@@ -1,7 +1,8 @@
 use Rattle.sst_entries.proofs.Refusals.{faults_refusal}
-use Rattle.std.proofs.Common.{ap, arith}
+use Rattle.std.proofs.Common.{ap, sym, subst, List, ℕ, arith}
 use Rattle.lsm_formats.specs.declared.options.Options.{Options}
 use Rattle.lsm_formats.specs.Options.{label_of}
+use Rattle.lsm_formats.specs.Table.{IsTable}
 use Rattle.lsm_compactions.proofs.Opening.{none_written, opened, opens, unopened}
 use Rattle.logpurple.proofs.written.write_and_open.Goals as goal
 
@@ -33,3 +34,9 @@ returns-in_ok-opened-in-Some-clause-table g c =
     let o = c.in_ok-opened-in-Some.ensures in
     opened (label_of c.args.id 0 c.args.created_at) c.args.items.items c.args.global_seqno t.id t.checksum.0 t.bytes c.in_ok-opened-in-Some.opened f o.bytes o.number o.tree o.checksum
     (o.list c.args.items.items f.table (ap (λ (x : Options). x.index_block_restart_interval) f.options_are))
+
+pub returns-in_ok-opened-in-Some-clause-stored : goal.returns-in_ok-opened-in-Some-clause-stored
+returns-in_ok-opened-in-Some-clause-stored g c =
+    let f = rw c.in-Some.is at c.in_ok-write_list.ensures.table in
+    let same = sym c.in_ok-opened-in-Some.ensures.bytes in
+    (c.tells_its_list.ensures.written c.args.items.items (subst (λ (b : List ℕ). IsTable b c.args.items.items) same f.table)).0

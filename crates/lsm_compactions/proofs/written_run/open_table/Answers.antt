@@ -11,7 +11,7 @@ returns-clause-opened g c label es f =
     let t = c.args.table in
     let o = c.in_ok-opened.ensures in
     let is = opened label es c.args.global_seqno t.id t.checksum.0 t.bytes c.in_ok-opened.opened f o.bytes o.number o.tree o.checksum (o.list es f.table (ap (λ (x : Options). x.index_block_restart_interval) f.options_are)) in
-    record { is = is; opened = c.tells_its_list.ensures.open; range = c.tells_its_list.ensures.range es (c.tells_its_list.ensures.written es is.table) }
+    record { is = is; opened = c.tells_its_list.ensures.open; range = c.tells_its_list.ensures.range es (c.tells_its_list.ensures.written es is.table).0 }
 
 pub returns-clause-refused : goal.returns-clause-refused
 returns-clause-refused g c label es f =

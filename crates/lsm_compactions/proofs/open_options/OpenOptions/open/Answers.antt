@@ -24,7 +24,7 @@ returns-clause-opened g c =
 
 pub returns-clause-stored : goal.returns-clause-stored
 returns-clause-stored g c label options es f =
-    c.tells_its_list.ensures.written es (subst (λ (b : List ℕ). IsTable b es) (sym (c.in_ok-opened.ensures.bytes ∙ c.in_ok-clone.ensures.cases)) f.table)
+    (c.tells_its_list.ensures.written es (subst (λ (b : List ℕ). IsTable b es) (sym (c.in_ok-opened.ensures.bytes ∙ c.in_ok-clone.ensures.cases)) f.table)).0
 
 pub returns-clause-refused : goal.returns-clause-refused
 returns-clause-refused g c label options es f one =

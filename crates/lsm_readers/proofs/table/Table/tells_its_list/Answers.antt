@@ -30,7 +30,7 @@ pub returns-clause-one : goal.returns-clause-one
 returns-clause-one g c xs ys s t = stored_one c.args.self.now.bytes xs ys s t
 
 pub returns-clause-written : goal.returns-clause-written
-returns-clause-written g c es t = (open_stores c.args.self.now (subst IsOpen c.self.view_is c.self.invariant) es t).0
+returns-clause-written g c es t = open_stores c.args.self.now (subst IsOpen c.self.view_is c.self.invariant) es t
 
 pub returns-clause-open : goal.returns-clause-open
 returns-clause-open g c = subst IsOpen c.self.view_is c.self.invariant
