@@ -2,7 +2,7 @@
 //! that a refusal ends them. What walks them is generic in them, so that none of their parts is
 //! looked at.
 use crate::tables::{
-    BELITTLED, Changed, KINDS, LOADED, OLDER, ON_DEMAND, Of, Parted, Pins, TWO_LEVELS,
+    BELITTLED, Changed, KINDS, LOADED, OLDER, ON_DEMAND, Of, Parted, Pins, TWO_LEVELS, UNDERSTATED,
     changed_bytes, opened,
 };
 use logpurple::{BlockIndex, BlockIndexIter, BlockIndexIterImpl, Iter, Scanner, Table};
@@ -442,10 +442,6 @@ const PINS: Pins = (true, true);
 const OVERFLOWS: Came = Err((0, Error::SeqNoOverflow));
 
 const TOLD: &[Told] = &[
-    // the numbers of entries are tested where they are read
-    (BELITTLED, ALL_OF_IT, &[Call::Front(None)], OVERFLOWS),
-    (BELITTLED, ALL_OF_IT, &[Call::Back(None)], OVERFLOWS),
-    (BELITTLED, Subject::Scan, &[Call::Front(None)], OVERFLOWS),
     // a scan of some blocks, or of one at least; what lies behind them is no block of data
     (
         (Of::One, &[], PINS, 0),
@@ -552,9 +548,39 @@ fn wrong_told(alloc: Global, rows: &[Told]) -> Option<usize> {
     None
 }
 
+// A table, and what comes of its first entry or its last one, and of a scan.
+type FailsAtOnce = (Changed<'static>, Came, Came);
+
+const FAIL_AT_ONCE: &[FailsAtOnce] = &[
+    // the numbers of entries are tested where they are read
+    (BELITTLED, OVERFLOWS, OVERFLOWS),
+    (UNDERSTATED, OVERFLOWS, OVERFLOWS),
+    // a damaged block of data, which a scan loads as it is made
+    (
+        (Of::One, &[(44, b"?")], PINS, 0),
+        Err((0, Error::ChecksumMismatch)),
+        Err((UNMADE, Error::ChecksumMismatch)),
+    ),
+];
+
+const FRONT: &[Call] = &[Call::Front(None)];
+
+const BACK: &[Call] = &[Call::Back(None)];
+
+// Whether a table does so.
+fn fails_at_once(alloc: Global, row: &FailsAtOnce) -> bool {
+    let (changed, came, scanned) = row;
+    outcome(alloc, changed, &ALL_OF_IT, FRONT) == *came
+        && outcome(alloc, changed, &ALL_OF_IT, BACK) == *came
+        && outcome(alloc, changed, &Subject::Scan, FRONT) == *scanned
+}
+
 #[test]
 fn numbers_are_lifted_and_a_refusal_ends_what_is_walked(rt: HostRuntime) {
     assert!(rt; wrong_told(rt.alloc(), TOLD) == None);
+    for row in FAIL_AT_ONCE {
+        assert!(rt; fails_at_once(rt.alloc(), row));
+    }
 }
 
 // ---- want of memory
