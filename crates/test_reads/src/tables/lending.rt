@@ -42,7 +42,8 @@ fn lends_within(alloc: Global, changed: &Changed<'_>) -> bool {
     true
 }
 
-// What both ranges of a table with a byte changed yield.
+// What two ranges of a table with one byte changed yield, of which one borrows; none where they
+// differ.
 fn walk_changed(
     alloc: Global,
     changed: &Changed<'_>,
@@ -60,7 +61,7 @@ fn walk_changed(
 // all errors.
 type Counts = (usize, usize, u64);
 
-// Counts with one more table; none where it lends something else than it gives.
+// The counts with one more table; none where its two ranges differ.
 fn with_walk(counts: Counts, walk: Result<Option<Walk>, Error>) -> Option<Counts> {
     let (unopened, ended, sum) = counts;
     match walk {
@@ -85,7 +86,7 @@ fn counts_of(alloc: Global, changed: &Changed<'_>) -> Option<Counts> {
     Some(counts)
 }
 
-// Those of each of [`KINDS`], as an independent reader counts them.
+// Those of each of [`KINDS`], counted by the reader of tables in `.ci/answers`.
 const COUNTS: [Counts; 4] = [
     (1339, 184, 8141),
     (1207, 316, 8141),

@@ -85,12 +85,12 @@ pub(crate) fn are_right<A: Allocator + Copy>(alloc: A) -> Result<bool, Error> {
     asked_with(table, alloc, reads_in)
 }
 
-// ---- want of memory
+// ---- out of memory
 
 // A read, and the number that is found, if any, or an error.
 type Found = (Sought, Result<Option<SeqNo>, Error>);
 
-// Whether a read finds that. One that runs out of memory is made again.
+// Whether a read finds that. A read that runs out of memory is made again.
 fn is_found<A: Allocator + Copy>(table: &Table<A>, read: &Found) -> bool {
     let ((key, seqno), expected) = read;
     let mut found = counted_read(table, key, *seqno).0;
@@ -109,8 +109,8 @@ fn all_found<A: Allocator + Copy>(table: &Table<A>, reads: &[Found]) -> Result<b
     Ok(true)
 }
 
-// Three of the four blocks of data are damaged, of which a read has to tell also where there was no
-// memory to remember which checksums were compared.
+// Three of the four data blocks are damaged. A read reports that even if there was no memory for the
+// verified-block cache.
 const DAMAGED: Changed<'static> = (
     Of::Levels,
     &[(43, b"?"), (131, b"?"), (175, b"?")],
@@ -148,7 +148,8 @@ pub(crate) const OF_TWO_LEVELS: usize = 0;
 /// That of the one with damaged blocks of data.
 pub(crate) const OF_DAMAGED_BLOCKS: usize = 1;
 
-/// Whether the reads of the table at an index find what they should.
+/// Whether the reads of the table at an index find what they should, each on its second try at the
+/// latest.
 pub(crate) fn table_is_read<A: Allocator + Copy>(alloc: A, at: usize) -> Result<bool, Error> {
     match TABLES.get(at) {
         Some((changed, reads)) => asked_with(opened(alloc, changed), *reads, all_found),

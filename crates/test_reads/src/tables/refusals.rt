@@ -87,17 +87,17 @@ fn the_first_fault_of_sections_and_blocks(rt: HostRuntime) {
     assert!(rt; wrong_byte_fault(rt.alloc(), &BYTE_FAULTS) == None);
 }
 
-// Whether the first bytes of a table, so many, are not opened for want of a trailer.
+// Whether opening the first `len` bytes of a table fails for the trailer.
 fn has_no_trailer(alloc: Global, bytes: &[u8], len: usize) -> bool {
-    let front = bytes.get(..len).unwrap_or_default();
-    match Slice::from(alloc, front) {
-        Ok(front) => has_fault(open_with(alloc, front, BOTH, 0), &Error::InvalidTrailer),
+    let prefix = bytes.get(..len).unwrap_or_default();
+    match Slice::from(alloc, prefix) {
+        Ok(prefix) => has_fault(open_with(alloc, prefix, BOTH, 0), &Error::InvalidTrailer),
         Err(_) => false,
     }
 }
 
-// The length of the first front of a table that is opened, or fails otherwise.
-fn first_opened(alloc: Global, of: Of) -> Option<usize> {
+// The length of the first prefix of a table that opens, or fails for something else.
+fn first_other(alloc: Global, of: Of) -> Option<usize> {
     let bytes = bytes_of(alloc, of).ok()?;
     for len in 0..=bytes.len() {
         if !has_no_trailer(alloc, bytes.as_slice(), len) {
@@ -109,9 +109,9 @@ fn first_opened(alloc: Global, of: Of) -> Option<usize> {
 
 // From no bytes to all but the last one.
 #[test]
-fn a_front_of_a_table_has_no_trailer(rt: HostRuntime) {
-    assert!(rt; first_opened(rt.alloc(), Of::One) == Some(1258));
-    assert!(rt; first_opened(rt.alloc(), Of::Numbered(1)) == Some(1320));
+fn a_prefix_of_a_table_has_no_trailer(rt: HostRuntime) {
+    assert!(rt; first_other(rt.alloc(), Of::One) == Some(1258));
+    assert!(rt; first_other(rt.alloc(), Of::Numbered(1)) == Some(1320));
 }
 
 // The checksum of the meta block of that table, the place of a byte or, where there is none, of
