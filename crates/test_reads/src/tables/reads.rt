@@ -508,7 +508,7 @@ const OF_DEFAULT: [Sizes; 4] = [(33, 9, 29), (33, 9, 0), (33, 0, 29), (33, 0, 0)
 
 const OF_ONE: [Sizes; 4] = [(0, 0, 29), (0, 0, 0), (0, 0, 29), (0, 0, 0)];
 
-// In the older version a handle of such a key has 2 bytes less.
+// In the older table version a handle is 2 bytes shorter.
 const OF_FILTERED: [Sizes; 4] = [(33, 9, 27), (33, 9, 0), (33, 0, 27), (33, 0, 0)];
 
 // A table, its sizes and reads under each pair of pins.

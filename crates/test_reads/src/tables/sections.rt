@@ -44,9 +44,9 @@ fn layout_of(table: &Table) -> Result<Layout, Error> {
     ))
 }
 
-// Tables and their layouts. The first four have four blocks of data of 46 bytes, the last ones a
-// block of 47. A block of a handle for a key of one byte has 53 bytes, and 25 more for each further
-// handle; a filter of one or two keys has 33.
+// Tables and their layouts. The first five have four data blocks of 46 bytes, the last two one of 47.
+// A block of one handle for a key of one byte has 53 bytes, and 25 more for each further handle. A
+// filter of one or two keys has 33.
 static LAYOUTS: [(Of, Layout); 7] = [
     // A partition of the index for each block of data.
     (
