@@ -12,6 +12,7 @@ use test_tables::runs::is_right;
 enum Work {
     List,
     Points,
+    Reads(usize),
     Queries,
     Fault,
     Walk(usize),
@@ -31,6 +32,7 @@ fn answer<A: Allocator + Copy>(
     match work {
         Work::List => lists::rows_are_read(alloc),
         Work::Points => points::are_right(alloc),
+        Work::Reads(at) => points::table_is_read(alloc, *at),
         Work::Queries => queries::are_answered(alloc),
         Work::Fault => refusals::checksums_are_refused(alloc),
         Work::Walk(place) => walks::case_is_read(alloc, *place),
@@ -56,6 +58,8 @@ fn is_right_refused(alloc: Global, work: &Work, least: usize) -> bool {
 const WORKS: &[(Work, usize)] = &[
     (Work::List, 20),
     (Work::Points, 20),
+    (Work::Reads(points::OF_TWO_LEVELS), 20),
+    (Work::Reads(points::OF_DAMAGED_BLOCKS), 5),
     (Work::Queries, 20),
     (Work::Fault, 2),
     (Work::Walk(walks::IN_TURN_WITHIN), 20),

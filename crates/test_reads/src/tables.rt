@@ -15,12 +15,13 @@ pub mod points;
 pub mod queries;
 pub mod reads;
 pub mod refusals;
+mod sections;
 mod sizes;
 mod verified;
 mod walks;
 
 use logpurple::Table;
-use lsm_writers::{BloomConstructionPolicy, FilterKind, IndexKind, Options, Writer};
+use lsm_writers::{BloomConstructionPolicy, FilterKind, IndexKind, Options, Timestamp, Writer};
 use sst_blocks::{Checksum, Error, InternalValue, SeqNo, Slice, ValueType};
 use std::alloc::Allocator;
 use test_tables::rows::{Row, fill, new_writer};
@@ -121,6 +122,31 @@ fn written_with_interval<A: Allocator + Copy>(alloc: A) -> Result<Slice<A>, Erro
     written_by(writer, alloc, &rows)
 }
 
+// Those of a table of a@1 by a writer without options.
+fn written_by_default<A: Allocator + Copy>(alloc: A) -> Result<Slice<A>, Error> {
+    let rows: [Row<'static>; 1] = [(b"a", 1, ValueType::Value, b"x")];
+    written_by(Writer::new(alloc, 1, 0, Timestamp::from(0))?, alloc, &rows)
+}
+
+// Those of a table of [`ROWS`], each in a block of its own, without a filter. The partitioned index
+// starts with the default partition size: the smaller one set before it is forgotten.
+fn written_forgetting_index<A: Allocator + Copy>(alloc: A) -> Result<Slice<A>, Error> {
+    let writer = new_writer(alloc)?
+        .use_data_block_size(0)
+        .use_meta_partition_size(1)
+        .use_partitioned_index();
+    written_by(writer, alloc, ROWS)
+}
+
+// The same with the default filter, and the filter partitioned in place of the index.
+fn written_forgetting_filter<A: Allocator + Copy>(alloc: A) -> Result<Slice<A>, Error> {
+    let writer = Writer::new(alloc, 1, 0, Timestamp::from(0))?
+        .use_data_block_size(0)
+        .use_meta_partition_size(1)
+        .use_partitioned_filter();
+    written_by(writer, alloc, ROWS)
+}
+
 // Those of a table of [`ROWS`], each in a block of its own, where a size of partitions is
 // forgotten, as partitions are asked for after it.
 fn written_forgetting<A: Allocator + Copy>(alloc: A) -> Result<Slice<A>, Error> {
@@ -148,10 +174,16 @@ pub(crate) enum Of {
     /// Of these, with an index and a filter in a partition each, for which a smaller size was set
     /// before they were asked for.
     Forgetting,
+    /// Of these, without a filter and with such an index.
+    ForgettingIndex,
+    /// Of these, with a full index and such a filter.
+    ForgettingFilter,
     /// Of these, all in one block, without a filter.
     Block,
     /// Of `a` with a number and the value `x`.
     Numbered(SeqNo),
+    /// Of a@1 with the value `x`, by a writer without options.
+    Default,
     /// Of one whose index has an interval of two.
     Interval,
     /// Of entries of each kind, in three blocks.
@@ -175,11 +207,14 @@ pub(crate) fn bytes_of<A: Allocator + Copy>(alloc: A, of: Of) -> Result<Slice<A>
         Of::Rows(parted) => written(alloc, parted, ROWS, 0, 0),
         Of::Keys => written(alloc, Parted::Filter, ROWS, 100, 0),
         Of::Forgetting => written_forgetting(alloc),
+        Of::ForgettingIndex => written_forgetting_index(alloc),
+        Of::ForgettingFilter => written_forgetting_filter(alloc),
         Of::Block => written(alloc, Parted::Nothing, ROWS, 0, 4_096),
         Of::Numbered(number) => {
             let rows: [Row<'_>; 1] = [(b"a", number, ValueType::Value, b"x")];
             written(alloc, Parted::Nothing, &rows, 0, 4_096)
         }
+        Of::Default => written_by_default(alloc),
         Of::Interval => written_with_interval(alloc),
         Of::Kinds => written(alloc, Parted::Nothing, OF_EACH_KIND, 0, 7),
         _ => Ok(Slice::from(alloc, stored(of))?),
@@ -254,6 +289,22 @@ pub(crate) const BELITTLED: Changed<'static> = (
     (true, true),
     SeqNo::MAX,
 );
+
+/// The table of a@(`u64::MAX` - 1) whose meta block describes its sequence numbers as 3, opened
+/// with the global sequence number 3. The entry's own number overflows.
+pub(crate) const UNDERSTATED: Changed<'static> = (
+    Of::Numbered(SeqNo::MAX - 1),
+    &[
+        (117, &[92, 179, 23, 224, 215, 237, 250, 112]),
+        (919, &THREE),
+        (953, &THREE),
+    ],
+    (true, true),
+    3,
+);
+
+// The number 3 as an item of a meta block.
+const THREE: [u8; 8] = [3, 0, 0, 0, 0, 0, 0, 0];
 
 /// A key and a bound.
 pub(crate) type Sought = (&'static [u8], SeqNo);

@@ -1,5 +1,5 @@
-//! A run of a table that was stored in version 3 and of one that is written now, which may be
-//! compacted: it is proved that the stored bytes are a table of their entries.
+//! A run of a table that was stored in version 3 and of one that is written now, which is read as
+//! one, and may be compacted: it is proved that the stored bytes are a table of their entries.
 ghost use Rattle.std.specs.Prelude.{[], ◌∷◌, IfOk, List};
 ghost use Rattle.std.specs.Arc.{arc_value};
 ghost use Rattle.sst_entries.specs.Entry.{Entry};
@@ -8,15 +8,18 @@ ghost use Rattle.lsm_compactions.specs.Compacted.{AreCompactable};
 ghost use Rattle.lsm_runs.specs.RunLists.{HoldsList};
 ghost use Rattle.test_reads.specs.Stored.{new_entries, stored_entries};
 
-use crate::runs::compactions::{Listed, Version, are, entries_of};
-use logpurple::{Table, compact_runs};
+use crate::runs::compactions::{Version, are, entries_of};
+use logpurple::{RunReader, Table, compact_runs};
 use lsm_ranges::Run;
-use lsm_writers::{MultiWriter, TableIds, Timestamp, write_list};
+use lsm_writers::{FinishedTable, MultiWriter, TableIds, Timestamp, write_list};
 use sst_blocks::{Checksum, Error, InternalValue, Slice, ValueType};
 use std::alloc::Global;
+use std::ops::Bound;
 use std::sync::Arc;
-use test_tables::runs::Tables;
+use test_tables::large::{asked, asked_if_any};
+use test_tables::runs::{Tables, name_of};
 use test_tables::stored::two_levels;
+use test_tables::tables::open;
 
 const V: ValueType = ValueType::Value;
 
@@ -79,19 +82,6 @@ fn run(alloc: Global) -> Result<Tables<Global>, Error>
     Ok(Arc::new(alloc, both)?)
 }
 
-// What is kept of the run at threshold 0.
-fn kept(alloc: Global) -> Result<Listed, Error> {
-    let runs = [run(alloc)?];
-    let writer = MultiWriter::new(alloc, TableIds::new(1), 0, 0, Timestamp::from(0))?;
-    let (tables, _) = compact_runs(alloc, &runs, 0, false, false, writer)?;
-    entries_of(alloc, tables)
-}
-
-// Whether that is this list.
-fn is_kept(alloc: Global, entries: &[Version]) -> Result<bool, Error> {
-    Ok(are(&kept(alloc)?, entries))
-}
-
 const ENTRIES: [Version; 5] = [
     (b'a', 9, V),
     (b'a', 7, V),
@@ -99,6 +89,65 @@ const ENTRIES: [Version; 5] = [
     (b'b', 1, V),
     (b'c', 2, V),
 ];
+
+// Whether a reader yields all entries, and then nothing.
+fn yields_all(reader: &mut RunReader) -> Result<bool, Error> {
+    for (key, seqno, _) in &ENTRIES {
+        if name_of(reader.next())? != Some((*key, *seqno)) {
+            return Ok(false);
+        }
+    }
+    Ok(name_of(reader.next())? == None)
+}
+
+// The reader of the whole run.
+fn reader(alloc: Global) -> Result<Option<RunReader>, Error> {
+    RunReader::new(run(alloc)?, (Bound::Unbounded, Bound::Unbounded))
+}
+
+// The versions of the run's tables.
+fn versions_in(run: &Tables<Global>) -> Result<[Option<u8>; 2], Error> {
+    let mut versions = [None; 2];
+    for (version, table) in versions.iter_mut().zip(run.as_slice().iter()) {
+        *version = Some(table.metadata.table_version);
+    }
+    Ok(versions)
+}
+
+#[test]
+fn a_stored_table_and_a_new_one_are_read_as_one_run(rt: HostRuntime) {
+    assert!(rt; asked(run(rt.alloc()), versions_in) == Ok([Some(3), Some(4)]));
+    assert!(rt; asked_if_any(reader(rt.alloc()), yields_all) == Ok(Some(true)));
+}
+
+// What is kept of the run at threshold 0.
+fn kept(alloc: Global) -> Result<Vec<FinishedTable>, Error> {
+    let runs = [run(alloc)?];
+    let writer = MultiWriter::new(alloc, TableIds::new(1), 0, 0, Timestamp::from(0))?;
+    let (tables, _) = compact_runs(alloc, &runs, 0, false, false, writer)?;
+    Ok(tables)
+}
+
+fn version_of(table: &Table) -> Result<u8, Error> {
+    Ok(table.metadata.table_version)
+}
+
+// Whether tables are written in version 4.
+fn are_new(alloc: Global, tables: &[FinishedTable]) -> Result<bool, Error> {
+    for table in tables {
+        if asked(open(alloc, table.bytes.clone()?, 0), version_of)? != 4 {
+            return Ok(false);
+        }
+    }
+    Ok(true)
+}
+
+// Whether what is kept has these entries, in tables of version 4.
+fn is_kept(alloc: Global, entries: &[Version]) -> Result<bool, Error> {
+    let tables = kept(alloc)?;
+    let are_new = are_new(alloc, &tables)?;
+    Ok(are(&entries_of(alloc, tables)?, entries) && are_new)
+}
 
 #[test]
 fn a_stored_table_and_a_new_one_are_compacted(rt: HostRuntime) {

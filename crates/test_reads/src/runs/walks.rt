@@ -129,15 +129,17 @@ fn gives_or_ends<W: Walk>(walk: &mut W, tables: Lists, steps: Steps) -> Result<b
     if is_over(walk) { given } else { Ok(false) }
 }
 
-// Whether there is a walk that gives these steps, or none where there are to be none.
+// Whether there is a reader that yields these steps, or no reader where there are no steps. A reader
+// that yields nothing is not the same as none.
 fn gives<W: Walk + Drop>(
     walk: Result<Option<W>, Error>,
     tables: Lists,
     steps: Option<Steps>,
 ) -> Result<bool, Error> {
-    match walk? {
-        Some(mut walk) => gives_or_ends(&mut walk, tables, steps.unwrap_or(b"")),
-        None => Ok(steps.is_none()),
+    match (walk?, steps) {
+        (Some(mut walk), Some(steps)) => gives_or_ends(&mut walk, tables, steps),
+        (None, None) => Ok(true),
+        _ => Ok(false),
     }
 }
 

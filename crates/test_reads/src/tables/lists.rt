@@ -35,6 +35,7 @@ const LISTS: &[&[Row<'static>]] = &[
         (b"c", 6, ValueType::WeakTombstone, b""),
         (b"d", 5, ValueType::Indirection, b"far"),
     ],
+    &[(b"a", 3, ValueType::Value, b"x")],
 ];
 
 const NO_ROWS: usize = 0;
@@ -46,6 +47,8 @@ const TWICE: usize = 2;
 const TOO_HIGH: usize = 3;
 
 const TOMBSTONES: usize = 4;
+
+const A3: usize = 5;
 
 // The rows at a place.
 fn rows_at(place: usize) -> &'static [Row<'static>] {
@@ -241,6 +244,8 @@ const ROWS_OVERLAP: [bool; 6] = [true, true, true, false, false, false];
 
 const UP_TO_D: [bool; 6] = [true, true, true, true, true, false];
 
+const ONLY_A: [bool; 6] = [true, false, false, false, false, false];
+
 // The place of rows, a global number, and what the table of them says.
 const SAYS: &[(usize, SeqNo, Facts)] = &[
     (ROWS, 0, ([3, 4, 1, 0, 0, 2, 1, 9, 9], *b"ab", ROWS_OVERLAP)),
@@ -259,6 +264,7 @@ const SAYS: &[(usize, SeqNo, Facts)] = &[
         0,
         ([3, 5, 3, 2, 1, 4, 5, 9, 9], *b"ad", UP_TO_D),
     ),
+    (A3, 10, ([3, 1, 0, 0, 0, 1, 3, 3, 13], *b"aa", ONLY_A)),
 ];
 
 #[test]

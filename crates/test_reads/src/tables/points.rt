@@ -1,5 +1,6 @@
-//! Point reads over a source that lists what it loads.
-use crate::tables::{Of, Parted, Sought, number_of, opened};
+//! Point reads over a source that lists what it loads, and point reads of tables where a request for
+//! memory is refused.
+use crate::tables::{Changed, Of, Parted, Sought, TWO_LEVELS, counted_read, number_of, opened};
 use logpurple::{Table, point_in};
 use sst_blocks::{Block, BlockHandle, BlockSource, BlockType, Counted, Error, LoadBlocks, SeqNo};
 use std::alloc::Allocator;
@@ -82,4 +83,76 @@ fn reads_in<A: Allocator + Copy>(table: &Table<A>, alloc: A) -> Result<bool, Err
 pub(crate) fn are_right<A: Allocator + Copy>(alloc: A) -> Result<bool, Error> {
     let table = opened(alloc, &(Of::Rows(Parted::Nothing), &[], (true, true), 0));
     asked_with(table, alloc, reads_in)
+}
+
+// ---- out of memory
+
+// A read, and the number that is found, if any, or an error.
+type Found = (Sought, Result<Option<SeqNo>, Error>);
+
+// Whether a read finds that. A read that runs out of memory is made again.
+fn is_found<A: Allocator + Copy>(table: &Table<A>, read: &Found) -> bool {
+    let ((key, seqno), expected) = read;
+    let mut found = counted_read(table, key, *seqno).0;
+    if found == Err(Error::OutOfMemory) {
+        found = counted_read(table, key, *seqno).0;
+    }
+    found == *expected
+}
+
+fn all_found<A: Allocator + Copy>(table: &Table<A>, reads: &[Found]) -> Result<bool, Error> {
+    for read in reads {
+        if !is_found(table, read) {
+            return Ok(false);
+        }
+    }
+    Ok(true)
+}
+
+// Three of the four data blocks are damaged. A read reports that even if there was no memory for the
+// verified-block cache.
+const DAMAGED: Changed<'static> = (
+    Of::Levels,
+    &[(43, b"?"), (131, b"?"), (175, b"?")],
+    (true, true),
+    0,
+);
+
+const MISMATCH: Result<Option<SeqNo>, Error> = Err(Error::ChecksumMismatch);
+
+// Tables, and reads of them.
+const TABLES: &[(Changed<'static>, &[Found])] = &[
+    (
+        TWO_LEVELS,
+        &[
+            ((b"a", 8), Ok(Some(7))),
+            ((b"a", 5), Ok(None)),
+            ((b"b", 2), Ok(Some(1))),
+            ((b"c", 100), Ok(None)),
+        ],
+    ),
+    (
+        DAMAGED,
+        &[
+            ((b"a", 10), MISMATCH),
+            ((b"a", 8), Ok(Some(7))),
+            ((b"a", 6), MISMATCH),
+            ((b"b", 2), MISMATCH),
+        ],
+    ),
+];
+
+/// The index of the table whose index has two levels.
+pub(crate) const OF_TWO_LEVELS: usize = 0;
+
+/// That of the one with damaged blocks of data.
+pub(crate) const OF_DAMAGED_BLOCKS: usize = 1;
+
+/// Whether the reads of the table at an index find what they should, each on its second try at the
+/// latest.
+pub(crate) fn table_is_read<A: Allocator + Copy>(alloc: A, at: usize) -> Result<bool, Error> {
+    match TABLES.get(at) {
+        Some((changed, reads)) => asked_with(opened(alloc, changed), *reads, all_found),
+        None => Ok(false),
+    }
 }

@@ -4,7 +4,8 @@
 //! compares all that is read.
 use crate::tables::refusals::{DATA_AT, FF};
 use crate::tables::{
-    ALL_PINS, BELITTLED, Changed, Of, Parted, Pins, Sought, cloned, counted_read, opened,
+    ALL_PINS, BELITTLED, Changed, Of, Parted, Pins, Sought, UNDERSTATED, cloned, counted_read,
+    opened,
 };
 use logpurple::Table;
 use sst_blocks::{Error, SeqNo};
@@ -112,7 +113,7 @@ const LARGEST_AT_LAST: Changed<'static> = (
 );
 
 // Further changes than of three bytes, a read, and its answer.
-static CHANGED_READS: [(Changed<'static>, Sought, Answer); 10] = [
+static CHANGED_READS: [(Changed<'static>, Sought, Answer); 12] = [
     // changes that opening does not see: no data section;
     ((Of::One, &[(DATA_AT, &FF)], BOTH, 0), (b"a", 2), FINDS_1),
     // an item of the meta block is read below the largest number, and whatever its tag is
@@ -139,6 +140,28 @@ static CHANGED_READS: [(Changed<'static>, Sought, Answer); 10] = [
         (b"a", 2),
         FINDS_1,
     ),
+    // the bytes of a number past its type are ignored: `item_count` has nine, and the item before
+    // it, which is not read, none
+    (
+        (
+            Of::One,
+            &[
+                (113, &[76, 6, 64, 197, 118, 194, 105, 42]),
+                (
+                    566,
+                    &[
+                        0, 0, 0, 0, 105, 110, 105, 116, 105, 97, 108, 95, 108, 101, 118, 101, 108,
+                        0, 0, 0, 0, 0, 0, 0, 0, 0, 10, 0, 9, 0, 0, 0, 105, 116, 101, 109, 95, 99,
+                        111, 117, 110, 116, 1, 0, 0, 0, 0, 0, 0, 0, 7,
+                    ],
+                ),
+            ],
+            BOTH,
+            0,
+        ),
+        (b"a", 2),
+        FINDS_1,
+    ),
     // the partition of `b` is asked, and does not have `a`
     (LARGEST_AT_FIRST, (b"a", 10), Ok((Ok(None), [0, 0, 1]))),
     (
@@ -155,8 +178,10 @@ static CHANGED_READS: [(Changed<'static>, Sought, Answer); 10] = [
         Ok((Ok(None), [0, 0, 0])),
     ),
     (LARGEST_AT_LAST, (b"a", 10), Ok((Ok(Some(9)), [1, 0, 1]))),
-    // no handle is numbered below the bound less the global number, whatever the meta block says
+    // the bound less the global number is 0, which no entry is below: nothing is loaded
     (BELITTLED, (b"a", SeqNo::MAX), Ok((Ok(None), [0, 0, 0]))),
+    // it is above the lowest number that the meta block describes, and no handle is below it
+    (UNDERSTATED, (b"a", SeqNo::MAX), Ok((Ok(None), [0, 0, 0]))),
 ];
 
 // Stands for the empty key.
@@ -174,7 +199,7 @@ fn key_of(letter: u8) -> &'static [u8] {
 // A damaged table, a key of one letter and a bound, and the answer.
 type Read = (Damaged, (u8, SeqNo), Answer);
 
-static READS: [Read; 55] = [
+static READS: [Read; 57] = [
     // changes that opening does not see: none; another version behind the index
     ((Of::One, WHOLE, BOTH, 0), (b'a', 2), FINDS_1),
     ((Of::One, ((96, 9), NO, NO), BOTH, 0), (b'a', 2), FINDS_1),
@@ -220,6 +245,17 @@ static READS: [Read; 55] = [
         (Of::Filtered, ((128, b'?'), NO, NO), BOTH, 0),
         (b'a', 2),
         Err(MISMATCH),
+    ),
+    // the index before the filter, or before its top level
+    (
+        (Of::Filtered, ((50, 1), (128, b'?'), NO), BOTH, 0),
+        (b'a', 2),
+        Err(Error::UnsupportedCompression),
+    ),
+    (
+        (Of::FilterParts, ((181, 1), (435, b'?'), NO), BOTH, 0),
+        (b'a', 2),
+        Err(Error::UnsupportedCompression),
     ),
     // and a top level, which stays loaded in any case
     (
@@ -440,6 +476,20 @@ fn all_answer(alloc: Global, of: Of, all: &[Sizes; 4], reads: &[Pinned]) -> bool
     true
 }
 
+// Reads of a@9, a@7 and a@5 by an index of two levels: a read loads one partition and one block of
+// data. Past the last key the top level, which is always pinned, has no handle.
+const BY_PARTITIONS: [Pinned; 3] = [
+    (b"a", 8, Some(7), [[1, 1, 0]; 4]),
+    (b"a", 5, None, [[1, 1, 0]; 4]),
+    (b"c", 100, None, NOTHING),
+];
+
+// The empty key in a table of `a`: by the filter it is not there; without one the first block of
+// data is searched.
+const FILTERED_OUT: [Pinned; 1] = [(b"", 2, None, [[0; 3], [0; 3], [0, 0, 1], [0, 0, 1]])];
+
+const NOT_FILTERED_OUT: [Pinned; 1] = [(b"", 2, None, UNFILTERED)];
+
 const OF_FOUR: [Sizes; 4] = [(0, 0, 104), (0, 0, 0), (0, 0, 104), (0, 0, 0)];
 
 const OF_PARTS: [Sizes; 4] = [(66, 0, 104), (66, 0, 0), (66, 0, 104), (66, 0, 0)];
@@ -453,24 +503,30 @@ const BY_ONE_PARTITION: [Pinned; 2] = [
     (b"c", 100, None, NOTHING),
 ];
 
+// A filter of one key has 9 bytes, and a header of 24.
+const OF_DEFAULT: [Sizes; 4] = [(33, 9, 29), (33, 9, 0), (33, 0, 29), (33, 0, 0)];
+
+const OF_ONE: [Sizes; 4] = [(0, 0, 29), (0, 0, 0), (0, 0, 29), (0, 0, 0)];
+
+// In the older table version a handle is 2 bytes shorter.
+const OF_FILTERED: [Sizes; 4] = [(33, 9, 27), (33, 9, 0), (33, 0, 27), (33, 0, 0)];
+
+// A table, its sizes and reads under each pair of pins.
+const PINNED: &[(Of, [Sizes; 4], &[Pinned])] = &[
+    (Of::Rows(Parted::Nothing), OF_FOUR, &OF_FOUR_BLOCKS),
+    (Of::Keys, OF_PARTS, &OF_FILTER_PARTS),
+    (Of::Forgetting, OF_FORGETTING, &BY_ONE_PARTITION),
+    (Of::Rows(Parted::Index), [(0, 0, 104); 4], &BY_PARTITIONS),
+    (Of::Levels, [(0, 0, 96); 4], &BY_PARTITIONS),
+    (Of::Default, OF_DEFAULT, &FILTERED_OUT),
+    (Of::Filtered, OF_FILTERED, &FILTERED_OUT),
+    (Of::Numbered(1), OF_ONE, &NOT_FILTERED_OUT),
+];
+
 // `test_vectors` has such reads of other tables.
 #[test]
 fn tables_are_read_under_each_pair_of_pins(rt: HostRuntime) {
-    assert!(rt;
-        all_answer(
-            rt.alloc(),
-            Of::Rows(Parted::Nothing),
-            &OF_FOUR,
-            &OF_FOUR_BLOCKS
-        )
-    );
-    assert!(rt; all_answer(rt.alloc(), Of::Keys, &OF_PARTS, &OF_FILTER_PARTS));
-    assert!(rt;
-        all_answer(
-            rt.alloc(),
-            Of::Forgetting,
-            &OF_FORGETTING,
-            &BY_ONE_PARTITION
-        )
-    );
+    for (of, sizes, reads) in PINNED {
+        assert!(rt; all_answer(rt.alloc(), *of, sizes, reads));
+    }
 }

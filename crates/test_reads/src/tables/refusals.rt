@@ -1,8 +1,8 @@
 //! What opening a table refuses: the stored table of one entry with some of its bytes changed.
 use crate::tables::reads::{BOTH, Bytes, LARGEST, NO, damaged};
-use crate::tables::{Changed, Changes, Of, opened};
+use crate::tables::{Changed, Changes, Of, bytes_of, open_with, opened};
 use logpurple::Table;
-use sst_blocks::{Error, TagName};
+use sst_blocks::{Error, Slice, TagName};
 use std::alloc::{Allocator, Global};
 
 pub(crate) const FF: [u8; 16] = [0xff; 16];
@@ -85,6 +85,33 @@ fn wrong_byte_fault(alloc: Global, faults: &[(Bytes, Error)]) -> Option<usize> {
 fn the_first_fault_of_sections_and_blocks(rt: HostRuntime) {
     assert!(rt; wrong_fault(rt.alloc(), &FAULTS) == None);
     assert!(rt; wrong_byte_fault(rt.alloc(), &BYTE_FAULTS) == None);
+}
+
+// Whether opening the first `len` bytes of a table fails for the trailer.
+fn has_no_trailer(alloc: Global, bytes: &[u8], len: usize) -> bool {
+    let prefix = bytes.get(..len).unwrap_or_default();
+    match Slice::from(alloc, prefix) {
+        Ok(prefix) => has_fault(open_with(alloc, prefix, BOTH, 0), &Error::InvalidTrailer),
+        Err(_) => false,
+    }
+}
+
+// The length of the first prefix of a table that opens, or fails for something else.
+fn first_other(alloc: Global, of: Of) -> Option<usize> {
+    let bytes = bytes_of(alloc, of).ok()?;
+    for len in 0..=bytes.len() {
+        if !has_no_trailer(alloc, bytes.as_slice(), len) {
+            return Some(len);
+        }
+    }
+    None
+}
+
+// From no bytes to all but the last one.
+#[test]
+fn a_prefix_of_a_table_has_no_trailer(rt: HostRuntime) {
+    assert!(rt; first_other(rt.alloc(), Of::One) == Some(1258));
+    assert!(rt; first_other(rt.alloc(), Of::Numbered(1)) == Some(1320));
 }
 
 // The checksum of the meta block of that table, the place of a byte or, where there is none, of
@@ -252,7 +279,7 @@ static ITEMS: [([u8; 8], usize, Option<[u8; 1]>, Error); 26] = [
 
 // Further changes of that block, with its checksum, and the fault. Where a value is shorter, that
 // of an item which is not read is longer.
-static ITEM_FAULTS: [(Changes<'static>, Error); 9] = [
+static ITEM_FAULTS: [(Changes<'static>, Error); 11] = [
     (
         &[
             (113, &[139, 166, 19, 26, 44, 226, 82, 114]),
@@ -316,6 +343,42 @@ static ITEM_FAULTS: [(Changes<'static>, Error); 9] = [
             ),
         ],
         Error::UnsupportedChecksumType,
+    ),
+    // `checksum_type` is gone, so there are 28 items, and one that is not read is longer
+    (
+        &[
+            (113, &[86, 55, 36, 10, 226, 119, 83, 55]),
+            (121, &[28]),
+            (
+                245,
+                &[
+                    0, 0, 0, 0, 0, 0, 0, 0, 0, 16, 0, 1, 0, 0, 0, 99, 111, 109, 112, 114, 101, 115,
+                    115, 105, 111, 110, 35, 100, 97, 116, 97, 0, 0, 0, 0, 0, 0, 0, 0, 0, 0, 17, 0,
+                    1, 0, 0, 0, 99, 111, 109, 112, 114, 101, 115, 115, 105, 111, 110, 35, 105, 110,
+                    100, 101, 120, 0, 0, 0, 0, 0, 0, 0, 0, 0, 0, 13, 0, 35, 0, 0, 0, 99, 114, 97,
+                    116, 101, 95, 118, 101, 114, 115, 105, 111, 110, 51, 46, 49, 46, 49, 48, 32,
+                    32, 32, 32, 32, 32, 32, 32, 32, 32, 32, 32, 32, 32, 32, 32, 32, 32, 32, 32, 32,
+                    32, 32, 32, 32, 32, 32, 32, 32,
+                ],
+            ),
+        ],
+        Error::MetaKeyMissing,
+    ),
+    // `restart_interval#index` is empty
+    (
+        &[
+            (113, &[46, 21, 133, 14, 87, 253, 58, 3]),
+            (
+                783,
+                &[
+                    2, 0, 0, 0, 114, 101, 115, 116, 97, 114, 116, 95, 105, 110, 116, 101, 114, 118,
+                    97, 108, 35, 100, 97, 116, 97, 16, 0, 0, 0, 0, 0, 0, 0, 0, 0, 0, 22, 0, 0, 0,
+                    0, 0, 114, 101, 115, 116, 97, 114, 116, 95, 105, 110, 116, 101, 114, 118, 97,
+                    108, 35, 105, 110, 100, 101, 120,
+                ],
+            ),
+        ],
+        Error::InvalidMetaValue,
     ),
     // of two faults the first
     (

@@ -2,7 +2,7 @@
 //! that a refusal ends them. What walks them is generic in them, so that none of their parts is
 //! looked at.
 use crate::tables::{
-    BELITTLED, Changed, KINDS, LOADED, OLDER, ON_DEMAND, Of, Parted, Pins, TWO_LEVELS,
+    BELITTLED, Changed, KINDS, LOADED, OLDER, ON_DEMAND, Of, Parted, Pins, TWO_LEVELS, UNDERSTATED,
     changed_bytes, opened,
 };
 use logpurple::{BlockIndex, BlockIndexIter, BlockIndexIterImpl, Iter, Scanner, Table};
@@ -442,10 +442,6 @@ const PINS: Pins = (true, true);
 const OVERFLOWS: Came = Err((0, Error::SeqNoOverflow));
 
 const TOLD: &[Told] = &[
-    // the numbers of entries are tested where they are read
-    (BELITTLED, ALL_OF_IT, &[Call::Front(None)], OVERFLOWS),
-    (BELITTLED, ALL_OF_IT, &[Call::Back(None)], OVERFLOWS),
-    (BELITTLED, Subject::Scan, &[Call::Front(None)], OVERFLOWS),
     // a scan of some blocks, or of one at least; what lies behind them is no block of data
     (
         (Of::One, &[], PINS, 0),
@@ -552,15 +548,45 @@ fn wrong_told(alloc: Global, rows: &[Told]) -> Option<usize> {
     None
 }
 
+// A table, and what comes of its first entry or its last one, and of a scan.
+type FailsAtOnce = (Changed<'static>, Came, Came);
+
+const FAIL_AT_ONCE: &[FailsAtOnce] = &[
+    // the numbers of entries are tested where they are read
+    (BELITTLED, OVERFLOWS, OVERFLOWS),
+    (UNDERSTATED, OVERFLOWS, OVERFLOWS),
+    // a damaged block of data, which a scan loads as it is made
+    (
+        (Of::One, &[(44, b"?")], PINS, 0),
+        Err((0, Error::ChecksumMismatch)),
+        Err((UNMADE, Error::ChecksumMismatch)),
+    ),
+];
+
+const FRONT: &[Call] = &[Call::Front(None)];
+
+const BACK: &[Call] = &[Call::Back(None)];
+
+// Whether a table does so.
+fn fails_at_once(alloc: Global, row: &FailsAtOnce) -> bool {
+    let (changed, came, scanned) = row;
+    outcome(alloc, changed, &ALL_OF_IT, FRONT) == *came
+        && outcome(alloc, changed, &ALL_OF_IT, BACK) == *came
+        && outcome(alloc, changed, &Subject::Scan, FRONT) == *scanned
+}
+
 #[test]
 fn numbers_are_lifted_and_a_refusal_ends_what_is_walked(rt: HostRuntime) {
     assert!(rt; wrong_told(rt.alloc(), TOLD) == None);
+    for row in FAIL_AT_ONCE {
+        assert!(rt; fails_at_once(rt.alloc(), row));
+    }
 }
 
 // ---- want of memory
 
-// What is walked, calls, and which of them are refused in some run where a request is, and which in
-// none: 1 stands for the first one, 2 for the second one, 4 for any behind them.
+// What is walked, calls, and which of them run out of memory in some run where a request is refused,
+// and which in none: 1 stands for the first one, 2 for the second one, 4 for any after them.
 type Refused = (Changed<'static>, Subject, &'static [Call], u8, u8);
 
 const WITHIN: Bounds<'static> = (Bound::Included(A_KEY), Bound::Included(B_KEY));
@@ -585,20 +611,21 @@ const SCANNED: &[Call] = &[
 
 const PARTED: Changed<'static> = (Of::Rows(Parted::Index), &[], (false, false), 0);
 
-// A seek in an index that stays loaded takes no memory.
+// A seek in an index that stays loaded takes no memory, nor does the first entry of a scan, whose
+// block is loaded as the scan is made.
 static REFUSED: [Refused; 12] = [
-    (ON_DEMAND, ALL_OF_IT, FROM_BOTH_ENDS, 0, 0),
-    (TWO_LEVELS, ALL_OF_IT, FROM_BOTH_ENDS, 0, 0),
-    (OLDER, ALL_OF_IT, FROM_BOTH_ENDS, 0, 0),
-    (ON_DEMAND, Subject::Range(WITHIN), FROM_BOTH_ENDS, 0, 0),
-    (TWO_LEVELS, Subject::Range(WITHIN), FROM_BOTH_ENDS, 0, 0),
-    (OLDER, Subject::Range(WITHIN), FROM_BOTH_ENDS, 0, 0),
+    (ON_DEMAND, ALL_OF_IT, FROM_BOTH_ENDS, 7, 0),
+    (TWO_LEVELS, ALL_OF_IT, FROM_BOTH_ENDS, 7, 0),
+    (OLDER, ALL_OF_IT, FROM_BOTH_ENDS, 7, 0),
+    (ON_DEMAND, Subject::Range(WITHIN), FROM_BOTH_ENDS, 7, 0),
+    (TWO_LEVELS, Subject::Range(WITHIN), FROM_BOTH_ENDS, 7, 0),
+    (OLDER, Subject::Range(WITHIN), FROM_BOTH_ENDS, 7, 0),
     (LOADED, Subject::Handles, SOUGHT, 0, 3),
     (ON_DEMAND, Subject::Handles, SOUGHT, 7, 0),
     (TWO_LEVELS, Subject::Handles, SOUGHT, 7, 0),
     (OLDER, Subject::Handles, SOUGHT, 7, 0),
-    (ON_DEMAND, Subject::Scan, SCANNED, 0, 0),
-    (PARTED, Subject::Scan, SCANNED, 0, 0),
+    (ON_DEMAND, Subject::Scan, SCANNED, 6, 1),
+    (PARTED, Subject::Scan, SCANNED, 6, 1),
 ];
 
 // Which call is refused, if any; none where something else comes of them.
@@ -647,19 +674,7 @@ fn wrong_refused(alloc: Global, rows: &[Refused]) -> Option<usize> {
     None
 }
 
-const UNSTEPPED: Refused = (PARTED, Subject::Scan, &[], 0, 0);
-
-const STEPPED: Refused = (PARTED, Subject::Scan, SCANNED, 0, 0);
-
-// Whether the steps of a scan make requests.
-fn steps_make_requests(alloc: Global) -> bool {
-    let (_, before) = outcome_at(alloc, 0, &UNSTEPPED);
-    let (_, whole) = outcome_at(alloc, 0, &STEPPED);
-    before < whole
-}
-
 #[test]
 fn a_refused_request_ends_what_is_walked(rt: HostRuntime) {
     assert!(rt; wrong_refused(rt.alloc(), &REFUSED) == None);
-    assert!(rt; steps_make_requests(rt.alloc()));
 }
