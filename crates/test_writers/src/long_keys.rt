@@ -47,7 +47,7 @@ const CASES: [(usize, usize, [u8; 4], u8); 3] = [
 ];
 
 #[test]
-fn a_key_that_is_too_long_fails_the_writer(rt: HostRuntime) {
+fn refuses_long_keys_and_whatever_follows(rt: HostRuntime) {
     for &(first, second, numbers, last) in &CASES {
         assert!(rt; written(rt.alloc(), first, second) == Ok((numbers, last, false)));
     }
