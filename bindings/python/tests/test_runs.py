@@ -174,9 +174,8 @@ class Several(unittest.TestCase):
     def test_a_damaged_table_is_not_compacted(self):
         file = bytearray(file_of(self.lists[1], data_block_size=64))
         file[40] ^= 0xff
-        with self.assertRaises(logpurple.TableError) as refused:
+        with self.assertRaises(logpurple.ChecksumMismatch):
             compact([Table.open(file), self.tables[0]])
-        self.assertLessEqual(refused.exception.code, 24)
 
     def test_an_exception_in_what_deals_tables(self):
         def dealt():

@@ -1,40 +1,54 @@
 //! Keys of the greatest length, and longer ones, which are made as the test runs.
-use crate::given::number;
+use crate::given::{MAY_NOT_FOLLOW, number};
 use lsm_writers::Writer;
 use sst_blocks::{Error, ValueType};
 use std::alloc::Global;
 use test_tables::rows::{new_writer, put_rows};
 
-// What writing an entry of this key answers, and another one and a cut after it.
-fn after_a_key(alloc: Global, writer: &mut Writer, key: &[u8]) -> [u8; 3] {
+// The error number of writing an entry, 0 if it is written.
+fn write_key(alloc: Global, writer: &mut Writer, key: &[u8]) -> u8 {
+    match put_rows(alloc, writer, &[(key, 1, ValueType::Value, b"")]) {
+        Ok(true) => 0,
+        Ok(false) => MAY_NOT_FOLLOW,
+        Err(error) => error.number(),
+    }
+}
+
+// The error numbers of writing two keys and then `b`, and of a cut.
+fn write_keys(alloc: Global, writer: &mut Writer, first: &[u8], second: &[u8]) -> [u8; 4] {
     [
-        number(put_rows(alloc, writer, &[(key, 1, ValueType::Value, b"")])),
-        number(put_rows(alloc, writer, &[(b"b", 1, ValueType::Value, b"")])),
+        write_key(alloc, writer, first),
+        write_key(alloc, writer, second),
+        write_key(alloc, writer, b"b"),
         number(writer.spill_block()),
     ]
 }
 
-// What writing an entry of this key answers, and another one, a cut and the end after it.
-fn up_to_the_end(alloc: Global, key: &[u8]) -> Result<[u8; 4], Error> {
+// The error numbers of one writer, that of `finish` last, and whether it is empty before.
+fn up_to_the_end(alloc: Global, first: &[u8], second: &[u8]) -> Result<([u8; 4], u8, bool), Error> {
     let mut writer = new_writer(alloc)?;
-    let [first, second, cut] = after_a_key(alloc, &mut writer, key);
+    let numbers = write_keys(alloc, &mut writer, first, second);
     let is_empty = writer.is_empty();
-    let last = number(writer.finish());
-    if is_empty {
-        return Err(Error::Source(0));
-    }
-    Ok([first, second, cut, last])
+    Ok((numbers, number(writer.finish()), is_empty))
 }
 
-// What writing an entry of a key of this length answers, and another one, a cut and the end after
-// it.
-fn after_a_key_of(alloc: Global, len: usize) -> Result<[u8; 4], Error> {
-    let key = vec![in alloc; 0x61u8; len]?;
-    up_to_the_end(alloc, &key)
+// The same for keys of the byte `a`, of two lengths.
+fn written(alloc: Global, first: usize, second: usize) -> Result<([u8; 4], u8, bool), Error> {
+    let key = vec![in alloc; 0x61u8; first.max(second)]?;
+    up_to_the_end(alloc, &key[..first], &key[..second])
 }
+
+// The lengths of two keys, the error numbers of writing these, `b`, and of a cut, and that of
+// `finish`.
+const CASES: [(usize, usize, [u8; 4], u8); 3] = [
+    (1_048_575, 1_048_576, [0; 4], 0),
+    (1_048_576, 1_048_577, [0, 7, 23, 23], 23),
+    (1_048_577, 1_048_578, [7, 23, 23, 23], 23),
+];
 
 #[test]
 fn refuses_long_keys_and_whatever_follows(rt: HostRuntime) {
-    assert!(rt; after_a_key_of(rt.alloc(), 1_048_576) == Ok([0; 4]));
-    assert!(rt; after_a_key_of(rt.alloc(), 1_048_577) == Ok([7, 23, 23, 23]));
+    for &(first, second, numbers, last) in &CASES {
+        assert!(rt; written(rt.alloc(), first, second) == Ok((numbers, last, false)));
+    }
 }

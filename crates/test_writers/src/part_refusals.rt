@@ -8,7 +8,7 @@ ghost use Rattle.lsm_section_writers.specs.IndexEither.{registered_by};
 ghost use Rattle.lsm_section_writers.specs.Rising.{Rises};
 ghost use Rattle.lsm_formats.specs.File.{HasNoFilter, HasNoIndex};
 
-use crate::given::{Refusals, number};
+use crate::given::{Refusals, Seen, number};
 use lsm_writers::{
     BlockIndexWriter, BloomConstructionPolicy, FilterWriter, FilterWriterImpl, FullFilterWriter,
     FullIndexWriter, IndexWriterImpl, PartitionedFilterWriter, PartitionedIndexWriter,
@@ -24,6 +24,10 @@ const FRONT: &[u8] = b"front";
 // What is told where bytes that were written are gone.
 const LOST: Refusals = [u8::MAX; 5];
 
+/// The error numbers of writing a part of a table, and the id 0, the checksum and the length of all
+/// that the section writer has.
+pub(crate) type Part = (Refusals, Seen);
+
 // A section writer that has these bytes.
 fn with_front<A: Allocator + Copy>(alloc: A) -> Result<SectionWriter<A>, Error>
     ensures { IfOk result (λ w. w.started ≡ []) }
@@ -33,16 +37,18 @@ fn with_front<A: Allocator + Copy>(alloc: A) -> Result<SectionWriter<A>, Error>
     Ok(sections)
 }
 
-// These refusals, if a section writer has the bytes of its front still.
-fn behind_front<A: Allocator + Copy>(
+// Finishes a section writer. The refusals are these if its bytes begin with `front`.
+fn finish_part<A: Allocator + Copy>(
+    front: &[u8],
     sections: SectionWriter<A>,
     refusals: Refusals,
-) -> Result<Refusals, Error> {
-    let (bytes, _) = sections.finish()?;
-    if bytes.as_slice().starts_with(FRONT) {
-        Ok(refusals)
+) -> Result<Part, Error> {
+    let (bytes, checksum) = sections.finish()?;
+    let written = (0, checksum.0, bytes.len());
+    if bytes.as_slice().starts_with(front) {
+        Ok((refusals, written))
     } else {
-        Ok(LOST)
+        Ok((LOST, written))
     }
 }
 
@@ -101,14 +107,11 @@ fn filter_writer<A: Allocator + Copy>(
 }
 
 /// A filter of one key.
-pub(crate) fn filter<A: Allocator + Copy>(
-    alloc: A,
-    is_partitioned: bool,
-) -> Result<Refusals, Error> {
+pub(crate) fn filter<A: Allocator + Copy>(alloc: A, is_partitioned: bool) -> Result<Part, Error> {
     let mut sections = with_front(alloc)?;
     let writer = filter_writer(alloc, is_partitioned)?;
     let refusals = register_key(writer, &Slice::from_static(b"a"), &mut sections);
-    behind_front(sections, refusals)
+    finish_part(FRONT, sections, refusals)
 }
 
 // A writer of an index, in partitions or not, that has no handles.
@@ -128,13 +131,13 @@ pub(crate) fn index<A: Allocator + Copy>(
     alloc: A,
     is_partitioned: bool,
     has_handle: bool,
-) -> Result<Refusals, Error> {
+) -> Result<Part, Error> {
     let mut sections = with_front(alloc)?;
     let lies = BlockHandle::new(BlockOffset(0), 47);
     let handle = KeyedBlockHandle::new(Slice::from_static(b"a"), 1, lies);
     let writer = index_writer(alloc, is_partitioned);
     let refusals = register_block(writer, &handle, has_handle, &mut sections);
-    behind_front(sections, refusals)
+    finish_part(FRONT, sections, refusals)
 }
 
 // Begins a section, again where it is refused memory.
@@ -156,26 +159,18 @@ fn append<A: Allocator + Copy>(sections: &mut SectionWriter<A>, bytes: &[u8]) ->
 }
 
 /// A section that is written in two steps.
-pub(crate) fn section<A: Allocator + Copy>(alloc: A) -> Result<Refusals, Error> {
+pub(crate) fn section<A: Allocator + Copy>(alloc: A) -> Result<Part, Error> {
     let mut sections = SectionWriter::new(alloc)?;
     start(&mut sections)?;
     append(&mut sections, FRONT)?;
     append(&mut sections, b" bytes, more than were there")?;
-    let (bytes, _) = sections.finish()?;
-    if bytes
-        .as_slice()
-        .starts_with(b"front bytes, more than were there")
-    {
-        Ok([0; 5])
-    } else {
-        Ok(LOST)
-    }
+    finish_part(b"front bytes, more than were there", sections, [0; 5])
 }
 
 /// A section of as many bytes as a block of no handles has.
-pub(crate) fn section_of_28<A: Allocator + Copy>(alloc: A) -> Result<Refusals, Error> {
+pub(crate) fn section_of_28<A: Allocator + Copy>(alloc: A) -> Result<Part, Error> {
     let mut sections = with_front(alloc)?;
     start(&mut sections)?;
     sections.append_both(&[0; 24], &[0; 4])?;
-    behind_front(sections, [0; 5])
+    finish_part(FRONT, sections, [0; 5])
 }

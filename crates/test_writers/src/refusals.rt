@@ -1,7 +1,7 @@
 //! Writers that were refused memory, each request in turn, and have ample memory again: they refuse
 //! from then on. One function tries them all, so that its call is proved once.
-use crate::given::{By, Given, Refusals, told};
-use crate::part_refusals::{filter, index, section, section_of_28};
+use crate::given::{By, Given, NO_TABLES, Refusals, Told, told};
+use crate::part_refusals::{Part, filter, index, section, section_of_28};
 use sst_blocks::{Error, ValueType};
 use std::alloc::{Allocator, Global};
 use test_refusing::{Refusing, each_refused};
@@ -40,42 +40,52 @@ enum Work {
     SectionOf28,
 }
 
-// What is refused, where what came before it is refused as a new writer is.
-fn plain(refusals: Result<Refusals, Error>) -> Refusals {
-    match refusals {
-        Ok(refusals) => refusals,
+// What writing a part yields, in the form of a writer of tables. An error that is returned before
+// the part is that of a new writer.
+fn as_told(part: Result<Part, Error>) -> Told {
+    let mut tables = NO_TABLES;
+    let refusals = match part {
+        Ok((refusals, written)) => {
+            tables.0 = 1;
+            tables.1[0] = written;
+            refusals
+        }
         Err(error) => [error.number(), 0, 0, 0, 0],
-    }
+    };
+    (refusals, None, false, tables)
 }
 
-// What is answered where it is written.
-fn refusals<A: Allocator + Copy>(alloc: A, work: Work) -> Refusals {
+// The errors, and checksums of what is written.
+fn outcome<A: Allocator + Copy>(alloc: A, work: Work) -> Told {
     match work {
-        Work::Short(by) => told(alloc, by, &SHORT_ROWS, Given::ByValue).0,
-        Work::Long(by) => told(alloc, by, &LONG_ROWS, Given::ByValue).0,
-        Work::Filter(is_partitioned) => plain(filter(alloc, is_partitioned)),
-        Work::Index(is_partitioned, has_handle) => plain(index(alloc, is_partitioned, has_handle)),
-        Work::Section => plain(section(alloc)),
-        Work::SectionOf28 => plain(section_of_28(alloc)),
+        Work::Short(by) => told(alloc, by, &SHORT_ROWS, Given::ByValue),
+        Work::Long(by) => told(alloc, by, &LONG_ROWS, Given::ByValue),
+        Work::Filter(is_partitioned) => as_told(filter(alloc, is_partitioned)),
+        Work::Index(is_partitioned, has_handle) => {
+            as_told(index(alloc, is_partitioned, has_handle))
+        }
+        Work::Section => as_told(section(alloc)),
+        Work::SectionOf28 => as_told(section_of_28(alloc)),
     }
 }
 
-// Whether nothing is refused, or memory where it may be. Of long values nothing is written without
-// the request that is refused.
-fn is_right<A: Allocator + Copy>(alloc: A, work: Work, is_refused: bool) -> bool {
-    let refusals = refusals(alloc, work);
-    if refusals == [0; 5] {
-        return !is_refused || !matches!(work, Work::Long(_));
+// Whether a run writes the same bytes as with ample memory, or returns `OutOfMemory` where a request
+// is refused. Long values are never written without the refused request.
+fn is_right<A: Allocator + Copy>(alloc: A, work: Work, ample: &Told, is_refused: bool) -> bool {
+    let outcome = outcome(alloc, work);
+    if outcome.0 == [0; 5] {
+        return outcome == *ample && !(is_refused && matches!(work, Work::Long(_)));
     }
-    is_refused && MEMORY.contains(&refusals)
+    is_refused && MEMORY.contains(&outcome.0)
 }
 
 // How many requests what is named makes, where it is right with nothing refused and with each
 // request refused in turn.
 fn requests(alloc: Global, work: Work) -> Result<usize, usize> {
+    let ample = outcome(alloc, work);
     each_refused(
         alloc,
-        |heap: &Refusing, is_refused: bool| is_right(heap, work, is_refused),
+        |heap: &Refusing, is_refused: bool| is_right(heap, work, &ample, is_refused),
     )
 }
 

@@ -1,10 +1,9 @@
 //! Loading the blocks of a stored table, and what its changed bytes are refused for.
 use crate::sections::stored_table;
-use crate::sections::tables::{changed, handle};
+use crate::sections::tables::{changed, changed_bytes, handle};
 use sst_blocks::BlockType::{Data, Index, Meta};
 use sst_blocks::{
-    Block, BlockSource, BlockType, Counted, Error, LoadBlocks, Opened, Slice, TagName,
-    written_blocks_load,
+    Block, BlockSource, BlockType, Counted, Error, LoadBlocks, Opened, TagName, written_blocks_load,
 };
 use std::alloc::{AllocError, Allocator, Global};
 use test_refusing::Refusing;
@@ -38,126 +37,147 @@ pub(crate) fn loaded(
 // told then, and what it answers.
 type Load = (&'static [(usize, u8)], u64, Option<u32>, BlockType, Answer);
 
-const LOADS: &[Load] = &[
-    (&[], 0, Some(45), Data, Ok((Data, 21))),
-    (&[], 0, Some(23), Data, Err(Error::Truncated)),
-    (&[], 0, Some(44), Data, Err(Error::InvalidHeader)),
-    (
-        &[],
-        0,
-        Some(45),
-        Index,
-        Err(Error::InvalidTag(TagName::BlockType, 0)),
-    ),
-    (&[], 0, None, Data, Ok((Data, 21))),
-    (&[], 96, None, Data, Err(Error::InvalidHeader)),
-    (&[], 1120, None, Data, Err(Error::Truncated)),
-    // The first fault of a changed block.
-    (&[(0, 0)], 0, Some(45), Data, Err(Error::InvalidHeader)),
-    (
-        &[(7, 1), (4, 9)],
-        0,
-        Some(45),
-        Data,
-        Err(Error::InvalidHeader),
-    ),
-    (
-        &[(4, 9), (5, 1)],
-        0,
-        Some(45),
-        Data,
-        Err(Error::InvalidTag(TagName::BlockType, 9)),
-    ),
-    (
-        &[(5, 1), (8, 0)],
-        0,
-        Some(45),
-        Data,
-        Err(Error::UnsupportedCompression),
-    ),
-    (
-        &[(8, 20), (16, 0)],
-        0,
-        Some(45),
-        Data,
-        Err(Error::InvalidHeader),
-    ),
-    (
-        &[(8, 20), (12, 20)],
-        0,
-        Some(45),
-        Data,
-        Err(Error::InvalidHeader),
-    ),
-    (&[(16, 0)], 0, Some(45), Data, Err(Error::ChecksumMismatch)),
-    (&[(44, 0)], 0, Some(45), Data, Err(Error::ChecksumMismatch)),
-    // The new mark over a payload of the old grammar, whose checksum is right.
-    (&[(3, 0x32)], 0, Some(45), Data, Err(Error::InvalidBlock)),
-    // The trailer, whose slots begin at 1138 and its mark at 1250: another mark, a length of 2^32,
-    // one byte past the end of the body, and up to that end.
-    (&[(1257, 0)], 0, Some(45), Data, Err(Error::InvalidTrailer)),
-    (
-        &[(1178, 0), (1182, 1)],
-        0,
-        Some(45),
-        Data,
-        Err(Error::InvalidTrailer),
-    ),
-    (
-        &[(1242, 0x12)],
-        0,
-        Some(45),
-        Data,
-        Err(Error::InvalidTrailer),
-    ),
-    (
-        &[(1146, 0x72), (1147, 0x04)],
-        0,
-        Some(45),
-        Data,
-        Ok((Data, 21)),
-    ),
-    // the first position 2^64 - 1, whose sum with the length is 44 where it wraps
+// Loads, and how many blocks were opened by these and by those before.
+const LOADS: &[(&[Load], Opened)] = &[
     (
         &[
-            (1138, 0xff),
-            (1139, 0xff),
-            (1140, 0xff),
-            (1141, 0xff),
-            (1142, 0xff),
-            (1143, 0xff),
-            (1144, 0xff),
-            (1145, 0xff),
+            (&[], 0, Some(45), Data, Ok((Data, 21))),
+            (&[], 0, Some(23), Data, Err(Error::Truncated)),
+            (&[], 0, Some(44), Data, Err(Error::InvalidHeader)),
+            (
+                &[],
+                0,
+                Some(45),
+                Index,
+                Err(Error::InvalidTag(TagName::BlockType, 0)),
+            ),
+            (&[], 96, None, Data, Err(Error::InvalidHeader)),
+            (&[], 1120, None, Data, Err(Error::Truncated)),
         ],
-        0,
-        Some(45),
-        Data,
-        Err(Error::InvalidTrailer),
+        Opened {
+            data_loads: 5,
+            index_loads: 1,
+            filter_loads: 0,
+            meta_loads: 0,
+        },
     ),
-    // the first length as much too: no data section
     (
         &[
-            (1138, 0xff),
-            (1139, 0xff),
-            (1140, 0xff),
-            (1141, 0xff),
-            (1142, 0xff),
-            (1143, 0xff),
-            (1144, 0xff),
-            (1145, 0xff),
-            (1146, 0xff),
-            (1147, 0xff),
-            (1148, 0xff),
-            (1149, 0xff),
-            (1150, 0xff),
-            (1151, 0xff),
-            (1152, 0xff),
-            (1153, 0xff),
+            (&[], 0, None, Data, Ok((Data, 21))),
+            // The first fault of a changed block.
+            (&[(0, 0)], 0, Some(45), Data, Err(Error::InvalidHeader)),
+            (
+                &[(7, 1), (4, 9)],
+                0,
+                Some(45),
+                Data,
+                Err(Error::InvalidHeader),
+            ),
+            (
+                &[(4, 9), (5, 1)],
+                0,
+                Some(45),
+                Data,
+                Err(Error::InvalidTag(TagName::BlockType, 9)),
+            ),
+            (
+                &[(5, 1), (8, 0)],
+                0,
+                Some(45),
+                Data,
+                Err(Error::UnsupportedCompression),
+            ),
+            (
+                &[(8, 20), (16, 0)],
+                0,
+                Some(45),
+                Data,
+                Err(Error::InvalidHeader),
+            ),
+            (
+                &[(8, 20), (12, 20)],
+                0,
+                Some(45),
+                Data,
+                Err(Error::InvalidHeader),
+            ),
+            (&[(16, 0)], 0, Some(45), Data, Err(Error::ChecksumMismatch)),
+            (&[(44, 0)], 0, Some(45), Data, Err(Error::ChecksumMismatch)),
+            // The new mark over a payload of the old grammar, whose checksum is right.
+            (&[(3, 0x32)], 0, Some(45), Data, Err(Error::InvalidBlock)),
+            // The trailer, whose slots begin at 1138 and its mark at 1250: another mark, a length of 2^32,
+            // one byte past the end of the body, and up to that end.
+            (&[(1257, 0)], 0, Some(45), Data, Err(Error::InvalidTrailer)),
+            (
+                &[(1178, 0), (1182, 1)],
+                0,
+                Some(45),
+                Data,
+                Err(Error::InvalidTrailer),
+            ),
+            (
+                &[(1242, 0x12)],
+                0,
+                Some(45),
+                Data,
+                Err(Error::InvalidTrailer),
+            ),
+            (
+                &[(1146, 0x72), (1147, 0x04)],
+                0,
+                Some(45),
+                Data,
+                Ok((Data, 21)),
+            ),
+            // the first position 2^64 - 1, whose sum with the length is 44 where it wraps
+            (
+                &[
+                    (1138, 0xff),
+                    (1139, 0xff),
+                    (1140, 0xff),
+                    (1141, 0xff),
+                    (1142, 0xff),
+                    (1143, 0xff),
+                    (1144, 0xff),
+                    (1145, 0xff),
+                ],
+                0,
+                Some(45),
+                Data,
+                Err(Error::InvalidTrailer),
+            ),
+            // the first length as much too: no data section
+            (
+                &[
+                    (1138, 0xff),
+                    (1139, 0xff),
+                    (1140, 0xff),
+                    (1141, 0xff),
+                    (1142, 0xff),
+                    (1143, 0xff),
+                    (1144, 0xff),
+                    (1145, 0xff),
+                    (1146, 0xff),
+                    (1147, 0xff),
+                    (1148, 0xff),
+                    (1149, 0xff),
+                    (1150, 0xff),
+                    (1151, 0xff),
+                    (1152, 0xff),
+                    (1153, 0xff),
+                ],
+                0,
+                Some(45),
+                Data,
+                Ok((Data, 21)),
+            ),
         ],
-        0,
-        Some(45),
-        Data,
-        Ok((Data, 21)),
+        Opened {
+            data_loads: 17,
+            index_loads: 1,
+            filter_loads: 0,
+            meta_loads: 0,
+        },
     ),
 ];
 
@@ -179,16 +199,12 @@ fn is_loaded_so(alloc: Global, case: &Load, opened: &mut Opened) -> bool {
 fn loads_from_a_stored_table(rt: HostRuntime) {
     written_blocks_load();
     let mut opened = Opened::none();
-    for case in LOADS {
-        assert!(rt; is_loaded_so(rt.alloc(), case, &mut opened));
+    for (cases, counts) in LOADS {
+        for case in *cases {
+            assert!(rt; is_loaded_so(rt.alloc(), case, &mut opened));
+        }
+        assert!(rt; opened == *counts);
     }
-    let expected = Opened {
-        data_loads: 17,
-        index_loads: 1,
-        filter_loads: 0,
-        meta_loads: 0,
-    };
-    assert!(rt; opened == expected);
 }
 
 #[test]
@@ -251,7 +267,10 @@ fn answers_again(source: &BlockSource, cases: &[Load], opened: &mut Opened) -> b
 
 // Whether each block is loaded again, of a source and then of its clone.
 fn both_load_again(source: &BlockSource, clone: &BlockSource, opened: &mut Opened) -> bool {
-    let mut are_so = answers_again(source, LOADS, opened);
+    let mut are_so = true;
+    for (cases, _) in LOADS {
+        are_so &= answers_again(source, cases, opened);
+    }
     for cases in BLOCKS {
         are_so &= answers_again(source, cases, opened);
         are_so &= answers_again(clone, cases, opened);
@@ -298,69 +317,93 @@ fn a_block_loads_again(rt: HostRuntime) {
     assert!(rt; opened == expected);
 }
 
-// The size of a data block and that of an index block behind it, and the counts.
-type Counts = (usize, usize, Opened);
+// What a load of the data block and one of the index block after it return, and the counts.
+type Counts = (Answer, Answer, Opened);
 
-fn sizes<L: LoadBlocks>(blocks: &mut L) -> Result<(usize, usize), Error> {
-    let (_, first) = told(blocks.load(&handle(0, 45), Data))?;
-    let (_, second) = told(blocks.load(&handle(45, 51), Index))?;
-    Ok((first, second))
+fn both_loaded<L: LoadBlocks>(blocks: &mut L) -> (Answer, Answer) {
+    let first = told(blocks.load(&handle(0, 45), Data));
+    (first, told(blocks.load(&handle(45, 51), Index)))
 }
 
-fn counted<A: Allocator + Copy>(source: &BlockSource<A>) -> Result<Counts, Error> {
+fn counted<A: Allocator + Copy>(source: &BlockSource<A>) -> Counts {
     let mut counted = Counted::new(source);
-    let (first, second) = sizes(&mut counted)?;
-    Ok((first, second, counted.opened()))
+    let (first, second) = both_loaded(&mut counted);
+    (first, second, counted.opened())
 }
 
-const COUNTED: Counts = (
-    21,
-    27,
-    Opened {
-        data_loads: 1,
-        index_loads: 1,
-        filter_loads: 0,
-        meta_loads: 0,
-    },
-);
+const ONE_OF_EACH: Opened = Opened {
+    data_loads: 1,
+    index_loads: 1,
+    filter_loads: 0,
+    meta_loads: 0,
+};
 
-// How many requests the bytes of the stored table take, and how many with the source over them, and
-// what is counted of that.
-fn counted_of(heap: &Refusing) -> Result<(usize, usize, Counts), Error> {
-    let bytes = Slice::from(heap, stored_table::bytes())?;
+// Changes of the stored table, and what is loaded then.
+type Case = (&'static [(usize, u8)], Counts);
+
+// The table as it is, with a damaged data block, and with a damaged index block.
+const COUNTED: &[Case] = &[
+    (&[], (Ok((Data, 21)), Ok((Index, 27)), ONE_OF_EACH)),
+    (
+        &[(44, 0)],
+        (Err(Error::ChecksumMismatch), Ok((Index, 27)), ONE_OF_EACH),
+    ),
+    (
+        &[(95, 0)],
+        (Ok((Data, 21)), Err(Error::ChecksumMismatch), ONE_OF_EACH),
+    ),
+];
+
+// How many requests for memory the bytes take, and how many with the source over them; and what is
+// loaded.
+fn counted_of(heap: &Refusing, case: &Case) -> Result<(usize, usize, Counts), Error> {
+    let bytes = changed_bytes(heap, stored_table::bytes(), case.0)?;
     let first = heap.requests();
     let source = BlockSource::new(heap, bytes)?;
     let last = heap.requests();
     let counts = counted(&source);
     drop(source);
-    Ok((first, last, counts?))
+    Ok((first, last, counts))
 }
 
-// Whether all is counted, or memory was refused where it may be, with this request refused.
-fn is_counted_but(alloc: Global, nth: usize, may_fail: bool) -> bool {
+// Whether a load returns what is expected, or `OutOfMemory` where it may fail.
+fn is_answer(answer: &Answer, expected: &Answer, may_fail: bool) -> bool {
+    answer == expected || may_fail && *answer == Err(Error::OutOfMemory)
+}
+
+// Whether all is loaded and counted, or memory was refused where it may be, with this request
+// refused.
+fn is_counted_but(alloc: Global, case: &Case, nth: usize, may_fail: bool) -> bool {
     let heap = Refusing::new(alloc, nth);
-    let is_so = match counted_of(&heap) {
-        Ok((_, _, counts)) => counts == COUNTED,
+    let (first, second, opened) = &case.1;
+    let is_so = match counted_of(&heap, case) {
+        Ok((_, _, counts)) => {
+            is_answer(&counts.0, first, may_fail)
+                && is_answer(&counts.1, second, may_fail)
+                && counts.2 == *opened
+        }
         Err(error) => may_fail && error == Error::OutOfMemory,
     };
     is_so && heap.requests() >= nth
 }
 
-// Whether all is counted with each request refused in turn. A source that is refused what it would
-// remember checksums in loads all the same.
-fn is_counted(alloc: Global) -> Result<bool, Error> {
+// Whether all is loaded and counted with each request refused in turn. A source that is refused
+// memory for its verified-block cache loads all the same, and compares each checksum.
+fn is_counted(alloc: Global, case: &Case) -> Result<bool, Error> {
     let heap = Refusing::new(alloc, 0);
-    let (first, last, counts) = counted_of(&heap)?;
-    let mut is_so = counts == COUNTED && first < last && heap.requests() > 3;
+    let (first, last, counts) = counted_of(&heap, case)?;
+    let mut is_so = counts == case.1 && first < last && heap.requests() > 3;
     for nth in 1..=heap.requests() {
-        is_so &= is_counted_but(alloc, nth, nth <= first || nth > last);
+        is_so &= is_counted_but(alloc, case, nth, nth <= first || nth > last);
     }
     Ok(is_so)
 }
 
 #[test]
 fn a_source_that_counts_its_loads_with_each_request_refused(rt: HostRuntime) {
-    assert!(rt; is_counted(rt.alloc()) == Ok(true));
+    for case in COUNTED {
+        assert!(rt; is_counted(rt.alloc(), case) == Ok(true));
+    }
 }
 
 // The refusals, each at the place before its number.

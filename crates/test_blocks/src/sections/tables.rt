@@ -21,15 +21,24 @@ fn change(bytes: &mut [u8], changes: &[(usize, u8)]) {
     }
 }
 
+/// A copy of some bytes, once some of them are changed: where, and to what.
+pub(crate) fn changed_bytes<A: Allocator + Copy>(
+    alloc: A,
+    bytes: &[u8],
+    changes: &[(usize, u8)],
+) -> Result<Slice<A>, Error> {
+    let mut bytes = Vec::from_slice(alloc, bytes)?;
+    change(&mut bytes, changes);
+    Ok(Slice::from_vec(bytes)?)
+}
+
 /// A source of some bytes, once some of them are changed: where, and to what.
 pub(crate) fn changed(
     alloc: Global,
     bytes: &[u8],
     changes: &[(usize, u8)],
 ) -> Result<BlockSource, Error> {
-    let mut bytes = Vec::from_slice(alloc, bytes)?;
-    change(&mut bytes, changes);
-    BlockSource::new(alloc, Slice::from_vec(bytes)?)
+    BlockSource::new(alloc, changed_bytes(alloc, bytes, changes)?)
 }
 
 /// What was told of what a writer wrote, the bytes and their checksum.

@@ -1,8 +1,9 @@
 //! Entries, errors and answers in short for tests, as the words of a text.
 //!
 //! `aV9` is an entry of the key `a` and the number 9, a value that is its key, and `aV9x` has the
-//! value `x`. `T` and `W` are the tombstones, without a value. `!4` is the error 4 of a caller's
-//! own source, `?1` a refused request for memory, and `-` no answer.
+//! value `x`. `T` and `W` are the tombstones and `I` an indirection, which have no value unless it
+//! is spelled. `!4` is the error 4 of a caller's own source, `?1` a refused request for memory, and
+//! `-` no answer.
 ghost use Rattle.std.specs.Iterator.{IsFinite};
 ghost use Rattle.sst_entries.specs.Stream.{CanDeal, nowhere};
 
@@ -55,6 +56,7 @@ fn kind_of(letter: u8) -> ValueType {
     match letter {
         b'T' => ValueType::Tombstone,
         b'W' => ValueType::WeakTombstone,
+        b'I' => ValueType::Indirection,
         _ => ValueType::Value,
     }
 }
