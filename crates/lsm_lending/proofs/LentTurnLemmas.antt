@@ -15,7 +15,7 @@ use Rattle.lsm_sorted.specs.Compaction.{error_of, items, unfiltered, zeroed}
 use Rattle.lsm_sorted.specs.Compacting.{Asks, GetsAll, SaysOf, head_answer, key_follows}
 use Rattle.lsm_sorted.specs.CompactionState.{error_first}
 use Rattle.lsm_lending.specs.LentCompaction.{gone_of_lent, has_to_wait, lent_outs_by, listed_answer}
-use Rattle.lsm_lending.specs.LentFiltered.{CompactedLent}
+use Rattle.lsm_lending.specs.LentCompaction.{CompactedLent}
 use Rattle.lsm_sorted.proofs.CallLemmas.{StaysIfTombstone, gets_append, of_tombstones, says_head}
 use Rattle.lsm_sorted.proofs.CallLemmas.{stays, to_tombstones}
 use Rattle.lsm_lending.proofs.LentOutsLemmas.{goes_alone, goes_strong, goes_weak, last_goes}

@@ -6,7 +6,7 @@ use Rattle.std.specs.Option.{option_map}
 use Rattle.sst_entries.specs.Entry.{Entry, entry}
 use Rattle.sst_entries.specs.Key.{same_key}
 use Rattle.sst_entries.specs.Kind.{is_tombstone_kind}
-use Rattle.sst_entries.specs.Stream.{first}
+use Rattle.sst_entries.specs.Stream.{Lowers, first}
 use Rattle.sst_entries.specs.declared.error.Error.{Error}
 use Rattle.sst_entries.specs.declared.error.Error.TheVariants.{OutOfMemory}
 use Rattle.sst_entries.specs.declared.value_type.ValueType.{ValueType}
@@ -17,15 +17,15 @@ use Rattle.lsm_sorted.specs.Compaction.{Verdict, is_value, zeroed}
 use Rattle.lsm_sorted.specs.Compacting.{GetsAll, head_answer, key_follows, of_key}
 use Rattle.lsm_sorted.specs.CompactionState.{error_first}
 use Rattle.lsm_lending.specs.LentCompaction.{entry_before, gone_of_lent, has_to_wait, listed_answer}
-use Rattle.lsm_lending.specs.LentCompaction.{Passing, past_hidden}
-use Rattle.lsm_lending.specs.LentFaults.{NoFaults}
-use Rattle.lsm_lending.specs.LentFiltered.{CompactedLent, FetchesFiltered, SettlesFiltered}
-use Rattle.lsm_lending.specs.LentFiltered.{SettlesFirst, WillCompact, hidden_by}
-use Rattle.lsm_lending.specs.LentFiltered.{hidden_in, lent_filtered, looked_at, put_into, shown}
-use Rattle.lsm_lending.specs.declared.compaction.filtered.Shows.{Shows}
-use Rattle.lsm_lending.specs.declared.compaction.filtered.Shows.TheVariants.{Nothing}
+use Rattle.lsm_lending.specs.LentCompaction.{past_hidden}
+use Rattle.lsm_lending.specs.LentFaults.{NoFaults, Passing}
+use Rattle.lsm_lending.specs.LentCompaction.{CompactedLent, FetchesCompacted, SettlesCompacted}
+use Rattle.lsm_lending.specs.LentCompaction.{SettlesFirst, WillCompact, hidden_key}
+use Rattle.lsm_lending.specs.LentCompaction.{hidden_in, lent_compacted, looked_at, put_into, lent_where}
+use Rattle.lsm_lending.specs.declared.compaction.lending.Lends.{Lends}
+use Rattle.lsm_lending.specs.declared.compaction.lending.Lends.TheVariants.{Nothing}
 use Rattle.lsm_sorted.specs.declared.compaction.Rules.{Rules}
-use Rattle.lsm_lending.specs.declared.compaction.filtered.FilteredLendingCompaction.{FilteredLendingCompaction}
+use Rattle.lsm_lending.specs.declared.compaction.lending.LendingCompaction.{LendingCompaction}
 use Rattle.lsm_lending.proofs.LentFaultsLemmas.{ends_only}
 use Rattle.lsm_lending.proofs.LentTurnLemmas.{gone_before, gone_fault, gone_high, gone_last, gone_low}
 use Rattle.lsm_lending.proofs.LentTurnLemmas.{lent_closes, lent_error, lent_opens}
@@ -38,13 +38,30 @@ pub parts_are : (x : Entry) (k v : List ℕ) → k ≡ x.user_key → v ≡ x.va
 parts_are x k v key value = ap (λ (j : List ℕ). entry j v x.seqno x.kind) key
     ∙ ap (λ (w : List ℕ). entry x.user_key w x.seqno x.kind) value
 
+-- what is lent from the buffers
+pub held_answer : (q rules : Rules) (k v : List ℕ) (x : Entry) (b : Bool) → q ≡ rules
+    → k ≡ x.user_key → v ≡ x.value → b ≡ false
+    → Some (Ok (zeroed q (entry k v x.seqno x.kind))) ≡ head_answer rules b x
+held_answer q rules k v x b same key value stays =
+    ap (λ (p : Rules). Some (Ok (zeroed p (entry k v x.seqno x.kind)))) same
+    ∙ ap (λ (j : List ℕ). Some (Ok (zeroed rules (entry j v x.seqno x.kind)))) key
+    ∙ ap (λ (w : List ℕ). Some (Ok (zeroed rules (entry x.user_key w x.seqno x.kind)))) value
+    ∙ sym (ap (λ (c : Bool). head_answer rules c x) stays)
+
+-- ---- how many may come
+
+pub ended_left : (o : Option Entry) (b : Bool) (was now : ℕ) → b ≡ is_some o → b ≡ false
+    → Lowers (option_map {U = R} (λ x. Ok x) o) was now → now ≡ 0
+ended_left None b was now more none h = h
+ended_left (Some x) b was now more none h = let no : false ≡ true = sym none ∙ more in absurd cc
+
 -- ---- steps
 
--- what is lent where nothing is shown
-pub shows_nothing : {S F C A : Type 0} (lent : S → Option Entry)
-    (t : FilteredLendingCompaction S F C A) → t.shows ≡ Nothing
-    → option_map {U = R} (λ x. Ok x) (lent_filtered lent t) ≡ None
-shows_nothing lent t none = ap (λ (l : Shows). option_map {U = R} (λ x. Ok x) (shown lent l t)) none
+-- what is lent where nothing is
+pub lends_nothing : {S F C A : Type 0} (lent : S → Option Entry)
+    (t : LendingCompaction S F C A) → t.lends ≡ Nothing
+    → option_map {U = R} (λ x. Ok x) (lent_compacted lent t) ≡ None
+lends_nothing lent t none = ap (λ (l : Lends). option_map {U = R} (λ x. Ok x) (lent_where lent l t)) none
 
 pub same_some : (x y : Entry) (o : Option Entry) → o ≡ Some x → o ≡ Some y → x ≡ y
 same_some x y o of_x of_y = cc
@@ -73,7 +90,7 @@ past_error None e rs = refl
 past_error (Some key) e rs = refl
 
 -- what is looked at, by whether something waits
-module _ {S F C A : Type 0} (lent : S → Option Entry) (t : FilteredLendingCompaction S F C A)
+module _ {S F C A : Type 0} (lent : S → Option Entry) (t : LendingCompaction S F C A)
     (rs : List R) where
   pub looked_next : t.is_pending ≡ false → looked_at lent t rs ≡ rs
   looked_next next = ap (λ (b : Bool). cond b (entry_before (lent t.source) rs) rs) next
@@ -87,7 +104,7 @@ module _ {S F C A : Type 0} (lent : S → Option Entry) (t : FilteredLendingComp
 module _ {F C : Type 0} (gives : F → Entry → Result Verdict Error → F → Type 0)
     (gets : C → Entry → C → Type 0) {S A : Type 0} where
   -- nothing is hidden
-  pub will_plain : (t : FilteredLendingCompaction S F C A) (ys gave : List R) (g : F) (d : C)
+  pub will_plain : (t : LendingCompaction S F C A) (ys gave : List R) (g : F) (d : C)
       → t.hides ≡ false → WillCompact gives gets t ys gave g d
       → CompactedLent gives gets t.rules t.filter t.callback ys gave g d
   will_plain t ys gave g d plain will =
@@ -98,7 +115,7 @@ module _ {F C : Type 0} (gives : F → Entry → Result Verdict Error → F → 
       subst (λ (c : C). CompactedLent gives gets t.rules t.filter c ys gave g d) told does
 
   -- what follows this key is hidden
-  pub will_hide : (t : FilteredLendingCompaction S F C A) (k : List ℕ) (ys gave : List R) (g : F)
+  pub will_hide : (t : LendingCompaction S F C A) (k : List ℕ) (ys gave : List R) (g : F)
       (d : C) → t.hides ≡ true → t.key.items ≡ k → WillCompact gives gets t ys gave g d
       → (told : C) × GetsAll gets t.callback (of_key k ys) told
       × CompactedLent gives gets t.rules t.filter told (after_key k ys) gave g d
@@ -114,8 +131,8 @@ module _ {F C : Type 0} (gives : F → Entry → Result Verdict Error → F → 
   )
 
   -- of a list with nothing hidden in front
-  pub will_whole : (t : FilteredLendingCompaction S F C A) (xs gave : List R) (g : F) (d : C)
-      → hidden_in (hidden_by t) xs ≡ [] → past_hidden (hidden_by t) xs ≡ xs
+  pub will_whole : (t : LendingCompaction S F C A) (xs gave : List R) (g : F) (d : C)
+      → hidden_in (hidden_key t) xs ≡ [] → past_hidden (hidden_key t) xs ≡ xs
       → CompactedLent gives gets t.rules t.filter t.callback xs gave g d
       → WillCompact gives gets t xs gave g d
   will_whole t xs gave g d none past does = record {
@@ -125,29 +142,29 @@ module _ {F C : Type 0} (gives : F → Entry → Result Verdict Error → F → 
         (sym past) does;
   }
 
-  pub will_at : (t : FilteredLendingCompaction S F C A) (xs ys gave : List R) (g : F) (d : C)
+  pub will_at : (t : LendingCompaction S F C A) (xs ys gave : List R) (g : F) (d : C)
       → xs ≡ ys → WillCompact gives gets t xs gave g d → WillCompact gives gets t ys gave g d
   will_at t xs ys gave g d same will =
       subst (λ (zs : List R). WillCompact gives gets t zs gave g d) same will
 
   module _ (advances : S → Option R → S → Type 0) (lent : S → Option Entry)
-      (s t : FilteredLendingCompaction S F C A) where
+      (s t : LendingCompaction S F C A) where
     abbrev Settled : Option R → Entry → Type 0
-    Settled r head = SettlesFiltered gives gets advances lent s head r t
+    Settled r head = SettlesCompacted gives gets advances lent s head r t
 
     -- the same is to come
     pub same_will : (xs : List R) → t.rules ≡ s.rules → t.filter ≡ s.filter
-        → t.callback ≡ s.callback → hidden_by t ≡ hidden_by s → (gave : List R) (g : F) (d : C)
+        → t.callback ≡ s.callback → hidden_key t ≡ hidden_key s → (gave : List R) (g : F) (d : C)
         → WillCompact gives gets t xs gave g d → WillCompact gives gets s xs gave g d
     same_will xs rules filter callback hidden gave g d will = record {
       told = will.told;
-      hides = subst (λ (c : C). GetsAll gets c (hidden_in (hidden_by s) xs) will.told) callback
+      hides = subst (λ (c : C). GetsAll gets c (hidden_in (hidden_key s) xs) will.told) callback
           (subst (λ (k : Option (List ℕ)). GetsAll gets t.callback (hidden_in k xs) will.told)
           hidden will.hides);
       does = subst (λ (q : Rules). CompactedLent gives gets q s.filter will.told
-          (past_hidden (hidden_by s) xs) gave g d) rules
+          (past_hidden (hidden_key s) xs) gave g d) rules
           (subst (λ (f : F). CompactedLent gives gets t.rules f will.told
-          (past_hidden (hidden_by s) xs) gave g d) filter
+          (past_hidden (hidden_key s) xs) gave g d) filter
           (subst (λ (k : Option (List ℕ)). CompactedLent gives gets t.rules t.filter will.told
           (past_hidden k xs) gave g d) hidden will.does));
     }
@@ -165,9 +182,9 @@ module _ {F C : Type 0} (gives : F → Entry → Result Verdict Error → F → 
         (callback : t.callback ≡ s.callback) (next : s.is_pending ≡ false) where
       -- it answered what it now lends
       pub fetches_entry : (b : Bool) (o : Option Entry) → o ≡ lent t.source → b ≡ is_some o
-          → t.is_pending ≡ b → hidden_by t ≡ hidden_by s
+          → t.is_pending ≡ b → hidden_key t ≡ hidden_key s
           → advances s.source (option_map (λ x. Ok x) o) t.source
-          → FetchesFiltered gives gets advances lent s None t
+          → FetchesCompacted gives gets advances lent s None t
       fetches_entry b None lends more pending hidden step = record {
         step = record {
           answers = None ∷ [];
@@ -203,7 +220,7 @@ module _ {F C : Type 0} (gives : F → Entry → Result Verdict Error → F → 
       -- or an error
       pub fetches_fault : (e : Error) → t.is_pending ≡ false → t.hides ≡ false
           → advances s.source (Some (Err e)) t.source
-          → FetchesFiltered gives gets advances lent s (Some (Err e)) t
+          → FetchesCompacted gives gets advances lent s (Some (Err e)) t
       fetches_fault e quiet plain step = record {
         step = record {
           answers = Some (Err e) ∷ [];
@@ -214,7 +231,7 @@ module _ {F C : Type 0} (gives : F → Entry → Result Verdict Error → F → 
               will_at s (Err e ∷ rest) (looked_at lent s (Err e ∷ rest)) (Err e ∷ after) g d
               (sym (looked_next lent s (Err e ∷ rest) next))
               (will_whole s (Err e ∷ rest) (Err e ∷ after) g d
-              (hidden_error (hidden_by s) e rest) (past_error (hidden_by s) e rest)
+              (hidden_error (hidden_key s) e rest) (past_error (hidden_key s) e rest)
               (lent_error gives gets s.rules s.filter g s.callback d e rest after
               (subst (λ (c : C). CompactedLent gives gets s.rules s.filter c rest after g d)
               callback (as_here t.callback rest after g d rules filter
@@ -251,12 +268,12 @@ module _ {F C : Type 0} (gives : F → Entry → Result Verdict Error → F → 
 
     -- where it is let go
     pub settled_gone : (head x : Entry) → lent s.source ≡ Some head → lent s.source ≡ Some x
-        → t.shows ≡ Nothing → Settled None head
-        → Settled (option_map (λ y. Ok y) (lent_filtered lent t)) x
+        → t.lends ≡ Nothing → Settled None head
+        → Settled (option_map (λ y. Ok y) (lent_compacted lent t)) x
     settled_gone head x is lends none settles =
-        subst (λ (y : Entry). Settled (option_map (λ z. Ok z) (lent_filtered lent t)) y)
+        subst (λ (y : Entry). Settled (option_map (λ z. Ok z) (lent_compacted lent t)) y)
         (same_some head x (lent s.source) is lends)
-        (subst (λ (r : Option R). Settled r head) (sym (shows_nothing lent t none)) settles)
+        (subst (λ (r : Option R). Settled r head) (sym (lends_nothing lent t none)) settles)
 
     -- of the entry that the source lends, as it was changed
     pub settled_put : (r : Option R) (kind : ValueType) (value : List ℕ) (head x : Entry)
@@ -273,10 +290,10 @@ module _ {F C : Type 0} (gives : F → Entry → Result Verdict Error → F → 
         subst (λ (y : Entry). Settled (Some (Ok (zeroed s.rules y))) h)
         (sym (parts_are h k v key value)) settles
 
-    pub settled_silent : (h : Entry) → t.shows ≡ Nothing → Settled None h
-        → Settled (option_map (λ y. Ok y) (lent_filtered lent t)) h
+    pub settled_silent : (h : Entry) → t.lends ≡ Nothing → Settled None h
+        → Settled (option_map (λ y. Ok y) (lent_compacted lent t)) h
     settled_silent h none settles =
-        subst (λ (r : Option R). Settled r h) (sym (shows_nothing lent t none)) settles
+        subst (λ (r : Option R). Settled r h) (sym (lends_nothing lent t none)) settles
 
     -- ---- a head, and what follows it
     module _ (head : Entry) (rules : t.rules ≡ s.rules) (filter : t.filter ≡ s.filter)

@@ -18,17 +18,17 @@ use Rattle.lsm_sorted.specs.Compacting.{Compacted}
 use Rattle.lsm_sorted.specs.Outlook.{results_in}
 use Rattle.lsm_sorted.specs.Hears.{GaveEach}
 use Rattle.lsm_lending.specs.LentFaults.{EndsIn, NoFaults}
-use Rattle.lsm_lending.specs.LentFilteredFaults.{FilterSays, PassingOr}
+use Rattle.lsm_lending.specs.LentFaults.{FilterSays, PassingOr}
 use Rattle.lsm_lending.specs.LentCompaction.{listed_answer, past_hidden}
-use Rattle.lsm_lending.specs.LentFiltered.{AdvancesFiltered, CompactedLent, CompactsLent}
-use Rattle.lsm_lending.specs.LentFiltered.{CompactsLentResults, EndsAtNone}
-use Rattle.lsm_lending.specs.LentFiltered.{WillCompact, hidden_by, hidden_in, is_entry}
-use Rattle.lsm_lending.specs.LentFiltered.{lent_callback, lent_filter, lent_source, looked_at}
-use Rattle.lsm_lending.specs.declared.compaction.filtered.FilteredLendingCompaction.{FilteredLendingCompaction}
+use Rattle.lsm_lending.specs.LentCompaction.{AdvancesCompacted, CompactedLent, CompactsLent}
+use Rattle.lsm_lending.specs.LentCompaction.{CompactsLentResults, EndsAtNone}
+use Rattle.lsm_lending.specs.LentCompaction.{WillCompact, hidden_key, hidden_in, is_entry}
+use Rattle.lsm_lending.specs.LentCompaction.{lent_callback, lent_filter, lender, looked_at}
+use Rattle.lsm_lending.specs.declared.compaction.lending.LendingCompaction.{LendingCompaction}
 use Rattle.lsm_sorted.proofs.HearsLemmas.{each_append, none_stop_append}
 use Rattle.lsm_lending.proofs.LentOutsLemmas.{Calm, calm_before, calm_outs}
-use Rattle.lsm_lending.proofs.LentFilteredLemmas.{looked_next, will_at, will_plain, will_whole}
-use Rattle.lsm_lending.proofs.LentFilteredCalls.{ends_after, ends_before, parts_join}
+use Rattle.lsm_lending.proofs.CompactionHeads.{looked_next, will_at, will_plain, will_whole}
+use Rattle.lsm_lending.proofs.CompactionCalls.{ends_after, ends_before, parts_join}
 
 -- ---- a source that deals a list
 
@@ -55,7 +55,7 @@ ends_calm stops r answers ends fine =
     (fine, tt))
 
 -- answers that were passed on where no error stops
-told_calm : (Says : Error → Type 0) (stops : Error → Bool) (r : Option R)
+pub told_calm : (Says : Error → Type 0) (stops : Error → Bool) (r : Option R)
     (answers : List (Option R)) → PassingOr Says r answers → answer_stops stops r ≡ false
     → NoneStops (answer_stops stops) answers
 told_calm Says stops None answers told fine = elim told [
@@ -72,7 +72,7 @@ told_calm Says stops (Some (Err e)) answers told fine = elim told [
 ]
 
 -- nothing is left where nothing came last
-ends_empty : (before : List (Option R)) (rest : List R) → EndsAtNone (before ++ None ∷ []) rest
+pub ends_empty : (before : List (Option R)) (rest : List R) → EndsAtNone (before ++ None ∷ []) rest
     → rest ≡ []
 ends_empty [] rest ends = ends.0
 ends_empty (None ∷ rs) rest ends = ends_empty rs rest ends.1
@@ -93,17 +93,17 @@ ends_less (None ∷ rs) rest ends = (
 ends_less (Some x ∷ rs) rest ends = ends_less rs rest ends
 
 module _ {S : Type 0} (advances : S → Option R → S → Type 0) (stops : Error → Bool) where
-  abbrev Dealt : S → List R → Type 0
+  abbrev pub Dealt : S → List R → Type 0
   Dealt = Deals (answer_stops stops) advances nowhere
 
   -- what it answered, and what it has still to deal
-  record Parts (xs : List R) (answers : List (Option R)) (t : S) : Type 0 where
+  pub record Parts (xs : List R) (answers : List (Option R)) (t : S) : Type 0 where
     pub rest : List R
     pub is : xs ≡ results_in answers ++ rest
     pub has : Dealt t rest
     pub ends : EndsAtNone answers rest
 
-  dealt_parts : (answers : List (Option R)) (s t : S) (xs : List R) → Dealt s xs
+  pub dealt_parts : (answers : List (Option R)) (s t : S) (xs : List R) → Dealt s xs
       → GaveEach advances s answers t → NoneStops (answer_stops stops) answers
       → Parts xs answers t
   dealt_parts [] s t xs has gave calm = record {
@@ -154,14 +154,14 @@ nothing_hidden : (k : Option (List ℕ)) → hidden_in k [] ≡ []
 nothing_hidden None = refl
 nothing_hidden (Some j) = refl
 
-nothing_past : (k : Option (List ℕ)) → past_hidden k [] ≡ []
+pub nothing_past : (k : Option (List ℕ)) → past_hidden k [] ≡ []
 nothing_past None = refl
 nothing_past (Some j) = refl
 
 module _ {F C : Type 0} (gives : F → Entry → Result Verdict Error → F → Type 0)
     (gets : C → Entry → C → Type 0) {S A : Type 0} where
   -- no error, no difference
-  compacted_calm : (s : FilteredLendingCompaction S F C A) (xs : List Entry) (gave : List R) (g : F) (d : C)
+  compacted_calm : (s : LendingCompaction S F C A) (xs : List Entry) (gave : List R) (g : F) (d : C)
       → CompactedLent gives gets s.rules s.filter s.callback (ok_results xs) gave g d
       → Compacted gives gets s.rules s.filter s.callback (ok_results xs) gave g d
   compacted_calm s xs gave g d does = record {
@@ -175,9 +175,9 @@ module _ {F C : Type 0} (gives : F → Entry → Result Verdict Error → F → 
   }
 
   -- a compaction of nothing
-  will_nothing : (u : FilteredLendingCompaction S F C A) → WillCompact gives gets u [] [] u.filter u.callback
-  will_nothing u = will_whole gives gets u [] [] u.filter u.callback (nothing_hidden (hidden_by u))
-      (nothing_past (hidden_by u)) (record {
+  will_nothing : (u : LendingCompaction S F C A) → WillCompact gives gets u [] [] u.filter u.callback
+  will_nothing u = will_whole gives gets u [] [] u.filter u.callback (nothing_hidden (hidden_key u))
+      (nothing_past (hidden_key u)) (record {
         judged = [];
         over = refl;
         tombstones = tt;
@@ -188,11 +188,11 @@ module _ {F C : Type 0} (gives : F → Entry → Result Verdict Error → F → 
 
   module _ (advances : S → Option R → S → Type 0) (lent : S → Option Entry) (can : S → Type 0)
       (stops : Error → Bool) (memory : stops OutOfMemory ≡ true) where
-    abbrev Next : FilteredLendingCompaction S F C A → Option R → FilteredLendingCompaction S F C A → Type 0
-    Next = AdvancesFiltered advances lent can gives gets
+    abbrev Next : LendingCompaction S F C A → Option R → LendingCompaction S F C A → Type 0
+    Next = AdvancesCompacted advances lent can gives gets
 
     -- calls that gave these, the last of which answered r
-    record RunsOn (s : FilteredLendingCompaction S F C A) (gave : List R) (r : Option R) (u : FilteredLendingCompaction S F C A) : Type 0 where
+    record RunsOn (s : LendingCompaction S F C A) (gave : List R) (r : Option R) (u : LendingCompaction S F C A) : Type 0 where
       pub answers : List (Option R)
       pub each : GaveEach advances s.source answers u.source
       pub calm : NoneStops (answer_stops stops) answers
@@ -204,7 +204,7 @@ module _ {F C : Type 0} (gives : F → Entry → Result Verdict Error → F → 
           → WillCompact gives gets s (looked_at lent s (results_in answers ++ rest)) (gave ++ more)
           g d
 
-    run_one : (s u : FilteredLendingCompaction S F C A) (r : Option R) → s.is_over ≡ false → Next s r u
+    run_one : (s u : LendingCompaction S F C A) (r : Option R) → s.is_over ≡ false → Next s r u
         → answer_stops stops r ≡ false → RunsOn s (listed_answer r) r u
     run_one s u r live next fine =
         let call = next.live live in elim call.step.told [
@@ -226,7 +226,7 @@ module _ {F C : Type 0} (gives : F → Entry → Result Verdict Error → F → 
               ∙ sym (ap (answer_stops stops) wants.0.0) ∙ fine in absurd cc
         ]
 
-    run_then : (s m u : FilteredLendingCompaction S F C A) (x : R) (gave : List R) (r : Option R)
+    run_then : (s m u : LendingCompaction S F C A) (x : R) (gave : List R) (r : Option R)
         → RunsOn s (x ∷ []) (Some x) m → RunsOn m gave r u → RunsOn s (x ∷ gave) r u
     run_then s m u x gave r one more = record {
       answers = one.answers ++ more.answers;
@@ -248,22 +248,22 @@ module _ {F C : Type 0} (gives : F → Entry → Result Verdict Error → F → 
           (more.does rest after g d (ends_after one.answers more.answers rest ends) will));
     }
 
-    runs_on : (gave : List R) (s t u : FilteredLendingCompaction S F C A) (r : Option R) → s.is_over ≡ false
+    runs_on : (gave : List R) (s t u : LendingCompaction S F C A) (r : Option R) → s.is_over ≡ false
         → AllByRecursion (λ x. result_stops stops x ≡ false) gave → Yields Next s gave t
         → Next t r u → answer_stops stops r ≡ false → RunsOn s (gave ++ listed_answer r) r u
     runs_on [] s t u r live fine runs last goes =
-        run_one s u r live (subst (λ (v : FilteredLendingCompaction S F C A). Next v r u) (sym runs) last) goes
+        run_one s u r live (subst (λ (v : LendingCompaction S F C A). Next v r u) (sym runs) last) goes
     runs_on (x ∷ gave) s t u r live fine runs last goes =
         let one = run_one s runs.0 (Some x) live runs.1 fine.0 in
         run_then s runs.0 u x (gave ++ listed_answer r) r one
         (runs_on gave runs.0 t u r one.live fine.1 runs.2 last goes)
 
     -- of a fresh one
-    module _ (s : FilteredLendingCompaction S F C A) (plain : s.hides ≡ false) (next : s.is_pending ≡ false)
+    module _ (s : LendingCompaction S F C A) (plain : s.hides ≡ false) (next : s.is_pending ≡ false)
         (live : s.is_over ≡ false) (xs : List R)
         (has : Deals (answer_stops stops) advances nowhere s.source xs) where
       -- what was done so far, where nothing waits to be looked at
-      done : (u : FilteredLendingCompaction S F C A) (gave : List R) (r : Option R) (run : RunsOn s gave r u)
+      done : (u : LendingCompaction S F C A) (gave : List R) (r : Option R) (run : RunsOn s gave r u)
           → u.is_pending ≡ false → EndsAtNone run.answers []
           → CompactedLent gives gets s.rules s.filter s.callback (results_in run.answers) gave
           u.filter u.callback
@@ -280,7 +280,7 @@ module _ {F C : Type 0} (gives : F → Entry → Result Verdict Error → F → 
           (will_at gives gets s (looked_at lent s all) all (gave ++ []) u.filter u.callback
           (looked_next lent s all next) will)))
 
-      whole_run : (gave : List R) (t u : FilteredLendingCompaction S F C A)
+      whole_run : (gave : List R) (t u : LendingCompaction S F C A)
           → AllByRecursion (λ x. result_stops stops x ≡ false) gave → Yields Next s gave t
           → Next t None u
           → CompactedLent gives gets s.rules s.filter s.callback xs gave u.filter u.callback
@@ -299,7 +299,7 @@ module _ {F C : Type 0} (gives : F → Entry → Result Verdict Error → F → 
           (done u (gave ++ []) None run (run.rests refl)
           (ends_less run.answers parts.rest parts.ends)))
 
-      until_run : (gave : List R) (e : Error) (t u : FilteredLendingCompaction S F C A) → stops e ≡ false
+      until_run : (gave : List R) (e : Error) (t u : LendingCompaction S F C A) → stops e ≡ false
           → AllByRecursion (λ x. result_stops stops x ≡ false) gave → Yields Next s gave t
           → Next t (Some (Err e)) u
           → (front rest : List R) × (xs ≡ front ++ rest)
@@ -319,11 +319,11 @@ module _ {F C : Type 0} (gives : F → Entry → Result Verdict Error → F → 
           )
 
   module _ (advances : S → Option R → S → Type 0) (lent : S → Option Entry) (can : S → Type 0)
-      (s : FilteredLendingCompaction S F C A) (plain : s.hides ≡ false) (next : s.is_pending ≡ false)
+      (s : LendingCompaction S F C A) (plain : s.hides ≡ false) (next : s.is_pending ≡ false)
       (live : s.is_over ≡ false) where
     pub compacts_lent_results : CompactsLentResults advances s.source
-        (AdvancesFiltered advances lent can gives gets) s s.rules gives gets s.filter s.callback
-        lent_source lent_filter lent_callback
+        (AdvancesCompacted advances lent can gives gets) s s.rules gives gets s.filter s.callback
+        lender lent_filter lent_callback
     compacts_lent_results = record {
       whole = λ stops xs gave t u memory has fine runs last.
           whole_run advances lent can stops memory s plain next live xs has gave t u fine runs last;
@@ -333,7 +333,7 @@ module _ {F C : Type 0} (gives : F → Entry → Result Verdict Error → F → 
     }
 
     pub compacts_lent : CompactsLent advances s.source
-        (AdvancesFiltered advances lent can gives gets) s s.rules gives gets s.filter s.callback
+        (AdvancesCompacted advances lent can gives gets) s s.rules gives gets s.filter s.callback
         lent_filter lent_callback
     compacts_lent = record {
       whole = λ stops xs gave t u memory has fine runs last.
