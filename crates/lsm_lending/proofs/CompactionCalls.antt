@@ -17,7 +17,7 @@ use Rattle.lsm_lending.specs.LentFaults.{NoFaults}
 use Rattle.lsm_lending.specs.LentFaults.{FilterSays, PassingOr}
 use Rattle.lsm_lending.specs.LentNewest.{is_given}
 use Rattle.lsm_lending.specs.LentCompaction.{listed_answer, past_hidden}
-use Rattle.lsm_lending.specs.LentCompaction.{AdvancesCompacted, CallsCompacted, CompactedLent}
+use Rattle.lsm_lending.specs.LentCompaction.{AdvancesCompacted, CallsCompacted, CompactedTo, Later}
 use Rattle.lsm_lending.specs.LentCompaction.{EndsAtNone, FetchesCompacted, MayLendCompacted, SettlesCompacted}
 use Rattle.lsm_lending.specs.LentCompaction.{StepsCompacted, WillCompact, hidden_key, hidden_in}
 use Rattle.lsm_lending.specs.LentCompaction.{lent_compacted, looked_at}
@@ -29,8 +29,8 @@ use Rattle.lsm_lending.proofs.LentFaultsLemmas.{came_after, came_before, ends_ap
 use Rattle.lsm_lending.proofs.LentFaultsLemmas.{no_faults_append}
 use Rattle.lsm_lending.proofs.LentFaultsLemmas.{live_over, nothing_wanted, passing_after, wants_after}
 use Rattle.lsm_lending.proofs.LentOutsLemmas.{hidden_skips, hidden_stops}
-use Rattle.lsm_lending.proofs.LentTurnLemmas.{lent_dropped, lent_failed}
-use Rattle.lsm_lending.proofs.CompactionHeads.{looked_next, looked_some, same_will}
+use Rattle.lsm_lending.proofs.LentTurnLemmas.{hears_more, lent_dropped, lent_failed}
+use Rattle.lsm_lending.proofs.CompactionHeads.{as_here, looked_next, looked_some, same_will}
 use Rattle.lsm_lending.proofs.CompactionHeads.{lends_nothing, will_at, will_plain, will_whole}
 
 -- an error that is said is the filter's: a tombstone is kept
@@ -86,21 +86,22 @@ module _ {F C : Type 0} (gives : F → Entry → Result Verdict Error → F → 
       gave = source;
       told = inl (inl tt, live);
       idle = λ q n. awake q;
-      does = λ l rest more g d ends will.
-          will_at gives gets s rest (looked_at lent s rest) more g d
+      rules = rules;
+      does = λ z l rest more g d ends will.
+          will_at gives gets z s rest (looked_at lent s rest) more g d
           (sym (looked_some lent s rest None pending none))
-          (same_will gives gets advances lent s t rest rules filter callback hidden more g d
-          (will_at gives gets t (looked_at lent t rest) rest more g d (looked_next lent t rest next)
-          will));
+          (same_will gives gets z s t rest rules filter callback hidden more g d
+          (will_at gives gets z t (looked_at lent t rest) rest more g d
+          (looked_next lent t rest next) will));
     }
 
     module _ (x : Entry) (is : lent s.source ≡ Some x) where
       -- a compaction of it and of these
-      from_it : (rest more : List R) (g : F) (d : C)
-          → WillCompact gives gets s (Ok x ∷ rest) more g d
-          → WillCompact gives gets s (looked_at lent s rest) more g d
-      from_it rest more g d will = will_at gives gets s (Ok x ∷ rest) (looked_at lent s rest) more g
-          d (sym (looked_some lent s rest (Some x) pending is)) will
+      from_it : (z : Later) (rest more : List R) (g : F) (d : C)
+          → WillCompact gives gets z s (Ok x ∷ rest) more g d
+          → WillCompact gives gets z s (looked_at lent s rest) more g d
+      from_it z rest more g d will = will_at gives gets z s (Ok x ∷ rest) (looked_at lent s rest)
+          more g d (sym (looked_some lent s rest (Some x) pending is)) will
 
       -- it is hidden
       pub looks_hidden : is_given (hidden_key s) x ≡ true → s.source ≡ t.source
@@ -111,40 +112,35 @@ module _ {F C : Type 0} (gives : F → Entry → Result Verdict Error → F → 
         gave = source;
         told = inl (inl tt, live);
         idle = λ q n. awake q;
-        does = λ l rest more g d ends will.
-            let w = will_at gives gets t (looked_at lent t rest) rest more g d
+        rules = rules;
+        does = λ z l rest more g d ends will.
+            let w = will_at gives gets z t (looked_at lent t rest) rest more g d
             (looked_next lent t rest next) will in
             let skip = hides_more (hidden_key s) x rest given in
-            from_it rest more g d (record {
-              told = w.told;
-              hides = subst (λ (es : List Entry). GetsAll gets s.callback es w.told) (sym skip.told) (
-                t.callback,
-                got,
-                subst (λ (k : Option (List ℕ)). GetsAll gets t.callback (hidden_in k rest)
-                    w.told) hidden w.hides,
-              );
-              does = subst (λ (rs : List R). CompactedLent gives gets s.rules s.filter w.told rs
-                  more g d) (sym skip.past)
-                  (subst (λ (q : Rules). CompactedLent gives gets q s.filter w.told
-                  (past_hidden (hidden_key s) rest) more g d) rules
-                  (subst (λ (f : F). CompactedLent gives gets t.rules f w.told
-                  (past_hidden (hidden_key s) rest) more g d) filter
-                  (subst (λ (k : Option (List ℕ)). CompactedLent gives gets t.rules t.filter
-                  w.told (past_hidden k rest) more g d) hidden w.does)));
-            });
+            let es : List Entry = hidden_in (hidden_key s) rest in
+            let ys : List R = past_hidden (hidden_key s) rest in
+            from_it z rest more g d
+            (subst (λ (rs : List R). CompactedTo gives gets z s.rules s.filter s.callback
+            (hidden_in (hidden_key s) (Ok x ∷ rest)) rs more g d) (sym skip.past)
+            (subst (λ (is : List Entry). CompactedTo gives gets z s.rules s.filter s.callback is ys
+            more g d) (sym skip.told)
+            (hears_more gives gets z s.rules s.filter g s.callback t.callback d x es ys more got
+            (as_here gives gets z s t t.callback es ys more g d rules filter
+            (subst (λ (k : Option (List ℕ)). CompactedTo gives gets z t.rules t.filter t.callback
+            (hidden_in k rest) (past_hidden k rest) more g d) hidden w)))));
       }
 
       -- it is not hidden, and the filter says this of it
       module _ (fresh : is_given (hidden_key s) x ≡ false) (v : Result Verdict Error)
           (asks : Asks gives s.filter x v m.filter)
           (reports : GetsAll gets s.callback (reports_by x v) m.callback) where
-        fresh_it : (rest more : List R) (g : F) (d : C)
-            → CompactedLent gives gets s.rules s.filter s.callback (Ok x ∷ rest) more g d
-            → WillCompact gives gets s (looked_at lent s rest) more g d
-        fresh_it rest more g d does =
+        fresh_it : (z : Later) (rest more : List R) (g : F) (d : C)
+            → CompactedTo gives gets z s.rules s.filter s.callback [] (Ok x ∷ rest) more g d
+            → WillCompact gives gets z s (looked_at lent s rest) more g d
+        fresh_it z rest more g d does =
             let stop = hides_no_more (hidden_key s) x rest fresh in
-            from_it rest more g d
-            (will_whole gives gets s (Ok x ∷ rest) more g d stop.told stop.past does)
+            from_it z rest more g d
+            (will_whole gives gets z s (Ok x ∷ rest) more g d stop.told stop.past does)
 
         -- it leaves one, which is settled from m on
         pub looks_left : (h : Entry) (r : Option R) → told_by x v ≡ Ok (Some h)
@@ -159,27 +155,29 @@ module _ {F C : Type 0} (gives : F → Entry → Result Verdict Error → F → 
             | inr wants ↦ inr wants
           ];
           idle = λ q n. awake q;
-          does = λ l rest more g d ends will.
+          rules = settles.rules ∙ rules;
+          does = λ z l rest more g d ends will.
               let rs : List R = results_in settles.answers ++ rest in
-              fresh_it rs (listed_answer r ++ more) g d
-              (subst (λ (q : Rules). CompactedLent gives gets q s.filter s.callback (Ok x ∷ rs)
+              fresh_it z rs (listed_answer r ++ more) g d
+              (subst (λ (q : Rules). CompactedTo gives gets z q s.filter s.callback [] (Ok x ∷ rs)
               (listed_answer r ++ more) g d) rules
-              ((settles.does l rest more g d ends will).at x v s.filter s.callback left asks
+              ((settles.does z l rest more g d ends will).at x v s.filter s.callback left asks
               reports));
         }
 
         module _ (source : s.source ≡ t.source) (filter : t.filter ≡ m.filter)
             (callback : t.callback ≡ m.callback) (rules : t.rules ≡ s.rules)
             (plain : t.hides ≡ false) (live : t.is_over ≡ false) (next : t.is_pending ≡ false) where
-          behind : (rest more : List R) (g : F) (d : C)
-              → WillCompact gives gets t (looked_at lent t rest) more g d
-              → CompactedLent gives gets s.rules m.filter m.callback rest more g d
-          behind rest more g d will =
-              subst (λ (c : C). CompactedLent gives gets s.rules m.filter c rest more g d) callback
-              (subst (λ (f : F). CompactedLent gives gets s.rules f t.callback rest more g d) filter
-              (subst (λ (q : Rules). CompactedLent gives gets q t.filter t.callback rest more g d)
-              rules (will_plain gives gets t rest more g d plain
-              (will_at gives gets t (looked_at lent t rest) rest more g d
+          behind : (z : Later) (rest more : List R) (g : F) (d : C)
+              → WillCompact gives gets z t (looked_at lent t rest) more g d
+              → CompactedTo gives gets z s.rules m.filter m.callback [] rest more g d
+          behind z rest more g d will = subst (λ (c : C).
+              CompactedTo gives gets z s.rules m.filter c [] rest more g d) callback
+              (subst (λ (f : F). CompactedTo gives gets z s.rules f t.callback [] rest more g d)
+              filter (subst (λ (q : Rules).
+              CompactedTo gives gets z q t.filter t.callback [] rest more g d) rules
+              (will_plain gives gets z t rest more g d plain
+              (will_at gives gets z t (looked_at lent t rest) rest more g d
               (looked_next lent t rest next) will))))
 
           -- it leaves none
@@ -189,10 +187,11 @@ module _ {F C : Type 0} (gives : F → Entry → Result Verdict Error → F → 
             gave = source;
             told = inl (inl tt, live);
             idle = λ q n. awake q;
-            does = λ l rest more g d ends will.
-                fresh_it rest more g d (lent_dropped s.rules gives gets x v s.filter m.filter g
-                s.callback m.callback m.callback d asks reports dropped rest more
-                (behind rest more g d will));
+            rules = rules;
+            does = λ z l rest more g d ends will.
+                fresh_it z rest more g d (lent_dropped s.rules gives gets z x v s.filter m.filter g
+                s.callback m.callback d asks reports dropped rest more
+                (behind z rest more g d will));
           }
 
           -- it answers an error
@@ -217,10 +216,11 @@ module _ {F C : Type 0} (gives : F → Entry → Result Verdict Error → F → 
               live,
             );
             idle = λ q n. awake q;
-            does = λ l rest more g d ends will.
-                fresh_it rest (Err e ∷ more) g d (lent_failed s.rules gives gets x v s.filter
-                m.filter g s.callback m.callback m.callback d asks reports e failed rest more
-                (behind rest more g d will));
+            rules = rules;
+            does = λ z l rest more g d ends will.
+                fresh_it z rest (Err e ∷ more) g d (lent_failed s.rules gives gets z x v s.filter
+                m.filter g s.callback m.callback d asks reports e failed rest more
+                (behind z rest more g d will));
           }
 
 -- the state once an entry was judged
@@ -307,7 +307,8 @@ module _ {F C : Type 0} (gives : F → Entry → Result Verdict Error → F → 
     gave = refl;
     told = inl (inl tt, live);
     idle = λ q n. q;
-    does = λ l rest more g d ends will. will;
+    rules = refl;
+    does = λ z l rest more g d ends will. will;
   }
 
   -- something waited to be looked at
@@ -349,15 +350,16 @@ module _ {F C : Type 0} (gives : F → Entry → Result Verdict Error → F → 
       idle = λ q none. after.idle
           (before.idle q (came_before before.answers after.answers none))
           (came_after before.answers after.answers none);
-      does = λ live rest more g d ends will.
-          will_at gives gets s
+      rules = after.rules ∙ before.rules;
+      does = λ z live rest more g d ends will.
+          will_at gives gets z s
           (looked_at lent s (results_in before.answers ++ (results_in after.answers ++ rest)))
           (looked_at lent s (results_in (before.answers ++ after.answers) ++ rest))
           (listed_answer r ++ more) g d
           (sym (ap (looked_at lent s) (parts_join before.answers after.answers rest)))
-          (before.does (quiet_clean before).1 (results_in after.answers ++ rest)
+          (before.does z (quiet_clean before).1 (results_in after.answers ++ rest)
           (listed_answer r ++ more) g d (ends_before before.answers after.answers rest ends)
-          (after.does live rest more g d (ends_after before.answers after.answers rest ends) will));
+          (after.does z live rest more g d (ends_after before.answers after.answers rest ends) will));
     }
 
     -- ---- whole calls

@@ -11,7 +11,9 @@ use Rattle.sst_entries.specs.declared.error.Error.TheVariants.{OutOfMemory}
 use Rattle.sst_entries.proofs.StreamLemmas.{deals_by}
 use Rattle.lsm_merge.specs.Ends.{R}
 use Rattle.lsm_sorted.specs.declared.compaction.Rules.{Rules}
-use Rattle.lsm_sorted.specs.Compaction.{Verdict, keep}
+use Rattle.std.proofs.lemmas.List.{append-nil}
+use Rattle.lsm_sorted.specs.Compaction.{Judged, Verdict, asked, keep, reported}
+use Rattle.lsm_sorted.specs.Compacting.{SaysOf}
 use Rattle.lsm_sorted.specs.Outlook.{results_in}
 use Rattle.lsm_lending.specs.LentFaults.{AlwaysTells, FilterSays, PassesAll, PassesAllOr}
 use Rattle.lsm_lending.specs.LentFaults.{StaysOver, StaysOverOr}
@@ -20,7 +22,7 @@ use Rattle.lsm_lending.specs.LentCompaction.{DealsCompactedEntries, EndsAtNone, 
 use Rattle.lsm_lending.specs.LentCompaction.{DealsCompactedResults, WillCompact, fresh_of}
 use Rattle.lsm_lending.specs.LentCompaction.{hidden_in, hidden_key, lender, lent_outs}
 use Rattle.lsm_lending.specs.LentCompaction.{is_entry, lent_callback, lent_compacted, lent_filter}
-use Rattle.lsm_lending.specs.LentCompaction.{listed_answer, looked_at, past_hidden}
+use Rattle.lsm_lending.specs.LentCompaction.{listed_answer, looked_at, past_hidden, nothing_later}
 use Rattle.lsm_lending.specs.declared.compaction.lending.LendingCompaction.{LendingCompaction}
 use Rattle.lsm_sorted.proofs.WholeLemmas.{KeepsAll}
 use Rattle.lsm_lending.proofs.LentOutsLemmas.{lent_kept}
@@ -48,14 +50,27 @@ module _ {S F C A : Type 0} (advances : S → Option R → S → Type 0) (can : 
   abbrev outs_at : LendingCompaction S F C A → List R → List R
   outs_at s rest = lent_outs s.rules (past_hidden (hidden_key s) (looked_at lent s rest))
 
-  will_all : (t : LendingCompaction S F C A) (rest : List R) → WillCompact (KeepsAll {F = F}) (TakesAny {C = C}) t
-      (looked_at lent t rest) (outs_at t rest) t.filter t.callback
-  will_all t rest = record {
-    told = t.callback;
-    hides = takes_all t.callback (hidden_in (hidden_key t) (looked_at lent t rest));
-    does = compacts_all t.rules t.filter t.callback
-        (past_hidden (hidden_key t) (looked_at lent t rest));
-  }
+  will_all : (t : LendingCompaction S F C A) (rest : List R)
+      → WillCompact (KeepsAll {F = F}) (TakesAny {C = C}) nothing_later t (looked_at lent t rest)
+      (outs_at t rest) t.filter t.callback
+  will_all t rest =
+      let k = hidden_key t in
+      let rs : List R = looked_at lent t rest in
+      let all = compacts_all {F = F} {C = C} t.rules t.filter t.callback (past_hidden k rs) in
+      record {
+        judged = all.judged;
+        over = all.over;
+        tombstones = all.tombstones;
+        answers = append-nil (outs_at t rest) ∙ all.answers;
+        said = asked t.rules all.judged;
+        said_are = append-nil (asked t.rules all.judged);
+        says = all.says;
+        heard = hidden_in k rs ++ reported t.rules all.judged;
+        heard_are = append-nil (hidden_in k rs ++ reported t.rules all.judged);
+        reports = takes_all t.callback (hidden_in k rs ++ reported t.rules all.judged);
+        begun = all.judged;
+        begun_are = append-nil all.judged;
+      }
 
   nothing_lent : (t : LendingCompaction S F C A) (rest : List R) → t.is_pending ≡ false → rest ≡ []
       → outs_at t rest ≡ []
@@ -83,13 +98,20 @@ module _ {S F C A : Type 0} (advances : S → Option R → S → Type 0) (can : 
               let parts = dealt_parts advances stops answers s.source t.source leaves.rest
               leaves.has call.step.gave calm in
               let more : List R = outs_at t parts.rest in
-              let will = call.step.does passing.1 parts.rest more t.filter t.callback parts.ends
-              (will_all t parts.rest) in
+              let will = call.step.does nothing_later passing.1 parts.rest more t.filter t.callback
+              parts.ends (will_all t parts.rest) in
               let whole : listed_answer r ++ more
               ≡ outs_at s (results_in answers ++ parts.rest) =
-              keeps_all TakesAny s.rules s.filter t.filter will.told t.callback
+              keeps_all s.rules s.filter t.filter
               (past_hidden (hidden_key s) (looked_at lent s (results_in answers ++ parts.rest)))
-              (listed_answer r ++ more) will.does in
+              (listed_answer r ++ more) (record {
+                judged = will.judged;
+                over = will.over;
+                tombstones = will.tombstones;
+                answers = sym (append-nil (listed_answer r ++ more)) ∙ will.answers;
+                says = subst (λ (js : List Judged). SaysOf (KeepsAll {F = F}) s.filter js t.filter)
+                    (sym (append-nil will.said) ∙ will.said_are) will.says;
+              }) in
               let is : ys ≡ listed_answer r ++ more = leaves.is
               ∙ ap (λ (rs : List R). outs_at s rs) parts.is ∙ sym whole in
               let ended : r ≡ None → more ≡ [] = λ (none : r ≡ None).

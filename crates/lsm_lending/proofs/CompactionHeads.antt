@@ -14,12 +14,12 @@ use Rattle.sst_entries.proofs.KeyLemmas.{same_is}
 use Rattle.lsm_merge.specs.Ends.{R}
 use Rattle.lsm_sorted.specs.Newest.{after_key}
 use Rattle.lsm_sorted.specs.Compaction.{Verdict, is_value, zeroed}
-use Rattle.lsm_sorted.specs.Compacting.{GetsAll, head_answer, key_follows, of_key}
+use Rattle.lsm_sorted.specs.Compacting.{head_answer, key_follows, of_key}
 use Rattle.lsm_sorted.specs.CompactionState.{error_first}
 use Rattle.lsm_lending.specs.LentCompaction.{entry_before, gone_of_lent, has_to_wait, listed_answer}
 use Rattle.lsm_lending.specs.LentCompaction.{past_hidden}
 use Rattle.lsm_lending.specs.LentFaults.{NoFaults, Passing}
-use Rattle.lsm_lending.specs.LentCompaction.{CompactedLent, FetchesCompacted, SettlesCompacted}
+use Rattle.lsm_lending.specs.LentCompaction.{CompactedTo, FetchesCompacted, Later, SettlesCompacted}
 use Rattle.lsm_lending.specs.LentCompaction.{SettlesFirst, WillCompact, hidden_key}
 use Rattle.lsm_lending.specs.LentCompaction.{hidden_in, lent_compacted, looked_at, put_into, lent_where}
 use Rattle.lsm_lending.specs.declared.compaction.lending.Lends.{Lends}
@@ -28,7 +28,7 @@ use Rattle.lsm_sorted.specs.declared.compaction.Rules.{Rules}
 use Rattle.lsm_lending.specs.declared.compaction.lending.LendingCompaction.{LendingCompaction}
 use Rattle.lsm_lending.proofs.LentFaultsLemmas.{ends_only}
 use Rattle.lsm_lending.proofs.LentTurnLemmas.{gone_before, gone_fault, gone_high, gone_last, gone_low}
-use Rattle.lsm_lending.proofs.LentTurnLemmas.{lent_closes, lent_error, lent_opens}
+use Rattle.lsm_lending.proofs.LentTurnLemmas.{hears_more, lent_closes, lent_error, lent_opens}
 use Rattle.lsm_sorted.proofs.TurnLemmas.{stretch, stretch_all, stretch_ends}
 
 -- ---- an entry by its parts
@@ -103,79 +103,68 @@ module _ {S F C A : Type 0} (lent : S → Option Entry) (t : LendingCompaction S
 
 module _ {F C : Type 0} (gives : F → Entry → Result Verdict Error → F → Type 0)
     (gets : C → Entry → C → Type 0) {S A : Type 0} where
-  -- nothing is hidden
-  pub will_plain : (t : LendingCompaction S F C A) (ys gave : List R) (g : F) (d : C)
-      → t.hides ≡ false → WillCompact gives gets t ys gave g d
-      → CompactedLent gives gets t.rules t.filter t.callback ys gave g d
-  will_plain t ys gave g d plain will =
-      let told : will.told ≡ t.callback = subst (λ (b : Bool). GetsAll gets t.callback
-      (hidden_in (cond b (Some t.key.items) None) ys) will.told) plain will.hides in
-      let does = subst (λ (b : Bool). CompactedLent gives gets t.rules t.filter will.told
-      (past_hidden (cond b (Some t.key.items) None) ys) gave g d) plain will.does in
-      subst (λ (c : C). CompactedLent gives gets t.rules t.filter c ys gave g d) told does
+  module _ (z : Later) where
+    -- nothing is hidden
+    pub will_plain : (t : LendingCompaction S F C A) (ys gave : List R) (g : F) (d : C)
+        → t.hides ≡ false → WillCompact gives gets z t ys gave g d
+        → CompactedTo gives gets z t.rules t.filter t.callback [] ys gave g d
+    will_plain t ys gave g d plain will = subst (λ (b : Bool).
+        CompactedTo gives gets z t.rules t.filter t.callback
+        (hidden_in (cond b (Some t.key.items) None) ys)
+        (past_hidden (cond b (Some t.key.items) None) ys) gave g d) plain will
 
-  -- what follows this key is hidden
-  pub will_hide : (t : LendingCompaction S F C A) (k : List ℕ) (ys gave : List R) (g : F)
-      (d : C) → t.hides ≡ true → t.key.items ≡ k → WillCompact gives gets t ys gave g d
-      → (told : C) × GetsAll gets t.callback (of_key k ys) told
-      × CompactedLent gives gets t.rules t.filter told (after_key k ys) gave g d
-  will_hide t k ys gave g d hides is will = (
-    will.told,
-    subst (λ (j : List ℕ). GetsAll gets t.callback (of_key j ys) will.told) is
-        (subst (λ (b : Bool). GetsAll gets t.callback
-        (hidden_in (cond b (Some t.key.items) None) ys) will.told) hides will.hides),
-    subst (λ (j : List ℕ). CompactedLent gives gets t.rules t.filter will.told (after_key j ys) gave
-        g d) is
-        (subst (λ (b : Bool). CompactedLent gives gets t.rules t.filter will.told
-        (past_hidden (cond b (Some t.key.items) None) ys) gave g d) hides will.does),
-  )
+    -- what follows this key is hidden
+    pub will_hide : (t : LendingCompaction S F C A) (k : List ℕ) (ys gave : List R) (g : F)
+        (d : C) → t.hides ≡ true → t.key.items ≡ k → WillCompact gives gets z t ys gave g d
+        → CompactedTo gives gets z t.rules t.filter t.callback (of_key k ys) (after_key k ys) gave
+        g d
+    will_hide t k ys gave g d hides is will = subst (λ (j : List ℕ).
+        CompactedTo gives gets z t.rules t.filter t.callback (of_key j ys) (after_key j ys) gave
+        g d) is (subst (λ (b : Bool). CompactedTo gives gets z t.rules t.filter t.callback
+        (hidden_in (cond b (Some t.key.items) None) ys)
+        (past_hidden (cond b (Some t.key.items) None) ys) gave g d) hides will)
 
-  -- of a list with nothing hidden in front
-  pub will_whole : (t : LendingCompaction S F C A) (xs gave : List R) (g : F) (d : C)
-      → hidden_in (hidden_key t) xs ≡ [] → past_hidden (hidden_key t) xs ≡ xs
-      → CompactedLent gives gets t.rules t.filter t.callback xs gave g d
-      → WillCompact gives gets t xs gave g d
-  will_whole t xs gave g d none past does = record {
-    told = t.callback;
-    hides = subst (λ (es : List Entry). GetsAll gets t.callback es t.callback) (sym none) refl;
-    does = subst (λ (ys : List R). CompactedLent gives gets t.rules t.filter t.callback ys gave g d)
-        (sym past) does;
-  }
+    -- of a list with nothing hidden in front
+    pub will_whole : (t : LendingCompaction S F C A) (xs gave : List R) (g : F) (d : C)
+        → hidden_in (hidden_key t) xs ≡ [] → past_hidden (hidden_key t) xs ≡ xs
+        → CompactedTo gives gets z t.rules t.filter t.callback [] xs gave g d
+        → WillCompact gives gets z t xs gave g d
+    will_whole t xs gave g d none past does = subst (λ (ys : List R).
+        CompactedTo gives gets z t.rules t.filter t.callback (hidden_in (hidden_key t) xs) ys gave
+        g d) (sym past) (subst (λ (es : List Entry).
+        CompactedTo gives gets z t.rules t.filter t.callback es xs gave g d) (sym none) does)
 
-  pub will_at : (t : LendingCompaction S F C A) (xs ys gave : List R) (g : F) (d : C)
-      → xs ≡ ys → WillCompact gives gets t xs gave g d → WillCompact gives gets t ys gave g d
-  will_at t xs ys gave g d same will =
-      subst (λ (zs : List R). WillCompact gives gets t zs gave g d) same will
+    pub will_at : (t : LendingCompaction S F C A) (xs ys gave : List R) (g : F) (d : C)
+        → xs ≡ ys → WillCompact gives gets z t xs gave g d → WillCompact gives gets z t ys gave g d
+    will_at t xs ys gave g d same will =
+        subst (λ (zs : List R). WillCompact gives gets z t zs gave g d) same will
+
+    -- what a compaction does from t on, by the rules and the filter of s
+    pub as_here : (s t : LendingCompaction S F C A) (c : C) (hidden : List Entry)
+        (rs gave : List R) (g : F) (d : C) → t.rules ≡ s.rules → t.filter ≡ s.filter
+        → CompactedTo gives gets z t.rules t.filter c hidden rs gave g d
+        → CompactedTo gives gets z s.rules s.filter c hidden rs gave g d
+    as_here s t c hidden rs gave g d rules filter does = subst (λ (q : Rules).
+        CompactedTo gives gets z q s.filter c hidden rs gave g d) rules
+        (subst (λ (f : F). CompactedTo gives gets z t.rules f c hidden rs gave g d) filter does)
+
+    -- the same is to come
+    pub same_will : (s t : LendingCompaction S F C A) (xs : List R) → t.rules ≡ s.rules
+        → t.filter ≡ s.filter → t.callback ≡ s.callback → hidden_key t ≡ hidden_key s
+        → (gave : List R) (g : F) (d : C) → WillCompact gives gets z t xs gave g d
+        → WillCompact gives gets z s xs gave g d
+    same_will s t xs rules filter callback hidden gave g d will =
+        as_here s t s.callback (hidden_in (hidden_key s) xs) (past_hidden (hidden_key s) xs) gave g
+        d rules filter
+        (subst (λ (c : C). CompactedTo gives gets z t.rules t.filter c
+        (hidden_in (hidden_key s) xs) (past_hidden (hidden_key s) xs) gave g d) callback
+        (subst (λ (k : Option (List ℕ)). CompactedTo gives gets z t.rules t.filter t.callback
+        (hidden_in k xs) (past_hidden k xs) gave g d) hidden will))
 
   module _ (advances : S → Option R → S → Type 0) (lent : S → Option Entry)
       (s t : LendingCompaction S F C A) where
     abbrev Settled : Option R → Entry → Type 0
     Settled r head = SettlesCompacted gives gets advances lent s head r t
-
-    -- the same is to come
-    pub same_will : (xs : List R) → t.rules ≡ s.rules → t.filter ≡ s.filter
-        → t.callback ≡ s.callback → hidden_key t ≡ hidden_key s → (gave : List R) (g : F) (d : C)
-        → WillCompact gives gets t xs gave g d → WillCompact gives gets s xs gave g d
-    same_will xs rules filter callback hidden gave g d will = record {
-      told = will.told;
-      hides = subst (λ (c : C). GetsAll gets c (hidden_in (hidden_key s) xs) will.told) callback
-          (subst (λ (k : Option (List ℕ)). GetsAll gets t.callback (hidden_in k xs) will.told)
-          hidden will.hides);
-      does = subst (λ (q : Rules). CompactedLent gives gets q s.filter will.told
-          (past_hidden (hidden_key s) xs) gave g d) rules
-          (subst (λ (f : F). CompactedLent gives gets t.rules f will.told
-          (past_hidden (hidden_key s) xs) gave g d) filter
-          (subst (λ (k : Option (List ℕ)). CompactedLent gives gets t.rules t.filter will.told
-          (past_hidden k xs) gave g d) hidden will.does));
-    }
-
-    -- what a compaction does from t on, by the rules and the filter of s
-    as_here : (c : C) (rs gave : List R) (g : F) (d : C) → t.rules ≡ s.rules
-        → t.filter ≡ s.filter → CompactedLent gives gets t.rules t.filter c rs gave g d
-        → CompactedLent gives gets s.rules s.filter c rs gave g d
-    as_here c rs gave g d rules filter does = subst (λ (q : Rules). CompactedLent gives gets q
-        s.filter c rs gave g d) rules (subst (λ (f : F). CompactedLent gives gets t.rules f c rs
-        gave g d) filter does)
 
     -- ---- the source is asked
     module _ (rules : t.rules ≡ s.rules) (filter : t.filter ≡ s.filter) (live : t.is_over ≡ false)
@@ -191,10 +180,11 @@ module _ {F C : Type 0} (gives : F → Entry → Result Verdict Error → F → 
           gave = (t.source, step, refl);
           told = inl (inl (refl, tt), live);
           idle = λ q none. pending ∙ more;
-          does = λ l rest after g d ends will.
-              will_at s rest (looked_at lent s rest) after g d (sym (looked_next lent s rest next))
-              (same_will rest rules filter callback hidden after g d
-              (will_at t (looked_at lent t rest) rest after g d
+          rules = rules;
+          does = λ z l rest after g d ends will.
+              will_at z s rest (looked_at lent s rest) after g d (sym (looked_next lent s rest next))
+              (same_will z s t rest rules filter callback hidden after g d
+              (will_at z t (looked_at lent t rest) rest after g d
               (looked_next lent t rest (pending ∙ more)) will));
         };
         ended = λ none quiet. ends_only None;
@@ -206,11 +196,12 @@ module _ {F C : Type 0} (gives : F → Entry → Result Verdict Error → F → 
           gave = (t.source, step, refl);
           told = inl (inl (refl, tt), live);
           idle = λ q none. let no : Some (Ok x) ≡ None = none.0 in absurd cc;
-          does = λ l rest after g d ends will.
-              will_at s (Ok x ∷ rest) (looked_at lent s (Ok x ∷ rest)) after g d
+          rules = rules;
+          does = λ z l rest after g d ends will.
+              will_at z s (Ok x ∷ rest) (looked_at lent s (Ok x ∷ rest)) after g d
               (sym (looked_next lent s (Ok x ∷ rest) next))
-              (same_will (Ok x ∷ rest) rules filter callback hidden after g d
-              (will_at t (looked_at lent t rest) (Ok x ∷ rest) after g d
+              (same_will z s t (Ok x ∷ rest) rules filter callback hidden after g d
+              (will_at z t (looked_at lent t rest) (Ok x ∷ rest) after g d
               (looked_some lent t rest (Some x) (pending ∙ more) (sym lends)) will));
         };
         ended = λ none quiet. let no : true ≡ false = sym (pending ∙ more) ∙ quiet in absurd cc;
@@ -227,16 +218,17 @@ module _ {F C : Type 0} (gives : F → Entry → Result Verdict Error → F → 
           gave = (t.source, step, refl);
           told = inl (inl (ends_only (Some (Err e))), live);
           idle = λ q none. quiet;
-          does = λ l rest after g d ends will.
-              will_at s (Err e ∷ rest) (looked_at lent s (Err e ∷ rest)) (Err e ∷ after) g d
+          rules = rules;
+          does = λ z l rest after g d ends will.
+              will_at z s (Err e ∷ rest) (looked_at lent s (Err e ∷ rest)) (Err e ∷ after) g d
               (sym (looked_next lent s (Err e ∷ rest) next))
-              (will_whole s (Err e ∷ rest) (Err e ∷ after) g d
+              (will_whole z s (Err e ∷ rest) (Err e ∷ after) g d
               (hidden_error (hidden_key s) e rest) (past_error (hidden_key s) e rest)
-              (lent_error gives gets s.rules s.filter g s.callback d e rest after
-              (subst (λ (c : C). CompactedLent gives gets s.rules s.filter c rest after g d)
-              callback (as_here t.callback rest after g d rules filter
-              (will_plain t rest after g d plain
-              (will_at t (looked_at lent t rest) rest after g d (looked_next lent t rest quiet)
+              (lent_error gives gets z s.rules s.filter g s.callback d e rest after
+              (subst (λ (c : C). CompactedTo gives gets z s.rules s.filter c [] rest after g d)
+              callback (as_here z s t t.callback [] rest after g d rules filter
+              (will_plain z t rest after g d plain
+              (will_at z t (looked_at lent t rest) rest after g d (looked_next lent t rest quiet)
               will))))));
         };
         ended = λ none q. let no : Some (Err e) ≡ None = none in absurd cc;
@@ -247,12 +239,13 @@ module _ {F C : Type 0} (gives : F → Entry → Result Verdict Error → F → 
 
     -- memory is refused
     pub settled_memory : (e : Error) (head : Entry) → e ≡ OutOfMemory → s.source ≡ t.source
-        → t.is_over ≡ true → Settled (Some (Err e)) head
-    settled_memory e head is source over = record {
+        → t.rules ≡ s.rules → t.is_over ≡ true → Settled (Some (Err e)) head
+    settled_memory e head is source rules over = record {
       answers = [];
       gave = source;
       told = inr ((ap (λ (f : Error). Some (Err f)) is, tt), over);
-      does = λ live. let no : true ≡ false = sym over ∙ live in absurd cc;
+      rules = rules;
+      does = λ z live. let no : true ≡ false = sym over ∙ live in absurd cc;
     }
 
     -- of the entry that the source lends, where that is what is lent
@@ -298,54 +291,55 @@ module _ {F C : Type 0} (gives : F → Entry → Result Verdict Error → F → 
     -- ---- a head, and what follows it
     module _ (head : Entry) (rules : t.rules ≡ s.rules) (filter : t.filter ≡ s.filter)
         (live : t.is_over ≡ false) where
-      abbrev First : List R → List R → F → C → Type 0
-      First rs gave g d = SettlesFirst gives gets head s rs gave g d
+      module _ (z : Later) where
+        abbrev First : List R → List R → F → C → Type 0
+        First rs gave g d = SettlesFirst gives gets z head s rs gave g d
 
-      -- what t does where it hides nothing
-      plainly : (rest xs gave : List R) (g : F) (d : C) → t.callback ≡ s.callback
-          → t.hides ≡ false → looked_at lent t rest ≡ xs
-          → WillCompact gives gets t (looked_at lent t rest) gave g d
-          → CompactedLent gives gets s.rules s.filter s.callback xs gave g d
-      plainly rest xs gave g d callback plain at will =
-          subst (λ (c : C). CompactedLent gives gets s.rules s.filter c xs gave g d) callback
-          (as_here t.callback xs gave g d rules filter (will_plain t xs gave g d plain
-          (will_at t (looked_at lent t rest) xs gave g d at will)))
+        -- what t does where it hides nothing
+        plainly : (rest xs gave : List R) (g : F) (d : C) → t.callback ≡ s.callback
+            → t.hides ≡ false → looked_at lent t rest ≡ xs
+            → WillCompact gives gets z t (looked_at lent t rest) gave g d
+            → CompactedTo gives gets z s.rules s.filter s.callback [] xs gave g d
+        plainly rest xs gave g d callback plain at will =
+            subst (λ (c : C). CompactedTo gives gets z s.rules s.filter c [] xs gave g d) callback
+            (as_here z s t t.callback [] xs gave g d rules filter (will_plain z t xs gave g d plain
+            (will_at z t (looked_at lent t rest) xs gave g d at will)))
 
-      -- a head alone in front of these
-      alone_first : (b : Bool) (rs gave : List R) (g : F) (d : C)
-          → key_follows head.user_key rs ≡ false
-          → gone_of_lent s.rules None (error_first rs) head ≡ b
-          → CompactedLent gives gets s.rules s.filter s.callback rs gave g d
-          → First rs (listed_answer (head_answer s.rules b head) ++ gave) g d
-      alone_first b rs gave g d over goes behind = record {
-        at = λ x v f c left asks reports.
-            lent_closes s.rules gives gets x v f s.filter g c s.callback s.callback d asks reports
-            head left [] rs rs gave b tt refl over (inr refl) goes refl behind;
-      }
+        -- a head alone in front of these
+        alone_first : (b : Bool) (rs gave : List R) (g : F) (d : C)
+            → key_follows head.user_key rs ≡ false
+            → gone_of_lent s.rules None (error_first rs) head ≡ b
+            → CompactedTo gives gets z s.rules s.filter s.callback [] rs gave g d
+            → First rs (listed_answer (head_answer s.rules b head) ++ gave) g d
+        alone_first b rs gave g d over goes behind = record {
+          at = λ x v f c left asks reports.
+              lent_closes s.rules gives gets z x v f s.filter g c s.callback d asks reports
+              head left [] rs rs gave b tt refl over (inr refl) goes behind;
+        }
 
-      -- another version follows, and it stays
-      opens_first : (rs gave : List R) (g : F) (d : C) → key_follows head.user_key rs ≡ true
-          → nat_lt head.seqno s.rules.watermark ≡ false
-          → CompactedLent gives gets s.rules s.filter s.callback rs gave g d
-          → First rs (Ok (zeroed s.rules head) ∷ gave) g d
-      opens_first rs gave g d follows high behind = record {
-        at = λ x v f c left asks reports.
-            lent_opens s.rules gives gets x v f s.filter g c s.callback s.callback d asks reports
-            head left rs gave follows high behind;
-      }
+        -- another version follows, and it stays
+        opens_first : (rs gave : List R) (g : F) (d : C) → key_follows head.user_key rs ≡ true
+            → nat_lt head.seqno s.rules.watermark ≡ false
+            → CompactedTo gives gets z s.rules s.filter s.callback [] rs gave g d
+            → First rs (Ok (zeroed s.rules head) ∷ gave) g d
+        opens_first rs gave g d follows high behind = record {
+          at = λ x v f c left asks reports.
+              lent_opens s.rules gives gets z x v f s.filter g c s.callback d asks reports
+              head left rs gave follows high behind;
+        }
 
       -- one that need not wait
       module _ (now : has_to_wait s.rules head ≡ false) (source : t.source ≡ s.source)
           (callback : t.callback ≡ s.callback) (next : t.is_pending ≡ false) where
-        high_first : (rs gave : List R) (g : F) (d : C)
+        high_first : (z : Later) (rs gave : List R) (g : F) (d : C)
             → nat_lt head.seqno s.rules.watermark ≡ false
-            → CompactedLent gives gets s.rules s.filter s.callback rs gave g d
-            → First rs (Ok (zeroed s.rules head) ∷ gave) g d
-        high_first rs gave g d high behind = elim (key_follows head.user_key rs) as
+            → CompactedTo gives gets z s.rules s.filter s.callback [] rs gave g d
+            → First z rs (Ok (zeroed s.rules head) ∷ gave) g d
+        high_first z rs gave g d high behind = elim (key_follows head.user_key rs) as
             (λ b. key_follows head.user_key rs ≡ b
-            → First rs (Ok (zeroed s.rules head) ∷ gave) g d) [
-              | true ↦ λ e. opens_first rs gave g d e high behind
-              | false ↦ λ e. alone_first false rs gave g d e
+            → First z rs (Ok (zeroed s.rules head) ∷ gave) g d) [
+              | true ↦ λ e. opens_first z rs gave g d e high behind
+              | false ↦ λ e. alone_first z false rs gave g d e
                   (gone_high s.rules head now (error_first rs) high) behind
             ] refl
 
@@ -355,8 +349,9 @@ module _ {F C : Type 0} (gives : F → Entry → Result Verdict Error → F → 
           answers = [];
           gave = sym source;
           told = inl (tt, live);
-          does = λ l rest gave g d ends will. high_first rest gave g d high
-              (plainly rest rest gave g d callback plain (looked_next lent t rest next) will);
+          rules = rules;
+          does = λ z l rest gave g d ends will. high_first z rest gave g d high
+              (plainly z rest rest gave g d callback plain (looked_next lent t rest next) will);
         }
 
         pub keeps_low : (b : Bool) → nat_lt head.seqno s.rules.watermark ≡ true
@@ -366,20 +361,21 @@ module _ {F C : Type 0} (gives : F → Entry → Result Verdict Error → F → 
           answers = [];
           gave = sym source;
           told = inl (passing_of s.rules b head [] tt, live);
-          does = λ l rest gave g d ends will.
-              let then = will_hide t head.user_key rest gave g d hides key
-              (will_at t (looked_at lent t rest) rest gave g d (looked_next lent t rest next) will)
+          rules = rules;
+          does = λ z l rest gave g d ends will.
+              let then = will_hide z t head.user_key rest gave g d hides key
+              (will_at z t (looked_at lent t rest) rest gave g d (looked_next lent t rest next) will)
               in
               let es : List Entry = of_key head.user_key rest in
               let qs : List R = after_key head.user_key rest in
               record {
                 at = λ x v f c left asks reports.
-                    lent_closes s.rules gives gets x v f s.filter g c s.callback then.0 d asks
+                    lent_closes s.rules gives gets z x v f s.filter g c s.callback d asks
                     reports head left es rest qs gave b (stretch_all head.user_key rest)
                     (stretch head.user_key rest) (stretch_ends head.user_key rest) (inl low)
                     (gone_low s.rules head now (first es) (error_first qs) low ∙ sym goes)
-                    (subst (λ (e : C). GetsAll gets e es then.0) callback then.1)
-                    (as_here then.0 qs gave g d rules filter then.2);
+                    (subst (λ (e : C). CompactedTo gives gets z s.rules s.filter e es qs gave g d)
+                    callback (as_here z s t t.callback es qs gave g d rules filter then));
               };
         }
 
@@ -392,11 +388,12 @@ module _ {F C : Type 0} (gives : F → Entry → Result Verdict Error → F → 
             answers = Some (Err e) ∷ [];
             gave = (t.source, step, refl);
             told = inl (ends_only (Some (Err e)), live);
-            does = λ l rest gave g d ends will.
-                alone_first true (Err e ∷ rest) (Err e ∷ gave) g d refl
+            rules = rules;
+            does = λ z l rest gave g d ends will.
+                alone_first z true (Err e ∷ rest) (Err e ∷ gave) g d refl
                 (gone_fault s.rules head waits e)
-                (lent_error gives gets s.rules s.filter g s.callback d e rest gave
-                (plainly rest rest gave g d callback plain (looked_next lent t rest next) will));
+                (lent_error gives gets z s.rules s.filter g s.callback d e rest gave
+                (plainly z rest rest gave g d callback plain (looked_next lent t rest next) will));
           }
 
           pub settles_none : (b : Bool) → b ≡ s.rules.evict → t.is_pending ≡ false
@@ -405,11 +402,12 @@ module _ {F C : Type 0} (gives : F → Entry → Result Verdict Error → F → 
             answers = None ∷ [];
             gave = (t.source, step, refl);
             told = inl (passing_of s.rules b head (None ∷ []) (refl, tt), live);
-            does = λ l rest gave g d ends will.
-                alone_first b rest gave g d (ap (key_follows head.user_key) ends.0)
+            rules = rules;
+            does = λ z l rest gave g d ends will.
+                alone_first z b rest gave g d (ap (key_follows head.user_key) ends.0)
                 (ap (λ (rs : List R). gone_of_lent s.rules None (error_first rs) head) ends.0
                 ∙ gone_last s.rules head waits ∙ sym evict)
-                (plainly rest rest gave g d callback plain (looked_next lent t rest next) will);
+                (plainly z rest rest gave g d callback plain (looked_next lent t rest next) will);
           }
 
           module _ (y : Entry) (is : lent t.source ≡ Some y) (pending : t.is_pending ≡ true)
@@ -421,10 +419,11 @@ module _ {F C : Type 0} (gives : F → Entry → Result Verdict Error → F → 
               answers = Some (Ok y) ∷ [];
               gave = (t.source, step, refl);
               told = inl (passing_of s.rules b head (Some (Ok y) ∷ []) (refl, tt), live);
-              does = λ l rest gave g d ends will.
-                  alone_first b (Ok y ∷ rest) gave g d other
+              rules = rules;
+              does = λ z l rest gave g d ends will.
+                  alone_first z b (Ok y ∷ rest) gave g d other
                   (gone_last s.rules head waits ∙ sym evict)
-                  (plainly rest (Ok y ∷ rest) gave g d callback plain
+                  (plainly z rest (Ok y ∷ rest) gave g d callback plain
                   (looked_some lent t rest (Some y) pending is) will);
             }
 
@@ -435,9 +434,10 @@ module _ {F C : Type 0} (gives : F → Entry → Result Verdict Error → F → 
               answers = Some (Ok y) ∷ [];
               gave = (t.source, step, refl);
               told = inl ((refl, tt), live);
-              does = λ l rest gave g d ends will.
-                  opens_first (Ok y ∷ rest) gave g d same high
-                  (plainly rest (Ok y ∷ rest) gave g d callback plain
+              rules = rules;
+              does = λ z l rest gave g d ends will.
+                  opens_first z (Ok y ∷ rest) gave g d same high
+                  (plainly z rest (Ok y ∷ rest) gave g d callback plain
                   (looked_some lent t rest (Some y) pending is) will);
             }
 
@@ -451,20 +451,22 @@ module _ {F C : Type 0} (gives : F → Entry → Result Verdict Error → F → 
           answers = Some (Ok y) ∷ [];
           gave = (t.source, step, refl);
           told = inl (passing_of s.rules b head (Some (Ok y) ∷ []) (refl, tt), live);
-          does = λ l rest gave g d ends will.
-              let then = will_hide t head.user_key rest gave g d hides key
-              (will_at t (looked_at lent t rest) rest gave g d (looked_next lent t rest next) will)
+          rules = rules;
+          does = λ z l rest gave g d ends will.
+              let then = will_hide z t head.user_key rest gave g d hides key
+              (will_at z t (looked_at lent t rest) rest gave g d (looked_next lent t rest next) will)
               in
               let es : List Entry = of_key head.user_key rest in
               let qs : List R = after_key head.user_key rest in
               record {
                 at = λ x v f c left asks reports.
-                    lent_closes s.rules gives gets x v f s.filter g c s.callback then.0 d asks
+                    lent_closes s.rules gives gets z x v f s.filter g c s.callback d asks
                     reports head left (y ∷ es) (Ok y ∷ rest) qs gave b
                     (same_is y.user_key head.user_key same, stretch_all head.user_key rest)
                     (ap (λ (rs : List R). Ok y ∷ rs) (stretch head.user_key rest))
                     (stretch_ends head.user_key rest) (inl low)
                     (gone_before s.rules head waits y (error_first qs) low ∙ sym goes)
-                    (t.callback, got, then.1) (as_here then.0 qs gave g d rules filter then.2);
+                    (hears_more gives gets z s.rules s.filter g s.callback t.callback d y es qs
+                    gave got (as_here z s t t.callback es qs gave g d rules filter then));
               };
         }

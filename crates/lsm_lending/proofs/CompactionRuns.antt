@@ -12,15 +12,18 @@ use Rattle.sst_entries.specs.declared.error.Error.{Error}
 use Rattle.sst_entries.specs.declared.error.Error.TheVariants.{OutOfMemory}
 use Rattle.sst_entries.proofs.StreamLemmas.{deals_front}
 use Rattle.lsm_merge.specs.Ends.{R}
-use Rattle.lsm_sorted.specs.Compaction.{JudgedItem, Verdict, by_key}
+use Rattle.lsm_sorted.specs.Compaction.{Judged, JudgedItem, Verdict, as_they_are, by_key}
 use Rattle.lsm_sorted.specs.Compaction.{items}
-use Rattle.lsm_sorted.specs.Compacting.{Compacted}
+use Rattle.lsm_sorted.specs.Compacting.{Compacted, GetsAll, SaysOf}
+use Rattle.lsm_sorted.specs.declared.compaction.Rules.{Rules}
 use Rattle.lsm_sorted.specs.Outlook.{results_in}
 use Rattle.lsm_sorted.specs.Hears.{GaveEach}
 use Rattle.lsm_lending.specs.LentFaults.{EndsIn, NoFaults}
 use Rattle.lsm_lending.specs.LentFaults.{FilterSays, PassingOr}
 use Rattle.lsm_lending.specs.LentCompaction.{listed_answer, past_hidden}
-use Rattle.lsm_lending.specs.LentCompaction.{AdvancesCompacted, CompactedLent, CompactsLent}
+use Rattle.lsm_lending.specs.LentCompaction.{AdvancesCompacted, CompactedLent, CompactedPart}
+use Rattle.lsm_lending.specs.LentCompaction.{CompactedTo, CompactsLent, Later, later_of}
+use Rattle.lsm_lending.specs.LentCompaction.{nothing_later}
 use Rattle.lsm_lending.specs.LentCompaction.{CompactsLentResults, EndsAtNone}
 use Rattle.lsm_lending.specs.LentCompaction.{WillCompact, hidden_key, hidden_in, is_entry}
 use Rattle.lsm_lending.specs.LentCompaction.{lent_callback, lent_filter, lender, looked_at}
@@ -29,6 +32,7 @@ use Rattle.lsm_sorted.proofs.HearsLemmas.{each_append, none_stop_append}
 use Rattle.lsm_lending.proofs.LentOutsLemmas.{Calm, calm_before, calm_outs}
 use Rattle.lsm_lending.proofs.CompactionHeads.{looked_next, will_at, will_plain, will_whole}
 use Rattle.lsm_lending.proofs.CompactionCalls.{ends_after, ends_before, parts_join}
+use Rattle.lsm_lending.proofs.KeepsAllLemmas.{items_are, tombstones_stay}
 
 -- ---- a source that deals a list
 
@@ -159,6 +163,23 @@ nothing_past None = refl
 nothing_past (Some j) = refl
 
 module _ {F C : Type 0} (gives : F → Entry → Result Verdict Error → F → Type 0)
+    (gets : C → Entry → C → Type 0) where
+  -- a compaction without a rest
+  pub as_compacted : (rules : Rules) (f g : F) (c d : C) (xs gave : List R)
+      → CompactedTo gives gets nothing_later rules f c [] xs gave g d
+      → CompactedLent gives gets rules f c xs gave g d
+  as_compacted rules f g c d xs gave h = record {
+    judged = h.judged;
+    over = h.over;
+    tombstones = h.tombstones;
+    answers = sym (append-nil gave) ∙ h.answers;
+    says = subst (λ (js : List Judged). SaysOf gives f js g) (sym (append-nil h.said) ∙ h.said_are)
+        h.says;
+    reports = subst (λ (es : List Entry). GetsAll gets c es d)
+        (sym (append-nil h.heard) ∙ h.heard_are) h.reports;
+  }
+
+module _ {F C : Type 0} (gives : F → Entry → Result Verdict Error → F → Type 0)
     (gets : C → Entry → C → Type 0) {S A : Type 0} where
   -- no error, no difference
   compacted_calm : (s : LendingCompaction S F C A) (xs : List Entry) (gave : List R) (g : F) (d : C)
@@ -174,16 +195,43 @@ module _ {F C : Type 0} (gives : F → Entry → Result Verdict Error → F → 
     reports = does.reports;
   }
 
+  -- all that u has still to look at is the rest
+  will_later : (u : LendingCompaction S F C A) (left : List R)
+      → WillCompact gives gets (later_of u.rules (hidden_key u) left) u left [] u.filter u.callback
+  will_later u left =
+      let rs : List R = past_hidden (hidden_key u) left in
+      record {
+        judged = as_they_are rs;
+        over = items_are rs;
+        tombstones = tombstones_stay rs;
+        answers = refl;
+        said = [];
+        said_are = refl;
+        says = refl;
+        heard = [];
+        heard_are = refl;
+        reports = refl;
+        begun = [];
+        begun_are = refl;
+      }
+
   -- a compaction of nothing
-  will_nothing : (u : LendingCompaction S F C A) → WillCompact gives gets u [] [] u.filter u.callback
-  will_nothing u = will_whole gives gets u [] [] u.filter u.callback (nothing_hidden (hidden_key u))
-      (nothing_past (hidden_key u)) (record {
+  will_nothing : (u : LendingCompaction S F C A)
+      → WillCompact gives gets nothing_later u [] [] u.filter u.callback
+  will_nothing u = will_whole gives gets nothing_later u [] [] u.filter u.callback
+      (nothing_hidden (hidden_key u)) (nothing_past (hidden_key u)) (record {
         judged = [];
         over = refl;
         tombstones = tt;
         answers = refl;
+        said = [];
+        said_are = refl;
         says = refl;
+        heard = [];
+        heard_are = refl;
         reports = refl;
+        begun = [];
+        begun_are = refl;
       })
 
   module _ (advances : S → Option R → S → Type 0) (lent : S → Option Entry) (can : S → Type 0)
@@ -199,10 +247,11 @@ module _ {F C : Type 0} (gives : F → Entry → Result Verdict Error → F → 
       pub live : u.is_over ≡ false
       pub ended : r ≡ None → (rest : List R) → EndsAtNone answers rest → rest ≡ []
       pub rests : is_entry r ≡ false → u.is_pending ≡ false
-      pub does : (rest more : List R) (g : F) (d : C) → EndsAtNone answers rest
-          → WillCompact gives gets u (looked_at lent u rest) more g d
-          → WillCompact gives gets s (looked_at lent s (results_in answers ++ rest)) (gave ++ more)
-          g d
+      pub rules : u.rules ≡ s.rules
+      pub does : (z : Later) (rest more : List R) (g : F) (d : C) → EndsAtNone answers rest
+          → WillCompact gives gets z u (looked_at lent u rest) more g d
+          → WillCompact gives gets z s (looked_at lent s (results_in answers ++ rest))
+          (gave ++ more) g d
 
     run_one : (s u : LendingCompaction S F C A) (r : Option R) → s.is_over ≡ false → Next s r u
         → answer_stops stops r ≡ false → RunsOn s (listed_answer r) r u
@@ -218,8 +267,9 @@ module _ {F C : Type 0} (gives : F → Entry → Result Verdict Error → F → 
                 ends_empty last.0 rest
                 (subst (λ (rs : List (Option R)). EndsAtNone rs rest) last.2 ends);
             rests = call.rests;
-            does = λ rest more g d ends will.
-                call.step.does passing.1 rest more g d ends will;
+            rules = call.step.rules;
+            does = λ z rest more g d ends will.
+                call.step.does z passing.1 rest more g d ends will;
           }
           | inr wants ↦
               let no : true ≡ false = sym memory
@@ -237,15 +287,16 @@ module _ {F C : Type 0} (gives : F → Entry → Result Verdict Error → F → 
       ended = λ none rest ends. more.ended none rest
           (ends_after one.answers more.answers rest ends);
       rests = more.rests;
-      does = λ rest after g d ends will.
-          will_at gives gets s
+      rules = more.rules ∙ one.rules;
+      does = λ z rest after g d ends will.
+          will_at gives gets z s
           (looked_at lent s (results_in one.answers ++ (results_in more.answers ++ rest)))
           (looked_at lent s (results_in (one.answers ++ more.answers) ++ rest))
           (x ∷ (gave ++ after)) g d
           (sym (ap (looked_at lent s) (parts_join one.answers more.answers rest)))
-          (one.does (results_in more.answers ++ rest) (gave ++ after) g d
+          (one.does z (results_in more.answers ++ rest) (gave ++ after) g d
           (ends_before one.answers more.answers rest ends)
-          (more.does rest after g d (ends_after one.answers more.answers rest ends) will));
+          (more.does z rest after g d (ends_after one.answers more.answers rest ends) will));
     }
 
     runs_on : (gave : List R) (s t u : LendingCompaction S F C A) (r : Option R) → s.is_over ≡ false
@@ -269,16 +320,18 @@ module _ {F C : Type 0} (gives : F → Entry → Result Verdict Error → F → 
           u.filter u.callback
       done u gave r run quiet ends =
           let all = results_in run.answers ++ [] in
-          let will = run.does [] [] u.filter u.callback ends
-          (will_at gives gets u [] (looked_at lent u []) [] u.filter u.callback
+          let z : Later = nothing_later in
+          let will = run.does z [] [] u.filter u.callback ends
+          (will_at gives gets z u [] (looked_at lent u []) [] u.filter u.callback
           (sym (looked_next lent u [] quiet)) (will_nothing u)) in
           subst (λ (ys : List R). CompactedLent gives gets s.rules s.filter s.callback ys gave
           u.filter u.callback) (append-nil (results_in run.answers))
           (subst (λ (ys : List R). CompactedLent gives gets s.rules s.filter s.callback all ys
           u.filter u.callback) (append-nil gave)
-          (will_plain gives gets s all (gave ++ []) u.filter u.callback plain
-          (will_at gives gets s (looked_at lent s all) all (gave ++ []) u.filter u.callback
-          (looked_next lent s all next) will)))
+          (as_compacted gives gets s.rules s.filter u.filter s.callback u.callback all (gave ++ [])
+          (will_plain gives gets z s all (gave ++ []) u.filter u.callback plain
+          (will_at gives gets z s (looked_at lent s all) all (gave ++ []) u.filter u.callback
+          (looked_next lent s all next) will))))
 
       whole_run : (gave : List R) (t u : LendingCompaction S F C A)
           → AllByRecursion (λ x. result_stops stops x ≡ false) gave → Yields Next s gave t
@@ -318,6 +371,34 @@ module _ {F C : Type 0} (gives : F → Entry → Result Verdict Error → F → 
                 (ends_less run.answers parts.rest parts.ends),
           )
 
+      part_run : (gave : List R) (x : Entry) (t u : LendingCompaction S F C A)
+          → AllByRecursion (λ x. result_stops stops x ≡ false) gave → Yields Next s gave t
+          → Next t (Some (Ok x)) u
+          → CompactedPart gives gets s.rules s.filter s.callback xs (gave ++ Ok x ∷ []) u.filter
+          u.callback
+      part_run gave x t u fine runs last =
+          let run = runs_on gave s t u (Some (Ok x)) live fine runs last refl in
+          let parts = dealt_parts advances stops run.answers s.source u.source xs has run.each
+          run.calm in
+          let all : List R = results_in run.answers ++ parts.rest in
+          let left : List R = looked_at lent u parts.rest in
+          let ys : List R = gave ++ Ok x ∷ [] in
+          let z : Later = later_of u.rules (hidden_key u) left in
+          let will = run.does z parts.rest [] u.filter u.callback parts.ends (will_later u left) in
+          let plainly = will_plain gives gets z s all (ys ++ []) u.filter u.callback plain
+          (will_at gives gets z s (looked_at lent s all) all (ys ++ []) u.filter u.callback
+          (looked_next lent s all next) will) in
+          record {
+            key = hidden_key u;
+            left = left;
+            does = subst (λ (q : Rules). CompactedTo gives gets (later_of q (hidden_key u) left)
+                s.rules s.filter s.callback [] xs ys u.filter u.callback) run.rules
+                (subst (λ (rs : List R). CompactedTo gives gets z s.rules s.filter s.callback [] rs
+                ys u.filter u.callback) (sym parts.is)
+                (subst (λ (rs : List R). CompactedTo gives gets z s.rules s.filter s.callback [] all
+                rs u.filter u.callback) (append-nil ys) plainly));
+          }
+
   module _ (advances : S → Option R → S → Type 0) (lent : S → Option Entry) (can : S → Type 0)
       (s : LendingCompaction S F C A) (plain : s.hides ≡ false) (next : s.is_pending ≡ false)
       (live : s.is_over ≡ false) where
@@ -330,6 +411,9 @@ module _ {F C : Type 0} (gives : F → Entry → Result Verdict Error → F → 
       until = λ stops xs gave e t u memory goes has fine runs last.
           until_run advances lent can stops memory s plain next live xs has gave e t u goes fine
           runs last;
+      part = λ stops xs gave x t u memory has fine runs last.
+          part_run advances lent can stops memory s plain next live xs has gave x t u fine runs
+          last;
     }
 
     pub compacts_lent : CompactsLent advances s.source

@@ -15,7 +15,8 @@ use Rattle.lsm_sorted.specs.Compaction.{asked, asked_of, before, by_key, concat_
 use Rattle.lsm_sorted.specs.Compaction.{error_of, expired, given, heads, is_cut, is_version_of}
 use Rattle.lsm_sorted.specs.Compaction.{items, keep, reported}
 use Rattle.lsm_sorted.specs.Compacting.{GetsAll, KeepsTombstones, SaysOf}
-use Rattle.lsm_lending.specs.LentCompaction.{CompactedLent, gone_of_lent, lent_outs, lent_outs_of}
+use Rattle.lsm_lending.specs.LentCompaction.{CompactedLent, gone_of_lent, lent_outs, lent_outs_by}
+use Rattle.lsm_lending.specs.LentCompaction.{lent_outs_of}
 use Rattle.lsm_sorted.proofs.WholeLemmas.{KeepsAll}
 
 -- a callback that takes anything
@@ -78,12 +79,12 @@ pub takes_all : {C : Type 0} (c : C) (xs : List Entry) → GetsAll {C = C} Takes
 takes_all c [] = refl
 takes_all c (x ∷ xs) = (c, tt, takes_all c xs)
 
-tombstones_stay : (rs : List R) → KeepsTombstones (as_they_are rs)
+pub tombstones_stay : (rs : List R) → KeepsTombstones (as_they_are rs)
 tombstones_stay [] = tt
 tombstones_stay (Ok x ∷ rs) = (λ h. refl, tombstones_stay rs)
 tombstones_stay (Err e ∷ rs) = tombstones_stay rs
 
-items_are : (rs : List R) → items (as_they_are rs) ≡ rs
+pub items_are : (rs : List R) → items (as_they_are rs) ≡ rs
 items_are [] = refl
 items_are (Ok x ∷ rs) = ap (λ (qs : List R). Ok x ∷ qs) (items_are rs)
 items_are (Err e ∷ rs) = ap (λ (qs : List R). Err e ∷ qs) (items_are rs)
@@ -237,10 +238,17 @@ keys_stay rules (v ∷ vs) dead told = (
       (all_behind Stays (asked_of rules v) (concat_by (asked_of rules) vs) told),
 )
 
-pub keeps_all : {F C : Type 0} (gets : C → Entry → C → Type 0) (rules : Rules) (f g : F) (c d : C)
-    (rs gave : List R) → CompactedLent {F = F} KeepsAll gets rules f c rs gave g d
-    → gave ≡ lent_outs rules rs
-keeps_all gets rules f g c d rs gave does =
+-- what a filter that keeps every entry lets through, whatever is reported
+pub record KeepsThem {F : Type 0} (rules : Rules) (f g : F) (rs gave : List R) : Type 0 where
+  pub judged : List JudgedItem
+  pub over : items judged ≡ rs
+  pub tombstones : KeepsTombstones judged
+  pub answers : gave ≡ lent_outs_by rules judged
+  pub says : SaysOf {F = F} KeepsAll f (asked rules judged) g
+
+pub keeps_all : {F : Type 0} (rules : Rules) (f g : F) (rs gave : List R)
+    → KeepsThem rules f g rs gave → gave ≡ lent_outs rules rs
+keeps_all rules f g rs gave does =
     let js : List JudgedItem = does.judged in
     does.answers
     ∙ sym (ap (concat_by (lent_outs_of rules)) (plain_keys js)

@@ -16,7 +16,7 @@ use Rattle.lsm_merge.specs.Ends.{R}
 use Rattle.lsm_sorted.specs.Newest.{after_key}
 use Rattle.lsm_sorted.specs.Outlook.{results_in}
 use Rattle.lsm_sorted.specs.Hears.{GaveEach}
-use Rattle.lsm_sorted.specs.Compaction.{JudgedItem, Verdict, Versions, as_they_are, asked, by_key}
+use Rattle.lsm_sorted.specs.Compaction.{Judged, JudgedItem, Verdict, Versions, as_they_are, asked, by_key}
 use Rattle.lsm_sorted.specs.Compaction.{concat_by, entries, error_of, expired, given, goes, heads}
 use Rattle.lsm_sorted.specs.Compaction.{items, kept, reported, reports_by, told_by, unfiltered}
 use Rattle.lsm_sorted.specs.Compaction.{zeroed}
@@ -149,23 +149,69 @@ pub record CompactedLent {F C : Type 0} (gives : F → Entry → Result Verdict 
   pub says : SaysOf gives f (asked rules judged) g
   pub reports : GetsAll gets c (reported rules judged) d
 
+-- the rest of a compaction: what it gives, of what it asks the filter, what it reports, and its list
+pub record Later : Type 0 where
+  pub gives : List R
+  pub asks : List Judged
+  pub reports : List Entry
+  pub rest : List JudgedItem
+
+-- a compaction up to its rest: for some verdicts of all entries of the list it gave, asked and
+-- reported, after those that are hidden, all that they lead to but that of the rest
+pub record CompactedTo {F C : Type 0} (gives : F → Entry → Result Verdict Error → F → Type 0)
+    (gets : C → Entry → C → Type 0) (later : Later) (rules : Rules) (f : F) (c : C)
+    (hidden : List Entry) (xs gave : List R) (g : F) (d : C) : Type 0 where
+  pub judged : List JudgedItem
+  pub over : items judged ≡ xs
+  pub tombstones : KeepsTombstones judged
+  pub answers : gave ++ later.gives ≡ lent_outs_by rules judged
+  pub said : List Judged
+  pub said_are : said ++ later.asks ≡ asked rules judged
+  pub says : SaysOf gives f said g
+  pub heard : List Entry
+  pub heard_are : heard ++ later.reports ≡ hidden ++ reported rules judged
+  pub reports : GetsAll gets c heard d
+  pub begun : List JudgedItem
+  pub begun_are : begun ++ later.rest ≡ judged
+
+-- no rest
+abbrev pub nothing_later : Later
+nothing_later = record { gives = []; asks = []; reports = []; rest = [] }
+
+-- the rest where these are not passed yet, as it is without a filter; a key hides its entries in
+-- front of them
+abbrev pub later_of : Rules → Option (List ℕ) → List R → Later
+later_of rules key left =
+    let js : List JudgedItem = as_they_are (past_hidden key left) in
+    record {
+      gives = lent_outs_by rules js;
+      asks = asked rules js;
+      reports = hidden_in key left ++ reported rules js;
+      rest = js;
+    }
+
+-- a compaction of a list gave these and has not passed all of the list
+pub record CompactedPart {F C : Type 0} (gives : F → Entry → Result Verdict Error → F → Type 0)
+    (gets : C → Entry → C → Type 0) (rules : Rules) (f : F) (c : C) (xs gave : List R) (g : F)
+    (d : C) : Type 0 where
+  pub key : Option (List ℕ)
+  pub left : List R
+  pub does : CompactedTo gives gets (later_of rules key left) rules f c [] xs gave g d
+
 module _ {F C : Type 0} (gives : F → Entry → Result Verdict Error → F → Type 0)
     (gets : C → Entry → C → Type 0) {S A : Type 0} where
-  -- from here on: what is hidden of xs is reported, and the others are compacted
-  pub record WillCompact (s : LendingCompaction S F C A) (xs gave : List R) (g : F) (d : C)
-      : Type 0 where
-    pub told : C
-    pub hides : GetsAll gets s.callback (hidden_in (hidden_key s) xs) told
-    pub does : CompactedLent gives gets s.rules s.filter told (past_hidden (hidden_key s) xs) gave g
-        d
+  -- from here on: what is hidden of xs is reported, and the others are compacted, up to the rest
+  abbrev pub WillCompact : Later → LendingCompaction S F C A → List R → List R → F → C → Type 0
+  WillCompact later s xs gave g d = CompactedTo gives gets later s.rules s.filter s.callback
+      (hidden_in (hidden_key s) xs) (past_hidden (hidden_key s) xs) gave g d
 
   -- from here on: an entry that the filter left as this head, and then these, are compacted
-  pub record SettlesFirst (head : Entry) (s : LendingCompaction S F C A) (xs gave : List R)
-      (g : F) (d : C) : Type 0 where
+  pub record SettlesFirst (later : Later) (head : Entry) (s : LendingCompaction S F C A)
+      (xs gave : List R) (g : F) (d : C) : Type 0 where
     pub at : (x : Entry) (v : Result Verdict Error) (f : F) (c : C)
         → told_by x v ≡ Ok (Some head) → Asks gives f x v s.filter
         → GetsAll gets c (reports_by x v) s.callback
-        → CompactedLent gives gets s.rules f c (Ok x ∷ xs) gave g d
+        → CompactedTo gives gets later s.rules f c [] (Ok x ∷ xs) gave g d
 
   module _ (advances : S → Option R → S → Type 0) (lent : S → Option Entry)
       (s : LendingCompaction S F C A) where
@@ -178,10 +224,11 @@ module _ {F C : Type 0} (gives : F → Entry → Result Verdict Error → F → 
       pub told : (PassingOr (FilterSays gives) r answers × (t.is_over ≡ false))
           ⊎ (WantsItself r answers × (t.is_over ≡ true))
       pub idle : s.is_pending ≡ false → NothingCame answers → t.is_pending ≡ false
-      pub does : t.is_over ≡ false → (rest more : List R) (g : F) (d : C)
-          → EndsAtNone answers rest → WillCompact t (looked_at lent t rest) more g d
-          → WillCompact s (looked_at lent s (results_in answers ++ rest)) (listed_answer r ++ more)
-          g d
+      pub rules : t.rules ≡ s.rules
+      pub does : (later : Later) → t.is_over ≡ false → (rest more : List R) (g : F) (d : C)
+          → EndsAtNone answers rest → WillCompact later t (looked_at lent t rest) more g d
+          → WillCompact later s (looked_at lent s (results_in answers ++ rest))
+          (listed_answer r ++ more) g d
 
     -- the same of a head that the filter left, before what the source still deals
     pub record SettlesCompacted (head : Entry) (r : Option R) (t : LendingCompaction S F C A)
@@ -190,9 +237,10 @@ module _ {F C : Type 0} (gives : F → Entry → Result Verdict Error → F → 
       pub gave : GaveEach advances s.source answers t.source
       pub told : (Passing r answers × (t.is_over ≡ false))
           ⊎ (WantsItself r answers × (t.is_over ≡ true))
-      pub does : t.is_over ≡ false → (rest more : List R) (g : F) (d : C)
-          → EndsAtNone answers rest → WillCompact t (looked_at lent t rest) more g d
-          → SettlesFirst head s (results_in answers ++ rest) (listed_answer r ++ more) g d
+      pub rules : t.rules ≡ s.rules
+      pub does : (later : Later) → t.is_over ≡ false → (rest more : List R) (g : F) (d : C)
+          → EndsAtNone answers rest → WillCompact later t (looked_at lent t rest) more g d
+          → SettlesFirst later head s (results_in answers ++ rest) (listed_answer r ++ more) g d
 
     -- an entry to look at, where there is one: else the source has ended
     pub record FetchesCompacted (r : Option R) (t : LendingCompaction S F C A) : Type 0 where
@@ -256,8 +304,9 @@ pub record CompactsLent {S T F C : Type 0} (advances : S → Option R → S → 
       → Compacted gives gets rules f c (ok_results xs) gave (filter_in u) (callback_in u)
 
 -- of any list of results that the source deals: calls up to the one where nothing comes give, ask
--- and report what a compaction that lends does of it; and calls up to an error, that error among
--- what they give, do so of a part in front, and the rest is what the source has still to deal
+-- and report what a compaction that lends does of it; calls up to an error, that error among what
+-- they give, do so of a part in front, and the rest is what the source has still to deal; and calls
+-- up to an entry do so of all but what is not passed yet
 pub record CompactsLentResults {S T F C : Type 0} (advances : S → Option R → S → Type 0)
     (source : S) (next : T → Option R → T → Type 0) (s : T) (rules : Rules)
     (gives : F → Entry → Result Verdict Error → F → Type 0) (gets : C → Entry → C → Type 0) (f : F)
@@ -275,6 +324,11 @@ pub record CompactsLentResults {S T F C : Type 0} (advances : S → Option R →
       → (front rest : List R) × (xs ≡ front ++ rest)
       × Deals (answer_stops stops) advances nowhere (source_in u) rest
       × CompactedLent gives gets rules f c front (gave ++ Err e ∷ []) (filter_in u) (callback_in u)
+  pub part : (stops : Error → Bool) (xs gave : List R) (x : Entry) (t u : T)
+      → stops OutOfMemory ≡ true → Deals (answer_stops stops) advances nowhere source xs
+      → AllByRecursion (λ r. result_stops stops r ≡ false) gave
+      → Yields next s gave t → next t (Some (Ok x)) u
+      → CompactedPart gives gets rules f c xs (gave ++ Ok x ∷ []) (filter_in u) (callback_in u)
 
 -- ---- where the filter keeps every entry and the callback ignores what it gets
 

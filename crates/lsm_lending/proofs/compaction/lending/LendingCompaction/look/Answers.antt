@@ -123,7 +123,7 @@ returns-in-Err-remember-clause-steps g c =
     let asks = subst (λ v. Asks g.F.LentFilter.gives s.filter head (Ok (verdict_of v)) f) c.in-Ok-Keep.field-0-is c.in-Ok-Keep.ensures.asks in
     let reports = subst (λ v. GetsAll g.C.LentCallback.gets s.callback (reports_by head (Ok (verdict_of v))) d) c.in-Ok-Keep.field-0-is c.in-Ok-Keep.ensures.reports in
     looks_left g.F.LentFilter.gives g.C.LentCallback.gets g.L.Lending.advances lent s m _ c.requires.pending head is fresh (Ok keep) asks reports head _ refl refl refl
-    (settled_memory g.F.LentFilter.gives g.C.LentCallback.gets g.L.Lending.advances lent m _ c.in-Err-remember.error head c.in-Err-remember.ensures.err refl refl)
+    (settled_memory g.F.LentFilter.gives g.C.LentCallback.gets g.L.Lending.advances lent m _ c.in-Err-remember.error head c.in-Err-remember.ensures.err refl refl refl)
 
 pub returns-then-goes-clause-steps : goal.returns-then-goes-clause-steps
 returns-then-goes-clause-steps g c =

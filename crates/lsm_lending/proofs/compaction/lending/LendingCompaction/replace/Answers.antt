@@ -34,12 +34,12 @@ returns-in_default-clause-settles g c = λ x lends.
 pub returns-in-Err-clause-settles : goal.returns-in-Err-clause-settles
 returns-in-Err-clause-settles g c = λ x is.
     let lent = g.L.Lending.lent in
-    settled_memory g.F.LentFilter.gives g.C.LentCallback.gets g.L.Lending.advances lent c.args.self.now _ c.in-Err.error (put_into x c.args.kind c.args.value.now) c.in-Err.ensures.err refl refl
+    settled_memory g.F.LentFilter.gives g.C.LentCallback.gets g.L.Lending.advances lent c.args.self.now _ c.in-Err.error (put_into x c.args.kind c.args.value.now) c.in-Err.ensures.err refl refl refl
 
 pub returns-in-Err-remember-clause-settles : goal.returns-in-Err-remember-clause-settles
 returns-in-Err-remember-clause-settles g c = λ x is.
     let lent = g.L.Lending.lent in
-    settled_memory g.F.LentFilter.gives g.C.LentCallback.gets g.L.Lending.advances lent c.args.self.now _ c.in-Err-remember.error (put_into x c.args.kind c.args.value.now) c.in-Err-remember.ensures.err refl refl
+    settled_memory g.F.LentFilter.gives g.C.LentCallback.gets g.L.Lending.advances lent c.args.self.now _ c.in-Err-remember.error (put_into x c.args.kind c.args.value.now) c.in-Err-remember.ensures.err refl refl refl
 
 pub returns-then-waits-clause-settles : goal.returns-then-waits-clause-settles
 returns-then-waits-clause-settles g c = λ x lends.
@@ -61,7 +61,8 @@ returns-then-waits-clause-settles g c = λ x lends.
       answers = one.answers;
       gave = one.gave;
       told = one.told;
-      does = λ live rest more f d ends will. record { at = (one.does live rest more f d ends will).at };
+      rules = one.rules;
+      does = λ z live rest more f d ends will. record { at = (one.does z live rest more f d ends will).at };
     }))
 
 pub returns-then-seqno-self-clause-settles : goal.returns-then-seqno-self-clause-settles

@@ -38,6 +38,7 @@ returns-clause-settles g c =
       answers = one.answers;
       gave = one.gave;
       told = one.told;
-      does = λ live rest more f d ends will.
-          one.does live rest more f d ends (record { told = will.told; hides = will.hides; does = will.does });
+      rules = one.rules;
+      does = λ z live rest more f d ends will.
+          one.does z live rest more f d ends will;
     }

@@ -25,11 +25,11 @@ returns-in_default-clause-settles g c = λ head is.
 
 pub returns-in-Err-clause-settles : goal.returns-in-Err-clause-settles
 returns-in-Err-clause-settles g c = λ head is.
-    settled_memory g.F.LentFilter.gives g.C.LentCallback.gets g.L.Lending.advances g.L.Lending.lent c.args.self.now _ c.in-Err.error head c.in-Err.ensures.err refl refl
+    settled_memory g.F.LentFilter.gives g.C.LentCallback.gets g.L.Lending.advances g.L.Lending.lent c.args.self.now _ c.in-Err.error head c.in-Err.ensures.err refl refl refl
 
 pub returns-in-Err-remember-clause-settles : goal.returns-in-Err-remember-clause-settles
 returns-in-Err-remember-clause-settles g c = λ head is.
-    settled_memory g.F.LentFilter.gives g.C.LentCallback.gets g.L.Lending.advances g.L.Lending.lent c.args.self.now _ c.in-Err-remember.error head c.in-Err-remember.ensures.err refl refl
+    settled_memory g.F.LentFilter.gives g.C.LentCallback.gets g.L.Lending.advances g.L.Lending.lent c.args.self.now _ c.in-Err-remember.error head c.in-Err-remember.ensures.err refl refl refl
 
 pub returns-clause-settles : goal.returns-clause-settles
 returns-clause-settles g c = λ x lends.
@@ -46,5 +46,6 @@ returns-clause-settles g c = λ x lends.
       answers = one.answers;
       gave = one.gave;
       told = one.told;
-      does = λ live rest more f d ends will. record { at = (one.does live rest more f d ends will).at };
+      rules = one.rules;
+      does = λ z live rest more f d ends will. record { at = (one.does z live rest more f d ends will).at };
     })

@@ -12,9 +12,8 @@ returns-clause-goes g c =
           gave = call.step.gave;
           told = call.step.told;
           idle = call.step.idle;
-          does = λ live rest more f d ends will.
-              let w = call.step.does live rest more f d ends will in
-              record { told = w.told; hides = w.hides; does = w.does };
+          rules = call.step.rules;
+          does = call.step.does;
         };
         ended = call.ended;
         idle = call.idle;
