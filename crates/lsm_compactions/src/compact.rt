@@ -27,7 +27,7 @@ use lsm_ranges::Run;
 use lsm_readers::Table;
 use lsm_runs::RunScanner;
 use lsm_sorted::compaction::Rules;
-use lsm_sorted::compaction::stream::read_law;
+use lsm_sorted::compaction::stream::{NoCallback, NoFilter, read_law};
 use lsm_writers::{FinishedTable, MultiWriter, TableIds, tables_law};
 use sst_blocks::{Error, Lending, SeqNo};
 use std::alloc::Allocator;
@@ -80,7 +80,7 @@ pub(crate) fn scanners_of<A: Allocator + Clone>(
 /// What is kept of all entries of some sources together, lent from where they lie. What takes it is
 /// generic in the sources: a whole concrete stream costs a proof much where it is handed to a
 /// function that is generic in streams.
-pub(crate) type Kept<L, A> = LendingCompaction<LendingMerger<L, A>, A>;
+pub(crate) type Kept<L, A> = LendingCompaction<LendingMerger<L, A>, NoFilter, NoCallback, A>;
 
 // What is kept of all entries of some sources together, in order. It is generic in these, so that
 // none of a scanner's parts is looked at.

@@ -9,7 +9,7 @@ use Rattle.lsm_merge.specs.Ends.{R}
 use Rattle.lsm_merge.specs.MergeLaws.{every_error}
 use Rattle.lsm_sorted.specs.Hears.{GaveEach}
 use Rattle.lsm_lending.specs.LentFaults.{AllOver, AlwaysTells, CallTells, EndsIn, GaveInCalls}
-use Rattle.lsm_lending.specs.LentFaults.{NextIdles, NoFaults, NothingCame, Passes}
+use Rattle.lsm_lending.specs.LentFaults.{NextIdles, NoFaults, NothingCame, Passes, Passing}
 use Rattle.lsm_lending.specs.LentFaults.{PassesAll, StaysOver, WantsItself}
 use Rattle.lsm_sorted.proofs.HearsLemmas.{none_stop_append}
 
@@ -52,6 +52,23 @@ fault_comes e answers ends none =
 last_fault : (e : Error) (before : List (Option R)) → NoFaults (before ++ Some (Err e) ∷ []) → ⊥
 last_fault e [] h = let no : true ≡ false = h.0 in absurd cc
 last_fault e (b ∷ before) h = last_fault e before h.1
+
+-- a step on behind answers without errors
+pub passing_after : (r : Option R) (ps qs : List (Option R)) → NoFaults ps → Passing r qs
+    → Passing r (ps ++ qs)
+passing_after None ps qs none h = no_faults_append ps qs none h
+passing_after (Some (Ok x)) ps qs none h = no_faults_append ps qs none h
+passing_after (Some (Err e)) ps qs none h = ends_append (Some (Err e)) ps qs none h
+
+pub wants_after : (r : Option R) (ps qs : List (Option R)) → NoFaults ps → WantsItself r qs
+    → WantsItself r (ps ++ qs)
+wants_after r ps qs none h = (h.0, no_faults_append ps qs none h.1)
+
+pub nothing_wanted : {P : Type 0} (answers : List (Option R)) → WantsItself None answers → P
+nothing_wanted answers wants = let no : None ≡ Some (Err OutOfMemory) = wants.0 in absurd cc
+
+pub live_over : {b : Bool} → b ≡ false → b ≡ true → ⊥
+live_over live over = let no : false ≡ true = sym live ∙ over in absurd cc
 
 -- no error that is passed on is the stream's own
 pub passes_or_wants : (r : Option R) (answers : List (Option R)) → Passes r answers

@@ -1,11 +1,14 @@
 -- What a stream that lends says of the errors of its source, and of its end.
 use Rattle.std.specs.Prelude.{◌≡◌, ◌⊎◌, Bool, true, false, List, [], ◌∷◌, ◌++◌, Option, Some, None}
-use Rattle.std.specs.Prelude.{Ok, Err}
+use Rattle.std.specs.Prelude.{Result, Ok, Err}
 use Rattle.std.specs.List.{AllByRecursion}
+use Rattle.sst_entries.specs.Entry.{Entry}
 use Rattle.sst_entries.specs.Stream.{NoneStops, answer_stops}
+use Rattle.sst_entries.specs.declared.error.Error.{Error}
 use Rattle.sst_entries.specs.declared.error.Error.TheVariants.{OutOfMemory}
 use Rattle.lsm_merge.specs.Ends.{R}
 use Rattle.lsm_merge.specs.MergeLaws.{every_error}
+use Rattle.lsm_sorted.specs.Compaction.{Verdict}
 use Rattle.lsm_sorted.specs.Hears.{GaveEach}
 
 -- no answer is an error
@@ -26,6 +29,11 @@ abbrev pub Passes : Option R → List (Option R) → Type 0
 Passes None answers = EndsIn None answers
 Passes (Some (Ok x)) answers = NoFaults answers
 Passes (Some (Err e)) answers = EndsIn (Some (Err e)) answers
+
+-- on the way to an answer: no error of the source so far, or it is the last of its answers
+abbrev pub Passing : Option R → List (Option R) → Type 0
+Passing None answers = NoFaults answers
+Passing (Some r) answers = Passes (Some r) answers
 
 -- memory is refused to the stream itself, and its source answered no error
 abbrev pub WantsItself : Option R → List (Option R) → Type 0
@@ -91,3 +99,48 @@ module _ {S T : Type 0} (advances : S → Option R → S → Type 0) (source_of 
     pub live : over s ≡ false → Listens s r t
     pub ended : over s ≡ true
         → (r ≡ None) × (over t ≡ true) × (source_of t ≡ source_of s)
+
+-- ---- with a filter, whose errors are passed on too
+
+-- an error that a filter says of an entry
+pub record FilterSays {F : Type 0} (gives : F → Entry → Result Verdict Error → F → Type 0)
+    (e : Error) : Type 0 where
+  pub filter : F
+  pub entry : Entry
+  pub then : F
+  pub says : gives filter entry (Err e) then
+
+module _ (Says : Error → Type 0) where
+  -- an error that is said, and the source answered none
+  pub record SaysItself (r : Option R) (answers : List (Option R)) : Type 0 where
+    pub error : Error
+    pub is : r ≡ Some (Err error)
+    pub says : Says error
+    pub none : NoFaults answers
+
+  -- a call passes on what its source answered in it, or an error that is said
+  abbrev pub PassesOr : Option R → List (Option R) → Type 0
+  PassesOr r answers = Passes r answers ⊎ SaysItself r answers
+
+  -- the same on the way to an answer
+  abbrev pub PassingOr : Option R → List (Option R) → Type 0
+  PassingOr r answers = Passing r answers ⊎ SaysItself r answers
+
+  -- answers to calls, with what the source answered in each: passed on or said, until memory is
+  -- refused to the stream itself
+  abbrev pub PassesAllOr : List (Option R) → List (List (Option R)) → Type 0
+  PassesAllOr [] [] = Unit {0}
+  PassesAllOr (r ∷ rs) (answers ∷ calls) = (PassesOr r answers × PassesAllOr rs calls)
+      ⊎ (WantsItself r answers × AllOver rs calls)
+  PassesAllOr [] (answers ∷ calls) = ⊥
+  PassesAllOr (r ∷ rs) [] = ⊥
+
+  -- behind want of memory, where that is not said, nothing comes, and behind a call that answered
+  -- nothing nothing comes while the source answers nothing
+  abbrev pub StaysOverOr : List (Option R) → List (List (Option R)) → Type 0
+  StaysOverOr [] [] = Unit {0}
+  StaysOverOr (r ∷ rs) (answers ∷ calls) =
+      (WantsItself r answers → Says OutOfMemory ⊎ AllOver rs calls)
+      × (r ≡ None → NextIdles rs calls) × StaysOverOr rs calls
+  StaysOverOr [] (answers ∷ calls) = ⊥
+  StaysOverOr (r ∷ rs) [] = ⊥

@@ -2,5 +2,3 @@ pub mod Lent
 pub mod LentFaults
 pub mod LentNewest
 pub mod LentCompaction
-pub mod LentFilteredFaults
-pub mod LentFiltered

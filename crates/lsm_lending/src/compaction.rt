@@ -1,3 +1,2 @@
 //! Compaction by reference: older versions and tombstones that no reader needs are left out.
-pub mod filtered;
 pub mod lending;

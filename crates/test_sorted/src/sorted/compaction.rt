@@ -4,8 +4,7 @@ ghost use Rattle.sst_entries.specs.Stream.{CanDeal, nowhere};
 
 use crate::sorted::sources::forward_of;
 use crate::sorted::words::{byte_of, gives_all, lends_so, results_of, said_by, said_of_lent};
-use lsm_lending::compaction::filtered::{FilteredLendingCompaction, LentCallback, LentFilter};
-use lsm_lending::compaction::lending::LendingCompaction;
+use lsm_lending::compaction::lending::{LendingCompaction, LentCallback, LentFilter};
 use lsm_sorted::compaction::Rules;
 use lsm_sorted::compaction::stream::{
     CompactionStream, DroppedKvCallback, StreamFilter, StreamFilterVerdict,
@@ -176,7 +175,7 @@ fn lends_and_reports(alloc: Global, row: &Row) -> Result<bool, Error> {
     let source = lent_list(results_of(alloc, row.5)?);
     let received = Received::new(row.7);
     let rules = rules_of(row);
-    let mut lending = FilteredLendingCompaction::new(alloc, source, rules, row.2, received)?;
+    let mut lending = LendingCompaction::with(alloc, source, rules, row.2, received)?;
     let is_right = lends_so(&mut lending, row.6);
     Ok(lending.into_callback().is_done() && is_right)
 }

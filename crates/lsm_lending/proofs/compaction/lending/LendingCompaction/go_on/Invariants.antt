@@ -1,8 +1,6 @@
 use Rattle.std.specs.Prelude.{None}
-use Rattle.std.proofs.Common.{◌≡◌, ◌≤◌, Bool, false}
-use Rattle.sst_entries.specs.declared.error.Error.{Error}
-use Rattle.lsm_lending.specs.LentCompaction.{DealsSome, LeavesCompacted, ListensSome, MayLendCompacted}
-use Rattle.lsm_lending.specs.LentCompaction.{compacted_left}
+use Rattle.std.proofs.Common.{◌≡◌, ◌≤◌, false}
+use Rattle.lsm_lending.specs.LentCompaction.{MayLendCompacted, StepsCompacted, compacted_left}
 use Rattle.lsm_lending.specs.declared.compaction.lending.Lends.TheVariants.{Nothing}
 use Rattle.lsm_lending.proofs.compaction.lending.LendingCompaction.go_on.Given as goal
 
@@ -13,9 +11,8 @@ invariant-loop-self g l =
       live : l.self.is_over ≡ false;
       empty : l.self.lends ≡ Nothing;
       few : compacted_left g.L.Lending.left l.self ≤ compacted_left g.L.Lending.left l.initial.self;
-      some : (stops : Error → Bool) → DealsSome stops (LeavesCompacted g.L.Lending.advances
-          g.L.Lending.lent stops) l.initial.self None l.self;
-      heard : ListensSome g.L.Lending.advances l.initial.self None l.self;
+      some : StepsCompacted g.F.LentFilter.gives g.C.LentCallback.gets g.L.Lending.advances
+          g.L.Lending.lent l.initial.self None l.self;
     }
 
 abbrev pub decreases-loop-self : goal.decreases-loop-self

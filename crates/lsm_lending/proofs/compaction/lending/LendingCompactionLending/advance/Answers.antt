@@ -6,21 +6,18 @@ returns-clause-goes g c =
     let goes = c.go_on.ensures.goes in
     record {
       may = goes.may;
-      gives = λ stops ys leaves fine. goes.gives stops ys (record {
-        memory = leaves.memory;
-        live = leaves.live;
-        rest = leaves.rest;
-        has = leaves.has;
-        is = leaves.is;
-      }) fine;
-      tells = record {
-        live = λ o. let call = goes.tells.live o in record {
-          answers = call.answers;
-          gave = call.gave;
-          told = call.told;
-          idle = call.idle;
-          rests = call.rests;
+      live = λ o. let call = goes.live o in record {
+        step = record {
+          answers = call.step.answers;
+          gave = call.step.gave;
+          told = call.step.told;
+          idle = call.step.idle;
+          rules = call.step.rules;
+          does = call.step.does;
         };
-        ended = goes.tells.ended;
+        ended = call.ended;
+        idle = call.idle;
+        rests = call.rests;
       };
+      ended = goes.ended;
     }

@@ -9,10 +9,10 @@ use Rattle.lsm_sorted.specs.Compaction.{Verdict}
 use Rattle.lsm_sorted.specs.Hears.{GaveEach}
 use Rattle.lsm_lending.specs.LentFaults.{AllOver, AlwaysTells, EndsIn, GaveInCalls, NextIdles}
 use Rattle.lsm_lending.specs.LentFaults.{WantsItself}
-use Rattle.lsm_lending.specs.LentFilteredFaults.{FilterSays, PassesAllOr, PassesOr, PassingOr}
-use Rattle.lsm_lending.specs.LentFilteredFaults.{StaysOverOr}
-use Rattle.lsm_lending.specs.LentFiltered.{AdvancesFiltered, is_entry, lent_source}
-use Rattle.lsm_lending.specs.declared.compaction.filtered.FilteredLendingCompaction.{FilteredLendingCompaction}
+use Rattle.lsm_lending.specs.LentFaults.{FilterSays, PassesAllOr, PassesOr, PassingOr}
+use Rattle.lsm_lending.specs.LentFaults.{StaysOverOr}
+use Rattle.lsm_lending.specs.LentCompaction.{AdvancesCompacted, is_entry, lender}
+use Rattle.lsm_lending.specs.declared.compaction.lending.LendingCompaction.{LendingCompaction}
 use Rattle.lsm_lending.proofs.LentFaultsLemmas.{passes_or_wants}
 
 one_error : (e : Error) (r : Option R) → r ≡ Some (Err e) → r ≡ Some (Err OutOfMemory)
@@ -50,21 +50,21 @@ module _ {F : Type 0} (gives : F → Entry → Result Verdict Error → F → Ty
 module _ {F C : Type 0} (gives : F → Entry → Result Verdict Error → F → Type 0)
     (gets : C → Entry → C → Type 0) {S A : Type 0} (advances : S → Option R → S → Type 0)
     (lent : S → Option Entry) (can : S → Type 0) where
-  abbrev Next : FilteredLendingCompaction S F C A → Option R → FilteredLendingCompaction S F C A → Type 0
-  Next = AdvancesFiltered advances lent can gives gets
+  abbrev Next : LendingCompaction S F C A → Option R → LendingCompaction S F C A → Type 0
+  Next = AdvancesCompacted advances lent can gives gets
 
-  abbrev Meanwhile : FilteredLendingCompaction S F C A → FilteredLendingCompaction S F C A → List (List (Option R)) → Type 0
-  Meanwhile s u calls = GaveInCalls advances (lent_source s) calls (lent_source u)
+  abbrev Meanwhile : LendingCompaction S F C A → LendingCompaction S F C A → List (List (Option R)) → Type 0
+  Meanwhile s u calls = GaveInCalls advances (lender s) calls (lender u)
 
-  all_over : (rs : List (Option R)) (s u : FilteredLendingCompaction S F C A) → s.is_over ≡ true → GaveEach Next s rs u
+  all_over : (rs : List (Option R)) (s u : LendingCompaction S F C A) → s.is_over ≡ true → GaveEach Next s rs u
       → (calls : List (List (Option R))) × Meanwhile s u calls × AllOver rs calls
       × StaysOverOr (FilterSays gives) rs calls
-  all_over [] s u o each = ([], ap lent_source each, (tt, tt), tt)
+  all_over [] s u o each = ([], ap lender each, (tt, tt), tt)
   all_over (r ∷ rs) s u o each =
       let call = each.1.ended o in
       let more = all_over rs each.0 u call.1 each.2 in (
         [] ∷ more.0,
-        (lent_source each.0, sym call.2, more.1),
+        (lender each.0, sym call.2, more.1),
         ((call.0, more.2.0), (refl, more.2.1)),
         (
           over_wants gives r [] rs more.0 call.0,
@@ -73,17 +73,17 @@ module _ {F C : Type 0} (gives : F → Entry → Result Verdict Error → F → 
         ),
       )
 
-  all_told : (rs : List (Option R)) (s u : FilteredLendingCompaction S F C A) → s.is_over ≡ false → GaveEach Next s rs u
+  all_told : (rs : List (Option R)) (s u : LendingCompaction S F C A) → s.is_over ≡ false → GaveEach Next s rs u
       → (calls : List (List (Option R))) × Meanwhile s u calls × PassesAllOr (FilterSays gives) rs calls
       × StaysOverOr (FilterSays gives) rs calls × (s.is_pending ≡ false → NextIdles rs calls)
-  all_told [] s u o each = ([], ap lent_source each, tt, tt, λ h. tt)
+  all_told [] s u o each = ([], ap lender each, tt, tt, λ h. tt)
   all_told (r ∷ rs) s u o each =
       let call = each.1.live o in elim call.step.told [
         | inl passing ↦
             let passes = passes_of gives r call.step.answers call.ended passing.0 in
             let more = all_told rs each.0 u passing.1 each.2 in (
               call.step.answers ∷ more.0,
-              (lent_source each.0, call.step.gave, more.1),
+              (lender each.0, call.step.gave, more.1),
               inl (passes, more.2),
               (
                 says_want gives r call.step.answers rs more.0 passes,
@@ -95,7 +95,7 @@ module _ {F C : Type 0} (gives : F → Entry → Result Verdict Error → F → 
         | inr wants ↦
             let more = all_over rs each.0 u wants.1 each.2 in (
               call.step.answers ∷ more.0,
-              (lent_source each.0, call.step.gave, more.1),
+              (lender each.0, call.step.gave, more.1),
               inr (wants.0, more.2),
               (
                 λ w. inr more.2,
@@ -106,13 +106,13 @@ module _ {F C : Type 0} (gives : F → Entry → Result Verdict Error → F → 
             )
       ]
 
-  module _ (s : FilteredLendingCompaction S F C A) (live : s.is_over ≡ false) where
-    pub filtered_passes : AlwaysTells (PassesAllOr (FilterSays gives)) advances s.source lent_source Next s
-    filtered_passes = record {
+  module _ (s : LendingCompaction S F C A) (live : s.is_over ≡ false) where
+    pub compaction_passes : AlwaysTells (PassesAllOr (FilterSays gives)) advances s.source lender Next s
+    compaction_passes = record {
       of = λ rs u each. let all = all_told rs s u live each in (all.0, all.1, all.2);
     }
 
-    pub filtered_stays : AlwaysTells (StaysOverOr (FilterSays gives)) advances s.source lent_source Next s
-    filtered_stays = record {
+    pub compaction_stays : AlwaysTells (StaysOverOr (FilterSays gives)) advances s.source lender Next s
+    compaction_stays = record {
       of = λ rs u each. let all = all_told rs s u live each in (all.0, all.1, all.3);
     }

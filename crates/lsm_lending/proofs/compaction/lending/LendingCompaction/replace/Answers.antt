@@ -6,11 +6,11 @@ use Rattle.std.proofs.lemmas.Bool.{le-ltb, lt-ltb}
 use Rattle.sst_entries.specs.Entry.{Entry}
 use Rattle.sst_entries.specs.Lending.{came, entry_of_ref}
 use Rattle.lsm_lending.specs.LentCompaction.{has_to_wait}
-use Rattle.lsm_lending.specs.LentFiltered.{SettlesFiltered, lent_filtered, put_into}
-use Rattle.lsm_lending.proofs.LentFilteredLemmas.{keeps_high, keeps_low, parts_are}
-use Rattle.lsm_lending.proofs.LentFilteredLemmas.{settled_held, settled_memory, settled_put}
-use Rattle.lsm_lending.proofs.LentFilteredLemmas.{settled_silent}
-use Rattle.lsm_lending.proofs.compaction.filtered.FilteredLendingCompaction.replace.Goals as goal
+use Rattle.lsm_lending.specs.LentCompaction.{SettlesCompacted, lent_compacted, put_into}
+use Rattle.lsm_lending.proofs.CompactionHeads.{keeps_high, keeps_low, parts_are}
+use Rattle.lsm_lending.proofs.CompactionHeads.{settled_held, settled_memory, settled_put}
+use Rattle.lsm_lending.proofs.CompactionHeads.{settled_silent}
+use Rattle.lsm_lending.proofs.compaction.lending.LendingCompaction.replace.Goals as goal
 
 pub settle-requires-clause-waits : goal.settle-requires-clause-waits
 settle-requires-clause-waits g c =
@@ -34,12 +34,12 @@ returns-in_default-clause-settles g c = λ x lends.
 pub returns-in-Err-clause-settles : goal.returns-in-Err-clause-settles
 returns-in-Err-clause-settles g c = λ x is.
     let lent = g.L.Lending.lent in
-    settled_memory g.F.LentFilter.gives g.C.LentCallback.gets g.L.Lending.advances lent c.args.self.now _ c.in-Err.error (put_into x c.args.kind c.args.value.now) c.in-Err.ensures.err refl refl
+    settled_memory g.F.LentFilter.gives g.C.LentCallback.gets g.L.Lending.advances lent c.args.self.now _ c.in-Err.error (put_into x c.args.kind c.args.value.now) c.in-Err.ensures.err refl refl refl
 
 pub returns-in-Err-remember-clause-settles : goal.returns-in-Err-remember-clause-settles
 returns-in-Err-remember-clause-settles g c = λ x is.
     let lent = g.L.Lending.lent in
-    settled_memory g.F.LentFilter.gives g.C.LentCallback.gets g.L.Lending.advances lent c.args.self.now _ c.in-Err-remember.error (put_into x c.args.kind c.args.value.now) c.in-Err-remember.ensures.err refl refl
+    settled_memory g.F.LentFilter.gives g.C.LentCallback.gets g.L.Lending.advances lent c.args.self.now _ c.in-Err-remember.error (put_into x c.args.kind c.args.value.now) c.in-Err-remember.ensures.err refl refl refl
 
 pub returns-then-waits-clause-settles : goal.returns-then-waits-clause-settles
 returns-then-waits-clause-settles g c = λ x lends.
@@ -53,15 +53,16 @@ returns-then-waits-clause-settles g c = λ x lends.
     let key = c.in_default-remember.ensures.bytes in
     let bytes = c.in_default-remember-2.ensures.bytes in
     let t = c.settle.new.self in
-    let r = came c.settle.result (lent_filtered lent t) in
+    let r = came c.settle.result (lent_compacted lent t) in
     settled_put g.F.LentFilter.gives g.C.LentCallback.gets g.L.Lending.advances lent s t r kind value head x is lends
-    (subst (λ (y : Entry). SettlesFiltered g.F.LentFilter.gives g.C.LentCallback.gets g.L.Lending.advances lent s y r t)
+    (subst (λ (y : Entry). SettlesCompacted g.F.LentFilter.gives g.C.LentCallback.gets g.L.Lending.advances lent s y r t)
     (parts_are h _ _ key bytes)
     (let one = c.settle.ensures.settles in record {
       answers = one.answers;
       gave = one.gave;
       told = one.told;
-      does = λ live rest more f d ends will. record { at = (one.does live rest more f d ends will).at };
+      rules = one.rules;
+      does = λ z live rest more f d ends will. record { at = (one.does z live rest more f d ends will).at };
     }))
 
 pub returns-then-seqno-self-clause-settles : goal.returns-then-seqno-self-clause-settles

@@ -12,23 +12,27 @@ use Rattle.sst_entries.specs.declared.error.Error.{Error}
 use Rattle.sst_entries.specs.declared.error.Error.TheVariants.{OutOfMemory}
 use Rattle.sst_entries.proofs.StreamLemmas.{deals_front}
 use Rattle.lsm_merge.specs.Ends.{R}
-use Rattle.lsm_sorted.specs.Compaction.{JudgedItem, Verdict, by_key}
+use Rattle.lsm_sorted.specs.Compaction.{Judged, JudgedItem, Verdict, as_they_are, by_key}
 use Rattle.lsm_sorted.specs.Compaction.{items}
-use Rattle.lsm_sorted.specs.Compacting.{Compacted}
+use Rattle.lsm_sorted.specs.Compacting.{Compacted, GetsAll, SaysOf}
+use Rattle.lsm_sorted.specs.declared.compaction.Rules.{Rules}
 use Rattle.lsm_sorted.specs.Outlook.{results_in}
 use Rattle.lsm_sorted.specs.Hears.{GaveEach}
 use Rattle.lsm_lending.specs.LentFaults.{EndsIn, NoFaults}
-use Rattle.lsm_lending.specs.LentFilteredFaults.{FilterSays, PassingOr}
+use Rattle.lsm_lending.specs.LentFaults.{FilterSays, PassingOr}
 use Rattle.lsm_lending.specs.LentCompaction.{listed_answer, past_hidden}
-use Rattle.lsm_lending.specs.LentFiltered.{AdvancesFiltered, CompactedLent, CompactsLent}
-use Rattle.lsm_lending.specs.LentFiltered.{CompactsLentResults, EndsAtNone}
-use Rattle.lsm_lending.specs.LentFiltered.{WillCompact, hidden_by, hidden_in, is_entry}
-use Rattle.lsm_lending.specs.LentFiltered.{lent_callback, lent_filter, lent_source, looked_at}
-use Rattle.lsm_lending.specs.declared.compaction.filtered.FilteredLendingCompaction.{FilteredLendingCompaction}
+use Rattle.lsm_lending.specs.LentCompaction.{AdvancesCompacted, CompactedLent, CompactedPart}
+use Rattle.lsm_lending.specs.LentCompaction.{CompactedTo, CompactsLent, Later, later_of}
+use Rattle.lsm_lending.specs.LentCompaction.{nothing_later}
+use Rattle.lsm_lending.specs.LentCompaction.{CompactsLentResults, EndsAtNone}
+use Rattle.lsm_lending.specs.LentCompaction.{WillCompact, hidden_key, hidden_in, is_entry}
+use Rattle.lsm_lending.specs.LentCompaction.{lent_callback, lent_filter, lender, looked_at}
+use Rattle.lsm_lending.specs.declared.compaction.lending.LendingCompaction.{LendingCompaction}
 use Rattle.lsm_sorted.proofs.HearsLemmas.{each_append, none_stop_append}
 use Rattle.lsm_lending.proofs.LentOutsLemmas.{Calm, calm_before, calm_outs}
-use Rattle.lsm_lending.proofs.LentFilteredLemmas.{looked_next, will_at, will_plain, will_whole}
-use Rattle.lsm_lending.proofs.LentFilteredCalls.{ends_after, ends_before, parts_join}
+use Rattle.lsm_lending.proofs.CompactionHeads.{looked_next, will_at, will_plain, will_whole}
+use Rattle.lsm_lending.proofs.CompactionCalls.{ends_after, ends_before, parts_join}
+use Rattle.lsm_lending.proofs.KeepsAllLemmas.{items_are, tombstones_stay}
 
 -- ---- a source that deals a list
 
@@ -55,7 +59,7 @@ ends_calm stops r answers ends fine =
     (fine, tt))
 
 -- answers that were passed on where no error stops
-told_calm : (Says : Error → Type 0) (stops : Error → Bool) (r : Option R)
+pub told_calm : (Says : Error → Type 0) (stops : Error → Bool) (r : Option R)
     (answers : List (Option R)) → PassingOr Says r answers → answer_stops stops r ≡ false
     → NoneStops (answer_stops stops) answers
 told_calm Says stops None answers told fine = elim told [
@@ -72,7 +76,7 @@ told_calm Says stops (Some (Err e)) answers told fine = elim told [
 ]
 
 -- nothing is left where nothing came last
-ends_empty : (before : List (Option R)) (rest : List R) → EndsAtNone (before ++ None ∷ []) rest
+pub ends_empty : (before : List (Option R)) (rest : List R) → EndsAtNone (before ++ None ∷ []) rest
     → rest ≡ []
 ends_empty [] rest ends = ends.0
 ends_empty (None ∷ rs) rest ends = ends_empty rs rest ends.1
@@ -93,17 +97,17 @@ ends_less (None ∷ rs) rest ends = (
 ends_less (Some x ∷ rs) rest ends = ends_less rs rest ends
 
 module _ {S : Type 0} (advances : S → Option R → S → Type 0) (stops : Error → Bool) where
-  abbrev Dealt : S → List R → Type 0
+  abbrev pub Dealt : S → List R → Type 0
   Dealt = Deals (answer_stops stops) advances nowhere
 
   -- what it answered, and what it has still to deal
-  record Parts (xs : List R) (answers : List (Option R)) (t : S) : Type 0 where
+  pub record Parts (xs : List R) (answers : List (Option R)) (t : S) : Type 0 where
     pub rest : List R
     pub is : xs ≡ results_in answers ++ rest
     pub has : Dealt t rest
     pub ends : EndsAtNone answers rest
 
-  dealt_parts : (answers : List (Option R)) (s t : S) (xs : List R) → Dealt s xs
+  pub dealt_parts : (answers : List (Option R)) (s t : S) (xs : List R) → Dealt s xs
       → GaveEach advances s answers t → NoneStops (answer_stops stops) answers
       → Parts xs answers t
   dealt_parts [] s t xs has gave calm = record {
@@ -154,14 +158,31 @@ nothing_hidden : (k : Option (List ℕ)) → hidden_in k [] ≡ []
 nothing_hidden None = refl
 nothing_hidden (Some j) = refl
 
-nothing_past : (k : Option (List ℕ)) → past_hidden k [] ≡ []
+pub nothing_past : (k : Option (List ℕ)) → past_hidden k [] ≡ []
 nothing_past None = refl
 nothing_past (Some j) = refl
 
 module _ {F C : Type 0} (gives : F → Entry → Result Verdict Error → F → Type 0)
+    (gets : C → Entry → C → Type 0) where
+  -- a compaction without a rest
+  pub as_compacted : (rules : Rules) (f g : F) (c d : C) (xs gave : List R)
+      → CompactedTo gives gets nothing_later rules f c [] xs gave g d
+      → CompactedLent gives gets rules f c xs gave g d
+  as_compacted rules f g c d xs gave h = record {
+    judged = h.judged;
+    over = h.over;
+    tombstones = h.tombstones;
+    answers = sym (append-nil gave) ∙ h.answers;
+    says = subst (λ (js : List Judged). SaysOf gives f js g) (sym (append-nil h.said) ∙ h.said_are)
+        h.says;
+    reports = subst (λ (es : List Entry). GetsAll gets c es d)
+        (sym (append-nil h.heard) ∙ h.heard_are) h.reports;
+  }
+
+module _ {F C : Type 0} (gives : F → Entry → Result Verdict Error → F → Type 0)
     (gets : C → Entry → C → Type 0) {S A : Type 0} where
   -- no error, no difference
-  compacted_calm : (s : FilteredLendingCompaction S F C A) (xs : List Entry) (gave : List R) (g : F) (d : C)
+  compacted_calm : (s : LendingCompaction S F C A) (xs : List Entry) (gave : List R) (g : F) (d : C)
       → CompactedLent gives gets s.rules s.filter s.callback (ok_results xs) gave g d
       → Compacted gives gets s.rules s.filter s.callback (ok_results xs) gave g d
   compacted_calm s xs gave g d does = record {
@@ -174,37 +195,65 @@ module _ {F C : Type 0} (gives : F → Entry → Result Verdict Error → F → 
     reports = does.reports;
   }
 
+  -- all that u has still to look at is the rest
+  will_later : (u : LendingCompaction S F C A) (left : List R)
+      → WillCompact gives gets (later_of u.rules (hidden_key u) left) u left [] u.filter u.callback
+  will_later u left =
+      let rs : List R = past_hidden (hidden_key u) left in
+      record {
+        judged = as_they_are rs;
+        over = items_are rs;
+        tombstones = tombstones_stay rs;
+        answers = refl;
+        said = [];
+        said_are = refl;
+        says = refl;
+        heard = [];
+        heard_are = refl;
+        reports = refl;
+        begun = [];
+        begun_are = refl;
+      }
+
   -- a compaction of nothing
-  will_nothing : (u : FilteredLendingCompaction S F C A) → WillCompact gives gets u [] [] u.filter u.callback
-  will_nothing u = will_whole gives gets u [] [] u.filter u.callback (nothing_hidden (hidden_by u))
-      (nothing_past (hidden_by u)) (record {
+  will_nothing : (u : LendingCompaction S F C A)
+      → WillCompact gives gets nothing_later u [] [] u.filter u.callback
+  will_nothing u = will_whole gives gets nothing_later u [] [] u.filter u.callback
+      (nothing_hidden (hidden_key u)) (nothing_past (hidden_key u)) (record {
         judged = [];
         over = refl;
         tombstones = tt;
         answers = refl;
+        said = [];
+        said_are = refl;
         says = refl;
+        heard = [];
+        heard_are = refl;
         reports = refl;
+        begun = [];
+        begun_are = refl;
       })
 
   module _ (advances : S → Option R → S → Type 0) (lent : S → Option Entry) (can : S → Type 0)
       (stops : Error → Bool) (memory : stops OutOfMemory ≡ true) where
-    abbrev Next : FilteredLendingCompaction S F C A → Option R → FilteredLendingCompaction S F C A → Type 0
-    Next = AdvancesFiltered advances lent can gives gets
+    abbrev Next : LendingCompaction S F C A → Option R → LendingCompaction S F C A → Type 0
+    Next = AdvancesCompacted advances lent can gives gets
 
     -- calls that gave these, the last of which answered r
-    record RunsOn (s : FilteredLendingCompaction S F C A) (gave : List R) (r : Option R) (u : FilteredLendingCompaction S F C A) : Type 0 where
+    record RunsOn (s : LendingCompaction S F C A) (gave : List R) (r : Option R) (u : LendingCompaction S F C A) : Type 0 where
       pub answers : List (Option R)
       pub each : GaveEach advances s.source answers u.source
       pub calm : NoneStops (answer_stops stops) answers
       pub live : u.is_over ≡ false
       pub ended : r ≡ None → (rest : List R) → EndsAtNone answers rest → rest ≡ []
       pub rests : is_entry r ≡ false → u.is_pending ≡ false
-      pub does : (rest more : List R) (g : F) (d : C) → EndsAtNone answers rest
-          → WillCompact gives gets u (looked_at lent u rest) more g d
-          → WillCompact gives gets s (looked_at lent s (results_in answers ++ rest)) (gave ++ more)
-          g d
+      pub rules : u.rules ≡ s.rules
+      pub does : (z : Later) (rest more : List R) (g : F) (d : C) → EndsAtNone answers rest
+          → WillCompact gives gets z u (looked_at lent u rest) more g d
+          → WillCompact gives gets z s (looked_at lent s (results_in answers ++ rest))
+          (gave ++ more) g d
 
-    run_one : (s u : FilteredLendingCompaction S F C A) (r : Option R) → s.is_over ≡ false → Next s r u
+    run_one : (s u : LendingCompaction S F C A) (r : Option R) → s.is_over ≡ false → Next s r u
         → answer_stops stops r ≡ false → RunsOn s (listed_answer r) r u
     run_one s u r live next fine =
         let call = next.live live in elim call.step.told [
@@ -218,15 +267,16 @@ module _ {F C : Type 0} (gives : F → Entry → Result Verdict Error → F → 
                 ends_empty last.0 rest
                 (subst (λ (rs : List (Option R)). EndsAtNone rs rest) last.2 ends);
             rests = call.rests;
-            does = λ rest more g d ends will.
-                call.step.does passing.1 rest more g d ends will;
+            rules = call.step.rules;
+            does = λ z rest more g d ends will.
+                call.step.does z passing.1 rest more g d ends will;
           }
           | inr wants ↦
               let no : true ≡ false = sym memory
               ∙ sym (ap (answer_stops stops) wants.0.0) ∙ fine in absurd cc
         ]
 
-    run_then : (s m u : FilteredLendingCompaction S F C A) (x : R) (gave : List R) (r : Option R)
+    run_then : (s m u : LendingCompaction S F C A) (x : R) (gave : List R) (r : Option R)
         → RunsOn s (x ∷ []) (Some x) m → RunsOn m gave r u → RunsOn s (x ∷ gave) r u
     run_then s m u x gave r one more = record {
       answers = one.answers ++ more.answers;
@@ -237,50 +287,53 @@ module _ {F C : Type 0} (gives : F → Entry → Result Verdict Error → F → 
       ended = λ none rest ends. more.ended none rest
           (ends_after one.answers more.answers rest ends);
       rests = more.rests;
-      does = λ rest after g d ends will.
-          will_at gives gets s
+      rules = more.rules ∙ one.rules;
+      does = λ z rest after g d ends will.
+          will_at gives gets z s
           (looked_at lent s (results_in one.answers ++ (results_in more.answers ++ rest)))
           (looked_at lent s (results_in (one.answers ++ more.answers) ++ rest))
           (x ∷ (gave ++ after)) g d
           (sym (ap (looked_at lent s) (parts_join one.answers more.answers rest)))
-          (one.does (results_in more.answers ++ rest) (gave ++ after) g d
+          (one.does z (results_in more.answers ++ rest) (gave ++ after) g d
           (ends_before one.answers more.answers rest ends)
-          (more.does rest after g d (ends_after one.answers more.answers rest ends) will));
+          (more.does z rest after g d (ends_after one.answers more.answers rest ends) will));
     }
 
-    runs_on : (gave : List R) (s t u : FilteredLendingCompaction S F C A) (r : Option R) → s.is_over ≡ false
+    runs_on : (gave : List R) (s t u : LendingCompaction S F C A) (r : Option R) → s.is_over ≡ false
         → AllByRecursion (λ x. result_stops stops x ≡ false) gave → Yields Next s gave t
         → Next t r u → answer_stops stops r ≡ false → RunsOn s (gave ++ listed_answer r) r u
     runs_on [] s t u r live fine runs last goes =
-        run_one s u r live (subst (λ (v : FilteredLendingCompaction S F C A). Next v r u) (sym runs) last) goes
+        run_one s u r live (subst (λ (v : LendingCompaction S F C A). Next v r u) (sym runs) last) goes
     runs_on (x ∷ gave) s t u r live fine runs last goes =
         let one = run_one s runs.0 (Some x) live runs.1 fine.0 in
         run_then s runs.0 u x (gave ++ listed_answer r) r one
         (runs_on gave runs.0 t u r one.live fine.1 runs.2 last goes)
 
     -- of a fresh one
-    module _ (s : FilteredLendingCompaction S F C A) (plain : s.hides ≡ false) (next : s.is_pending ≡ false)
+    module _ (s : LendingCompaction S F C A) (plain : s.hides ≡ false) (next : s.is_pending ≡ false)
         (live : s.is_over ≡ false) (xs : List R)
         (has : Deals (answer_stops stops) advances nowhere s.source xs) where
       -- what was done so far, where nothing waits to be looked at
-      done : (u : FilteredLendingCompaction S F C A) (gave : List R) (r : Option R) (run : RunsOn s gave r u)
+      done : (u : LendingCompaction S F C A) (gave : List R) (r : Option R) (run : RunsOn s gave r u)
           → u.is_pending ≡ false → EndsAtNone run.answers []
           → CompactedLent gives gets s.rules s.filter s.callback (results_in run.answers) gave
           u.filter u.callback
       done u gave r run quiet ends =
           let all = results_in run.answers ++ [] in
-          let will = run.does [] [] u.filter u.callback ends
-          (will_at gives gets u [] (looked_at lent u []) [] u.filter u.callback
+          let z : Later = nothing_later in
+          let will = run.does z [] [] u.filter u.callback ends
+          (will_at gives gets z u [] (looked_at lent u []) [] u.filter u.callback
           (sym (looked_next lent u [] quiet)) (will_nothing u)) in
           subst (λ (ys : List R). CompactedLent gives gets s.rules s.filter s.callback ys gave
           u.filter u.callback) (append-nil (results_in run.answers))
           (subst (λ (ys : List R). CompactedLent gives gets s.rules s.filter s.callback all ys
           u.filter u.callback) (append-nil gave)
-          (will_plain gives gets s all (gave ++ []) u.filter u.callback plain
-          (will_at gives gets s (looked_at lent s all) all (gave ++ []) u.filter u.callback
-          (looked_next lent s all next) will)))
+          (as_compacted gives gets s.rules s.filter u.filter s.callback u.callback all (gave ++ [])
+          (will_plain gives gets z s all (gave ++ []) u.filter u.callback plain
+          (will_at gives gets z s (looked_at lent s all) all (gave ++ []) u.filter u.callback
+          (looked_next lent s all next) will))))
 
-      whole_run : (gave : List R) (t u : FilteredLendingCompaction S F C A)
+      whole_run : (gave : List R) (t u : LendingCompaction S F C A)
           → AllByRecursion (λ x. result_stops stops x ≡ false) gave → Yields Next s gave t
           → Next t None u
           → CompactedLent gives gets s.rules s.filter s.callback xs gave u.filter u.callback
@@ -299,7 +352,7 @@ module _ {F C : Type 0} (gives : F → Entry → Result Verdict Error → F → 
           (done u (gave ++ []) None run (run.rests refl)
           (ends_less run.answers parts.rest parts.ends)))
 
-      until_run : (gave : List R) (e : Error) (t u : FilteredLendingCompaction S F C A) → stops e ≡ false
+      until_run : (gave : List R) (e : Error) (t u : LendingCompaction S F C A) → stops e ≡ false
           → AllByRecursion (λ x. result_stops stops x ≡ false) gave → Yields Next s gave t
           → Next t (Some (Err e)) u
           → (front rest : List R) × (xs ≡ front ++ rest)
@@ -318,22 +371,53 @@ module _ {F C : Type 0} (gives : F → Entry → Result Verdict Error → F → 
                 (ends_less run.answers parts.rest parts.ends),
           )
 
+      part_run : (gave : List R) (x : Entry) (t u : LendingCompaction S F C A)
+          → AllByRecursion (λ x. result_stops stops x ≡ false) gave → Yields Next s gave t
+          → Next t (Some (Ok x)) u
+          → CompactedPart gives gets s.rules s.filter s.callback xs (gave ++ Ok x ∷ []) u.filter
+          u.callback
+      part_run gave x t u fine runs last =
+          let run = runs_on gave s t u (Some (Ok x)) live fine runs last refl in
+          let parts = dealt_parts advances stops run.answers s.source u.source xs has run.each
+          run.calm in
+          let all : List R = results_in run.answers ++ parts.rest in
+          let left : List R = looked_at lent u parts.rest in
+          let ys : List R = gave ++ Ok x ∷ [] in
+          let z : Later = later_of u.rules (hidden_key u) left in
+          let will = run.does z parts.rest [] u.filter u.callback parts.ends (will_later u left) in
+          let plainly = will_plain gives gets z s all (ys ++ []) u.filter u.callback plain
+          (will_at gives gets z s (looked_at lent s all) all (ys ++ []) u.filter u.callback
+          (looked_next lent s all next) will) in
+          record {
+            key = hidden_key u;
+            left = left;
+            does = subst (λ (q : Rules). CompactedTo gives gets (later_of q (hidden_key u) left)
+                s.rules s.filter s.callback [] xs ys u.filter u.callback) run.rules
+                (subst (λ (rs : List R). CompactedTo gives gets z s.rules s.filter s.callback [] rs
+                ys u.filter u.callback) (sym parts.is)
+                (subst (λ (rs : List R). CompactedTo gives gets z s.rules s.filter s.callback [] all
+                rs u.filter u.callback) (append-nil ys) plainly));
+          }
+
   module _ (advances : S → Option R → S → Type 0) (lent : S → Option Entry) (can : S → Type 0)
-      (s : FilteredLendingCompaction S F C A) (plain : s.hides ≡ false) (next : s.is_pending ≡ false)
+      (s : LendingCompaction S F C A) (plain : s.hides ≡ false) (next : s.is_pending ≡ false)
       (live : s.is_over ≡ false) where
     pub compacts_lent_results : CompactsLentResults advances s.source
-        (AdvancesFiltered advances lent can gives gets) s s.rules gives gets s.filter s.callback
-        lent_source lent_filter lent_callback
+        (AdvancesCompacted advances lent can gives gets) s s.rules gives gets s.filter s.callback
+        lender lent_filter lent_callback
     compacts_lent_results = record {
       whole = λ stops xs gave t u memory has fine runs last.
           whole_run advances lent can stops memory s plain next live xs has gave t u fine runs last;
       until = λ stops xs gave e t u memory goes has fine runs last.
           until_run advances lent can stops memory s plain next live xs has gave e t u goes fine
           runs last;
+      part = λ stops xs gave x t u memory has fine runs last.
+          part_run advances lent can stops memory s plain next live xs has gave x t u fine runs
+          last;
     }
 
     pub compacts_lent : CompactsLent advances s.source
-        (AdvancesFiltered advances lent can gives gets) s s.rules gives gets s.filter s.callback
+        (AdvancesCompacted advances lent can gives gets) s s.rules gives gets s.filter s.callback
         lent_filter lent_callback
     compacts_lent = record {
       whole = λ stops xs gave t u memory has fine runs last.

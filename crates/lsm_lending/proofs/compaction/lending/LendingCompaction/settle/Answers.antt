@@ -5,10 +5,10 @@ use Rattle.std.proofs.lemmas.Result.{err_from_is_err_and}
 use Rattle.sst_entries.specs.Entry.{entry}
 use Rattle.lsm_merge.specs.Ends.{R}
 use Rattle.lsm_sorted.specs.Compacting.{head_answer}
-use Rattle.lsm_lending.specs.LentFiltered.{SettlesFiltered}
-use Rattle.lsm_lending.proofs.LentCompactionLemmas.{held_answer}
-use Rattle.lsm_lending.proofs.LentFilteredLemmas.{shows_nothing}
-use Rattle.lsm_lending.proofs.compaction.filtered.FilteredLendingCompaction.settle.Goals as goal
+use Rattle.lsm_lending.specs.LentCompaction.{SettlesCompacted}
+use Rattle.lsm_lending.proofs.CompactionHeads.{held_answer}
+use Rattle.lsm_lending.proofs.CompactionHeads.{lends_nothing}
+use Rattle.lsm_lending.proofs.compaction.lending.LendingCompaction.settle.Goals as goal
 
 pub returns-in_err-lets_go-clause-settles : goal.returns-in_err-lets_go-clause-settles
 returns-in_err-lets_go-clause-settles g c =
@@ -22,8 +22,8 @@ returns-then-branch-clause-settles g c =
     let t = c.lets_go.new.self in
     let head = entry s.key.items s.value.items c.args.seqno c.args.kind in
     let after = c.in_ok-lets_go.ensures in
-    subst (λ (r : Option R). SettlesFiltered g.F.LentFilter.gives g.C.LentCallback.gets g.L.Lending.advances g.L.Lending.lent s head r t)
-    (ap (λ (b : Bool). head_answer s.rules b head) c.if-branch.true ∙ sym (shows_nothing g.L.Lending.lent t (after.shows ∙ c.requires.empty)))
+    subst (λ (r : Option R). SettlesCompacted g.F.LentFilter.gives g.C.LentCallback.gets g.L.Lending.advances g.L.Lending.lent s head r t)
+    (ap (λ (b : Bool). head_answer s.rules b head) c.if-branch.true ∙ sym (lends_nothing g.L.Lending.lent t (after.lends ∙ c.requires.empty)))
     (after.settles head c.requires.waits refl refl)
 
 pub returns-clause-settles : goal.returns-clause-settles
@@ -33,11 +33,12 @@ returns-clause-settles g c =
     let head = entry s.key.items s.value.items c.args.seqno c.args.kind in
     let after = c.in_ok-lets_go.ensures in
     let answer = held_answer t.rules s.rules t.key.items t.value.items head c.in_ok-lets_go.field-0 after.rules (ap (λ v. v.items) after.key) (ap (λ v. v.items) after.value) c.if-branch.false in
-    let one = subst (λ (r : Option R). SettlesFiltered g.F.LentFilter.gives g.C.LentCallback.gets g.L.Lending.advances g.L.Lending.lent s head r t) (sym answer) (after.settles head c.requires.waits refl refl) in
+    let one = subst (λ (r : Option R). SettlesCompacted g.F.LentFilter.gives g.C.LentCallback.gets g.L.Lending.advances g.L.Lending.lent s head r t) (sym answer) (after.settles head c.requires.waits refl refl) in
     record {
       answers = one.answers;
       gave = one.gave;
       told = one.told;
-      does = λ live rest more f d ends will.
-          one.does live rest more f d ends (record { told = will.told; hides = will.hides; does = will.does });
+      rules = one.rules;
+      does = λ z live rest more f d ends will.
+          one.does z live rest more f d ends will;
     }

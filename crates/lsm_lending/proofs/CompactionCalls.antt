@@ -14,24 +14,33 @@ use Rattle.lsm_sorted.specs.Compacting.{Asks, AsksIf, GetsAll, of_key}
 use Rattle.lsm_sorted.specs.Outlook.{results_in}
 use Rattle.lsm_sorted.specs.Hears.{GaveEach}
 use Rattle.lsm_lending.specs.LentFaults.{NoFaults}
-use Rattle.lsm_lending.specs.LentFilteredFaults.{FilterSays, PassingOr}
+use Rattle.lsm_lending.specs.LentFaults.{FilterSays, PassingOr}
 use Rattle.lsm_lending.specs.LentNewest.{is_given}
 use Rattle.lsm_lending.specs.LentCompaction.{listed_answer, past_hidden}
-use Rattle.lsm_lending.specs.LentFiltered.{AdvancesFiltered, CallsFiltered, CompactedLent}
-use Rattle.lsm_lending.specs.LentFiltered.{EndsAtNone, FetchesFiltered, MayFilter, SettlesFiltered}
-use Rattle.lsm_lending.specs.LentFiltered.{StepsFiltered, WillCompact, hidden_by, hidden_in}
-use Rattle.lsm_lending.specs.LentFiltered.{lent_filtered, looked_at}
-use Rattle.lsm_lending.specs.declared.compaction.filtered.Shows.TheVariants.{Nothing}
+use Rattle.lsm_lending.specs.LentCompaction.{AdvancesCompacted, CallsCompacted, CompactedTo, Later}
+use Rattle.lsm_lending.specs.LentCompaction.{EndsAtNone, FetchesCompacted, MayLendCompacted, SettlesCompacted}
+use Rattle.lsm_lending.specs.LentCompaction.{StepsCompacted, WillCompact, hidden_key, hidden_in}
+use Rattle.lsm_lending.specs.LentCompaction.{lent_compacted, looked_at}
+use Rattle.lsm_lending.specs.declared.compaction.lending.Lends.TheVariants.{Nothing}
 use Rattle.lsm_sorted.specs.declared.compaction.Rules.{Rules}
-use Rattle.lsm_lending.specs.declared.compaction.filtered.FilteredLendingCompaction.{FilteredLendingCompaction}
+use Rattle.lsm_lending.specs.declared.compaction.lending.LendingCompaction.{LendingCompaction}
 use Rattle.lsm_sorted.proofs.HearsLemmas.{each_append}
 use Rattle.lsm_lending.proofs.LentFaultsLemmas.{came_after, came_before, ends_append}
 use Rattle.lsm_lending.proofs.LentFaultsLemmas.{no_faults_append}
-use Rattle.lsm_lending.proofs.LentListens.{live_over, nothing_wanted, passing_after, wants_after}
+use Rattle.lsm_lending.proofs.LentFaultsLemmas.{live_over, nothing_wanted, passing_after, wants_after}
 use Rattle.lsm_lending.proofs.LentOutsLemmas.{hidden_skips, hidden_stops}
-use Rattle.lsm_lending.proofs.LentTurnLemmas.{lent_dropped, lent_failed}
-use Rattle.lsm_lending.proofs.LentFilteredLemmas.{looked_next, looked_some, same_will}
-use Rattle.lsm_lending.proofs.LentFilteredLemmas.{shows_nothing, will_at, will_plain, will_whole}
+use Rattle.lsm_lending.proofs.LentTurnLemmas.{hears_more, lent_dropped, lent_failed}
+use Rattle.lsm_lending.proofs.CompactionHeads.{as_here, looked_next, looked_some, same_will}
+use Rattle.lsm_lending.proofs.CompactionHeads.{lends_nothing, will_at, will_plain, will_whole}
+
+-- an error that is said is the filter's: a tombstone is kept
+asked_error : {F : Type 0} (gives : F → Entry → Result Verdict Error → F → Type 0) (f g : F)
+    (x : Entry) (e : Error) → Asks gives f x (Err e) g → gives f x (Err e) g
+asked_error gives f g x e = elim (is_tombstone_kind x.kind) as
+    (λ b. AsksIf gives (not b) f x (Err e) g → gives f x (Err e) g) [
+      | true ↦ λ h. let no : Err e ≡ Ok keep = h.0 in absurd cc
+      | false ↦ λ h. h
+    ]
 
 -- ---- an entry is looked at
 
@@ -60,9 +69,9 @@ hides_no_more (Some j) x rs given = record {
 
 module _ {F C : Type 0} (gives : F → Entry → Result Verdict Error → F → Type 0)
     (gets : C → Entry → C → Type 0) {S A : Type 0} (advances : S → Option R → S → Type 0)
-    (lent : S → Option Entry) (s m t : FilteredLendingCompaction S F C A) where
+    (lent : S → Option Entry) (s m t : LendingCompaction S F C A) where
   abbrev Stepped : Option R → Type 0
-  Stepped r = StepsFiltered gives gets advances lent s r t
+  Stepped r = StepsCompacted gives gets advances lent s r t
 
   module _ (pending : s.is_pending ≡ true) where
     awake : {P : Type 0} → s.is_pending ≡ false → P
@@ -70,77 +79,73 @@ module _ {F C : Type 0} (gives : F → Entry → Result Verdict Error → F → 
 
     -- there is none
     pub looks_none : lent s.source ≡ None → s.source ≡ t.source → t.rules ≡ s.rules
-        → t.filter ≡ s.filter → t.callback ≡ s.callback → hidden_by t ≡ hidden_by s
+        → t.filter ≡ s.filter → t.callback ≡ s.callback → hidden_key t ≡ hidden_key s
         → t.is_over ≡ false → t.is_pending ≡ false → Stepped None
     looks_none none source rules filter callback hidden live next = record {
       answers = [];
       gave = source;
       told = inl (inl tt, live);
       idle = λ q n. awake q;
-      does = λ l rest more g d ends will.
-          will_at gives gets s rest (looked_at lent s rest) more g d
+      rules = rules;
+      does = λ z l rest more g d ends will.
+          will_at gives gets z s rest (looked_at lent s rest) more g d
           (sym (looked_some lent s rest None pending none))
-          (same_will gives gets advances lent s t rest rules filter callback hidden more g d
-          (will_at gives gets t (looked_at lent t rest) rest more g d (looked_next lent t rest next)
-          will));
+          (same_will gives gets z s t rest rules filter callback hidden more g d
+          (will_at gives gets z t (looked_at lent t rest) rest more g d
+          (looked_next lent t rest next) will));
     }
 
     module _ (x : Entry) (is : lent s.source ≡ Some x) where
       -- a compaction of it and of these
-      from_it : (rest more : List R) (g : F) (d : C)
-          → WillCompact gives gets s (Ok x ∷ rest) more g d
-          → WillCompact gives gets s (looked_at lent s rest) more g d
-      from_it rest more g d will = will_at gives gets s (Ok x ∷ rest) (looked_at lent s rest) more g
-          d (sym (looked_some lent s rest (Some x) pending is)) will
+      from_it : (z : Later) (rest more : List R) (g : F) (d : C)
+          → WillCompact gives gets z s (Ok x ∷ rest) more g d
+          → WillCompact gives gets z s (looked_at lent s rest) more g d
+      from_it z rest more g d will = will_at gives gets z s (Ok x ∷ rest) (looked_at lent s rest)
+          more g d (sym (looked_some lent s rest (Some x) pending is)) will
 
       -- it is hidden
-      pub looks_hidden : is_given (hidden_by s) x ≡ true → s.source ≡ t.source
+      pub looks_hidden : is_given (hidden_key s) x ≡ true → s.source ≡ t.source
           → t.rules ≡ s.rules → gets s.callback x t.callback → t.filter ≡ s.filter
-          → hidden_by t ≡ hidden_by s → t.is_over ≡ false → t.is_pending ≡ false → Stepped None
+          → hidden_key t ≡ hidden_key s → t.is_over ≡ false → t.is_pending ≡ false → Stepped None
       looks_hidden given source rules got filter hidden live next = record {
         answers = [];
         gave = source;
         told = inl (inl tt, live);
         idle = λ q n. awake q;
-        does = λ l rest more g d ends will.
-            let w = will_at gives gets t (looked_at lent t rest) rest more g d
+        rules = rules;
+        does = λ z l rest more g d ends will.
+            let w = will_at gives gets z t (looked_at lent t rest) rest more g d
             (looked_next lent t rest next) will in
-            let skip = hides_more (hidden_by s) x rest given in
-            from_it rest more g d (record {
-              told = w.told;
-              hides = subst (λ (es : List Entry). GetsAll gets s.callback es w.told) (sym skip.told) (
-                t.callback,
-                got,
-                subst (λ (k : Option (List ℕ)). GetsAll gets t.callback (hidden_in k rest)
-                    w.told) hidden w.hides,
-              );
-              does = subst (λ (rs : List R). CompactedLent gives gets s.rules s.filter w.told rs
-                  more g d) (sym skip.past)
-                  (subst (λ (q : Rules). CompactedLent gives gets q s.filter w.told
-                  (past_hidden (hidden_by s) rest) more g d) rules
-                  (subst (λ (f : F). CompactedLent gives gets t.rules f w.told
-                  (past_hidden (hidden_by s) rest) more g d) filter
-                  (subst (λ (k : Option (List ℕ)). CompactedLent gives gets t.rules t.filter
-                  w.told (past_hidden k rest) more g d) hidden w.does)));
-            });
+            let skip = hides_more (hidden_key s) x rest given in
+            let es : List Entry = hidden_in (hidden_key s) rest in
+            let ys : List R = past_hidden (hidden_key s) rest in
+            from_it z rest more g d
+            (subst (λ (rs : List R). CompactedTo gives gets z s.rules s.filter s.callback
+            (hidden_in (hidden_key s) (Ok x ∷ rest)) rs more g d) (sym skip.past)
+            (subst (λ (is : List Entry). CompactedTo gives gets z s.rules s.filter s.callback is ys
+            more g d) (sym skip.told)
+            (hears_more gives gets z s.rules s.filter g s.callback t.callback d x es ys more got
+            (as_here gives gets z s t t.callback es ys more g d rules filter
+            (subst (λ (k : Option (List ℕ)). CompactedTo gives gets z t.rules t.filter t.callback
+            (hidden_in k rest) (past_hidden k rest) more g d) hidden w)))));
       }
 
       -- it is not hidden, and the filter says this of it
-      module _ (fresh : is_given (hidden_by s) x ≡ false) (v : Result Verdict Error)
+      module _ (fresh : is_given (hidden_key s) x ≡ false) (v : Result Verdict Error)
           (asks : Asks gives s.filter x v m.filter)
           (reports : GetsAll gets s.callback (reports_by x v) m.callback) where
-        fresh_it : (rest more : List R) (g : F) (d : C)
-            → CompactedLent gives gets s.rules s.filter s.callback (Ok x ∷ rest) more g d
-            → WillCompact gives gets s (looked_at lent s rest) more g d
-        fresh_it rest more g d does =
-            let stop = hides_no_more (hidden_by s) x rest fresh in
-            from_it rest more g d
-            (will_whole gives gets s (Ok x ∷ rest) more g d stop.told stop.past does)
+        fresh_it : (z : Later) (rest more : List R) (g : F) (d : C)
+            → CompactedTo gives gets z s.rules s.filter s.callback [] (Ok x ∷ rest) more g d
+            → WillCompact gives gets z s (looked_at lent s rest) more g d
+        fresh_it z rest more g d does =
+            let stop = hides_no_more (hidden_key s) x rest fresh in
+            from_it z rest more g d
+            (will_whole gives gets z s (Ok x ∷ rest) more g d stop.told stop.past does)
 
         -- it leaves one, which is settled from m on
         pub looks_left : (h : Entry) (r : Option R) → told_by x v ≡ Ok (Some h)
             → m.source ≡ s.source → m.rules ≡ s.rules
-            → SettlesFiltered gives gets advances lent m h r t → Stepped r
+            → SettlesCompacted gives gets advances lent m h r t → Stepped r
         looks_left h r left source rules settles = record {
           answers = settles.answers;
           gave = subst (λ (u : S). GaveEach advances u settles.answers t.source) source
@@ -150,27 +155,29 @@ module _ {F C : Type 0} (gives : F → Entry → Result Verdict Error → F → 
             | inr wants ↦ inr wants
           ];
           idle = λ q n. awake q;
-          does = λ l rest more g d ends will.
+          rules = settles.rules ∙ rules;
+          does = λ z l rest more g d ends will.
               let rs : List R = results_in settles.answers ++ rest in
-              fresh_it rs (listed_answer r ++ more) g d
-              (subst (λ (q : Rules). CompactedLent gives gets q s.filter s.callback (Ok x ∷ rs)
+              fresh_it z rs (listed_answer r ++ more) g d
+              (subst (λ (q : Rules). CompactedTo gives gets z q s.filter s.callback [] (Ok x ∷ rs)
               (listed_answer r ++ more) g d) rules
-              ((settles.does l rest more g d ends will).at x v s.filter s.callback left asks
+              ((settles.does z l rest more g d ends will).at x v s.filter s.callback left asks
               reports));
         }
 
         module _ (source : s.source ≡ t.source) (filter : t.filter ≡ m.filter)
             (callback : t.callback ≡ m.callback) (rules : t.rules ≡ s.rules)
             (plain : t.hides ≡ false) (live : t.is_over ≡ false) (next : t.is_pending ≡ false) where
-          behind : (rest more : List R) (g : F) (d : C)
-              → WillCompact gives gets t (looked_at lent t rest) more g d
-              → CompactedLent gives gets s.rules m.filter m.callback rest more g d
-          behind rest more g d will =
-              subst (λ (c : C). CompactedLent gives gets s.rules m.filter c rest more g d) callback
-              (subst (λ (f : F). CompactedLent gives gets s.rules f t.callback rest more g d) filter
-              (subst (λ (q : Rules). CompactedLent gives gets q t.filter t.callback rest more g d)
-              rules (will_plain gives gets t rest more g d plain
-              (will_at gives gets t (looked_at lent t rest) rest more g d
+          behind : (z : Later) (rest more : List R) (g : F) (d : C)
+              → WillCompact gives gets z t (looked_at lent t rest) more g d
+              → CompactedTo gives gets z s.rules m.filter m.callback [] rest more g d
+          behind z rest more g d will = subst (λ (c : C).
+              CompactedTo gives gets z s.rules m.filter c [] rest more g d) callback
+              (subst (λ (f : F). CompactedTo gives gets z s.rules f t.callback [] rest more g d)
+              filter (subst (λ (q : Rules).
+              CompactedTo gives gets z q t.filter t.callback [] rest more g d) rules
+              (will_plain gives gets z t rest more g d plain
+              (will_at gives gets z t (looked_at lent t rest) rest more g d
               (looked_next lent t rest next) will))))
 
           -- it leaves none
@@ -180,49 +187,45 @@ module _ {F C : Type 0} (gives : F → Entry → Result Verdict Error → F → 
             gave = source;
             told = inl (inl tt, live);
             idle = λ q n. awake q;
-            does = λ l rest more g d ends will.
-                fresh_it rest more g d (lent_dropped s.rules gives gets x v s.filter m.filter g
-                s.callback m.callback m.callback d asks reports dropped rest more
-                (behind rest more g d will));
+            rules = rules;
+            does = λ z l rest more g d ends will.
+                fresh_it z rest more g d (lent_dropped s.rules gives gets z x v s.filter m.filter g
+                s.callback m.callback d asks reports dropped rest more
+                (behind z rest more g d will));
           }
 
           -- it answers an error
-          pub looks_failed : (e : Error) → v ≡ Err e → gives s.filter x (Err e) m.filter
-              → Stepped (Some (Err e))
-          looks_failed e failed says = record {
+          pub looks_failed : (e : Error) → v ≡ Err e → Stepped (Some (Err e))
+          looks_failed e failed = record {
             answers = [];
             gave = source;
             told = inl (
               inr (record {
                 error = e;
                 is = refl;
-                says = record { filter = s.filter; entry = x; then = m.filter; says = says };
+                says = record {
+                  filter = s.filter;
+                  entry = x;
+                  then = m.filter;
+                  says = asked_error gives s.filter m.filter x e
+                      (subst (λ (w : Result Verdict Error). Asks gives s.filter x w m.filter) failed
+                      asks);
+                };
                 none = tt;
               }),
               live,
             );
             idle = λ q n. awake q;
-            does = λ l rest more g d ends will.
-                fresh_it rest (Err e ∷ more) g d (lent_failed s.rules gives gets x v s.filter
-                m.filter g s.callback m.callback m.callback d asks reports e failed rest more
-                (behind rest more g d will));
+            rules = rules;
+            does = λ z l rest more g d ends will.
+                fresh_it z rest (Err e ∷ more) g d (lent_failed s.rules gives gets z x v s.filter
+                m.filter g s.callback m.callback d asks reports e failed rest more
+                (behind z rest more g d will));
           }
 
--- the filter was asked, or not
-pub asked_no_more : {F : Type 0} (gives : F → Entry → Result Verdict Error → F → Type 0) (f : F)
-    (x : Entry) → is_tombstone_kind x.kind ≡ true → Asks gives f x (Ok keep) f
-asked_no_more gives f x dead =
-    subst (λ (b : Bool). AsksIf gives (not b) f x (Ok keep) f) (sym dead) (refl, refl)
-
-pub asked_of_it : {F : Type 0} (gives : F → Entry → Result Verdict Error → F → Type 0) (f g : F)
-    (x : Entry) (v : Result Verdict Error) → is_tombstone_kind x.kind ≡ false → gives f x v g
-    → Asks gives f x v g
-asked_of_it gives f g x v alive said =
-    subst (λ (b : Bool). AsksIf gives (not b) f x v g) (sym alive) said
-
 -- the state once an entry was judged
-abbrev pub judged_by : {S F C A : Type 0} → FilteredLendingCompaction S F C A → F → C
-    → FilteredLendingCompaction S F C A
+abbrev pub judged_by : {S F C A : Type 0} → LendingCompaction S F C A → F → C
+    → LendingCompaction S F C A
 judged_by s f c = record {
   source = s.source;
   rules = s.rules;
@@ -230,7 +233,7 @@ judged_by s f c = record {
   callback = c;
   key = s.key;
   value = s.value;
-  shows = s.shows;
+  lends = s.lends;
   hides = false;
   is_pending = s.is_pending;
   is_over = s.is_over;
@@ -290,34 +293,35 @@ module _ {F : Type 0} (gives : F → Entry → Result Verdict Error → F → Ty
 module _ {F C : Type 0} (gives : F → Entry → Result Verdict Error → F → Type 0)
     (gets : C → Entry → C → Type 0) {S A : Type 0} (advances : S → Option R → S → Type 0)
     (lent : S → Option Entry) where
-  abbrev Steps : FilteredLendingCompaction S F C A → Option R → FilteredLendingCompaction S F C A
+  abbrev Steps : LendingCompaction S F C A → Option R → LendingCompaction S F C A
       → Type 0
-  Steps = StepsFiltered gives gets advances lent
+  Steps = StepsCompacted gives gets advances lent
 
-  abbrev Fetched : FilteredLendingCompaction S F C A → Option R → FilteredLendingCompaction S F C A
+  abbrev Fetched : LendingCompaction S F C A → Option R → LendingCompaction S F C A
       → Type 0
-  Fetched = FetchesFiltered gives gets advances lent
+  Fetched = FetchesCompacted gives gets advances lent
 
-  pub steps_begun : (s : FilteredLendingCompaction S F C A) → s.is_over ≡ false → Steps s None s
+  pub steps_begun : (s : LendingCompaction S F C A) → s.is_over ≡ false → Steps s None s
   steps_begun s live = record {
     answers = [];
     gave = refl;
     told = inl (inl tt, live);
     idle = λ q n. q;
-    does = λ l rest more g d ends will. will;
+    rules = refl;
+    does = λ z l rest more g d ends will. will;
   }
 
   -- something waited to be looked at
-  pub fetches_held : (s t : FilteredLendingCompaction S F C A) → s ≡ t → s.is_over ≡ false
+  pub fetches_held : (s t : LendingCompaction S F C A) → s ≡ t → s.is_over ≡ false
       → s.is_pending ≡ true → Fetched s None t
   fetches_held s t same live pending =
-      subst (λ (u : FilteredLendingCompaction S F C A). Fetched s None u) same (record {
+      subst (λ (u : LendingCompaction S F C A). Fetched s None u) same (record {
         step = steps_begun s live;
         ended = λ none quiet. let no : true ≡ false = sym pending ∙ quiet in absurd cc;
         idle = λ q n. refl;
       })
 
-  module _ (s m t : FilteredLendingCompaction S F C A) where
+  module _ (s m t : LendingCompaction S F C A) where
     abbrev Quiet : Type 0
     Quiet = Steps s None m
 
@@ -346,21 +350,22 @@ module _ {F C : Type 0} (gives : F → Entry → Result Verdict Error → F → 
       idle = λ q none. after.idle
           (before.idle q (came_before before.answers after.answers none))
           (came_after before.answers after.answers none);
-      does = λ live rest more g d ends will.
-          will_at gives gets s
+      rules = after.rules ∙ before.rules;
+      does = λ z live rest more g d ends will.
+          will_at gives gets z s
           (looked_at lent s (results_in before.answers ++ (results_in after.answers ++ rest)))
           (looked_at lent s (results_in (before.answers ++ after.answers) ++ rest))
           (listed_answer r ++ more) g d
           (sym (ap (looked_at lent s) (parts_join before.answers after.answers rest)))
-          (before.does (quiet_clean before).1 (results_in after.answers ++ rest)
+          (before.does z (quiet_clean before).1 (results_in after.answers ++ rest)
           (listed_answer r ++ more) g d (ends_before before.answers after.answers rest ends)
-          (after.does live rest more g d (ends_after before.answers after.answers rest ends) will));
+          (after.does z live rest more g d (ends_after before.answers after.answers rest ends) will));
     }
 
     -- ---- whole calls
 
     abbrev Called : Option R → Type 0
-    Called r = CallsFiltered gives gets advances lent s r t
+    Called r = CallsCompacted gives gets advances lent s r t
 
     -- it answered an error in place of an entry
     pub calls_refused : (e : Error) → Quiet → Fetched m (Some (Err e)) t → t.is_pending ≡ false
@@ -413,40 +418,40 @@ module _ {F C : Type 0} (gives : F → Entry → Result Verdict Error → F → 
         rests = λ n. let no : true ≡ false = n in absurd cc;
       }
 
-  -- where nothing is shown
-  pub steps_silent : (s t : FilteredLendingCompaction S F C A) → t.shows ≡ Nothing
-      → Steps s None t → Steps s (option_map (λ y. Ok y) (lent_filtered lent t)) t
+  -- where nothing is lent
+  pub steps_silent : (s t : LendingCompaction S F C A) → t.lends ≡ Nothing
+      → Steps s None t → Steps s (option_map (λ y. Ok y) (lent_compacted lent t)) t
   steps_silent s t none steps =
-      subst (λ (r : Option R). Steps s r t) (sym (shows_nothing lent t none)) steps
+      subst (λ (r : Option R). Steps s r t) (sym (lends_nothing lent t none)) steps
 
-  pub steps_quiet : (s t : FilteredLendingCompaction S F C A) → t.shows ≡ Nothing
-      → Steps s (option_map (λ y. Ok y) (lent_filtered lent t)) t → Steps s None t
+  pub steps_quiet : (s t : LendingCompaction S F C A) → t.lends ≡ Nothing
+      → Steps s (option_map (λ y. Ok y) (lent_compacted lent t)) t → Steps s None t
   steps_quiet s t none steps =
-      subst (λ (r : Option R). Steps s r t) (shows_nothing lent t none) steps
+      subst (λ (r : Option R). Steps s r t) (lends_nothing lent t none) steps
 
   module _ (can : S → Type 0) where
-    abbrev Advances : FilteredLendingCompaction S F C A → Option R
-        → FilteredLendingCompaction S F C A → Type 0
-    Advances = AdvancesFiltered advances lent can gives gets
+    abbrev Advances : LendingCompaction S F C A → Option R
+        → LendingCompaction S F C A → Type 0
+    Advances = AdvancesCompacted advances lent can gives gets
 
     -- a call of one that is not over
-    pub advances_live : (s t : FilteredLendingCompaction S F C A) (r : Option R)
-        → s.is_over ≡ false → MayFilter advances can t
-        → CallsFiltered gives gets advances lent s r t → Advances s r t
+    pub advances_live : (s t : LendingCompaction S F C A) (r : Option R)
+        → s.is_over ≡ false → MayLendCompacted advances can t
+        → CallsCompacted gives gets advances lent s r t → Advances s r t
     advances_live s t r live may call = record {
       may = may;
       live = λ l. call;
       ended = λ over. absurd (live_over live over);
     }
 
-    pub advances_silent : (s t : FilteredLendingCompaction S F C A) → t.shows ≡ Nothing
-        → Advances s None t → Advances s (option_map (λ y. Ok y) (lent_filtered lent t)) t
+    pub advances_silent : (s t : LendingCompaction S F C A) → t.lends ≡ Nothing
+        → Advances s None t → Advances s (option_map (λ y. Ok y) (lent_compacted lent t)) t
     advances_silent s t none goes =
-        subst (λ (r : Option R). Advances s r t) (sym (shows_nothing lent t none)) goes
+        subst (λ (r : Option R). Advances s r t) (sym (lends_nothing lent t none)) goes
 
-    pub can_filter : (s : FilteredLendingCompaction S F C A)
+    pub can_compacted : (s : LendingCompaction S F C A)
         → CanDeal advances nowhere can can s.source
-        → CanDeal Advances nowhere (MayFilter advances can) (MayFilter advances can) s
-    can_filter s may = can_by Advances nowhere (MayFilter advances can) (MayFilter advances can)
-        (MayFilter advances can) (λ u m. (m, m)) (λ u r t m step. step.may)
+        → CanDeal Advances nowhere (MayLendCompacted advances can) (MayLendCompacted advances can) s
+    can_compacted s may = can_by Advances nowhere (MayLendCompacted advances can) (MayLendCompacted advances can)
+        (MayLendCompacted advances can) (λ u m. (m, m)) (λ u r t m step. step.may)
         (λ u r t m step. absurd step) s may
