@@ -73,7 +73,6 @@ pub use lsm_readers::Verified;
 pub use lsm_readers::VerifyError;
 pub use lsm_readers::get_many;
 pub use lsm_readers::point_in;
-pub use lsm_runs::LendingBelow;
 pub use lsm_runs::LendingRunReader;
 pub use lsm_runs::LentNewestOf;
 pub use lsm_runs::LentNewestOfRunsAt;

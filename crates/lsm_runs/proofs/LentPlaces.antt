@@ -22,7 +22,7 @@ use Rattle.lsm_sorted.specs.Below.{below_of, below_told, numbered_below}
 use Rattle.lsm_lending.specs.LentNewest.{newest_results}
 use Rattle.lsm_sorted.specs.declared.below.Below.{Below}
 use Rattle.lsm_sorted.proofs.BelowLemmas.{deals_in_front}
-use Rattle.lsm_runs.specs.LentBelow.{LendsBelow, MayLendBelow}
+use Rattle.lsm_sorted.specs.LentBelow.{LendsBelow, MayLendBelow}
 use Rattle.lsm_runs.specs.LentNewestRuns.{LendsNewest, LendsResults, runs_told_within, span_told}
 use Rattle.lsm_runs.specs.LentRun.{LendingRun, RunLends}
 use Rattle.lsm_run_parts.specs.RunParts.{RunSpan}

@@ -17,7 +17,7 @@ use Rattle.lsm_sorted.specs.Below.{below_of, numbered_below}
 use Rattle.lsm_lending.specs.LentNewest.{DealsNewestEntries, DealsNewestResults}
 use Rattle.lsm_sorted.specs.declared.below.Below.{Below}
 use Rattle.lsm_sorted.proofs.BelowLemmas.{below_entries, deals_in_front}
-use Rattle.lsm_runs.specs.LentBelow.{LendsBelow, MayLendBelow}
+use Rattle.lsm_sorted.specs.LentBelow.{LendsBelow, MayLendBelow}
 use Rattle.lsm_runs.specs.LentNewestRuns.{LendsNewest}
 use Rattle.lsm_runs.specs.LentRun.{LendingRun, LendsOfAtMost, RunLends}
 use Rattle.lsm_runs.specs.RunLists.{DealTogether, DealsList}

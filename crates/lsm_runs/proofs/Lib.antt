@@ -19,7 +19,6 @@ pub mod Spanned
 pub mod Shares
 pub mod LentRuns
 pub mod LentRunLaws
-pub mod LentBelows
 pub mod MergeOrder
 pub mod LentTogether
 pub mod LentPlaces

@@ -4,7 +4,6 @@ pub mod RunScan
 pub mod SeveralRuns
 pub mod SpansRead
 pub mod LentRun
-pub mod LentBelow
 pub mod LentNewestRuns
 pub mod Words
 pub use Rattle.lsm_run_parts.specs.RunParts

@@ -40,6 +40,6 @@ pub use Rattle.lsm_runs.specs.LentRun.{Stands, lending_run}
 pub use Rattle.lsm_runs.specs.LentRun.{OpensNext, lent_of_reader, lent_of_tables, over_run}
 pub use Rattle.lsm_runs.specs.LentRun.{range_of_reader}
 pub use Rattle.lsm_runs.specs.LentRun.{unlent_run, walk_of_tables}
-pub use Rattle.lsm_runs.specs.LentBelow.{LendsBelow, MayLendBelow, lent_below, lent_passes}
-pub use Rattle.lsm_runs.specs.LentBelow.{only_below}
+pub use Rattle.lsm_sorted.specs.LentBelow.{LendsBelow, MayLendBelow, lent_below, lent_passes}
+pub use Rattle.lsm_sorted.specs.LentBelow.{only_below}
 pub use Rattle.lsm_runs.specs.LentNewestRuns.{LendsNewest, LendsResults, runs_told_within}

@@ -11,12 +11,12 @@ ghost use Rattle.lsm_runs.specs.Words.{newest, newest_results, nowhere, numbered
 ghost use Rattle.lsm_runs.specs.Words.{overlap_indexes, range_of, runs_told_within, span_of};
 ghost use Rattle.lsm_runs.specs.Words.{spans_within, union_in, within};
 
-use crate::lending_below::each_lending_below;
-use crate::{LendingBelow, LendingRunReader};
+use crate::LendingRunReader;
 use lsm_lending::{LendingMerger, LendingNewest};
 use lsm_ranges::Run;
 use lsm_readers::Table;
 use lsm_run_parts::share;
+use lsm_sorted::{Below, each_below};
 use sst_blocks::{Error, Lending, SeqNo, UserKey};
 use std::alloc::Allocator;
 use std::ops::Bound;
@@ -27,7 +27,7 @@ pub type LentNewestOf<L, A> = LendingNewest<LendingMerger<L, A>, A>;
 
 /// The newest version of each key of several runs that is numbered below a bound, lent: what
 /// [`lend_runs_at`] gives.
-pub type LentNewestOfRunsAt<A> = LentNewestOf<LendingBelow<LendingRunReader<A>>, A>;
+pub type LentNewestOfRunsAt<A> = LentNewestOf<Below<LendingRunReader<A>>, A>;
 
 // The lending reader of a run within both bounds, where a table's range reaches past them.
 fn lender_of<A: Allocator + Clone>(
@@ -126,7 +126,7 @@ pub fn lend_runs_at<A: Allocator + Clone>(
     runs: &[Arc<Run<Table<A>, A>, A>],
     range: (Bound<UserKey<A>>, Bound<UserKey<A>>),
     seqno: SeqNo,
-) -> Result<LentNewestOf<LendingBelow<LendingRunReader<A>>, A>, Error>
+) -> Result<LentNewestOf<Below<LendingRunReader<A>>, A>, Error>
     // Nothing is lent yet.
     ensures none { IfOk result (λ s. ⟦<LentNewestOfRunsAt<A> as Lending>⟧.lent s ≡ None) }
     // Of tables of lists in runs in order it lends what is newest of the sorted entries of all
@@ -159,6 +159,6 @@ pub fn lend_runs_at<A: Allocator + Clone>(
     ensures err { IfErr result (λ e. e ≡ OutOfMemory) }
 {
     let lenders = lenders_within(alloc.clone()?, runs, range)?;
-    let below = each_lending_below(alloc.clone()?, lenders, seqno)?;
+    let below = each_below(alloc.clone()?, lenders, seqno)?;
     lent_stream(alloc, below)
 }

@@ -1,7 +1,6 @@
 //! Reading runs of tables: one run from both ends or in one pass, and several runs as one.
 #![tactic(auto)]
 
-mod lending_below;
 mod lending_reader;
 mod lent_runs;
 mod run_reader;
@@ -9,7 +8,6 @@ mod run_scanner;
 mod runs;
 mod sources;
 
-pub use lending_below::{LendingBelow, each_lending_below};
 pub use lending_reader::LendingRunReader;
 pub use lent_runs::{LentNewestOf, LentNewestOfRunsAt, lend_runs_at};
 pub use lsm_run_parts::share;

@@ -8,6 +8,7 @@ pub mod NewestLemmas
 pub mod HeardLemmas
 pub mod MvccRuns
 pub mod BelowLemmas
+pub mod LentBelows
 pub mod GapLemmas
 pub mod NewestPast
 pub mod OutsLemmas

@@ -1,4 +1,5 @@
 pub mod Below
+pub mod LentBelow
 pub mod Outlook
 pub mod Hears
 pub mod Peeked

@@ -1,13 +1,16 @@
 //! The entries of a source that are numbered below a bound.
-ghost use Rattle.std.specs.Prelude.{◌≡◌, IfErr, IfOk, map, nat_lt};
+ghost use Rattle.std.specs.Prelude.{◌≡◌, IfErr, IfOk, None, OnErr, is_some, map, nat_lt};
 ghost use Rattle.std.specs.Iterator.{IsFinite};
-ghost use Rattle.sst_entries.specs.Stream.{CanDeal, nowhere};
+ghost use Rattle.sst_entries.specs.Lending.{came};
+ghost use Rattle.sst_entries.specs.Stream.{CanDeal, Lowers, nowhere};
 ghost use Rattle.sst_entries.specs.declared.error.Error.TheVariants.{OutOfMemory};
 ghost use Rattle.lsm_sorted.specs.Mvcc.{CanStep};
 ghost use Rattle.lsm_sorted.specs.Below.{DealsBelow, GivesBelow, MayAsk, below_of};
+ghost use Rattle.lsm_sorted.specs.LentBelow.{LendsBelow, MayLendBelow, lent_below, lent_passes};
+ghost use Rattle.lsm_sorted.specs.LentBelow.{only_below};
 
 use crate::give_up::give_up;
-use sst_entries::{Error, InternalValue, IterItem, SeqNo};
+use sst_entries::{EntryRef, Error, InternalValue, IterItem, Lending, SeqNo};
 use std::alloc::Allocator;
 
 // Whether an entry is numbered below the bound.
@@ -17,8 +20,9 @@ fn is_below<A: Allocator>(entry: &InternalValue<A>, seqno: SeqNo) -> bool
     entry.key.seqno < seqno
 }
 
-/// Of what a source gives the entries numbered below a bound, and its errors. It has the ends that
-/// the source has. A step lets go of the entries before the one that it gives. Nothing is refused.
+/// Yields the entries of a source that are numbered below a bound, and the source's errors. It has
+/// the ends that the source has, and lends where the source lends. A step drops the entries before
+/// the one that it yields. No error is its own.
 #[derive(Drop)]
 pub struct Below<I> {
     iter: I,
@@ -69,8 +73,87 @@ impl<I: DoubleEndedIterator<Item = IterItem<A>>, A: Allocator> Below<I> {
     {}
 }
 
-/// Each of several sources below one bound. Refused [`Error::OutOfMemory`] alone.
-pub fn each_below<I: Iterator<Item = IterItem<A>>, A: Allocator>(
+// Whether the entry that a source lends is numbered below a bound.
+#[inline]
+fn is_low<L: Lending>(source: &L, seqno: SeqNo) -> bool
+    ensures { result ≡ lent_passes seqno (L.lent source.now) }
+{
+    match source.entry() {
+        Some(entry) => entry.seqno < seqno,
+        None => true,
+    }
+}
+
+// Goes on to the next entry of a source that is numbered below a bound.
+#[inline]
+fn advance_below<L: Lending>(source: &mut L, seqno: SeqNo) -> Result<bool, Error>
+    requires { CanDeal L.advances nowhere L.can_advance L.can_advance source.old }
+    ensures goes { LendsBelow L.advances L.can_advance L.left (below_of seqno source.old)
+        (came result (L.lent source.new)) (below_of seqno source.new) }
+    ensures more { IfOk result (λ more. more ≡ is_some (L.lent source.new)) }
+    ensures err { OnErr result (L.lent source.new ≡ None) }
+    ensures low { only_below seqno (L.lent source.new) ≡ L.lent source.new }
+    ensures lowers { Lowers (came result (L.lent source.new)) (L.left source.old)
+        (L.left source.new) }
+{
+    while source.advance()? {
+        if is_low(source, seqno) {
+            return Ok(true);
+        }
+    }
+    Ok(false)
+}
+
+impl<L: Lending> Below<L> {
+    /// The entries of a source that lends, numbered below `seqno`. The source is not advanced yet.
+    pub fn lending(source: L, seqno: SeqNo) -> Self
+        ensures of { result ≡ below_of seqno source }
+        // The entry that the source lends already is lent on if it is numbered below the bound. So
+        // no other entry is ever lent.
+        ensures lent { ⟦<Below<L> as Lending>⟧.lent result ≡ only_below seqno (L.lent source) }
+        // Of any list, up to an error that stops the source: the entries numbered below the bound,
+        // and the errors.
+        ensures deals { DealsBelow L.advances nowhere source seqno
+            ⟦<Below<L> as Lending>⟧.advances nowhere result }
+        // It can be advanced as often as the source can.
+        ensures can { CanDeal L.advances nowhere L.can_advance L.can_advance source →
+            CanDeal ⟦<Below<L> as Lending>⟧.advances nowhere
+            ⟦<Below<L> as Lending>⟧.can_advance ⟦<Below<L> as Lending>⟧.can_advance result }
+        ensures advance { CanDeal L.advances nowhere L.can_advance L.can_advance source →
+            ⟦<Below<L> as Lending>⟧.can_advance result }
+    {
+        Below {
+            iter: source,
+            seqno,
+        }
+    }
+}
+
+impl<L: Lending> Lending for Below<L> {
+    ghost can_advance = { MayLendBelow L.advances L.can_advance L.left };
+
+    ghost advances = { LendsBelow L.advances L.can_advance L.left };
+
+    ghost lent = { lent_below L.lent };
+
+    ghost left = { λ b. L.left b.iter };
+
+    #[inline]
+    fn advance(&mut self) -> Result<bool, Error> {
+        advance_below(&mut self.iter, self.seqno)
+    }
+
+    #[inline(always)]
+    fn entry(&self) -> Option<EntryRef<'_>> {
+        match self.iter.entry() {
+            Some(entry) if entry.seqno < self.seqno => Some(entry),
+            _ => None,
+        }
+    }
+}
+
+/// Each of several sources below one bound. The only error is [`Error::OutOfMemory`].
+pub fn each_below<I: Drop, A: Allocator>(
     alloc: A,
     iterators: Vec<I, A>,
     seqno: SeqNo,

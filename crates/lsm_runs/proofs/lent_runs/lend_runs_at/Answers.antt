@@ -4,7 +4,7 @@ use Rattle.sst_entries.proofs.StreamLemmas.{can_now}
 use Rattle.lsm_ranges.proofs.PackLemmas.{if_ok}
 use Rattle.lsm_runs.specs.LentRun.{RunLends}
 use Rattle.lsm_runs.specs.RunRange.{run_size}
-use Rattle.lsm_runs.proofs.LentBelows.{can_lend_below}
+use Rattle.lsm_sorted.proofs.LentBelows.{can_lend_below}
 use Rattle.lsm_runs.proofs.LentPlaces.{newest_places}
 use Rattle.lsm_runs.proofs.LentRunLaws.{lending_deals}
 use Rattle.lsm_runs.proofs.LentTogether.{newest_below}

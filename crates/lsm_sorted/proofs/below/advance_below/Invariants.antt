@@ -1,7 +1,7 @@
 use Rattle.std.proofs.Common.{◌≤◌}
 use Rattle.sst_entries.specs.Stream.{CanDeal, nowhere}
 use Rattle.lsm_sorted.specs.Below.{LetsGo}
-use Rattle.lsm_runs.proofs.lending_below.advance_below.Given as goal
+use Rattle.lsm_sorted.proofs.below.advance_below.Given as goal
 
 abbrev pub invariant-loop-source : goal.invariant-loop-source
 invariant-loop-source g l =

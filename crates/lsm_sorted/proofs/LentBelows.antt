@@ -1,7 +1,6 @@
 -- Of a source that lends the entries below a bound: one step, and what is dealt of a list.
-use Rattle.std.proofs.Common.{◌≡◌, ℕ, ◌<◌, ◌≤◌, Bool, true, false, refl, sym, ap, subst, ◌∙◌, arith}
+use Rattle.std.proofs.Common.{◌≡◌, ℕ, ◌<◌, ◌≤◌, true, false, refl, subst, arith}
 use Rattle.std.specs.Prelude.{Option, Some, None, Ok, Err, MatchOption, is_some}
-use Rattle.std.specs.Iterator.{at_most}
 use Rattle.std.specs.Option.{option_map}
 use Rattle.sst_entries.specs.declared.error.Error.{Error}
 use Rattle.sst_entries.specs.Entry.{Entry}
@@ -11,7 +10,7 @@ use Rattle.lsm_merge.specs.Ends.{R}
 use Rattle.lsm_sorted.specs.Below.{LetsGo, below_of, passes}
 use Rattle.lsm_sorted.specs.declared.below.Below.{Below}
 use Rattle.lsm_sorted.proofs.BelowLemmas.{more_gone}
-use Rattle.lsm_runs.specs.LentBelow.{LendsBelow, MayLendBelow, lent_passes}
+use Rattle.lsm_sorted.specs.LentBelow.{LendsBelow, MayLendBelow, lent_passes}
 
 abbrev given : Option Entry → Option R
 given l = option_map (λ e. Ok e) l

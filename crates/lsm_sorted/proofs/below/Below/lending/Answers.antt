@@ -2,8 +2,8 @@ use Rattle.std.proofs.Common.{refl}
 use Rattle.sst_entries.proofs.StreamLemmas.{can_now}
 use Rattle.lsm_sorted.proofs.BelowLemmas.{deals_in_front}
 use Rattle.lsm_sorted.specs.Below.{below_of}
-use Rattle.lsm_runs.proofs.LentBelows.{can_lend_below}
-use Rattle.lsm_runs.proofs.lending_below.LendingBelow.new.Goals as goal
+use Rattle.lsm_sorted.proofs.LentBelows.{can_lend_below}
+use Rattle.lsm_sorted.proofs.below.Below.lending.Goals as goal
 
 pub returns-clause-deals : goal.returns-clause-deals
 returns-clause-deals g c = deals_in_front g.L.Lending.advances _ c.args.source c.args.seqno _ refl

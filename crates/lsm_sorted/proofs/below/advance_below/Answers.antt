@@ -1,11 +1,10 @@
-use Rattle.std.proofs.Common.{sym, ◌∙◌, arith, refl}
-use Rattle.std.specs.Prelude.{Err}
+use Rattle.std.proofs.Common.{sym, ◌∙◌, arith}
 use Rattle.std.proofs.lemmas.Result.{err_from_is_err_and}
 use Rattle.sst_entries.specs.Stream.{nowhere}
 use Rattle.sst_entries.proofs.StreamLemmas.{can_front, can_now}
-use Rattle.lsm_runs.proofs.LentBelows.{below_entry, below_error, below_none, lowers_fewer, passed_fewer, passed_over}
+use Rattle.lsm_sorted.proofs.LentBelows.{below_entry, below_error, below_none, lowers_fewer, passed_fewer, passed_over}
 use Rattle.lsm_sorted.proofs.BelowLemmas.{none_gone}
-use Rattle.lsm_runs.proofs.lending_below.advance_below.Goals as goal
+use Rattle.lsm_sorted.proofs.below.advance_below.Goals as goal
 
 pub loop-source-init : goal.loop-source-init
 loop-source-init g c = record { asks = c.requires; before = none_gone c.args.seqno g.L.Lending.advances c.args.source.now; fewer = omega arith }
