@@ -9,6 +9,7 @@ pub mod Building
 pub mod CutLaws
 pub mod RisingLaws
 pub mod Holding
+pub mod Sizes
 pub mod Sections
 pub mod Emptiness
 pub mod SmallParts

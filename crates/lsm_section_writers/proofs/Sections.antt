@@ -1,7 +1,7 @@
 -- The sections of a filter, behind what was written before.
 use Rattle.std.proofs.Common.{◌≡◌, refl, ◌∙◌, ap, sym, subst, ℕ, ◌+◌, ◌-◌, ◌^◌, ◌<◌, ◌≤◌, All, List}
 use Rattle.std.proofs.Common.{[], ◌∷◌, ◌++◌, length, take, append_assoc, length-append, arith}
-use Rattle.std.specs.Prelude.{map, min, nat_le, sum_by, Bool, true, false, Option, Some, None}
+use Rattle.std.specs.Prelude.{map, min, sum_by, Bool, true, false, Option, Some, None}
 use Rattle.std.specs.Prelude.{Result, Ok, Err, OnOk, IfOk, IsErrAnd, if◌then◌else◌}
 use Rattle.std.specs.List.{AllByRecursion, flat_map}
 use Rattle.std.proofs.lemmas.List.{append-nil, length-map, length-take, map-append, map-id}
@@ -20,16 +20,15 @@ use Rattle.sst_blocks.specs.declared.block_type.BlockType.TheVariants.{Filter, I
 use Rattle.sst_blocks.specs.Block.{block_bytes}
 use Rattle.sst_blocks.specs.Handle.{Handle}
 use Rattle.sst_blocks.specs.Handles.{AreStrictHandles, end_of, handles_payload}
-use Rattle.sst_blocks.specs.Bounds.{capped, handle_bound}
+use Rattle.sst_blocks.specs.Bounds.{handle_bound}
 use Rattle.sst_blocks.specs.Encoding.{handles_fault, is_long_key, key_fault}
 use Rattle.sst_entries.specs.Entry.{Entry}
-use Rattle.sst_entries.specs.Error.{Faults, is_memory}
+use Rattle.sst_entries.specs.Error.{Faults, FaultsFirst, is_memory}
 use Rattle.sst_entries.proofs.Refusals.{faults_refusal}
 use Rattle.sst_entries.specs.Strict.{IsStrict}
 use Rattle.sst_entries.specs.declared.error.Error.{Error}
 use Rattle.sst_entries.specs.declared.error.Error.TheVariants.{KeyTooLong, SectionTooLarge}
 use Rattle.sst_entries.specs.declared.error.Error.TheVariants.{WriterFailed}
-use Rattle.std.proofs.lemmas.Bool.Decides.{nat_tests}
 use Rattle.std.proofs.lemmas.Bool.{lt-leb}
 use Rattle.std.specs.Option.{option_or}
 use Rattle.lsm_formats.specs.Failed.{failed_fault}
@@ -51,9 +50,10 @@ use Rattle.lsm_section_writers.specs.Held.{AreFiltersOf, CutPart, CutParts, end_
 use Rattle.lsm_section_writers.specs.Held.{Hashes, HoldsAll, HoldsHashes, partition_of}
 use Rattle.lsm_formats.specs.Failed.{section_fault}
 use Rattle.lsm_section_writers.specs.FilterRefusing.{end_handle, given_fault, key_parts_bound}
-use Rattle.lsm_section_writers.specs.FilterRefusing.{keys_fault, top_fault}
+use Rattle.lsm_section_writers.specs.FilterRefusing.{keys_fault, size_fault, top_fault}
 use Rattle.lsm_section_writers.specs.Writing.{part_sections, tops_block, tops_of, WritesParts}
 use Rattle.lsm_section_writers.proofs.Behind.{front_begun, section_behind, section_more}
+use Rattle.lsm_section_writers.proofs.Sizes.{first_works, sizes_short}
 
 -- no section, and one, and two
 pub appended_none : (w : Written) → w ≡ appended w []
@@ -229,28 +229,45 @@ full_written (Ok n) policy hashes w before after same held writes = λ given h.
 full_written (Err e) policy hashes w before after same held writes = tt
 
 -- and what it refuses
+pub full_told : (policy : BloomConstructionPolicy) (hashes : List ℕ) (w : Hashes)
+    (given : GivenKeys) → policy ≡ w.policy → hashes ≡ w.hashes → (w.hashes ≡ [] → ⊥)
+    → HoldsHashes w given →
+    keys_fault w.policy given.pending ≡ fault_for (tenths_of policy) (length hashes)
+full_told policy hashes w given same held some h =
+    let count : length given.pending ≡ length hashes =
+    sym (ap length (held ∙ h.hashes) ∙ length-map given.pending hash_of) in
+    fault_of w.policy given.pending (λ none. some
+    (h.hashes ∙ ap (λ (ks : List (List ℕ)). map hash_of ks) none))
+    ∙ ap (λ (p : BloomConstructionPolicy). fault_for (tenths_of p) (length given.pending))
+    (sym same)
+    ∙ ap (λ (n : ℕ). fault_for (tenths_of policy) n) count
+  where
+    fault_of : (policy : BloomConstructionPolicy) (ks : List (List ℕ)) → (ks ≡ [] → ⊥)
+        → keys_fault policy ks ≡ fault_for (tenths_of policy) (length ks)
+    fault_of policy [] some = absurd (some refl)
+    fault_of policy (k ∷ ks) some = refl
+
 pub full_fault : (r : Result ℕ Error) (policy : BloomConstructionPolicy) (hashes : List ℕ)
     (w : Hashes) (given : GivenKeys) → policy ≡ w.policy → hashes ≡ w.hashes →
     (w.hashes ≡ [] → ⊥) → w.failed ≡ false → HoldsHashes w given
     → Faults r (fault_for (tenths_of policy) (length hashes)) →
     Faults r (option_or (failed_fault w.failed) (given_fault Full w.policy given))
 full_fault r policy hashes w given same held some works h fault =
-    let count : length given.pending ≡ length hashes =
-    sym (ap length (held ∙ h.hashes) ∙ length-map given.pending hash_of) in
     let told : option_or (failed_fault w.failed) (given_fault Full w.policy given)
     ≡ fault_for (tenths_of policy) (length hashes) =
     ap (λ (b : Bool). option_or (failed_fault b) (keys_fault w.policy given.pending)) works
-    ∙ fault_of w.policy given.pending (λ none. some
-    (h.hashes ∙ ap (λ (ks : List (List ℕ)). map hash_of ks) none))
-    ∙ ap (λ (p : BloomConstructionPolicy). fault_for (tenths_of p) (length given.pending))
-    (sym same)
-    ∙ ap (λ (n : ℕ). fault_for (tenths_of policy) n) count in
+    ∙ full_told policy hashes w given same held some h in
     subst (λ x. Faults r x) (sym told) fault
-  where
-    fault_of : (policy : BloomConstructionPolicy) (ks : List (List ℕ)) → (ks ≡ [] → ⊥)
-        → keys_fault policy ks ≡ fault_for (tenths_of policy) (length ks)
-    fault_of policy [] some = absurd (some refl)
-    fault_of policy (k ∷ ks) some = refl
+
+-- a filter that is too large is found first
+pub full_first : (r : Result ℕ Error) (policy : BloomConstructionPolicy) (hashes : List ℕ)
+    (w : Hashes) (given : GivenKeys) → policy ≡ w.policy → hashes ≡ w.hashes →
+    (w.hashes ≡ [] → ⊥) → w.failed ≡ false → HoldsHashes w given
+    → FaultsFirst r (fault_for (tenths_of policy) (length hashes)) →
+    FaultsFirst r (option_or (failed_fault w.failed) (size_fault Full w.policy given))
+full_first r policy hashes w given same held some works h first =
+    first_works r w.failed _ works (subst (λ x. FaultsFirst r x)
+    (sym (full_told policy hashes w given same held some h)) first)
 
 pub full_none_fault : (w : Hashes) (given : GivenKeys) → w.failed ≡ false → w.hashes ≡ []
     → HoldsHashes w given →
@@ -368,18 +385,14 @@ some_parts size policy given (c ∷ cs) before after n full are ends some lt e f
     counted cs = lengths (c ∷ cs)
 
 pub parts_write : (v : CutParts) (given : GivenKeys) (before after : Written) (n : ℕ)
-    → HoldsAll v given → (v.parts ≡ [] → ⊥) → v.bound < 2 ^ 32 →
+    → HoldsAll v given → (v.parts ≡ [] → ⊥)
+    → key_parts_bound (key_parts_of v.policy given) < 2 ^ 32 →
     after ≡ appended before (part_sections (length before.bytes) v.parts)
     → SectionFits (FilterTli, tops_block (length before.bytes) v.parts) → n ≡ length v.parts →
     WritesParts (Partitioned v.size) v.policy given before after n
 parts_write v given before after n h some lt e fits count =
-    let small : key_parts_bound (key_parts_of v.policy given) < 2 ^ 32 =
-    uncapped _ (subst (λ (x : ℕ). x < 2 ^ 32) h.bound lt) in
-    some_parts v.size v.policy given v.parts before after n h.some h.filters h.ends some small e
-    fits count
-  where
-    uncapped : (s : ℕ) → capped s < 2 ^ 32 → s < 2 ^ 32
-    uncapped s lt = omega (arith, lt)
+    some_parts v.size v.policy given v.parts before after n h.some h.filters h.ends some lt e fits
+    count
 
 -- writing the parts, one behind another
 pub record PartsWritten (before now : Written) (cs : List CutPart) (hs : List Handle) : Type 0 where
@@ -568,17 +581,17 @@ length_tops at (c ∷ cs) = omega (arith, length_tops (at + (24 + length (payloa
 
 -- what finishing does with the parts that are cut then
 pub finish_writes : (v : CutParts) (size : ℕ) (policy : BloomConstructionPolicy) (cs : List CutPart)
-    (b : ℕ) (given : GivenKeys) (before after : Written) (n : ℕ) →
-    HoldsAll v given → v.policy ≡ policy → v.size ≡ size → cs ≡ v.parts → b ≡ v.bound
-    → (cs ≡ [] → ⊥) → b < 2 ^ 32 →
+    (given : GivenKeys) (before after : Written) (n : ℕ) →
+    HoldsAll v given → v.policy ≡ policy → v.size ≡ size → cs ≡ v.parts → (cs ≡ [] → ⊥)
+    → size_fault (Partitioned size) policy given ≡ None →
     after ≡ appended before (part_sections (length before.bytes) cs)
     → SectionFits (FilterTli, tops_block (length before.bytes) cs) → n ≡ length cs →
     WritesParts (Partitioned size) policy given before after n
-finish_writes v size policy cs b given before after n h same same' parts bound some lt e fits
-    count =
+finish_writes v size policy cs given before after n h same same' parts some fine e fits count =
+    let short : key_parts_bound (key_parts_of v.policy given) < 2 ^ 32 = rw same
+    (sizes_short size policy given fine) in
     let whole : WritesParts (Partitioned v.size) v.policy given before after n =
-    parts_write v given before after n h (λ none. some (parts ∙ none))
-    (subst (λ (x : ℕ). x < 2 ^ 32) bound lt)
+    parts_write v given before after n h (λ none. some (parts ∙ none)) short
     (e ∙ ap (λ ps. appended before (part_sections (length before.bytes) ps)) parts)
     (subst (λ ps. SectionFits (FilterTli, tops_block (length before.bytes) ps)) parts fits)
     (count ∙ ap (λ (ps : List CutPart). length ps) parts) in
@@ -625,54 +638,23 @@ pub rest_refused : {X : Type 0} (r : Result X Error) (e : Error) (size : ℕ)
 rest_refused r e size policy given failed is works fault =
     faults_refusal r e _ is (λ m. rw (works, fault m) refl)
 
--- their section, where it is too large
-pub finish_large : (v : CutParts) (size : ℕ) (policy : BloomConstructionPolicy) (b : ℕ)
-    (given : GivenKeys) (failed : Bool) →
-    failed ≡ false → keys_fault policy given.pending ≡ None → HoldsAll v given → v.policy ≡ policy
-    → v.size ≡ size → b ≡ v.bound → 2 ^ 32 ≤ b →
-    option_or (failed_fault failed) (given_fault (Partitioned size) policy given)
-    ≡ Some SectionTooLarge
-finish_large v size policy b given failed works rest h same same' bound le =
-    let ps = key_parts_of policy given in
-    let sum : b ≡ capped (key_parts_bound ps) = bound ∙ rw same at h.bound in
-    rw (
-      works,
-      rest,
-      section_large (key_parts_bound ps)
-          (reached (key_parts_bound ps) (subst (λ (x : ℕ). 2 ^ 32 ≤ x) sum le)),
-    ) refl
-  where
-    reached : (s : ℕ) → 2 ^ 32 ≤ capped s → 2 ^ 32 ≤ s
-    reached s le = omega (arith, le)
-
-    section_large : (n : ℕ) → 2 ^ 32 ≤ n → section_fault n ≡ Some SectionTooLarge
-    section_large n le = ap (λ (b : Bool). if b then Some SectionTooLarge else None) (large n le)
-      where
-        large : (n : ℕ) → 2 ^ 32 ≤ n → nat_le (2 ^ 32) n ≡ true
-        large n le = grind (arith, nat_tests, le)
-
 -- the top level, where the section fits
 section_fits : (n : ℕ) → n < 2 ^ 32 → section_fault n ≡ None
 section_fits n lt = ap (λ (b : Bool). if b then Some SectionTooLarge else None)
     (lt-leb (2 ^ 32) n lt)
 
 pub finish_told : (v : CutParts) (size : ℕ) (policy : BloomConstructionPolicy) (cs : List CutPart)
-    (b : ℕ) (given : GivenKeys) (failed : Bool) →
+    (given : GivenKeys) (failed : Bool) →
     failed ≡ false → keys_fault policy given.pending ≡ None → HoldsAll v given → v.policy ≡ policy
-    → v.size ≡ size → cs ≡ v.parts → b ≡ v.bound → b < 2 ^ 32 →
+    → v.size ≡ size → cs ≡ v.parts → size_fault (Partitioned size) policy given ≡ None →
     option_or (failed_fault failed) (given_fault (Partitioned size) policy given)
     ≡ top_fault (end_keys cs)
-finish_told v size policy cs b given failed works rest h same same' parts bound lt =
+finish_told v size policy cs given failed works rest h same same' parts fine =
     let ps = key_parts_of policy given in
     let ends : end_keys cs ≡ map last_of_keys (keys_in ps) =
     ap (λ (x : List CutPart). end_keys x) parts ∙ rw same at h.ends in
-    let sum : b ≡ capped (key_parts_bound ps) = bound ∙ rw same at h.bound in
-    let small : key_parts_bound ps < 2 ^ 32 = uncapped (key_parts_bound ps)
-    (subst (λ (x : ℕ). x < 2 ^ 32) sum lt) in
-    rw (works, rest, section_fits (key_parts_bound ps) small, ends) refl
-  where
-    uncapped : (s : ℕ) → capped s < 2 ^ 32 → s < 2 ^ 32
-    uncapped s lt = omega (arith, lt)
+    let short = section_fits (key_parts_bound ps) (sizes_short size policy given fine) in
+    rw (works, rest, short, ends) refl
 
 -- of a call that answers how many blocks it wrote
 pub written_blocks : (r : Result ℕ Error) (P Q : Type 0) (R S : ℕ → Type 0) → OnOk r P → OnOk r Q

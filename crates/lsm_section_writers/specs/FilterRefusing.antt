@@ -55,6 +55,14 @@ end_handle key = record { end_key = key; seqno = 0; offset = 0; size = 0 }
 abbrev pub top_fault : List (List ℕ) → Option Error
 top_fault ends = handles_fault (map end_handle ends)
 
+-- what is too large by the number of keys alone: the filter of what is pending; then, of
+-- partitions, the section of all parts
+abbrev pub size_fault : FilterKind → BloomConstructionPolicy → GivenKeys → Option Error
+size_fault Full policy given = keys_fault policy given.pending
+size_fault (Partitioned size) policy given =
+    option_or (keys_fault policy given.pending)
+    (section_fault (key_parts_bound (key_parts_of policy given)))
+
 -- what finishing a filter of these keys refuses, all given under one kind and one policy: the
 -- filter of all of them; or that of the rest, then the section of all parts, then the top level
 abbrev pub filter_fault : FilterKind → BloomConstructionPolicy → List (List ℕ) → Option Error

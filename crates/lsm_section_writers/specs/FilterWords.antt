@@ -1,5 +1,5 @@
 -- The words of clauses, from one place.
-pub use Rattle.sst_entries.specs.Error.{Faults, FaultsFirst}
+pub use Rattle.sst_entries.specs.Error.{Faults, FaultsFirst, Refuses}
 pub use Rattle.sst_filters.specs.KeyHash.{hash_of}
 pub use Rattle.sst_sections.specs.Sections.{slot_index}
 pub use Rattle.sst_filters.specs.Filter.{payload_of}
@@ -13,11 +13,13 @@ pub use Rattle.lsm_formats.specs.Fits.{SectionFits}
 pub use Rattle.lsm_formats.specs.Layout.{appended}
 pub use Rattle.lsm_formats.specs.Partitions.{handles_block}
 pub use Rattle.lsm_section_writers.specs.Answering.{IsAdmitted, was_given}
-pub use Rattle.lsm_section_writers.specs.Given.{GivenKeys, all_keys, given_by, no_keys, with_key}
+pub use Rattle.lsm_section_writers.specs.Given.{GivenKeys, all_keys, given_by, no_keys, rest_keys}
+pub use Rattle.lsm_section_writers.specs.Given.{with_key}
 pub use Rattle.lsm_section_writers.specs.Held.{Cuts, HoldsAll, HoldsHashes, HoldsParts}
 pub use Rattle.lsm_section_writers.specs.Held.{end_keys, filters_of, partition_of}
 pub use Rattle.lsm_section_writers.specs.FilterRefusing.{filter_fault, given_fault, keys_fault}
-pub use Rattle.lsm_section_writers.specs.FilterRefusing.{partition_size, register_fault, top_fault}
+pub use Rattle.lsm_section_writers.specs.FilterRefusing.{key_parts_bound, partition_size}
+pub use Rattle.lsm_section_writers.specs.FilterRefusing.{register_fault, size_fault, top_fault}
 pub use Rattle.lsm_section_writers.specs.Rising.{AreRising}
 pub use Rattle.lsm_section_writers.specs.Writing.{WritesFilter, WritesParts}
 pub use Rattle.lsm_section_writers.specs.Writing.{part_sections, tops_block, tops_of}

@@ -1,13 +1,13 @@
 //! Building the filter of some keys.
 ghost use Rattle.std.specs.Prelude.{◌≡◌, ℕ, List, length, map, IfOk};
-ghost use Rattle.lsm_section_writers.specs.FilterWords.{Faults, IsFilterFor, fault_for, hash_of};
-ghost use Rattle.lsm_section_writers.specs.FilterWords.{tenths_of};
+ghost use Rattle.lsm_section_writers.specs.FilterWords.{Faults, FaultsFirst, IsFilterFor};
+ghost use Rattle.lsm_section_writers.specs.FilterWords.{fault_for, hash_of, tenths_of};
 
-use sst_blocks::{BloomConstructionPolicy, Builder, Error};
+use sst_blocks::{BloomConstructionPolicy, Builder, Error, filter_bound};
 use std::alloc::Allocator;
 
-/// The filter of the keys whose hashes are in a buffer, by the buffer's allocator. Refused as
-/// [`build_filter`] is.
+/// The filter of the keys whose hashes are in a buffer, by the buffer's allocator. Fails as
+/// [`build_filter`] does. Its size is tested before the allocator is cloned.
 pub(crate) fn build_from_buffer<A: Allocator + Clone>(
     policy: &BloomConstructionPolicy,
     hashes: &Vec<u64, A>,
@@ -16,7 +16,12 @@ pub(crate) fn build_from_buffer<A: Allocator + Clone>(
         hashes.now.items ≡ map hash_of keys → IsFilterFor policy.now keys f) }
     ensures refused { let n = length hashes.now.items in
         Faults result (fault_for (tenths_of policy.now) n) }
+    ensures first { let n = length hashes.now.items in
+        FaultsFirst result (fault_for (tenths_of policy.now) n) }
 {
+    if filter_bound(policy, hashes.len()) > u64::from(u32::MAX) {
+        return Err(Error::BlockTooLarge);
+    }
     build_filter(hashes.allocator().clone()?, policy, hashes)
 }
 

@@ -1,7 +1,7 @@
 //! The writer of a full filter.
 ghost use Rattle.std.specs.Prelude.{◌≡◌, ℕ, List, [], false, length, map, take, IfOk};
-ghost use Rattle.lsm_section_writers.specs.FilterWords.{Faults, HasNoFilter, HoldsHashes};
-ghost use Rattle.lsm_section_writers.specs.FilterWords.{WritesParts};
+ghost use Rattle.lsm_section_writers.specs.FilterWords.{Faults, FaultsFirst, HasNoFilter};
+ghost use Rattle.lsm_section_writers.specs.FilterWords.{HoldsHashes, WritesParts};
 ghost use Rattle.lsm_section_writers.specs.FilterWords.{fault_for, hash_of, given_by, no_keys};
 ghost use Rattle.lsm_section_writers.specs.FilterWords.{tenths_of};
 ghost use Rattle.lsm_formats.specs.declared.options.FilterKind.TheVariants.{Full};
@@ -100,8 +100,9 @@ impl<A: Allocator + Clone> FilterWriter<A> for FullFilterWriter<A> {
     }
 }
 
-/// Writes the section of the filter of the keys of these hashes, and answers how many blocks it
-/// has. Refused [`Error::BlockTooLarge`] where the filter is too large, and [`Error::OutOfMemory`].
+/// Writes the section of the filter of the keys of these hashes, and returns how many blocks it
+/// has. Fails with [`Error::BlockTooLarge`] if the filter is too large, before any memory is taken,
+/// and with [`Error::OutOfMemory`].
 fn write_filter<A: Allocator + Clone>(
     writer: &mut SectionWriter<A>,
     policy: &BloomConstructionPolicy,
@@ -114,6 +115,8 @@ fn write_filter<A: Allocator + Clone>(
     ensures before { take (length writer.old.bytes) writer.new.bytes ≡ writer.old.bytes }
     ensures refused { let n = length hashes.now.items in
         Faults result (fault_for (tenths_of policy.now) n) }
+    ensures first { let n = length hashes.now.items in
+        FaultsFirst result (fault_for (tenths_of policy.now) n) }
 {
     let filter = build_from_buffer(policy, hashes)?;
     let payload = filter.build();

@@ -8,9 +8,11 @@ ghost use Rattle.lsm_section_writers.specs.FilterWords.{HoldsParts, SectionFits,
 ghost use Rattle.lsm_section_writers.specs.FilterWords.{end_keys};
 ghost use Rattle.lsm_section_writers.specs.FilterWords.{fault_for, filter_block, filters_of};
 ghost use Rattle.lsm_section_writers.specs.FilterWords.{handles_block, handles_fault, header_len};
-ghost use Rattle.lsm_section_writers.specs.FilterWords.{keys_fault, no_keys, part_sections};
-ghost use Rattle.lsm_section_writers.specs.FilterWords.{payload_of};
-ghost use Rattle.lsm_section_writers.specs.FilterWords.{register_fault, size_for, slot_index};
+ghost use Rattle.lsm_section_writers.specs.FilterWords.{Refuses, key_parts_bound, keys_fault};
+ghost use Rattle.lsm_section_writers.specs.FilterWords.{no_keys, part_sections};
+ghost use Rattle.lsm_section_writers.specs.FilterWords.{payload_of, rest_keys};
+ghost use Rattle.lsm_section_writers.specs.FilterWords.{register_fault, size_fault, size_for};
+ghost use Rattle.lsm_section_writers.specs.FilterWords.{slot_index};
 ghost use Rattle.lsm_section_writers.specs.FilterWords.{tenths_of};
 ghost use Rattle.lsm_section_writers.specs.FilterWords.{top_fault, tops_block, tops_of, with_key};
 ghost use Rattle.std.specs.List.{flat_map};
@@ -169,6 +171,32 @@ impl<A: Allocator + Clone> PartitionedFilterWriter<A> {
         }
     }
 
+    // How long the block of the pending keys is at most: 0 where there are none.
+    fn pending_bound(&self) -> u64
+        ensures { (given : GivenKeys) → HoldsParts self.now given →
+            result ≡ key_parts_bound (rest_keys self.now.policy given.pending) }
+    {
+        match self.bloom_hash_buffer.len() {
+            0 => 0,
+            n => filter_bound(&self.bloom_policy, n),
+        }
+    }
+
+    // Tests the sizes of the pending keys' filter and of the section of all parts.
+    fn check_sizes(&self) -> Result<(), Error>
+        ensures { (given : GivenKeys) → HoldsParts self.now given →
+            Refuses result (size_fault (Partitioned self.now.size) self.now.policy given) }
+    {
+        let pending = self.pending_bound();
+        if pending > u64::from(u32::MAX) {
+            return Err(Error::BlockTooLarge);
+        }
+        if self.relative_file_pos.saturating_add(pending) > u64::from(u32::MAX) {
+            return Err(Error::SectionTooLarge);
+        }
+        Ok(())
+    }
+
     // Cuts the pending keys off, where there are any.
     fn spill_rest(&mut self) -> Result<(), Error>
         ensures ok { OnOk result ((given : GivenKeys) →
@@ -217,12 +245,10 @@ impl<A: Allocator + Clone> FilterWriter<A> for PartitionedFilterWriter<A> {
         if self.failed {
             return Err(Error::WriterFailed); // nothing is written
         }
+        self.check_sizes()?;
         self.spill_rest()?;
         if self.partitions.is_empty() {
             return Ok(0);
-        }
-        if self.relative_file_pos > u64::from(u32::MAX) {
-            return Err(Error::SectionTooLarge);
         }
         write_sections(writer, self.partitions, self.compression)
     }

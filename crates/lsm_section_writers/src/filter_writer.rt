@@ -28,6 +28,7 @@ pub trait FilterWriter<A: Allocator> {
     ghost use Rattle.lsm_formats.specs.declared.options.FilterKind.{FilterKind};
     ghost use Rattle.lsm_section_writers.specs.Given.{GivenKeys, no_keys, with_key};
     ghost use Rattle.lsm_section_writers.specs.FilterRefusing.{given_fault, register_fault};
+    ghost use Rattle.lsm_section_writers.specs.FilterRefusing.{size_fault};
     ghost use Rattle.lsm_section_writers.specs.Rising.{Rises};
     ghost use Rattle.lsm_section_writers.specs.Writing.{WritesParts};
     ghost use Rattle.lsm_formats.specs.Kinds.{filter_with_size};
@@ -90,15 +91,22 @@ pub trait FilterWriter<A: Allocator> {
         // That it has failed takes no memory to find.
         ensures first { FaultsFirst result (failed_fault (has_failed self.old)) };
 
-    /// Writes the filter, and answers how many blocks are counted: 1 for a full filter, also
-    /// without keys, else how many partitions there are. Without keys it writes nothing, and takes
-    /// no memory.
+    /// Writes the filter and returns the number of blocks to count: 1 for a full filter, also
+    /// without keys, else the number of partitions. Without keys it writes nothing and takes no
+    /// memory.
     ///
-    /// Refused [`Error::WriterFailed`] where it has refused before; [`Error::BlockTooLarge`] where
-    /// the filter of all keys, or of those behind the last cut, is too large; then, of partitions
-    /// alone, [`Error::SectionTooLarge`] where their blocks are, [`Error::KeyTooLong`] where the
-    /// last key of one of them is too long for the top level, and [`Error::BlockTooLarge`] where
-    /// the top level is; and [`Error::OutOfMemory`]. The bytes that were written before stay.
+    /// # Errors
+    ///
+    /// The first of these, before any memory is taken:
+    ///
+    /// - [`Error::WriterFailed`] if an earlier call failed;
+    /// - [`Error::BlockTooLarge`] if the filter of all keys, or of those after the last cut, needs a
+    ///   block of 2^32 bytes or more;
+    /// - [`Error::SectionTooLarge`] if the blocks of all partitions add up to that.
+    ///
+    /// Then, for partitions, [`Error::KeyTooLong`] if the last key of one is too long for the top
+    /// level, and [`Error::BlockTooLarge`] if the top level is too large. Also
+    /// [`Error::OutOfMemory`]. The bytes that were written before stay.
     fn finish(self, writer: &mut SectionWriter<A>) -> Result<usize, Error>
         requires { HasNoFilter writer.old }
         ensures ok { IfOk result (λ n. (given : GivenKeys) → Holds self given →
@@ -108,6 +116,10 @@ pub trait FilterWriter<A: Allocator> {
             Faults result (option_or (failed_fault (has_failed self))
             (given_fault (kind self) (policy self) given)) }
         ensures first { FaultsFirst result (failed_fault (has_failed self)) }
+        // Sizes that the number of keys decides are tested before any memory is taken.
+        ensures sized { (given : GivenKeys) → Holds self given →
+            FaultsFirst result (option_or (failed_fault (has_failed self))
+            (size_fault (kind self) (policy self) given)) }
         // Without keys, only a writer that has failed refuses.
         ensures idle { OnErr result (Holds self no_keys → has_failed self ≡ true) };
 

@@ -11,6 +11,9 @@ returns-in-Full-clause-refused g c = rw c.in-Full.is (search rules)
 pub returns-in-Full-clause-first : goal.returns-in-Full-clause-first
 returns-in-Full-clause-first g c = rw c.in-Full.is (search rules)
 
+pub returns-in-Full-clause-sized : goal.returns-in-Full-clause-sized
+returns-in-Full-clause-sized g c = rw c.in-Full.is (search rules)
+
 pub returns-in-Full-clause-idle : goal.returns-in-Full-clause-idle
 returns-in-Full-clause-idle g c = rw c.in-Full.is (search rules)
 
@@ -22,6 +25,9 @@ returns-in-Partitioned-clause-refused g c = rw c.in-Partitioned.is (search rules
 
 pub returns-in-Partitioned-clause-first : goal.returns-in-Partitioned-clause-first
 returns-in-Partitioned-clause-first g c = rw c.in-Partitioned.is (search rules)
+
+pub returns-in-Partitioned-clause-sized : goal.returns-in-Partitioned-clause-sized
+returns-in-Partitioned-clause-sized g c = rw c.in-Partitioned.is (search rules)
 
 pub returns-in-Partitioned-clause-idle : goal.returns-in-Partitioned-clause-idle
 returns-in-Partitioned-clause-idle g c = rw c.in-Partitioned.is (search rules)

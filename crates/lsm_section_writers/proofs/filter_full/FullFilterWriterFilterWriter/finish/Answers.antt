@@ -4,9 +4,10 @@ use Rattle.std.specs.Prelude.{Ok}
 use Rattle.sst_entries.proofs.StreamLemmas.{on_err}
 use Rattle.lsm_section_writers.specs.Held.{Hashes}
 use Rattle.lsm_section_writers.proofs.Emptiness.{vec_is_empty}
-use Rattle.lsm_section_writers.proofs.Sections.{full_fault, full_idle, full_none, full_none_fault, full_written}
+use Rattle.lsm_section_writers.proofs.Sections.{full_fault, full_first, full_idle, full_none, full_none_fault, full_written}
 use Rattle.lsm_section_writers.proofs.Finishing.{works_first}
 use Rattle.lsm_section_writers.proofs.Behind.{bytes_stay}
+use Rattle.lsm_section_writers.proofs.Sizes.{first_failed, first_none}
 use Rattle.lsm_section_writers.proofs.filter_full.FullFilterWriterFilterWriter.finish.Goals as goal
 use Rattle.lsm_section_writers.proofs.Empty.{vec_is_some}
 
@@ -52,10 +53,26 @@ returns-clause-before g c = c.write_filter.ensures.before
 pub returns-then-is_empty-clause-first : goal.returns-then-is_empty-clause-first
 returns-then-is_empty-clause-first g c = works_first {X = ℕ} (Ok 1) c.self.inside.failed c.args.self.failed (ap (λ (w : Hashes). w.failed) c.self.view_is) c.if-self.false
 
+pub returns-then-is_empty-clause-sized : goal.returns-then-is_empty-clause-sized
+returns-then-is_empty-clause-sized g c = λ keys h.
+    first_none {X = ℕ} (Ok 1) _
+    (full_none_fault c.args.self keys (sym (ap (λ (w : Hashes). w.failed) c.self.view_is) ∙ c.if-self.false)
+    (vec_is_empty c.self.inside.bloom_hash_buffer c.args.self.hashes c.is_empty.result (ap (λ (w : Hashes). w.hashes) c.self.view_is) c.is_empty.ensures c.if-is_empty.true) h)
+
+pub returns-clause-sized : goal.returns-clause-sized
+returns-clause-sized g c = λ keys h.
+    full_first c.write_filter.result c.self.inside.bloom_policy c.self.inside.bloom_hash_buffer.items c.args.self keys
+    (ap (λ (w : Hashes). w.policy) c.self.view_is) (ap (λ (w : Hashes). w.hashes) c.self.view_is)
+    (vec_is_some c.self.inside.bloom_hash_buffer c.args.self.hashes c.is_empty.result (ap (λ (w : Hashes). w.hashes) c.self.view_is) c.is_empty.ensures c.if-is_empty.false)
+    (sym (ap (λ (w : Hashes). w.failed) c.self.view_is) ∙ c.if-self.false) h c.write_filter.ensures.first
+
 pub returns-then-is_empty-clause-before : goal.returns-then-is_empty-clause-before
 returns-then-is_empty-clause-before g c = bytes_stay c.args.writer.now
 
 -- a writer that has failed
+pub returns-then-self-clause-sized : goal.returns-then-self-clause-sized
+returns-then-self-clause-sized g c = λ keys h. first_failed ℕ c.args.self.failed _ (sym (ap (λ (w : Hashes). w.failed) c.self.view_is) ∙ c.if-self.true)
+
 pub returns-then-self-clause-before : goal.returns-then-self-clause-before
 returns-then-self-clause-before g c = bytes_stay c.args.writer.now
 
