@@ -1,7 +1,7 @@
 //! Building the filter of some keys.
 ghost use Rattle.std.specs.Prelude.{◌≡◌, ℕ, List, length, map, IfOk};
-ghost use Rattle.lsm_section_writers.specs.FilterWords.{Faults, FaultsFirst, IsFilterFor, fault_for};
-ghost use Rattle.lsm_section_writers.specs.FilterWords.{hash_of, tenths_of};
+ghost use Rattle.lsm_section_writers.specs.FilterWords.{Faults, FaultsFirst, IsFilterFor};
+ghost use Rattle.lsm_section_writers.specs.FilterWords.{fault_for, hash_of, tenths_of};
 
 use sst_blocks::{BloomConstructionPolicy, Builder, Error, filter_bound};
 use std::alloc::Allocator;

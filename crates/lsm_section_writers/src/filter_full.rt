@@ -1,7 +1,7 @@
 //! The writer of a full filter.
 ghost use Rattle.std.specs.Prelude.{◌≡◌, ℕ, List, [], false, length, map, take, IfOk};
-ghost use Rattle.lsm_section_writers.specs.FilterWords.{Faults, FaultsFirst, HasNoFilter, HoldsHashes};
-ghost use Rattle.lsm_section_writers.specs.FilterWords.{WritesParts};
+ghost use Rattle.lsm_section_writers.specs.FilterWords.{Faults, FaultsFirst, HasNoFilter};
+ghost use Rattle.lsm_section_writers.specs.FilterWords.{HoldsHashes, WritesParts};
 ghost use Rattle.lsm_section_writers.specs.FilterWords.{fault_for, hash_of, given_by, no_keys};
 ghost use Rattle.lsm_section_writers.specs.FilterWords.{tenths_of};
 ghost use Rattle.lsm_formats.specs.declared.options.FilterKind.TheVariants.{Full};

@@ -100,9 +100,9 @@ pub trait FilterWriter<A: Allocator> {
     /// The first of these, before any memory is taken:
     ///
     /// - [`Error::WriterFailed`] if an earlier call failed;
-    /// - [`Error::BlockTooLarge`] if the filter of all keys, or of those after the last cut, is too
-    ///   large;
-    /// - [`Error::SectionTooLarge`] if the blocks of all partitions together are.
+    /// - [`Error::BlockTooLarge`] if the filter of all keys, or of those after the last cut, needs a
+    ///   block of 2^32 bytes or more;
+    /// - [`Error::SectionTooLarge`] if the blocks of all partitions add up to that.
     ///
     /// Then, for partitions, [`Error::KeyTooLong`] if the last key of one is too long for the top
     /// level, and [`Error::BlockTooLarge`] if the top level is too large. Also
