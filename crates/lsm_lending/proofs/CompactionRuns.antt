@@ -1,6 +1,6 @@
 -- A compaction that lends, with a filter and a callback: all its calls.
 use Rattle.std.proofs.Common.{◌≡◌, inl, inr, refl, sym, ◌∙◌, ap, subst, ℕ, Bool, true, false}
-use Rattle.std.proofs.Common.{List, [], ◌∷◌, ◌++◌}
+use Rattle.std.proofs.Common.{List, [], ◌∷◌, ◌++◌, append_assoc}
 use Rattle.std.specs.Prelude.{Option, Some, None, Result, Ok, Err}
 use Rattle.std.specs.List.{AllByRecursion}
 use Rattle.std.specs.Iterator.{Yields}
@@ -13,7 +13,7 @@ use Rattle.sst_entries.specs.declared.error.Error.TheVariants.{OutOfMemory}
 use Rattle.sst_entries.proofs.StreamLemmas.{deals_front}
 use Rattle.lsm_merge.specs.Ends.{R}
 use Rattle.lsm_sorted.specs.Compaction.{Judged, JudgedItem, Verdict, as_they_are, by_key}
-use Rattle.lsm_sorted.specs.Compaction.{items}
+use Rattle.lsm_sorted.specs.Compaction.{items, outs}
 use Rattle.lsm_sorted.specs.Compacting.{Compacted, GetsAll, SaysOf}
 use Rattle.lsm_sorted.specs.declared.compaction.Rules.{Rules}
 use Rattle.lsm_sorted.specs.Outlook.{results_in}
@@ -23,7 +23,7 @@ use Rattle.lsm_lending.specs.LentFaults.{FilterSays, PassingOr}
 use Rattle.lsm_lending.specs.LentCompaction.{listed_answer, past_hidden}
 use Rattle.lsm_lending.specs.LentCompaction.{AdvancesCompacted, CompactedLent, CompactedPart}
 use Rattle.lsm_lending.specs.LentCompaction.{CompactedTo, CompactsLent, Later, later_of}
-use Rattle.lsm_lending.specs.LentCompaction.{nothing_later}
+use Rattle.lsm_lending.specs.LentCompaction.{lent_outs_by, nothing_later}
 use Rattle.lsm_lending.specs.LentCompaction.{CompactsLentResults, EndsAtNone}
 use Rattle.lsm_lending.specs.LentCompaction.{WillCompact, hidden_key, hidden_in, is_entry}
 use Rattle.lsm_lending.specs.LentCompaction.{lent_callback, lent_filter, lender, looked_at}
@@ -154,6 +154,11 @@ calm_items (Ok j ∷ js) (x ∷ xs) h =
     others_same : (ps qs : List R) (p q : Entry) → Ok p ∷ ps ≡ Ok q ∷ qs → ps ≡ qs
     others_same ps qs p q h = cc
 
+-- verdicts of entries without errors: an error that follows plays no part
+pub calm_judged : (rules : Rules) (js : List JudgedItem) (xs : List Entry)
+    → items js ≡ ok_results xs → lent_outs_by rules js ≡ outs rules js
+calm_judged rules js xs over = calm_outs rules (by_key js) (calm_items js xs over)
+
 nothing_hidden : (k : Option (List ℕ)) → hidden_in k [] ≡ []
 nothing_hidden None = refl
 nothing_hidden (Some j) = refl
@@ -164,6 +169,19 @@ nothing_past (Some j) = refl
 
 module _ {F C : Type 0} (gives : F → Entry → Result Verdict Error → F → Type 0)
     (gets : C → Entry → C → Type 0) where
+  -- no error, no difference
+  pub calm_compacted : (rules : Rules) (f g : F) (c d : C) (xs : List Entry) (gave : List R)
+      → CompactedLent gives gets rules f c (ok_results xs) gave g d
+      → Compacted gives gets rules f c (ok_results xs) gave g d
+  calm_compacted rules f g c d xs gave does = record {
+    judged = does.judged;
+    over = does.over;
+    tombstones = does.tombstones;
+    answers = does.answers ∙ calm_judged rules does.judged xs does.over;
+    says = does.says;
+    reports = does.reports;
+  }
+
   -- a compaction without a rest
   pub as_compacted : (rules : Rules) (f g : F) (c d : C) (xs gave : List R)
       → CompactedTo gives gets nothing_later rules f c [] xs gave g d
@@ -181,20 +199,6 @@ module _ {F C : Type 0} (gives : F → Entry → Result Verdict Error → F → 
 
 module _ {F C : Type 0} (gives : F → Entry → Result Verdict Error → F → Type 0)
     (gets : C → Entry → C → Type 0) {S A : Type 0} where
-  -- no error, no difference
-  compacted_calm : (s : LendingCompaction S F C A) (xs : List Entry) (gave : List R) (g : F) (d : C)
-      → CompactedLent gives gets s.rules s.filter s.callback (ok_results xs) gave g d
-      → Compacted gives gets s.rules s.filter s.callback (ok_results xs) gave g d
-  compacted_calm s xs gave g d does = record {
-    judged = does.judged;
-    over = does.over;
-    tombstones = does.tombstones;
-    answers = does.answers
-        ∙ calm_outs s.rules (by_key does.judged) (calm_items does.judged xs does.over);
-    says = does.says;
-    reports = does.reports;
-  }
-
   -- all that u has still to look at is the rest
   will_later : (u : LendingCompaction S F C A) (left : List R)
       → WillCompact gives gets (later_of u.rules (hidden_key u) left) u left [] u.filter u.callback
@@ -239,75 +243,104 @@ module _ {F C : Type 0} (gives : F → Entry → Result Verdict Error → F → 
     abbrev Next : LendingCompaction S F C A → Option R → LendingCompaction S F C A → Type 0
     Next = AdvancesCompacted advances lent can gives gets
 
-    -- calls that gave these, the last of which answered r
-    record RunsOn (s : LendingCompaction S F C A) (gave : List R) (r : Option R) (u : LendingCompaction S F C A) : Type 0 where
+    -- calls that gave these
+    record RunsPart (s : LendingCompaction S F C A) (gave : List R) (u : LendingCompaction S F C A)
+        : Type 0 where
       pub answers : List (Option R)
       pub each : GaveEach advances s.source answers u.source
       pub calm : NoneStops (answer_stops stops) answers
       pub live : u.is_over ≡ false
-      pub ended : r ≡ None → (rest : List R) → EndsAtNone answers rest → rest ≡ []
-      pub rests : is_entry r ≡ false → u.is_pending ≡ false
       pub rules : u.rules ≡ s.rules
       pub does : (z : Later) (rest more : List R) (g : F) (d : C) → EndsAtNone answers rest
           → WillCompact gives gets z u (looked_at lent u rest) more g d
           → WillCompact gives gets z s (looked_at lent s (results_in answers ++ rest))
           (gave ++ more) g d
 
+    -- the last of them answered r
+    record RunsOn (s : LendingCompaction S F C A) (gave : List R) (r : Option R)
+        (u : LendingCompaction S F C A) : Type 0 where
+      pub part : RunsPart s gave u
+      pub ended : r ≡ None → (rest : List R) → EndsAtNone part.answers rest → rest ≡ []
+      pub rests : is_entry r ≡ false → u.is_pending ≡ false
+
     run_one : (s u : LendingCompaction S F C A) (r : Option R) → s.is_over ≡ false → Next s r u
         → answer_stops stops r ≡ false → RunsOn s (listed_answer r) r u
     run_one s u r live next fine =
         let call = next.live live in elim call.step.told [
           | inl passing ↦ record {
-            answers = call.step.answers;
-            each = call.step.gave;
-            calm = told_calm (FilterSays gives) stops r call.step.answers passing.0 fine;
-            live = passing.1;
+            part = record {
+              answers = call.step.answers;
+              each = call.step.gave;
+              calm = told_calm (FilterSays gives) stops r call.step.answers passing.0 fine;
+              live = passing.1;
+              rules = call.step.rules;
+              does = λ z rest more g d ends will.
+                  call.step.does z passing.1 rest more g d ends will;
+            };
             ended = λ none rest ends.
                 let last = call.ended none in
                 ends_empty last.0 rest
                 (subst (λ (rs : List (Option R)). EndsAtNone rs rest) last.2 ends);
             rests = call.rests;
-            rules = call.step.rules;
-            does = λ z rest more g d ends will.
-                call.step.does z passing.1 rest more g d ends will;
           }
           | inr wants ↦
               let no : true ≡ false = sym memory
               ∙ sym (ap (answer_stops stops) wants.0.0) ∙ fine in absurd cc
         ]
 
-    run_then : (s m u : LendingCompaction S F C A) (x : R) (gave : List R) (r : Option R)
-        → RunsOn s (x ∷ []) (Some x) m → RunsOn m gave r u → RunsOn s (x ∷ gave) r u
-    run_then s m u x gave r one more = record {
+    abbrev part_then : (s m u : LendingCompaction S F C A) (xs ys : List R) → RunsPart s xs m
+        → RunsPart m ys u → RunsPart s (xs ++ ys) u
+    part_then s m u xs ys one more = record {
       answers = one.answers ++ more.answers;
       each = each_append advances one.answers more.answers s.source m.source u.source one.each
           more.each;
       calm = none_stop_append (answer_stops stops) one.answers more.answers one.calm more.calm;
       live = more.live;
-      ended = λ none rest ends. more.ended none rest
-          (ends_after one.answers more.answers rest ends);
-      rests = more.rests;
       rules = more.rules ∙ one.rules;
       does = λ z rest after g d ends will.
-          will_at gives gets z s
+          subst (λ (gave : List R). WillCompact gives gets z s
+          (looked_at lent s (results_in (one.answers ++ more.answers) ++ rest)) gave g d)
+          (sym (append_assoc xs ys after))
+          (will_at gives gets z s
           (looked_at lent s (results_in one.answers ++ (results_in more.answers ++ rest)))
           (looked_at lent s (results_in (one.answers ++ more.answers) ++ rest))
-          (x ∷ (gave ++ after)) g d
+          (xs ++ (ys ++ after)) g d
           (sym (ap (looked_at lent s) (parts_join one.answers more.answers rest)))
-          (one.does z (results_in more.answers ++ rest) (gave ++ after) g d
+          (one.does z (results_in more.answers ++ rest) (ys ++ after) g d
           (ends_before one.answers more.answers rest ends)
-          (more.does z rest after g d (ends_after one.answers more.answers rest ends) will));
+          (more.does z rest after g d (ends_after one.answers more.answers rest ends) will)));
     }
 
-    runs_on : (gave : List R) (s t u : LendingCompaction S F C A) (r : Option R) → s.is_over ≡ false
-        → AllByRecursion (λ x. result_stops stops x ≡ false) gave → Yields Next s gave t
-        → Next t r u → answer_stops stops r ≡ false → RunsOn s (gave ++ listed_answer r) r u
-    runs_on [] s t u r live fine runs last goes =
-        run_one s u r live (subst (λ (v : LendingCompaction S F C A). Next v r u) (sym runs) last) goes
-    runs_on (x ∷ gave) s t u r live fine runs last goes =
-        let one = run_one s runs.0 (Some x) live runs.1 fine.0 in
-        run_then s runs.0 u x (gave ++ listed_answer r) r one
-        (runs_on gave runs.0 t u r one.live fine.1 runs.2 last goes)
+    runs_part : (gave : List R) (s u : LendingCompaction S F C A) → s.is_over ≡ false
+        → AllByRecursion (λ x. result_stops stops x ≡ false) gave → Yields Next s gave u
+        → RunsPart s gave u
+    runs_part [] s u live fine runs = subst (λ (v : LendingCompaction S F C A). RunsPart s [] v) runs
+        (record {
+          answers = [];
+          each = refl;
+          calm = tt;
+          live = live;
+          rules = refl;
+          does = λ z rest more g d ends will. will;
+        })
+    runs_part (x ∷ gave) s u live fine runs =
+        let one = (run_one s runs.0 (Some x) live runs.1 fine.0).part in
+        part_then s runs.0 u (x ∷ []) gave one
+        (runs_part gave runs.0 u one.live fine.1 runs.2)
+
+    runs_on : (gave : List R) (s t u : LendingCompaction S F C A) (r : Option R)
+        → s.is_over ≡ false → AllByRecursion (λ x. result_stops stops x ≡ false) gave
+        → Yields Next s gave t → Next t r u → answer_stops stops r ≡ false
+        → RunsOn s (gave ++ listed_answer r) r u
+    runs_on gave s t u r live fine runs last goes =
+        let front = runs_part gave s t live fine runs in
+        let one = run_one t u r front.live last goes in
+        record {
+          part = part_then s t u gave (listed_answer r) front one.part;
+          ended = λ none rest ends.
+              one.ended none rest (ends_after front.answers one.part.answers rest ends);
+          rests = one.rests;
+        }
 
     -- of a fresh one
     module _ (s : LendingCompaction S F C A) (plain : s.hides ≡ false) (next : s.is_pending ≡ false)
@@ -315,17 +348,17 @@ module _ {F C : Type 0} (gives : F → Entry → Result Verdict Error → F → 
         (has : Deals (answer_stops stops) advances nowhere s.source xs) where
       -- what was done so far, where nothing waits to be looked at
       done : (u : LendingCompaction S F C A) (gave : List R) (r : Option R) (run : RunsOn s gave r u)
-          → u.is_pending ≡ false → EndsAtNone run.answers []
-          → CompactedLent gives gets s.rules s.filter s.callback (results_in run.answers) gave
+          → u.is_pending ≡ false → EndsAtNone run.part.answers []
+          → CompactedLent gives gets s.rules s.filter s.callback (results_in run.part.answers) gave
           u.filter u.callback
       done u gave r run quiet ends =
-          let all = results_in run.answers ++ [] in
+          let all = results_in run.part.answers ++ [] in
           let z : Later = nothing_later in
-          let will = run.does z [] [] u.filter u.callback ends
+          let will = run.part.does z [] [] u.filter u.callback ends
           (will_at gives gets z u [] (looked_at lent u []) [] u.filter u.callback
           (sym (looked_next lent u [] quiet)) (will_nothing u)) in
           subst (λ (ys : List R). CompactedLent gives gets s.rules s.filter s.callback ys gave
-          u.filter u.callback) (append-nil (results_in run.answers))
+          u.filter u.callback) (append-nil (results_in run.part.answers))
           (subst (λ (ys : List R). CompactedLent gives gets s.rules s.filter s.callback all ys
           u.filter u.callback) (append-nil gave)
           (as_compacted gives gets s.rules s.filter u.filter s.callback u.callback all (gave ++ [])
@@ -339,18 +372,18 @@ module _ {F C : Type 0} (gives : F → Entry → Result Verdict Error → F → 
           → CompactedLent gives gets s.rules s.filter s.callback xs gave u.filter u.callback
       whole_run gave t u fine runs last =
           let run = runs_on gave s t u None live fine runs last refl in
-          let parts = dealt_parts advances stops run.answers s.source u.source xs has run.each
-          run.calm in
+          let parts = dealt_parts advances stops run.part.answers s.source u.source xs has run.part.each
+          run.part.calm in
           let none : parts.rest ≡ [] = run.ended refl parts.rest parts.ends in
-          let is : xs ≡ results_in run.answers =
-          parts.is ∙ ap (λ (ys : List R). results_in run.answers ++ ys) none
-          ∙ append-nil (results_in run.answers) in
+          let is : xs ≡ results_in run.part.answers =
+          parts.is ∙ ap (λ (ys : List R). results_in run.part.answers ++ ys) none
+          ∙ append-nil (results_in run.part.answers) in
           subst (λ (ys : List R). CompactedLent gives gets s.rules s.filter s.callback ys gave
           u.filter u.callback) (sym is)
           (subst (λ (ys : List R). CompactedLent gives gets s.rules s.filter s.callback
-          (results_in run.answers) ys u.filter u.callback) (append-nil gave)
+          (results_in run.part.answers) ys u.filter u.callback) (append-nil gave)
           (done u (gave ++ []) None run (run.rests refl)
-          (ends_less run.answers parts.rest parts.ends)))
+          (ends_less run.part.answers parts.rest parts.ends)))
 
       until_run : (gave : List R) (e : Error) (t u : LendingCompaction S F C A) → stops e ≡ false
           → AllByRecursion (λ x. result_stops stops x ≡ false) gave → Yields Next s gave t
@@ -361,42 +394,39 @@ module _ {F C : Type 0} (gives : F → Entry → Result Verdict Error → F → 
           u.filter u.callback
       until_run gave e t u goes fine runs last =
           let run = runs_on gave s t u (Some (Err e)) live fine runs last goes in
-          let parts = dealt_parts advances stops run.answers s.source u.source xs has run.each
-          run.calm in (
-            results_in run.answers,
+          let parts = dealt_parts advances stops run.part.answers s.source u.source xs has run.part.each
+          run.part.calm in (
+            results_in run.part.answers,
             parts.rest,
             parts.is,
             parts.has,
             done u (gave ++ Err e ∷ []) (Some (Err e)) run (run.rests refl)
-                (ends_less run.answers parts.rest parts.ends),
+                (ends_less run.part.answers parts.rest parts.ends),
           )
 
-      part_run : (gave : List R) (x : Entry) (t u : LendingCompaction S F C A)
-          → AllByRecursion (λ x. result_stops stops x ≡ false) gave → Yields Next s gave t
-          → Next t (Some (Ok x)) u
-          → CompactedPart gives gets s.rules s.filter s.callback xs (gave ++ Ok x ∷ []) u.filter
-          u.callback
-      part_run gave x t u fine runs last =
-          let run = runs_on gave s t u (Some (Ok x)) live fine runs last refl in
+      part_run : (gave : List R) (u : LendingCompaction S F C A)
+          → AllByRecursion (λ x. result_stops stops x ≡ false) gave → Yields Next s gave u
+          → CompactedPart gives gets s.rules s.filter s.callback xs gave u.filter u.callback
+      part_run gave u fine runs =
+          let run = runs_part gave s u live fine runs in
           let parts = dealt_parts advances stops run.answers s.source u.source xs has run.each
           run.calm in
           let all : List R = results_in run.answers ++ parts.rest in
           let left : List R = looked_at lent u parts.rest in
-          let ys : List R = gave ++ Ok x ∷ [] in
           let z : Later = later_of u.rules (hidden_key u) left in
           let will = run.does z parts.rest [] u.filter u.callback parts.ends (will_later u left) in
-          let plainly = will_plain gives gets z s all (ys ++ []) u.filter u.callback plain
-          (will_at gives gets z s (looked_at lent s all) all (ys ++ []) u.filter u.callback
+          let plainly = will_plain gives gets z s all (gave ++ []) u.filter u.callback plain
+          (will_at gives gets z s (looked_at lent s all) all (gave ++ []) u.filter u.callback
           (looked_next lent s all next) will) in
           record {
             key = hidden_key u;
             left = left;
             does = subst (λ (q : Rules). CompactedTo gives gets (later_of q (hidden_key u) left)
-                s.rules s.filter s.callback [] xs ys u.filter u.callback) run.rules
+                s.rules s.filter s.callback [] xs gave u.filter u.callback) run.rules
                 (subst (λ (rs : List R). CompactedTo gives gets z s.rules s.filter s.callback [] rs
-                ys u.filter u.callback) (sym parts.is)
+                gave u.filter u.callback) (sym parts.is)
                 (subst (λ (rs : List R). CompactedTo gives gets z s.rules s.filter s.callback [] all
-                rs u.filter u.callback) (append-nil ys) plainly));
+                rs u.filter u.callback) (append-nil gave) plainly));
           }
 
   module _ (advances : S → Option R → S → Type 0) (lent : S → Option Entry) (can : S → Type 0)
@@ -411,9 +441,8 @@ module _ {F C : Type 0} (gives : F → Entry → Result Verdict Error → F → 
       until = λ stops xs gave e t u memory goes has fine runs last.
           until_run advances lent can stops memory s plain next live xs has gave e t u goes fine
           runs last;
-      part = λ stops xs gave x t u memory has fine runs last.
-          part_run advances lent can stops memory s plain next live xs has gave x t u fine runs
-          last;
+      part = λ stops xs gave t memory has fine runs.
+          part_run advances lent can stops memory s plain next live xs has gave t fine runs;
     }
 
     pub compacts_lent : CompactsLent advances s.source
@@ -421,7 +450,7 @@ module _ {F C : Type 0} (gives : F → Entry → Result Verdict Error → F → 
         lent_filter lent_callback
     compacts_lent = record {
       whole = λ stops xs gave t u memory has fine runs last.
-          compacted_calm s xs gave u.filter u.callback
+          calm_compacted gives gets s.rules s.filter u.filter s.callback u.callback xs gave
           (whole_run advances lent can stops memory s plain next live (ok_results xs) has gave t u
           fine runs last);
     }

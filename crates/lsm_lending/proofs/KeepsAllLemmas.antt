@@ -1,23 +1,26 @@
 -- A compaction that lends, where the filter keeps every entry.
-use Rattle.std.proofs.Common.{◌≡◌, refl, sym, ◌∙◌, ap, ℕ, Bool, true, false, cond, not}
+use Rattle.std.proofs.Common.{◌≡◌, refl, sym, ◌∙◌, ap, subst, ℕ, Bool, true, false, cond, not}
 use Rattle.std.proofs.Common.{List, [], ◌∷◌, ◌++◌}
-use Rattle.std.specs.Prelude.{Some, None, Result, Ok, Err, filter, map}
+use Rattle.std.specs.Prelude.{Option, Some, None, Result, Ok, Err, filter, map}
 use Rattle.std.specs.List.{AllByRecursion}
 use Rattle.sst_entries.specs.Entry.{Entry}
 use Rattle.sst_entries.specs.Kind.{is_tombstone_kind}
 use Rattle.sst_entries.specs.Stream.{first}
 use Rattle.sst_entries.specs.declared.error.Error.{Error}
-use Rattle.sst_entries.proofs.Lists.{all_append, all_behind, all_front}
+use Rattle.sst_entries.specs.declared.error.Error.TheVariants.{OutOfMemory}
+use Rattle.sst_entries.proofs.Lists.{all_append, all_behind, all_front, all_more}
 use Rattle.lsm_merge.specs.Ends.{R}
 use Rattle.lsm_sorted.specs.declared.compaction.Rules.{Rules}
 use Rattle.lsm_sorted.specs.Compaction.{Judged, JudgedItem, Verdict, Versions, as_is, as_they_are}
 use Rattle.lsm_sorted.specs.Compaction.{asked, asked_of, before, by_key, concat_by, entries}
 use Rattle.lsm_sorted.specs.Compaction.{error_of, expired, given, heads, is_cut, is_version_of}
-use Rattle.lsm_sorted.specs.Compaction.{items, keep, reported}
+use Rattle.lsm_sorted.specs.Compaction.{drop, head_given, items, keep, replace, reported, told}
+use Rattle.lsm_sorted.specs.Compaction.{told_by, zeroed}
 use Rattle.lsm_sorted.specs.Compacting.{GetsAll, KeepsTombstones, SaysOf}
 use Rattle.lsm_lending.specs.LentCompaction.{CompactedLent, gone_of_lent, lent_outs, lent_outs_by}
 use Rattle.lsm_lending.specs.LentCompaction.{lent_outs_of}
 use Rattle.lsm_sorted.proofs.WholeLemmas.{KeepsAll}
+use Rattle.lsm_lending.proofs.LentOutsLemmas.{Calm}
 
 -- a callback that takes anything
 abbrev pub TakesAny : {C : Type 0} → C → Entry → C → Type 0
@@ -214,29 +217,31 @@ said_stay : {F : Type 0} (f g : F) (js : List Judged) → SaysOf {F = F} KeepsAl
 said_stay f g [] h = tt
 said_stay f g (j ∷ js) h = (h.1, said_stay h.0 g js h.2)
 
-heads_stay : (js : List Judged) → AllByRecursion StaysDead js
-    → AllByRecursion Stays (filter (λ j. not (is_tombstone_kind j.entry.kind)) js)
-    → AllByRecursion Stays js
-heads_stay [] dead told = tt
-heads_stay (j ∷ js) dead told = elim (is_tombstone_kind j.entry.kind) as
-    (λ b. is_tombstone_kind j.entry.kind ≡ b → AllByRecursion Stays
-    (cond (not b) (j ∷ filter (λ k. not (is_tombstone_kind k.entry.kind)) js)
-    (filter (λ k. not (is_tombstone_kind k.entry.kind)) js)) → AllByRecursion Stays (j ∷ js)) [
-      | true ↦ λ e h. (dead.0 e, heads_stay js dead.1 h)
-      | false ↦ λ e h. (h.0, heads_stay js dead.1 h.1)
-    ] refl told
+-- what holds of all of which the filter was asked, and of what stays as it is, holds of all heads
+module _ (P : Judged → Type 0) (of_stays : (j : Judged) → Stays j → P j) where
+  heads_so : (js : List Judged) → AllByRecursion StaysDead js
+      → AllByRecursion P (filter (λ j. not (is_tombstone_kind j.entry.kind)) js)
+      → AllByRecursion P js
+  heads_so [] dead told = tt
+  heads_so (j ∷ js) dead told = elim (is_tombstone_kind j.entry.kind) as
+      (λ b. is_tombstone_kind j.entry.kind ≡ b → AllByRecursion P
+      (cond (not b) (j ∷ filter (λ k. not (is_tombstone_kind k.entry.kind)) js)
+      (filter (λ k. not (is_tombstone_kind k.entry.kind)) js)) → AllByRecursion P (j ∷ js)) [
+        | true ↦ λ e h. (of_stays j (dead.0 e), heads_so js dead.1 h)
+        | false ↦ λ e h. (h.0, heads_so js dead.1 h.1)
+      ] refl told
 
-keys_stay : (rules : Rules) (vs : List Versions) → EachIn StaysDead vs
-    → AllByRecursion Stays (concat_by (asked_of rules) vs)
-    → AllByRecursion (λ v. AllByRecursion Stays (heads rules.watermark v.versions)) vs
-keys_stay rules [] dead told = tt
-keys_stay rules (v ∷ vs) dead told = (
-  heads_stay (heads rules.watermark v.versions)
-      (each_head StaysDead rules.watermark v.versions dead.0)
-      (all_front Stays (asked_of rules v) (concat_by (asked_of rules) vs) told),
-  keys_stay rules vs dead.1
-      (all_behind Stays (asked_of rules v) (concat_by (asked_of rules) vs) told),
-)
+  keys_so : (rules : Rules) (vs : List Versions) → EachIn StaysDead vs
+      → AllByRecursion P (concat_by (asked_of rules) vs)
+      → AllByRecursion (λ v. AllByRecursion P (heads rules.watermark v.versions)) vs
+  keys_so rules [] dead told = tt
+  keys_so rules (v ∷ vs) dead told = (
+    heads_so (heads rules.watermark v.versions)
+        (each_head StaysDead rules.watermark v.versions dead.0)
+        (all_front P (asked_of rules v) (concat_by (asked_of rules) vs) told),
+    keys_so rules vs dead.1
+        (all_behind P (asked_of rules v) (concat_by (asked_of rules) vs) told),
+  )
 
 -- what a filter that keeps every entry lets through, whatever is reported
 pub record KeepsThem {F : Type 0} (rules : Rules) (f g : F) (rs gave : List R) : Type 0 where
@@ -252,6 +257,68 @@ keeps_all rules f g rs gave does =
     let js : List JudgedItem = does.judged in
     does.answers
     ∙ sym (ap (concat_by (lent_outs_of rules)) (plain_keys js)
-    ∙ plain_all rules (by_key js) (keys_stay rules (by_key js) (dead_stay js does.tombstones)
+    ∙ plain_all rules (by_key js)
+    (keys_so Stays (λ j h. h) rules (by_key js) (dead_stay js does.tombstones)
     (said_stay f g (asked rules js) does.says)))
     ∙ ap (lent_outs rules) does.over
+
+-- ---- errors of the filter
+
+-- no error but an allocation failure
+abbrev pub SaysMemory : Judged → Type 0
+SaysMemory j = (e : Error) → j.verdict ≡ Err e → e ≡ OutOfMemory
+
+abbrev pub IsMemoryAtMost : R → Type 0
+IsMemoryAtMost (Ok x) = Unit {0}
+IsMemoryAtMost (Err e) = e ≡ OutOfMemory
+
+stays_so : (j : Judged) → Stays j → SaysMemory j
+stays_so j stays e fails = let no : Ok keep ≡ Err e = sym stays ∙ fails in absurd cc
+
+head_so : (rules : Rules) (gone : Entry → Bool) (x : Entry) (v : Result Verdict Error)
+    → SaysMemory (record { entry = x; verdict = v })
+    → AllByRecursion IsMemoryAtMost (head_given rules gone (told_by x v))
+head_so rules gone x (Ok keep) says = elim (gone x) as
+    (λ b. AllByRecursion IsMemoryAtMost (cond b [] (Ok (zeroed rules x) ∷ [])))
+    [ true ↦ tt | false ↦ (tt, tt) ]
+head_so rules gone x (Ok (replace kind value)) says =
+    let y : Entry = record { user_key = x.user_key; seqno = x.seqno; kind = kind; value = value } in
+    elim (gone y) as
+    (λ b. AllByRecursion IsMemoryAtMost (cond b [] (Ok (zeroed rules y) ∷ [])))
+    [ true ↦ tt | false ↦ (tt, tt) ]
+head_so rules gone x (Ok drop) says = tt
+head_so rules gone x (Err e) says = (says e refl, tt)
+
+given_so : (rules : Rules) (gone : Entry → Bool) (js : List Judged)
+    → AllByRecursion SaysMemory js → AllByRecursion IsMemoryAtMost (given rules gone js)
+given_so rules gone [] says = tt
+given_so rules gone (j ∷ []) says = head_so rules gone j.entry j.verdict says.0
+given_so rules gone (j ∷ k ∷ ks) says =
+    all_append IsMemoryAtMost (head_given rules (λ x. false) (told j)) (given rules gone (k ∷ ks))
+    (head_so rules (λ x. false) j.entry j.verdict says.0) (given_so rules gone (k ∷ ks) says.1)
+
+outs_so : (rules : Rules) (vs : List Versions) → Calm vs
+    → AllByRecursion (λ v. AllByRecursion SaysMemory (heads rules.watermark v.versions)) vs
+    → AllByRecursion IsMemoryAtMost (concat_by (lent_outs_of rules) vs)
+outs_so rules [] calm says = tt
+outs_so rules (v ∷ vs) calm says =
+    let gone = gone_of_lent rules (first (entries (expired rules.watermark v.versions))) v.error in
+    let hs : List Judged = heads rules.watermark v.versions in
+    all_append IsMemoryAtMost (lent_outs_of rules v) (concat_by (lent_outs_of rules) vs)
+    (all_append IsMemoryAtMost (given rules gone hs) (error_of v.error)
+    (given_so rules gone hs says.0)
+    (subst (λ (o : Option Error). AllByRecursion IsMemoryAtMost (error_of o)) (sym calm.0) tt))
+    (outs_so rules vs calm.1 says.1)
+
+-- of entries without errors, where all of which it was asked it failed at most so
+pub memory_at_most : (rules : Rules) (js : List JudgedItem) → Calm (by_key js)
+    → KeepsTombstones js → AllByRecursion SaysMemory (asked rules js)
+    → AllByRecursion IsMemoryAtMost (lent_outs_by rules js)
+memory_at_most rules js calm tombstones says = outs_so rules (by_key js) calm
+    (keys_so SaysMemory stays_so rules (by_key js) (dead_stay js tombstones) says)
+
+-- what stays as it is fails not at all
+pub as_they_are_so : (rules : Rules) (rs : List R)
+    → AllByRecursion SaysMemory (asked rules (as_they_are rs))
+as_they_are_so rules rs = all_more Stays SaysMemory stays_so (asked rules (as_they_are rs))
+    (asked_stay rules (by_key (as_they_are rs)) (all_stay rs))

@@ -13,3 +13,4 @@ pub mod CompactionFaults
 pub mod CompactionRuns
 pub mod KeepsAllLemmas
 pub mod CompactionDeals
+pub mod KeptOrder

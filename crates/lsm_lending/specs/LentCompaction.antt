@@ -305,8 +305,8 @@ pub record CompactsLent {S T F C : Type 0} (advances : S → Option R → S → 
 
 -- of any list of results that the source deals: calls up to the one where nothing comes give, ask
 -- and report what a compaction that lends does of it; calls up to an error, that error among what
--- they give, do so of a part in front, and the rest is what the source has still to deal; and calls
--- up to an entry do so of all but what is not passed yet
+-- they give, do so of a part in front, and the rest is what the source has still to deal; and any
+-- calls do so of all but what is not passed yet
 pub record CompactsLentResults {S T F C : Type 0} (advances : S → Option R → S → Type 0)
     (source : S) (next : T → Option R → T → Type 0) (s : T) (rules : Rules)
     (gives : F → Entry → Result Verdict Error → F → Type 0) (gets : C → Entry → C → Type 0) (f : F)
@@ -324,11 +324,10 @@ pub record CompactsLentResults {S T F C : Type 0} (advances : S → Option R →
       → (front rest : List R) × (xs ≡ front ++ rest)
       × Deals (answer_stops stops) advances nowhere (source_in u) rest
       × CompactedLent gives gets rules f c front (gave ++ Err e ∷ []) (filter_in u) (callback_in u)
-  pub part : (stops : Error → Bool) (xs gave : List R) (x : Entry) (t u : T)
-      → stops OutOfMemory ≡ true → Deals (answer_stops stops) advances nowhere source xs
-      → AllByRecursion (λ r. result_stops stops r ≡ false) gave
-      → Yields next s gave t → next t (Some (Ok x)) u
-      → CompactedPart gives gets rules f c xs (gave ++ Ok x ∷ []) (filter_in u) (callback_in u)
+  pub part : (stops : Error → Bool) (xs gave : List R) (t : T) → stops OutOfMemory ≡ true
+      → Deals (answer_stops stops) advances nowhere source xs
+      → AllByRecursion (λ r. result_stops stops r ≡ false) gave → Yields next s gave t
+      → CompactedPart gives gets rules f c xs gave (filter_in t) (callback_in t)
 
 -- ---- where the filter keeps every entry and the callback ignores what it gets
 
