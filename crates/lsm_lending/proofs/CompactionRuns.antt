@@ -142,7 +142,7 @@ module _ {S : Type 0} (advances : S → Option R → S → Type 0) (stops : Erro
 
 -- ---- a list without errors
 
-calm_items : (js : List JudgedItem) (xs : List Entry) → items js ≡ ok_results xs
+pub calm_items : (js : List JudgedItem) (xs : List Entry) → items js ≡ ok_results xs
     → Calm (by_key js)
 calm_items [] xs h = tt
 calm_items (Err e ∷ js) [] h = absurd cc
