@@ -13,7 +13,8 @@ use Rattle.sst_entries.specs.declared.error.Error.{Error}
 use Rattle.sst_entries.specs.declared.error.Error.TheVariants.{OutOfMemory}
 use Rattle.sst_entries.specs.declared.stream.Direction.{Direction}
 use Rattle.sst_entries.specs.declared.stream.Direction.TheVariants.{Front, Back}
-use Rattle.sst_entries.specs.Error.{is_memory}
+use Rattle.std.specs.Option.{option_or}
+use Rattle.sst_entries.specs.Error.{Faults, is_memory}
 use Rattle.sst_entries.specs.Stream.{Deals, NoneStops, Runs, answer_stops, deal, first, nowhere}
 use Rattle.sst_entries.proofs.Refusals.{memory_is}
 use Rattle.lsm_block_indexes.specs.Dealt.{DealsEnding, ended_at_error}
@@ -23,12 +24,17 @@ use Rattle.lsm_merge.specs.MergeLaws.{DealsInPlace}
 use Rattle.lsm_merge.specs.Union.{Ascends, entries_among}
 use Rattle.lsm_readers.specs.Scan.{up_to_error}
 use Rattle.lsm_readers.specs.Table.{OpenTable}
-use Rattle.lsm_lending.specs.LentCompaction.{DealsCompactedResults, lent_outs}
+use Rattle.lsm_lending.specs.LentCompaction.{CompactsLentResults, DealsCompactedResults}
+use Rattle.lsm_lending.specs.LentCompaction.{lent_outs}
+use Rattle.sst_entries.specs.Entry.{Entry}
+use Rattle.lsm_sorted.specs.Compaction.{Verdict}
+use Rattle.lsm_compactions.specs.Filtered.{CompactsAs}
 use Rattle.lsm_sorted.specs.declared.compaction.Rules.{Rules}
-use Rattle.lsm_runs.specs.RunScan.{table_scan, tables_scan}
+use Rattle.lsm_runs.specs.RunScan.{scan_fault, table_scan, tables_scan}
 use Rattle.lsm_runs.proofs.RunLoops.{mapped_at, take_next}
 use Rattle.lsm_runs.proofs.Together.{zip_push}
-use Rattle.lsm_compactions.specs.AnyRuns.{BeginsWith, DealsResults, scans_of}
+use Rattle.lsm_compactions.specs.AnyRuns.{BeginsWith, DealsResults, first_block_fault}
+use Rattle.lsm_compactions.specs.AnyRuns.{first_blocks_fault, scans_of}
 use Rattle.lsm_compactions.specs.Packed.{has_table}
 
 -- ---- a source that ends at an error deals results up to that
@@ -106,25 +112,60 @@ any_here P x xs holds = (0, x, omega arith, refl, holds)
 any_later : {X : Type 0} (P : X → Type 0) (x : X) (xs : List X) → Any P xs → Any P (x ∷ xs)
 any_later P x xs h = (suc h.0, h.1, omega (arith, h.2), h.3, h.4)
 
+-- one of these scans begins with an error
+abbrev OneBegins : List (List R) → Error → Type 0
+OneBegins scans e = Any (λ (rs : List R). first rs ≡ Some (Err e)) scans
+
 begins_at : (runs : List (List OpenTable)) (i : ℕ) (run : List OpenTable) (e : Error)
     → slice_get runs i ≡ Some run → has_table run ≡ true
-    → first (tables_scan run) ≡ Some (Err e) → BeginsWith (scans_of runs) e
+    → first (tables_scan run) ≡ Some (Err e) → OneBegins (scans_of runs) e
 begins_at [] i run e there some begins = absurd cc
 begins_at (r ∷ runs) zero run e there some begins =
     let same : r ≡ run = cc in
-    subst (λ (b : Bool). BeginsWith (map tables_scan (cond b (r ∷ filter has_table runs)
+    subst (λ (b : Bool). OneBegins (map tables_scan (cond b (r ∷ filter has_table runs)
     (filter has_table runs))) e) (sym (ap has_table same ∙ some))
     (any_here (λ (rs : List R). first rs ≡ Some (Err e)) (tables_scan r)
     (map tables_scan (filter has_table runs))
     (ap (λ (ts : List OpenTable). first (tables_scan ts)) same ∙ begins))
 begins_at (r ∷ runs) (suc i) run e there some begins =
     let more = begins_at runs i run e there some begins in
-    elim (has_table r) as (λ b. BeginsWith (map tables_scan (cond b (r ∷ filter has_table runs)
+    elim (has_table r) as (λ b. OneBegins (map tables_scan (cond b (r ∷ filter has_table runs)
     (filter has_table runs))) e) [
       | true ↦ any_later (λ (rs : List R). first rs ≡ Some (Err e)) (tables_scan r)
           (map tables_scan (filter has_table runs)) more
       | false ↦ more
     ]
+
+-- ---- the first blocks, in the order of the runs
+
+blocks_more : (runs : List (List OpenTable)) (run : List OpenTable)
+    → first_blocks_fault (runs ++ run ∷ [])
+    ≡ option_or (first_blocks_fault runs) (first_block_fault run)
+blocks_more [] run = elim (first_block_fault run) as (λ o. option_or o None ≡ o)
+    [ None ↦ refl | Some e ↦ refl ]
+blocks_more (r ∷ runs) run =
+    ap (λ (o : Option Error). option_or (first_block_fault r) o) (blocks_more runs run)
+    ∙ elim (first_block_fault r) as
+    (λ o. option_or o (option_or (first_blocks_fault runs) (first_block_fault run))
+    ≡ option_or (option_or o (first_blocks_fault runs)) (first_block_fault run))
+    [ None ↦ refl | Some e ↦ refl ]
+
+none_either : (a b : Option Error) → option_or a b ≡ None → (a ≡ None) × (b ≡ None)
+none_either None b none = (refl, none)
+none_either (Some e) b none = absurd cc
+
+blocks_at : (runs : List (List OpenTable)) (i : ℕ) (run : List OpenTable) (e : Error)
+    → slice_get runs i ≡ Some run → first_blocks_fault (take i runs) ≡ None
+    → first_block_fault run ≡ Some e → first_blocks_fault runs ≡ Some e
+blocks_at [] i run e there none fails = absurd cc
+blocks_at (r ∷ runs) zero run e there none fails =
+    let same : r ≡ run = cc in
+    ap (λ (o : Option Error). option_or o (first_blocks_fault runs))
+    (ap first_block_fault same ∙ fails)
+blocks_at (r ∷ runs) (suc i) run e there none fails =
+    let both = none_either (first_block_fault r) (first_blocks_fault (take i runs)) none in
+    ap (λ (o : Option Error). option_or o (first_blocks_fault runs)) both.0
+    ∙ blocks_at runs i run e there both.1 fails
 
 slice_at : {X : Type 0} (xs : List X) (i : ℕ) (x : X) → i < length xs → x ≡ get_or xs i x
     → slice_get xs i ≡ Some x
@@ -160,9 +201,20 @@ module _ {X S : Type 0} (f : X → List OpenTable) (next : S → Option R → S 
         (sym (ap scans_of (take_next (map f xs) i (f x) there)
         ∙ scans_same (take i (map f xs)) (f x) none)) all
 
+    -- the first blocks so far are loaded
+    pub loads_more : first_blocks_fault (take i (map f xs)) ≡ None → first_block_fault (f x) ≡ None
+        → first_blocks_fault (take (i + 1) (map f xs)) ≡ None
+    loads_more before here = ap first_blocks_fault (take_next (map f xs) i (f x) there)
+        ∙ blocks_more (take i (map f xs)) (f x)
+        ∙ ap (λ (o : Option Error). option_or o (first_block_fault (f x))) before ∙ here
+
     pub scan_begins : (e : Error) → has_table (f x) ≡ true
-        → first (tables_scan (f x)) ≡ Some (Err e) → BeginsWith (scans_of (map f xs)) e
-    scan_begins e some begins = begins_at (map f xs) i (f x) e there some begins
+        → first_blocks_fault (take i (map f xs)) ≡ None → first_block_fault (f x) ≡ Some e
+        → first (tables_scan (f x)) ≡ Some (Err e) → BeginsWith (map f xs) e
+    scan_begins e some before fails begins = record {
+      fault = blocks_at (map f xs) i (f x) e there before fails;
+      begins = begins_at (map f xs) i (f x) e there some begins;
+    }
 
   pub scan_all : (sources : List S) (i : ℕ) → ScanSoFar sources i → length xs ≤ i
       → AllZip (λ s rs. DealsResults next rs s) sources (scans_of (map f xs))
@@ -175,13 +227,25 @@ pub some_table : (ts : List OpenTable) → 0 < length ts → has_table ts ≡ tr
 some_table [] some = absurd (omega (arith, some))
 some_table (t ∷ ts) some = refl
 
+-- a run without a table loads no block
+pub no_block : (ts : List OpenTable) → length ts ≡ 0 → first_block_fault ts ≡ None
+no_block [] none = refl
+no_block (t ∷ ts) none = absurd (omega (arith, none))
+
 pub no_table : (ts : List OpenTable) → length ts ≡ 0 → has_table ts ≡ false
 no_table [] none = refl
 no_table (t ∷ ts) none = absurd (omega (arith, none))
 
+-- the first block of a run is that of its first table
+pub block_of_first : {X : Type 0} (r : Result X Error) (ts : List OpenTable) → 0 < length ts
+    → ((t : OpenTable) → slice_get ts 0 ≡ Some t → Faults r (scan_fault t))
+    → Faults r (first_block_fault ts)
+block_of_first r [] some faults = absurd (omega (arith, some))
+block_of_first r (t ∷ ts) some faults = faults t refl
+
 -- ---- merged, and compacted
 
-each_stops : {S : Type 0} (next : S → Option R → S → Type 0) (stops : Error → Bool)
+pub each_stops : {S : Type 0} (next : S → Option R → S → Type 0) (stops : Error → Bool)
     → stops OutOfMemory ≡ true → (sources : List S) (lists : List (List R))
     → AllZip (λ s rs. DealsResults next rs s) sources lists
     → AllZip (Deals (answer_stops stops) next nowhere) sources lists
@@ -206,3 +270,19 @@ kept_merged front next last sources lists m rules (Ok t) merges compacts deal as
       ascend = ascend;
     }))
 kept_merged front next last sources lists m rules (Err e) merges compacts deal ascend = tt
+
+-- what compacts its source compacts what that deals
+pub compacts_as : {M T F C : Type 0} (next : M → Option R → M → Type 0)
+    (last : T → Option R → T → Type 0) (m : M) (rules : Rules)
+    (gives : F → Entry → Result Verdict Error → F → Type 0) (gets : C → Entry → C → Type 0) (f : F)
+    (c : C) (source_in : T → M) (filter_in : T → F) (callback_in : T → C) (r : Result T Error)
+    (xs : List R) → IfOk r (λ t. CompactsLentResults next m last t rules gives gets f c source_in
+    filter_in callback_in) → Deals (answer_stops is_memory) next nowhere m xs
+    → IfOk r (λ t. CompactsAs gives gets rules f c xs last t filter_in callback_in)
+compacts_as next last m rules gives gets f c source_in filter_in callback_in (Ok t) xs law has =
+    record {
+      whole = λ gave u v fine runs ended. law.whole is_memory xs gave u v refl has fine runs ended;
+      part = λ gave u fine runs. law.part is_memory xs gave u refl has fine runs;
+    }
+compacts_as next last m rules gives gets f c source_in filter_in callback_in (Err e) xs law has =
+    tt

@@ -11,6 +11,7 @@ use Rattle.sst_entries.specs.Error.{is_memory}
 use Rattle.sst_entries.specs.Stream.{answer_stops, nowhere, ok_results}
 use Rattle.sst_entries.proofs.StreamLemmas.{deals_front, map_append}
 use Rattle.lsm_merge.specs.Ends.{R}
+use Rattle.lsm_readers.specs.Table.{OpenTable}
 use Rattle.lsm_writers.specs.Tables.{TablesWriting, all_written, took, took_fault}
 use Rattle.lsm_writers.specs.Writing.{IsWritable, may_be_written}
 use Rattle.lsm_compactions.specs.AnyRuns.{AreTaken, BeginsWith, CameOf, DealsResults}
@@ -78,15 +79,15 @@ pub refused_of : {A : Type 0} (w : TablesWriting) (rs : List R)
 refused_of w rs (Ok x) h = tt
 refused_of w rs (Err e) h = h
 
--- a scan begins with it, or it is want of memory
-pub begun_or_came : {A : Type 0} (w : TablesWriting) (rs : List R) (scans : List (List R))
+-- a first block cannot be loaded, or memory is refused
+pub begun_or_came : {A : Type 0} (w : TablesWriting) (rs : List R) (runs : List (List OpenTable))
     (r : Result (CompactionOutcome A) Error) (f : Error) → IsErrAnd r (λ y. y ≡ f)
-    → (is_memory f ≡ false → BeginsWith scans f) → CameOf w rs r ⊎ IsErrAnd r (BeginsWith scans)
-begun_or_came w rs scans (Ok x) f is h = absurd is
-begun_or_came {A = A} w rs scans (Err y) f is h = elim (cases_Bool (is_memory f)) [
+    → (is_memory f ≡ false → BeginsWith runs f) → CameOf w rs r ⊎ IsErrAnd r (BeginsWith runs)
+begun_or_came w rs runs (Ok x) f is h = absurd is
+begun_or_came {A = A} w rs runs (Err y) f is h = elim (cases_Bool (is_memory f)) [
   | inl lacks ↦ inl (came_refused {A = A} w rs (Err y) f is (λ fine.
       let both : true ≡ false = sym lacks ∙ fine in absurd cc))
-  | inr fine ↦ inr (subst (BeginsWith scans) (sym is) (h fine))
+  | inr fine ↦ inr (subst (BeginsWith runs) (sym is) (h fine))
 ]
 
 -- ---- a source that deals results

@@ -15,10 +15,8 @@ pub mod TookList
 pub mod Endings
 pub mod AnyScans
 pub mod Observing
-pub mod FilteredOrder
-pub mod FilteredCalls
+pub mod FilteredFront
 pub mod FilteredCame
-pub mod FilteredWhole
 pub mod FilteredFits
 pub mod Scanners
 pub mod Keeping
@@ -29,4 +27,5 @@ pub mod ShownRanges
 pub mod Compactable
 pub mod CompactedBack
 pub mod ListRuns
+pub mod Intervals
 pub mod OpenedRuns

@@ -425,6 +425,13 @@ are_cut m works h = record {
 
 -- ---- a stream that is written
 
+-- one call more
+pub yields_more : {S : Type 0} (next : S → Option R → S → Type 0) (xs : List R) (a b c : S) (x : R)
+    → Yields next a xs b → next b (Some x) c → Yields next a (xs ++ x ∷ []) c
+yields_more next [] a b c x gave step = (c, subst (λ v. next v (Some x) c) (sym gave) step, refl)
+yields_more next (y ∷ xs) a b c x gave step =
+    (gave.0, gave.1, yields_more next xs gave.0 b c x gave.2 step)
+
 module _ {S O : Type 0} (next : S → Option R → S → Type 0)
     (says : O → CompactionProgress → Bool → O → Type 0) (w : TablesWriting) (s : S) (o : O) where
   -- these entries are written, and the observer goes on
@@ -437,12 +444,6 @@ module _ {S O : Type 0} (next : S → Option R → S → Type 0)
     pub told : GoesOnAt says o (told_of m.tables) q
     pub gave : Yields next s (ok_results (all_written m)) t
 
-  yields_more : (xs : List R) (a b c : S) (x : R) → Yields next a xs b → next b (Some x) c
-      → Yields next a (xs ++ x ∷ []) c
-  yields_more [] a b c x gave step = (c, subst (λ v. next v (Some x) c) (sym gave) step, refl)
-  yields_more (y ∷ xs) a b c x gave step =
-      (gave.0, gave.1, yields_more xs gave.0 b c x gave.2 step)
-
   module _ (m : TablesWriting) (t u : S) (progress : CompactionProgress) (q : O)
       (h : Observing m t progress q) (e : Entry) where
     pub gave_more : (n : TablesWriting) → all_written n ≡ all_written m ++ e ∷ []
@@ -450,7 +451,7 @@ module _ {S O : Type 0} (next : S → Option R → S → Type 0)
     gave_more n listed step =
         subst (λ (xs : List R). Yields next s xs u) (sym (ap ok_results listed
         ∙ map_append (all_written m) (e ∷ [])))
-        (yields_more (ok_results (all_written m)) s t u (Ok e) h.gave step)
+        (yields_more next (ok_results (all_written m)) s t u (Ok e) h.gave step)
 
     -- the writer refuses it
     pub failed_entry : next t (Some (Ok e)) u → (f : Error) → took_fault m e ≡ Some f

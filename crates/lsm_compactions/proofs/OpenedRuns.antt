@@ -18,7 +18,7 @@ use Rattle.lsm_compactions.specs.Chain.{IsRunOfList}
 use Rattle.lsm_compactions.specs.Compacted.{AreCompactable, AreWrittenBy}
 use Rattle.lsm_compactions.specs.AnyRuns.{AreTablesBy, HasMade}
 use Rattle.lsm_compactions.specs.OpenedBy.{AreOpenedBy, HasRunBy, IsOpenedBy, IsRunBy}
-use Rattle.lsm_compactions.specs.Written.{number_fault}
+use Rattle.lsm_compactions.specs.Written.{opens_fault}
 use Rattle.lsm_compactions.specs.declared.any_runs.CompactionOutcome.{CompactionOutcome}
 use Rattle.lsm_compactions.specs.declared.any_runs.CompactionOutcome.TheVariants.{OutOfOrder}
 use Rattle.lsm_compactions.specs.declared.any_runs.CompactionOutcome.TheVariants.{Stopped}
@@ -27,7 +27,8 @@ use Rattle.lsm_compactions.specs.declared.open_options.OpenOptions.{OpenOptions}
 use Rattle.lsm_compactions.proofs.Compactable.{held_compactable}
 use Rattle.lsm_compactions.proofs.CompactedBack.{lift_zero}
 use Rattle.lsm_compactions.proofs.HeldRuns.{AreHeld, IsHeld, held_table, run_held}
-use Rattle.lsm_compactions.proofs.RunWriting.{IsPut, number_joined}
+use Rattle.lsm_compactions.proofs.Intervals.{opens_joined}
+use Rattle.lsm_compactions.proofs.RunWriting.{IsPut}
 
 -- the table of a list, by bytes that are those of a finished one
 pub with_bytes : (label : Label) (options : Options) (es : List Entry) (id sum : ℕ)
@@ -78,13 +79,13 @@ module _ {A : Type 0} (how : OpenOptions) where
   abbrev pub OpenedSoFar : List (FinishedTable A) → ℕ → List OpenTable → Type 0
   OpenedSoFar fs i ts = AreOpenedBy how (take i fs) ts
 
-  -- and their numbers fit
+  -- and nothing keeps the others from being opened but what keeps all
   abbrev pub FitSoFar : List (FinishedTable A) → ℕ → Type 0
   FitSoFar fs i =
       (options : Options) (label : Label) (lists : List (List Entry))
-      → options.index_block_restart_interval ≡ 1 → AreFinished options label lists fs
-      → number_fault (joined lists) how.global_seqno
-      ≡ number_fault (joined (drop i lists)) how.global_seqno
+      → AreFinished options label lists fs
+      → opens_fault options (joined lists) how.global_seqno
+      ≡ opens_fault options (joined (drop i lists)) how.global_seqno
 
 finished_at : {A : Type 0} (options : Options) (label : Label) (lists : List (List Entry))
     (fs : List (FinishedTable A)) (i : ℕ) (f : FinishedTable A)
@@ -111,27 +112,31 @@ module _ {A : Type 0} (g : ℕ) (fs : List (FinishedTable A)) (i : ℕ) (f : Fin
   here = finished_at options label lists fs i f h less is
 
   -- the fault of those that are left is that of the next, or else of the others
-  next_fault : number_fault (joined (drop i lists)) g
-      ≡ option_or (number_fault here.1 g) (number_fault (joined (drop (suc i) lists)) g)
-  next_fault = ap (λ (ls : List (List Entry)). number_fault (joined ls) g) here.3
-      ∙ number_joined here.1 (joined (drop (suc i) lists)) g
+  next_fault : opens_fault options (joined (drop i lists)) g
+      ≡ option_or (opens_fault options here.1 g)
+      (opens_fault options (joined (drop (suc i) lists)) g)
+  next_fault = ap (λ (ls : List (List Entry)). opens_fault options (joined ls) g) here.3
+      ∙ opens_joined options here.1 (joined (drop (suc i) lists)) g here.2.some
 
   pub fits_more : ((l : Label) (es : List Entry)
-      → IsTableWith l options es f.id f.checksum.0 f.bytes → number_fault es g ≡ None)
-      → number_fault (joined (drop i lists)) g ≡ number_fault (joined (drop (i + 1) lists)) g
+      → IsTableWith l options es f.id f.checksum.0 f.bytes → opens_fault options es g ≡ None)
+      → opens_fault options (joined (drop i lists)) g
+      ≡ opens_fault options (joined (drop (i + 1) lists)) g
   fits_more fits =
       let n : suc i ≡ i + 1 = omega arith in
       next_fault
-      ∙ ap (λ (o : Option Error). option_or o (number_fault (joined (drop (suc i) lists)) g))
+      ∙ ap (λ (o : Option Error).
+      option_or o (opens_fault options (joined (drop (suc i) lists)) g))
       (fits here.0 here.1 here.2)
-      ∙ ap (λ (k : ℕ). number_fault (joined (drop k lists)) g) n
+      ∙ ap (λ (k : ℕ). opens_fault options (joined (drop k lists)) g) n
 
   pub large_here : (e : Error) → ((l : Label) (es : List Entry)
-      → IsTableWith l options es f.id f.checksum.0 f.bytes → number_fault es g ≡ Some e)
-      → number_fault (joined (drop i lists)) g ≡ Some e
+      → IsTableWith l options es f.id f.checksum.0 f.bytes → opens_fault options es g ≡ Some e)
+      → opens_fault options (joined (drop i lists)) g ≡ Some e
   large_here e large =
       next_fault
-      ∙ ap (λ (o : Option Error). option_or o (number_fault (joined (drop (suc i) lists)) g))
+      ∙ ap (λ (o : Option Error).
+      option_or o (opens_fault options (joined (drop (suc i) lists)) g))
       (large here.0 here.1 here.2)
 
 -- behind the last of them none is left

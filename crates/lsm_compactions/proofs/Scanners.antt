@@ -1,6 +1,6 @@
 -- Scanners of several runs: what they deal together, merged.
 use Rattle.std.proofs.Common.{◌≡◌, refl, sym, ◌∙◌, ap, subst, ℕ, zero, suc, ◌+◌, ◌-◌, ◌<◌, ◌≤◌}
-use Rattle.std.proofs.Common.{Bool, false, List, [], ◌∷◌, ◌++◌, get_or, length, take, arith}
+use Rattle.std.proofs.Common.{false, List, [], ◌∷◌, ◌++◌, get_or, length, take, arith}
 use Rattle.std.specs.Prelude.{Option, Some, None, Result, Ok, Err, IfErr, IfOk, map}
 use Rattle.std.specs.List.{AllByRecursion, slice_get}
 use Rattle.std.proofs.lemmas.List.{take_all, length-map}
@@ -19,12 +19,8 @@ use Rattle.lsm_writers.proofs.Refused.{memory_alone}
 use Rattle.lsm_ranges.specs.Run.{ArePlacesOf, IsInOrder}
 use Rattle.lsm_readers.specs.Scan.{up_to_error}
 use Rattle.lsm_readers.specs.Table.{OpenTable}
-use Rattle.lsm_sorted.specs.declared.ahead.Ahead.{Ahead}
-use Rattle.lsm_sorted.specs.declared.compaction.stream.CompactionStream.{CompactionStream}
-use Rattle.lsm_sorted.specs.Ahead.{HoldsAhead}
 use Rattle.lsm_sorted.specs.declared.compaction.Rules.{Rules}
 use Rattle.lsm_sorted.specs.Compaction.{kept, unfiltered}
-use Rattle.lsm_sorted.specs.CompactionState.{Compacts, source_of}
 use Rattle.lsm_lending.specs.LentCompaction.{DealsCompactedEntries}
 use Rattle.lsm_compactions.specs.Compacted.{AreMergeable, HaveEntries}
 use Rattle.lsm_runs.specs.RunLists.{DealTogether, DealsList, HoldLists}
@@ -174,11 +170,3 @@ pub kept_lent : {S T : Type 0} (front : S → Option R → S → Type 0)
 kept_lent front next source rules es (Ok t) law deals =
     λ stops memory. law.deals stops es memory (deals stops memory)
 kept_lent front next source rules es (Err e) law deals = tt
-
-module _ {S F C : Type 0} (front : S → Option R → S → Type 0) where
-  -- a stream over the source of another goes through the same list
-  pub compacts_still : {G D : Type 0} (stops : Error → Bool) (xs : List R)
-      (s : CompactionStream S F C R) (u : CompactionStream S G D R) → source_of s ≡ source_of u
-      → Compacts stops front u xs → Compacts stops front s xs
-  compacts_still stops xs s u same has =
-      subst (λ (a : Ahead S R). HoldsAhead stops front a xs) (sym same) has

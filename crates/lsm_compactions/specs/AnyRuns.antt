@@ -13,7 +13,7 @@ use Rattle.lsm_writers.specs.declared.writer.FinishedTable.{FinishedTable}
 use Rattle.lsm_writers.specs.Tables.{TablesWriting, all_written, took, took_fault}
 use Rattle.lsm_writers.specs.Writing.{IsWritable, may_be_written}
 use Rattle.lsm_readers.specs.Table.{OpenTable}
-use Rattle.lsm_runs.specs.RunScan.{tables_scan}
+use Rattle.lsm_runs.specs.RunScan.{scan_fault, tables_scan}
 use Rattle.lsm_compactions.specs.Chain.{writes_fault}
 use Rattle.lsm_compactions.specs.Compacted.{AreWrittenBy}
 use Rattle.lsm_compactions.specs.Packed.{has_table}
@@ -150,6 +150,18 @@ DealsResults next rs s = (stops : Error → Bool) → stops OutOfMemory ≡ true
 abbrev pub scans_of : List (List OpenTable) → List (List R)
 scans_of runs = map tables_scan (filter has_table runs)
 
--- one of them begins with this error
-abbrev pub BeginsWith : List (List R) → Error → Type 0
-BeginsWith scans e = Any (λ (rs : List R). first rs ≡ Some (Err e)) scans
+-- the error of loading the first data block of a run
+abbrev pub first_block_fault : List OpenTable → Option Error
+first_block_fault [] = None
+first_block_fault (t ∷ ts) = scan_fault t
+
+-- the first of these, in the order of the runs
+abbrev pub first_blocks_fault : List (List OpenTable) → Option Error
+first_blocks_fault [] = None
+first_blocks_fault (run ∷ runs) = option_or (first_block_fault run) (first_blocks_fault runs)
+
+-- this is the error of the first run, in their order, whose first data block cannot be loaded, and
+-- a scan begins with it
+pub record BeginsWith (runs : List (List OpenTable)) (e : Error) : Type 0 where
+  pub fault : first_blocks_fault runs ≡ Some e
+  pub begins : Any (λ (rs : List R). first rs ≡ Some (Err e)) (scans_of runs)

@@ -2,6 +2,7 @@
 use Rattle.std.specs.Prelude.{◌≡◌, ◌⊎◌, Bool, false, List, [], ◌∷◌, ◌++◌, Option, Some, None}
 use Rattle.std.specs.Prelude.{Result, Ok, Err, ℕ}
 use Rattle.std.specs.Iterator.{Yields}
+use Rattle.std.specs.List.{AllByRecursion}
 use Rattle.sst_entries.specs.Entry.{Entry}
 use Rattle.sst_entries.specs.Error.{is_memory}
 use Rattle.sst_entries.specs.Stream.{ok_results, result_stops}
@@ -10,7 +11,8 @@ use Rattle.sst_entries.specs.declared.error.Error.TheVariants.{OutOfMemory}
 use Rattle.lsm_merge.specs.Ends.{R}
 use Rattle.lsm_sorted.specs.declared.compaction.Rules.{Rules}
 use Rattle.lsm_sorted.specs.Compaction.{Judged, Verdict, entries, kept}
-use Rattle.lsm_sorted.specs.Compacting.{Calls, Compacted}
+use Rattle.lsm_sorted.specs.Compacting.{Compacted}
+use Rattle.lsm_lending.specs.LentCompaction.{CompactedLent, CompactedPart}
 use Rattle.lsm_writers.specs.declared.writer.FinishedTable.{FinishedTable}
 use Rattle.lsm_writers.specs.Tables.{TablesWriting}
 use Rattle.lsm_writers.specs.Writing.{may_be_written}
@@ -97,16 +99,20 @@ RefusesForMemory {F} gives =
     (f g : F) (x : Entry) (e : Error) → gives f x (Err e) g → e ≡ OutOfMemory
 
 module _ {F C : Type 0} (gives : F → Entry → Result Verdict Error → F → Type 0)
-    (gets : C → Entry → C → Type 0) (rules : Rules) where
-  -- calls of a compaction gave these results one after another, from a filter, a callback and a
-  -- list of results to what is left of the three
-  abbrev pub GivesEach : F → C → List R → List R → F → C → List R → Type 0
-  GivesEach f c xs [] g d ys = (f ≡ g) × (c ≡ d) × (xs ≡ ys)
-  GivesEach f c xs (r ∷ rs) g d ys =
-      (h : F) × (b : C) × (zs : List R) × Calls gives gets rules f c xs (Some r) h b zs
-      × GivesEach h b zs rs g d ys
+    (gets : C → Entry → C → Type 0) (rules : Rules) (f : F) (c : C) where
+  -- a source that compacts these results: calls up to the one where nothing comes give, ask and
+  -- report what a compaction of all of them does, and any calls what one of a part does
+  pub record CompactsAs {T : Type 0} (xs : List R) (next : T → Option R → T → Type 0) (s : T)
+      (filter_in : T → F) (callback_in : T → C) : Type 0 where
+    pub whole : (gave : List R) (t u : T)
+        → AllByRecursion (λ r. result_stops is_memory r ≡ false) gave → Yields next s gave t
+        → next t None u
+        → CompactedLent gives gets rules f c xs gave (filter_in u) (callback_in u)
+    pub part : (gave : List R) (t : T)
+        → AllByRecursion (λ r. result_stops is_memory r ≡ false) gave → Yields next s gave t
+        → CompactedPart gives gets rules f c xs gave (filter_in t) (callback_in t)
 
-  module _ (f : F) (c : C) (es : List Entry) (w : TablesWriting) where
+  module _ (es : List Entry) (w : TablesWriting) where
     -- finished tables are those of what a compaction of the list keeps
     pub record KeepsAll {A : Type 0} (fs : List (FinishedTable A)) (left : Option ℕ) (d : C)
         : Type 0 where
@@ -119,8 +125,7 @@ module _ {F C : Type 0} (gives : F → Entry → Result Verdict Error → F → 
     pub record KeepsPart (d : C) : Type 0 where
       pub kept : List Entry
       pub filter : F
-      pub left : List R
-      pub given : GivesEach f c (ok_results es) (ok_results kept) filter d left
+      pub part : CompactedPart gives gets rules f c (ok_results es) (ok_results kept) filter d
 
     -- what a compaction of the list came to, and its callback then; entries come in order
     abbrev pub CameTo : {A : Type 0} → CompactionOutcome A → C → Type 0
@@ -128,39 +133,37 @@ module _ {F C : Type 0} (gives : F → Entry → Result Verdict Error → F → 
     CameTo OutOfOrder d = ⊥
     CameTo Stopped d = KeepsPart d
 
-    -- a compaction of the list gave these results, at the last of which it or the writer refuses
+  module _ (xs : List R) (w : TablesWriting) where
+    -- a compaction of the results gave these, at the last of which it or the writer refuses
     pub record RefusesAt (e : Error) : Type 0 where
       pub gave : List R
       pub filter : F
       pub callback : C
-      pub left : List R
-      pub given : GivesEach f c (ok_results es) gave filter callback left
+      pub part : CompactedPart gives gets rules f c xs gave filter callback
       pub fault : results_fault w gave ≡ Some e
 
-    -- the writer refuses all that a compaction of the list keeps
+    -- the writer refuses all that a compaction of the results keeps
     pub record RefusesKept (e : Error) : Type 0 where
       pub kept : List Entry
       pub filter : F
       pub callback : C
-      pub compacted :
-          Compacted gives gets rules f c (ok_results es) (ok_results kept) filter callback
+      pub compacted : CompactedLent gives gets rules f c xs (ok_results kept) filter callback
       pub fault : writes_fault w kept ≡ Some e
 
     -- which error is met first: of the filter, or of the writer
     abbrev pub RefusesBy : Error → Type 0
     RefusesBy e = RefusesAt e ⊎ RefusesKept e
 
-    -- calls of a compaction of the list gave these results, and its callback is then as said
+    -- calls of a compaction of the results gave these, and its callback is then as said
     pub record KeepsSome (gave : List R) (d : C) : Type 0 where
       pub filter : F
-      pub left : List R
-      pub given : GivesEach f c (ok_results es) gave filter d left
+      pub part : CompactedPart gives gets rules f c xs gave filter d
 
-    -- what such a compaction gives behind these entries: nothing more, where finished tables are
+    -- what such a compaction gives after these entries: nothing more, where finished tables are
     -- theirs; an entry that may not follow them; or nothing was asked of it
     abbrev pub KeepsThen : {A : Type 0} → List Entry → CompactionOutcome A → C → Type 0
     KeepsThen kept (Tables tables left) d =
-        (g : F) × Compacted gives gets rules f c (ok_results es) (ok_results kept) g d
+        (g : F) × CompactedLent gives gets rules f c xs (ok_results kept) g d
         × AreWrittenBy w kept tables.items left
     KeepsThen kept OutOfOrder d =
         (e : Entry) × KeepsSome (ok_results (kept ++ e ∷ [])) d
@@ -173,12 +176,12 @@ module _ {F C : Type 0} (gives : F → Entry → Result Verdict Error → F → 
     KeepsFault kept e =
         ((last : R) × (d : C) × KeepsSome (ok_results kept ++ last ∷ []) d
         × (results_fault w (ok_results kept ++ last ∷ []) ≡ Some e))
-        ⊎ ((g : F) × (d : C) × Compacted gives gets rules f c (ok_results es) (ok_results kept) g d
+        ⊎ ((g : F) × (d : C) × CompactedLent gives gets rules f c xs (ok_results kept) g d
         × (writes_fault w kept ≡ Some e))
 
     module _ {O : Type 0} (says : O → CompactionProgress → Bool → O → Type 0) (o : O) where
-      -- what a compaction of any list came to, and its callback and an observer then: these entries
-      -- of it were kept and written, and it ended so
+      -- what a compaction of any results came to, and its callback and an observer then: these
+      -- entries of it were kept and written, and it ended so
       pub record CameUpTo {A : Type 0} (outcome : CompactionOutcome A) (d : C) (q : O)
           : Type 0 where
         pub kept : List Entry

@@ -9,7 +9,7 @@ use Rattle.lsm_writers.specs.Tables.{TablesWriting}
 use Rattle.lsm_readers.specs.Parts.{recovered_told}
 use Rattle.lsm_readers.specs.Table.{IsOpen, OpenTable}
 use Rattle.lsm_compactions.specs.Chain.{writes_fault}
-use Rattle.lsm_compactions.specs.Written.{number_fault}
+use Rattle.lsm_compactions.specs.Written.{opens_fault}
 use Rattle.lsm_compactions.specs.declared.any_runs.CompactionOutcome.{CompactionOutcome}
 use Rattle.lsm_compactions.specs.declared.any_runs.CompactionOutcome.TheVariants.{OutOfOrder}
 use Rattle.lsm_compactions.specs.declared.any_runs.CompactionOutcome.TheVariants.{Stopped, Tables}
@@ -47,7 +47,7 @@ HasRunBy how (Tables tables left) r = IsRunBy how tables.items r
 HasRunBy how OutOfOrder r = r ≡ None
 HasRunBy how Stopped r = r ≡ None
 
--- what a writer refuses of a list and opening the tables then: a number that is too large once it
--- is lifted
+-- the error of writing a list, or else of opening its tables: an index restart interval other than
+-- 1, or a number that is too large with the global one
 abbrev pub run_with_fault : TablesWriting → List Entry → ℕ → Option Error
-run_with_fault w es g = option_or (writes_fault w es) (number_fault es g)
+run_with_fault w es g = option_or (writes_fault w es) (opens_fault w.present.options es g)

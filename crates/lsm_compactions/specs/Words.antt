@@ -21,14 +21,15 @@ pub use Rattle.lsm_runs.specs.SpansRead.{IsOverSpans}
 pub use Rattle.lsm_compactions.specs.AnyRuns.{AreTablesBy, AreTaken, BeginsWith, CameInOrder}
 pub use Rattle.lsm_compactions.specs.AnyRuns.{CameOf, DealsResults, GoesThrough, HasMade}
 pub use Rattle.lsm_compactions.specs.AnyRuns.{LeavesOrder, RefusesOf, TakesOf, TookList, WritesSome}
-pub use Rattle.lsm_compactions.specs.AnyRuns.{scans_of}
+pub use Rattle.lsm_compactions.specs.AnyRuns.{first_block_fault, scans_of}
 pub use Rattle.lsm_compactions.specs.Chain.{AreCutOf, AreOpened, AreWritten, FitsAsTables}
 pub use Rattle.lsm_compactions.specs.Chain.{IsOpenedOf, IsRunOfList, both_fault, chain_fault}
 pub use Rattle.lsm_compactions.specs.Chain.{ids_behind, run_label, tables_fault, writes_fault}
 pub use Rattle.lsm_compactions.specs.Compacted.{AreCompactable, AreMergeable, AreWrittenBy}
 pub use Rattle.lsm_compactions.specs.Compacted.{DealsWritable, FitsBy}
 pub use Rattle.lsm_compactions.specs.Compacted.{HaveEntries, RunsOn, kept_in, rules_by}
-pub use Rattle.lsm_compactions.specs.Filtered.{CameTo, CameUntil, CameUpTo, FitsKept, IsWritten}
+pub use Rattle.lsm_compactions.specs.Filtered.{CameTo, CameUntil, CameUpTo, CompactsAs, FitsKept}
+pub use Rattle.lsm_compactions.specs.Filtered.{IsWritten}
 pub use Rattle.lsm_compactions.specs.Filtered.{RefusesBy, RefusesForMemory, RefusesWritten}
 pub use Rattle.lsm_compactions.specs.Filtered.{WroteUntil}
 pub use Rattle.lsm_compactions.specs.Observed.{HasBegun, IsCounted, TellsNext, WasTold}
@@ -36,4 +37,4 @@ pub use Rattle.lsm_compactions.specs.Observed.{WasToldUntil}
 pub use Rattle.lsm_compactions.specs.OpenedBy.{AreOpenedBy, HasRunBy, IsOpenedBy, IsRunBy}
 pub use Rattle.lsm_compactions.specs.OpenedBy.{default_opening, run_with_fault}
 pub use Rattle.lsm_compactions.specs.PartReads.{HoldSides, ReadsKept, ReadsOf, ShowAlike}
-pub use Rattle.lsm_compactions.specs.Written.{number_fault}
+pub use Rattle.lsm_compactions.specs.Written.{number_fault, opens_fault}

@@ -1,9 +1,10 @@
 -- A list that is written, opened and read.
-use Rattle.std.specs.Prelude.{◌≡◌, ℕ, Bool, true, ◌+◌, ◌-◌, ◌^◌, nat_lt, List, [], Option, Some}
-use Rattle.std.specs.Prelude.{None, if◌then◌else◌}
+use Rattle.std.specs.Prelude.{◌≡◌, ℕ, Bool, true, false, not, ◌||◌, ◌==◌, ◌+◌, ◌-◌, ◌^◌, nat_lt}
+use Rattle.std.specs.Prelude.{List, [], ◌∷◌, Option, Some, None, if◌then◌else◌}
 use Rattle.sst_sections.specs.declared.version.TableVersion.TheVariants.{V4}
 use Rattle.sst_entries.specs.declared.error.Error.{Error}
 use Rattle.sst_entries.specs.declared.error.Error.TheVariants.{GlobalSeqNoTooLarge, OutOfMemory}
+use Rattle.sst_entries.specs.declared.error.Error.TheVariants.{UnsupportedIndexInterval}
 use Rattle.sst_entries.specs.Entry.{Entry}
 use Rattle.sst_sections.specs.Fnv.{fnv1a}
 use Rattle.sst_entries.specs.Point.{point}
@@ -11,6 +12,7 @@ use Rattle.sst_entries.specs.Stream.{Deals, ok_results, nowhere, answer_stops}
 use Rattle.std.specs.Option.{option_or}
 use Rattle.lsm_formats.specs.Facts.{highest_seqno}
 use Rattle.lsm_formats.specs.declared.label.Label.{Label}
+use Rattle.lsm_formats.specs.declared.options.Options.{Options}
 use Rattle.lsm_formats.specs.Options.{default_options}
 use Rattle.lsm_formats.specs.Table.{IsTable}
 use Rattle.lsm_writers.specs.Writing.{list_fault}
@@ -26,6 +28,21 @@ use Rattle.lsm_readers.specs.Table.{OpenTable}
 abbrev pub number_fault : List Entry → ℕ → Option Error
 number_fault es g =
     if nat_lt (2 ^ 64 - 1) (highest_seqno es + g) then Some GlobalSeqNoTooLarge else None
+
+-- a list has an entry
+abbrev pub is_nonempty : List Entry → Bool
+is_nonempty [] = false
+is_nonempty (e ∷ es) = true
+
+-- no reader opens a table whose index has a restart interval other than 1
+abbrev pub interval_fault : Options → List Entry → Option Error
+interval_fault options es =
+    if options.index_block_restart_interval == 1 || not (is_nonempty es) then None
+    else Some UnsupportedIndexInterval
+
+-- the error of opening the tables of a list that were written with these options
+abbrev pub opens_fault : Options → List Entry → ℕ → Option Error
+opens_fault options es g = option_or (interval_fault options es) (number_fault es g)
 
 -- what writing a list as a table and opening it refuses
 abbrev pub opening_fault : Label → List Entry → ℕ → Option Error

@@ -148,8 +148,9 @@ fn write_in_order<L: Lending + Drop, A: Allocator + Clone>(
 /// Where the runs may be given to [`compact_runs`](crate::compact_runs), the answer is the finished
 /// tables and the counter that it answers, and the refusal its refusal. Of any tables it is refused
 /// with the first fault of loading their blocks, as [`MultiWriter::write`] and
-/// [`MultiWriter::finish`] are, and [`Error::OutOfMemory`]; a fault at the front of a run comes
-/// before any of the writer. Whatever is answered, the runs are as they were.
+/// [`MultiWriter::finish`] are, and [`Error::OutOfMemory`]. The first data block of each run is
+/// loaded before anything is written, in the order of the runs. Whatever is answered, the runs are
+/// as they were.
 pub fn compact_any_runs<A: Allocator + Clone>(
     alloc: A,
     runs: &[Arc<Run<Table<A>, A>, A>],
@@ -182,11 +183,12 @@ pub fn compact_any_runs<A: Allocator + Clone>(
         IfErr result (λ e. is_memory e ≡ false →
         RefusesOf writer (ok_results (kept_in rules lists)) e) }
     // Of any tables whose scans come in order in each run, it is what comes of writing what is kept
-    // of the scans together, the first fault in its place; or a scan begins with the fault.
+    // of the scans together, the first fault in its place; or it is the error of the first run whose
+    // first data block cannot be loaded.
     ensures any { let scans = scans_of (map arc_value runs.now) in
         AllByRecursion (λ rs. Ascends (entries_among rs)) scans →
         CameOf writer (lent_outs rules (merge_of scans)) result
-        ⊎ IsErrAnd result (BeginsWith scans) }
+        ⊎ IsErrAnd result (BeginsWith (map arc_value runs.now)) }
     // Whatever the tables hold, what is made are tables of a list that can be written.
     ensures made { IfOk result (HasMade writer) }
     // No observer stops it.

@@ -1,67 +1,72 @@
 //! Compacting several runs of any tables, with a filter, a callback and an observer.
-ghost use Rattle.std.specs.Prelude.{◌≡◌, ◌++◌, ◌∷◌, [], All, Bool, false, true, IfErr, IfOk};
-ghost use Rattle.std.specs.Prelude.{IsTrue, List, OnErr, OnOk, map};
+ghost use Rattle.std.specs.Prelude.{◌≡◌, ◌⊎◌, ◌++◌, ◌∷◌, [], All, Bool, false, true, IfErr, IfOk};
+ghost use Rattle.std.specs.Prelude.{IsTrue, List, MatchResult, OnErr, OnOk, map};
 ghost use Rattle.std.specs.Arc.{arc_value};
-ghost use Rattle.std.specs.Iterator.{IsFinite};
-ghost use Rattle.std.specs.List.{AllByRecursion};
+ghost use Rattle.std.specs.List.{AllByRecursion, AllZip};
 ghost use Rattle.sst_entries.specs.declared.error.Error.{Error};
 ghost use Rattle.sst_entries.specs.declared.error.Error.TheVariants.{OutOfMemory};
 ghost use Rattle.sst_entries.specs.Error.{is_memory};
+ghost use Rattle.sst_entries.specs.Lending.{entry_of_ref};
 ghost use Rattle.sst_entries.specs.Stream.{ok_results};
-ghost use Rattle.lsm_sorted.specs.CompactionState.{Compacts, callback_of, filter_of, rules_of};
+ghost use Rattle.lsm_merge.specs.Ends.{R};
+ghost use Rattle.lsm_merge.specs.InPlace.{merge_of};
+ghost use Rattle.lsm_merge.specs.Union.{Ascends, entries_among};
+ghost use Rattle.lsm_lending.specs.LentCompaction.{lent_callback, lent_filter};
 ghost use Rattle.lsm_writers.specs.Tables.{all_written, took, took_fault};
 ghost use Rattle.lsm_writers.specs.Writing.{may_be_written};
-ghost use Rattle.lsm_compactions.specs.Words.{AreCompactable, AreMergeable, CameTo, CameUntil};
-ghost use Rattle.lsm_compactions.specs.Words.{CameUpTo};
-ghost use Rattle.lsm_compactions.specs.Words.{CanDeal, DealTogether, Entry, Faults, FitsKept};
+ghost use Rattle.lsm_compactions.specs.Words.{AreCompactable, AreMergeable, BeginsWith, CameTo};
+ghost use Rattle.lsm_compactions.specs.Words.{CameUntil, CameUpTo, CanDeal, CompactsAs};
+ghost use Rattle.lsm_compactions.specs.Words.{DealTogether, DealsResults, Entry, Faults, FitsKept};
 ghost use Rattle.lsm_compactions.specs.Words.{HasBegun, HasMade, HaveEntries, IsCounted};
 ghost use Rattle.lsm_compactions.specs.Words.{IsFreshRun, IsWritten, RefusesBy, RefusesForMemory};
 ghost use Rattle.lsm_compactions.specs.Words.{RefusesWritten, RunsHoldLists, RunsOn, TellsNext};
 ghost use Rattle.lsm_compactions.specs.Words.{TookList, WasTold, WasToldUntil, WroteUntil, joined};
-ghost use Rattle.lsm_compactions.specs.Words.{nowhere, union_in};
+ghost use Rattle.lsm_compactions.specs.Words.{nowhere, scans_of, union_in};
 
 use crate::any_runs::{Ending, ended};
-use crate::compact::scanners_of;
+use crate::compact::{Compacted, scanners_of};
 use crate::{CompactionObserver, CompactionOutcome, CompactionProgress};
-use lsm_merge::Merger;
+use lsm_lending::LendingMerger;
+use lsm_lending::compaction::lending::{LendingCompaction, LentCallback, LentFilter};
 use lsm_ranges::Run;
 use lsm_readers::Table;
 use lsm_runs::RunScanner;
 use lsm_sorted::compaction::Rules;
-use lsm_sorted::compaction::stream::{CompactionStream, DroppedKvCallback, StreamFilter};
 use lsm_writers::{MultiWriter, tables_law};
-use sst_blocks::{Error, InternalValue, IterItem};
+use sst_blocks::{EntryRef, Error, Lending};
 use std::alloc::Allocator;
 use std::sync::Arc;
 
 // Writes an entry and counts it. Where a table was finished for it, the observer is told, and says
-// whether to go on. Refused as the writer is.
+// whether to go on. Fails as the writer does.
 fn write_and_tell<O: CompactionObserver, A: Allocator + Clone>(
     writer: &mut MultiWriter<A>,
-    item: InternalValue<A>,
+    entry: &EntryRef<'_>,
     progress: &mut CompactionProgress,
     observer: &mut O,
 ) -> Result<bool, Error>
-    requires { IsTrue (may_be_written (all_written writer.old) item.user_key item.seqno) }
-    ensures ok { OnOk result (writer.new ≡ took writer.old item) }
-    // On a refusal the observer was told nothing.
+    requires { let e = entry_of_ref entry.now in
+        IsTrue (may_be_written (all_written writer.old) e.user_key e.seqno) }
+    ensures ok { OnOk result (writer.new ≡ took writer.old (entry_of_ref entry.now)) }
+    // After an error the observer was told nothing.
     ensures still { OnErr result (observer.new ≡ observer.old) }
-    ensures listed { OnOk result (all_written writer.new ≡ all_written writer.old ++ item ∷ []) }
-    ensures refused { Faults result (took_fault writer.old item) }
+    ensures listed { OnOk result
+        (all_written writer.new ≡ all_written writer.old ++ entry_of_ref entry.now ∷ []) }
+    ensures refused { Faults result (took_fault writer.old (entry_of_ref entry.now)) }
     ensures counts { IsCounted progress.old writer.old → HasBegun writer.old →
         OnOk result (IsCounted progress.new writer.new) }
     ensures told { IsCounted progress.old writer.old → HasBegun writer.old → IfOk result (λ goes.
         TellsNext O.says writer.old writer.new observer.old goes observer.new) }
 {
     let ids = writer.table_ids();
-    writer.write(item)?;
+    writer.write_ref(entry)?;
     let written = progress.entries;
     progress.entries = written.saturating_add(1);
     // The first entry finishes no table.
     if written == 0 {
         return Ok(true);
     }
-    // Behind it an id is drawn just where one is finished.
+    // After it an id is drawn just where one is finished.
     if writer.table_ids() == ids {
         return Ok(true);
     }
@@ -72,137 +77,142 @@ fn write_and_tell<O: CompactionObserver, A: Allocator + Clone>(
     }))
 }
 
-// Writes what a stream gives, for as long as each entry may follow the one before it and the
-// observer lets it go on. Refused as the stream and the writer are.
-fn write_while_observed<
-    I: Iterator<Item = IterItem<A>>,
-    O: CompactionObserver,
-    A: Allocator + Clone,
->(items: &mut I, writer: &mut MultiWriter<A>, observer: &mut O) -> Result<Ending, Error>
+// Writes what a source lends, for as long as each entry may follow the one before it and the
+// observer lets it go on. Fails as the source and the writer do.
+fn write_while_observed<L: Lending, O: CompactionObserver, A: Allocator + Clone>(
+    source: &mut L,
+    writer: &mut MultiWriter<A>,
+    observer: &mut O,
+) -> Result<Ending, Error>
     requires fresh { IsFreshRun writer.old }
-    requires can { I.can_next items.old }
-    requires finite { IsFinite (I.remaining items.old) }
+    requires can { CanDeal L.advances nowhere L.can_advance L.can_advance source.old }
     ensures took { OnOk result (TookList writer.old (all_written writer.new) writer.new) }
-    ensures wrote { IfOk result (λ ending. WroteUntil I.next_gives writer.old items.old O.says
-        observer.old (all_written writer.new) ending items.new observer.new) }
-    ensures refused { IfErr result (λ e. RefusesWritten I.next_gives writer.old items.old O.says
+    ensures wrote { IfOk result (λ ending. WroteUntil L.advances writer.old source.old O.says
+        observer.old (all_written writer.new) ending source.new observer.new) }
+    ensures refused { IfErr result (λ e. RefusesWritten L.advances writer.old source.old O.says
         observer.old e observer.new) }
 {
     let mut progress = CompactionProgress {
         tables: 0,
         entries: 0,
     };
-    while let Some(item) = items.next() {
-        let item = item?;
-        if !writer.can_follow(&item.key) {
-            return Ok(Ending::AtDisorder);
-        }
-        let goes_on = write_and_tell(writer, item, &mut progress, observer)?;
-        if !goes_on {
-            return Ok(Ending::AtStop);
+    while source.advance()? {
+        if let Some(entry) = source.entry() {
+            if !writer.can_follow_ref(&entry) {
+                return Ok(Ending::AtDisorder);
+            }
+            let goes_on = write_and_tell(writer, &entry, &mut progress, observer)?;
+            if !goes_on {
+                return Ok(Ending::AtStop);
+            }
         }
     }
     Ok(Ending::AtEnd)
 }
 
-// What a compaction of some sources gives. What takes it is generic in the sources, as what takes
-// `Kept` is.
-type Compacted<I, F, C, A> = CompactionStream<Merger<I, A>, F, C>;
-
-// Writes what a compaction gives, for as long as each entry may follow the one before it and the
-// observer lets it go on, and finishes. Refused as the stream and the writer are.
+// Writes what a compaction lends, for as long as each entry may follow the one before it and the
+// observer lets it go on, and finishes. Fails as the compaction and the writer do.
 fn write_observed<
-    I: Iterator<Item = IterItem<A>>,
-    F: StreamFilter<A> + Drop,
-    C: DroppedKvCallback<A> + Drop,
+    L: Lending,
+    F: LentFilter<A> + Drop,
+    C: LentCallback + Drop,
     O: CompactionObserver,
     A: Allocator + Clone,
 >(
-    items: &mut Compacted<I, F, C, A>,
+    source: &mut Compacted<L, F, C, A>,
     mut writer: MultiWriter<A>,
     observer: &mut O,
 ) -> Result<CompactionOutcome<A>, Error>
     requires fresh { IsFreshRun writer }
     requires next { RunsOn writer }
-    requires can { ⟦<Compacted<I, F, C, A> as Iterator>⟧.can_next items.old }
-    requires finite { IsFinite (⟦<Compacted<I, F, C, A> as Iterator>⟧.remaining items.old) }
-    ensures written { let gives = ⟦<Compacted<I, F, C, A> as Iterator>⟧.next_gives in
+    requires can { CanDeal ⟦<Compacted<L, F, C, A> as Lending>⟧.advances nowhere
+        ⟦<Compacted<L, F, C, A> as Lending>⟧.can_advance
+        ⟦<Compacted<L, F, C, A> as Lending>⟧.can_advance source.old }
+    ensures written { let next = ⟦<Compacted<L, F, C, A> as Lending>⟧.advances in
         IfOk result (λ r.
-        IsWritten gives writer items.old O.says observer.old r items.new observer.new) }
+        IsWritten next writer source.old O.says observer.old r source.new observer.new) }
     ensures made { IfOk result (HasMade writer) }
     ensures told { IfOk result (λ r. WasTold O.says writer r observer.old observer.new) }
-    ensures refused { let gives = ⟦<Compacted<I, F, C, A> as Iterator>⟧.next_gives in
+    ensures refused { let next = ⟦<Compacted<L, F, C, A> as Lending>⟧.advances in
         IfErr result (λ e.
-        RefusesWritten gives writer items.old O.says observer.old e observer.new) }
+        RefusesWritten next writer source.old O.says observer.old e observer.new) }
 {
-    let ending = write_while_observed(items, &mut writer, observer);
+    let ending = write_while_observed(source, &mut writer, observer);
     ended(writer, ending)
 }
 
 // All entries of some sources together, in order, as they are compacted. It is generic in these, so
 // that none of a scanner's parts is looked at.
 fn compacted_from<
-    I: Iterator<Item = IterItem<A>>,
-    F: StreamFilter<A> + Drop,
-    C: DroppedKvCallback<A> + Drop,
+    L: Lending + Drop,
+    F: LentFilter<A> + Drop,
+    C: LentCallback + Drop,
     A: Allocator + Clone,
 >(
     alloc: A,
-    sources: Vec<I, A>,
+    sources: Vec<L, A>,
     rules: Rules,
     filter: F,
     callback: C,
-) -> Result<Compacted<I, F, C, A>, Error>
-    ensures can { All (CanDeal I.next_gives nowhere I.can_next I.can_next) sources.items →
-        All (λ s. IsFinite (I.remaining s)) sources.items →
-        IfOk result ⟦<Compacted<I, F, C, A> as Iterator>⟧.can_next }
-    ensures list { let gives = ⟦<Merger<I, A> as Iterator>⟧.next_gives in
+) -> Result<Compacted<L, F, C, A>, Error>
+    ensures can { All (CanDeal L.advances nowhere L.can_advance L.can_advance) sources.items →
+        IfOk result (CanDeal ⟦<Compacted<L, F, C, A> as Lending>⟧.advances nowhere
+        ⟦<Compacted<L, F, C, A> as Lending>⟧.can_advance
+        ⟦<Compacted<L, F, C, A> as Lending>⟧.can_advance) }
+    ensures list { let next = ⟦<Compacted<L, F, C, A> as Lending>⟧.advances in
         (lists : List (List (List Entry))) →
-        DealTogether I.next_gives nowhere sources.items (map joined lists) →
-        IfOk result (λ s. (stops : Error → Bool) → stops OutOfMemory ≡ true →
-        Compacts stops gives s (ok_results (union_in lists))) }
-    ensures rules { IfOk result (λ s. rules_of s ≡ rules) }
-    ensures filter { IfOk result (λ s. filter_of s ≡ filter) }
-    ensures callback { IfOk result (λ s. callback_of s ≡ callback) }
+        DealTogether L.advances nowhere sources.items (map joined lists) →
+        IfOk result (λ s. CompactsAs F.gives C.gets rules filter callback
+        (ok_results (union_in lists)) next s lent_filter lent_callback) }
+    // Of any results that come in order from each source, so of them together.
+    ensures any { let next = ⟦<Compacted<L, F, C, A> as Lending>⟧.advances in
+        (lists : List (List R)) →
+        AllZip (λ s rs. DealsResults L.advances rs s) sources.items lists →
+        AllByRecursion (λ rs. Ascends (entries_among rs)) lists →
+        IfOk result (λ s. CompactsAs F.gives C.gets rules filter callback (merge_of lists) next s
+        lent_filter lent_callback) }
     ensures err { IfErr result (λ e. e ≡ OutOfMemory) }
 {
-    let merger = Merger::new(alloc, sources)?;
-    Ok(
-        CompactionStream::new(merger, rules.watermark)
-            .evict_tombstones(rules.evict)
-            .zero_seqnos(rules.zeroing)
-            .with_filter(filter)
-            .with_drop_callback(callback),
-    )
+    let own = alloc.clone()?;
+    let merger = LendingMerger::new(own, sources)?;
+    LendingCompaction::with(alloc, merger, rules, filter, callback)
 }
 
 // All entries of the runs together, in order where the runs may be merged, as they are compacted.
-fn compacted_of<F: StreamFilter<A> + Drop, C: DroppedKvCallback<A> + Drop, A: Allocator + Clone>(
+fn compacted_of<F: LentFilter<A> + Drop, C: LentCallback + Drop, A: Allocator + Clone>(
     alloc: A,
     runs: &[Arc<Run<Table<A>, A>, A>],
     rules: Rules,
     filter: F,
     callback: C,
 ) -> Result<Compacted<RunScanner<A>, F, C, A>, Error>
-    ensures can { IfOk result
-        ⟦<Compacted<RunScanner<A>, F, C, A> as Iterator>⟧.can_next }
-    ensures list { let gives = ⟦<Merger<RunScanner<A>, A> as Iterator>⟧.next_gives in
+    ensures can { IfOk result (CanDeal
+        ⟦<Compacted<RunScanner<A>, F, C, A> as Lending>⟧.advances nowhere
+        ⟦<Compacted<RunScanner<A>, F, C, A> as Lending>⟧.can_advance
+        ⟦<Compacted<RunScanner<A>, F, C, A> as Lending>⟧.can_advance) }
+    ensures list { let next = ⟦<Compacted<RunScanner<A>, F, C, A> as Lending>⟧.advances in
         (able : AreMergeable (map arc_value runs.now)) →
-        IfOk result (λ s. (stops : Error → Bool) → stops OutOfMemory ≡ true →
-        Compacts stops gives s (ok_results (union_in able.lists))) }
-    ensures rules { IfOk result (λ s. rules_of s ≡ rules) }
-    ensures filter { IfOk result (λ s. filter_of s ≡ filter) }
-    ensures callback { IfOk result (λ s. callback_of s ≡ callback) }
+        IfOk result (λ s. CompactsAs F.gives C.gets rules filter callback
+        (ok_results (union_in able.lists)) next s lent_filter lent_callback) }
     ensures err { AreMergeable (map arc_value runs.now) → IfErr result (λ e. e ≡ OutOfMemory) }
+    // So of any tables whose scans come in order in each run.
+    ensures any { let next = ⟦<Compacted<RunScanner<A>, F, C, A> as Lending>⟧.advances in
+        let scans = scans_of (map arc_value runs.now) in
+        AllByRecursion (λ rs. Ascends (entries_among rs)) scans →
+        IfOk result (λ s. CompactsAs F.gives C.gets rules filter callback (merge_of scans) next s
+        lent_filter lent_callback) }
+    ensures told { IfErr result (λ e. is_memory e ≡ false →
+        BeginsWith (map arc_value runs.now) e) }
 {
     let scanners = scanners_of(alloc.clone()?, runs)?;
     compacted_from(alloc, scanners, rules, filter, callback)
 }
 
 /// Compacts several runs of any tables that were opened into new tables, as
-/// [`compact_any_runs`](crate::compact_any_runs), with a filter and a callback as a
-/// [`CompactionStream`] has them: the filter may change or drop the entries that are kept, and the
-/// callback hears of each entry that is dropped or replaced. It is handed back.
+/// [`compact_any_runs`](crate::compact_any_runs), with a filter and a callback by reference, as a
+/// [`LendingCompaction`] has them: the filter may change or drop the entries that are kept, and the
+/// callback gets each entry that is dropped, replaced or hidden when the compaction passes it. The
+/// callback is returned.
 ///
 /// At the end of each table behind which another begins, the observer is told how many tables are
 /// finished and how many entries they have; where it says so, the compaction stops with
@@ -211,8 +221,8 @@ fn compacted_of<F: StreamFilter<A> + Drop, C: DroppedKvCallback<A> + Drop, A: Al
 /// Refused as [`compact_any_runs`](crate::compact_any_runs) is, and with any error of the filter.
 /// Whatever is answered, the runs are as they were.
 pub fn compact_any_runs_with<
-    F: StreamFilter<A> + Drop,
-    C: DroppedKvCallback<A> + Drop,
+    F: LentFilter<A> + Drop,
+    C: LentCallback + Drop,
     O: CompactionObserver,
     A: Allocator + Clone,
 >(
@@ -238,8 +248,16 @@ pub fn compact_any_runs_with<
     // and the observer was told of what was written.
     ensures merged { (lists : List (List (List Entry))) →
         RunsHoldLists (map arc_value runs.now) lists → AllByRecursion HaveEntries lists →
-        IfOk result (λ r. CameUpTo F.gives C.gets rules filter callback (union_in lists) writer
-        O.says observer.old r.0 r.1 observer.new) }
+        IfOk result (λ r. CameUpTo F.gives C.gets rules filter callback
+        (ok_results (union_in lists)) writer O.says observer.old r.0 r.1 observer.new) }
+    // Of any tables whose scans come in order in each run, that of the scans together, each error
+    // in its place; or the error of the first run whose first data block cannot be loaded.
+    ensures any { let scans = scans_of (map arc_value runs.now) in
+        AllByRecursion (λ rs. Ascends (entries_among rs)) scans → MatchResult result
+        (λ r. CameUpTo F.gives C.gets rules filter callback (merge_of scans) writer O.says
+        observer.old r.0 r.1 observer.new)
+        (λ e. CameUntil F.gives C.gets rules filter callback (merge_of scans) writer O.says
+        observer.old e observer.new ⊎ BeginsWith (map arc_value runs.now) e) }
     // Whatever the tables hold, what is made are tables of a list that can be written.
     ensures made { IfOk result (λ r. HasMade writer r.0) }
     // The observer was told of each table but the last, in their order; it is stopped just where
@@ -250,13 +268,13 @@ pub fn compact_any_runs_with<
     // which are those of what was kept until then, behind which, memory aside, it is refused so.
     ensures until { (lists : List (List (List Entry))) →
         RunsHoldLists (map arc_value runs.now) lists → AllByRecursion HaveEntries lists →
-        IfErr result (λ e. CameUntil F.gives C.gets rules filter callback (union_in lists) writer
-        O.says observer.old e observer.new) }
+        IfErr result (λ e. CameUntil F.gives C.gets rules filter callback
+        (ok_results (union_in lists)) writer O.says observer.old e observer.new) }
     // Memory aside, the refusal is the first one of the filter or of the writer.
     ensures refused { (lists : List (List (List Entry))) →
         RunsHoldLists (map arc_value runs.now) lists → AllByRecursion HaveEntries lists →
         IfErr result (λ e. is_memory e ≡ false →
-        RefusesBy F.gives C.gets rules filter callback (union_in lists) writer e) }
+        RefusesBy F.gives C.gets rules filter callback (ok_results (union_in lists)) writer e) }
     // Where the filter refuses nothing but for want of memory, and whatever may be kept fits as
     // tables, with an id left for each, neither does the compaction.
     ensures taken { AreCompactable (map arc_value runs.now) →
@@ -266,9 +284,9 @@ pub fn compact_any_runs_with<
 {
     // A list whose tables fit is taken whole.
     tables_law();
-    let mut stream = compacted_of(alloc, runs, rules, filter, callback)?;
-    let written = write_observed(&mut stream, writer, observer);
-    let callback = stream.into_callback();
+    let mut source = compacted_of(alloc, runs, rules, filter, callback)?;
+    let written = write_observed(&mut source, writer, observer);
+    let callback = source.into_callback();
     let outcome = written?;
     Ok((outcome, callback))
 }

@@ -19,7 +19,7 @@ ghost use Rattle.lsm_compactions.specs.Words.{DealsList, DealsResults, scans_of}
 ghost use Rattle.lsm_compactions.specs.Words.{DealsWritable, Entry, Faults, FitsBy, HaveEntries};
 ghost use Rattle.lsm_compactions.specs.Words.{HoldLists, IsFreshRun, RunsHoldLists, RunsOn};
 ghost use Rattle.lsm_compactions.specs.Words.{TablesWriting, TookList, joined, kept_in, nowhere};
-ghost use Rattle.lsm_compactions.specs.Words.{rules_by, writes_fault};
+ghost use Rattle.lsm_compactions.specs.Words.{first_block_fault, rules_by, writes_fault};
 
 use lsm_lending::LendingMerger;
 use lsm_lending::compaction::lending::LendingCompaction;
@@ -47,6 +47,8 @@ fn scanner_of<A: Allocator + Clone>(run: &Arc<Run<Table<A>, A>, A>) -> Result<Ru
         (tables_scan (arc_value run.now))) }
     ensures told { IfErr result (λ e. is_memory e ≡ false →
         first (tables_scan (arc_value run.now)) ≡ Some (Err e)) }
+    // It loads the first data block.
+    ensures opens { Faults result (first_block_fault (arc_value run.now)) }
 {
     RunScanner::culled(run.clone()?, (None, None))
 }
@@ -61,12 +63,13 @@ pub(crate) fn scanners_of<A: Allocator + Clone>(
         (able : AreMergeable (map arc_value runs.now)) →
         IfOk result (λ v. DealTogether gives nowhere v.items (map joined able.lists)) }
     ensures err { AreMergeable (map arc_value runs.now) → IfErr result (λ e. e ≡ OutOfMemory) }
-    // Of any tables each deals what its scan gives, or one begins with an error.
+    // Of any tables each deals what its scan gives. Else, except for `OutOfMemory`, the error is
+    // that of the first run whose first data block cannot be loaded.
     ensures any { let gives = ⟦<RunScanner<A> as Iterator>⟧.next_gives in
         IfOk result (λ v. AllZip (λ s rs. DealsResults gives rs s) v.items
         (scans_of (map arc_value runs.now))) }
     ensures told { IfErr result (λ e. is_memory e ≡ false →
-        BeginsWith (scans_of (map arc_value runs.now)) e) }
+        BeginsWith (map arc_value runs.now) e) }
 {
     let mut scanners = Vec::new(alloc);
     for run in runs {
@@ -77,10 +80,13 @@ pub(crate) fn scanners_of<A: Allocator + Clone>(
     Ok(scanners)
 }
 
-/// What is kept of all entries of some sources together, lent from where they lie. What takes it is
-/// generic in the sources: a whole concrete stream costs a proof much where it is handed to a
-/// function that is generic in streams.
-pub(crate) type Kept<L, A> = LendingCompaction<LendingMerger<L, A>, NoFilter, NoCallback, A>;
+/// A compaction of all entries of some sources together, by reference. What takes it is generic in
+/// the sources: a whole concrete stream costs a proof much where it is handed to a function that is
+/// generic in streams.
+pub(crate) type Compacted<L, F, C, A> = LendingCompaction<LendingMerger<L, A>, F, C, A>;
+
+/// The same without a filter and a callback.
+pub(crate) type Kept<L, A> = Compacted<L, NoFilter, NoCallback, A>;
 
 // What is kept of all entries of some sources together, in order. It is generic in these, so that
 // none of a scanner's parts is looked at.
@@ -134,7 +140,7 @@ pub(crate) fn kept_of<A: Allocator + Clone>(
         AllByRecursion (λ rs. Ascends (entries_among rs)) scans →
         IfOk result (DealsResults advances (lent_outs rules (merge_of scans))) }
     ensures told { IfErr result (λ e. is_memory e ≡ false →
-        BeginsWith (scans_of (map arc_value runs.now)) e) }
+        BeginsWith (map arc_value runs.now) e) }
 {
     let scanners = scanners_of(alloc.clone()?, runs)?;
     kept_from(alloc, scanners, rules)

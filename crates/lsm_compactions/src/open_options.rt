@@ -1,10 +1,10 @@
 //! Opening finished tables.
-ghost use Rattle.std.specs.Prelude.{◌≡◌, IfOk, List};
+ghost use Rattle.std.specs.Prelude.{IfOk, List};
 ghost use Rattle.lsm_formats.specs.declared.label.Label.{Label};
 ghost use Rattle.lsm_formats.specs.declared.options.Options.{Options};
 ghost use Rattle.lsm_compactions.specs.Words.{AreFinished, AreOpenedBy, Entry, Faults, Gives};
 ghost use Rattle.lsm_compactions.specs.Words.{IsOpenedBy, IsTableWith, OpenTable, StoresList};
-ghost use Rattle.lsm_compactions.specs.Words.{joined, number_fault, recovered_told};
+ghost use Rattle.lsm_compactions.specs.Words.{joined, opens_fault, recovered_told};
 
 use lsm_formats::TreeId;
 use lsm_readers::Table;
@@ -45,9 +45,12 @@ impl Default for OpenOptions {
 impl OpenOptions {
     /// Opens a finished table, whose bytes are shared: the finished table stays as it is.
     ///
-    /// Refused as [`Table::recover`] is of its bytes. A table that was written of a list with an
-    /// index block restart interval of 1 is refused [`Error::GlobalSeqNoTooLarge`] where the
-    /// highest number plus the global one passes `u64`, and else [`Error::OutOfMemory`] alone.
+    /// # Errors
+    ///
+    /// As [`Table::recover`] of the bytes. A table that was written of a list fails with
+    /// [`Error::UnsupportedIndexInterval`] if its index has a restart interval other than 1, and
+    /// with [`Error::GlobalSeqNoTooLarge`] if the highest number plus the global one passes `u64`;
+    /// else only with [`Error::OutOfMemory`].
     pub fn open<A: Allocator + Clone>(
         &self,
         alloc: A,
@@ -64,12 +67,14 @@ impl OpenOptions {
             IfOk result (λ t. StoresList t.bytes es) }
         ensures refused { (label : Label) (options : Options) (es : List Entry) →
             IsTableWith label options es table.now.id table.now.checksum.0 table.now.bytes →
-            options.index_block_restart_interval ≡ 1 →
-            Faults result (number_fault es self.now.global_seqno) }
+            Faults result (opens_fault options es self.now.global_seqno) }
     {
+        let bytes = table.bytes.clone()?;
+        // Its length is that of a slice.
+        let _len = bytes.len();
         let opened = Table::recover(
             alloc,
-            table.bytes.clone()?,
+            bytes,
             table.checksum,
             self.global_seqno,
             self.tree_id,
@@ -90,8 +95,8 @@ pub(crate) fn open_all<A: Allocator + Clone>(
 ) -> Result<Vec<Table<A>, A>, Error>
     ensures opened { IfOk result (λ v. AreOpenedBy how.now tables.now v.items) }
     ensures refused { (options : Options) (label : Label) (lists : List (List Entry)) →
-        options.index_block_restart_interval ≡ 1 → AreFinished options label lists tables.now →
-        Faults result (number_fault (joined lists) how.now.global_seqno) }
+        AreFinished options label lists tables.now →
+        Faults result (opens_fault options (joined lists) how.now.global_seqno) }
 {
     let how = *how;
     let mut opened = Vec::new(alloc.clone()?);

@@ -9,7 +9,7 @@ ghost use Rattle.lsm_compactions.specs.Words.{CameInOrder, Entry, Faults, FitsBy
 ghost use Rattle.lsm_compactions.specs.Words.{HasMade, HasRunBy, HaveEntries, IsFreshRun, IsRunBy};
 ghost use Rattle.lsm_compactions.specs.Words.{IsRunOfList, IsWritable, RunsHoldLists};
 ghost use Rattle.lsm_compactions.specs.Words.{TablesWriting, highest_seqno, kept_in, lift};
-ghost use Rattle.lsm_compactions.specs.Words.{number_fault, run_with_fault};
+ghost use Rattle.lsm_compactions.specs.Words.{opens_fault, run_with_fault};
 
 use crate::open_options::open_all;
 use crate::written_run::write_by;
@@ -27,10 +27,12 @@ use std::sync::Arc;
 /// tables come beside it, so that a store keeps their bytes, with the writer's counter of ids
 /// behind them.
 ///
-/// Refused as [`MultiWriter::write`] and [`MultiWriter::finish`] are, then as
-/// [`OpenOptions::open`] is: of tables with an index block restart interval of 1
-/// [`Error::GlobalSeqNoTooLarge`] where the highest number plus the global one passes `u64`; and
-/// [`Error::OutOfMemory`].
+/// # Errors
+///
+/// As [`MultiWriter::write`] and [`MultiWriter::finish`], then as [`OpenOptions::open`] of the first
+/// table: [`Error::UnsupportedIndexInterval`] if the writer's index restart interval is not 1, then
+/// [`Error::GlobalSeqNoTooLarge`] if the highest number plus the global one passes `u64`. Each call
+/// may fail with [`Error::OutOfMemory`].
 pub fn write_run_with<A: Allocator + Clone>(
     alloc: A,
     writer: MultiWriter<A>,
@@ -49,10 +51,11 @@ pub fn write_run_with<A: Allocator + Clone>(
     // Where the lifted list can be written, the run may be compacted.
     ensures able { IsWritable (lift items.items how.now.global_seqno) →
         IfOk result (λ r. IfSome r.1 (λ run. AreCompactable (run ∷ []))) }
-    // Memory aside, the refusal is the writer's first one, or else that of the numbers.
-    ensures refused { writer.present.options.index_block_restart_interval ≡ 1 →
-        Faults result (run_with_fault writer items.items how.now.global_seqno) }
-    // A list whose tables fit, with an id left for each, is refused for want of memory alone.
+    // Except for `OutOfMemory`, the error is the writer's first one, or else that of an index
+    // restart interval other than 1, or else that of the numbers.
+    ensures refused { Faults result (run_with_fault writer items.items how.now.global_seqno) }
+    // With an interval of 1 a list whose tables fit, with an id left for each, fails only with
+    // `OutOfMemory`.
     ensures taken { writer.present.options.index_block_restart_interval ≡ 1 →
         FitsBy writer items.items → highest_seqno items.items + how.now.global_seqno < 2 ^ 64 →
         IfErr result (λ e. e ≡ OutOfMemory) }
@@ -70,9 +73,8 @@ fn open_outcome<A: Allocator + Clone>(
     how: &OpenOptions,
 ) -> Result<Option<Run<Table<A>, A>>, Error>
     ensures opened { IfOk result (HasRunBy how.now outcome.now) }
-    ensures refused { (w : TablesWriting) (es : List Entry) →
-        w.present.options.index_block_restart_interval ≡ 1 → AreTablesBy w es outcome.now →
-        Faults result (number_fault es how.now.global_seqno) }
+    ensures refused { (w : TablesWriting) (es : List Entry) → AreTablesBy w es outcome.now →
+        Faults result (opens_fault w.present.options es how.now.global_seqno) }
 {
     match outcome {
         CompactionOutcome::Tables(tables, _) => Ok(Run::new(open_all(alloc, tables, how)?)),
@@ -118,12 +120,13 @@ pub fn compact_to_run_with<A: Allocator + Clone>(
     // Without a global number the run may be compacted again, whatever the tables held.
     ensures able { how.now.global_seqno ≡ 0 →
         IfOk result (λ r. IfSome r.1 (λ run. AreCompactable (run ∷ []))) }
-    // Memory aside, the refusal is the writer's first one, or else that of the numbers.
+    // Except for `OutOfMemory`, the error is the writer's first one, or else that of an index
+    // restart interval other than 1, or else that of the numbers.
     ensures refused { AreCompactable (map arc_value runs.now) →
         (lists : List (List (List Entry))) → RunsHoldLists (map arc_value runs.now) lists →
-        writer.present.options.index_block_restart_interval ≡ 1 →
         Faults result (run_with_fault writer (kept_in rules lists) how.now.global_seqno) }
-    // Where what is kept fits as tables, with an id left for each, that is want of memory alone.
+    // With an interval of 1, where what is kept fits as tables, with an id left for each, that is
+    // `OutOfMemory` alone.
     ensures taken { AreCompactable (map arc_value runs.now) →
         (lists : List (List (List Entry))) → RunsHoldLists (map arc_value runs.now) lists →
         let left = kept_in rules lists in

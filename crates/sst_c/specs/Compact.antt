@@ -53,10 +53,11 @@ pub record IsCompactionOf (runs : List (List OpenTable)) (rules : Rules) (w : Ta
       AllByRecursion HaveEntries lists → IfErr came (λ e. is_memory e ≡ false →
       RefusesOf w (ok_results (kept_in rules lists)) e)
   -- of any tables whose scans come in order, it is what comes of writing what is kept of the scans
-  -- together, the first fault in its place; or a scan begins with the fault
+  -- together, the first fault in its place; or it is the error of the first run whose first data
+  -- block cannot be loaded
   pub any : AllByRecursion (λ (rs : List R). Ascends (entries_among rs)) (scans_of runs) →
       CameOf w (lent_outs rules (merge_of (scans_of runs))) came
-      ⊎ IsErrAnd came (BeginsWith (scans_of runs))
+      ⊎ IsErrAnd came (BeginsWith runs)
   -- whatever the tables hold, what is made are tables of a list that can be written
   pub made : IfOk came (HasMade w)
   pub through : IfOk came GoesThrough

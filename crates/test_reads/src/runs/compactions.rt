@@ -5,11 +5,10 @@ use logpurple::{
     CompactionObserver, CompactionOutcome, CompactionProgress, NoObserver, OpenOptions, Rules,
     Scanner, Table, compact_any_runs_with, compact_to_run_with, compaction_law, get_runs,
 };
-use lsm_sorted::compaction::stream::{
-    DroppedKvCallback, NoCallback, NoFilter, StreamFilter, StreamFilterVerdict,
-};
+use lsm_lending::compaction::lending::{LentCallback, LentFilter};
+use lsm_sorted::compaction::stream::{NoCallback, NoFilter, StreamFilterVerdict};
 use lsm_writers::{FinishedTable, MultiWriter, TableId, TableIds, Timestamp};
-use sst_blocks::{Error, InternalValue, IterItem, SeqNo, Slice, UserValue, ValueType};
+use sst_blocks::{EntryRef, Error, IterItem, SeqNo, Slice, UserValue, ValueType};
 use std::alloc::{Allocator, Global};
 use test_tables::large::asked;
 use test_tables::runs::{Lists, Tables, runs_of};
@@ -24,14 +23,14 @@ pub(crate) type Listed = ([Option<Version>; 10], usize);
 const NONE: Listed = ([None; 10], 0);
 
 // Puts an entry behind the others.
-fn put<A: Allocator>(listed: &mut Listed, item: &InternalValue<A>) {
-    let key = match item.key.user_key.as_slice() {
+fn put(listed: &mut Listed, item: &EntryRef<'_>) {
+    let key = match item.user_key {
         [byte] => *byte,
         _ => 0,
     };
     let (versions, count) = listed;
     if let Some(slot) = versions.get_mut(*count) {
-        *slot = Some((key, item.key.seqno, item.key.value_type));
+        *slot = Some((key, item.seqno, item.value_type));
     }
     *count = count.saturating_add(1);
 }
@@ -53,7 +52,7 @@ fn put_next<A: Allocator>(
     item: IterItem<A>,
 ) -> Result<Listed, Error> {
     let mut listed = listed?;
-    put(&mut listed, &item?);
+    put(&mut listed, &item?.as_entry_ref());
     Ok(listed)
 }
 
@@ -86,11 +85,11 @@ struct DropsAndHides {
     hidden: SeqNo,
 }
 
-impl<A: Allocator> StreamFilter<A> for DropsAndHides {
+impl<A: Allocator> LentFilter<A> for DropsAndHides {
     ghost gives = { λ f x v g. Unit {0} };
 
-    fn filter_item(&mut self, item: &InternalValue<A>) -> Result<StreamFilterVerdict<A>, Error> {
-        let seqno = item.key.seqno;
+    fn filter_ref(&mut self, entry: &EntryRef<'_>) -> Result<StreamFilterVerdict<A>, Error> {
+        let seqno = entry.seqno;
         if seqno == self.dropped {
             Ok(StreamFilterVerdict::Drop)
         } else if seqno == self.hidden {
@@ -108,10 +107,10 @@ struct Received {
     reports: Listed,
 }
 
-impl<A: Allocator> DroppedKvCallback<A> for Received {
+impl LentCallback for Received {
     ghost gets = { λ c x d. Unit {0} };
 
-    fn on_dropped(&mut self, kv: &InternalValue<A>) {
+    fn on_dropped_ref(&mut self, kv: &EntryRef<'_>) {
         put(&mut self.reports, kv);
     }
 }

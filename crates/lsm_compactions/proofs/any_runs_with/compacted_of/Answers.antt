@@ -1,3 +1,4 @@
+use Rattle.lsm_compactions.proofs.FilteredCame.{memory_tells}
 use Rattle.lsm_compactions.proofs.Scanners.{scan_asked}
 use Rattle.lsm_runs.proofs.Together.{all_of}
 use Rattle.lsm_compactions.proofs.any_runs_with.compacted_of.Goals as goal
@@ -5,7 +6,13 @@ use Rattle.lsm_compactions.proofs.any_runs_with.compacted_of.Goals as goal
 pub returns-clause-can : goal.returns-clause-can
 returns-clause-can g c =
     let scanners = c.in_ok-scanners.scanners.items in
-    c.compacted_from.ensures.can (all_of _ scan_asked scanners) (all_of _ (λ s. tt) scanners)
+    c.compacted_from.ensures.can (all_of _ scan_asked scanners)
 
 pub returns-clause-list : goal.returns-clause-list
 returns-clause-list g c able = c.compacted_from.ensures.list able.lists (c.in_ok-scanners.ensures.list able)
+
+pub returns-clause-any : goal.returns-clause-any
+returns-clause-any g c ascend = c.compacted_from.ensures.any _ c.in_ok-scanners.ensures.any ascend
+
+pub returns-clause-told : goal.returns-clause-told
+returns-clause-told g c = memory_tells _ c.compacted_from.result c.compacted_from.ensures.err

@@ -1,18 +1,18 @@
 use Rattle.std.proofs.Common.{◌≡◌}
-use Rattle.std.specs.Iterator.{IsFinite, size}
+use Rattle.sst_entries.specs.Stream.{CanDeal, nowhere}
 use Rattle.lsm_writers.specs.Tables.{all_written}
 use Rattle.lsm_compactions.specs.AnyRuns.{took_all}
 use Rattle.lsm_compactions.proofs.Observing.{Observing}
 use Rattle.lsm_compactions.proofs.any_runs_with.write_while_observed.Given as goal
 
-abbrev pub invariant-loop-item : goal.invariant-loop-item
-invariant-loop-item g l = record {
-  can : g.I.Iterator.can_next l.items;
-  finite : IsFinite (g.I.Iterator.remaining l.items);
-  observing : Observing g.I.Iterator.next_gives g.O.CompactionObserver.says l.fn.writer l.fn.items
-      l.fn.observer l.writer l.items l.progress l.observer;
+abbrev pub invariant-loop-source : goal.invariant-loop-source
+invariant-loop-source g l = record {
+  can : CanDeal g.L.Lending.advances nowhere g.L.Lending.can_advance g.L.Lending.can_advance
+      l.source;
+  observing : Observing g.L.Lending.advances g.O.CompactionObserver.says l.fn.writer l.fn.source
+      l.fn.observer l.writer l.source l.progress l.observer;
   took : l.writer ≡ took_all l.fn.writer (all_written l.writer);
 }
 
-abbrev pub decreases-loop-item : goal.decreases-loop-item
-decreases-loop-item g l = size (g.I.Iterator.remaining l.items)
+abbrev pub decreases-loop-source : goal.decreases-loop-source
+decreases-loop-source g l = g.L.Lending.left l.source

@@ -2,13 +2,14 @@ use Rattle.std.proofs.Common.{◌≡◌, ◌∙◌, ◌<◌, false, length, subs
 use Rattle.std.specs.Prelude.{IfErr, IfOk, Some, Err}
 use Rattle.std.specs.Arc.{arc_value}
 use Rattle.sst_entries.specs.declared.error.Error.{Error}
-use Rattle.sst_entries.specs.Error.{is_memory}
+use Rattle.sst_entries.specs.Error.{Faults, is_memory}
+use Rattle.lsm_compactions.specs.AnyRuns.{first_block_fault}
 use Rattle.sst_entries.specs.Stream.{first, nowhere}
 use Rattle.lsm_block_indexes.specs.Dealt.{DealsEnding}
 use Rattle.lsm_readers.specs.Table.{OpenTable}
 use Rattle.lsm_runs.specs.RunLists.{HoldLists}
 use Rattle.lsm_runs.specs.RunScan.{RunScansNext, tables_scan}
-use Rattle.lsm_compactions.proofs.AnyScans.{scanned_any}
+use Rattle.lsm_compactions.proofs.AnyScans.{block_of_first, scanned_any}
 use Rattle.lsm_compactions.proofs.Scanners.{scan_wants, whole_places, whole_run}
 use Rattle.lsm_compactions.proofs.compact.scanner_of.Goals as goal
 
@@ -44,3 +45,10 @@ returns-clause-told g c =
     let same : ts ≡ arc_value c.args.run.now = c.in_ok-clone.ensures.cases in
     let is = whole_run ts (subst (λ (us : List OpenTable). 0 < length us) (sym same) c.requires) ∙ same in
     subst (λ (us : List OpenTable). IfErr c.culled.result (λ (e : Error). is_memory e ≡ false → first (tables_scan us) ≡ Some (Err e))) is c.culled.ensures.told
+
+pub returns-clause-opens : goal.returns-clause-opens
+returns-clause-opens g c =
+    let ts = arc_value c.in_ok-clone.field-0 in
+    let same : ts ≡ arc_value c.args.run.now = c.in_ok-clone.ensures.cases in
+    subst (λ (us : List OpenTable). Faults c.culled.result (first_block_fault us)) same
+    (block_of_first c.culled.result ts (subst (λ (us : List OpenTable). 0 < length us) (sym same) c.requires) c.culled.ensures.refused)

@@ -1,12 +1,12 @@
-use Rattle.std.proofs.Common.{◌≡◌, arith, false}
+use Rattle.std.proofs.Common.{◌≡◌, arith, false, refl}
 use Rattle.std.specs.Prelude.{map}
 use Rattle.std.specs.Arc.{arc_value}
 use Rattle.sst_entries.specs.Error.{is_memory}
 use Rattle.sst_entries.specs.declared.error.Error.{Error}
 use Rattle.sst_entries.specs.Stream.{nowhere}
 use Rattle.lsm_runs.specs.RunScan.{RunScansNext}
-use Rattle.lsm_compactions.specs.AnyRuns.{BeginsWith, scans_of}
-use Rattle.lsm_compactions.proofs.AnyScans.{no_table, scan_all, scan_begins, scan_more, scan_passed, some_table}
+use Rattle.lsm_compactions.specs.AnyRuns.{BeginsWith}
+use Rattle.lsm_compactions.proofs.AnyScans.{loads_more, no_block, no_table, scan_all, scan_begins, scan_more, scan_passed, some_table}
 use Rattle.lsm_compactions.proofs.FilteredCame.{err_passed}
 use Rattle.lsm_compactions.proofs.RunWriting.{wants}
 use Rattle.lsm_compactions.proofs.Scanners.{own_fact, own_tables, scanned_all, scanned_more}
@@ -18,6 +18,7 @@ pub loop-run-init : goal.loop-run-init
 loop-run-init g c = record {
   held = λ able. rw c.new-scanners.ensures.items (none_together RunScansNext nowhere);
   any = rw c.new-scanners.ensures.items tt;
+  loads = refl;
 }
 
 pub loop-run-preserved : goal.loop-run-preserved
@@ -37,11 +38,14 @@ loop-run-preserved g c =
             (scan_more arc_value RunScansNext runs i run less is c.loop-run.scanners.items w.in_ok-scanner_of.field-0 c.loop-run.invariant.any
             (some_table (arc_value run) (grind (arith, c.is_empty.ensures, w.if-not-is_empty.true)))
             w.in_ok-scanner_of.ensures.any);
+        loads = loads_more arc_value RunScansNext runs i run less is c.loop-run.invariant.loads w.in_ok-scanner_of.ensures.opens;
       }
       | else-not-is_empty w ↦ record {
         held = λ able. absurd (grind (arith, own_tables arc_value runs able i run less is, c.is_empty.ensures, w.if-not-is_empty.false));
         any = rw w.scanners-is (scan_passed arc_value RunScansNext runs i run less is c.loop-run.scanners.items c.loop-run.invariant.any
             (no_table (arc_value run) (grind (arith, c.is_empty.ensures, w.if-not-is_empty.false))));
+        loads = loads_more arc_value RunScansNext runs i run less is c.loop-run.invariant.loads
+            (no_block (arc_value run) (grind (arith, c.is_empty.ensures, w.if-not-is_empty.false)));
       }
     ]
 
@@ -55,9 +59,10 @@ returns-clause-list g c able = scanned_all arc_value c.args.runs.now able c.loop
 
 pub returns-in_err-scanner_of-clause-told : goal.returns-in_err-scanner_of-clause-told
 returns-in_err-scanner_of-clause-told g c =
-    err_passed (λ (e : Error). is_memory e ≡ false → BeginsWith (scans_of (map arc_value c.args.runs.now)) e) c.from_residual.result c.in_err-scanner_of.field-0.0 c.from_residual.ensures.1
+    err_passed (λ (e : Error). is_memory e ≡ false → BeginsWith (map arc_value c.args.runs.now) e) c.from_residual.result c.in_err-scanner_of.field-0.0 c.from_residual.ensures.1
     (λ fine. scan_begins arc_value RunScansNext c.args.runs.now c.loop-run.run-index c.run-item.result c.loop-run-test.true c.run-item.is c.in_err-scanner_of.field-0.0
     (some_table (arc_value c.run-item.result) (grind (arith, c.is_empty.ensures, c.if-not-is_empty.true)))
+    c.loop-run.invariant.loads (c.in_err-scanner_of.ensures.opens fine)
     (c.in_err-scanner_of.ensures.told fine))
 
 pub returns-clause-any : goal.returns-clause-any

@@ -1,4 +1,6 @@
-use Rattle.std.specs.Prelude.{map}
+use Rattle.std.proofs.Common.{◌≡◌, take}
+use Rattle.std.specs.Prelude.{None, map}
+use Rattle.lsm_compactions.specs.AnyRuns.{first_blocks_fault}
 use Rattle.std.specs.Arc.{arc_value}
 use Rattle.sst_entries.specs.Stream.{nowhere}
 use Rattle.lsm_compactions.specs.Compacted.{AreMergeable}
@@ -13,4 +15,5 @@ invariant-loop-run g l = record {
       → ScannedSoFar arc_value l.runs able l.run-index RunScansNext nowhere l.scanners.items
       l.run-index;
   any : ScanSoFar arc_value RunScansNext l.runs l.scanners.items l.run-index;
+  loads : first_blocks_fault (take l.run-index (map arc_value l.runs)) ≡ None;
 }

@@ -6,7 +6,8 @@ use Rattle.sst_entries.proofs.Refusals.{faults_refusal}
 use Rattle.lsm_writers.proofs.Refused.{memory_alone}
 use Rattle.lsm_compactions.specs.Compacted.{kept_in}
 use Rattle.lsm_compactions.specs.OpenedBy.{run_with_fault}
-use Rattle.lsm_compactions.specs.Written.{number_fault}
+use Rattle.lsm_compactions.specs.Written.{opens_fault}
+use Rattle.lsm_compactions.proofs.Intervals.{opens_one}
 use Rattle.lsm_compactions.proofs.OpenedRuns.{outcome_able, outcome_run}
 use Rattle.lsm_compactions.proofs.RunWriting.{small_number, wants}
 use Rattle.lsm_compactions.proofs.runs_with.compact_to_run_with.Goals as goal
@@ -20,28 +21,28 @@ returns-clause-able g c none =
     outcome_able c.args.how.now c.args.writer c.in_ok-outcome.outcome c.in_ok-opened.opened c.in_ok-outcome.ensures.made c.in_ok-opened.ensures.opened none
 
 pub returns-in_err-outcome-clause-refused : goal.returns-in_err-outcome-clause-refused
-returns-in_err-outcome-clause-refused g c able lists held one =
+returns-in_err-outcome-clause-refused g c able lists held =
     let a = c.args in
     let n = a.how.now.global_seqno in
     let r = c.from_residual-in_err-outcome in
     faults_refusal r.result c.in_err-outcome.field-0.0 (run_with_fault a.writer (kept_in a.rules lists) n) r.ensures.1
-    (λ memory. ap (λ (x : Option Error). option_or x (number_fault (kept_in a.rules lists) n)) (c.in_err-outcome.ensures.refused able lists held memory))
+    (λ memory. ap (λ (x : Option Error). option_or x (opens_fault a.writer.present.options (kept_in a.rules lists) n)) (c.in_err-outcome.ensures.refused able lists held memory))
 
 pub returns-in_err-opened-clause-refused : goal.returns-in_err-opened-clause-refused
-returns-in_err-opened-clause-refused g c able lists held one =
+returns-in_err-opened-clause-refused g c able lists held =
     let a = c.args in
     let n = a.how.now.global_seqno in
     let r = c.from_residual-in_err-opened in
     faults_refusal r.result c.in_err-opened.field-0.0 (run_with_fault a.writer (kept_in a.rules lists) n) r.ensures.1
-    (λ memory. ap (λ (x : Option Error). option_or x (number_fault (kept_in a.rules lists) n)) (c.in_ok-outcome.ensures.refused able lists held)
-    ∙ c.in_err-opened.ensures.refused a.writer (kept_in a.rules lists) one (c.in_ok-outcome.ensures.tables able lists held) memory)
+    (λ memory. ap (λ (x : Option Error). option_or x (opens_fault a.writer.present.options (kept_in a.rules lists) n)) (c.in_ok-outcome.ensures.refused able lists held)
+    ∙ c.in_err-opened.ensures.refused a.writer (kept_in a.rules lists) (c.in_ok-outcome.ensures.tables able lists held) memory)
 
 pub returns-clause-refused : goal.returns-clause-refused
-returns-clause-refused g c able lists held one =
+returns-clause-refused g c able lists held =
     let a = c.args in
     let n = a.how.now.global_seqno in
-    ap (λ (x : Option Error). option_or x (number_fault (kept_in a.rules lists) n)) (c.in_ok-outcome.ensures.refused able lists held)
-    ∙ c.in_ok-opened.ensures.refused a.writer (kept_in a.rules lists) one (c.in_ok-outcome.ensures.tables able lists held)
+    ap (λ (x : Option Error). option_or x (opens_fault a.writer.present.options (kept_in a.rules lists) n)) (c.in_ok-outcome.ensures.refused able lists held)
+    ∙ c.in_ok-opened.ensures.refused a.writer (kept_in a.rules lists) (c.in_ok-outcome.ensures.tables able lists held)
 
 pub returns-in_err-outcome-clause-taken : goal.returns-in_err-outcome-clause-taken
 returns-in_err-outcome-clause-taken g c able lists held one fits small =
@@ -53,5 +54,5 @@ returns-in_err-opened-clause-taken g c able lists held one fits small =
     let a = c.args in
     let es = kept_in a.rules lists in
     let r = c.from_residual-in_err-opened in
-    memory_alone r.result _ (small_number es a.how.now.global_seqno small)
-    (faults_refusal r.result c.in_err-opened.field-0.0 _ r.ensures.1 (c.in_err-opened.ensures.refused a.writer es one (c.in_ok-outcome.ensures.tables able lists held)))
+    memory_alone r.result _ (opens_one a.writer.present.options es a.how.now.global_seqno one ∙ small_number es a.how.now.global_seqno small)
+    (faults_refusal r.result c.in_err-opened.field-0.0 _ r.ensures.1 (c.in_err-opened.ensures.refused a.writer es (c.in_ok-outcome.ensures.tables able lists held)))
