@@ -38,7 +38,8 @@
  * handles hold, and what the call would have told. But `sst_table_get`, `sst_runs_get`,
  * `sst_range_next` and `sst_scan_next` tell zeros then and keep nothing; and `sst_table_verify` and
  * `sst_verification_step` tell zeros where they are refused other than by SST_FAULTY, but for how
- * far a verification is.
+ * far a verification is. Calls in bulk (`sst_range_take`, `sst_scan_take`, `sst_writer_add_many`)
+ * report in `count` how many entries were done before the error.
  *
  * Pointers: none may be NULL, and each is aligned as what it points to. Bytes, and other arrays,
  * are a pointer and how many there are, in this order; where there are none, any such pointer that
@@ -152,9 +153,10 @@ uint32_t sst_version(void);
 /* Closes a handle, whatever it holds; one that holds nothing stays as it is. */
 void sst_close(sst_handle *handle);
 
-/* What a read found. A read (`sst_table_get`, `sst_runs_get`, `sst_range_next`, `sst_scan_next`)
- * keeps the entry that it found, and the handle keeps it until the next read by it. Where the
- * last read found nothing, or none was made, the two calls answer SST_NOTHING, whatever is held.
+/* What a read found. A read (`sst_table_get`, `sst_runs_get`, `sst_range_next`, `sst_range_take`,
+ * `sst_scan_next`, `sst_scan_take`) keeps the entry that it found, and the handle keeps it until
+ * the next read by it. Where the last read found nothing, or none was made, the two calls answer
+ * SST_NOTHING, whatever is held.
  */
 
 /* Copies the key and the value of what the last read by a handle found. SST_NOTHING where nothing
@@ -266,6 +268,15 @@ uint32_t sst_answers_lend(sst_handle *answers, uint64_t index, sst_lent *lent);
 uint32_t sst_answers_copy(sst_handle *answers, uint64_t index, uint8_t *key, size_t key_room,
                           uint8_t *value, size_t value_room);
 
+/* Copies what was found of the keys from index `first` on, one after another, to the front of
+ * `bytes`: key, value, key, value, and so on, up to the first that does not fit. `count` is set to
+ * the number of keys that were passed. A key of which nothing was found counts and takes no bytes.
+ * The lengths are those in the `entries` of `sst_table_get_many`. SST_NO_SUCH if there are fewer
+ * than `first` keys.
+ */
+uint32_t sst_answers_take(sst_handle *answers, uint64_t first, uint8_t *bytes, size_t byte_room,
+                          uint64_t *count);
+
 /* Sections of a table. */
 enum {
   SST_SECTION_DATA = 1,
@@ -358,6 +369,25 @@ uint32_t sst_range_open(sst_handle *table, uint32_t lower_kind, const uint8_t *l
  */
 uint32_t sst_range_next(sst_handle *range, bool back, sst_entry *entry);
 
+/* Takes the next entries as `sst_range_next` does, one after another, and copies them to the front
+ * of `bytes`: key, value, key, value, and so on. `entries` receives what `sst_range_next` reports
+ * of each, and `count` the number of entries that were copied. It stops
+ *
+ * - when `entry_room` entries are copied;
+ * - at the end, and returns 0;
+ * - at an error, and returns it: the entries before it are copied, and no further entry comes;
+ * - at an entry that does not fit into the rest of `bytes`, and returns 0. That entry is not lost:
+ *   the handle has found it, so `sst_found_lend` and `sst_found_copy` return it. `found` has its
+ *   kind, number and lengths, and the next call goes on after it.
+ *
+ * In the other cases the handle has found nothing, and `found` is all zeros. So the end is reached if
+ * 0 is returned, `count` is below `entry_room` and `found` is all zeros. Whatever follows the
+ * copied entries in `entries` and `bytes` stays as it was. `count` is 0 if the handle is closed or
+ * holds no range.
+ */
+uint32_t sst_range_take(sst_handle *range, bool back, sst_entry *entries, size_t entry_room,
+                        uint8_t *bytes, size_t byte_room, uint64_t *count, sst_entry *found);
+
 /* Scans. */
 
 /* Begins to read all entries of a table in order, into a handle that holds nothing: its data blocks
@@ -369,9 +399,16 @@ uint32_t sst_scan_open(sst_handle *table, sst_handle *scan);
 
 /* Takes the next entry of a scan, and keeps it: by key up, and of one key by number down, every
  * version. At the end it answers 0, and the kind is SST_NO_ENTRY. Where it is refused nothing more
- * comes.
+ * comes. The entry is borrowed from the table's memory: no bytes are copied, and no reference
+ * count changes.
  */
 uint32_t sst_scan_next(sst_handle *scan, sst_entry *entry);
+
+/* Takes the next entries as `sst_scan_next` does, one after another, and copies them to the front
+ * of `bytes`: key, value, key, value, and so on. Stops and reports as `sst_range_take` does.
+ */
+uint32_t sst_scan_take(sst_handle *scan, sst_entry *entries, size_t entry_room, uint8_t *bytes,
+                       size_t byte_room, uint64_t *count, sst_entry *found);
 
 /* Several tables as one. */
 
@@ -473,6 +510,15 @@ uint32_t sst_writer_open(const sst_options *options, sst_handle *writer);
  */
 uint32_t sst_writer_add(sst_handle *writer, const uint8_t *key, size_t key_len, uint64_t seqno,
                         uint32_t kind, const uint8_t *value, size_t value_len);
+
+/* Writes entries as `sst_writer_add` does, one after another, up to the first that fails, and
+ * returns its error. `count` is set to the number of entries that were written. Each `sst_entry`
+ * has the kind, the number and the lengths of one entry. The keys and values are one after another
+ * in `bytes`: key, value, key, value, and so on. SST_NO_SUCH if the lengths do not add up to
+ * `byte_len`: nothing is written then.
+ */
+uint32_t sst_writer_add_many(sst_handle *writer, const sst_entry *entries, size_t entry_count,
+                             const uint8_t *bytes, size_t byte_len, uint64_t *count);
 
 /* Finishes the table: the handle holds it then, in the writer's place, or none where nothing was
  * written. Where it is refused, what was written is given up. SST_WRITER_FAILED where an entry was

@@ -1,7 +1,7 @@
 /* The calls of sst.h, as a caller in C makes them. `bindings/test` builds it and runs it under
  * valgrind. It prints what failed, and answers 1 then.
  */
-#include "made.h"
+#include "bulk.h"
 
 static void test_gets(sst_handle *table, int n) {
   char key[16], value[32];
@@ -94,25 +94,6 @@ static void test_scan(const uint8_t *file, size_t len, bool pin) {
   sst_close(&scan);
   sst_close(&other);
   sst_close(&range);
-}
-
-/* A scan of damaged bytes gives entries up to the fault, and none from then on. Where the table
- * opens and each data block loads, it gives all.
- */
-static void scan_damaged(sst_handle *table, bool is_sound, uint64_t items) {
-  sst_handle scan = {0};
-  sst_entry entry;
-  uint64_t count = 0;
-  uint32_t code = sst_scan_open(table, &scan);
-  if (code != 0) {
-    CHECK(!is_sound && code <= 24 && sst_scan_next(&scan, &entry) == SST_CLOSED);
-    return;
-  }
-  while ((code = sst_scan_next(&scan, &entry)) == 0 && entry.kind != SST_NO_ENTRY) count++;
-  CHECK(code <= 24 && count <= items && (!is_sound || (code == 0 && count == items)));
-  CHECK(entry.kind == SST_NO_ENTRY && entry.key_len == 0);
-  CHECK(sst_scan_next(&scan, &entry) == 0 && entry.kind == SST_NO_ENTRY);
-  sst_close(&scan);
 }
 
 /* A scan reads no index: it goes on where a partition of it is damaged, which a range needs. */
@@ -216,14 +197,17 @@ static void test_many(const uint8_t *file, size_t len) {
   CHECK(memcmp(key, "key000000", 9) == 0);
   CHECK(sst_answers_copy(&answers, 3, key, 9, value, 12) == SST_NOTHING);
   CHECK(sst_answers_copy(&answers, 5, key, 9, value, 12) == SST_NO_SUCH);
+  test_answers_take(&answers);
   CHECK(sst_found_lend(&answers, &lent) == SST_NOTHING);
   CHECK(sst_table_get(&answers, &none, 0, 1, &one) == SST_OTHER_KIND);
   sst_close(&answers);
   CHECK(sst_answers_lend(&answers, 0, &lent) == SST_CLOSED);
   CHECK(sst_answers_copy(&answers, 0, key, 9, value, 12) == SST_CLOSED);
+  CHECK(sst_answers_take(&answers, 0, key, 9, &lens[0]) == SST_CLOSED && lens[0] == 9);
   CHECK(sst_table_open(file, len, 0, false, false, &table) == 0);
   CHECK(sst_answers_lend(&table, 0, &lent) == SST_OTHER_KIND);
   CHECK(sst_answers_copy(&table, 0, key, 9, value, 12) == SST_OTHER_KIND);
+  CHECK(sst_answers_take(&table, 0, key, 9, &lens[0]) == SST_OTHER_KIND);
   CHECK(sst_table_get_many(&table, &none, 0, lens, 0, SST_NEWEST, entries, 0, &answers) == 0);
   CHECK(sst_answers_lend(&answers, 0, &lent) == SST_NO_SUCH);
   sst_options_default(&options);
@@ -750,6 +734,9 @@ static void test_table(const sst_options *options, int n, size_t piece, bool pin
     test_shares(file, len);
     test_kept(file, len, n);
     test_many(file, len);
+    test_takes(file, len);
+    test_takes_refused(file, len);
+    test_add_many(options);
     test_packing(options);
     test_runs(options, file, len);
     test_out_of_order(options, file, len);

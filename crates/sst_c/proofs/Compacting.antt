@@ -9,6 +9,7 @@ use Rattle.lsm_compactions.specs.declared.any_runs.CompactionOutcome.TheVariants
 use Rattle.lsm_compactions.specs.declared.any_runs.CompactionOutcome.TheVariants.{Stopped, Tables}
 use Rattle.lsm_writers.specs.declared.writer.FinishedTable.{FinishedTable}
 use Rattle.sst_c.specs.Compact.{TellsOutcome}
+use Rattle.sst_c.specs.Told.{found_by}
 use Rattle.sst_c.specs.What.{HoldsFiles}
 use Rattle.sst_c.specs.declared.held.Held.{Held}
 
@@ -44,13 +45,13 @@ has_tables Stopped = ⊥
 -- finished tables are held and told, or memory is wanted
 pub outcome_tables : (o : CompactionOutcome Global) → has_tables o → (code next : ℕ)
     (held : Option Held) → (code ≡ 0) ⊎ (code ≡ 1)
-    → (code ≡ 0 → IsSomeAnd held (λ h. h.found ≡ None))
+    → (code ≡ 0 → IsSomeAnd held (λ h. found_by h ≡ None))
     → (code ≡ 0 → IsSomeAnd held (λ h. HoldsFiles (finished_in o) h.what))
     → (code ≡ 0 → next ≡ unwrap_or (left_in o) 0)
     → TellsOutcome code held next (Ok o)
 unfolding TellsOutcome
 outcome_tables (Tables tables left) has code next held codes new files ids = elim codes [
-  | inl zero ↦ inr (zero, both_some held (λ h. h.found ≡ None) (λ h. HoldsFiles tables.items h.what) (new zero) (files zero), ids zero)
+  | inl zero ↦ inr (zero, both_some held (λ h. found_by h ≡ None) (λ h. HoldsFiles tables.items h.what) (new zero) (files zero), ids zero)
   | inr one ↦ inl one
 ]
 outcome_tables OutOfOrder has code next held codes new files ids = absurd has

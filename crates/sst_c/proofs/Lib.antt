@@ -5,6 +5,9 @@ pub mod Behind
 pub mod RunOrder
 pub mod Asking
 pub mod Scanning
+pub mod Taking
+pub mod Adding
+pub mod Bulk
 pub mod ManyAnswers
 pub mod ManyFound
 pub mod FirstFindings

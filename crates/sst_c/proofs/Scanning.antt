@@ -7,11 +7,13 @@ use Rattle.sst_entries.specs.Stream.{Deals, answer_stops, nowhere, ok_results}
 use Rattle.sst_entries.specs.declared.error.Error.{Error}
 use Rattle.sst_entries.specs.declared.error.Error.TheVariants.{OutOfMemory}
 use Rattle.lsm_readers.specs.Answer.{lift}
-use Rattle.lsm_readers.specs.Scan.{IsEndedScan, Scan, ScansList, ScansNext}
+use Rattle.lsm_readers.specs.Scan.{IsEndedScan, LendsList, Scan, ScansLent, ScansList, ScansNext}
 use Rattle.lsm_readers.proofs.Scans.{ended_left}
 use Rattle.sst_c.specs.Codes.{result_code}
 use Rattle.sst_c.specs.Scans.{DealsScan}
 use Rattle.sst_c.specs.Steps.{StepsBy}
+use Rattle.sst_entries.specs.Error.{number_of}
+use Rattle.sst_entries.specs.Lending.{came}
 use Rattle.sst_c.specs.Told.{found_of, outcome_of}
 use Rattle.sst_c.specs.declared.held.What.{What}
 use Rattle.sst_c.specs.declared.held.What.TheVariants.{Scan as ScanOf}
@@ -19,17 +21,19 @@ use Rattle.sst_c.specs.declared.held.What.TheVariants.{Scan as ScanOf}
 -- a scan of a table deals what its blocks have
 pub all_dealt : (r : Result Scan Error) (rs : List (Result Entry Error))
     → ((stops : Error → Bool) → stops OutOfMemory ≡ true →
-    IfOk r (λ s. Deals (answer_stops stops) ScansNext nowhere s rs)) → IfOk r (DealsScan rs)
+    IfOk r (λ s. Deals (answer_stops stops) ScansNext nowhere s rs))
+    → ((stops : Error → Bool) → stops OutOfMemory ≡ true →
+    IfOk r (λ s. Deals (answer_stops stops) ScansLent nowhere s rs)) → IfOk r (DealsScan rs)
 unfolding DealsScan
-all_dealt (Ok s) rs deals = deals
-all_dealt (Err e) rs deals = tt
+all_dealt (Ok s) rs deals lends = λ stops memory. (deals stops memory, lends stops memory)
+all_dealt (Err e) rs deals lends = tt
 
 -- of a list it deals the list
 pub list_dealt : (r : Result Scan Error) (es : List Entry) (g : ℕ) → ScansList r es g
-    → IfOk r (DealsScan (ok_results (lift es g)))
+    → LendsList r es g → IfOk r (DealsScan (ok_results (lift es g)))
 unfolding DealsScan
-list_dealt (Ok s) es g is = is
-list_dealt (Err e) es g is = tt
+list_dealt (Ok s) es g deals lends = λ stops memory. (deals stops memory, lends stops memory)
+list_dealt (Err e) es g deals lends = tt
 
 -- and is refused for want of memory alone, where it has an entry
 pub list_refused : (r : Result Scan Error) (es : List Entry) (g : ℕ) → ScansList r es g
@@ -44,9 +48,9 @@ ended_behind s t None next none = next.ends
 ended_behind s t (Some (Ok e)) next none = absurd (let no : ⊥ = cc in no)
 ended_behind s t (Some (Err e)) next none = next.ends
 
-pub ends_by : (s t : Scan) (code : ℕ) (found : Option Entry) → StepsBy ScansNext s code found t
+pub ends_by : (s t : Scan) (code : ℕ) (found : Option Entry) → StepsBy ScansLent s code found t
     → found ≡ None → IsEndedScan t
-ends_by s t code found is none = ended_behind s t is.0 is.1 (sym is.3 ∙ none)
+ends_by s t code found is none = ended_behind s t is.0 is.1.next (sym is.3 ∙ none)
 
 never_stops : (answer : Option (Result Entry Error)) → answer_stops (λ _. false) answer ≡ false
 never_stops None = refl
@@ -59,10 +63,10 @@ none_comes s t answer next over =
     (next.answers.gives (λ _. false) [] (sym (ended_left s over), inl over) (never_stops answer)).0
 
 -- a step of a scan that is at its end finds nothing, and is not refused
-pub over_by : (s t : Scan) (code : ℕ) (found : Option Entry) → StepsBy ScansNext s code found t
+pub over_by : (s t : Scan) (code : ℕ) (found : Option Entry) → StepsBy ScansLent s code found t
     → IsEndedScan s → (code ≡ 0) × (found ≡ None)
 over_by s t code found is over =
-    let none = none_comes s t is.0 is.1 over in (
+    let none = none_comes s t is.0 is.1.next over in (
       is.2 ∙ ap (λ (r : Option (Result Entry Error)). result_code (outcome_of r)) none,
       is.3 ∙ ap (λ (r : Option (Result Entry Error)). found_of (outcome_of r)) none,
     )
@@ -74,3 +78,22 @@ scan_or s _ = s
 -- a handle holds one scan
 pub same_scan : (w : What) (u s : Scan) → w ≡ ScanOf u → w ≡ ScanOf s → u ≡ s
 same_scan w u s is same = ap (scan_or s) (sym is) ∙ ap (scan_or s) same
+
+lent_comes : (lent : Option Entry) (more : Bool)
+    → (0 ≡ result_code (outcome_of (came (Ok more) lent)))
+    × (lent ≡ found_of (outcome_of (came (Ok more) lent)))
+lent_comes None more = (refl, refl)
+lent_comes (Some e) more = (refl, refl)
+
+-- what is lent behind a step is what the step found
+pub step_lent : (s t : Scan) (more : Bool) (lent : Option Entry) → ScansLent s (came (Ok more) lent) t
+    → StepsBy ScansLent s 0 lent t
+step_lent s t more lent step =
+    let comes = lent_comes lent more in
+    (came (Ok more) lent, step, comes.0, comes.1)
+
+pub step_refused : (s t : Scan) (e : Error) (lent : Option Entry) → ScansLent s (came (Err e) lent) t
+    → lent ≡ None → StepsBy ScansLent s (number_of e) lent t
+step_refused s t e lent step none = (Some (Err e), step, refl, none)
+
+pub ruleset steps = (step_lent, step_refused)

@@ -25,6 +25,7 @@ use Rattle.lsm_compactions.specs.declared.any_runs.CompactionOutcome.TheVariants
 use Rattle.lsm_compactions.specs.declared.any_runs.CompactionOutcome.TheVariants.{OutOfOrder}
 use Rattle.lsm_compactions.specs.declared.any_runs.CompactionOutcome.TheVariants.{Stopped}
 use Rattle.sst_c.specs.Options.{options_told}
+use Rattle.sst_c.specs.Told.{found_by}
 use Rattle.sst_c.specs.What.{HoldsFiles}
 use Rattle.sst_c.specs.declared.held.Held.{Held}
 use Rattle.sst_c.specs.declared.options.TableOptions.{TableOptions}
@@ -66,7 +67,7 @@ pub record IsCompactionOf (runs : List (List OpenTable)) (rules : Rules) (w : Ta
 -- id that is left, 0 where none is; 104 for what is out of order; else the refusal
 unfoldable pub TellsOutcome : ℕ → Option Held → ℕ → Result (CompactionOutcome Global) Error → Type 0
 TellsOutcome code held next (Ok (Tables tables left)) = (code ≡ 1) ⊎ ((code ≡ 0)
-    × IsSomeAnd held (λ h. (h.found ≡ None) × HoldsFiles tables.items h.what)
+    × IsSomeAnd held (λ h. (found_by h ≡ None) × HoldsFiles tables.items h.what)
     × (next ≡ unwrap_or left 0))
 TellsOutcome code held next (Ok OutOfOrder) = code ≡ 104
 TellsOutcome code held next (Ok Stopped) = ⊥

@@ -8,6 +8,9 @@ pub mod Options
 pub mod Writing
 pub mod Steps
 pub mod Scans
+pub mod Takes
+pub mod Reads
+pub mod Adds
 pub mod Facts
 pub mod Memory
 pub mod Many

@@ -7,7 +7,7 @@ use Rattle.sst_entries.specs.Stream.{Deals, answer_stops, nowhere}
 use Rattle.sst_entries.specs.declared.error.Error.{Error}
 use Rattle.sst_entries.specs.declared.error.Error.TheVariants.{OutOfMemory}
 use Rattle.sst_sections.specs.Sections.{body_of}
-use Rattle.lsm_readers.specs.Scan.{IsNewScan, Scan, ScansNext}
+use Rattle.lsm_readers.specs.Scan.{IsNewScan, Scan, ScansLent, ScansNext}
 use Rattle.lsm_readers.specs.Table.{OpenTable}
 
 -- a scan of as many data blocks as a table says that it has, which has made no step: the first
@@ -16,7 +16,9 @@ abbrev pub IsBegunScan : OpenTable → Scan → Type 0
 IsBegunScan t s = IsNewScan (body_of t.bytes) t.parts.facts.data_block_count t.global_seqno s
     × (s.opened ≡ with_load Data none_opened)
 
--- the steps of a scan give these one after the other, for a reader that want of memory stops
+-- the steps of a scan yield these one after the other, for a reader that stops when out of memory:
+-- those that hand out shares, and those that lend
 unfoldable pub DealsScan : List (Result Entry Error) → Scan → Type 0
 DealsScan rs s = (stops : Error → Bool) → stops OutOfMemory ≡ true →
     Deals (answer_stops stops) ScansNext nowhere s rs
+    × Deals (answer_stops stops) ScansLent nowhere s rs

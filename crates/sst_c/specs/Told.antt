@@ -5,7 +5,11 @@ use Rattle.sst_entries.specs.Error.{number_of}
 use Rattle.sst_entries.specs.Kind.{tag_of}
 use Rattle.sst_entries.specs.declared.error.Error.{Error}
 use Rattle.sst_c.specs.declared.entries.EntryTold.{EntryTold}
+use Rattle.sst_c.specs.declared.held.FoundEntry.{FoundEntry}
+use Rattle.sst_c.specs.declared.held.FoundEntry.TheVariants.{Kept, Lent}
 use Rattle.sst_c.specs.declared.held.Held.{Held}
+use Rattle.sst_c.specs.declared.held.What.{What}
+use Rattle.sst_c.specs.declared.held.What.TheVariants.{Scan}
 
 -- an entry's kind, number and lengths, or zeros where there is none
 abbrev pub entry_facts : Option Entry → EntryTold
@@ -17,10 +21,23 @@ entry_facts (Some e) = record {
   value_len = length e.value;
 }
 
+-- the entry that is lent, where a scan is held
+abbrev pub lent_in : What → Option Entry
+lent_in (Scan s) = s.lent
+lent_in _ = None
+
+-- what the last read found: what it kept, or what the scan lends
+abbrev pub found_at : FoundEntry → What → Option Entry
+found_at (Kept found) what = found
+found_at Lent what = lent_in what
+
+abbrev pub found_by : Held → Option Entry
+found_by h = found_at h.found h.what
+
 -- what the last read by a handle found
 abbrev pub found_in : Option Held → Option Entry
 found_in None = None
-found_in (Some h) = h.found
+found_in (Some h) = found_by h
 
 -- what a read found; nothing where it was refused
 abbrev pub found_of : Result (Option Entry) Error → Option Entry

@@ -15,6 +15,7 @@ use Rattle.lsm_readers.specs.Table.{OpenTable}
 use Rattle.lsm_readers.specs.Verification.{Verifying}
 use Rattle.lsm_writers.specs.declared.writer.FinishedTable.{FinishedTable}
 use Rattle.lsm_writers.specs.Writing.{Writing}
+use Rattle.sst_c.specs.declared.held.FoundEntry.TheVariants.{Kept}
 use Rattle.sst_c.specs.declared.held.Held.{Held}
 use Rattle.sst_c.specs.declared.held.What.{What}
 use Rattle.sst_c.specs.declared.held.What.TheVariants.{Table, Files as FilesOf, Runs}
@@ -27,11 +28,11 @@ use Rattle.lsm_ranges.specs.declared.packed.Placed.{Placed}
 use Rattle.sst_c.specs.Codes.{result_code}
 use Rattle.sst_c.specs.Newest.{NewestAt}
 use Rattle.sst_c.specs.Steps.{StepsUntil}
-use Rattle.sst_c.specs.Told.{found_of}
+use Rattle.sst_c.specs.Told.{found_by, found_of}
 
 -- what a handle holds that was begun: nothing was found yet
 abbrev pub begun : What → Held
-begun what = record { found = None; what = what }
+begun what = record { found = Kept None; what = what }
 
 -- it is a table of which this holds
 abbrev pub IsTableWhere : (OpenTable → Type 0) → What → Type 0
@@ -140,7 +141,7 @@ packed_chain _ = []
 -- nothing was read yet
 abbrev pub IsOpenedAs : List ℕ → ℕ → Bool → Bool → Held → Type 0
 IsOpenedAs bytes g pin_filter pin_index h =
-    (h.found ≡ None) × IsTableWhere (λ t. (t.bytes ≡ bytes) × (t.global_seqno ≡ g)
+    (found_by h ≡ None) × IsTableWhere (λ t. (t.bytes ≡ bytes) × (t.global_seqno ≡ g)
     × (recovered_told bytes g pin_filter pin_index ≡ Ok t.parts)) h.what
 
 -- a bound of a kind: 0 for none, 1 with the key, 2 without it

@@ -5,6 +5,7 @@ ghost use Rattle.sst_entries.specs.declared.error.Error.TheVariants.{OutOfMemory
 ghost use Rattle.lsm_compactions.specs.Words.{GoesThrough, IsFreshRun, rules_by};
 ghost use Rattle.sst_c.specs.Compact.{IsCompactionOf, IsToldOf, TellsOutcome, compactor_told};
 ghost use Rattle.sst_c.specs.Options.{are_usable};
+ghost use Rattle.sst_c.specs.Told.{found_by};
 ghost use Rattle.sst_c.specs.What.{HoldsFiles, are_runs, runs_held};
 ghost use Rattle.sst_c.specs.declared.held.Held.{Held as HeldValue};
 
@@ -75,7 +76,7 @@ fn tell_tables(
 ) -> u32
     requires { files.old.boxed.value ≡ None }
     ensures memory { (result ≡ 0) ⊎ (result ≡ 1) }
-    ensures new { result ≡ 0 → IsSomeAnd files.new.boxed.value (λ k. k.found ≡ None) }
+    ensures new { result ≡ 0 → IsSomeAnd files.new.boxed.value (λ k. found_by k ≡ None) }
     ensures kept { result ≡ 0 → IsSomeAnd files.new.boxed.value (λ k.
         HoldsFiles tables.items k.what) }
     ensures next { result ≡ 0 → next_id.new ≡ unwrap_or left 0 }

@@ -1,8 +1,10 @@
 //! What C is told of an entry.
 ghost use Rattle.std.specs.Prelude.{◌≡◌};
+ghost use Rattle.std.specs.Option.{option_map};
+ghost use Rattle.sst_entries.specs.Lending.{entry_of_ref};
 ghost use Rattle.sst_c.specs.Told.{entry_facts};
 
-use sst_blocks::InternalValue;
+use sst_blocks::{EntryRef, InternalValue};
 
 /// What C is told of an entry: its kind and number, and how long its key and its value are.
 #[repr(C)]
@@ -19,8 +21,8 @@ pub struct EntryTold {
 }
 
 /// What is told of an entry, or that there is none.
-pub(crate) fn tell(found: &Option<InternalValue>) -> EntryTold
-    ensures { result ≡ entry_facts found.now }
+pub(crate) fn tell(found: Option<EntryRef<'_>>) -> EntryTold
+    ensures { result ≡ entry_facts (option_map entry_of_ref found.entry) }
 {
     match found {
         None => EntryTold {
@@ -29,11 +31,21 @@ pub(crate) fn tell(found: &Option<InternalValue>) -> EntryTold
             key_len: 0,
             value_len: 0,
         },
-        Some(item) => EntryTold {
-            kind: 1 + u64::from(item.key.value_type.tag()),
-            seqno: item.key.seqno,
-            key_len: item.key.user_key.len() as u64,
-            value_len: item.value.len() as u64,
+        Some(entry) => EntryTold {
+            kind: 1 + u64::from(entry.value_type.tag()),
+            seqno: entry.seqno,
+            key_len: entry.user_key.len() as u64,
+            value_len: entry.value.len() as u64,
         },
+    }
+}
+
+/// An entry, borrowed, where there is one.
+pub(crate) fn entry_of(found: &Option<InternalValue>) -> Option<EntryRef<'_>>
+    ensures { option_map entry_of_ref result ≡ found.now }
+{
+    match found {
+        None => None,
+        Some(item) => Some(item.as_entry_ref()),
     }
 }

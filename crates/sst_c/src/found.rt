@@ -1,14 +1,16 @@
 //! What the last read found, copied or lent.
 ghost use Rattle.std.specs.Prelude.{◌≡◌, ◌≢◌, ◌≤◌, length, IsSome, None, Some};
+ghost use Rattle.std.specs.Option.{option_map};
 ghost use Rattle.sst_entries.specs.Entry.{Entry};
+ghost use Rattle.sst_entries.specs.Lending.{entry_of_ref};
 ghost use Rattle.sst_c.specs.Copies.{copy_code, laid_over, lend_code};
-ghost use Rattle.sst_c.specs.Told.{found_in};
+ghost use Rattle.sst_c.specs.Told.{found_by, found_in};
 
 use crate::address::address_of;
 use crate::codes::{CLOSED, NO_ROOM, NOTHING};
 use crate::handle::Handle;
 use crate::held::Held;
-use sst_blocks::InternalValue;
+use sst_blocks::EntryRef;
 use std::alloc::Global;
 
 /// Copies bytes to the front of a room that has room for them.
@@ -20,29 +22,28 @@ pub(crate) fn copy_out(bytes: &[u8], room: &mut [u8])
 }
 
 /// Copies the key and the value of an entry, or nothing where one of them has no room.
-pub(crate) fn copy_item(item: &InternalValue, key: &mut [u8], value: &mut [u8]) -> u32
-    ensures code { result ≡ copy_code (Some item.now) key.old value.old }
-    ensures key { result ≡ 0 → key.new ≡ laid_over item.now.user_key key.old }
-    ensures value { result ≡ 0 → value.new ≡ laid_over item.now.value value.old }
+pub(crate) fn copy_item(item: &EntryRef<'_>, key: &mut [u8], value: &mut [u8]) -> u32
+    ensures code { result ≡ copy_code (Some (entry_of_ref item.now)) key.old value.old }
+    ensures key { result ≡ 0 → key.new ≡ laid_over (entry_of_ref item.now).user_key key.old }
+    ensures value { result ≡ 0 → value.new ≡ laid_over (entry_of_ref item.now).value value.old }
     ensures left { result ≢ 0 → (key.new ≡ key.old) × (value.new ≡ value.old) }
 {
-    let (from_key, from_value) = (item.key.user_key.as_slice(), item.value.as_slice());
-    if key.len() < from_key.len() || value.len() < from_value.len() {
+    if key.len() < item.user_key.len() || value.len() < item.value.len() {
         return NO_ROOM;
     }
-    copy_out(from_key, key);
-    copy_out(from_value, value);
+    copy_out(item.user_key, key);
+    copy_out(item.value, value);
     0
 }
 
 fn copy_found(held: &Held, key: &mut [u8], value: &mut [u8]) -> u32
-    ensures code { result ≡ copy_code held.now.found key.old value.old }
-    ensures copied { (e : Entry) → held.now.found ≡ Some e → result ≡ 0 →
+    ensures code { result ≡ copy_code (found_by held.now) key.old value.old }
+    ensures copied { (e : Entry) → found_by held.now ≡ Some e → result ≡ 0 →
         (key.new ≡ laid_over e.user_key key.old) × (value.new ≡ laid_over e.value value.old) }
     ensures left { result ≢ 0 → (key.new ≡ key.old) × (value.new ≡ value.old) }
 {
-    match &held.found {
-        Some(item) => copy_item(item, key, value),
+    match held.found_entry() {
+        Some(item) => copy_item(&item, key, value),
         None => NOTHING,
     }
 }
@@ -86,26 +87,25 @@ pub struct Lent {
     pub value_len: u64,
 }
 
-pub(crate) fn lend_item(item: &InternalValue, lent: &mut Lent)
-    ensures key { lent.new.key_len ≡ length item.now.user_key }
-    ensures value { lent.new.value_len ≡ length item.now.value }
+pub(crate) fn lend_item(item: &EntryRef<'_>, lent: &mut Lent)
+    ensures key { lent.new.key_len ≡ length (entry_of_ref item.now).user_key }
+    ensures value { lent.new.value_len ≡ length (entry_of_ref item.now).value }
 {
-    let (key, value) = (item.key.user_key.as_slice(), item.value.as_slice());
-    lent.key = address_of(key);
-    lent.key_len = key.len() as u64;
-    lent.value = address_of(value);
-    lent.value_len = value.len() as u64;
+    lent.key = address_of(item.user_key);
+    lent.key_len = item.user_key.len() as u64;
+    lent.value = address_of(item.value);
+    lent.value_len = item.value.len() as u64;
 }
 
 fn lend_found(held: &Held, lent: &mut Lent) -> u32
-    ensures code { result ≡ lend_code held.now.found }
-    ensures lent { (e : Entry) → held.now.found ≡ Some e →
+    ensures code { result ≡ lend_code (found_by held.now) }
+    ensures lent { (e : Entry) → found_by held.now ≡ Some e →
         (lent.new.key_len ≡ length e.user_key) × (lent.new.value_len ≡ length e.value) }
     ensures left { result ≢ 0 → lent.new ≡ lent.old }
 {
-    match &held.found {
+    match held.found_entry() {
         Some(item) => {
-            lend_item(item, lent);
+            lend_item(&item, lent);
             0
         }
         None => NOTHING,

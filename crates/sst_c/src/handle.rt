@@ -1,6 +1,7 @@
 //! Handles: what C holds.
 ghost use Rattle.std.specs.Prelude.{◌≡◌, ◌≢◌, ◌⊎◌, is_some, nat_lt, IsSomeAnd, MatchOption, Option};
 ghost use Rattle.std.specs.Prelude.{Some, None};
+ghost use Rattle.sst_c.specs.Told.{found_by};
 ghost use Rattle.sst_c.specs.What.{begun};
 
 use crate::boxed::{Boxed, discard, hold, no_box, release};
@@ -37,7 +38,7 @@ impl Handle {
     pub(crate) fn begin(&mut self, alloc: Global, what: What) -> u32
         requires { self.old.boxed.value ≡ None }
         ensures memory { (result ≡ 0) ⊎ (result ≡ 1) }
-        ensures new { result ≡ 0 → IsSomeAnd self.new.boxed.value (λ h. h.found ≡ None) }
+        ensures new { result ≡ 0 → IsSomeAnd self.new.boxed.value (λ h. found_by h ≡ None) }
         ensures begun { result ≡ 0 → self.new.boxed.value ≡ Some (begun what) }
         ensures left { result ≢ 0 → self.new.boxed.value ≡ None }
     {

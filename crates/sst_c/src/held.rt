@@ -1,25 +1,55 @@
 //! What is behind a handle.
-ghost use Rattle.std.specs.Prelude.{◌≡◌, IfErr, IfOk};
+ghost use Rattle.std.specs.Prelude.{◌≡◌, IfErr, IfOk, None};
+ghost use Rattle.std.specs.Option.{option_map};
+ghost use Rattle.sst_entries.specs.Lending.{entry_of_ref};
 ghost use Rattle.sst_entries.specs.declared.error.Error.TheVariants.{OutOfMemory};
+ghost use Rattle.sst_c.specs.Told.{found_by, lent_in};
 ghost use Rattle.sst_c.specs.What.{begun};
+ghost use Rattle.sst_c.specs.declared.held.FoundEntry.TheVariants.{Kept, Lent as IsLent};
 
 use crate::asked::Asked;
+use crate::entries::entry_of;
 use crate::run_list::RunList;
 use crate::verifier::Verifier;
 use lsm_iters::Iter;
 use lsm_ranges::Packed;
 use lsm_readers::{Scanner, Table};
 use lsm_writers::{FinishedTable, Writer};
-use sst_blocks::{Error, InternalValue};
+use sst_blocks::{EntryRef, Error, InternalValue, Lending};
 use std::alloc::Global;
 
 /// What is behind a handle.
 #[derive(Drop)]
 pub struct Held {
     /// What the last read found.
-    pub found: Option<InternalValue>,
+    pub found: FoundEntry,
     /// What is held.
     pub what: What,
+}
+
+/// What the last read found.
+#[derive(Drop)]
+pub enum FoundEntry {
+    /// An entry with a share of the table's memory, or none.
+    Kept(Option<InternalValue>),
+    /// What the scan that is held lends, with no share of its own.
+    Lent,
+}
+
+impl FoundEntry {
+    /// Nothing is found.
+    pub(crate) fn clear(&mut self)
+        ensures { self.new ≡ Kept None }
+    {
+        *self = FoundEntry::Kept(None);
+    }
+
+    /// What the scan lends is found.
+    pub(crate) fn set_lent(&mut self)
+        ensures { self.new ≡ IsLent }
+    {
+        *self = FoundEntry::Lent;
+    }
 }
 
 /// What is held.
@@ -60,6 +90,28 @@ pub(crate) fn box_of(alloc: Global, what: What) -> Result<Box<Held>, Error>
     ensures ok { IfOk result (λ held. held.value ≡ begun what) }
     ensures err { IfErr result (λ e. e ≡ OutOfMemory) }
 {
-    let held = Held { found: None, what };
-    Ok(Box::new(alloc, held)?)
+    let found = FoundEntry::Kept(None);
+    Ok(Box::new(alloc, Held { found, what })?)
+}
+
+// The entry that a scan lends.
+fn lent(what: &What) -> Option<EntryRef<'_>>
+    ensures { option_map entry_of_ref result ≡ lent_in what.now }
+{
+    match what {
+        What::Scan(scanner) => scanner.entry(),
+        _ => None,
+    }
+}
+
+impl Held {
+    /// The entry that the last read found, borrowed.
+    pub(crate) fn found_entry(&self) -> Option<EntryRef<'_>>
+        ensures { option_map entry_of_ref result ≡ found_by self.now }
+    {
+        match &self.found {
+            FoundEntry::Kept(found) => entry_of(found),
+            FoundEntry::Lent => lent(&self.what),
+        }
+    }
 }

@@ -7,6 +7,8 @@
 #![tactic(auto)]
 
 mod address;
+mod adds;
+mod answers;
 mod asked;
 mod boxed;
 mod codes;
@@ -18,6 +20,7 @@ mod found;
 mod handle;
 mod held;
 mod kept;
+mod laying;
 mod many;
 mod memory;
 mod merged;
@@ -25,17 +28,21 @@ mod options;
 mod packed;
 mod packing;
 mod ranges;
+mod reads;
 mod run_list;
 mod runs;
 mod scans;
 mod sentences;
 mod shares;
 mod tables;
+mod takes;
 mod verification;
 mod verifier;
 mod verify;
 mod writers;
 
+pub use adds::sst_writer_add_many;
+pub use answers::sst_answers_take;
 pub use asked::Asked;
 pub use codes::sst_version;
 pub use compactions::sst_compact;
@@ -44,7 +51,7 @@ pub use facts::{TableFacts, sst_table_facts};
 pub use files::{FileTold, sst_files_copy, sst_files_count, sst_files_tell};
 pub use found::{Lent, sst_found_copy, sst_found_lend};
 pub use handle::{Handle, sst_close};
-pub use held::{Files, Held, What};
+pub use held::{Files, FoundEntry, Held, What};
 pub use kept::sst_table_open_kept;
 pub use many::{sst_answers_copy, sst_answers_lend, sst_table_get_many};
 pub use memory::{TableMemory, sst_table_memory};
@@ -54,10 +61,10 @@ pub use packing::{
     sst_packing_chain, sst_packing_count, sst_packing_open, sst_packing_run, sst_packing_table,
     sst_runs_pack,
 };
-pub use ranges::{sst_range_next, sst_range_open};
+pub use ranges::{sst_range_next, sst_range_open, sst_range_take};
 pub use run_list::RunList;
 pub use runs::{sst_runs_add, sst_runs_get, sst_runs_open};
-pub use scans::{sst_scan_next, sst_scan_open};
+pub use scans::{sst_scan_next, sst_scan_open, sst_scan_take};
 pub use sentences::sst_strerror_copy;
 pub use shares::sst_table_share;
 pub use tables::{sst_table_get, sst_table_open};

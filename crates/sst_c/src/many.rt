@@ -11,13 +11,13 @@ ghost use Rattle.lsm_readers.specs.Words.{Entry, OpenTable, StoresList, lift, po
 ghost use Rattle.sst_c.specs.Copies.{laid_over};
 ghost use Rattle.sst_c.specs.Many.{AnswersMany, answer_at, copy_at_code, keys_cut, lend_at_code};
 ghost use Rattle.sst_c.specs.Many.{many_kept, queries_for};
-ghost use Rattle.sst_c.specs.Told.{entry_facts};
+ghost use Rattle.sst_c.specs.Told.{entry_facts, found_by};
 ghost use Rattle.sst_c.specs.What.{is_table, many_in};
 ghost use Rattle.sst_c.specs.declared.held.Held.{Held as HeldValue};
 ghost use Rattle.sst_c.specs.declared.held.What.TheVariants.{Table as TableOf};
 
 use crate::codes::{CLOSED, NO_ROOM, NO_SUCH, NOTHING, OPEN, OTHER_KIND};
-use crate::entries::{EntryTold, tell};
+use crate::entries::{EntryTold, entry_of, tell};
 use crate::found::{Lent, copy_item, lend_item};
 use crate::handle::Handle;
 use crate::held::{Held, What, box_of};
@@ -84,7 +84,7 @@ fn tell_each(found: &[Option<InternalValue>], entries: &mut [EntryTold])
     ensures { entries.new ≡ laid_over (map entry_facts found.now) entries.old }
 {
     for at in 0..found.len() {
-        entries[at] = tell(&found[at]);
+        entries[at] = tell(entry_of(&found[at]));
     }
 }
 
@@ -109,7 +109,7 @@ fn keep_each(
     requires empty { answers.old.boxed.value ≡ None }
     requires room { length found.items ≤ length entries.old }
     ensures memory { (result ≡ 0) ⊎ (result ≡ 1) }
-    ensures new { result ≡ 0 → IsSomeAnd answers.new.boxed.value (λ k. k.found ≡ None) }
+    ensures new { result ≡ 0 → IsSomeAnd answers.new.boxed.value (λ k. found_by k ≡ None) }
     ensures many { result ≡ 0 → IsSomeAnd answers.new.boxed.value (λ k.
         many_in k.what ≡ Some found.items) }
     ensures told { result ≡ 0 →
@@ -140,7 +140,7 @@ fn keep_found(
     ensures told { (told : Result (List (Option Entry)) ErrorValue) →
         Gives (λ each. each.items) found told → let kept = many_kept answers.new.boxed.value in
         AnswersMany result kept entries.old entries.new told }
-    ensures new { result ≡ 0 → IsSomeAnd answers.new.boxed.value (λ k. k.found ≡ None) }
+    ensures new { result ≡ 0 → IsSomeAnd answers.new.boxed.value (λ k. found_by k ≡ None) }
     ensures left { result ≢ 0 →
         (entries.new ≡ entries.old) × (answers.new.boxed.value ≡ None) }
 {
@@ -171,7 +171,7 @@ fn read_each(
         let each = map (λ k. point all k seqno) (keys_cut lens.now keys.now) in
         let kept = many_kept answers.new.boxed.value in
         AnswersMany result kept entries.old entries.new (Ok each) }
-    ensures new { result ≡ 0 → IsSomeAnd answers.new.boxed.value (λ k. k.found ≡ None) }
+    ensures new { result ≡ 0 → IsSomeAnd answers.new.boxed.value (λ k. found_by k ≡ None) }
     ensures left { result ≢ 0 →
         (entries.new ≡ entries.old) × (answers.new.boxed.value ≡ None) }
 {
@@ -205,7 +205,7 @@ fn get_each(
         let each = map (λ k. point all k seqno) (keys_cut lens.now keys.now) in
         let kept = many_kept answers.new.boxed.value in
         AnswersMany result kept entries.old entries.new (Ok each) }
-    ensures new { result ≡ 0 → IsSomeAnd answers.new.boxed.value (λ k. k.found ≡ None) }
+    ensures new { result ≡ 0 → IsSomeAnd answers.new.boxed.value (λ k. found_by k ≡ None) }
     ensures left { result ≢ 0 →
         (entries.new ≡ entries.old) × (answers.new.boxed.value ≡ None) }
 {
@@ -264,7 +264,7 @@ pub extern "C" fn sst_table_get_many(
         let each = map (λ k. point all k seqno) (keys_cut key_lens.now keys.now) in
         let kept = many_kept answers.new.boxed.value in
         AnswersMany result kept entries.old entries.new (Ok each) }
-    ensures new { result ≡ 0 → IsSomeAnd answers.new.boxed.value (λ k. k.found ≡ None) }
+    ensures new { result ≡ 0 → IsSomeAnd answers.new.boxed.value (λ k. found_by k ≡ None) }
     ensures left { result ≢ 0 →
         (entries.new ≡ entries.old) × (answers.new.boxed.value ≡ answers.old.boxed.value) }
 {
@@ -290,7 +290,7 @@ fn lend_at(held: &Held, index: u64, lent: &mut Lent) -> u32
     };
     match found.get(index as usize) {
         Some(Some(item)) => {
-            lend_item(item, lent);
+            lend_item(&item.as_entry_ref(), lent);
             0
         }
         Some(None) => NOTHING,
@@ -337,7 +337,7 @@ fn copy_at(held: &Held, index: u64, key: &mut [u8], value: &mut [u8]) -> u32
         return OTHER_KIND;
     };
     match found.get(index as usize) {
-        Some(Some(item)) => copy_item(item, key, value),
+        Some(Some(item)) => copy_item(&item.as_entry_ref(), key, value),
         Some(None) => NOTHING,
         None => NO_SUCH,
     }

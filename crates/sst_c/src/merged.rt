@@ -6,6 +6,7 @@ ghost use Rattle.lsm_runs.specs.Words.{DealsList, Entry, IsOverSpansBelow, RunsH
 ghost use Rattle.lsm_runs.specs.Words.{numbered_below, union_in, within};
 ghost use Rattle.sst_c.specs.Newest.{NewestAt};
 ghost use Rattle.sst_c.specs.Steps.{StepsUntil};
+ghost use Rattle.sst_c.specs.Told.{found_by};
 ghost use Rattle.sst_c.specs.What.{IsMergedWhere, are_runs, bound_told, runs_held};
 ghost use Rattle.sst_c.specs.declared.held.Held.{Held as HeldValue};
 
@@ -94,7 +95,7 @@ fn begin_merged(
         nat_lt 2 lower_kind || nat_lt 2 upper_kind ≡ true → result ≡ 105 }
     ensures memory { are_runs held.now.what ≡ true →
         nat_lt 2 lower_kind || nat_lt 2 upper_kind ≡ false → (result ≡ 0) ⊎ (result ≡ 1) }
-    ensures new { result ≡ 0 → IsSomeAnd range.new.boxed.value (λ r. r.found ≡ None) }
+    ensures new { result ≡ 0 → IsSomeAnd range.new.boxed.value (λ r. found_by r ≡ None) }
     ensures steps { result ≡ 0 →
         let low = bound_told lower_kind lower.now in let high = bound_told upper_kind upper.now in
         IsSomeAnd range.new.boxed.value (λ r. IsMergedWhere
@@ -156,7 +157,7 @@ pub extern "C" fn sst_runs_range_open(
     ensures memory { (h : HeldValue) → range.old.boxed.value ≡ None →
         runs.old.boxed.value ≡ Some h → are_runs h.what ≡ true →
         nat_lt 2 lower_kind || nat_lt 2 upper_kind ≡ false → (result ≡ 0) ⊎ (result ≡ 1) }
-    ensures new { result ≡ 0 → IsSomeAnd range.new.boxed.value (λ r. r.found ≡ None) }
+    ensures new { result ≡ 0 → IsSomeAnd range.new.boxed.value (λ r. found_by r ≡ None) }
     // Whatever the bytes, it is over the readers of those tables whose ranges reach past the
     // bounds, each below the number: an error of one stands in its place;
     ensures steps { (h : HeldValue) → runs.old.boxed.value ≡ Some h → result ≡ 0 →

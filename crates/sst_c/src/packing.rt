@@ -6,6 +6,7 @@ ghost use Rattle.lsm_readers.specs.Words.{OpenTable};
 ghost use Rattle.lsm_runs.specs.Words.{range_of};
 ghost use Rattle.lsm_ranges.specs.Packed.{IsPackedOf};
 ghost use Rattle.sst_c.specs.Packed.{ArePackedOf};
+ghost use Rattle.sst_c.specs.Told.{found_by};
 ghost use Rattle.sst_c.specs.What.{IsPackingWhere, are_runs, is_packing, packed_chain, packed_runs};
 ghost use Rattle.sst_c.specs.What.{runs_held};
 ghost use Rattle.sst_c.specs.declared.held.Held.{Held as HeldValue};
@@ -22,7 +23,7 @@ fn pack(alloc: Global, held: &Held, packed: &mut Handle) -> u32
     requires { packed.old.boxed.value ≡ None }
     ensures other { are_runs held.now.what ≡ false → result ≡ 102 }
     ensures memory { are_runs held.now.what ≡ true → (result ≡ 0) ⊎ (result ≡ 1) }
-    ensures new { result ≡ 0 → IsSomeAnd packed.new.boxed.value (λ k. k.found ≡ None) }
+    ensures new { result ≡ 0 → IsSomeAnd packed.new.boxed.value (λ k. found_by k ≡ None) }
     ensures kind { result ≡ 0 → IsSomeAnd packed.new.boxed.value (λ k. are_runs k.what ≡ true) }
     ensures packed { result ≡ 0 → IsSomeAnd packed.new.boxed.value (λ k.
         ArePackedOf (runs_held held.now.what) (runs_held k.what)) }
@@ -52,7 +53,7 @@ pub extern "C" fn sst_runs_pack(alloc: Global, runs: &mut Handle, packed: &mut H
         runs.old.boxed.value ≡ Some h → are_runs h.what ≡ false → result ≡ 102 }
     ensures memory { (h : HeldValue) → packed.old.boxed.value ≡ None →
         runs.old.boxed.value ≡ Some h → are_runs h.what ≡ true → (result ≡ 0) ⊎ (result ≡ 1) }
-    ensures new { result ≡ 0 → IsSomeAnd packed.new.boxed.value (λ k. k.found ≡ None) }
+    ensures new { result ≡ 0 → IsSomeAnd packed.new.boxed.value (λ k. found_by k ≡ None) }
     ensures kind { result ≡ 0 → IsSomeAnd packed.new.boxed.value (λ k. are_runs k.what ≡ true) }
     // They are the runs of the list, packed; where the tables are of lists they hold the same.
     ensures packed { (h : HeldValue) → runs.old.boxed.value ≡ Some h → result ≡ 0 →
@@ -75,7 +76,7 @@ fn show_packing(alloc: Global, held: &Held, packing: &mut Handle) -> u32
     requires { packing.old.boxed.value ≡ None }
     ensures other { are_runs held.now.what ≡ false → result ≡ 102 }
     ensures memory { are_runs held.now.what ≡ true → (result ≡ 0) ⊎ (result ≡ 1) }
-    ensures new { result ≡ 0 → IsSomeAnd packing.new.boxed.value (λ k. k.found ≡ None) }
+    ensures new { result ≡ 0 → IsSomeAnd packing.new.boxed.value (λ k. found_by k ≡ None) }
     ensures packed { result ≡ 0 → IsSomeAnd packing.new.boxed.value (λ k.
         IsPackingWhere (IsPackedOf range_of (tables_in (runs_held held.now.what))) k.what) }
     ensures left { result ≢ 0 → packing.new.boxed.value ≡ None }
@@ -104,7 +105,7 @@ pub extern "C" fn sst_packing_open(alloc: Global, runs: &mut Handle, packing: &m
         runs.old.boxed.value ≡ Some h → are_runs h.what ≡ false → result ≡ 102 }
     ensures memory { (h : HeldValue) → packing.old.boxed.value ≡ None →
         runs.old.boxed.value ≡ Some h → are_runs h.what ≡ true → (result ≡ 0) ⊎ (result ≡ 1) }
-    ensures new { result ≡ 0 → IsSomeAnd packing.new.boxed.value (λ k. k.found ≡ None) }
+    ensures new { result ≡ 0 → IsSomeAnd packing.new.boxed.value (λ k. found_by k ≡ None) }
     // The tables are those of the list, each key keeps the order of its tables, no fewer runs can
     // do, and the chain is as long.
     ensures packed { (h : HeldValue) → runs.old.boxed.value ≡ Some h → result ≡ 0 →

@@ -7,8 +7,10 @@ ghost use Rattle.lsm_iters.specs.Range.{Range as RangeValue};
 ghost use Rattle.lsm_readers.specs.Words.{Entry, IsRangeOf, OpenTable, StoresList};
 ghost use Rattle.sst_c.specs.Codes.{result_code};
 ghost use Rattle.sst_c.specs.Newest.{NewestAt};
+ghost use Rattle.sst_c.specs.Reads.{IsMergedAs, MergedReads, gives_at};
 ghost use Rattle.sst_c.specs.Steps.{StepsBy};
-ghost use Rattle.sst_c.specs.Told.{found_in, outcome_of, entry_facts};
+ghost use Rattle.sst_c.specs.Takes.{ReadsMany};
+ghost use Rattle.sst_c.specs.Told.{entry_facts, found_by, found_in, outcome_of};
 ghost use Rattle.sst_c.specs.What.{DealsTable, IsRangeWhere, MergedStepsBy, bound_told, is_range};
 ghost use Rattle.sst_c.specs.What.{is_table};
 ghost use Rattle.sst_c.specs.declared.held.Held.{Held as HeldValue};
@@ -20,6 +22,7 @@ use crate::entries::{EntryTold, tell};
 use crate::handle::Handle;
 use crate::held::{Held, What};
 use crate::merged::step_merged;
+use crate::reads::take_held;
 use crate::tables::keep;
 use lsm_iters::Iter;
 use lsm_readers::Table;
@@ -98,7 +101,7 @@ fn begin_within(
     requires lower { lower_kind < 3 }
     requires upper { upper_kind < 3 }
     ensures memory { (result ≡ 0) ⊎ (result ≡ 1) }
-    ensures new { result ≡ 0 → IsSomeAnd range.new.boxed.value (λ r. r.found ≡ None) }
+    ensures new { result ≡ 0 → IsSomeAnd range.new.boxed.value (λ r. found_by r ≡ None) }
     ensures range { result ≡ 0 →
         let low = bound_told lower_kind lower.now in let high = bound_told upper_kind upper.now in
         IsSomeAnd range.new.boxed.value (λ r. IsRangeWhere (IsRangeOf table.now low high) r.what) }
@@ -129,7 +132,7 @@ fn begin(
         nat_lt 2 lower_kind || nat_lt 2 upper_kind ≡ true → result ≡ 105 }
     ensures memory { (t : OpenTable) → held.now.what ≡ TableOf t →
         nat_lt 2 lower_kind || nat_lt 2 upper_kind ≡ false → (result ≡ 0) ⊎ (result ≡ 1) }
-    ensures new { result ≡ 0 → IsSomeAnd range.new.boxed.value (λ r. r.found ≡ None) }
+    ensures new { result ≡ 0 → IsSomeAnd range.new.boxed.value (λ r. found_by r ≡ None) }
     ensures range { (t : OpenTable) → held.now.what ≡ TableOf t → result ≡ 0 →
         let low = bound_told lower_kind lower.now in let high = bound_told upper_kind upper.now in
         IsSomeAnd range.new.boxed.value (λ r. IsRangeWhere (IsRangeOf t low high) r.what) }
@@ -176,7 +179,7 @@ pub extern "C" fn sst_range_open(
     ensures memory { (h : HeldValue) (t : OpenTable) → range.old.boxed.value ≡ None →
         table.old.boxed.value ≡ Some h → h.what ≡ TableOf t →
         nat_lt 2 lower_kind || nat_lt 2 upper_kind ≡ false → (result ≡ 0) ⊎ (result ≡ 1) }
-    ensures new { result ≡ 0 → IsSomeAnd range.new.boxed.value (λ r. r.found ≡ None) }
+    ensures new { result ≡ 0 → IsSomeAnd range.new.boxed.value (λ r. found_by r ≡ None) }
     // It reads the table within the bounds, and has made no step;
     ensures range { (h : HeldValue) (t : OpenTable) → table.old.boxed.value ≡ Some h →
         h.what ≡ TableOf t → result ≡ 0 →
@@ -221,30 +224,32 @@ fn step_of(iter: &mut Iter, back: bool) -> Option<IterItem<Global>>
     if back { iter.next_back() } else { iter.next() }
 }
 
-fn step(held: &mut Held, back: bool) -> u32
+/// A step of a range, if it is one.
+pub(crate) fn step(held: &mut Held, back: bool) -> u32
     ensures other { is_range held.old.what ≡ false →
-        (result ≡ 102) × (held.new.found ≡ None) × (held.new.what ≡ held.old.what) }
+        (result ≡ 102) × (found_by held.new ≡ None) × (held.new.what ≡ held.old.what) }
     ensures front { (s : RangeValue Heap) → held.old.what ≡ RangeOf s → back ≡ false →
         let gives = ⟦<Iter<Global> as Iterator>⟧.next_gives in
-        IsRangeWhere (StepsBy gives s result held.new.found) held.new.what }
+        IsRangeWhere (StepsBy gives s result (found_by held.new)) held.new.what }
     ensures back { (s : RangeValue Heap) → held.old.what ≡ RangeOf s → back ≡ true →
         let gives = ⟦<Iter<Global> as DoubleEndedIterator>⟧.next_back_gives in
-        IsRangeWhere (StepsBy gives s result held.new.found) held.new.what }
+        IsRangeWhere (StepsBy gives s result (found_by held.new)) held.new.what }
     ensures merged_front { (s : NewestAt) → held.old.what ≡ MergedOf (Some s) →
         back ≡ false → let gives = ⟦<NewestOfRunsAt<Global> as Iterator>⟧.next_gives in
-        MergedStepsBy gives s result held.new.found held.new.what }
+        MergedStepsBy gives s result (found_by held.new) held.new.what }
     ensures merged_back { (s : NewestAt) → held.old.what ≡ MergedOf (Some s) →
         back ≡ true →
         let gives = ⟦<NewestOfRunsAt<Global> as DoubleEndedIterator>⟧.next_back_gives in
-        MergedStepsBy gives s result held.new.found held.new.what }
+        MergedStepsBy gives s result (found_by held.new) held.new.what }
     ensures over { held.old.what ≡ MergedOf None →
-        (result ≡ 0) × (held.new.found ≡ None) × (held.new.what ≡ MergedOf None) }
+        (result ≡ 0) × (found_by held.new ≡ None) × (held.new.what ≡ MergedOf None) }
+    ensures fine { is_some (found_by held.new) ≡ true → result ≡ 0 }
 {
     match &mut held.what {
         What::Range(iter) => keep(&mut held.found, outcome_of(step_of(iter, back))),
         What::Merged(merged) => keep(&mut held.found, step_merged(merged, back)),
         _ => {
-            held.found = None;
+            held.found.clear();
             OTHER_KIND
         }
     }
@@ -265,38 +270,125 @@ pub extern "C" fn sst_range_next(
         (result ≡ 100) × (range.new.boxed.value ≡ None) }
     ensures other { (h : HeldValue) → range.old.boxed.value ≡ Some h → is_range h.what ≡ false →
         (result ≡ 102) × IsSomeAnd range.new.boxed.value (λ k.
-        (k.found ≡ None) × (k.what ≡ h.what)) }
+        (found_by k ≡ None) × (k.what ≡ h.what)) }
     ensures entry { entry.new ≡ entry_facts (found_in range.new.boxed.value) }
     // It is one step of the range, from that end.
     ensures front { (h : HeldValue) (s : RangeValue Heap) → range.old.boxed.value ≡ Some h →
         h.what ≡ RangeOf s → back ≡ false → let gives = ⟦<Iter<Global> as Iterator>⟧.next_gives in
         IsSomeAnd range.new.boxed.value (λ k.
-        IsRangeWhere (StepsBy gives s result k.found) k.what) }
+        IsRangeWhere (StepsBy gives s result (found_by k)) k.what) }
     ensures back { (h : HeldValue) (s : RangeValue Heap) → range.old.boxed.value ≡ Some h →
         h.what ≡ RangeOf s → back ≡ true →
         let gives = ⟦<Iter<Global> as DoubleEndedIterator>⟧.next_back_gives in
         IsSomeAnd range.new.boxed.value (λ k.
-        IsRangeWhere (StepsBy gives s result k.found) k.what) }
+        IsRangeWhere (StepsBy gives s result (found_by k)) k.what) }
     // So it is of a range of several runs, which is given up where it is refused;
     ensures merged_front { (h : HeldValue) (s : NewestAt) →
         range.old.boxed.value ≡ Some h → h.what ≡ MergedOf (Some s) → back ≡ false →
         let gives = ⟦<NewestOfRunsAt<Global> as Iterator>⟧.next_gives in
-        IsSomeAnd range.new.boxed.value (λ k. MergedStepsBy gives s result k.found k.what) }
+        IsSomeAnd range.new.boxed.value (λ k. MergedStepsBy gives s result (found_by k) k.what) }
     ensures merged_back { (h : HeldValue) (s : NewestAt) →
         range.old.boxed.value ≡ Some h → h.what ≡ MergedOf (Some s) → back ≡ true →
         let gives = ⟦<NewestOfRunsAt<Global> as DoubleEndedIterator>⟧.next_back_gives in
-        IsSomeAnd range.new.boxed.value (λ k. MergedStepsBy gives s result k.found k.what) }
+        IsSomeAnd range.new.boxed.value (λ k. MergedStepsBy gives s result (found_by k) k.what) }
     // from then on it is at its end.
     ensures over { (h : HeldValue) → range.old.boxed.value ≡ Some h → h.what ≡ MergedOf None →
         (result ≡ 0) × IsSomeAnd range.new.boxed.value (λ k.
-        (k.found ≡ None) × (k.what ≡ MergedOf None)) }
+        (found_by k ≡ None) × (k.what ≡ MergedOf None)) }
 {
-    *entry = tell(&None);
+    *entry = tell(None);
     let Some(mut held) = range.take(alloc) else {
         return CLOSED;
     };
     let code = step(&mut held, back);
-    *entry = tell(&held.found);
+    *entry = tell(held.found_entry());
+    range.put(held);
+    code
+}
+
+// Reads a range on in bulk.
+fn take(
+    held: &mut Held,
+    back: bool,
+    entries: &mut [EntryTold],
+    bytes: &mut [u8],
+    count: &mut u64,
+) -> u32
+    ensures other { is_range held.old.what ≡ false →
+        (result ≡ 102) × (found_by held.new ≡ None) × (held.new.what ≡ held.old.what) }
+    ensures none { is_range held.old.what ≡ false → (count.new ≡ count.old)
+        × (entries.new ≡ entries.old) × (bytes.new ≡ bytes.old) }
+    ensures reads { (s : RangeValue Heap) → held.old.what ≡ RangeOf s →
+        let front = ⟦<Iter<Global> as Iterator>⟧.next_gives in
+        let last = ⟦<Iter<Global> as DoubleEndedIterator>⟧.next_back_gives in
+        IsRangeWhere (ReadsMany (StepsBy (gives_at front last back)) s entries.old entries.new
+        bytes.old bytes.new count.new result (found_by held.new)) held.new.what }
+    ensures merged { (m : Option NewestAt) → held.old.what ≡ MergedOf m →
+        let front = ⟦<NewestOfRunsAt<Global> as Iterator>⟧.next_gives in
+        let last = ⟦<NewestOfRunsAt<Global> as DoubleEndedIterator>⟧.next_back_gives in
+        IsMergedAs (ReadsMany (MergedReads (gives_at front last back)) m entries.old entries.new
+        bytes.old bytes.new count.new result (found_by held.new)) held.new.what }
+{
+    if !held.is_range() {
+        held.found.clear();
+        return OTHER_KIND;
+    }
+    take_held(held, back, entries, bytes, count)
+}
+
+/// Reads the next entries of a range as `sst_range_next` does from that end, one after another, and
+/// copies the key and the value of each, one after another, to the front of `bytes`. Writes the
+/// kind, the number and the lengths of each to `entries`, and how many there are to `count`. It
+/// stops once all places of `entries` are filled, at the end, at an error, and at an entry for
+/// which `bytes` has too little room left: the handle has found that one, and `found` has its kind,
+/// number and lengths. Else the handle has found nothing, and `found` has zeros.
+///
+/// Fails with 100 if the handle is closed, with 102 if it holds no range, and with the error at
+/// which it stopped: the entries before it are copied and counted.
+#[unsafe(no_mangle)]
+pub extern "C" fn sst_range_take(
+    alloc: Global,
+    range: &mut Handle,
+    back: bool,
+    entries: &mut [EntryTold],
+    bytes: &mut [u8],
+    count: &mut u64,
+    found: &mut EntryTold,
+) -> u32
+    ensures shut { range.old.boxed.value ≡ None →
+        (result ≡ 100) × (range.new.boxed.value ≡ None) }
+    ensures other { (h : HeldValue) → range.old.boxed.value ≡ Some h → is_range h.what ≡ false →
+        (result ≡ 102) × IsSomeAnd range.new.boxed.value (λ k.
+        (found_by k ≡ None) × (k.what ≡ h.what)) }
+    // Of a closed handle, or another kind, nothing is copied.
+    ensures closed { range.old.boxed.value ≡ None → (count.new ≡ 0)
+        × (entries.new ≡ entries.old) × (bytes.new ≡ bytes.old) }
+    ensures none { (h : HeldValue) → range.old.boxed.value ≡ Some h → is_range h.what ≡ false →
+        (count.new ≡ 0) × (entries.new ≡ entries.old) × (bytes.new ≡ bytes.old) }
+    ensures found { found.new ≡ entry_facts (found_in range.new.boxed.value) }
+    // It is as many steps of the range from that end as it takes, each as one of `sst_range_next`:
+    // of a range of a table,
+    ensures reads { (h : HeldValue) (s : RangeValue Heap) → range.old.boxed.value ≡ Some h →
+        h.what ≡ RangeOf s → let front = ⟦<Iter<Global> as Iterator>⟧.next_gives in
+        let last = ⟦<Iter<Global> as DoubleEndedIterator>⟧.next_back_gives in
+        IsSomeAnd range.new.boxed.value (λ k. IsRangeWhere
+        (ReadsMany (StepsBy (gives_at front last back)) s entries.old entries.new
+        bytes.old bytes.new count.new result (found_by k)) k.what) }
+    // and of several runs.
+    ensures merged { (h : HeldValue) (m : Option NewestAt) → range.old.boxed.value ≡ Some h →
+        h.what ≡ MergedOf m → let front = ⟦<NewestOfRunsAt<Global> as Iterator>⟧.next_gives in
+        let last = ⟦<NewestOfRunsAt<Global> as DoubleEndedIterator>⟧.next_back_gives in
+        IsSomeAnd range.new.boxed.value (λ k. IsMergedAs
+        (ReadsMany (MergedReads (gives_at front last back)) m entries.old entries.new
+        bytes.old bytes.new count.new result (found_by k)) k.what) }
+{
+    *count = 0;
+    *found = tell(None);
+    let Some(mut held) = range.take(alloc) else {
+        return CLOSED;
+    };
+    let code = take(&mut held, back, entries, bytes, count);
+    *found = tell(held.found_entry());
     range.put(held);
     code
 }

@@ -4,8 +4,8 @@ ghost use Rattle.std.specs.Prelude.{List, None, Ok, Some, is_some, true};
 ghost use Rattle.lsm_readers.specs.Words.{Entry, OpenTable, point};
 ghost use Rattle.lsm_ranges.specs.KeyRange.{is_well_formed};
 ghost use Rattle.lsm_runs.specs.Words.{RunsHoldLists, range_of, runs_read, runs_told, union_in};
-ghost use Rattle.sst_c.specs.Codes.{TellsFirst};
-ghost use Rattle.sst_c.specs.Told.{AnswersRead, found_in, entry_facts};
+ghost use Rattle.sst_c.specs.Codes.{TellsFirst, result_code};
+ghost use Rattle.sst_c.specs.Told.{AnswersRead, entry_facts, found_by, found_in, found_of};
 ghost use Rattle.sst_c.specs.What.{are_runs, is_table, runs_held};
 ghost use Rattle.sst_c.specs.declared.held.Held.{Held as HeldValue};
 ghost use Rattle.sst_c.specs.declared.held.What.TheVariants.{Table as TableOf};
@@ -19,7 +19,7 @@ use crate::tables::keep;
 use lsm_ranges::Ranged;
 use lsm_readers::Table;
 use lsm_runs::get_runs;
-use sst_blocks::{InternalValue, SeqNo};
+use sst_blocks::{Error, InternalValue, SeqNo};
 use std::alloc::Global;
 
 /// Begins a list of runs, into a handle that holds nothing. Refused 101 where the handle holds
@@ -28,7 +28,7 @@ use std::alloc::Global;
 pub extern "C" fn sst_runs_open(alloc: Global, runs: &mut Handle) -> u32
     ensures open { is_some runs.old.boxed.value ≡ true → result ≡ 101 }
     ensures memory { runs.old.boxed.value ≡ None → result ≢ 0 → result ≡ 1 }
-    ensures new { result ≡ 0 → IsSomeAnd runs.new.boxed.value (λ h. h.found ≡ None) }
+    ensures new { result ≡ 0 → IsSomeAnd runs.new.boxed.value (λ h. found_by h ≡ None) }
     ensures kind { result ≡ 0 → IsSomeAnd runs.new.boxed.value (λ h. are_runs h.what ≡ true) }
     ensures none { result ≡ 0 → IsSomeAnd runs.new.boxed.value (λ h. runs_held h.what ≡ []) }
     ensures left { result ≢ 0 → runs.new.boxed.value ≡ runs.old.boxed.value }
@@ -61,7 +61,7 @@ fn add_table(alloc: Global, held: &mut Held, table: &Table) -> u32
     ensures memory { are_runs held.old.what ≡ true → is_well_formed (range_of table.now) ≡ true →
         (result ≡ 0) ⊎ (result ≡ 1) }
     ensures kind { are_runs held.new.what ≡ are_runs held.old.what }
-    ensures found { held.new.found ≡ held.old.found }
+    ensures found { found_by held.new ≡ found_by held.old }
     ensures added { result ≡ 0 →
         runs_held held.new.what ≡ runs_held held.old.what ++ (table.now ∷ []) ∷ [] }
     ensures left { result ≢ 0 → runs_held held.new.what ≡ runs_held held.old.what }
@@ -82,7 +82,7 @@ fn add_held(alloc: Global, held: &mut Held, table: &Held) -> u32
     ensures memory { (t : OpenTable) → table.now.what ≡ TableOf t → are_runs held.old.what ≡ true →
         is_well_formed (range_of t) ≡ true → (result ≡ 0) ⊎ (result ≡ 1) }
     ensures kind { are_runs held.new.what ≡ are_runs held.old.what }
-    ensures found { held.new.found ≡ held.old.found }
+    ensures found { found_by held.new ≡ found_by held.old }
     ensures added { (t : OpenTable) → table.now.what ≡ TableOf t → result ≡ 0 →
         runs_held held.new.what ≡ runs_held held.old.what ++ (t ∷ []) ∷ [] }
     ensures left { result ≢ 0 → runs_held held.new.what ≡ runs_held held.old.what }
@@ -110,7 +110,7 @@ fn add_to(alloc: Global, runs: &mut Handle, table: &Held) -> u32
     ensures kind { (h : HeldValue) → runs.old.boxed.value ≡ Some h →
         IsSomeAnd runs.new.boxed.value (λ k. are_runs k.what ≡ are_runs h.what) }
     ensures found { (h : HeldValue) → runs.old.boxed.value ≡ Some h →
-        IsSomeAnd runs.new.boxed.value (λ k. k.found ≡ h.found) }
+        IsSomeAnd runs.new.boxed.value (λ k. found_by k ≡ found_by h) }
     ensures added { (h : HeldValue) (t : OpenTable) → runs.old.boxed.value ≡ Some h →
         table.now.what ≡ TableOf t → result ≡ 0 → IsSomeAnd runs.new.boxed.value (λ k.
         runs_held k.what ≡ runs_held h.what ++ (t ∷ []) ∷ []) }
@@ -152,7 +152,7 @@ pub extern "C" fn sst_runs_add(alloc: Global, runs: &mut Handle, table: &mut Han
     ensures kind { (h : HeldValue) → runs.old.boxed.value ≡ Some h →
         IsSomeAnd runs.new.boxed.value (λ k. are_runs k.what ≡ are_runs h.what) }
     ensures found { (h : HeldValue) → runs.old.boxed.value ≡ Some h →
-        IsSomeAnd runs.new.boxed.value (λ k. k.found ≡ h.found) }
+        IsSomeAnd runs.new.boxed.value (λ k. found_by k ≡ found_by h) }
     ensures added { (h t : HeldValue) (of : OpenTable) → runs.old.boxed.value ≡ Some h →
         table.old.boxed.value ≡ Some t → t.what ≡ TableOf of → result ≡ 0 →
         IsSomeAnd runs.new.boxed.value (λ k.
@@ -170,34 +170,36 @@ pub extern "C" fn sst_runs_add(alloc: Global, runs: &mut Handle, table: &mut Han
 
 // Reads a list of runs.
 #[tactic(auto, using(crate::proofs::Answering::reads))]
-fn get_in(runs: &RunList, key: &[u8], seqno: SeqNo, found: &mut Option<InternalValue>) -> u32
-    ensures told { AnswersRead result found.new (runs_told key.now seqno None runs.now) }
-    ensures early { TellsFirst result (runs_read key.now seqno None runs.now).early }
-    ensures calm { (runs_read key.now seqno None runs.now).loads ≡ [] → result ≡ 0 }
+fn get_in(runs: &RunList, key: &[u8], seqno: SeqNo) -> Result<Option<InternalValue>, Error>
+    ensures told { let code = result_code result in
+        AnswersRead code (found_of result) (runs_told key.now seqno None runs.now) }
+    ensures early { TellsFirst (result_code result) (runs_read key.now seqno None runs.now).early }
+    ensures calm { (runs_read key.now seqno None runs.now).loads ≡ [] → result_code result ≡ 0 }
     ensures list { (lists : List (List (List Entry))) →
-        RunsHoldLists runs.now lists →
-        AnswersRead result found.new (Ok (point (union_in lists) key.now seqno)) }
+        RunsHoldLists runs.now lists → let code = result_code result in
+        AnswersRead code (found_of result) (Ok (point (union_in lists) key.now seqno)) }
 {
-    keep(found, get_runs(runs.as_slice(), key, seqno))
+    get_runs(runs.as_slice(), key, seqno)
 }
 
 fn get(held: &mut Held, key: &[u8], seqno: SeqNo) -> u32
     ensures kept { held.new.what ≡ held.old.what }
-    ensures other { are_runs held.old.what ≡ false → (result ≡ 102) × (held.new.found ≡ None) }
+    ensures other { are_runs held.old.what ≡ false → (result ≡ 102) × (found_by held.new ≡ None) }
     ensures told { are_runs held.old.what ≡ true →
-        AnswersRead result held.new.found (runs_told key.now seqno None (runs_held held.old.what)) }
+        AnswersRead result (found_by held.new)
+        (runs_told key.now seqno None (runs_held held.old.what)) }
     ensures early { are_runs held.old.what ≡ true →
         TellsFirst result (runs_read key.now seqno None (runs_held held.old.what)).early }
     ensures calm { are_runs held.old.what ≡ true →
         (runs_read key.now seqno None (runs_held held.old.what)).loads ≡ [] → result ≡ 0 }
     ensures list { (lists : List (List (List Entry))) → are_runs held.old.what ≡ true →
         RunsHoldLists (runs_held held.old.what) lists →
-        AnswersRead result held.new.found (Ok (point (union_in lists) key.now seqno)) }
+        AnswersRead result (found_by held.new) (Ok (point (union_in lists) key.now seqno)) }
 {
     match &held.what {
-        What::Runs(runs) => get_in(runs, key, seqno, &mut held.found),
+        What::Runs(runs) => keep(&mut held.found, get_in(runs, key, seqno)),
         _ => {
-            held.found = None;
+            held.found.clear();
             OTHER_KIND
         }
     }
@@ -238,12 +240,12 @@ pub extern "C" fn sst_runs_get(
         RunsHoldLists (runs_held h.what) lists → let found = found_in runs.new.boxed.value in
         AnswersRead result found (Ok (point (union_in lists) key.now seqno)) }
 {
-    *entry = tell(&None);
+    *entry = tell(None);
     let Some(mut held) = runs.take(alloc) else {
         return CLOSED;
     };
     let code = get(&mut held, key, seqno);
-    *entry = tell(&held.found);
+    *entry = tell(held.found_entry());
     runs.put(held);
     code
 }

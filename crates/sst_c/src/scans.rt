@@ -5,12 +5,13 @@ ghost use Rattle.sst_entries.specs.Error.{Faults, FaultsFirst};
 ghost use Rattle.sst_entries.specs.Stream.{ok_results};
 ghost use Rattle.sst_entries.specs.declared.error.Error.TheVariants.{OutOfMemory};
 ghost use Rattle.lsm_readers.specs.Scan.{IsEndedScan};
-ghost use Rattle.lsm_readers.specs.Words.{Entry, OpenTable, Scan, ScansNext, StoresList, lift};
+ghost use Rattle.lsm_readers.specs.Words.{Entry, OpenTable, Scan, ScansLent, StoresList, lift};
 ghost use Rattle.lsm_runs.specs.RunScan.{early_scan_fault, scan_fault, table_scan};
 ghost use Rattle.sst_c.specs.Codes.{TellsFirst};
 ghost use Rattle.sst_c.specs.Scans.{DealsScan, IsBegunScan};
 ghost use Rattle.sst_c.specs.Steps.{StepsBy};
-ghost use Rattle.sst_c.specs.Told.{entry_facts, found_in};
+ghost use Rattle.sst_c.specs.Takes.{ReadsMany};
+ghost use Rattle.sst_c.specs.Told.{entry_facts, found_by, found_in};
 ghost use Rattle.sst_c.specs.What.{IsScanWhere, is_scan, is_table};
 ghost use Rattle.sst_c.specs.Writing.{FaultTold};
 ghost use Rattle.sst_c.specs.declared.held.Held.{Held as HeldValue};
@@ -20,10 +21,9 @@ use crate::codes::{CLOSED, OPEN, OTHER_KIND};
 use crate::entries::{EntryTold, tell};
 use crate::handle::Handle;
 use crate::held::{Held, What};
-use crate::ranges::outcome_of;
-use crate::tables::keep;
+use crate::reads::take_held;
 use lsm_readers::{Scanner, Table};
-use sst_blocks::{Error, InternalValue};
+use sst_blocks::{Error, Lending};
 use std::alloc::Global;
 
 // A scan of a table.
@@ -48,7 +48,7 @@ fn begin_scan(alloc: Global, table: &Table, scan: &mut Handle) -> u32
     ensures early { TellsFirst result (early_scan_fault table.now) }
     ensures fine { (es : List Entry) → StoresList table.now.bytes es → 0 < length es →
         (result ≡ 0) ⊎ (result ≡ 1) }
-    ensures new { result ≡ 0 → IsSomeAnd scan.new.boxed.value (λ k. k.found ≡ None) }
+    ensures new { result ≡ 0 → IsSomeAnd scan.new.boxed.value (λ k. found_by k ≡ None) }
     ensures begun { result ≡ 0 → IsSomeAnd scan.new.boxed.value (λ k.
         IsScanWhere (IsBegunScan table.now) k.what) }
     ensures deals { result ≡ 0 → IsSomeAnd scan.new.boxed.value (λ k.
@@ -72,7 +72,7 @@ fn begin(alloc: Global, held: &Held, scan: &mut Handle) -> u32
         TellsFirst result (early_scan_fault t) }
     ensures fine { (t : OpenTable) (es : List Entry) → held.now.what ≡ TableOf t →
         StoresList t.bytes es → 0 < length es → (result ≡ 0) ⊎ (result ≡ 1) }
-    ensures new { result ≡ 0 → IsSomeAnd scan.new.boxed.value (λ k. k.found ≡ None) }
+    ensures new { result ≡ 0 → IsSomeAnd scan.new.boxed.value (λ k. found_by k ≡ None) }
     ensures begun { (t : OpenTable) → held.now.what ≡ TableOf t → result ≡ 0 →
         IsSomeAnd scan.new.boxed.value (λ k. IsScanWhere (IsBegunScan t) k.what) }
     ensures deals { (t : OpenTable) → held.now.what ≡ TableOf t → result ≡ 0 →
@@ -113,7 +113,7 @@ pub extern "C" fn sst_scan_open(alloc: Global, table: &mut Handle, scan: &mut Ha
     ensures fine { (h : HeldValue) (t : OpenTable) (es : List Entry) →
         scan.old.boxed.value ≡ None → table.old.boxed.value ≡ Some h → h.what ≡ TableOf t →
         StoresList t.bytes es → 0 < length es → (result ≡ 0) ⊎ (result ≡ 1) }
-    ensures new { result ≡ 0 → IsSomeAnd scan.new.boxed.value (λ k. k.found ≡ None) }
+    ensures new { result ≡ 0 → IsSomeAnd scan.new.boxed.value (λ k. found_by k ≡ None) }
     // It is of all blocks of the table, and has made no step: whatever the bytes, its steps give
     // what the blocks have, up to the first fault,
     ensures begun { (h : HeldValue) (t : OpenTable) → table.old.boxed.value ≡ Some h →
@@ -139,47 +139,58 @@ pub extern "C" fn sst_scan_open(alloc: Global, table: &mut Handle, scan: &mut Ha
     code
 }
 
-// A step of a scanner.
-fn step_scan(scanner: &mut Scanner, found: &mut Option<InternalValue>) -> u32
-    ensures { StepsBy ScansNext scanner.old result found.new scanner.new }
+// A step of a scanner, which lends the entry that comes.
+#[tactic(auto, using(crate::proofs::Scanning::steps))]
+fn step_scan(scanner: &mut Scanner) -> u32
+    ensures steps { StepsBy ScansLent scanner.old result scanner.new.lent scanner.new }
+    ensures fine { is_some scanner.new.lent ≡ true → result ≡ 0 }
 {
-    keep(found, outcome_of(scanner.next()))
+    match scanner.advance() {
+        Ok(_) => 0,
+        Err(error) => u32::from(error.number()),
+    }
 }
 
-fn step(held: &mut Held) -> u32
+/// A step of a scan, if it is one.
+pub(crate) fn step(held: &mut Held) -> u32
     ensures other { is_scan held.old.what ≡ false →
-        (result ≡ 102) × (held.new.found ≡ None) × (held.new.what ≡ held.old.what) }
+        (result ≡ 102) × (found_by held.new ≡ None) × (held.new.what ≡ held.old.what) }
     ensures steps { (s : Scan) → held.old.what ≡ ScanOf s →
-        IsScanWhere (StepsBy ScansNext s result held.new.found) held.new.what }
-    ensures ends { (s : Scan) → held.old.what ≡ ScanOf s → held.new.found ≡ None →
+        IsScanWhere (StepsBy ScansLent s result (found_by held.new)) held.new.what }
+    ensures ends { (s : Scan) → held.old.what ≡ ScanOf s → found_by held.new ≡ None →
         IsScanWhere IsEndedScan held.new.what }
     ensures over { (s : Scan) → held.old.what ≡ ScanOf s → IsEndedScan s →
-        (result ≡ 0) × (held.new.found ≡ None) }
+        (result ≡ 0) × (found_by held.new ≡ None) }
+    ensures fine { is_some (found_by held.new) ≡ true → result ≡ 0 }
 {
     match &mut held.what {
-        What::Scan(scanner) => step_scan(scanner, &mut held.found),
+        What::Scan(scanner) => {
+            held.found.set_lent();
+            step_scan(scanner)
+        }
         _ => {
-            held.found = None;
+            held.found.clear();
             OTHER_KIND
         }
     }
 }
 
-/// Takes the next entry of a scan, keeps it, and tells its kind, number and lengths; zeros at the
-/// end. Refused 100 where the handle is closed, 102 where it holds no scan, and as a step of a
-/// `Scanner`, after which nothing more comes; nothing is kept then, and zeros are told.
+/// Goes on to the next entry of a scan, which the scan lends from the table's memory, with no share
+/// of its own, and writes its kind, number and lengths; zeros at the end. Fails with 100 if the
+/// handle is closed, with 102 if it holds no scan, and as `Scanner::advance`; the scan is at its
+/// end then, nothing is found, and zeros are written.
 #[unsafe(no_mangle)]
 pub extern "C" fn sst_scan_next(alloc: Global, scan: &mut Handle, entry: &mut EntryTold) -> u32
     ensures shut { scan.old.boxed.value ≡ None →
         (result ≡ 100) × (scan.new.boxed.value ≡ None) }
     ensures other { (h : HeldValue) → scan.old.boxed.value ≡ Some h → is_scan h.what ≡ false →
         (result ≡ 102) × IsSomeAnd scan.new.boxed.value (λ k.
-        (k.found ≡ None) × (k.what ≡ h.what)) }
+        (found_by k ≡ None) × (k.what ≡ h.what)) }
     ensures entry { entry.new ≡ entry_facts (found_in scan.new.boxed.value) }
-    // It is one step of the scanner.
+    // It is one step of the scanner in its lending form.
     ensures steps { (h : HeldValue) (s : Scan) → scan.old.boxed.value ≡ Some h →
         h.what ≡ ScanOf s → IsSomeAnd scan.new.boxed.value (λ k.
-        IsScanWhere (StepsBy ScansNext s result k.found) k.what) }
+        IsScanWhere (StepsBy ScansLent s result (found_by k)) k.what) }
     // Where it finds nothing, at the end or refused, nothing is left to read,
     ensures ends { (h : HeldValue) (s : Scan) → scan.old.boxed.value ≡ Some h →
         h.what ≡ ScanOf s → found_in scan.new.boxed.value ≡ None →
@@ -189,12 +200,82 @@ pub extern "C" fn sst_scan_next(alloc: Global, scan: &mut Handle, entry: &mut En
         h.what ≡ ScanOf s → IsEndedScan s →
         (result ≡ 0) × (found_in scan.new.boxed.value ≡ None) }
 {
-    *entry = tell(&None);
+    *entry = tell(None);
     let Some(mut held) = scan.take(alloc) else {
         return CLOSED;
     };
     let code = step(&mut held);
-    *entry = tell(&held.found);
+    *entry = tell(held.found_entry());
+    scan.put(held);
+    code
+}
+
+// Reads a scan on in bulk.
+fn take(held: &mut Held, entries: &mut [EntryTold], bytes: &mut [u8], count: &mut u64) -> u32
+    ensures other { is_scan held.old.what ≡ false →
+        (result ≡ 102) × (found_by held.new ≡ None) × (held.new.what ≡ held.old.what) }
+    ensures none { is_scan held.old.what ≡ false → (count.new ≡ count.old)
+        × (entries.new ≡ entries.old) × (bytes.new ≡ bytes.old) }
+    ensures reads { (s : Scan) → held.old.what ≡ ScanOf s → IsScanWhere
+        (ReadsMany (StepsBy ScansLent) s entries.old entries.new bytes.old bytes.new
+        count.new result (found_by held.new)) held.new.what }
+    ensures ends { (s : Scan) → held.old.what ≡ ScanOf s → found_by held.new ≡ None →
+        count.new < length entries.old → IsScanWhere IsEndedScan held.new.what }
+{
+    if !held.is_scan() {
+        held.found.clear();
+        return OTHER_KIND;
+    }
+    take_held(held, false, entries, bytes, count)
+}
+
+/// Reads the next entries of a scan as `sst_scan_next` does, one after another, and copies the key
+/// and the value of each, one after another, to the front of `bytes`. Writes the kind, the number
+/// and the lengths of each to `entries`, and how many there are to `count`. It stops once all
+/// places of `entries` are filled, at the end, at an error, and at an entry for which `bytes` has
+/// too little room left: the handle has found that one, and `found` has its kind, number and
+/// lengths. Else the handle has found nothing, and `found` has zeros.
+///
+/// Fails with 100 if the handle is closed, with 102 if it holds no scan, and with the error at which
+/// it stopped: the entries before it are copied and counted.
+#[unsafe(no_mangle)]
+pub extern "C" fn sst_scan_take(
+    alloc: Global,
+    scan: &mut Handle,
+    entries: &mut [EntryTold],
+    bytes: &mut [u8],
+    count: &mut u64,
+    found: &mut EntryTold,
+) -> u32
+    ensures shut { scan.old.boxed.value ≡ None →
+        (result ≡ 100) × (scan.new.boxed.value ≡ None) }
+    ensures other { (h : HeldValue) → scan.old.boxed.value ≡ Some h → is_scan h.what ≡ false →
+        (result ≡ 102) × IsSomeAnd scan.new.boxed.value (λ k.
+        (found_by k ≡ None) × (k.what ≡ h.what)) }
+    // Of a closed handle, or another kind, nothing is copied.
+    ensures closed { scan.old.boxed.value ≡ None → (count.new ≡ 0)
+        × (entries.new ≡ entries.old) × (bytes.new ≡ bytes.old) }
+    ensures none { (h : HeldValue) → scan.old.boxed.value ≡ Some h → is_scan h.what ≡ false →
+        (count.new ≡ 0) × (entries.new ≡ entries.old) × (bytes.new ≡ bytes.old) }
+    ensures found { found.new ≡ entry_facts (found_in scan.new.boxed.value) }
+    // It is as many steps of the scanner as it takes, each as one of `sst_scan_next`.
+    ensures reads { (h : HeldValue) (s : Scan) → scan.old.boxed.value ≡ Some h →
+        h.what ≡ ScanOf s → IsSomeAnd scan.new.boxed.value (λ k. IsScanWhere
+        (ReadsMany (StepsBy ScansLent) s entries.old entries.new bytes.old bytes.new
+        count.new result (found_by k)) k.what) }
+    // If places are left and nothing is found, at the end or at an error, nothing is left to read.
+    ensures ends { (h : HeldValue) (s : Scan) → scan.old.boxed.value ≡ Some h →
+        h.what ≡ ScanOf s → found_in scan.new.boxed.value ≡ None →
+        count.new < length entries.old →
+        IsSomeAnd scan.new.boxed.value (λ k. IsScanWhere IsEndedScan k.what) }
+{
+    *count = 0;
+    *found = tell(None);
+    let Some(mut held) = scan.take(alloc) else {
+        return CLOSED;
+    };
+    let code = take(&mut held, entries, bytes, count);
+    *found = tell(held.found_entry());
     scan.put(held);
     code
 }

@@ -1,6 +1,7 @@
 //! Further handles of one table.
 ghost use Rattle.std.specs.Prelude.{◌≡◌, ◌≢◌, ◌⊎◌, false, IsSomeAnd, None, Some};
 ghost use Rattle.std.specs.Prelude.{is_some, true};
+ghost use Rattle.sst_c.specs.Told.{found_by};
 ghost use Rattle.sst_c.specs.What.{is_table};
 ghost use Rattle.sst_c.specs.declared.held.Held.{Held as HeldValue};
 
@@ -13,7 +14,7 @@ fn share(alloc: Global, held: &Held, other: &mut Handle) -> u32
     requires { other.old.boxed.value ≡ None }
     ensures kind { is_table held.now.what ≡ false → result ≡ 102 }
     ensures memory { is_table held.now.what ≡ true → (result ≡ 0) ⊎ (result ≡ 1) }
-    ensures new { result ≡ 0 → IsSomeAnd other.new.boxed.value (λ k. k.found ≡ None) }
+    ensures new { result ≡ 0 → IsSomeAnd other.new.boxed.value (λ k. found_by k ≡ None) }
     ensures shared { result ≡ 0 → IsSomeAnd other.new.boxed.value (λ k. k.what ≡ held.now.what) }
     ensures left { result ≢ 0 → other.new.boxed.value ≡ None }
 {
@@ -40,7 +41,7 @@ pub extern "C" fn sst_table_share(alloc: Global, table: &mut Handle, other: &mut
         is_table h.what ≡ false → result ≡ 102 }
     ensures memory { (h : HeldValue) → other.old.boxed.value ≡ None →
         table.old.boxed.value ≡ Some h → is_table h.what ≡ true → (result ≡ 0) ⊎ (result ≡ 1) }
-    ensures new { result ≡ 0 → IsSomeAnd other.new.boxed.value (λ k. k.found ≡ None) }
+    ensures new { result ≡ 0 → IsSomeAnd other.new.boxed.value (λ k. found_by k ≡ None) }
     // It holds the same table.
     ensures shared { (h : HeldValue) → table.old.boxed.value ≡ Some h → result ≡ 0 →
         IsSomeAnd other.new.boxed.value (λ k. k.what ≡ h.what) }

@@ -5,15 +5,16 @@ ghost use Rattle.lsm_readers.specs.Parts.{early_fault};
 ghost use Rattle.lsm_readers.specs.Words.{Entry, OpenTable, StoresList, fits_told, lift, point};
 ghost use Rattle.lsm_readers.specs.Words.{recovered_told, table_answer};
 ghost use Rattle.sst_c.specs.Codes.{TellsCode, TellsFirst, result_code};
-ghost use Rattle.sst_c.specs.Told.{AnswersRead, found_in, found_of, entry_facts};
+ghost use Rattle.sst_c.specs.Told.{AnswersRead, entry_facts, found_by, found_in, found_of};
 ghost use Rattle.sst_c.specs.What.{IsOpenedAs, is_table};
+ghost use Rattle.sst_c.specs.declared.held.FoundEntry.TheVariants.{Kept};
 ghost use Rattle.sst_c.specs.declared.held.Held.{Held as HeldValue};
 ghost use Rattle.sst_c.specs.declared.held.What.TheVariants.{Table as TableOf};
 
 use crate::codes::{CLOSED, NO_MEMORY, OPEN, OTHER_KIND};
 use crate::entries::{EntryTold, tell};
 use crate::handle::Handle;
-use crate::held::{Held, What};
+use crate::held::{FoundEntry, Held, What};
 use lsm_readers::Table;
 use sst_blocks::{Checksum, Error, InternalValue, SeqNo, Slice};
 use std::alloc::Global;
@@ -84,20 +85,18 @@ pub extern "C" fn sst_table_open(
 
 /// Keeps what a read found, nothing where it was refused, and answers 0 or the refusal's number.
 #[inline]
-pub(crate) fn keep(
-    found: &mut Option<InternalValue>,
-    outcome: Result<Option<InternalValue>, Error>,
-) -> u32
+pub(crate) fn keep(found: &mut FoundEntry, outcome: Result<Option<InternalValue>, Error>) -> u32
     ensures code { result ≡ result_code outcome }
-    ensures found { found.new ≡ found_of outcome }
+    ensures found { found.new ≡ Kept (found_of outcome) }
+    ensures fine { is_some (found_of outcome) ≡ true → result ≡ 0 }
 {
     match outcome {
         Ok(item) => {
-            *found = item;
+            *found = FoundEntry::Kept(item);
             0
         }
         Err(error) => {
-            *found = None;
+            *found = FoundEntry::Kept(None);
             u32::from(error.number())
         }
     }
@@ -106,16 +105,17 @@ pub(crate) fn keep(
 #[tactic(auto, using(crate::proofs::Answering::reads))]
 fn get(held: &mut Held, key: &[u8], seqno: SeqNo) -> u32
     ensures kept { held.new.what ≡ held.old.what }
-    ensures other { is_table held.old.what ≡ false → (result ≡ 102) × (held.new.found ≡ None) }
+    ensures other { is_table held.old.what ≡ false → (result ≡ 102) × (found_by held.new ≡ None) }
     ensures told { (t : OpenTable) → held.old.what ≡ TableOf t →
-        AnswersRead result held.new.found (table_answer t key.now seqno).told }
+        AnswersRead result (found_by held.new) (table_answer t key.now seqno).told }
     ensures early { (t : OpenTable) → held.old.what ≡ TableOf t →
         TellsFirst result (table_answer t key.now seqno).early }
     ensures calm { (t : OpenTable) → held.old.what ≡ TableOf t →
         (table_answer t key.now seqno).loads ≡ [] → result ≡ 0 }
     ensures list { (t : OpenTable) (es : List Entry) → held.old.what ≡ TableOf t →
         StoresList t.bytes es →
-        AnswersRead result held.new.found (Ok (point (lift es t.global_seqno) key.now seqno)) }
+        AnswersRead result (found_by held.new)
+        (Ok (point (lift es t.global_seqno) key.now seqno)) }
 {
     match &held.what {
         What::Table(table) => {
@@ -123,7 +123,7 @@ fn get(held: &mut Held, key: &[u8], seqno: SeqNo) -> u32
             keep(&mut held.found, table.get(key, seqno, hash))
         }
         _ => {
-            held.found = None;
+            held.found.clear();
             OTHER_KIND
         }
     }
@@ -163,12 +163,12 @@ pub extern "C" fn sst_table_get(
         let found = found_in table.new.boxed.value in
         AnswersRead result found (Ok (point (lift es t.global_seqno) key.now seqno)) }
 {
-    *entry = tell(&None);
+    *entry = tell(None);
     let Some(mut held) = table.take(alloc) else {
         return CLOSED;
     };
     let code = get(&mut held, key, seqno);
-    *entry = tell(&held.found);
+    *entry = tell(held.found_entry());
     table.put(held);
     code
 }

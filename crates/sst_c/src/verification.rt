@@ -4,6 +4,7 @@ ghost use Rattle.std.specs.Prelude.{is_some, true};
 ghost use Rattle.lsm_readers.specs.Verification.{Verifying, verifying};
 ghost use Rattle.lsm_readers.specs.Words.{OpenTable};
 ghost use Rattle.sst_c.specs.Stepwise.{TellsStep, no_progress};
+ghost use Rattle.sst_c.specs.Told.{found_by};
 ghost use Rattle.sst_c.specs.Verify.{no_finding};
 ghost use Rattle.sst_c.specs.What.{IsVerificationWhere, is_table, is_verification};
 ghost use Rattle.sst_c.specs.declared.held.Held.{Held as HeldValue};
@@ -23,7 +24,7 @@ fn begin(alloc: Global, held: &Held, verification: &mut Handle) -> u32
     requires { verification.old.boxed.value ≡ None }
     ensures kind { is_table held.now.what ≡ false → result ≡ 102 }
     ensures memory { is_table held.now.what ≡ true → (result ≡ 0) ⊎ (result ≡ 1) }
-    ensures new { result ≡ 0 → IsSomeAnd verification.new.boxed.value (λ k. k.found ≡ None) }
+    ensures new { result ≡ 0 → IsSomeAnd verification.new.boxed.value (λ k. found_by k ≡ None) }
     ensures begun { (t : OpenTable) → held.now.what ≡ TableOf t → result ≡ 0 →
         IsSomeAnd verification.new.boxed.value (λ k. k.what ≡ VerificationOf (verifying t)) }
     ensures left { result ≢ 0 → verification.new.boxed.value ≡ None }
@@ -56,7 +57,7 @@ pub extern "C" fn sst_verification_open(
         table.old.boxed.value ≡ Some h → is_table h.what ≡ false → result ≡ 102 }
     ensures memory { (h : HeldValue) → verification.old.boxed.value ≡ None →
         table.old.boxed.value ≡ Some h → is_table h.what ≡ true → (result ≡ 0) ⊎ (result ≡ 1) }
-    ensures new { result ≡ 0 → IsSomeAnd verification.new.boxed.value (λ k. k.found ≡ None) }
+    ensures new { result ≡ 0 → IsSomeAnd verification.new.boxed.value (λ k. found_by k ≡ None) }
     // It is of the table, of which nothing is read yet.
     ensures begun { (h : HeldValue) (t : OpenTable) → table.old.boxed.value ≡ Some h →
         h.what ≡ TableOf t → result ≡ 0 → IsSomeAnd verification.new.boxed.value (λ k.
@@ -82,7 +83,7 @@ fn step(held: &mut Held, progress: &mut ProgressTold, told: &mut VerifyTold) -> 
         (held.new.what ≡ held.old.what) }
     ensures steps { (v : Verifying) → held.old.what ≡ VerificationOf v →
         IsVerificationWhere (TellsStep v result progress.new told.new) held.new.what }
-    ensures found { held.new.found ≡ held.old.found }
+    ensures found { found_by held.new ≡ found_by held.old }
 {
     match &mut held.what {
         What::Verification(verifier) => verifier.step(progress, told),
@@ -114,7 +115,7 @@ pub extern "C" fn sst_verification_step(
         IsVerificationWhere (TellsStep v result progress.new told.new) k.what) }
     // What a read found stays.
     ensures found { (h : HeldValue) → verification.old.boxed.value ≡ Some h →
-        IsSomeAnd verification.new.boxed.value (λ k. k.found ≡ h.found) }
+        IsSomeAnd verification.new.boxed.value (λ k. found_by k ≡ found_by h) }
 {
     *progress = no_progress();
     *told = nothing();

@@ -6,6 +6,7 @@ ghost use Rattle.sst_entries.specs.declared.error.Error.TheVariants.{OutOfMemory
 ghost use Rattle.sst_entries.specs.declared.value_type.ValueType.{ValueType as Kind};
 ghost use Rattle.lsm_writers.specs.Writing.{Writing as WritingValue, may_be_written, written};
 ghost use Rattle.sst_c.specs.Options.{are_usable, writing_told};
+ghost use Rattle.sst_c.specs.Told.{found_by};
 ghost use Rattle.sst_c.specs.What.{are_files, files_held, writer_in};
 ghost use Rattle.sst_c.specs.Writing.{AddsFileOf, FinishTold, TookEntry, kind_told};
 ghost use Rattle.sst_c.specs.declared.held.Held.{Held as HeldValue};
@@ -33,7 +34,7 @@ fn begin(alloc: Global, options: &TableOptions, writer: &mut Handle) -> u32
     requires empty { writer.old.boxed.value ≡ None }
     requires usable { are_usable options.now ≡ true }
     ensures memory { (result ≡ 0) ⊎ (result ≡ 1) }
-    ensures opened { result ≡ 0 → IsSomeAnd writer.new.boxed.value (λ h. (h.found ≡ None)
+    ensures opened { result ≡ 0 → IsSomeAnd writer.new.boxed.value (λ h. (found_by h ≡ None)
         × (writer_in h.what ≡ Some (writing_told options.now)) × (files_held h.what ≡ [])) }
     ensures left { result ≢ 0 → writer.new.boxed.value ≡ None }
 {
@@ -59,7 +60,7 @@ pub extern "C" fn sst_writer_open(alloc: Global, options: &TableOptions, writer:
         result ≡ 105 }
     ensures memory { writer.old.boxed.value ≡ None → are_usable options.now ≡ true →
         (result ≡ 0) ⊎ (result ≡ 1) }
-    ensures opened { result ≡ 0 → IsSomeAnd writer.new.boxed.value (λ h. (h.found ≡ None)
+    ensures opened { result ≡ 0 → IsSomeAnd writer.new.boxed.value (λ h. (found_by h ≡ None)
         × (writer_in h.what ≡ Some (writing_told options.now)) × (files_held h.what ≡ [])) }
     ensures left { result ≢ 0 → writer.new.boxed.value ≡ writer.old.boxed.value }
 {
@@ -73,7 +74,7 @@ pub extern "C" fn sst_writer_open(alloc: Global, options: &TableOptions, writer:
 }
 
 // The kind that C names.
-fn kind_of(kind: u32) -> Option<ValueType>
+fn kind_of(kind: u64) -> Option<ValueType>
     ensures { result ≡ kind_told kind }
 {
     match kind {
@@ -122,8 +123,14 @@ fn write_next(writer: &mut Writer, key: &[u8], seqno: SeqNo, kind: ValueType, va
     write(writer, key, seqno, kind, value)
 }
 
-// Writes an entry of a kind that C names, if it may follow.
-fn add_kind(writer: &mut Writer, key: &[u8], seqno: SeqNo, kind: u32, value: &[u8]) -> u32
+/// Writes an entry of a kind that C names, if it may follow.
+pub(crate) fn add_kind(
+    writer: &mut Writer,
+    key: &[u8],
+    seqno: SeqNo,
+    kind: u64,
+    value: &[u8],
+) -> u32
     ensures kind { kind_told kind ≡ None → (result ≡ 105) × (writer.new ≡ writer.old) }
     ensures order { is_some (kind_told kind) ≡ true →
         may_be_written (written writer.old) key.now seqno ≡ false →
@@ -138,7 +145,7 @@ fn add_kind(writer: &mut Writer, key: &[u8], seqno: SeqNo, kind: u32, value: &[u
     }
 }
 
-fn add(held: &mut Held, key: &[u8], seqno: SeqNo, kind: u32, value: &[u8]) -> u32
+fn add(held: &mut Held, key: &[u8], seqno: SeqNo, kind: u64, value: &[u8]) -> u32
     ensures other { writer_in held.old.what ≡ None →
         (result ≡ 102) × (held.new.what ≡ held.old.what) }
     ensures kind { (w : WritingValue) → writer_in held.old.what ≡ Some w → kind_told kind ≡ None →
@@ -151,7 +158,7 @@ fn add(held: &mut Held, key: &[u8], seqno: SeqNo, kind: u32, value: &[u8]) -> u3
         let e = entry key.now value.now seqno k in
         IsSomeAnd (writer_in held.new.what) (TookEntry w e result) }
     ensures tables { files_held held.new.what ≡ files_held held.old.what }
-    ensures found { held.new.found ≡ held.old.found }
+    ensures found { found_by held.new ≡ found_by held.old }
 {
     match &mut held.what {
         What::Files(files) => match &mut files.writer {
@@ -199,12 +206,12 @@ pub extern "C" fn sst_writer_add(
         IsSomeAnd writer.new.boxed.value (λ k. files_held k.what ≡ files_held h.what) }
     // What a read found stays.
     ensures found { (h : HeldValue) → writer.old.boxed.value ≡ Some h →
-        IsSomeAnd writer.new.boxed.value (λ k. k.found ≡ h.found) }
+        IsSomeAnd writer.new.boxed.value (λ k. found_by k ≡ found_by h) }
 {
     let Some(mut held) = writer.take(alloc) else {
         return CLOSED;
     };
-    let code = add(&mut held, key, seqno, kind, value);
+    let code = add(&mut held, key, seqno, u64::from(kind), value);
     writer.put(held);
     code
 }
@@ -258,7 +265,7 @@ fn finish(held: &mut Held) -> u32
         AddsFileOf w (files_held held.old.what) (files_held held.new.what) }
     ensures refused { (w : WritingValue) → writer_in held.old.what ≡ Some w → result ≢ 0 →
         files_held held.new.what ≡ files_held held.old.what }
-    ensures found { held.new.found ≡ held.old.found }
+    ensures found { found_by held.new ≡ found_by held.old }
 {
     match &mut held.what {
         What::Files(files) => finish_files(files),
@@ -292,7 +299,7 @@ pub extern "C" fn sst_writer_finish(alloc: Global, writer: &mut Handle) -> u32
         files_held k.what ≡ files_held h.what) }
     // What a read found stays.
     ensures found { (h : HeldValue) → writer.old.boxed.value ≡ Some h →
-        IsSomeAnd writer.new.boxed.value (λ k. k.found ≡ h.found) }
+        IsSomeAnd writer.new.boxed.value (λ k. found_by k ≡ found_by h) }
 {
     let Some(mut held) = writer.take(alloc) else {
         return CLOSED;

@@ -5,13 +5,14 @@ use Rattle.sst_c.proofs.scans.step.Goals as goal
 
 pub returns-in-Scan-clause-ends : goal.returns-in-Scan-clause-ends
 returns-in-Scan-clause-ends c s same none =
-    ends_by c.in-Scan.scanner c.step_scan.new.scanner c.step_scan.result c.step_scan.new.found
-    c.step_scan.ensures none
+    ends_by c.in-Scan.scanner c.step_scan.new.scanner c.step_scan.result c.step_scan.new.scanner.lent
+    c.step_scan.ensures.steps (rw c.set_lent.ensures at none)
 
 -- where nothing is left, nothing comes
 pub returns-in-Scan-clause-over : goal.returns-in-Scan-clause-over
 returns-in-Scan-clause-over c s same over =
     let scan = c.in-Scan.scanner in
     let one = same_scan c.args.held.now.what scan s c.in-Scan.is same in
-    over_by scan c.step_scan.new.scanner c.step_scan.result c.step_scan.new.found
-    c.step_scan.ensures (subst IsEndedScan (sym one) over)
+    rw c.set_lent.ensures
+    (over_by scan c.step_scan.new.scanner c.step_scan.result c.step_scan.new.scanner.lent
+    c.step_scan.ensures.steps (subst IsEndedScan (sym one) over))

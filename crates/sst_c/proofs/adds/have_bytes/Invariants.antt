@@ -1,0 +1,9 @@
+use Rattle.std.proofs.Common.{◌≡◌, ◌+◌}
+use Rattle.std.specs.Prelude.{drop, map}
+use Rattle.std.specs.List.{sum}
+use Rattle.sst_c.specs.Adds.{size_of}
+use Rattle.sst_c.proofs.adds.have_bytes.Given as goal
+
+abbrev pub invariant-loop-told : goal.invariant-loop-told
+invariant-loop-told l =
+    l.left + sum (map size_of l.entries) ≡ l.fn.count + sum (map size_of (drop l.told-index l.entries))

@@ -1,0 +1,41 @@
+-- One read of what a handle holds, at either end.
+use Rattle.std.specs.Prelude.{◌≡◌, ℕ, Bool, true, false, Option, Some, None, Result}
+use Rattle.std.specs.Global.{Global}
+use Rattle.sst_entries.specs.Entry.{Entry}
+use Rattle.sst_entries.specs.declared.error.Error.{Error}
+use Rattle.lsm_iters.specs.Range.{Range, RangeGives, back_next, front_next}
+use Rattle.lsm_iters.specs.Words.{back_of, front_of}
+use Rattle.lsm_readers.specs.Scan.{Scan, ScansLent}
+use Rattle.sst_c.specs.Newest.{NewestAt}
+use Rattle.sst_c.specs.Steps.{StepsBy}
+use Rattle.sst_c.specs.What.{IsRangeWhere, IsScanWhere, MergedStepsBy}
+use Rattle.sst_c.specs.declared.held.What.{What}
+use Rattle.sst_c.specs.declared.held.What.TheVariants.{Merged, Range as RangeOf, Scan as ScanOf}
+
+-- the steps at one of two ends
+abbrev pub gives_at : {S : Type 0} → (front back : S → Option (Result Entry Error) → S → Type 0)
+    → Bool → S → Option (Result Entry Error) → S → Type 0
+gives_at {S} front back false = front
+gives_at {S} front back true = back
+
+-- it is a range of several runs, of which this holds, whether it still reads or not
+abbrev pub IsMergedAs : (Option NewestAt → Type 0) → What → Type 0
+IsMergedAs holds (Merged m) = holds m
+IsMergedAs holds _ = ⊥
+
+-- one read of a range of several runs: a step, or at its end nothing
+abbrev pub MergedReads : (NewestAt → Option (Result Entry Error) → NewestAt → Type 0)
+    → Option NewestAt → ℕ → Option Entry → Option NewestAt → Type 0
+MergedReads gives (Some s) code found left = MergedStepsBy gives s code found (Merged left)
+MergedReads gives None code found left = (code ≡ 0) × (found ≡ None) × (left ≡ None)
+
+-- one read led a scan or a range from w to v with a code and an entry: a step of the scan, of the
+-- range of a table, or of that of several runs
+pub record ReadsOn (front back : NewestAt → Option (Result Entry Error) → NewestAt → Type 0)
+    (at_back : Bool) (w : What) (code : ℕ) (found : Option Entry) (v : What) : Type 0 where
+  pub scan : (s : Scan) → w ≡ ScanOf s → IsScanWhere (StepsBy ScansLent s code found) v
+  pub range : (s : Range Global) → w ≡ RangeOf s → IsRangeWhere
+      (StepsBy (gives_at (RangeGives front_of front_next) (RangeGives back_of back_next) at_back)
+      s code found) v
+  pub merged : (m : Option NewestAt) → w ≡ Merged m
+      → IsMergedAs (MergedReads (gives_at front back at_back) m code found) v

@@ -1,0 +1,136 @@
+//! Writing entries in bulk.
+ghost use Rattle.std.specs.Prelude.{◌≡◌, ◌≢◌, ◌==◌, IsSomeAnd, None, Some, length, map};
+ghost use Rattle.std.specs.List.{sum};
+ghost use Rattle.lsm_writers.specs.Writing.{Writing as WritingValue};
+ghost use Rattle.sst_c.specs.Adds.{Adds, AddsMany, row, rows_in, size_of};
+ghost use Rattle.sst_c.specs.Told.{found_by};
+ghost use Rattle.sst_c.specs.What.{files_held, writer_in};
+ghost use Rattle.sst_c.specs.declared.held.Held.{Held as HeldValue};
+
+use crate::codes::{CLOSED, NO_SUCH, OTHER_KIND};
+use crate::entries::EntryTold;
+use crate::handle::Handle;
+use crate::held::{Held, What};
+use crate::writers::add_kind;
+use lsm_writers::Writer;
+use std::alloc::Global;
+
+// Whether the keys and values of entries have so many bytes together.
+fn have_bytes(entries: &[EntryTold], count: u64) -> bool
+    ensures { result ≡ (sum (map size_of entries.now) == count) }
+{
+    let mut left = count;
+    for told in entries {
+        if told.key_len > left || told.value_len > left - told.key_len {
+            return false;
+        }
+        left -= told.key_len + told.value_len;
+    }
+    left == 0
+}
+
+// Writes an entry of this kind and number.
+fn add_told(writer: &mut Writer, told: &EntryTold, key: &[u8], value: &[u8]) -> u32
+    ensures { Adds writer.old (row told.now key.now value.now) result writer.new }
+{
+    add_kind(writer, key, told.seqno, told.kind, value)
+}
+
+// Writes entries one after another, up to the first that fails.
+fn add_each(writer: &mut Writer, entries: &[EntryTold], bytes: &[u8], count: &mut u64) -> u32
+    requires { sum (map size_of entries.now) ≡ length bytes.now }
+    ensures { AddsMany writer.old (rows_in entries.now bytes.now) count.new result writer.new }
+{
+    let mut at = 0;
+    for place in 0..entries.len() {
+        *count = place as u64;
+        let told = &entries[place];
+        let middle = at + told.key_len as usize;
+        let end = middle + told.value_len as usize;
+        let code = add_told(writer, told, &bytes[at..middle], &bytes[middle..end]);
+        if code != 0 {
+            return code;
+        }
+        at = end;
+    }
+    *count = entries.len() as u64;
+    0
+}
+
+// Writes entries, if their lengths are those of the bytes.
+fn add_fitting(writer: &mut Writer, entries: &[EntryTold], bytes: &[u8], count: &mut u64) -> u32
+    ensures lengths { sum (map size_of entries.now) ≢ length bytes.now →
+        (result ≡ 105) × (writer.new ≡ writer.old) × (count.new ≡ count.old) }
+    ensures added { sum (map size_of entries.now) ≡ length bytes.now →
+        AddsMany writer.old (rows_in entries.now bytes.now) count.new result writer.new }
+{
+    if !have_bytes(entries, bytes.len() as u64) {
+        return NO_SUCH;
+    }
+    add_each(writer, entries, bytes, count)
+}
+
+fn add_many(held: &mut Held, entries: &[EntryTold], bytes: &[u8], count: &mut u64) -> u32
+    ensures other { writer_in held.old.what ≡ None →
+        (result ≡ 102) × (held.new.what ≡ held.old.what) × (count.new ≡ count.old) }
+    ensures lengths { (w : WritingValue) → writer_in held.old.what ≡ Some w →
+        sum (map size_of entries.now) ≢ length bytes.now →
+        (result ≡ 105) × (held.new.what ≡ held.old.what) × (count.new ≡ count.old) }
+    ensures added { (w : WritingValue) → writer_in held.old.what ≡ Some w →
+        sum (map size_of entries.now) ≡ length bytes.now → IsSomeAnd (writer_in held.new.what)
+        (AddsMany w (rows_in entries.now bytes.now) count.new result) }
+    ensures tables { files_held held.new.what ≡ files_held held.old.what }
+    ensures found { found_by held.new ≡ found_by held.old }
+{
+    match &mut held.what {
+        What::Files(files) => match &mut files.writer {
+            Some(writer) => add_fitting(writer, entries, bytes, count),
+            None => OTHER_KIND,
+        },
+        _ => OTHER_KIND,
+    }
+}
+
+/// Writes entries one after another as `sst_writer_add` does, up to the first that fails, and
+/// writes to `count` how many were written. `entries` has the kind, the number and the lengths of
+/// each; their keys and values are one after another in `bytes`: key, value, key, value, and so on.
+///
+/// Fails with 100 if the handle is closed, with 102 if it holds no writer, and with 105 if the
+/// lengths do not add up to how many bytes there are: nothing is written then. Else it fails as
+/// `sst_writer_add` does for the first entry that fails: those before it are written and counted.
+#[unsafe(no_mangle)]
+pub extern "C" fn sst_writer_add_many(
+    alloc: Global,
+    writer: &mut Handle,
+    entries: &[EntryTold],
+    bytes: &[u8],
+    count: &mut u64,
+) -> u32
+    ensures shut { writer.old.boxed.value ≡ None →
+        (result ≡ 100) × (writer.new.boxed.value ≡ None) × (count.new ≡ 0) }
+    ensures other { (h : HeldValue) → writer.old.boxed.value ≡ Some h → writer_in h.what ≡ None →
+        (result ≡ 102) × IsSomeAnd writer.new.boxed.value (λ k. k.what ≡ h.what)
+        × (count.new ≡ 0) }
+    ensures lengths { (h : HeldValue) (w : WritingValue) → writer.old.boxed.value ≡ Some h →
+        writer_in h.what ≡ Some w → sum (map size_of entries.now) ≢ length bytes.now →
+        (result ≡ 105) × IsSomeAnd writer.new.boxed.value (λ k. k.what ≡ h.what)
+        × (count.new ≡ 0) }
+    // Each entry is added as by `sst_writer_add`, up to the first that fails.
+    ensures added { (h : HeldValue) (w : WritingValue) → writer.old.boxed.value ≡ Some h →
+        writer_in h.what ≡ Some w → sum (map size_of entries.now) ≡ length bytes.now →
+        IsSomeAnd writer.new.boxed.value (λ k. IsSomeAnd (writer_in k.what)
+        (AddsMany w (rows_in entries.now bytes.now) count.new result)) }
+    ensures tables { (h : HeldValue) → writer.old.boxed.value ≡ Some h →
+        IsSomeAnd writer.new.boxed.value (λ k. files_held k.what ≡ files_held h.what) }
+    // What a read found stays.
+    ensures found { (h : HeldValue) → writer.old.boxed.value ≡ Some h →
+        IsSomeAnd writer.new.boxed.value (λ k. found_by k ≡ found_by h) }
+{
+    *count = 0;
+    let Some(mut held) = writer.take(alloc) else {
+        return CLOSED;
+    };
+    let code = add_many(&mut held, entries, bytes, count);
+    writer.put(held);
+    code
+}

@@ -1,0 +1,80 @@
+//! What many reads found, copied in bulk.
+ghost use Rattle.std.specs.Prelude.{◌≡◌, ◌≢◌, ◌<◌, ◌≤◌, List, None, Option, Some, drop, length};
+ghost use Rattle.lsm_readers.specs.Words.{Entry};
+ghost use Rattle.sst_c.specs.Takes.{CopiesMany};
+ghost use Rattle.sst_c.specs.What.{many_in};
+ghost use Rattle.sst_c.specs.declared.held.Held.{Held as HeldValue};
+
+use crate::codes::{CLOSED, NO_SUCH, OTHER_KIND};
+use crate::handle::Handle;
+use crate::held::{Held, What};
+use crate::laying::lay_found;
+use sst_blocks::InternalValue;
+use std::alloc::Global;
+
+// Copies the keys and values of what was found, one after another, as many as fit.
+fn lay_each(found: &[Option<InternalValue>], bytes: &mut [u8], count: &mut u64)
+    ensures { CopiesMany found.now bytes.old bytes.new count.new }
+{
+    let mut at = 0;
+    for place in 0..found.len() {
+        *count = place as u64;
+        if !lay_found(&found[place], bytes, &mut at) {
+            return;
+        }
+    }
+    *count = found.len() as u64;
+}
+
+fn take(held: &Held, first: u64, bytes: &mut [u8], count: &mut u64) -> u32
+    ensures other { many_in held.now.what ≡ None → result ≡ 102 }
+    ensures past { (found : List (Option Entry)) → many_in held.now.what ≡ Some found →
+        length found < first → result ≡ 105 }
+    ensures copied { (found : List (Option Entry)) → many_in held.now.what ≡ Some found →
+        first ≤ length found →
+        (result ≡ 0) × CopiesMany (drop first found) bytes.old bytes.new count.new }
+    ensures left { result ≢ 0 → (bytes.new ≡ bytes.old) × (count.new ≡ count.old) }
+{
+    let What::Answers(found) = &held.what else {
+        return OTHER_KIND;
+    };
+    if first > found.len() as u64 {
+        return NO_SUCH;
+    }
+    lay_each(&found[first as usize..], bytes, count);
+    0
+}
+
+/// Copies the keys and values of what was found of the keys from an index on, one after another, to
+/// the front of `bytes`, up to the first that does not fit. Writes to `count` how many keys it has
+/// gone over; those of which nothing was found count too, and take no bytes.
+///
+/// Fails with 100 if the handle is closed, with 102 if it holds no answers, and with 105 if there
+/// are fewer keys than `first`; nothing is copied then.
+#[unsafe(no_mangle)]
+pub extern "C" fn sst_answers_take(
+    alloc: Global,
+    answers: &mut Handle,
+    first: u64,
+    bytes: &mut [u8],
+    count: &mut u64,
+) -> u32
+    ensures kept { answers.new.boxed.value ≡ answers.old.boxed.value }
+    ensures shut { answers.old.boxed.value ≡ None → result ≡ 100 }
+    ensures other { (h : HeldValue) → answers.old.boxed.value ≡ Some h → many_in h.what ≡ None →
+        result ≡ 102 }
+    ensures past { (h : HeldValue) (found : List (Option Entry)) →
+        answers.old.boxed.value ≡ Some h → many_in h.what ≡ Some found → length found < first →
+        result ≡ 105 }
+    ensures copied { (h : HeldValue) (found : List (Option Entry)) →
+        answers.old.boxed.value ≡ Some h → many_in h.what ≡ Some found → first ≤ length found →
+        (result ≡ 0) × CopiesMany (drop first found) bytes.old bytes.new count.new }
+    ensures left { result ≢ 0 → (bytes.new ≡ bytes.old) × (count.new ≡ count.old) }
+{
+    let Some(held) = answers.take(alloc) else {
+        return CLOSED;
+    };
+    let code = take(&held, first, bytes, count);
+    answers.put(held);
+    code
+}

@@ -1,0 +1,74 @@
+//! Bulk reads of what a handle holds.
+ghost use Rattle.std.specs.Prelude.{◌≡◌, true};
+ghost use Rattle.sst_c.specs.Reads.{ReadsOn};
+ghost use Rattle.sst_c.specs.Takes.{ReadsMany};
+ghost use Rattle.sst_c.specs.Told.{found_by};
+ghost use Rattle.sst_c.specs.What.{is_range, is_scan};
+
+use crate::entries::EntryTold;
+use crate::held::{Held, What};
+use crate::takes::{Reads, take_from};
+use crate::{ranges, scans};
+use lsm_runs::NewestOfRunsAt;
+use sst_blocks::EntryRef;
+use std::alloc::Global;
+
+impl Held {
+    /// Whether it is a scan.
+    pub(crate) fn is_scan(&self) -> bool
+        ensures { result ≡ is_scan self.now.what }
+    {
+        matches!(&self.what, What::Scan(_))
+    }
+
+    /// Whether it is a range.
+    pub(crate) fn is_range(&self) -> bool
+        ensures { result ≡ is_range self.now.what }
+    {
+        matches!(&self.what, What::Range(_) | What::Merged(_))
+    }
+}
+
+#[tactic(auto, using(crate::proofs::Bulk::one_read))]
+impl Reads for Held {
+    ghost reads = { λ back h code found k. ReadsOn
+        ⟦<NewestOfRunsAt<Global> as Iterator>⟧.next_gives
+        ⟦<NewestOfRunsAt<Global> as DoubleEndedIterator>⟧.next_back_gives
+        back h.what code found k.what };
+
+    ghost found = { found_by };
+
+    fn read(&mut self, back: bool) -> u32 {
+        if self.is_scan() {
+            scans::step(self)
+        } else {
+            ranges::step(self, back)
+        }
+    }
+
+    fn entry(&self) -> Option<EntryRef<'_>> {
+        self.found_entry()
+    }
+}
+
+/// Reads a scan or a range on in bulk. If all places are filled, the handle has found nothing.
+pub(crate) fn take_held(
+    held: &mut Held,
+    back: bool,
+    entries: &mut [EntryTold],
+    bytes: &mut [u8],
+    count: &mut u64,
+) -> u32
+    ensures { let front = ⟦<NewestOfRunsAt<Global> as Iterator>⟧.next_gives in
+        let last = ⟦<NewestOfRunsAt<Global> as DoubleEndedIterator>⟧.next_back_gives in
+        ReadsMany (ReadsOn front last back) held.old.what entries.old entries.new
+        bytes.old bytes.new count.new result (found_by held.new) held.new.what }
+{
+    match take_from(held, back, entries, bytes, count) {
+        Some(code) => code,
+        None => {
+            held.found.clear();
+            0
+        }
+    }
+}
