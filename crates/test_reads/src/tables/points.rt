@@ -125,6 +125,7 @@ const TABLES: &[(Changed<'static>, &[Found])] = &[
     (
         TWO_LEVELS,
         &[
+            ((b"a", 10), Ok(Some(9))),
             ((b"a", 8), Ok(Some(7))),
             ((b"a", 5), Ok(None)),
             ((b"b", 2), Ok(Some(1))),
