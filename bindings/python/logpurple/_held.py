@@ -2,7 +2,7 @@
 
 import operator
 import threading
-from typing import Any, NoReturn, Optional, Tuple, Type, TypeVar
+from typing import Any, Iterable, Iterator, NoReturn, Optional, Tuple, Type, TypeVar
 
 from . import _calls
 from ._calls import addressof, copied
@@ -11,6 +11,7 @@ from ._told import Entry, Kind
 
 _SomeHeld = TypeVar("_SomeHeld", bound="Held")
 _KINDS = {int(kind): kind for kind in Kind}
+_new = tuple.__new__
 
 
 def number(value: int, bits: int = 64) -> int:
@@ -129,7 +130,8 @@ class Held:
         if told.kind == 0:
             return None
         test(_calls.found_lend(self._ref, self._lent_ref))
-        return entry_of(told.kind, told.seqno, lent)
+        return entry(told.kind, told.seqno, copied(lent.key, lent.key_len),
+                     copied(lent.value, lent.value_len))
 
 
 class Made(Held):
@@ -141,7 +143,16 @@ class Made(Held):
         raise TypeError(f"a {type(self).__name__} is {self._by}")
 
 
-def entry_of(kind: int, seqno: int, lent: _calls.Lent) -> Entry:
-    """An entry of its own of what is lent."""
-    return Entry(copied(lent.key, lent.key_len), seqno, _KINDS[kind],
-                 copied(lent.value, lent.value_len))
+def entry(kind: int, seqno: int, key: bytes, value: bytes) -> Entry:
+    """An entry, by the number of its kind."""
+    return Entry(key, seqno, _KINDS[kind], value)
+
+
+def entries_of(rows: Iterable[Tuple[int, int, int, int]], data: bytes) -> Iterator[Entry]:
+    """Entries by their kind, number and lengths, whose keys and values lie one after another."""
+    start = 0
+    for kind, seqno, key_len, value_len in rows:
+        middle = start + key_len
+        end = middle + value_len
+        yield _new(Entry, (data[start:middle], seqno, _KINDS[kind], data[middle:end]))
+        start = end

@@ -1,13 +1,15 @@
 """Tables, and what is read of one and of several."""
 
 import array
+import collections
+import ctypes
 import os
 from typing import Callable, Iterable, Iterator, List, Optional, Tuple, Type, TypeVar, Union
 
 from . import _calls
-from ._calls import byref, copied
+from ._calls import addressof, byref, copied
 from ._errors import Closed, Faulty, of, test
-from ._held import Held, Made, entry_of, number, plain
+from ._held import Held, Made, entries_of, entry, number, plain
 from ._told import (NEWEST, Entry, Facts, Fault, Finding, Kind, Memory, Packing, Section,
                     Verified)
 
@@ -19,28 +21,138 @@ _SomeTable = TypeVar("_SomeTable", bound="Table")
 _DELETIONS = (int(Kind.TOMBSTONE), int(Kind.WEAK_TOMBSTONE))
 
 
+# How many entries the first calls of an iterator fetch, and how many the later ones; and how many
+# bytes of keys and values a call fetches at most, but for one entry that has more.
+_BATCHES = (16, 64, 256)
+_BATCH_BYTES = 1 << 16
+
+# Rows of kind, number and lengths, and the bytes of their keys and values, one after another.
+_Batch = Tuple[Iterable[Tuple[int, int, int, int]], bytes]
+
+
 class _Steps(Made):
-    """Reads entries one by one. It has a share of what it reads, which may be closed meanwhile.
-    Where it is refused nothing more comes."""
+    """Reads entries one by one, and fetches up to a few hundred at a time. It has a share of what
+    it reads, which may be closed meanwhile. After an error nothing more comes."""
 
+    # Whether the source gives no more, and how many batches were fetched. An error comes once the
+    # entries that were fetched before it are taken.
     _is_over = False
+    _fetched = 0
+    _error: Optional[Exception] = None
+    _room: Optional["_Room"] = None
 
-    # The next entry that a call gives, with these words of its own; `None` at the end.
-    def _step(self, call: Callable[..., int], *words: bool) -> Optional[Entry]:
+    # The call that copies the next entries into some room.
+    def _call(self, back: bool, *room: int) -> int:
+        raise NotImplementedError
+
+    # What was fetched at the front and at the back, and not taken.
+    def _begin(self) -> None:
+        self._queues: Tuple["collections.deque[Entry]", "collections.deque[Entry]"] = (
+            collections.deque(), collections.deque())
+
+    def close(self) -> None:
+        """Releases what is read, and drops what was fetched. It may be closed twice."""
         with self._turn:
-            if self._is_over:
+            if self._queues[0] or self._queues[1]:
+                self._is_over, self._error = False, None
+            self._drop()
+            self._let_go()
+
+    def _drop(self) -> None:
+        for queue in self._queues:
+            queue.clear()
+
+    # The next entries of the source at an end, within a turn; `None` at its end.
+    def _batch(self, back: bool) -> Optional[_Batch]:
+        if self._error is not None:
+            error, self._error = self._error, None
+            self._drop()
+            raise error
+        if self._is_over:
+            return None
+        if self._fetched < len(_BATCHES) or self._room is None:
+            self._room = _Room(_BATCHES[min(self._fetched, len(_BATCHES) - 1)])
+        self._fetched += 1
+        self._is_over = True
+        try:
+            batch, code = self._room.fill(self, back)
+            if batch is None:
+                test(code)
+        except Closed:
+            self._is_over = False
+            raise
+        except BaseException:
+            # What was taken may be lost: so nothing more comes.
+            self._drop()
+            raise
+        self._is_over = batch is None or code != 0
+        if code:
+            self._error = of(code)
+        if self._is_over:
+            self._let_go()
+            self._room = None
+        return batch
+
+    # Each batch at an end.
+    def _batches(self, back: bool) -> Iterator[_Batch]:
+        while True:
+            with self._turn:
+                batch = self._batch(back)
+            if batch is None:
+                return
+            yield batch
+
+    # The next entry at an end; `None` where nothing is left. Two threads may take at the same time.
+    def _step(self, back: bool) -> Optional[Entry]:
+        ahead, behind = self._queues[back], self._queues[not back]
+        while True:
+            try:
+                return ahead.popleft()
+            except IndexError:
+                pass
+            with self._turn:
+                if ahead:
+                    continue
+                batch = self._batch(back)
+                if batch is not None:
+                    ahead.extend(entries_of(*batch))
+                    continue
+            # At the end of the source, what is left is what the other end has fetched.
+            try:
+                return behind.pop()
+            except IndexError:
                 return None
-            # Where this is left by an exception, what was taken is lost: so nothing more comes.
-            self._is_over = True
-            code = call(self._ref, *words, self._told_ref)
-            self._is_over = code != Closed.code
-            test(code)
-            found = self._found()
-            if found is None:
-                self._let_go()
-            else:
-                self._is_over = False
-            return found
+
+
+class _Room:
+    """Room for a number of entries that a call copies."""
+
+    __slots__ = ("_rows", "_bytes", "_count", "_words")
+
+    def __init__(self, size: int) -> None:
+        self._rows = array.array("Q", bytes(32 * size))
+        self._bytes = ctypes.create_string_buffer(_BATCH_BYTES)
+        self._count = _calls.c_uint64()
+        self._words = (self._rows.buffer_info()[0], size, addressof(self._bytes), _BATCH_BYTES,
+                       addressof(self._count))
+
+    # What a call copies, and the entry that has no room, if there is one; `None` if there is none
+    # of both. Beside it the call's code.
+    def fill(self, steps: _Steps, back: bool) -> Tuple[Optional[_Batch], int]:
+        code = steps._call(back, *self._words, steps._told_ref)
+        if code == Closed.code:
+            return None, code
+        rows = self._rows[:4 * self._count.value]
+        keys, values = rows[2::4], rows[3::4]
+        data = copied(self._words[2], sum(keys) + sum(values))
+        told = steps._told
+        if told.kind:
+            test(_calls.found_lend(steps._ref, steps._lent_ref))
+            lent = steps._lent
+            rows.extend((told.kind, told.seqno, lent.key_len, lent.value_len))
+            keys, values = rows[2::4], rows[3::4]
+            data += copied(lent.key, lent.key_len) + copied(lent.value, lent.value_len)
+        return ((zip(rows[0::4], rows[1::4], keys, values), data) if rows else None), code
 
 
 class Scan(_Steps):
@@ -61,8 +173,14 @@ class Scan(_Steps):
         """Itself: what was read does not come again."""
         return self
 
+    def _call(self, back: bool, *room: int) -> int:
+        return _calls.scan_take(self._ref, *room)
+
     def __next__(self) -> Entry:
-        found = self._step(_calls.scan_next)
+        try:
+            return self._queues[0].popleft()
+        except IndexError:
+            found = self._step(False)
         if found is None:
             raise StopIteration
         return found
@@ -97,14 +215,17 @@ class Entries(_Steps):
         >>> entries.take(reverse=True).key, entries.take().key, entries.take()
         (b'b', b'a', None)
         """
-        return self._step(_calls.range_next, bool(reverse))
+        return self._step(bool(reverse))
+
+    def _call(self, back: bool, *room: int) -> int:
+        return _calls.range_take(self._ref, back, *room)
 
     def __iter__(self) -> "Entries":
         """Itself: what was taken does not come again."""
         return self
 
     def __next__(self) -> Entry:
-        found = self.take(self._reverse)
+        found = self._step(self._reverse)
         if found is None:
             raise StopIteration
         return found
@@ -113,6 +234,7 @@ class Entries(_Steps):
 # Entries that a call begins next; as an iterator they go from the back in reverse.
 def _entries(reverse: bool) -> Entries:
     entries = Entries._begun()
+    entries._begin()
     entries._reverse = bool(reverse)
     return entries
 
@@ -124,21 +246,47 @@ def _bounds(lower: Optional[BytesLike], upper: Optional[BytesLike]):
     return (0 if lower is None else 1, low, len(low), 0 if upper is None else 2, high, len(high))
 
 
-# Keys and values of what a reader at a number sees, of entries in order.
-def _shown(entries: Entries, at: int, reverse: bool) -> Iterator[Tuple[bytes, bytes]]:
-    newest: Optional[Entry] = None
+# Keys and values of what a reader at a number sees, of entries from the front: the first version of
+# a key that is numbered low enough is the newest.
+def _shown_ahead(entries: Entries, at: int) -> Iterator[Tuple[bytes, bytes]]:
+    last: Optional[bytes] = None
     with entries:
-        for entry in entries:
-            if entry.seqno >= at:
-                continue
-            if newest is not None and entry.key != newest.key:
-                if not newest.kind.is_deletion:
-                    yield newest.key, newest.value
-                newest = None
-            if newest is None or reverse:
-                newest = entry
-    if newest is not None and not newest.kind.is_deletion:
-        yield newest.key, newest.value
+        for rows, data in entries._batches(False):
+            start = 0
+            for kind, seqno, key_len, value_len in rows:
+                middle = start + key_len
+                end = middle + value_len
+                if seqno < at:
+                    key = data[start:middle]
+                    if key != last:
+                        last = key
+                        if kind not in _DELETIONS:
+                            yield key, data[middle:end]
+                start = end
+
+
+# The same of entries from the back: the last such version is the newest.
+def _shown_back(entries: Entries, at: int) -> Iterator[Tuple[bytes, bytes]]:
+    last: Optional[bytes] = None
+    kind, value = 0, b""
+    with entries:
+        for rows, data in entries._batches(True):
+            start = 0
+            for next_kind, seqno, key_len, value_len in rows:
+                middle = start + key_len
+                end = middle + value_len
+                if seqno < at:
+                    key = data[start:middle]
+                    if last is not None and key != last and kind not in _DELETIONS:
+                        yield last, value
+                    last, kind, value = key, next_kind, data[middle:end]
+                start = end
+    if last is not None and kind not in _DELETIONS:
+        yield last, value
+
+
+def _shown(entries: Entries, at: int, reverse: bool) -> Iterator[Tuple[bytes, bytes]]:
+    return (_shown_back if reverse else _shown_ahead)(entries, at)
 
 
 class _Read(Held):
@@ -316,16 +464,14 @@ class Table(Made, _Read):
         >>> Table.open(writer.finish()).get_many([b"b", b"c", b"a", b"b"])
         [b'2', None, b'1', b'2']
         """
-        lent = _calls.Lent()
         values: List[Union[bytes, Optional[_Default]]] = []
-        told, answers = self._ask(keys, at)
-        with answers:
-            for place in range(len(told) // 4):
-                if told[4 * place] == 0 or told[4 * place] in _DELETIONS:
-                    values.append(default)
-                else:
-                    test(_calls.answers_lend(answers._ref, place, byref(lent)))
-                    values.append(copied(lent.value, lent.value_len))
+        rows, data = self._ask(keys, at)
+        start = 0
+        for kind, _, key_len, value_len in rows:
+            start += key_len
+            values.append(default if kind == 0 or kind in _DELETIONS
+                          else data[start:start + value_len])
+            start += value_len
         return values
 
     def entry_many(self, keys: Iterable[BytesLike], at: int = NEWEST) -> List[Optional[Entry]]:
@@ -336,33 +482,36 @@ class Table(Made, _Read):
         >>> Table.open(writer.finish()).entry_many([b"b", b"a"])
         [None, Entry(key=b'a', seqno=5, kind=<Kind.VALUE: 1>, value=b'1')]
         """
-        lent = _calls.Lent()
         found: List[Optional[Entry]] = []
-        told, answers = self._ask(keys, at)
-        with answers:
-            for place in range(len(told) // 4):
-                kind, seqno = told[4 * place], told[4 * place + 1]
-                if kind == 0:
-                    found.append(None)
-                else:
-                    test(_calls.answers_lend(answers._ref, place, byref(lent)))
-                    found.append(entry_of(kind, seqno, lent))
+        rows, data = self._ask(keys, at)
+        start = 0
+        for kind, seqno, key_len, value_len in rows:
+            middle = start + key_len
+            end = middle + value_len
+            found.append(entry(kind, seqno, data[start:middle], data[middle:end]) if kind else None)
+            start = end
         return found
 
-    # What a call tells of many keys, four numbers of each, and what keeps what was found.
-    def _ask(self, keys: Iterable[BytesLike], at: int) -> Tuple["array.array[int]", Held]:
+    # Kind, number and lengths of what is found of each of many keys, zeros where nothing is; and all
+    # keys and values that were found.
+    def _ask(self, keys: Iterable[BytesLike], at: int) -> _Batch:
         if isinstance(keys, (bytes, bytearray, memoryview, str)):
             raise TypeError("several keys are asked for, and not one")
         at, each = number(at), [plain(key) for key in keys]
         joined, lengths = b"".join(each), array.array("Q", map(len, each)) or _NUMBER
         told = array.array("Q", bytes(32 * len(each)))
-        answers = Held()
-        with self._turn:
-            answers._kept = self._kept
-            test(_calls.table_get_many(self._ref, joined, len(joined), lengths.buffer_info()[0],
-                                       len(each), at, (told or _NUMBER).buffer_info()[0],
-                                       len(each), answers._ref))
-        return told, answers
+        with Held() as answers:
+            with self._turn:
+                answers._kept = self._kept
+                test(_calls.table_get_many(self._ref, joined, len(joined),
+                                           lengths.buffer_info()[0], len(each), at,
+                                           (told or _NUMBER).buffer_info()[0], len(each),
+                                           answers._ref))
+            key_lens, value_lens = told[2::4], told[3::4]
+            room = ctypes.create_string_buffer(sum(key_lens) + sum(value_lens) or 1)
+            count = _calls.c_uint64()
+            test(_calls.answers_take(answers._ref, 0, addressof(room), len(room), byref(count)))
+            return zip(told[0::4], told[1::4], key_lens, value_lens), room.raw
 
     def __len__(self) -> int:
         """How many entries there are: versions, not keys.
@@ -421,6 +570,7 @@ class Table(Made, _Read):
         [(b'a', 2), (b'a', 1), (b'b', 3)]
         """
         scan = Scan._begun()
+        scan._begin()
         with self._turn:
             scan._kept = self._kept
             test(_calls.scan_open(self._ref, scan._ref))

@@ -1,7 +1,9 @@
 """Writing tables: of entries, and of the entries of other tables."""
 
+import array
 import ctypes
-from typing import Dict, Iterable, List, Optional, Union
+import itertools
+from typing import Dict, Iterable, List, Optional, Tuple, Union
 
 from . import _calls
 from ._calls import byref
@@ -9,6 +11,9 @@ from ._errors import test
 from ._held import Held, number, plain
 from ._tables import BytesLike, Runs, Table, listed
 from ._told import NEWEST, Kind
+
+# How many entries `Writer.add_many` hands over at once.
+_MANY = 256
 
 _OPTIONS = {name: 8 * ctypes.sizeof(kind) for name, kind in _calls.Options._fields_
             if name != "unused"}
@@ -112,6 +117,33 @@ class Writer(Held):
         key, seqno, kind = plain(key), number(seqno), number(kind, 32)
         with _calls.Lending(value) as (at, length), self._turn:
             test(_calls.writer_add(self._ref, key, len(key), seqno, kind, at, length))
+
+    def add_many(self, entries: Iterable[Tuple[BytesLike, BytesLike]], seqno: int = 0,
+                 kind: Kind = Kind.VALUE) -> None:
+        """Writes many keys with their values, all with one number and of one kind, as `add` does
+        one after another, in much less time.
+
+        An error is that of the first entry that fails; the entries before it are written.
+
+        >>> writer = Writer()
+        >>> writer.add_many((b"%d" % digit, b"") for digit in range(10))
+        >>> len(Table.open(writer.finish()))
+        10
+        """
+        seqno, kind = number(seqno), number(kind, 32)
+        items, count = iter(entries), _calls.c_uint64()
+        while True:
+            some = list(itertools.islice(items, _MANY))
+            if not some:
+                return
+            parts = [plain(part) for item in some for part in item]
+            rows = array.array("Q", (kind, seqno, 0, 0)) * len(some)
+            rows[2::4] = array.array("Q", map(len, parts[0::2]))
+            rows[3::4] = array.array("Q", map(len, parts[1::2]))
+            data = b"".join(parts)
+            with self._turn:
+                test(_calls.writer_add_many(self._ref, rows.buffer_info()[0], len(some), data,
+                                            len(data), byref(count)))
 
     def delete(self, key: BytesLike, seqno: int = 0) -> None:
         """Writes a deletion of every older version of a key.
