@@ -492,7 +492,7 @@ class Table(Made, _Read):
             start = end
         return found
 
-    # Kind, number and lengths of what is found of each of many keys, zeros where nothing is; and all
+    # Kind, number and lengths of what is found of each of many keys, zeros if nothing is; and all
     # keys and values that were found.
     def _ask(self, keys: Iterable[BytesLike], at: int) -> _Batch:
         if isinstance(keys, (bytes, bytearray, memoryview, str)):
