@@ -234,6 +234,13 @@ extern "C" {
         value: *mut u8,
         value_room: usize,
     ) -> u32;
+    pub fn sst_answers_take(
+        answers: *mut sst_handle,
+        first: u64,
+        bytes: *mut u8,
+        byte_room: usize,
+        count: *mut u64,
+    ) -> u32;
     pub fn sst_table_verify(table: *mut sst_handle, verified: *mut sst_verified) -> u32;
     pub fn sst_verification_open(table: *mut sst_handle, verification: *mut sst_handle) -> u32;
     pub fn sst_verification_step(
@@ -253,9 +260,28 @@ extern "C" {
         range: *mut sst_handle,
     ) -> u32;
     pub fn sst_range_next(range: *mut sst_handle, back: bool, entry: *mut sst_entry) -> u32;
+    pub fn sst_range_take(
+        range: *mut sst_handle,
+        back: bool,
+        entries: *mut sst_entry,
+        entry_room: usize,
+        bytes: *mut u8,
+        byte_room: usize,
+        count: *mut u64,
+        found: *mut sst_entry,
+    ) -> u32;
 
     pub fn sst_scan_open(table: *mut sst_handle, scan: *mut sst_handle) -> u32;
     pub fn sst_scan_next(scan: *mut sst_handle, entry: *mut sst_entry) -> u32;
+    pub fn sst_scan_take(
+        scan: *mut sst_handle,
+        entries: *mut sst_entry,
+        entry_room: usize,
+        bytes: *mut u8,
+        byte_room: usize,
+        count: *mut u64,
+        found: *mut sst_entry,
+    ) -> u32;
 
     pub fn sst_runs_open(runs: *mut sst_handle) -> u32;
     pub fn sst_runs_add(runs: *mut sst_handle, table: *mut sst_handle) -> u32;
@@ -300,6 +326,14 @@ extern "C" {
         kind: u32,
         value: *const u8,
         value_len: usize,
+    ) -> u32;
+    pub fn sst_writer_add_many(
+        writer: *mut sst_handle,
+        entries: *const sst_entry,
+        entry_count: usize,
+        bytes: *const u8,
+        byte_len: usize,
+        count: *mut u64,
     ) -> u32;
     pub fn sst_writer_finish(writer: *mut sst_handle) -> u32;
 
