@@ -51,7 +51,20 @@ class _Steps(Made):
             collections.deque(), collections.deque())
 
     def close(self) -> None:
-        """Releases what is read, and drops what was fetched. It may be closed twice."""
+        """Releases what is read, and drops what was fetched. It may be closed twice.
+
+        >>> writer = Writer()
+        >>> for key in (b"a", b"b"):
+        ...     writer.add(key, b"")
+        >>> entries = Table.open(writer.finish()).entries()
+        >>> next(entries).key
+        b'a'
+        >>> entries.close()
+        >>> next(entries)
+        Traceback (most recent call last):
+        ..
+        logpurple.Closed: the handle is closed (100)
+        """
         with self._turn:
             if self._queues[0] or self._queues[1]:
                 self._is_over, self._error = False, None

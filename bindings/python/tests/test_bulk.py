@@ -1,0 +1,107 @@
+"""What is fetched ahead, and what is written many at a time: no entry is lost or comes twice, from
+either end, and an error comes in its place."""
+
+import random
+import unittest
+
+from common import table_of
+
+from logpurple import ChecksumMismatch, Closed, Entry, Kind, OutOfOrder, Runs, Table, Writer
+
+ENTRIES = [Entry(b"%05d" % (place // 2), 9 - place % 2, Kind.VALUE, b"v" * (place % 50))
+           for place in range(1500)]
+
+
+class Bulk(unittest.TestCase):
+    def test_ends(self):
+        for seed in range(20):
+            ends, left = random.Random(seed), list(ENTRIES)
+            entries = table_of(ENTRIES).entries()
+            share = ends.random()
+            while left:
+                back = ends.random() < share
+                self.assertEqual(entries.take(reverse=back), left.pop(-1 if back else 0))
+            self.assertIsNone(entries.take())
+            self.assertIsNone(entries.take(reverse=True))
+
+    def test_left_at_any_time(self):
+        table = table_of(ENTRIES)
+        for count in (0, 1, 16, 17, 80, 81, 336, 337, 1499, 1500):
+            entries = table.entries()
+            self.assertEqual([entry for entry, _ in zip(entries, range(count))], ENTRIES[:count])
+            # `zip` takes one entry more than it gives, unless it is asked for that alone.
+            rest = list(entries)
+            self.assertEqual(rest, ENTRIES[count + 1:])
+            self.assertEqual(list(table.scan()), ENTRIES)
+
+    def test_entries_without_room(self):
+        sizes = (1, 70000, 3, 65536, 65537, 10, 200000, 65533)
+        entries = [Entry(b"k%02d" % place, 1, Kind.VALUE, bytes([place]) * size)
+                   for place, size in enumerate(sizes)]
+        table = table_of(entries)
+        self.assertEqual(list(table.entries()), entries)
+        self.assertEqual(list(table.entries(reverse=True)), entries[::-1])
+        self.assertEqual(list(table.scan()), entries)
+        self.assertEqual(list(Runs(table).entries()), entries)
+        self.assertEqual(table.get_many([entry.key for entry in entries]),
+                         [entry.value for entry in entries])
+
+    def test_errors(self):
+        writer = Writer(data_block_size=100)
+        for entry in ENTRIES:
+            writer.add(entry.key, entry.value, entry.seqno)
+        file = bytearray(writer.finish())
+        file[len(file) // 3] ^= 1
+        for steps in (Table.open(file).entries(), Table.open(file).scan()):
+            found = []
+            with self.assertRaises(ChecksumMismatch):
+                for entry in steps:
+                    found.append(entry)
+            self.assertEqual(found, ENTRIES[:len(found)])
+            self.assertGreater(len(found), 100)
+            self.assertEqual(list(steps), [])
+        # The front meets the error ahead of its place: the back gives what it has, and then it.
+        entries = Table.open(file).entries()
+        ahead = [entries.take() for _ in range(len(found))]
+        self.assertEqual(ahead, found)
+        with self.assertRaises(ChecksumMismatch):
+            entries.take()
+        self.assertIsNone(entries.take(reverse=True))
+
+    def test_closed(self):
+        for steps in (table_of(ENTRIES).entries(), table_of(ENTRIES).scan()):
+            next(steps)
+            steps.close()
+            for _ in range(2):
+                with self.assertRaises(Closed):
+                    next(steps)
+
+    def test_ranges(self):
+        newest = [(entry.key, entry.value) for entry in ENTRIES[::2]]
+        older = [(entry.key, entry.value) for entry in ENTRIES[1::2]]
+        table = table_of(ENTRIES)
+        for read in (table, Runs(table)):
+            for reverse, turn in ((False, 1), (True, -1)):
+                self.assertEqual(list(read.range(reverse=reverse)), newest[::turn])
+                self.assertEqual(list(read.range(reverse=reverse, at=9)), older[::turn])
+                self.assertEqual(list(read.range(reverse=reverse, at=8)), [])
+
+    def test_many_written(self):
+        for count in (0, 1, 255, 256, 257, 1000):
+            items = [(b"%05d" % place, b"v" * (place % 9)) for place in range(count)]
+            writer, single = Writer(), Writer()
+            writer.add_many(iter(items), seqno=3, kind=Kind.INDIRECTION)
+            for key, value in items:
+                single.add(key, value, 3, Kind.INDIRECTION)
+            self.assertEqual(writer.finish(), single.finish())
+
+    def test_many_out_of_order(self):
+        writer = Writer()
+        with self.assertRaises(OutOfOrder):
+            writer.add_many([(b"a", b""), (b"b", b""), (b"a", b""), (b"c", b"")])
+        writer.add(b"d", b"")
+        self.assertEqual(list(Table.open(writer.finish())), [b"a", b"b", b"d"])
+
+
+if __name__ == "__main__":
+    unittest.main()
