@@ -399,8 +399,8 @@ uint32_t sst_scan_open(sst_handle *table, sst_handle *scan);
 
 /* Takes the next entry of a scan, and keeps it: by key up, and of one key by number down, every
  * version. At the end it answers 0, and the kind is SST_NO_ENTRY. Where it is refused nothing more
- * comes. The entry is borrowed from the table's memory: no bytes are copied, and no reference
- * count changes.
+ * comes. The entry is borrowed from the table's memory: no bytes are copied, and no reference to
+ * it is counted.
  */
 uint32_t sst_scan_next(sst_handle *scan, sst_entry *entry);
 
