@@ -4,7 +4,7 @@ use crate::tables::{Of, Parted, opened};
 use logpurple::{ItemName, Table};
 use sst_blocks::{Error, SectionName, Toc};
 use std::alloc::Global;
-use test_tables::large::asked;
+use test_tables::large::asked_with;
 
 // The sections that vary, in the order in which they are compared.
 const NAMES: [SectionName; 4] = [
@@ -19,7 +19,7 @@ type Place = Option<(u64, u64)>;
 
 // How many bytes a table has, where the sections of [`NAMES`] are, and how many blocks of the index
 // and of the filter are counted.
-type Layout = (usize, [Place; 4], u64, u8);
+type Layout = (usize, &'static [Place], u64, u8);
 
 fn places_of(toc: &Toc) -> [Place; 4] {
     let mut places = [None; 4];
@@ -31,39 +31,45 @@ fn places_of(toc: &Toc) -> [Place; 4] {
     places
 }
 
-fn layout_of(table: &Table) -> Result<Layout, Error> {
+// Whether a table has a layout.
+fn is_laid(table: &Table, layout: &Layout) -> Result<bool, Error> {
     let bytes = table.bytes()?;
     let places = places_of(&Toc::of(bytes.as_slice())?);
     let filters = table.meta_item(ItemName::BlockCountFilter)?;
     let filters = filters.as_slice().first().copied().unwrap_or(u8::MAX);
-    Ok((
-        bytes.len(),
-        places,
-        table.metadata.index_block_count,
-        filters,
-    ))
+    Ok(
+        bytes.len() == layout.0
+            && places.as_slice() == layout.1
+            && table.metadata.index_block_count == layout.2
+            && filters == layout.3,
+    )
 }
 
 // Tables and their layouts. The first five have four data blocks of 46 bytes, the last two one of 47.
 // A block of one handle for a key of one byte has 53 bytes, and 25 more for each further handle. A
 // filter of one or two keys has 33.
-static LAYOUTS: [(Of, Layout); 7] = [
+const LAYOUTS: &[(Of, Layout)] = &[
     // A partition of the index for each block of data.
     (
         Of::Rows(Parted::Index),
-        (1744, [Some((184, 212)), Some((396, 128)), None, None], 4, 1),
+        (
+            1744,
+            &[Some((184, 212)), Some((396, 128)), None, None],
+            4,
+            1,
+        ),
     ),
     // All blocks of data in one partition.
     (
         Of::ForgettingIndex,
-        (1585, [Some((184, 128)), Some((312, 53)), None, None], 1, 1),
+        (1585, &[Some((184, 128)), Some((312, 53)), None, None], 1, 1),
     ),
     // A partition of the filter for each key.
     (
         Of::Keys,
         (
             1676,
-            [None, Some((184, 128)), Some((312, 66)), Some((378, 78))],
+            &[None, Some((184, 128)), Some((312, 66)), Some((378, 78))],
             1,
             2,
         ),
@@ -73,7 +79,7 @@ static LAYOUTS: [(Of, Layout); 7] = [
         Of::ForgettingFilter,
         (
             1618,
-            [None, Some((184, 128)), Some((312, 33)), Some((345, 53))],
+            &[None, Some((184, 128)), Some((312, 33)), Some((345, 53))],
             1,
             1,
         ),
@@ -81,24 +87,25 @@ static LAYOUTS: [(Of, Layout); 7] = [
     // A partitioned filter without keys.
     (
         Of::Rows(Parted::Filter),
-        (1532, [None, Some((184, 128)), None, None], 1, 0),
+        (1532, &[None, Some((184, 128)), None, None], 1, 0),
     ),
     // One block of the index, without and with a filter. A full filter counts as one block even
     // where there is none.
     (
         Of::Numbered(1),
-        (1320, [None, Some((47, 53)), None, None], 1, 1),
+        (1320, &[None, Some((47, 53)), None, None], 1, 1),
     ),
     (
         Of::Default,
-        (1353, [None, Some((47, 53)), Some((100, 33)), None], 1, 1),
+        (1353, &[None, Some((47, 53)), Some((100, 33)), None], 1, 1),
     ),
 ];
 
 // The index of the first table that has another layout.
 fn wrong_layout(alloc: Global) -> Option<usize> {
     for (at, (of, layout)) in LAYOUTS.iter().enumerate() {
-        if asked(opened(alloc, &(*of, &[], (true, true), 0)), layout_of) != Ok(*layout) {
+        let table = opened(alloc, &(*of, &[], (true, true), 0));
+        if asked_with(table, layout, is_laid) != Ok(true) {
             return Some(at);
         }
     }
