@@ -43,16 +43,15 @@ enum Work {
 // What writing a part yields, in the form of a writer of tables. An error that is returned before
 // the part is that of a new writer.
 fn as_told(part: Result<Part, Error>) -> Told {
-    let mut tables = NO_TABLES;
-    let refusals = match part {
-        Ok((refusals, written)) => {
-            tables.0 = 1;
-            tables.1[0] = written;
-            refusals
+    match part {
+        Ok(part) => {
+            let refusals = part.0;
+            let mut seen = NO_TABLES.1;
+            seen[0] = part.1;
+            (refusals, None, false, (1, seen))
         }
-        Err(error) => [error.number(), 0, 0, 0, 0],
-    };
-    (refusals, None, false, tables)
+        Err(error) => ([error.number(), 0, 0, 0, 0], None, false, NO_TABLES),
+    }
 }
 
 // The errors, and checksums of what is written.
