@@ -4,8 +4,8 @@ pub mod Ends
 pub mod Ranges
 pub mod Lifts
 pub mod Naming
+pub mod Cursors
 pub mod Walked
 pub mod RangeLaws
 pub mod Moved
 pub mod Lent
-pub mod LentLaws

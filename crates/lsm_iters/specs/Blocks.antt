@@ -3,18 +3,21 @@ use Rattle.std.specs.Prelude.{◌≡◌, true, List, [], ◌∷◌, map, Option,
 use Rattle.sst_blocks.specs.declared.block_type.BlockType.TheVariants.{Data}
 use Rattle.sst_blocks.specs.declared.opened.Opened.{Opened}
 use Rattle.sst_blocks.specs.Block.{Loaded, load_told, place_fault, entries_of}
+use Rattle.sst_blocks.specs.Cursor.{Cursor}
 use Rattle.sst_blocks.specs.Handle.{Handle}
+use Rattle.std.specs.Option.{option_map}
 use Rattle.sst_entries.specs.declared.error.Error.{Error}
 use Rattle.sst_entries.specs.Entry.{Entry}
 use Rattle.sst_entries.specs.Point.{within}
-use Rattle.sst_entries.specs.Span.{Span}
 use Rattle.sst_entries.specs.Stream.{ok_results}
 use Rattle.lsm_block_indexes.specs.Left.{CountsLoads}
 use Rattle.lsm_walks.specs.declared.walk.Walk.{Walk}
 use Rattle.lsm_walks.specs.Parts.{Coming, Loading, loads_in}
 use Rattle.lsm_iters.specs.Range.{Handles, Range, data_loaded, left_in}
 use Rattle.lsm_iters.specs.Rows.{Bounded}
-use Rattle.lsm_iters.specs.Steps.{all_over, rest_of}
+use Rattle.lsm_iters.specs.Lending.{behind_in, lent_in}
+use Rattle.lsm_iters.specs.Lift.{lifted}
+use Rattle.lsm_iters.specs.Steps.{all_over}
 
 -- what is read within which bounds, what the index still deals, and how many blocks were loaded
 pub record Blocks (A : Type 0) : Type 0 where
@@ -60,12 +63,13 @@ pub record KeepsBlocks {A : Type 0} (s : Blocks A) (named : Option (Result (Load
 abbrev pub EndsBlocks : {A : Type 0} → Blocks A → Blocks A → Type 0
 EndsBlocks s t = t ≡ record s { handles = all_over s.handles }
 
--- a walk over them is a range
-abbrev pub range_of_walk : {A : Type 0} → Walk (Blocks A) (Span Entry) → Range A
+-- a walk over them is a range; only the block at the front lends
+abbrev pub range_of_walk : {A : Type 0} → Walk (Blocks A) Cursor → Range A
 range_of_walk w = record {
   of = w.parts.of;
   handles = w.parts.handles;
-  front = rest_of w.front;
-  back = rest_of w.back;
+  front = behind_in w.front;
+  back = behind_in w.back;
   opened = w.parts.opened;
+  lent = option_map (lifted w.parts.of.global_seqno) (lent_in w.front);
 }

@@ -3,6 +3,6 @@ pub mod Bounds
 pub mod Rows
 pub mod Range
 pub mod Steps
-pub mod Blocks
 pub mod Lending
+pub mod Blocks
 pub mod Words

@@ -41,14 +41,15 @@ abbrev pub left_in : {A : Type 0} → Handles A → Left
 left_in h = left_unless h.ended (left_of h.iter)
 
 -- what it reads within which bounds, what its index still deals, the entries within the bounds that
--- are left of the blocks loaded at the front and at the back, and how many blocks it loaded beside
--- its index
+-- are left of the blocks loaded at the front and at the back, how many blocks it loaded beside its
+-- index, and the entry that it lends
 pub record Range (A : Type 0) : Type 0 where
   pub of : Bounded
   pub handles : Handles A
   pub front : List Entry
   pub back : List Entry
   pub opened : Opened
+  pub lent : Option Entry
 
 -- before a bound is set
 abbrev pub new_range : {A : Type 0} → List ℕ → ℕ → BlockIndexIterImpl A → Range A
@@ -58,6 +59,7 @@ new_range body g iter = record {
   front = [];
   back = [];
   opened = none_opened;
+  lent = None;
 }
 
 -- whether the edges of its index were sought

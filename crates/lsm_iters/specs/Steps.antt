@@ -3,7 +3,6 @@ use Rattle.std.specs.Prelude.{◌≡◌, ℕ, true, List, [], Option, Some, None
 use Rattle.sst_entries.specs.declared.error.Error.{Error}
 use Rattle.sst_entries.specs.Entry.{Entry}
 use Rattle.lsm_block_indexes.specs.Left.{Left}
-pub use Rattle.lsm_walks.specs.Ends.{rest_of}
 use Rattle.lsm_iters.specs.Lift.{lifted_told}
 use Rattle.lsm_iters.specs.Range.{Handles, Range, index_to_seek, left_in, to_seek}
 
@@ -32,9 +31,13 @@ all_over h = record h { sought = true; ended = true }
 
 -- ---- the range
 
--- nothing more comes
+-- nothing more comes, and nothing is lent
 abbrev pub over : {A : Type 0} → Range A → Range A
-over s = record s { handles = all_over s.handles; front = []; back = [] }
+over s = record s { handles = all_over s.handles; front = []; back = []; lent = None }
+
+-- nothing is lent
+abbrev pub without_lent : {A : Type 0} → Range A → Range A
+without_lent s = record s { lent = None }
 
 -- an error ends the iterator
 abbrev pub stopped : {A : Type 0} → Option (Result Entry Error) → Range A → Range A

@@ -19,10 +19,10 @@ pub use Rattle.lsm_iters.specs.Range.{left_in, new_range, next_at}
 pub use Rattle.lsm_iters.specs.Range.{opened_in, range_left, range_remains, range_size, with_sought}
 pub use Rattle.lsm_iters.specs.Rows.{Bounded, block_rows, rows}
 pub use Rattle.lsm_iters.specs.Steps.{LoadsNone, SeeksOnce, all_over, lifted_answer, over, stopped}
-pub use Rattle.lsm_walks.specs.Ends.{rest_of, span_remains, taken_at}
+pub use Rattle.lsm_iters.specs.Steps.{without_lent}
+pub use Rattle.lsm_walks.specs.Ends.{taken_at}
+pub use Rattle.sst_blocks.specs.Cursor.{Cursor, advanced, cursor_of, unlent}
 pub use Rattle.lsm_walks.specs.Walks.{WalkTakes}
 pub use Rattle.lsm_iters.specs.Blocks.{EndsBlocks, KeepsBlocks, coming_blocks, range_of_walk}
 pub use Rattle.lsm_iters.specs.Blocks.{stored_rows}
-pub use Rattle.lsm_iters.specs.Lending.{LendingRange, LendsFirst, LentSpan, RangeLends}
-pub use Rattle.lsm_iters.specs.Lending.{lending_range, lent_in, lent_stored, over_lending, span_in}
-pub use Rattle.lsm_iters.specs.Lending.{unlent_range, unlent_span, walk_of_lent}
+pub use Rattle.lsm_iters.specs.Lending.{LendsFirst, RangeLends, behind_in, cursor_remains, lent_in}

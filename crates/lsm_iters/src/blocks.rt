@@ -6,11 +6,12 @@ ghost use Rattle.sst_blocks.specs.declared.block_type.BlockType.TheVariants.{Dat
 ghost use Rattle.sst_entries.specs.declared.error.Error.TheVariants.{OutOfMemory};
 ghost use Rattle.lsm_iters.specs.Words.{EndsBlocks, FaultsFirst, KeepsBlocks, LoadsNone};
 ghost use Rattle.lsm_iters.specs.Words.{SeeksOnce, coming_blocks, data_loaded, left_in, lower_edge};
-ghost use Rattle.lsm_iters.specs.Words.{place_fault, rest_in, stored_rows, upper_edge};
+ghost use Rattle.lsm_iters.specs.Words.{place_fault, stored_rows, upper_edge};
 
+use crate::Bound;
+use crate::block_cursor::BlockCursor;
 use crate::cut::cut;
 use crate::handles::Handles;
-use crate::{Bound, OwnedDataBlockIter};
 use lsm_walks::Parts;
 use sst_blocks::{BlockSource, BlockType, DataBlock, Error, KeyedBlockHandle, Opened, SeqNo};
 use sst_entries::Direction;
@@ -74,9 +75,9 @@ impl<A: Allocator + Clone> Blocks<A> {
     }
 
     /// The entries within the bounds of the block that a handle names.
-    fn read(&mut self, handle: KeyedBlockHandle<A>) -> Result<OwnedDataBlockIter<A>, Error>
+    fn read(&mut self, handle: KeyedBlockHandle<A>) -> Result<BlockCursor<A>, Error>
         ensures ok { let of = self.old.of in
-            IfOk result (λ es. ok_results (rest_in es) ≡ stored_rows of handle) }
+            IfOk result (λ c. ok_results c.behind ≡ stored_rows of handle) }
         ensures err { let of = self.old.of in
             IfErr result (λ e. is_memory e ≡ false → Err e ∷ [] ≡ stored_rows of handle) }
         ensures first { let body = self.old.of.body in
@@ -87,7 +88,8 @@ impl<A: Allocator + Clone> Blocks<A> {
         let block = self
             .source
             .load(&handle, BlockType::Data, &mut self.opened)?;
-        Ok(cut(DataBlock::new(block), &self.range.0, &self.range.1))
+        let cut = cut(DataBlock::new(block), &self.range.0, &self.range.1);
+        Ok(cut.into_cursor())
     }
 
     /// Has the checksums of a block at the front and of the one behind it compared together, which
@@ -102,7 +104,7 @@ impl<A: Allocator + Clone> Blocks<A> {
 }
 
 impl<A: Allocator + Clone> Parts for Blocks<A> {
-    type Part = OwnedDataBlockIter<A>;
+    type Part = BlockCursor<A>;
 
     ghost coming = { coming_blocks };
 
@@ -111,7 +113,7 @@ impl<A: Allocator + Clone> Parts for Blocks<A> {
     ghost ends = { EndsBlocks };
 
     #[inline(never)]
-    fn load(&mut self, at: Direction) -> Option<Result<OwnedDataBlockIter<A>, Error>> {
+    fn load(&mut self, at: Direction) -> Option<Result<BlockCursor<A>, Error>> {
         match self.index.take(at) {
             Some(Ok(handle)) => {
                 self.look_ahead(&handle, at);

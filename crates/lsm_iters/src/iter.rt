@@ -1,28 +1,34 @@
 //! The entries of a table within bounds, from both ends.
-ghost use Rattle.std.specs.Prelude.{◌≡◌, ◌↔◌, None, IfOk, IfErr, false, true};
+ghost use Rattle.std.specs.Prelude.{◌≡◌, ◌↔◌, None, Some, IfOk, IfErr, false, is_some, true};
 ghost use Rattle.std.specs.Iterator.{at_most};
 ghost use Rattle.sst_entries.specs.declared.error.Error.TheVariants.{OutOfMemory};
-ghost use Rattle.lsm_iters.specs.Words.{DealsEnding, IsSought, RangeGives, back_next, back_of};
-ghost use Rattle.lsm_iters.specs.Words.{body_of, edge_of, front_next, front_of, new_range, next_at};
-ghost use Rattle.lsm_iters.specs.Words.{nowhere, opened_in, over, range_left, range_remains};
-ghost use Rattle.lsm_iters.specs.Words.{range_size, stopped, taken_at, unlent_range, with_sought};
+ghost use Rattle.lsm_iters.specs.Words.{DealsEnding, IsSought, RangeGives, RangeLends, back_next};
+ghost use Rattle.lsm_iters.specs.Words.{back_of, body_of, edge_of, front_next, front_of, new_range};
+ghost use Rattle.lsm_iters.specs.Words.{opened_in, range_left, range_remains, range_size, stopped};
+ghost use Rattle.lsm_iters.specs.Words.{with_sought};
 
+use crate::Bound;
 use crate::blocks::Blocks;
 use crate::cut::lift_answer;
 use crate::handles::Handles;
+use crate::lending::{RangeWalk, end, entry_in, next_entry, share_in, unlend_in};
 use crate::pairs::beside;
-use crate::{Bound, LendingIter, OwnedDataBlockIter};
 use lsm_block_indexes::BlockIndexIterImpl;
 use lsm_walks::{Ends, Walk};
 use sst_blocks::{
-    BlockSource, CompressionType, Error, InternalValue, IterItem, Lending, Opened, SeqNo,
+    BlockSource, CompressionType, EntryRef, Error, InternalValue, IterItem, Lending, Opened, SeqNo,
 };
 use sst_entries::Direction;
 use std::alloc::{Allocator, Global};
 use std::marker::Model;
 
-/// The entries of a table that lie within two bounds, dealt from both ends, their numbers with the
-/// global number added. It owns what it reads: a share of the table's bytes.
+/// The entries of a table that lie within two bounds, from both ends, their numbers with the global
+/// number added. It owns what it reads: a share of the table's bytes.
+///
+/// As an iterator it gives entries that share the table's bytes; as a [`Lending`] it lends them from
+/// where they lie, from the front, and an entry takes no memory then: one that stands in a loaded
+/// block comes whatever memory there is. Both go on from where the other stopped. What is lent is
+/// lent until the next call at either end.
 ///
 /// A data block is loaded where a step first needs it, once, and the index is sought by the first
 /// step. Where a block cannot be loaded its fault comes in the place of its entries, and
@@ -31,16 +37,22 @@ use std::marker::Model;
 /// end.
 #[derive(Drop)]
 pub struct Iter<A: Allocator = Global> {
-    walk: Walk<Blocks<A>, OwnedDataBlockIter<A>>,
+    walk: RangeWalk<A>,
 }
 
 impl<A: Allocator> Model for Iter<A> {
+    ghost use Rattle.std.specs.Prelude.{◌+◌, ◌<◌, ◌^◌, MatchOption};
     ghost use Rattle.lsm_iters.specs.Range.{Range};
     ghost use Rattle.lsm_iters.specs.Blocks.{range_of_walk};
+    ghost use Rattle.lsm_iters.specs.Lending.{lent_in};
 
     ghost Value = { Range A };
 
     ghost view = { λ i. range_of_walk i.walk };
+
+    // The number of the entry that is lent fits once it is lifted.
+    ghost invariant = { λ i. MatchOption (lent_in i.walk.front) (Unit {0})
+        (λ e. e.seqno + i.walk.parts.of.global_seqno < 2 ^ 64) };
 }
 
 impl<A: Allocator + Clone> Iter<A> {
@@ -123,49 +135,63 @@ impl<A: Allocator + Clone> Iter<A> {
         self.walk.parts.all_opened()
     }
 
-    /// What is left, lent from the blocks where it lies, front to back.
-    pub fn lend(self) -> LendingIter<A>
-        ensures is { result ≡ unlent_range self }
-        // Want of memory aside it lends what the iterator would give, up to the first error, and
-        // then nothing; it may be asked however often.
-        ensures deals { let advances = ⟦<LendingIter<A> as Lending>⟧.advances in
-            let may = ⟦<LendingIter<A> as Lending>⟧.can_advance in
-            DealsEnding advances nowhere may may result (range_left self) }
+    /// The entry that is lent, whose key and value share the table's bytes. Refused
+    /// [`Error::OutOfMemory`] alone.
+    #[inline(always)]
+    fn share(&self) -> IterItem<A>
+        requires { is_some self.now.lent ≡ true }
+        ensures found { IfOk result (λ e. self.now.lent ≡ Some e) }
+        ensures err { IfErr result (λ e. e ≡ OutOfMemory) }
     {
-        LendingIter::new(self.walk)
+        let mut item = share_in(&self.walk.front)?;
+        item.key.seqno += self.walk.parts.global_seqno;
+        Ok(item)
     }
 
-    /// The answer at an end; an error does not end the iterator yet.
+    /// The answer at the front.
     #[inline(always)]
-    fn take(&mut self, at: Direction) -> Option<IterItem<A>>
-        ensures { RangeGives (taken_at at) (next_at at) self.old result (stopped result self.new) }
+    fn answer_front(&mut self) -> Option<IterItem<A>>
+        ensures { RangeGives front_of front_next self.old result self.new }
+    {
+        match self.advance() {
+            Ok(true) => match self.share() {
+                Ok(item) => Some(Ok(item)),
+                Err(refusal) => {
+                    end(&mut self.walk);
+                    Some(Err(refusal))
+                }
+            },
+            Ok(false) => None,
+            Err(error) => Some(Err(error)),
+        }
+    }
+
+    /// The answer at the back; an error does not end the iterator yet. Nothing is lent then.
+    #[inline(always)]
+    fn take_back(&mut self) -> Option<IterItem<A>>
+        ensures { RangeGives back_of back_next self.old result (stopped result self.new) }
     {
         if let Err(refusal) = self.walk.parts.initialize() {
             return Some(Err(refusal));
         }
-        lift_answer(self.walk.take(at), self.walk.parts.global_seqno)
+        let answer = self.walk.take(Direction::Back);
+        unlend_in(&mut self.walk.front);
+        lift_answer(answer, self.walk.parts.global_seqno)
     }
 
-    /// The answer at an end.
+    /// The answer at the back.
     #[inline(always)]
-    fn answer(&mut self, at: Direction) -> Option<IterItem<A>>
-        ensures { RangeGives (taken_at at) (next_at at) self.old result self.new }
+    fn answer_back(&mut self) -> Option<IterItem<A>>
+        ensures { RangeGives back_of back_next self.old result self.new }
     {
-        match self.take(at) {
+        match self.take_back() {
             Some(Ok(item)) => Some(Ok(item)),
             Some(Err(error)) => {
-                self.end();
+                end(&mut self.walk);
                 Some(Err(error))
             }
             None => None,
         }
-    }
-
-    /// Lets go what is left.
-    fn end(&mut self)
-        ensures { self.new ≡ over self.old }
-    {
-        self.walk.end();
     }
 }
 
@@ -179,7 +205,7 @@ impl<A: Allocator + Clone> Iterator for Iter<A> {
     ghost remaining = { λ s. at_most (range_size s) };
 
     fn next(&mut self) -> Option<IterItem<A>> {
-        self.answer(Direction::Front)
+        self.answer_front()
     }
 }
 
@@ -189,7 +215,40 @@ impl<A: Allocator + Clone> DoubleEndedIterator for Iter<A> {
     ghost next_back_gives = { RangeGives back_of back_next };
 
     fn next_back(&mut self) -> Option<IterItem<A>> {
-        self.answer(Direction::Back)
+        self.answer_back()
+    }
+}
+
+impl<A: Allocator + Clone> Lending for Iter<A> {
+    ghost can_advance = { λ _. Unit {0} };
+
+    ghost advances = { RangeLends };
+
+    ghost lent = { λ s. s.lent };
+
+    ghost left = { range_size };
+
+    #[inline]
+    fn advance(&mut self) -> Result<bool, Error> {
+        match next_entry(&mut self.walk) {
+            Ok(more) => Ok(more),
+            Err(error) => {
+                end(&mut self.walk);
+                Err(error)
+            }
+        }
+    }
+
+    // Always inlined, as all that it calls: a merger asks for it at each comparison.
+    #[inline(always)]
+    fn entry(&self) -> Option<EntryRef<'_>> {
+        match entry_in(&self.walk.front) {
+            None => None,
+            Some(entry) => Some(EntryRef {
+                seqno: entry.seqno + self.walk.parts.global_seqno,
+                ..entry
+            }),
+        }
     }
 }
 
@@ -200,6 +259,9 @@ impl<A: Allocator + Clone> Ends for Iter<A> {
 
     #[inline(always)]
     fn step(&mut self, at: Direction) -> Option<IterItem<A>> {
-        self.answer(at)
+        match at {
+            Direction::Front => self.answer_front(),
+            Direction::Back => self.answer_back(),
+        }
     }
 }

@@ -1,6 +1,7 @@
 //! Ranges of one sorted table, from both ends: the blocks that an index names, cut to bounds.
 #![tactic(auto)]
 
+mod block_cursor;
 mod blocks;
 mod bound;
 mod cut;
@@ -10,11 +11,9 @@ mod lending;
 mod lift;
 mod owned;
 mod pairs;
-mod span_cursor;
 
 pub use bound::Bound;
 pub use iter::Iter;
-pub use lending::LendingIter;
 pub use lift::lift_seqno;
 pub use owned::OwnedDataBlockIter;
 pub use pairs::beside;

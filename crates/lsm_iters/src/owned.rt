@@ -3,15 +3,13 @@ ghost use Rattle.std.specs.Prelude.{◌≡◌, ◌-◌, ◌↔◌, [], IsTrue, l
 ghost use Rattle.std.specs.Iterator.{at_most};
 ghost use Rattle.std.specs.declared.ops.Bound.TheVariants.{Unbounded};
 ghost use Rattle.lsm_iters.specs.Words.{DealsLeft, IsStrict, KeepsLower, KeepsUpper, SpanGives};
-ghost use Rattle.lsm_iters.specs.Words.{back_of, edge_of, front_of};
-ghost use Rattle.lsm_iters.specs.Words.{span_remains, lower_place, rest_in, span_from, span_to};
-ghost use Rattle.lsm_iters.specs.Words.{unlent_span, upper_place, whole_span, within};
+ghost use Rattle.lsm_iters.specs.Words.{back_of, cursor_of, edge_of, front_of, lower_place};
+ghost use Rattle.lsm_iters.specs.Words.{rest_in, span_from, span_to, upper_place, whole_span};
+ghost use Rattle.lsm_iters.specs.Words.{within};
 
 use crate::Bound;
-use crate::span_cursor::SpanCursor;
-use lsm_walks::Ends;
-use sst_blocks::{DataBlock, InternalValue, IterItem, SeqNo};
-use sst_entries::Direction;
+use crate::block_cursor::BlockCursor;
+use sst_blocks::{DataBlock, IterItem, SeqNo};
 use std::alloc::{Allocator, Global};
 use std::marker::Model;
 
@@ -48,11 +46,11 @@ impl<A: Allocator> OwnedDataBlockIter<A> {
         OwnedDataBlockIter { block, from: 0, to }
     }
 
-    /// What is left, to be lent from the block.
-    pub(crate) fn into_cursor(self) -> SpanCursor<A>
-        ensures { result ≡ unlent_span self }
+    /// What is left, as a part of a walk.
+    pub(crate) fn into_cursor(self) -> BlockCursor<A>
+        ensures { result ≡ cursor_of (rest_in self) }
     {
-        SpanCursor::new(self.block, self.from, self.to)
+        BlockCursor::new(self.block, self.from, self.to)
     }
 
     /// Drops the entries before a bound. Answers whether an entry is left. The number is not looked
@@ -135,20 +133,6 @@ impl<A: Allocator> DoubleEndedIterator for OwnedDataBlockIter<A> {
                 self.to = self.from;
                 Some(Err(refusal))
             }
-        }
-    }
-}
-
-impl<A: Allocator> Ends for OwnedDataBlockIter<A> {
-    type Item = InternalValue<A>;
-
-    ghost left = { span_remains };
-
-    #[inline(always)]
-    fn step(&mut self, at: Direction) -> Option<IterItem<A>> {
-        match at {
-            Direction::Front => self.next(),
-            Direction::Back => self.next_back(),
         }
     }
 }

@@ -1,46 +1,58 @@
--- A block that is read from its front: the entry that it goes on to.
-use Rattle.std.proofs.Common.{◌≡◌, ◌∙◌, ℕ, ◌+◌, ◌≤◌, ◌<◌, List, ◌∷◌, drop, length, ap}
-use Rattle.std.proofs.Common.{slice_range, refl, sym}
+-- A block that is read from both ends: the entry that it goes on to.
+use Rattle.std.proofs.Common.{◌≡◌, ◌∙◌, ℕ, ◌+◌, ◌-◌, ◌≤◌, ◌<◌, List, [], ◌∷◌, ◌++◌, length, ap}
+use Rattle.std.proofs.Common.{slice_range, refl, sym, reverse, arith}
 use Rattle.std.specs.Prelude.{Option, Some, None}
 use Rattle.std.specs.List.{slice_get}
-use Rattle.std.proofs.lemmas.List.{drop_all, drop_more}
-use Rattle.std.proofs.lemmas.Option.{slice_get_within, get_or_from_slice_get}
-use Rattle.sst_entries.specs.Entry.{Entry, entry}
-use Rattle.sst_entries.specs.Stream.{but_first, first}
-use Rattle.sst_entries.specs.declared.value_type.ValueType.{ValueType}
-use Rattle.sst_blocks.specs.Cursor.{Cursor, advanced, over_cursor}
+use Rattle.std.proofs.lemmas.List.{reverse-append, reverse-reverse}
+use Rattle.sst_entries.specs.Entry.{Entry}
+use Rattle.sst_entries.specs.Span.{Span, rest_in}
+use Rattle.sst_entries.specs.Stream.{but_first, but_last, first, last}
+use Rattle.sst_blocks.specs.Cursor.{Cursor, advanced, over_cursor, retreated}
+use Rattle.sst_blocks.proofs.SpanLemmas.{left_back, left_empty, left_front}
 
--- nothing is lent, and the entries from a place on come behind
-abbrev pub lends : Option Entry → List Entry → ℕ → Cursor
-lends o es i = record { lent = o; behind = drop i es }
+-- what is lent, and the entries between two places that are left
+abbrev pub lends : Option Entry → List Entry → ℕ → ℕ → Cursor
+lends o es from to = record { lent = o; behind = slice_range es from to }
 
-pub over_is : (es : List Entry) (i : ℕ) → length es ≤ i → lends None es i ≡ over_cursor
-over_is es i past = ap (λ (xs : List Entry). record { lent = None; behind = xs })
-    (drop_all i es past)
+abbrev between : List Entry → ℕ → ℕ → Span Entry
+between es from to = record { list = es; from = from; to = to }
 
--- behind the last entry
-pub over_at : (c : Cursor) (es : List Entry) (i : ℕ) → drop i es ≡ c.behind → length es ≤ i
-    → lends None es i ≡ advanced c
-over_at c es i left past =
-    over_is es i past
-    ∙ sym (ap (λ (xs : List Entry). record { lent = first xs; behind = but_first xs })
-    (sym left ∙ drop_all i es past))
+abbrev goes_to : List Entry → Cursor
+goes_to xs = record { lent = first xs; behind = but_first xs }
 
--- at the entry of a place
-pub next_at : (c : Cursor) (es : List Entry) (i : ℕ) (e : Entry) → drop i es ≡ c.behind
-    → slice_get es i ≡ Some e → lends (Some e) es (i + 1) ≡ advanced c
-next_at c es i e left here =
-    let within : i < length es = slice_get_within es i e here in
-    let split : drop i es ≡ e ∷ drop (i + 1) es =
-    drop_more es i e within ∙ ap (λ (x : Entry). x ∷ drop (i + 1) es)
-    (get_or_from_slice_get es i e e here) in
-    sym (ap (λ (xs : List Entry). record { lent = first xs; behind = but_first xs })
-    (sym left ∙ split))
+abbrev goes_back_to : List Entry → Cursor
+goes_back_to xs = record { lent = last xs; behind = but_last xs }
 
--- what is lent, by where its key and its value lie
-pub lies : (bytes : List ℕ) (at key_end end : ℕ) (key value : List ℕ) (n : ℕ) (t : ValueType)
-    (es : List Entry) (i : ℕ) → slice_range bytes at key_end ≡ key
-    → slice_range bytes key_end end ≡ value
-    → lends (Some (entry (slice_range bytes at key_end) (slice_range bytes key_end end) n t))
-    es i ≡ lends (Some (entry key value n t)) es i
-lies bytes at key_end end key value n t es i p q = rw (p, q) refl
+pub over_is : (es : List Entry) (from to : ℕ) → to ≤ from → lends None es from to ≡ over_cursor
+over_is es from to met = ap (λ (xs : List Entry). record { lent = None; behind = xs })
+    (left_empty (between es from to) met)
+
+-- where the places have met
+pub over_at : (c : Cursor) (es : List Entry) (from to : ℕ) → slice_range es from to ≡ c.behind
+    → to ≤ from → lends None es from to ≡ advanced c
+over_at c es from to left met =
+    over_is es from to met
+    ∙ sym (ap goes_to (sym left ∙ left_empty (between es from to) met))
+
+pub over_back : (c : Cursor) (es : List Entry) (from to : ℕ) → slice_range es from to ≡ c.behind
+    → to ≤ from → lends None es from to ≡ retreated c
+over_back c es from to left met =
+    over_is es from to met
+    ∙ sym (ap goes_back_to (sym left ∙ left_empty (between es from to) met))
+
+-- at the first entry that is left, and at the last
+pub next_at : (c : Cursor) (es : List Entry) (from to : ℕ) (e : Entry)
+    → slice_range es from to ≡ c.behind → from < to → slice_get es from ≡ Some e
+    → lends (Some e) es (from + 1) to ≡ advanced c
+next_at c es from to e left some here =
+    sym (ap goes_to (sym left ∙ left_front (between es from to) e some here))
+
+pub last_at : (c : Cursor) (es : List Entry) (from to : ℕ) (e : Entry)
+    → slice_range es from to ≡ c.behind → from < to → slice_get es (to - 1) ≡ Some e
+    → lends (Some e) es from (to - 1) ≡ retreated c
+last_at c es from to e left some here =
+    let rest = slice_range es from (to - 1) in
+    let turned : reverse (rest ++ e ∷ []) ≡ e ∷ reverse rest = reverse-append rest (e ∷ []) in
+    sym (ap goes_back_to (sym left ∙ left_back (between es from to) e some here)
+    ∙ ap (λ (xs : List Entry). record { lent = first xs; behind = reverse (but_first xs) }) turned
+    ∙ ap (λ (xs : List Entry). record { lent = Some e; behind = xs }) (reverse-reverse rest))

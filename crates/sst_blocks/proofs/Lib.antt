@@ -16,4 +16,5 @@ pub mod Narrowing
 pub mod StrictHandles
 pub mod MarkLemmas
 pub mod Asked
+pub mod EntryPlaces
 pub mod Cursors

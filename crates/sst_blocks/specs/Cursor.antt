@@ -1,9 +1,9 @@
--- A data block that is read from its front.
+-- A data block that is read from both ends.
 use Rattle.std.specs.Prelude.{List, [], Option, None}
 use Rattle.sst_entries.specs.Entry.{Entry}
-use Rattle.sst_entries.specs.Stream.{but_first, first}
+use Rattle.sst_entries.specs.Stream.{but_first, but_last, first, last}
 
--- the entry that is lent, and those that come behind it
+-- the entry that is lent, and those that are left
 pub record Cursor : Type 0 where
   pub lent : Option Entry
   pub behind : List Entry
@@ -12,9 +12,16 @@ pub record Cursor : Type 0 where
 abbrev pub cursor_of : List Entry → Cursor
 cursor_of es = record { lent = None; behind = es }
 
--- at the next entry, where one is left
+-- at the first entry that is left, where there is one; and at the last
 abbrev pub advanced : Cursor → Cursor
 advanced c = record { lent = first c.behind; behind = but_first c.behind }
+
+abbrev pub retreated : Cursor → Cursor
+retreated c = record { lent = last c.behind; behind = but_last c.behind }
+
+-- at no entry
+abbrev pub unlent : Cursor → Cursor
+unlent c = record c { lent = None }
 
 -- behind the last entry
 abbrev pub over_cursor : Cursor

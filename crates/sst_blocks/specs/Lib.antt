@@ -14,6 +14,7 @@ pub mod SeenHandle
 pub mod Seeking
 pub mod Words
 pub mod Placed
+pub mod EntryPlace
 pub mod Cursor
 pub mod Asked
 pub use Rattle.sst_sections.specs.Number

@@ -13,7 +13,8 @@ pub use Rattle.sst_blocks.specs.Block.{Loaded, LoadsBack, block_bytes, entries_o
 pub use Rattle.sst_blocks.specs.Block.{handles_of, has_room, has_room_for, header_len, in_grammar}
 pub use Rattle.sst_blocks.specs.Block.{is_filter, loaded}
 pub use Rattle.sst_blocks.specs.Bounds.{data_block_bound_of, index_block_bound_of}
-pub use Rattle.sst_blocks.specs.Cursor.{Cursor, advanced, cursor_of, over_cursor}
+pub use Rattle.sst_blocks.specs.Cursor.{Cursor, advanced, cursor_of, over_cursor, retreated, unlent}
+pub use Rattle.sst_blocks.specs.EntryPlace.{IsPlacedIn, entry_placed, placed_in}
 pub use Rattle.sst_blocks.specs.Encoding.{entries_fault, handles_fault}
 pub use Rattle.sst_blocks.specs.Handle.{Handle}
 pub use Rattle.sst_blocks.specs.Handles.{AreStrictHandles, AreSpellableHandles, end_of, handles_in}

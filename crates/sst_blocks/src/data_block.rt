@@ -1,7 +1,7 @@
 //! Data blocks: strict lists of entries.
 ghost use Rattle.std.specs.Prelude.{◌≡◌, ℕ, ◌+◌, ◌++◌, ◌<◌, ◌≤◌, ◌≢◌, ◌^◌, ◌↔◌, List, [], Some};
 ghost use Rattle.std.specs.Prelude.{None, Bool, true, false, not, is_some, length, IsTrue, IfOk};
-ghost use Rattle.std.specs.Prelude.{IfErr, OnOk, OnErr};
+ghost use Rattle.std.specs.Prelude.{IfErr, OnOk, OnErr, slice_range};
 ghost use Rattle.std.specs.List.{slice_get};
 ghost use Rattle.std.specs.List.Sorted.{IsPartitionedBy};
 ghost use Rattle.std.specs.Option.{option_map};
@@ -24,6 +24,7 @@ mod entry_ref;
 mod find;
 mod iter;
 
+use crate::entry_place::EntryPlace;
 use crate::item::{block_bound, encode};
 use crate::reading::{front_len, item_at, key_at};
 use crate::starts::Starts;
@@ -31,7 +32,7 @@ use crate::{Block, EntryRef, Error, InternalValue, SeqNo, Slice, TableVersion};
 pub use cursor::Cursor;
 use entry_ref::head_len;
 pub(crate) use entry_ref::head_len as entry_head_len;
-pub(crate) use find::{find_entry, share_entry};
+pub(crate) use find::find_entry;
 pub use iter::Iter;
 use sst_entries::compare_versions;
 use std::alloc::{AllocError, Allocator, Global};
@@ -174,8 +175,8 @@ impl<A: Allocator> DataBlock<A> {
         ensures found { IfOk result (λ e. e ≡ entry_of_ref entry.now) }
         ensures err { IfErr result (λ e. e ≡ OutOfMemory) }
     {
-        let start = self.starts.at(index);
-        share_entry(&self.payload, start + head_len(self.version), entry)
+        let key_at = self.starts.at(index) + head_len(self.version);
+        EntryPlace::of(key_at, entry).share(&self.payload)
     }
 
     /// The entry of a place, whose key and value share the block's memory. Refused
@@ -240,11 +241,20 @@ impl<A: Allocator> DataBlock<A> {
         Iter::new(self)
     }
 
-    /// The entries, lent from the front by a cursor that takes the block.
+    /// The entries, lent from both ends by a cursor that takes the block.
     pub fn into_cursor(self) -> Cursor<A>
         ensures { result ≡ cursor_of self }
     {
-        Cursor::new(self.version, self.payload, self.starts)
+        let len = self.len();
+        self.into_cursor_of(0, len)
+    }
+
+    /// Those between two places, lent in the same way.
+    pub fn into_cursor_of(self, from: usize, to: usize) -> Cursor<A>
+        requires { to ≤ length self }
+        ensures { result ≡ cursor_of (slice_range self from to) }
+    {
+        Cursor::new(self.version, self.payload, self.starts, from, to)
     }
 
     /// The first entry of a key numbered below `seqno`. Refused [`Error::OutOfMemory`] alone.

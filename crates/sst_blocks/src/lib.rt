@@ -5,6 +5,7 @@ mod block;
 mod block_type;
 mod compression;
 mod data_block;
+mod entry_place;
 mod filter_block;
 mod handle;
 mod index_block;
@@ -22,6 +23,7 @@ pub use compression::CompressionType;
 pub use data_block::{
     Cursor as DataBlockCursor, DataBlock, ENTRY_HEAD_LEN, Iter as DataBlockIter, data_block_bound,
 };
+pub use entry_place::EntryPlace;
 pub use filter_block::FilterBlock;
 pub use handle::{BlockHandle, BlockOffset, KeyedBlockHandle, are_strict_handles};
 pub use index_block::{HANDLE_HEAD_LEN, IndexBlock, Iter as IndexBlockIter, index_block_bound};

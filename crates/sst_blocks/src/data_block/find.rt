@@ -10,8 +10,7 @@ ghost use Rattle.sst_entries.specs.Point.{read_place};
 ghost use Rattle.sst_entries.specs.Strict.{is_before};
 
 use crate::reading::find_item;
-use crate::{EntryRef, Error, InternalValue, SeqNo, Slice, TableVersion};
-use std::alloc::Allocator;
+use crate::{EntryRef, Error, SeqNo, TableVersion};
 
 /// The first entry of a payload that a read of a key at a number comes before, and where it begins.
 /// Refused [`Error::InvalidBlock`] where the payload does not spell a strict list of entries. Where
@@ -39,30 +38,4 @@ pub(crate) fn find_entry<'a>(
         (e ≡ InvalidBlock) × (entries_in version payload.now ≡ None)) }
 {
     find_item(version, payload, key, seqno, is_tested)
-}
-
-/// The entry that was read where its key begins at `key_at` in some bytes, and its value behind it:
-/// both share the memory of the bytes. Refused [`Error::OutOfMemory`] alone.
-#[inline(always)]
-pub(crate) fn share_entry<A: Allocator>(
-    bytes: &Slice<A>,
-    key_at: usize,
-    entry: &EntryRef<'_>,
-) -> Result<InternalValue<A>, Error>
-    requires within { key_at + length entry.now.user_key.now + length entry.now.value.now ≤
-        length bytes.now }
-    requires short { key_at + length entry.now.user_key.now + length entry.now.value.now < 2 ^ 64 }
-    requires key { slice_range bytes.now key_at (key_at + length entry.now.user_key.now) ≡
-        entry.now.user_key.now }
-    requires value { let value_at = key_at + length entry.now.user_key.now in
-        slice_range bytes.now value_at (value_at + length entry.now.value.now) ≡
-        entry.now.value.now }
-    ensures found { IfOk result (λ e. e ≡ entry_of_ref entry.now) }
-    ensures err { IfErr result (λ e. e ≡ OutOfMemory) }
-{
-    let value_at = key_at + entry.user_key.len();
-    let end = value_at + entry.value.len();
-    let key = bytes.slice(key_at, value_at)?;
-    let value = bytes.slice(value_at, end)?;
-    Ok(InternalValue::from_components(key, value, entry.seqno, entry.value_type))
 }

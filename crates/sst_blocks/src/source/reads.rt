@@ -1,5 +1,9 @@
 //! What is asked of one block, without memory for the places of its items.
 ghost use Rattle.std.specs.Prelude.{◌≡◌, Option, Ok, Err, Some, true, slice_range, IfOk, IfErr};
+ghost use Rattle.std.specs.Prelude.{IfSome};
+ghost use Rattle.std.specs.Option.{option_map};
+ghost use Rattle.sst_blocks.specs.EntryPlace.{IsPlacedIn, entry_placed, placed_in};
+ghost use Rattle.sst_entries.specs.Lending.{entry_of_ref};
 ghost use Rattle.sst_blocks.specs.Asked.{IsSure, find_told, maybe_in, maybe_told, place_for};
 ghost use Rattle.sst_blocks.specs.Asked.{point_of, point_told, told_map};
 ghost use Rattle.sst_blocks.specs.Block.{checked_payload, in_grammar, load_told, place_fault};
@@ -13,10 +17,11 @@ ghost use Rattle.sst_sections.specs.Sections.{body_of};
 
 use super::BlockSource;
 use crate::block::Header;
-use crate::data_block::{entry_head_len, find_entry, share_entry};
+use crate::data_block::{entry_head_len, find_entry};
 use crate::index_block::find_handle;
 use crate::{
-    BlockHandle, BlockOffset, BlockType, Error, InternalValue, Opened, SeqNo, contains_hash,
+    BlockHandle, BlockOffset, BlockType, EntryPlace, EntryRef, Error, InternalValue, Opened, SeqNo,
+    contains_hash,
 };
 use std::alloc::Allocator;
 
@@ -31,11 +36,42 @@ struct Sound {
 }
 
 impl<A: Allocator + Clone> BlockSource<A> {
+    /// Where the first entry of a key numbered below `seqno` lies, in the data block that a handle
+    /// names. Refused with the first fault, as [`BlockSource::load`] is, and never for want of
+    /// memory: none is taken, and nothing is shared. A block that was tested before is walked up to
+    /// the key only. Each call counts, also where it refuses.
+    pub fn point_place(
+        &self,
+        handle: &BlockHandle,
+        key: &[u8],
+        seqno: SeqNo,
+        opened: &mut Opened,
+    ) -> Result<Option<EntryPlace>, Error>
+        ensures told { let body = body_of self.now in
+            told_map (option_map (entry_placed self.now)) result
+            ≡ point_told body handle.now.offset handle.now.size key.now seqno }
+        ensures placed { IfOk result (λ found. IfSome found (IsPlacedIn self.now)) }
+        ensures first { let body = body_of self.now in
+            FaultsFirst result (place_fault body handle.now.offset handle.now.size Data) }
+        ensures counted { opened.new ≡ with_load Data opened.old }
+    {
+        opened.count(BlockType::Data);
+        let sound = self.sound(handle, BlockType::Data)?;
+        self.place_of_entry(&sound, key, seqno)
+    }
+
+    /// The entry that lies at a place, lent from there: `None` where the bytes end before it.
+    #[inline]
+    pub fn entry_at(&self, place: &EntryPlace) -> Option<EntryRef<'_>>
+        ensures { option_map entry_of_ref result ≡ placed_in self.now place.now }
+    {
+        place.find(self.bytes.as_slice())
+    }
+
     /// The first entry of a key numbered below `seqno`, in the data block that a handle names.
-    /// Refused with the first fault, as [`BlockSource::load`] is; want of memory is in the place of
-    /// none, and comes only where there is such an entry, whose key and value share the table's
-    /// bytes. A block that was tested before is walked up to the key only; no memory is taken for
-    /// the places of entries. Each call counts, also where it refuses.
+    /// Refused as [`BlockSource::point_place`], and [`Error::OutOfMemory`] only where there is such
+    /// an entry, whose key and value share the table's bytes. Each call counts, also where it
+    /// refuses.
     pub fn point_read(
         &self,
         handle: &BlockHandle,
@@ -53,9 +89,11 @@ impl<A: Allocator + Clone> BlockSource<A> {
             FaultsFirst result (place_fault body handle.now.offset handle.now.size Data) }
         ensures counted { opened.new ≡ with_load Data opened.old }
     {
-        opened.count(BlockType::Data);
-        let sound = self.sound(handle, BlockType::Data)?;
-        self.entry_in(&sound, key, seqno)
+        match self.point_place(handle, key, seqno, opened) {
+            Ok(Some(place)) => Ok(Some(place.share(&self.bytes)?)),
+            Ok(None) => Ok(None),
+            Err(error) => Err(error),
+        }
     }
 
     /// Where the first handle leads that reaches a key and a number, in the index block that a
@@ -121,25 +159,21 @@ impl<A: Allocator + Clone> BlockSource<A> {
         })
     }
 
-    /// The first entry of a key numbered below `seqno` in a payload of entries.
-    fn entry_in(
+    /// Where the first entry of a key numbered below `seqno` lies, in a payload of entries.
+    fn place_of_entry(
         &self,
         sound: &Sound,
         key: &[u8],
         seqno: SeqNo,
-    ) -> Result<Option<InternalValue<A>>, Error>
+    ) -> Result<Option<EntryPlace>, Error>
         requires sound { IsSound (body_of self.now) Data sound.now }
         requires headed { IsSoundHeaded self.now Data sound.now }
         ensures told { let body = body_of self.now in
             let payload = slice_range body sound.now.start sound.now.end in
             let header = sound.now.header in
-            Gives (λ (found : Option Entry). found) result (told_map (point_of key.now seqno)
-            (checked_payload header.version header.checksum Data payload)) }
-        ensures sure { let body = body_of self.now in
-            let payload = slice_range body sound.now.start sound.now.end in
-            let header = sound.now.header in
-            IsSure result (told_map (point_of key.now seqno)
-            (checked_payload header.version header.checksum Data payload)) }
+            told_map (option_map (entry_placed self.now)) result ≡ told_map (point_of key.now seqno)
+            (checked_payload header.version header.checksum Data payload) }
+        ensures placed { IfOk result (λ found. IfSome found (IsPlacedIn self.now)) }
     {
         let version = sound.header.version;
         let payload = &self.body()[sound.start..sound.end];
@@ -152,7 +186,7 @@ impl<A: Allocator + Clone> BlockSource<A> {
             return Ok(None);
         }
         let key_at = sound.start + at + entry_head_len(version);
-        Ok(Some(share_entry(&self.bytes, key_at, &entry)?))
+        Ok(Some(EntryPlace::of(key_at, &entry)))
     }
 
     /// Where the first handle leads that reaches a key and a number, in a payload of handles.

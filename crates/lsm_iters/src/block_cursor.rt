@@ -1,0 +1,95 @@
+//! The entries of a loaded block within bounds.
+ghost use Rattle.std.specs.Prelude.{◌≡◌, ◌≤◌, IfErr, IfOk, Some, is_some, length};
+ghost use Rattle.std.specs.Prelude.{slice_range, true};
+ghost use Rattle.std.specs.Option.{option_map};
+ghost use Rattle.sst_entries.specs.Lending.{entry_of_ref};
+ghost use Rattle.sst_entries.specs.declared.error.Error.TheVariants.{OutOfMemory};
+ghost use Rattle.lsm_iters.specs.Words.{cursor_of, cursor_remains, taken_at, unlent};
+
+use lsm_walks::Ends;
+use sst_blocks::{DataBlock, DataBlockCursor, EntryRef, Error, InternalValue, IterItem};
+use sst_entries::Direction;
+use std::alloc::Allocator;
+use std::marker::Model;
+
+/// The entries of a loaded block within bounds, from both ends, as a part of a walk.
+#[derive(Drop)]
+pub struct BlockCursor<A: Allocator> {
+    cursor: DataBlockCursor<A>,
+}
+
+impl<A: Allocator> Model for BlockCursor<A> {
+    ghost use Rattle.sst_blocks.specs.Cursor.{Cursor};
+
+    ghost Value = { Cursor };
+
+    ghost view = { λ c. c.cursor };
+}
+
+impl<A: Allocator> BlockCursor<A> {
+    /// The entries of a block between two places.
+    pub fn new(block: DataBlock<A>, from: usize, to: usize) -> BlockCursor<A>
+        requires { to ≤ length block }
+        ensures { result ≡ cursor_of (slice_range block from to) }
+    {
+        BlockCursor {
+            cursor: block.into_cursor_of(from, to),
+        }
+    }
+
+    /// Moves to the entry at an end of what is left, and answers whether there is one.
+    #[inline(always)]
+    pub fn move_to(&mut self, at: Direction) -> bool
+        ensures taken { (self.new.lent, self.new.behind) ≡ taken_at at self.old.behind }
+        ensures more { result ≡ is_some self.new.lent }
+    {
+        match at {
+            Direction::Front => self.cursor.advance(),
+            Direction::Back => self.cursor.advance_back(),
+        }
+    }
+
+    /// The entry that is lent.
+    #[inline(always)]
+    pub fn entry(&self) -> Option<EntryRef<'_>>
+        ensures { option_map entry_of_ref result ≡ self.now.lent }
+    {
+        self.cursor.entry()
+    }
+
+    /// The entry that is lent, whose key and value share the block's memory. Refused
+    /// [`Error::OutOfMemory`] alone.
+    #[inline(always)]
+    pub fn share(&self) -> Result<InternalValue<A>, Error>
+        requires { is_some self.now.lent ≡ true }
+        ensures found { IfOk result (λ e. self.now.lent ≡ Some e) }
+        ensures err { IfErr result (λ e. e ≡ OutOfMemory) }
+    {
+        self.cursor.share()
+    }
+
+    /// Lends nothing until it moves.
+    #[inline(always)]
+    pub fn unlend(&mut self)
+        ensures { self.new ≡ unlent self.old }
+    {
+        self.cursor.unlend();
+    }
+}
+
+impl<A: Allocator> Ends for BlockCursor<A> {
+    type Item = InternalValue<A>;
+
+    ghost left = { cursor_remains };
+
+    #[inline(always)]
+    fn step(&mut self, at: Direction) -> Option<IterItem<A>> {
+        if !self.move_to(at) {
+            return None;
+        }
+        match self.share() {
+            Ok(item) => Some(Ok(item)),
+            Err(refusal) => Some(Err(refusal)),
+        }
+    }
+}
