@@ -97,7 +97,7 @@ impl<A: Allocator> Model for Iter<A> {
 }
 
 impl<A: Allocator> Iter<A> {
-    /// Whether all handles are left: no edge was sought, and no step was made.
+    /// Whether all handles are left: no step was made, and no edge was sought that left one out.
     pub(crate) fn is_unsought(&self) -> bool
         ensures { IsTrue result ↔ IsSpanSought self.now None None }
     {

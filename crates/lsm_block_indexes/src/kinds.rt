@@ -178,8 +178,8 @@ pub enum BlockIndexIterImpl<A: Allocator = Global> {
 }
 
 impl<A: Allocator + Clone> BlockIndexIterImpl<A> {
-    /// Whether an edge may be sought: none was, and no step was made. One that left nothing out, of
-    /// an index that stays loaded, does not count.
+    /// Whether an edge may be sought: none was, and no step was made. Over an index that stays loaded
+    /// a seek that left no handle out counts as none.
     pub fn is_unsought(&self) -> bool
         ensures { IsTrue result ↔ IsSought self.now None None }
     {

@@ -60,7 +60,8 @@ impl<A: Allocator + Clone> Iter<A> {
     ///
     /// The first step seeks the bounds in the index. An index iterator that was already sought or
     /// advanced is not sought again: each block that it still yields is loaded, and entries outside
-    /// of the bounds are left out. Nothing is loaded yet.
+    /// of the bounds are left out. Over an index that stays loaded, a seek that left no handle out
+    /// counts as none. Nothing is loaded yet.
     ///
     /// # Errors
     ///
