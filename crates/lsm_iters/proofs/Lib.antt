@@ -9,3 +9,5 @@ pub mod Walked
 pub mod RangeLaws
 pub mod Moved
 pub mod Lent
+pub mod Shared
+pub mod LentLaws

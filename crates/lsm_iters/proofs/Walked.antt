@@ -10,31 +10,34 @@ use Rattle.sst_entries.specs.declared.stream.Direction.{Direction}
 use Rattle.sst_entries.specs.declared.stream.Direction.TheVariants.{Front, Back}
 use Rattle.sst_entries.specs.Entry.{Entry}
 use Rattle.sst_entries.specs.Error.{is_memory}
-use Rattle.sst_entries.specs.Span.{Span}
 use Rattle.sst_entries.specs.Stream.{answer_stops, ok_results}
 use Rattle.sst_blocks.specs.declared.block_type.BlockType.TheVariants.{Data}
 use Rattle.sst_blocks.specs.Block.{Loaded, load_told, place_fault}
+use Rattle.sst_blocks.specs.Cursor.{Cursor}
 use Rattle.sst_blocks.specs.Handle.{Handle}
 use Rattle.lsm_block_indexes.specs.Left.{CountsLoads, early_behind, with_index_loads, none_behind}
 use Rattle.lsm_block_indexes.proofs.TwoLevels.{loaded_more}
 use Rattle.lsm_walks.specs.declared.walk.Walk.{Walk}
 use Rattle.lsm_walks.specs.Ends.{IsOver as IsWalkOver, Remains, StepAnswers, remains_in, seen_from}
-use Rattle.lsm_walks.specs.Ends.{span_remains, taken_at}
+use Rattle.lsm_walks.specs.Ends.{taken_at}
 use Rattle.lsm_walks.specs.Parts.{Loading, Loads, all_results, early_among, loads_in, needed}
 use Rattle.lsm_walks.specs.Parts.{results_of}
 use Rattle.lsm_walks.specs.Walks.{Ended, WalkTakes, early_at, near, needed_at, walk_left}
-use Rattle.lsm_walks.proofs.Instances.{loads_one, no_part_loads, part_behind, part_early}
+use Rattle.lsm_walks.proofs.Instances.{loads_one}
 use Rattle.lsm_walks.proofs.AtEnds.{early_map, behind_map, map_first, map_none, map_seen, map_taken}
 use Rattle.lsm_walks.proofs.AtEnds.{none_at}
 use Rattle.lsm_walks.proofs.Reaching.{all_over}
 use Rattle.lsm_iters.specs.Blocks.{Blocks, EndsBlocks, KeepsBlocks, block_named, coming_blocks}
 use Rattle.lsm_iters.specs.Blocks.{range_of_walk, stored_in, stored_rows}
 use Rattle.lsm_iters.specs.Bounds.{lower_edge, upper_edge}
+use Rattle.lsm_iters.specs.Lending.{behind_in, cursor_remains, lent_in}
 use Rattle.lsm_iters.specs.Lift.{lift_told, lifted_told}
 use Rattle.lsm_iters.specs.Range.{Range, RangeGives, blocks_early, blocks_needed, data_loaded}
 use Rattle.lsm_iters.specs.Range.{left_in, next_at}
 use Rattle.lsm_iters.specs.Rows.{Bounded, block_rows, handle_rows, rows, rows_in}
-use Rattle.lsm_iters.specs.Steps.{LoadsNone, SeeksOnce, lifted_answer, over, rest_of, stopped}
+use Rattle.lsm_iters.specs.Steps.{LoadsNone, SeeksOnce, lifted_answer, over, stopped}
+use Rattle.lsm_iters.specs.Steps.{all_over as all_over_handles}
+use Rattle.lsm_iters.proofs.Cursors.{no_part_loads, part_behind, part_early}
 use Rattle.lsm_iters.proofs.Ranges.{From, H, IsOver, Moves, R, Reached, back_starts, coming}
 use Rattle.lsm_iters.proofs.Ranges.{data_more, front_starts, gives_all, left_rows, refused}
 
@@ -68,10 +71,10 @@ told_rows b (x ∷ hs) =
     (told_named b x)
     ∙ ap (λ (rs : List R). handle_rows b x ++ rs) (told_rows b hs)
 
-told_part : (g : ℕ) (o : Option (Span Entry))
-    → map (told g) (remains_in span_remains o).results ≡ lift_told g (rest_of o)
+told_part : (g : ℕ) (o : Option Cursor)
+    → map (told g) (remains_in cursor_remains o).results ≡ lift_told g (behind_in o)
 told_part g None = refl
-told_part g (Some s) = told_ok g _
+told_part g (Some c) = told_ok g _
 
 -- ---- how many blocks an answer needs, and the fault that is found before memory is taken
 
@@ -149,7 +152,7 @@ module _ {A : Type 0} where
 -- ---- a walk and its range
 
 abbrev pub W : Type 0 → Type 0
-W A = Walk (Blocks A) (Span Entry)
+W A = Walk (Blocks A) Cursor
 
 fine_before : (g : ℕ) (r : Option R) → answer_stops is_memory (lifted_answer g r) ≡ false
     → answer_stops is_memory r ≡ false
@@ -159,7 +162,7 @@ fine_before g (Some (Err e)) fine = fine
 
 module _ {A : Type 0} where
   abbrev left_of_walk : W A → Remains Entry
-  left_of_walk w = walk_left span_remains coming_blocks w
+  left_of_walk w = walk_left cursor_remains coming_blocks w
 
   abbrev handles_in : W A → List H
   handles_in w = (left_in w.parts.handles).results
@@ -169,45 +172,45 @@ module _ {A : Type 0} where
   told_left w =
       let b : Bounded = w.parts.of in
       let f = told b.global_seqno in
-      let fs : List R = (remains_in span_remains w.front).results in
+      let fs : List R = (remains_in cursor_remains w.front).results in
       let ms : List R = all_results (map (block_named b) (handles_in w)) in
-      let bs : List R = (remains_in span_remains w.back).results in
+      let bs : List R = (remains_in cursor_remains w.back).results in
       map-append f fs (ms ++ bs)
       ∙ ap (λ (rs : List R). map f fs ++ rs) (map-append f ms bs)
       ∙ ap (λ (rs : List R). rs ++ (map f ms ++ map f bs)) (told_part b.global_seqno w.front)
-      ∙ ap (λ (rs : List R). lift_told b.global_seqno (rest_of w.front) ++ (rs ++ map f bs))
+      ∙ ap (λ (rs : List R). lift_told b.global_seqno (behind_in w.front) ++ (rs ++ map f bs))
       (told_rows b (handles_in w))
-      ∙ ap (λ (rs : List R). lift_told b.global_seqno (rest_of w.front)
+      ∙ ap (λ (rs : List R). lift_told b.global_seqno (behind_in w.front)
       ++ (rows b (handles_in w) ++ rs)) (told_part b.global_seqno w.back)
 
   near_behind : (at : Direction) (w : W A) (n : ℕ)
-      → none_behind (remains_in span_remains (near at w)).results n
+      → none_behind (remains_in cursor_remains (near at w)).results n
       ≡ none_behind (next_at at (range_of_walk w)).entries n
   near_behind Front w n = part_behind w.front n
   near_behind Back w n = part_behind w.back n
 
   near_early : (at : Direction) (w : W A) (f : Option Error)
-      → early_behind (remains_in span_remains (near at w)).results f
+      → early_behind (remains_in cursor_remains (near at w)).results f
       ≡ early_behind (next_at at (range_of_walk w)).entries f
   near_early Front w f = part_early w.front f
   near_early Back w f = part_early w.back f
 
-  allowed : (at : Direction) (w : W A) → needed_at span_remains coming_blocks at w
+  allowed : (at : Direction) (w : W A) → needed_at cursor_remains coming_blocks at w
       ≡ none_behind (next_at at (range_of_walk w)).entries
       (blocks_needed w.parts.of (seen_from at (handles_in w)))
   allowed at w =
-      let xs : List R = (remains_in span_remains (near at w)).results in
+      let xs : List R = (remains_in cursor_remains (near at w)).results in
       let b : Bounded = w.parts.of in
       ap (λ (ps : List (Result (Loading Entry) Error)). none_behind xs (needed ps))
       (map_seen (block_named b) at (handles_in w))
       ∙ ap (λ (n : ℕ). none_behind xs n) (needs_is b (seen_from at (handles_in w)))
       ∙ near_behind at w (blocks_needed b (seen_from at (handles_in w)))
 
-  early_allowed : (at : Direction) (w : W A) → early_at span_remains coming_blocks at w
+  early_allowed : (at : Direction) (w : W A) → early_at cursor_remains coming_blocks at w
       ≡ early_behind (next_at at (range_of_walk w)).entries
       (blocks_early w.parts.of (seen_from at (handles_in w)))
   early_allowed at w =
-      let xs : List R = (remains_in span_remains (near at w)).results in
+      let xs : List R = (remains_in cursor_remains (near at w)).results in
       let b : Bounded = w.parts.of in
       ap (λ (ps : List (Result (Loading Entry) Error)). early_behind xs (early_among ps))
       (map_seen (block_named b) at (handles_in w))
@@ -215,7 +218,7 @@ module _ {A : Type 0} where
       ∙ near_early at w (blocks_early b (seen_from at (handles_in w)))
 
   moves : (at : Direction) (w v : W A) (r : Option R) → w.parts.handles.sought ≡ true
-      → WalkTakes span_remains coming_blocks KeepsBlocks at w r v
+      → WalkTakes cursor_remains coming_blocks KeepsBlocks at w r v
       → Moves (none_behind (next_at at (range_of_walk w)).entries
       (blocks_needed w.parts.of (seen_from at (handles_in w)))) (range_of_walk w) (range_of_walk v)
   moves at w v r sought takes =
@@ -239,7 +242,7 @@ module _ {A : Type 0} where
 
   over_range : (at : Direction) (v : W A) → IsWalkOver (left_of_walk v) → IsOver (range_of_walk v)
   over_range at v over =
-      let parts = (all_over span_remains coming_blocks at v over).done in
+      let parts = (all_over cursor_remains coming_blocks at v over).done in
       record {
         rows = sym (told_left v) ∙ ap (map (told v.parts.of.global_seqno)) over.results;
         index = record {
@@ -305,7 +308,7 @@ module _ {A : Type 0} where
       → Reached (next_at at (range_of_walk w)).entries (seen_from at (handles_in w)) (next_at at s)
       s
       (range_of_walk w) → w.parts.handles.sought ≡ true
-      → WalkTakes span_remains coming_blocks KeepsBlocks at w r v
+      → WalkTakes cursor_remains coming_blocks KeepsBlocks at w r v
       → RangeGives (taken_at at) (next_at at) s (lifted_answer w.parts.of.global_seqno r)
       (stopped (lifted_answer w.parts.of.global_seqno r) (range_of_walk v))
   unfolding moves
@@ -340,7 +343,7 @@ module _ {A : Type 0} where
       → p ≡ record w.parts { handles = p.handles }
       → LoadsNone (left_in w.parts.handles) (left_in p.handles) → p.handles.sought ≡ true
       → SeeksOnce w.parts.handles p.handles (lower_edge w.parts.of.low) (upper_edge w.parts.of.high)
-      → WalkTakes span_remains coming_blocks KeepsBlocks at (with_parts w p) r v
+      → WalkTakes cursor_remains coming_blocks KeepsBlocks at (with_parts w p) r v
       → q ≡ lifted_answer v.parts.of.global_seqno r
       → RangeGives (taken_at at) (next_at at) (range_of_walk w) q (stopped q (range_of_walk v))
   walk_steps at w p v r q is none sought seeks takes lifted =
@@ -358,7 +361,10 @@ module _ {A : Type 0} where
       (range_of_walk w)
   walk_over w v ended =
       ap (λ (p : Blocks A). range_of_walk (with_parts v p)) ended.kept
-      ∙ ap (λ (o : Option (Span Entry)). record (over (range_of_walk w))
-      { front = rest_of o; back = rest_of v.back }) ended.front
-      ∙ ap (λ (o : Option (Span Entry)). record (over (range_of_walk w)) { back = rest_of o })
+      ∙ ap (λ (o : Option Cursor). range_of_walk (record (with_parts v ended_parts) { front = o }))
+      ended.front
+      ∙ ap (λ (o : Option Cursor). record (over (range_of_walk w)) { back = behind_in o })
       ended.back
+    where
+      ended_parts : Blocks A
+      ended_parts = record w.parts { handles = all_over_handles w.parts.handles }

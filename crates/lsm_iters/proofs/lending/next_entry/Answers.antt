@@ -3,7 +3,8 @@ use Rattle.std.specs.Option.{option_map}
 use Rattle.sst_entries.specs.Entry.{Entry}
 use Rattle.sst_entries.specs.Lending.{came}
 use Rattle.std.proofs.Common.{refl}
-use Rattle.lsm_iters.specs.Lending.{lending_range, lent_stored}
+use Rattle.lsm_iters.specs.Blocks.{range_of_walk}
+use Rattle.lsm_iters.specs.Lending.{lent_in}
 use Rattle.lsm_iters.proofs.Lent.{ends_err, ends_ok, steps_by, steps_fault, steps_refused}
 use Rattle.lsm_iters.proofs.Ranges.{R}
 use Rattle.lsm_iters.proofs.lending.next_entry.Goals as goal
@@ -17,15 +18,15 @@ pub returns-in-Ok-clause-ok : goal.returns-in-Ok-clause-ok
 returns-in-Ok-clause-ok g c =
     let done = c.initialize.ensures in
     let n = c.step.new.walk in
-    let r : Option R = option_map (λ (e : Entry). Ok e) (lent_stored n) in
-    ends_ok c.args.walk.now n c.lends.result (steps_by c.args.walk.now c.initialize.new.self done.is done.none done.sought n r (came c.lends.result (lending_range n).lent) c.in_default.ensures.ok (record { takes = c.in-Ok.ensures.takes; there = c.in-Ok.ensures.there }) c.lends.ensures.lifted)
+    let r : Option R = option_map (λ (e : Entry). Ok e) (lent_in n.front) in
+    ends_ok c.args.walk.now n c.lends.result (steps_by c.args.walk.now c.initialize.new.self done.is done.none done.sought n r (came c.lends.result (range_of_walk n).lent) c.in_default.ensures.ok (record { takes = c.in-Ok.ensures.takes; there = c.in-Ok.ensures.there }) c.lends.ensures.lifted)
 
 pub returns-in-Ok-clause-err : goal.returns-in-Ok-clause-err
 returns-in-Ok-clause-err g c =
     let done = c.initialize.ensures in
     let n = c.step.new.walk in
-    let r : Option R = option_map (λ (e : Entry). Ok e) (lent_stored n) in
-    ends_err c.args.walk.now n c.lends.result (steps_by c.args.walk.now c.initialize.new.self done.is done.none done.sought n r (came c.lends.result (lending_range n).lent) c.in_default.ensures.ok (record { takes = c.in-Ok.ensures.takes; there = c.in-Ok.ensures.there }) c.lends.ensures.lifted)
+    let r : Option R = option_map (λ (e : Entry). Ok e) (lent_in n.front) in
+    ends_err c.args.walk.now n c.lends.result (steps_by c.args.walk.now c.initialize.new.self done.is done.none done.sought n r (came c.lends.result (range_of_walk n).lent) c.in_default.ensures.ok (record { takes = c.in-Ok.ensures.takes; there = c.in-Ok.ensures.there }) c.lends.ensures.lifted)
 
 pub returns-in-Err-step-clause-err : goal.returns-in-Err-step-clause-err
 returns-in-Err-step-clause-err g c =

@@ -1,5 +1,8 @@
 use Rattle.lsm_iters.proofs.RangeLaws.{range_step}
 use Rattle.lsm_iters.proofs.iter.IterEnds.step.Goals as goal
 
-pub returns : goal.returns
-returns g c = range_step c.args.at c.args.self.now c.answer.new.self c.answer.result c.answer.ensures
+pub returns-in-Front : goal.returns-in-Front
+returns-in-Front g c = range_step c.args.at c.args.self.now c.answer_front.new.self c.answer_front.result c.answer_front.ensures
+
+pub returns-in-Back : goal.returns-in-Back
+returns-in-Back g c = range_step c.args.at c.args.self.now c.answer_back.new.self c.answer_back.result c.answer_back.ensures
