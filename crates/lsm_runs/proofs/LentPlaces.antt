@@ -24,7 +24,7 @@ use Rattle.lsm_sorted.specs.declared.below.Below.{Below}
 use Rattle.lsm_sorted.proofs.BelowLemmas.{deals_in_front}
 use Rattle.lsm_sorted.specs.LentBelow.{LendsBelow, MayLendBelow}
 use Rattle.lsm_runs.specs.LentNewestRuns.{LendsNewest, LendsResults, runs_told_within, span_told}
-use Rattle.lsm_runs.specs.LentRun.{LendingRun, RunLends}
+use Rattle.lsm_runs.specs.LentRun.{RunLends}
 use Rattle.lsm_run_parts.specs.RunParts.{RunSpan}
 use Rattle.lsm_runs.specs.RunRange.{IsRunOf, RunRange, run_left, run_size}
 use Rattle.lsm_runs.specs.SpansRead.{spans_within}
@@ -105,22 +105,22 @@ below_ascend bound (rs ∷ lists) up = (
 -- ---- the readers of the spans
 
 module _ {A : Type 0} (bound : ℕ) where
-  abbrev Below_lends : Below (LendingRun A) → Option R → Below (LendingRun A) → Type 0
-  Below_lends = LendsBelow RunLends (λ _. Unit {0}) (λ u. run_size u.run)
+  abbrev Below_lends : Below (RunRange A) → Option R → Below (RunRange A) → Type 0
+  Below_lends = LendsBelow RunLends (λ _. Unit {0}) run_size
 
-  one_lends : (s : LendingRun A) (run : List OpenTable × RunSpan) → IsRunOf run.0 run.1 s.run
+  one_lends : (s : RunRange A) (run : List OpenTable × RunSpan) → IsRunOf run.0 run.1 s
       → LendsResults Below_lends (below_told bound (span_told run)) (below_of bound s)
   one_lends s run is stops memory =
-      (deals_in_front RunLends (MayLendBelow RunLends (λ _. Unit {0}) (λ u. run_size u.run)) s bound
+      (deals_in_front RunLends (MayLendBelow RunLends (λ _. Unit {0}) run_size) s bound
       (below_of bound s) refl).deals stops (span_told run)
       (subst (λ (xs : List R). Deals (answer_stops stops) RunLends nowhere s (up_to_error xs))
-      (new_left run.0 run.1 s.run is)
-      (ends_lending RunLends (run_left s.run) s (lending_deals s) stops memory))
+      (new_left run.0 run.1 s is)
+      (ends_lending RunLends (run_left s) s (lending_deals s) stops memory))
 
-  each_lends : (stops : Error → Bool) → stops OutOfMemory ≡ true → (ss : List (LendingRun A))
+  each_lends : (stops : Error → Bool) → stops OutOfMemory ≡ true → (ss : List (RunRange A))
       (spans : List (List OpenTable × RunSpan))
       → AllZip (λ (u : RunRange A) (run : List OpenTable × RunSpan). IsRunOf run.0 run.1 u)
-      (map (λ (s : LendingRun A). s.run) ss) spans
+      ss spans
       → AllZip (Deals (answer_stops stops) Below_lends nowhere) (map (below_of bound) ss)
       (map (below_told bound) (map span_told spans))
   each_lends stops memory [] [] all = tt
@@ -131,10 +131,10 @@ module _ {A : Type 0} (bound : ℕ) where
 
   -- together
   pub newest_places : {T : Type 0} (next : T → Option R → T → Type 0) (t : T)
-      (low high : Bound (List ℕ)) (runs : List (List OpenTable)) (ss : List (LendingRun A))
-      (below : List (Below (LendingRun A))) → below ≡ map (below_of bound) ss
+      (low high : Bound (List ℕ)) (runs : List (List OpenTable)) (ss : List (RunRange A))
+      (below : List (Below (RunRange A))) → below ≡ map (below_of bound) ss
       → AllZip (λ (u : RunRange A) (run : List OpenTable × RunSpan). IsRunOf run.0 run.1 u)
-      (map (λ (s : LendingRun A). s.run) ss) (spans_within low high runs)
+      ss (spans_within low high runs)
       → AllByRecursion (λ (rs : List R). Ascends (entries_among rs))
       (runs_told_within low high runs)
       → LendsNewest Below_lends below next t
@@ -143,7 +143,7 @@ module _ {A : Type 0} (bound : ℕ) where
   newest_places next t low high runs ss below are spans up law stops memory =
       let told = map (below_told bound) (runs_told_within low high runs) in
       law.places stops told memory (record {
-        deal = subst (λ (bs : List (Below (LendingRun A))). AllZip
+        deal = subst (λ (bs : List (Below (RunRange A))). AllZip
             (Deals (answer_stops stops) Below_lends nowhere) bs told) (sym are)
             (each_lends stops memory ss (spans_within low high runs) spans);
         ascend = below_ascend bound (runs_told_within low high runs) up;

@@ -11,14 +11,13 @@ use Rattle.lsm_walks.specs.Ends.{IsOver, remains_in}
 use Rattle.lsm_walks.specs.Parts.{LoadGives}
 use Rattle.lsm_walks.specs.Walks.{WalkTakes}
 use Rattle.lsm_walks.proofs.Reaching.{Going, Reached, entered, fault, item, kept, rest, starts}
-use Rattle.lsm_iters.specs.Lending.{LendingRange, RangeLends, unlent_range}
+use Rattle.lsm_iters.specs.Lending.{RangeLends}
 use Rattle.lsm_iters.specs.Lift.{lifted_told}
 use Rattle.lsm_iters.specs.Range.{Range, range_remains}
 use Rattle.lsm_iters.proofs.Moved.{none_to_come, takes_moved}
 use Rattle.lsm_iters.proofs.RangeLaws.{range_step}
-use Rattle.lsm_runs.specs.LentRun.{LentTables, ReaderLends, RunLends, Stands}
-use Rattle.lsm_runs.specs.LentRun.{lending_run, lent_of_reader, lent_of_tables, over_run}
-use Rattle.lsm_runs.specs.LentRun.{range_of_reader, walk_of_tables}
+use Rattle.lsm_runs.specs.LentRun.{ReaderLends, RunLends, Stands, lent_of_reader, over_run}
+use Rattle.lsm_runs.specs.RunRange.{run_of}
 use Rattle.lsm_run_parts.specs.Tables.{Unopened}
 use Rattle.lsm_run_parts.specs.Tables.{KeepsTables, coming_tables, none_unopened}
 use Rattle.lsm_runs.proofs.RunSteps.{R, run_gives}
@@ -40,20 +39,19 @@ module _ {A : Type 0} where
   stands_none : (x : R) → Stands {A = A} None x → ⊥
   stands_none x stands = let wrong : None ≡ Some stands.range = stands.is in absurd cc
 
-  stands_there : (s : LendingRange A) (r : Option R) (t : LendingRange A) → RangeLends s r t
-      → (x : R) → Stands (Some s.range) x → r ≡ Some x
+  stands_there : (s : Range A) (r : Option R) (t : Range A) → RangeLends s r t
+      → (x : R) → Stands (Some s) x → r ≡ Some x
   stands_there s r t step x stands =
-      let same : s.range ≡ stands.range =
-      let is : Some s.range ≡ Some stands.range = stands.is in cc in
+      let same : s ≡ stands.range = let is : Some s ≡ Some stands.range = stands.is in cc in
       step.there (ap (λ (u : Range A). u.handles.sought) same ∙ stands.sought) stands.entry
       stands.others (ap (λ (u : Range A). u.front) same ∙ stands.front)
       ∙ ap (λ (u : Range A). Some (lifted_told u.of.global_seqno stands.entry)) same
       ∙ ap (λ (y : R). Some y) (sym stands.told)
 
-  pub reader_lends : (s : LendingRange A) (r : Option R) (t : LendingRange A) → RangeLends s r t
+  pub reader_lends : (s : Range A) (r : Option R) (t : Range A) → RangeLends s r t
       → ReaderLends (Some s) r (Some t)
   reader_lends s r t step = record {
-    gives = range_step Front s.range t.range r step.gives;
+    gives = range_step Front s t r step.gives;
     there = stands_there s r t step;
   }
 
@@ -76,37 +74,37 @@ module _ {A : Type 0} where
   Takes_to s r u = WalkTakes range_remains coming_tables KeepsTables Front s r u
 
   -- from s the step has come to u; what stood in a loaded block of the first table stands there yet
-  pub record Comes (s u : LentTables A) : Type 0 where
-    pub going : Going range_remains coming_tables KeepsTables Front (walk_of_tables s)
-        (walk_of_tables u)
-    pub unmoved : (x : R) → Stands (range_of_reader s.front) x → Stands (range_of_reader u.front) x
+  pub record Comes (s u : W A) : Type 0 where
+    pub going : Going range_remains coming_tables KeepsTables Front s
+        u
+    pub unmoved : (x : R) → Stands s.front x → Stands u.front x
 
-  pub comes_first : (s : LentTables A) → Comes s s
+  pub comes_first : (s : W A) → Comes s s
   comes_first s = record {
-    going = starts range_remains coming_tables KeepsTables Front (walk_of_tables s);
+    going = starts range_remains coming_tables KeepsTables Front s;
     unmoved = λ x stands. stands;
   }
 
-  abbrev with_front : LentTables A → Option (LendingRange A) → LentTables A
+  abbrev with_front : W A → Option (Range A) → W A
   with_front u o = record u { front = o }
 
   -- what the step gives
-  pub record Lends (s : LentTables A) (r : Option R) (t : LentTables A) : Type 0 where
-    pub takes : Takes_to (walk_of_tables s) r (walk_of_tables t)
-    pub there : (x : R) → Stands (range_of_reader s.front) x → r ≡ Some x
+  pub record Lends (s : W A) (r : Option R) (t : W A) : Type 0 where
+    pub takes : Takes_to s r t
+    pub there : (x : R) → Stands s.front x → r ≡ Some x
 
-  module _ (s u : LentTables A) (o : Option (LendingRange A)) (comes : Comes s u) where
+  module _ (s u : W A) (o : Option (Range A)) (comes : Comes s u) where
     -- an entry of the table at the front, or an error in its place
     pub lends_item : (x : R) → ReaderLends u.front (Some x) o → Lends s (Some x) (with_front u o)
     lends_item x lends = record {
-      takes = item range_remains coming_tables KeepsTables Front (walk_of_tables s)
-          (walk_of_tables u) (walk_of_tables (with_front u o)) x comes.going lends.gives refl;
+      takes = item range_remains coming_tables KeepsTables Front s
+          u (with_front u o) x comes.going lends.gives refl;
       there = λ y stands. lends.there y (comes.unmoved y stands);
     }
 
     pub lends_entry : is_some (lent_of_reader o) ≡ true
         → ReaderLends u.front (came (Ok true) (lent_of_reader o)) o
-        → Lends s (came (Ok true) (lent_of_tables (with_front u o))) (with_front u o)
+        → Lends s (came (Ok true) (lent_of_reader o)) (with_front u o)
     lends_entry some lends =
         let l = some_there (lent_of_reader o) some in
         let here : ReaderLends u.front (Some (Ok l.0)) o =
@@ -120,31 +118,27 @@ module _ {A : Type 0} where
       nothing : ReaderLends u.front None o
       nothing = subst (λ (k : Option Entry). ReaderLends u.front (given k) o) none lends
 
-      none_here : (x : R) → Stands (range_of_reader s.front) x → ⊥
+      none_here : (x : R) → Stands s.front x → ⊥
       none_here x stands =
           let wrong : None ≡ Some x = nothing.there x (comes.unmoved x stands) in cc
 
-      there_kept : Reached range_remains coming_tables KeepsTables Front (walk_of_tables s)
-          (walk_of_tables (with_front u o))
-      there_kept = kept range_remains coming_tables KeepsTables Front (walk_of_tables s)
-          (walk_of_tables u) (walk_of_tables (with_front u o)) comes.going.reached nothing.gives
+      there_kept : Reached range_remains coming_tables KeepsTables Front s
+          (with_front u o)
+      there_kept = kept range_remains coming_tables KeepsTables Front s
+          u (with_front u o) comes.going.reached nothing.gives
           refl
 
-      over_front : IsOver (remains_in range_remains (range_of_reader o))
+      over_front : IsOver (remains_in range_remains o)
       over_front = nothing.gives.answer.1
 
       -- the next table was opened
-      pub comes_on : (p : Unopened) (part : Range A) (c : LendingRange A)
+      pub comes_on : (p : Unopened) (part : Range A)
           → LoadGives (range_remains {A = A}) coming_tables KeepsTables Front u.parts
-          (Some (Ok part)) p → c ≡ unlent_range part
-          → Comes s (record u { parts = p; front = Some c })
-      comes_on p part c loads is = record {
-        going = entered range_remains coming_tables KeepsTables Front (walk_of_tables s)
-            (walk_of_tables (with_front u o))
-            (walk_of_tables (record u { parts = p; front = Some c })) p part there_kept
-            over_front.results loads
-            (ap (λ (x : LendingRange A). walk_of_tables
-            (record u { parts = p; front = Some x })) is);
+          (Some (Ok part)) p → Comes s (record u { parts = p; front = Some part })
+      comes_on p part loads = record {
+        going = entered range_remains coming_tables KeepsTables Front s (with_front u o)
+            (record u { parts = p; front = Some part }) p part there_kept over_front.results loads
+            refl;
         unmoved = λ x stands. absurd (none_here x stands);
       }
 
@@ -153,71 +147,71 @@ module _ {A : Type 0} where
           → LoadGives (range_remains {A = A}) coming_tables KeepsTables Front u.parts
           (Some (Err e)) p → Lends s (Some (Err e)) (record u { parts = p; front = o })
       lends_fault p e loads = record {
-        takes = fault (range_remains {A = A}) coming_tables KeepsTables Front (walk_of_tables s)
-            (walk_of_tables (with_front u o)) (walk_of_tables (record u { parts = p; front = o })) e
+        takes = fault (range_remains {A = A}) coming_tables KeepsTables Front s
+            (with_front u o) (record u { parts = p; front = o }) e
             there_kept over_front.results loads refl refl;
         there = λ x stands. absurd (none_here x stands);
       }
 
       -- none is to come, and the table at the back is left, and comes to the front
-      pub lends_rest : (p : Unopened) (b : Option (LendingRange A)) (r : Result Bool Error)
+      pub lends_rest : (p : Unopened) (b : Option (Range A)) (r : Result Bool Error)
           → LoadGives (range_remains {A = A}) coming_tables KeepsTables Front u.parts None p
           → ReaderLends u.back (came r (lent_of_reader b)) b
           → Lends s (came r (lent_of_reader b)) (record { parts = p; front = b; back = o })
       lends_rest p b r loads last = record {
-        takes = takes_moved (range_remains {A = A}) coming_tables KeepsTables (walk_of_tables s)
-            (walk_of_tables (record { parts = p; front = o; back = b })) over_front.results
+        takes = takes_moved (range_remains {A = A}) coming_tables KeepsTables s
+            (record { parts = p; front = o; back = b }) over_front.results
             (none_to_come (range_remains {A = A}) coming_tables KeepsTables u.parts p loads)
             (came r (lent_of_reader b))
-            (rest (range_remains {A = A}) coming_tables KeepsTables Front (walk_of_tables s)
-            (walk_of_tables (with_front u o)) (walk_of_tables (record u { parts = p; front = o }))
-            (walk_of_tables (record { parts = p; front = o; back = b }))
+            (rest (range_remains {A = A}) coming_tables KeepsTables Front s
+            (with_front u o) (record u { parts = p; front = o })
+            (record { parts = p; front = o; back = b })
             (came r (lent_of_reader b)) there_kept over_front loads refl refl last.gives refl);
         there = λ x stands. absurd (none_here x stands);
       }
 
       -- the same, of the walk that the load left
-      pub lends_last : (v n : LentTables A) (r : Result Bool Error)
+      pub lends_last : (v n : W A) (r : Result Bool Error)
           → LoadGives (range_remains {A = A}) coming_tables KeepsTables Front u.parts None v.parts
           → v ≡ record u { parts = v.parts; front = o }
           → n ≡ record v { front = n.front; back = v.front }
           → ReaderLends v.back (came r (lent_of_reader n.front)) n.front
           → Lends s (came r (lent_of_reader n.front)) n
       lends_last v n r loads was is last =
-          let back : v.back ≡ u.back = ap (λ (w : LentTables A). w.back) was in
-          let front : v.front ≡ o = ap (λ (w : LentTables A). w.front) was in
+          let back : v.back ≡ u.back = ap (λ (w : W A). w.back) was in
+          let front : v.front ≡ o = ap (λ (w : W A). w.front) was in
           let from_u : ReaderLends u.back (came r (lent_of_reader n.front)) n.front =
-          subst (λ (b : Option (LendingRange A)). ReaderLends b (came r (lent_of_reader n.front))
+          subst (λ (b : Option (Range A)). ReaderLends b (came r (lent_of_reader n.front))
           n.front) back last in
           let after : n ≡ record { parts = v.parts; front = n.front; back = o } =
-          is ∙ ap (λ (b : Option (LendingRange A)).
+          is ∙ ap (λ (b : Option (Range A)).
           record { parts = v.parts; front = n.front; back = b }) front in
-          subst (λ (m : LentTables A). Lends s (came r (lent_of_reader n.front)) m) (sym after)
+          subst (λ (m : W A). Lends s (came r (lent_of_reader n.front)) m) (sym after)
           (lends_rest v.parts n.front r loads from_u)
 
   -- ---- the run
 
-  pub lends_run : (s n : LentTables A) (l : Option Entry) → Lends s (given l) n
-      → RunLends (lending_run s) (given l) (lending_run n)
+  pub lends_run : (s n : W A) (l : Option Entry) → Lends s (given l) n
+      → RunLends (run_of s) (given l) (run_of n)
   lends_run s n None lends = record {
-    gives = run_gives Front (walk_of_tables s) (walk_of_tables n) None
-        (record { taken = walk_of_tables n; takes = lends.takes; goes = refl });
+    gives = run_gives Front s n None
+        (record { taken = n; takes = lends.takes; goes = refl });
     there = lends.there;
   }
   lends_run s n (Some e) lends = record {
-    gives = run_gives Front (walk_of_tables s) (walk_of_tables n) (Some (Ok e))
-        (record { taken = walk_of_tables n; takes = lends.takes; goes = refl });
+    gives = run_gives Front s n (Some (Ok e))
+        (record { taken = n; takes = lends.takes; goes = refl });
     there = lends.there;
   }
 
-  abbrev ended_walk : LentTables A → W A
+  abbrev ended_walk : W A → W A
   ended_walk n = record { parts = none_unopened n.parts; front = None; back = None }
 
-  pub lends_error : (s n : LentTables A) (e : Error) → Lends s (Some (Err e)) n
-      → RunLends (lending_run s) (Some (Err e)) (over_run (lending_run n))
+  pub lends_error : (s n : W A) (e : Error) → Lends s (Some (Err e)) n
+      → RunLends (run_of s) (Some (Err e)) (over_run (run_of n))
   lends_error s n e lends = record {
-    gives = run_gives Front (walk_of_tables s) (ended_walk n) (Some (Err e)) (record {
-      taken = walk_of_tables n;
+    gives = run_gives Front s (ended_walk n) (Some (Err e)) (record {
+      taken = n;
       takes = lends.takes;
       goes = record {
         front = refl;

@@ -19,7 +19,7 @@ use Rattle.lsm_sorted.specs.declared.below.Below.{Below}
 use Rattle.lsm_sorted.proofs.BelowLemmas.{below_entries, deals_in_front}
 use Rattle.lsm_sorted.specs.LentBelow.{LendsBelow, MayLendBelow}
 use Rattle.lsm_runs.specs.LentNewestRuns.{LendsNewest}
-use Rattle.lsm_runs.specs.LentRun.{LendingRun, LendsOfAtMost, RunLends}
+use Rattle.lsm_runs.specs.LentRun.{LendsOfAtMost, RunLends}
 use Rattle.lsm_runs.specs.RunLists.{DealTogether, DealsList}
 use Rattle.lsm_runs.specs.RunRange.{OpensAtMost, RunGives, RunRange, front_tables}
 use Rattle.lsm_runs.proofs.MergeOrder.{merged_ascends}
@@ -33,26 +33,26 @@ module _ {A : Type 0} (back : RunRange A → Option R → RunRange A → Type 0)
   abbrev Gives : RunRange A → Option R → RunRange A → Type 0
   Gives = RunGives front_of front_tables
 
-  gives_along : (ends : List Direction) (rs : List (Option R)) (s t : LendingRun A)
-      → Runs RunLends nowhere s ends rs t → Runs Gives back s.run ends rs t.run
-  gives_along [] [] s t runs = ap (λ (u : LendingRun A). u.run) runs
+  gives_along : (ends : List Direction) (rs : List (Option R)) (s t : RunRange A)
+      → Runs RunLends nowhere s ends rs t → Runs Gives back s ends rs t
+  gives_along [] [] s t runs = runs
   gives_along [] (r ∷ rs) s t runs = absurd runs
   gives_along (e ∷ ends) [] s t runs = absurd runs
   gives_along (Front ∷ ends) (r ∷ rs) s t runs =
-      (runs.0.run, runs.1.gives, gives_along ends rs runs.0 t runs.2)
+      (runs.0, runs.1.gives, gives_along ends rs runs.0 t runs.2)
   gives_along (Back ∷ ends) (r ∷ rs) s t runs = absurd runs.1
 
-  pub lends_list : (s : LendingRun A) (es : List Entry) → DealsList Gives back es s.run
+  pub lends_list : (s : RunRange A) (es : List Entry) → DealsList Gives back es s
       → DealsList RunLends nowhere es s
   lends_list s es deals stops memory = record {
     answers = λ ends rs t runs fine.
-        (deals stops memory).answers ends rs t.run (gives_along ends rs s t runs) fine;
+        (deals stops memory).answers ends rs t (gives_along ends rs s t runs) fine;
   }
 
   -- and opens no more tables
-  pub lends_few : (s : LendingRun A) (most : ℕ) → OpensAtMost Gives back most s.run
+  pub lends_few : (s : RunRange A) (most : ℕ) → OpensAtMost Gives back most s
       → LendsOfAtMost RunLends most s
-  lends_few s most few ends rs t runs = few ends rs t.run (gives_along ends rs s t runs)
+  lends_few s most few ends rs t runs = few ends rs t (gives_along ends rs s t runs)
 
 -- ---- below a bound
 

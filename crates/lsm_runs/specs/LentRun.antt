@@ -1,6 +1,5 @@
 -- A reader of a run that lends its entries, from the front.
 use Rattle.std.specs.Prelude.{◌≡◌, ℕ, ◌≤◌, true, List, ◌∷◌, Option, Some, None, Result, Ok, Err}
-use Rattle.std.specs.Option.{option_map}
 use Rattle.sst_entries.specs.declared.error.Error.{Error}
 use Rattle.sst_entries.specs.declared.stream.Direction.{Direction}
 use Rattle.sst_entries.specs.declared.stream.Direction.TheVariants.{Front}
@@ -9,23 +8,17 @@ use Rattle.sst_entries.specs.Stream.{Runs, front_of, nowhere}
 use Rattle.lsm_walks.specs.declared.walk.Walk.{Walk}
 use Rattle.lsm_walks.specs.Ends.{StepGives, remains_in}
 use Rattle.lsm_walks.specs.Parts.{LoadGives}
-use Rattle.lsm_iters.specs.Lending.{LendingRange, unlent_range}
 use Rattle.lsm_iters.specs.Lift.{lifted_told}
 use Rattle.lsm_iters.specs.Range.{Range, range_remains}
-use Rattle.lsm_run_parts.specs.Tables.{Unopened}
+use Rattle.lsm_run_parts.specs.Tables.{KeepsTables, Unopened, coming_tables, none_unopened}
 use Rattle.lsm_runs.specs.RunRange.{RunGives, RunRange, front_tables}
-use Rattle.lsm_run_parts.specs.Tables.{KeepsTables, coming_tables, none_unopened}
-use Rattle.lsm_runs.specs.RunRange.{run_of}
 
 -- ---- the reader of one table
 
--- where a table is opened, the entry that its reader lends, and what is left of it
-abbrev pub lent_of_reader : {A : Type 0} → Option (LendingRange A) → Option Entry
+-- the entry that it lends, where a table is opened
+abbrev pub lent_of_reader : {A : Type 0} → Option (Range A) → Option Entry
 lent_of_reader None = None
 lent_of_reader (Some s) = s.lent
-
-abbrev pub range_of_reader : {A : Type 0} → Option (LendingRange A) → Option (Range A)
-range_of_reader s = option_map (λ x. x.range) s
 
 -- what comes next of a table stands in a block that is loaded
 pub record Stands {A : Type 0} (reader : Option (Range A)) (x : Result Entry Error) : Type 0 where
@@ -38,29 +31,12 @@ pub record Stands {A : Type 0} (reader : Option (Range A)) (x : Result Entry Err
   pub told : x ≡ lifted_told range.of.global_seqno entry
 
 -- one step of it; what stands in a loaded block comes, whatever memory there is
-pub record ReaderLends {A : Type 0} (s : Option (LendingRange A)) (r : Option (Result Entry Error))
-    (t : Option (LendingRange A)) : Type 0 where
-  pub gives : StepGives Front (remains_in range_remains (range_of_reader s)) r
-      (remains_in range_remains (range_of_reader t))
-  pub there : (x : Result Entry Error) → Stands (range_of_reader s) x → r ≡ Some x
+pub record ReaderLends {A : Type 0} (s : Option (Range A)) (r : Option (Result Entry Error))
+    (t : Option (Range A)) : Type 0 where
+  pub gives : StepGives Front (remains_in range_remains s) r (remains_in range_remains t)
+  pub there : (x : Result Entry Error) → Stands s x → r ≡ Some x
 
 -- ---- a walk over the tables of a run
-
--- a walk whose readers lend
-abbrev pub LentTables : Type 0 → Type 0
-LentTables A = Walk Unopened (LendingRange A)
-
--- the same without what is lent
-abbrev pub walk_of_tables : {A : Type 0} → LentTables A → Walk Unopened (Range A)
-walk_of_tables w = record {
-  parts = w.parts;
-  front = range_of_reader w.front;
-  back = range_of_reader w.back;
-}
-
--- the entry that is lent: only the table at the front lends
-abbrev pub lent_of_tables : {A : Type 0} → LentTables A → Option Entry
-lent_of_tables w = lent_of_reader w.front
 
 -- one load at the front: of the parts s, with p left
 abbrev pub LoadsFront : {A : Type 0} → Unopened → Option (Result (Range A) Error) → Unopened
@@ -69,48 +45,32 @@ LoadsFront s r p = LoadGives range_remains coming_tables KeepsTables Front s r p
 
 -- the table that comes next was opened and is at the front now, or it could not be, or none is to
 -- come
-abbrev pub OpensNext : {A : Type 0} → LentTables A → Option (Result (Unit {0}) Error) → LentTables A
-    → Type 0
+abbrev pub OpensNext : {A : Type 0} → Walk Unopened (Range A)
+    → Option (Result (Unit {0}) Error) → Walk Unopened (Range A) → Type 0
 OpensNext {A = A} s None t =
     LoadsFront {A = A} s.parts None t.parts × (t ≡ record s { parts = t.parts })
 OpensNext {A = A} s (Some (Err e)) t =
     LoadsFront {A = A} s.parts (Some (Err e)) t.parts × (t ≡ record s { parts = t.parts })
 OpensNext {A = A} s (Some (Ok u)) t =
     (reader : Range A) × LoadsFront s.parts (Some (Ok reader)) t.parts
-    × (t ≡ record s { parts = t.parts; front = Some (unlent_range reader) })
+    × (t ≡ record s { parts = t.parts; front = Some reader })
 
 -- ---- the run
 
--- what a reader of a run still deals, and the entry that is lent
-pub record LendingRun (A : Type 0) : Type 0 where
-  pub run : RunRange A
-  pub lent : Option Entry
-
-abbrev pub lending_run : {A : Type 0} → LentTables A → LendingRun A
-lending_run w = record { run = run_of (walk_of_tables w); lent = lent_of_tables w }
-
--- before an entry was asked for
-abbrev pub unlent_run : {A : Type 0} → RunRange A → LendingRun A
-unlent_run s = record { run = s; lent = None }
-
 -- nothing is lent, and nothing more comes
-abbrev pub over_run : {A : Type 0} → LendingRun A → LendingRun A
-over_run s = unlent_run (record {
-  unopened = none_unopened s.run.unopened;
-  front = None;
-  back = None;
-})
+abbrev pub over_run : {A : Type 0} → RunRange A → RunRange A
+over_run s = record { unopened = none_unopened s.unopened; front = None; back = None }
 
 -- one step: as one call at the front of the run; and what stands next in a loaded block of the
 -- table that is opened at the front comes, whatever memory there is
-pub record RunLends {A : Type 0} (s : LendingRun A) (r : Option (Result Entry Error))
-    (t : LendingRun A) : Type 0 where
-  pub gives : RunGives front_of front_tables s.run r t.run
-  pub there : (x : Result Entry Error) → Stands s.run.front x → r ≡ Some x
+pub record RunLends {A : Type 0} (s : RunRange A) (r : Option (Result Entry Error))
+    (t : RunRange A) : Type 0 where
+  pub gives : RunGives front_of front_tables s r t
+  pub there : (x : Result Entry Error) → Stands s.front x → r ≡ Some x
 
 -- wherever it goes on no more tables were opened than so many
-abbrev pub LendsOfAtMost : {A : Type 0} (advances : LendingRun A → Option (Result Entry Error)
-    → LendingRun A → Type 0) → ℕ → LendingRun A → Type 0
+abbrev pub LendsOfAtMost : {A : Type 0} (advances : RunRange A → Option (Result Entry Error)
+    → RunRange A → Type 0) → ℕ → RunRange A → Type 0
 LendsOfAtMost {A} advances most s =
-    (ends : List Direction) (rs : List (Option (Result Entry Error))) (t : LendingRun A) →
-    Runs advances nowhere s ends rs t → t.run.unopened.opened ≤ most
+    (ends : List Direction) (rs : List (Option (Result Entry Error))) (t : RunRange A) →
+    Runs advances nowhere s ends rs t → t.unopened.opened ≤ most

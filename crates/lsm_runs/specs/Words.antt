@@ -23,7 +23,7 @@ pub use Rattle.lsm_lending.specs.LentNewest.{newest_results}
 pub use Rattle.lsm_sorted.specs.NewestLaws.{AnswersNewest, CanAskNewest, DealsNewest, IsNewestOf}
 pub use Rattle.lsm_run_parts.specs.RunParts.{ends_given, range_of, span_of}
 pub use Rattle.lsm_runs.specs.RunRange.{IsRunOf, OpensAtMost, RunGives, back_tables, front_tables}
-pub use Rattle.lsm_runs.specs.RunRange.{run_left, run_size, tables_at}
+pub use Rattle.lsm_runs.specs.RunRange.{run_left, run_of, run_size, tables_at}
 pub use Rattle.lsm_runs.specs.RunLists.{DealTogether, DealWithin, DealsList, HoldLists}
 pub use Rattle.lsm_runs.specs.RunLists.{RunsHoldLists, single, span_list}
 pub use Rattle.lsm_runs.specs.RunScan.{BeginsNext, BeginsScan, IsScanOf, RunScansNext, ScansItem}
@@ -35,11 +35,8 @@ pub use Rattle.lsm_runs.specs.SpansRead.{spans_within, with_readers}
 pub use Rattle.lsm_runs.specs.SeveralRuns.{LoadsEach, is_older, loads_together}
 pub use Rattle.lsm_runs.specs.SeveralRuns.{run_read, run_read_behind, runs_read, runs_read_by_age}
 pub use Rattle.lsm_runs.specs.SeveralRuns.{runs_told, union_in, worth_asking}
-pub use Rattle.lsm_runs.specs.LentRun.{LendingRun, LendsOfAtMost, ReaderLends, RunLends}
-pub use Rattle.lsm_runs.specs.LentRun.{Stands, lending_run}
-pub use Rattle.lsm_runs.specs.LentRun.{OpensNext, lent_of_reader, lent_of_tables, over_run}
-pub use Rattle.lsm_runs.specs.LentRun.{range_of_reader}
-pub use Rattle.lsm_runs.specs.LentRun.{unlent_run, walk_of_tables}
+pub use Rattle.lsm_runs.specs.LentRun.{LendsOfAtMost, OpensNext, ReaderLends, RunLends, Stands}
+pub use Rattle.lsm_runs.specs.LentRun.{lent_of_reader, over_run}
 pub use Rattle.lsm_sorted.specs.LentBelow.{LendsBelow, MayLendBelow, lent_below, lent_passes}
 pub use Rattle.lsm_sorted.specs.LentBelow.{only_below}
 pub use Rattle.lsm_runs.specs.LentNewestRuns.{LendsNewest, LendsResults, runs_told_within}

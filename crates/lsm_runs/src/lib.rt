@@ -8,7 +8,6 @@ mod run_scanner;
 mod runs;
 mod sources;
 
-pub use lending_reader::LendingRunReader;
 pub use lent_runs::{LentNewestOf, LentNewestOfRunsAt, lend_runs_at};
 pub use lsm_run_parts::share;
 pub use run_reader::RunReader;

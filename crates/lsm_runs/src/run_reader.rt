@@ -5,32 +5,32 @@ ghost use Rattle.std.specs.Arc.{arc_value};
 ghost use Rattle.std.specs.Iterator.{at_most};
 ghost use Rattle.lsm_runs.specs.Words.{ArePlacesOf, DealsEnding, DealsList, Entry, HoldLists};
 ghost use Rattle.lsm_runs.specs.Words.{IsInOrder, IsRunOf, LendsOfAtMost, OpensAtMost, RunGives};
-ghost use Rattle.lsm_runs.specs.Words.{back_of, back_tables, ends_given, front_of};
-ghost use Rattle.lsm_runs.specs.Words.{front_tables, joined};
+ghost use Rattle.lsm_runs.specs.Words.{RunLends, back_of, back_tables, ends_given, front_of};
+ghost use Rattle.lsm_runs.specs.Words.{front_tables, joined, lent_of_reader, nowhere};
 ghost use Rattle.lsm_runs.specs.Words.{overlap_indexes, run_left, run_size, span_list, span_of};
-ghost use Rattle.lsm_runs.specs.Words.{nowhere, tables_at, taken_at, unlent_run, within};
+ghost use Rattle.lsm_runs.specs.Words.{tables_at, taken_at, within};
 
-use crate::LendingRunReader;
-use lsm_iters::Iter;
+use crate::lending_reader::{RunWalk, end, entry_in, step};
 use lsm_ranges::{Ranged, Run};
 use lsm_readers::Table;
 use lsm_run_parts::{Unopened, ends_in, places_within};
 use lsm_walks::{Ends, Walk};
-use sst_blocks::{Error, IterItem, Lending, UserKey};
+use sst_blocks::{EntryRef, Error, IterItem, Lending, UserKey};
 use sst_entries::Direction;
 use std::alloc::{Allocator, Global};
 use std::marker::Model;
 use std::ops::Bound;
 use std::sync::Arc;
 
-/// The entries of the tables of a run, one table behind another, dealt from both ends. It shares
-/// the run.
+/// The entries of the tables of a run, one table behind another, from both ends. It shares the run.
+/// As an iterator it gives entries that share the tables' bytes; as a [`Lending`] it lends them from
+/// where they lie, from the front.
 ///
 /// A table is opened by the first step that needs it, once, also where both ends meet in it. After
 /// an error, [`Error::OutOfMemory`] among them, nothing more comes, from either end.
 #[derive(Drop)]
 pub struct RunReader<A: Allocator = Global> {
-    walk: Walk<Unopened<A>, Iter<A>>,
+    walk: RunWalk<A>,
 }
 
 impl<A: Allocator> Model for RunReader<A> {
@@ -85,6 +85,28 @@ impl<A: Allocator + Clone> RunReader<A> {
             let back_gives = ⟦<RunReader<A> as DoubleEndedIterator>⟧.next_back_gives in
             let tables = arc_value run in
             IfOk result (λ r. IfSome r (OpensAtMost gives back_gives (length tables))) }
+        // Want of memory aside it lends what it gives from the front, up to the first error, and
+        // then nothing;
+        ensures lends { let advances = ⟦<RunReader<A> as Lending>⟧.advances in
+            let may = ⟦<RunReader<A> as Lending>⟧.can_advance in
+            IfOk result (λ r. IfSome r (λ reader.
+            DealsEnding advances nowhere may may reader (run_left reader))) }
+        // on tables of lists in a run in order just the entries within the bounds,
+        ensures lends_list { let advances = ⟦<RunReader<A> as Lending>⟧.advances in
+            let tables = arc_value run in IsInOrder ⟦<Table<A> as Ranged>⟧.range tables →
+            (lists : List (List Entry)) → HoldLists tables lists →
+            let found = within range.0 range.1 (joined lists) in
+            IfOk result (λ r. MatchOption r (found ≡ [])
+            (λ reader. DealsList advances nowhere found reader)) }
+        // and it opens no more tables for them.
+        ensures lends_few { let advances = ⟦<RunReader<A> as Lending>⟧.advances in
+            let range_of = ⟦<Table<A> as Ranged>⟧.range in
+            let tables = arc_value run in IsInOrder range_of tables → (ends : ℕ × ℕ) →
+            overlap_indexes range.0 range.1 (map range_of tables) ≡ Some ends → IfOk result (λ r.
+            IfSome r (LendsOfAtMost advances (ends.1 + 1 - ends.0))) }
+        ensures lends_most { let advances = ⟦<RunReader<A> as Lending>⟧.advances in
+            let tables = arc_value run in
+            IfOk result (λ r. IfSome r (LendsOfAtMost advances (length tables))) }
         ensures ok { IsOk result }
     {
         match places_within(&run, &range) {
@@ -118,11 +140,22 @@ impl<A: Allocator + Clone> RunReader<A> {
             let tables = arc_value run in let ends = ends_given tables span in
             (lists : List (List Entry)) → HoldLists tables lists → IfOk result
             (DealsList gives back_gives (span_list (span_of ends range.0 range.1) lists)) }
+        // It lends the same from the front.
+        ensures lends { let advances = ⟦<RunReader<A> as Lending>⟧.advances in
+            let may = ⟦<RunReader<A> as Lending>⟧.can_advance in
+            IfOk result (λ reader. DealsEnding advances nowhere may may reader (run_left reader)) }
+        ensures lends_list { let advances = ⟦<RunReader<A> as Lending>⟧.advances in
+            let tables = arc_value run in let ends = ends_given tables span in
+            (lists : List (List Entry)) → HoldLists tables lists → IfOk result
+            (DealsList advances nowhere (span_list (span_of ends range.0 range.1) lists)) }
         // No more tables are opened than the span has.
         ensures few { let gives = ⟦<RunReader<A> as Iterator>⟧.next_gives in
             let back_gives = ⟦<RunReader<A> as DoubleEndedIterator>⟧.next_back_gives in
             let ends = ends_given (arc_value run) span in
             IfOk result (λ reader. OpensAtMost gives back_gives (ends.1 + 1 - ends.0) reader) }
+        ensures lends_few { let advances = ⟦<RunReader<A> as Lending>⟧.advances in
+            let ends = ends_given (arc_value run) span in
+            IfOk result (LendsOfAtMost advances (ends.1 + 1 - ends.0)) }
         ensures ok { IsOk result }
     {
         let ends = ends_in(run.as_slice(), span);
@@ -141,30 +174,6 @@ impl<A: Allocator + Clone> RunReader<A> {
         RunReader {
             walk: Walk::new(Unopened::new(run, range, ends)),
         }
-    }
-
-    /// What is left, lent from the blocks where it lies, front to back.
-    pub fn lend(self) -> LendingRunReader<A>
-        ensures is { result ≡ unlent_run self }
-        // Want of memory aside it lends what the reader would give, up to the first error, and then
-        // nothing; it may be asked however often.
-        ensures deals { let advances = ⟦<LendingRunReader<A> as Lending>⟧.advances in
-            let may = ⟦<LendingRunReader<A> as Lending>⟧.can_advance in
-            DealsEnding advances nowhere may may result (run_left self) }
-        // A list that it deals is lent.
-        ensures list { let gives = ⟦<RunReader<A> as Iterator>⟧.next_gives in
-            let back_gives = ⟦<RunReader<A> as DoubleEndedIterator>⟧.next_back_gives in
-            let advances = ⟦<LendingRunReader<A> as Lending>⟧.advances in
-            (es : List Entry) → DealsList gives back_gives es self →
-            DealsList advances nowhere es result }
-        // No more tables are opened than the reader would open.
-        ensures few { let gives = ⟦<RunReader<A> as Iterator>⟧.next_gives in
-            let back_gives = ⟦<RunReader<A> as DoubleEndedIterator>⟧.next_back_gives in
-            let advances = ⟦<LendingRunReader<A> as Lending>⟧.advances in
-            (most : ℕ) → OpensAtMost gives back_gives most self →
-            LendsOfAtMost advances most result }
-    {
-        LendingRunReader::of_walk(self.walk)
     }
 
     /// How many tables were opened. An opening that is refused is not counted.
@@ -204,5 +213,31 @@ impl<A: Allocator + Clone> DoubleEndedIterator for RunReader<A> {
 
     fn next_back(&mut self) -> Option<IterItem<A>> {
         self.answer(Direction::Back)
+    }
+}
+
+impl<A: Allocator + Clone> Lending for RunReader<A> {
+    ghost can_advance = { λ _. Unit {0} };
+
+    ghost advances = { RunLends };
+
+    ghost lent = { λ s. lent_of_reader s.front };
+
+    ghost left = { run_size };
+
+    #[inline]
+    fn advance(&mut self) -> Result<bool, Error> {
+        match step(&mut self.walk) {
+            Ok(more) => Ok(more),
+            Err(error) => {
+                end(&mut self.walk);
+                Err(error)
+            }
+        }
+    }
+
+    #[inline(always)]
+    fn entry(&self) -> Option<EntryRef<'_>> {
+        entry_in(&self.walk.front)
     }
 }

@@ -1,7 +1,7 @@
 //! Readers that lend beside those that give by value: the same entries and errors in the same
 //! places, and as many loads. What walks them is generic in them, so that none of their parts is
 //! looked at.
-use logpurple::{Iter, LendingIter, RunScanner, Scanner};
+use logpurple::{Iter, RunReader, RunScanner, Scanner};
 use sst_blocks::{EntryRef, Error, IterItem, Lending, Opened};
 use std::alloc::Global;
 
@@ -21,6 +21,16 @@ impl Gives for Iter<Global> {
 
     fn given_by(&self) -> Opened {
         self.opened()
+    }
+}
+
+impl Gives for RunReader<Global> {
+    fn gives(&mut self) -> Option<IterItem<Global>> {
+        self.next()
+    }
+
+    fn given_by(&self) -> Opened {
+        Opened::none()
     }
 }
 
@@ -67,7 +77,7 @@ fn is_same(
     }
 }
 
-impl Lends for LendingIter<Global> {
+impl Lends for Iter<Global> {
     fn lends(&mut self, given: &Option<IterItem<Global>>) -> bool {
         let more = self.advance();
         is_same(more, self.entry(), given)
@@ -75,6 +85,17 @@ impl Lends for LendingIter<Global> {
 
     fn lent_by(&self) -> Opened {
         self.opened()
+    }
+}
+
+impl Lends for RunReader<Global> {
+    fn lends(&mut self, given: &Option<IterItem<Global>>) -> bool {
+        let more = self.advance();
+        is_same(more, self.entry(), given)
+    }
+
+    fn lent_by(&self) -> Opened {
+        Opened::none()
     }
 }
 

@@ -74,7 +74,7 @@ fn range_once(
 ) -> Result<(), Error> {
     let items = table.range(Bound::Included(from), Bound::Unbounded)?;
     if lent {
-        drain_front(items.lend(), count, digest)
+        drain_front(items, count, digest)
     } else {
         take_front(items, count, digest)
     }

@@ -2,21 +2,17 @@
 //! errors in the same places, and as many loads, also over damaged bytes.
 use crate::tables::walks::{blocks_in, range_in};
 use crate::tables::{Changed, KINDS, Of, Pins, changed_bytes};
-use logpurple::{Iter, LendingIter};
-use sst_blocks::Error;
+use logpurple::Iter;
+use sst_blocks::{Error, Lending};
 use std::alloc::Global;
 use std::ops::Bound;
 use test_tables::lending::{Walk, walk_both};
 use test_tables::runs::{ALL, Bounds};
 
-fn lent(range: Result<Iter, Error>) -> Result<LendingIter, Error> {
-    Ok(range?.lend())
-}
-
 // Whether a range lends what it gives; an error where it is refused to be made.
 fn lends(alloc: Global, changed: &Changed<'_>, bounds: Bounds<'_>) -> Result<bool, Error> {
     let giving = range_in(alloc, changed, bounds);
-    let lending = lent(range_in(alloc, changed, bounds));
+    let lending = range_in(alloc, changed, bounds);
     Ok(walk_both(giving, lending)?.is_some())
 }
 
@@ -54,7 +50,7 @@ fn walk_changed(
     let changes: [(usize, &[u8]); 1] = [(at, &byte)];
     let damaged = (changed.0, changes.as_slice(), changed.2, 0);
     let giving = range_in(alloc, &damaged, ALL);
-    walk_both(giving, lent(range_in(alloc, &damaged, ALL)))
+    walk_both(giving, range_in(alloc, &damaged, ALL))
 }
 
 // How many tables are not opened, how many ranges end with an error, and the sum of the numbers of
@@ -127,4 +123,59 @@ fn a_scan_lends_what_it_gives(rt: HostRuntime) {
         let lending = blocks_in(rt.alloc(), changed, *count);
         assert!(rt; walk_both(giving, lending) == Ok(Some(*walk)));
     }
+}
+
+// ---- one range, lent and given by turns
+
+// Takes a range from the front by turns of a loan and a gift, and each third time one from the
+// back: how many came from either end, or `None` where an entry is not the next one of another
+// range's, or is lent on after a step at the back.
+fn by_turns(mut mixed: Iter, mut plain: Iter) -> Result<Option<(usize, usize)>, Error> {
+    let mut taken = (0usize, 0usize);
+    loop {
+        if !mixed.advance()? {
+            break;
+        }
+        let expected = plain.next();
+        let Some(Ok(expected)) = expected else {
+            return Ok(None);
+        };
+        if mixed.entry() != Some(expected.as_entry_ref()) {
+            return Ok(None);
+        }
+        taken.0 = taken.0.saturating_add(1);
+        match (mixed.next_back(), plain.next_back()) {
+            (None, None) => break,
+            (Some(Ok(found)), Some(Ok(last))) => {
+                if found != last || mixed.entry().is_some() {
+                    return Ok(None);
+                }
+                taken.1 = taken.1.saturating_add(1);
+            }
+            _ => return Ok(None),
+        }
+        match (mixed.next(), plain.next()) {
+            (None, None) => break,
+            (Some(Ok(found)), Some(Ok(first))) => {
+                if found != first {
+                    return Ok(None);
+                }
+                taken.0 = taken.0.saturating_add(1);
+            }
+            _ => return Ok(None),
+        }
+    }
+    Ok(Some(taken))
+}
+
+#[test]
+fn a_range_lends_and_gives_by_turns(rt: HostRuntime) {
+    let kinds: Changed<'_> = (Of::Kinds, &[], PINS, 0);
+    let mixed = range_in(rt.alloc(), &kinds, ALL);
+    let plain = range_in(rt.alloc(), &kinds, ALL);
+    let (Ok(mixed), Ok(plain)) = (mixed, plain) else {
+        assert!(rt; false);
+        return;
+    };
+    assert!(rt; by_turns(mixed, plain) == Ok(Some((5, 2))));
 }

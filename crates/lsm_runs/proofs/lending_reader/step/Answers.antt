@@ -1,9 +1,8 @@
-use Rattle.std.proofs.Common.{◌∙◌, refl, sym}
+use Rattle.std.proofs.Common.{◌∙◌, sym}
 use Rattle.std.specs.Prelude.{Some, Ok, Err}
 use Rattle.std.proofs.lemmas.Result.{err_from_is_err_and}
 use Rattle.sst_entries.specs.declared.stream.Direction.TheVariants.{Front}
 use Rattle.lsm_walks.proofs.Reaching.{smaller}
-use Rattle.lsm_iters.specs.Lending.{unlent_range}
 use Rattle.lsm_iters.specs.Range.{range_remains}
 use Rattle.lsm_runs.specs.LentRun.{OpensNext}
 use Rattle.lsm_run_parts.specs.Tables.{KeepsTables, coming_tables}
@@ -41,7 +40,7 @@ loop-walk-preserved g c =
     let step = c.in_ok-advance_in.ensures in
     let none = none_there _ (sym step.more ∙ c.if-branch.false) in
     let opens : OpensNext (record c.loop-walk.walk { front = c.advance_in.new.part }) (Some (Ok tt)) c.open_next.new.walk = rw c.in-Some-Ok.field-0-is at c.in-Some-Ok.ensures in
-    rw opens.2 (comes_on c.args.walk.now c.loop-walk.walk c.advance_in.new.part c.loop-walk.invariant none step.lends c.open_next.new.walk.parts opens.0 (unlent_range opens.0) opens.1 refl)
+    rw opens.2 (comes_on c.args.walk.now c.loop-walk.walk c.advance_in.new.part c.loop-walk.invariant none step.lends c.open_next.new.walk.parts opens.0 opens.1)
 
 pub loop-walk-smaller : goal.loop-walk-smaller
 loop-walk-smaller g c =

@@ -17,8 +17,8 @@ returns-clause-list g c lists held =
     let low = c.args.range.0 in
     let high = c.args.range.1 in
     if_ok c.lent_stream.result
-    (λ s law. newest_below c.args.seqno RunLends (λ _. Unit {0}) (λ u. run_size u.run) _ s c.in_ok-lenders.lenders.items _ _ c.in_ok-below.below.items
-    c.in_ok-below.ensures.of (union_cut {S = ℕ} (λ _ _ _. ℕ) (λ _ _ _. ℕ) low high lists) (c.in_ok-lenders.ensures.list lists held) law)
+    (λ s law. newest_below c.args.seqno RunLends (λ _. Unit {0}) run_size _ s c.in_ok-readers.readers.items _ _ c.in_ok-below.below.items
+    c.in_ok-below.ensures.of (union_cut {S = ℕ} (λ _ _ _. ℕ) (λ _ _ _. ℕ) low high lists) (c.in_ok-readers.ensures.lends lists held) law)
     c.lent_stream.ensures.deals
 
 pub returns-clause-whole : goal.returns-clause-whole
@@ -29,7 +29,7 @@ returns-clause-whole g c lists held all =
 
 pub returns-clause-can : goal.returns-clause-can
 returns-clause-can g c =
-    c.lent_stream.ensures.can (all_of _ (λ b. can_lend_below RunLends (λ _. Unit {0}) (λ u. run_size u.run) b (lending_deals b.iter).can) c.in_ok-below.below.items)
+    c.lent_stream.ensures.can (all_of _ (λ b. can_lend_below RunLends (λ _. Unit {0}) run_size b (lending_deals b.iter).can) c.in_ok-below.below.items)
 
 pub returns-clause-advance : goal.returns-clause-advance
 returns-clause-advance g c = if_ok c.lent_stream.result (λ s can. can_now _ _ _ _ s can) (returns-clause-can g c)
@@ -37,5 +37,5 @@ returns-clause-advance g c = if_ok c.lent_stream.result (λ s can. can_now _ _ _
 pub returns-clause-places : goal.returns-clause-places
 returns-clause-places g c order up =
     if_ok c.lent_stream.result
-    (λ s law. newest_places c.args.seqno _ s c.args.range.0 c.args.range.1 (map arc_value c.args.runs.now) c.in_ok-lenders.lenders.items c.in_ok-below.below.items c.in_ok-below.ensures.of (c.in_ok-lenders.ensures.spans order) up law)
+    (λ s law. newest_places c.args.seqno _ s c.args.range.0 c.args.range.1 (map arc_value c.args.runs.now) c.in_ok-readers.readers.items c.in_ok-below.below.items c.in_ok-below.ensures.of (c.in_ok-readers.ensures.spans order) up law)
     c.lent_stream.ensures.deals

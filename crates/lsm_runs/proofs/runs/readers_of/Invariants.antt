@@ -2,7 +2,8 @@ use Rattle.std.proofs.Common.{List}
 use Rattle.std.specs.Prelude.{map}
 use Rattle.std.specs.Arc.{arc_value}
 use Rattle.sst_entries.specs.Entry.{Entry}
-use Rattle.sst_entries.specs.Stream.{back_of, front_of}
+use Rattle.sst_entries.specs.Stream.{back_of, front_of, nowhere}
+use Rattle.lsm_runs.specs.LentRun.{RunLends}
 use Rattle.lsm_runs.specs.RunLists.{RunsHoldLists}
 use Rattle.lsm_runs.specs.RunRange.{RunGives, back_tables, front_tables}
 use Rattle.lsm_runs.proofs.Spanned.{SpannedSoFar}
@@ -15,5 +16,9 @@ invariant-loop-run g l = record {
       (lists : List (List (List Entry))) (held : RunsHoldLists (map arc_value l.runs) lists) →
       ReadSoFar (RunGives front_of front_tables) (RunGives back_of back_tables) arc_value l.range.0
       l.range.1 l.runs l.run-index lists held l.readers.items l.run-index;
+  lends :
+      (lists : List (List (List Entry))) (held : RunsHoldLists (map arc_value l.runs) lists) →
+      ReadSoFar RunLends nowhere arc_value l.range.0 l.range.1 l.runs l.run-index lists held
+      l.readers.items l.run-index;
   spans : SpannedSoFar arc_value l.range.0 l.range.1 l.runs l.readers.items l.run-index;
 }

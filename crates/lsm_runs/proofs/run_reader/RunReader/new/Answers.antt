@@ -1,4 +1,8 @@
 use Rattle.std.proofs.Common.{sym}
+use Rattle.sst_entries.specs.Stream.{back_of}
+use Rattle.lsm_runs.specs.RunRange.{RunGives, back_tables}
+use Rattle.lsm_runs.proofs.LentRunLaws.{lending_deals}
+use Rattle.lsm_runs.proofs.LentTogether.{lends_few, lends_list}
 use Rattle.lsm_runs.proofs.RunLaws.{run_deals}
 use Rattle.lsm_runs.proofs.RunLists.{few_all, few_found, new_deals}
 use Rattle.lsm_runs.proofs.RunWithin.{none_deals}
@@ -29,3 +33,20 @@ returns-in-Some-clause-few g c order ends same =
 
 pub returns-in-Some-clause-most : goal.returns-in-Some-clause-most
 returns-in-Some-clause-most g c = few_all c.args.range.0 c.args.range.1 _ c.in-Some.ends c.of_span.result c.of_span.ensures (rw c.deref.ensures at c.in-Some.ensures.within)
+
+pub returns-in-Some-clause-lends : goal.returns-in-Some-clause-lends
+returns-in-Some-clause-lends g c = lending_deals _
+
+pub returns-in-Some-clause-lends_list : goal.returns-in-Some-clause-lends_list
+returns-in-Some-clause-lends_list g c order lists held =
+    lends_list (RunGives back_of back_tables) _ _ (returns-in-Some-clause-list g c order lists held)
+
+pub returns-in-None-clause-lends_list : goal.returns-in-None-clause-lends_list
+returns-in-None-clause-lends_list g c order lists held = returns-in-None-clause-list g c order lists held
+
+pub returns-in-Some-clause-lends_few : goal.returns-in-Some-clause-lends_few
+returns-in-Some-clause-lends_few g c order ends same =
+    lends_few (RunGives back_of back_tables) _ _ (returns-in-Some-clause-few g c order ends same)
+
+pub returns-in-Some-clause-lends_most : goal.returns-in-Some-clause-lends_most
+returns-in-Some-clause-lends_most g c = lends_few (RunGives back_of back_tables) _ _ (returns-in-Some-clause-most g c)

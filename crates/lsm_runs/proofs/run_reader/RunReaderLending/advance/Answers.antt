@@ -1,5 +1,5 @@
 use Rattle.lsm_runs.proofs.LentRuns.{lends_error, lends_run}
-use Rattle.lsm_runs.proofs.lending_reader.LendingRunReaderLending.advance.Goals as goal
+use Rattle.lsm_runs.proofs.run_reader.RunReaderLending.advance.Goals as goal
 
 pub returns-in-Ok-clause-goes : goal.returns-in-Ok-clause-goes
 returns-in-Ok-clause-goes g c = rw (← c.self.view_is) (lends_run c.self.inside.walk c.step.new.walk _ (record { takes = c.in-Ok.ensures.takes; there = c.in-Ok.ensures.there }))
