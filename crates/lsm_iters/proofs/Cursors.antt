@@ -1,6 +1,6 @@
 -- A loaded block as a part of a walk.
-use Rattle.std.proofs.Common.{◌≡◌, ◌∙◌, ℕ, ◌+◌, true, false, List, [], ◌∷◌, refl, sym, ap, arith}
-use Rattle.std.specs.Prelude.{Option, Some, None, Result, Ok, Err, is_some}
+use Rattle.std.proofs.Common.{◌≡◌, ◌∙◌, ℕ, ◌+◌, true, false, List, [], ◌∷◌, refl, sym, ap, subst, arith}
+use Rattle.std.specs.Prelude.{Option, Some, None, Result, Ok, Err, IfErr, IfOk, is_some}
 use Rattle.std.specs.Option.{option_map}
 use Rattle.sst_blocks.specs.Cursor.{Cursor}
 use Rattle.sst_entries.specs.declared.error.Error.{Error}
@@ -10,7 +10,7 @@ use Rattle.sst_entries.specs.declared.stream.Direction.TheVariants.{Front}
 use Rattle.sst_entries.specs.Entry.{Entry}
 use Rattle.sst_entries.specs.Stream.{but_first, front_of, ok_results}
 use Rattle.lsm_walks.specs.Ends.{StepAnswers, StepGives, remains_in, taken_at}
-use Rattle.lsm_walks.specs.Parts.{early_behind, none_behind}
+use Rattle.lsm_walks.specs.Parts.{early_behind, none_behind, own_of}
 use Rattle.lsm_walks.proofs.AtEnds.{behind_map, early_map, map_none, map_taken, none_at}
 use Rattle.lsm_walks.proofs.AtEnds.{none_taken}
 use Rattle.lsm_walks.proofs.AtEnds.{not_memory, nothing_behind}
@@ -73,7 +73,20 @@ cursor_refused at c d e is some memory = record {
         none_at at c.behind l.0 none
         (sym (ap (λ (x : Option Entry × List Entry). x.0) is) ∙ l.1)
 
+-- it was lent, and shared where there was memory
+pub cursor_shared : (at : Direction) (c d : Cursor) (r : R) → Taken at c d.lent d.behind
+    → is_some d.lent ≡ true → IfOk r (λ e. d.lent ≡ Some e) → IfErr r (λ e. e ≡ OutOfMemory)
+    → StepGives at (cursor_remains c) (Some r) (cursor_remains d)
+cursor_shared at c d (Ok e) is some found err =
+    subst (λ (l : Option Entry). StepGives at (cursor_remains c) (given l) (cursor_remains d)) found
+    (cursor_step at c d d.lent is)
+cursor_shared at c d (Err e) is some found err = cursor_refused at c d e is some err
+
 -- ---- where a block is loaded
+
+pub none_own : (r : Result Cursor Error) → own_of cursor_remains (Some r) ≡ 0
+none_own (Ok c) = refl
+none_own (Err e) = refl
 
 pub no_part_loads : (o : Option Cursor) → (remains_in cursor_remains o).loads ≡ 0
 no_part_loads None = refl

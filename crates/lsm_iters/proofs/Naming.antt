@@ -5,19 +5,21 @@ use Rattle.sst_entries.specs.declared.error.Error.{Error}
 use Rattle.sst_entries.specs.declared.stream.Direction.{Direction}
 use Rattle.sst_entries.specs.Entry.{Entry}
 use Rattle.sst_entries.specs.Error.{FaultsFirst, is_memory}
-use Rattle.sst_entries.specs.Span.{Span, rest_in}
 use Rattle.sst_entries.specs.Stream.{ok_results}
 use Rattle.sst_blocks.specs.declared.block_type.BlockType.TheVariants.{Data}
 use Rattle.sst_blocks.specs.Block.{place_fault}
+use Rattle.sst_blocks.specs.Cursor.{Cursor}
 use Rattle.sst_blocks.specs.Handle.{Handle}
 use Rattle.lsm_block_indexes.specs.Left.{Left, LeftGives}
-use Rattle.lsm_walks.specs.Ends.{span_remains, taken_at}
+use Rattle.lsm_walks.specs.Ends.{taken_at}
 use Rattle.lsm_walks.specs.Parts.{Coming, LoadGives, Loading, Names, Tells}
-use Rattle.lsm_walks.proofs.Instances.{none_own, refused_first}
+use Rattle.lsm_walks.proofs.Instances.{refused_first}
 use Rattle.lsm_walks.proofs.AtEnds.{map_first, map_none, map_taken}
 use Rattle.lsm_iters.specs.Blocks.{Blocks, KeepsBlocks, block_named, coming_blocks, stored_rows}
+use Rattle.lsm_iters.specs.Lending.{cursor_remains}
 use Rattle.lsm_iters.specs.Range.{data_loaded, left_in}
 use Rattle.lsm_iters.specs.Rows.{Bounded}
+use Rattle.lsm_iters.proofs.Cursors.{none_own}
 use Rattle.lsm_iters.proofs.Ranges.{H}
 
 abbrev named_in : Bounded → Option H → Option (Result (Loading Entry) Error)
@@ -46,10 +48,10 @@ names_by at b s t (Some (Err e)) step = (
   record { parts = ap (map (block_named b)) step.ends.results; loads = step.ends.loads },
 )
 
-tells_block : (b : Bounded) (h : Handle) (r : Result (Span Entry) Error)
-    → IfOk r (λ es. ok_results (rest_in es) ≡ stored_rows b h)
+tells_block : (b : Bounded) (h : Handle) (r : Result Cursor Error)
+    → IfOk r (λ c. ok_results c.behind ≡ stored_rows b h)
     → IfErr r (λ e. is_memory e ≡ false → Err e ∷ [] ≡ stored_rows b h)
-    → Tells span_remains (Some (block_named b (Ok h))) (Some r)
+    → Tells cursor_remains (Some (block_named b (Ok h))) (Some r)
 tells_block b h (Ok es) ok err = ok
 tells_block b h (Err e) ok err = err
 
@@ -65,19 +67,19 @@ module _ {A : Type 0} (at : Direction) (s m : Blocks A) (is : m ≡ record s { h
       (coming_in b (left_in m.handles))) (sym same_of)
       (names_by at s.of (left_in s.handles) (left_in m.handles) x step)
 
-  pub block_taken : (t : Blocks A) (h : Handle) (r : Result (Span Entry) Error)
+  pub block_taken : (t : Blocks A) (h : Handle) (r : Result Cursor Error)
       → LeftGives (taken_at at) (left_in s.handles) (Some (Ok h)) (left_in m.handles)
-      → IfOk r (λ es. ok_results (rest_in es) ≡ stored_rows m.of h)
+      → IfOk r (λ c. ok_results c.behind ≡ stored_rows m.of h)
       → IfErr r (λ e. is_memory e ≡ false → Err e ∷ [] ≡ stored_rows m.of h)
       → FaultsFirst r (place_fault m.of.body h.offset h.size Data)
       → t ≡ record m { opened = data_loaded 1 m.opened }
-      → LoadGives span_remains coming_blocks KeepsBlocks at s (Some r) t
+      → LoadGives cursor_remains coming_blocks KeepsBlocks at s (Some r) t
   block_taken t h r step ok err first last =
-      subst (λ (x : Blocks A). LoadGives span_remains coming_blocks KeepsBlocks at s (Some r) x)
+      subst (λ (x : Blocks A). LoadGives cursor_remains coming_blocks KeepsBlocks at s (Some r) x)
       (sym last) (record {
         named = named_in s.of (Some (Ok h));
         names = names (Some (Ok h)) step;
-        told = subst (λ (b : Bounded). Tells span_remains (Some (block_named b (Ok h))) (Some r))
+        told = subst (λ (b : Bounded). Tells cursor_remains (Some (block_named b (Ok h))) (Some r))
             same_of (tells_block m.of h r ok err);
         loads = omega (arith, none_own r, step.loads.within);
         first = λ f early. refused_first r f (first f
@@ -93,7 +95,7 @@ module _ {A : Type 0} (at : Direction) (s m : Blocks A) (is : m ≡ record s { h
       })
 
   pub index_failed : (e : Error) → LeftGives (taken_at at) (left_in s.handles) (Some (Err e))
-      (left_in m.handles) → LoadGives span_remains coming_blocks KeepsBlocks at s (Some (Err e)) m
+      (left_in m.handles) → LoadGives cursor_remains coming_blocks KeepsBlocks at s (Some (Err e)) m
   index_failed e step = record {
     named = named_in s.of (Some (Err e));
     names = names (Some (Err e)) step;
@@ -111,7 +113,7 @@ module _ {A : Type 0} (at : Direction) (s m : Blocks A) (is : m ≡ record s { h
   }
 
   pub none_named : LeftGives (taken_at at) (left_in s.handles) None (left_in m.handles)
-      → LoadGives span_remains coming_blocks KeepsBlocks at s None m
+      → LoadGives cursor_remains coming_blocks KeepsBlocks at s None m
   none_named step = record {
     named = None;
     names = names None step;

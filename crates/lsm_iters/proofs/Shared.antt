@@ -1,5 +1,5 @@
 -- What an entry that is lent, or shared, changes of a range.
-use Rattle.std.proofs.Common.{◌≡◌, ◌∙◌, ℕ, ◌+◌, ◌≤◌, List, true, false, refl, sym, ap, subst, arith}
+use Rattle.std.proofs.Common.{◌≡◌, ◌∙◌, ℕ, ◌+◌, ◌≤◌, Bool, List, true, false, refl, sym, ap, subst, arith}
 use Rattle.std.specs.Prelude.{Option, Some, None, Result, Ok, Err, is_some}
 use Rattle.std.specs.Option.{option_map}
 use Rattle.sst_blocks.specs.Cursor.{Cursor}
@@ -9,7 +9,7 @@ use Rattle.sst_entries.specs.Entry.{Entry}
 use Rattle.sst_entries.specs.Stream.{front_of}
 use Rattle.lsm_block_indexes.specs.Left.{Left}
 use Rattle.lsm_walks.proofs.AtEnds.{not_memory}
-use Rattle.lsm_iters.specs.Blocks.{range_of_walk}
+use Rattle.lsm_iters.specs.Blocks.{Blocks, range_of_walk}
 use Rattle.lsm_iters.specs.Lending.{RangeLends, behind_in, lent_in}
 use Rattle.lsm_iters.specs.Lift.{lifted}
 use Rattle.lsm_iters.specs.Range.{CountsBlocks, Next, Range, RangeGives, front_next, left_unless}
@@ -25,6 +25,14 @@ pub lifted_some : (g : ℕ) (l : Option Entry) → is_some (option_map (lifted g
     → is_some l ≡ true
 lifted_some g None is = is
 lifted_some g (Some e) is = refl
+
+unless_index : (b : Bool) (l : Left) → (left_unless b l).index ≡ l.index
+unless_index true l = refl
+unless_index false l = refl
+
+unless_opened : (b : Bool) (l : Left) → (left_unless b l).opened ≡ l.opened
+unless_opened true l = refl
+unless_opened false l = refl
 
 module _ {A : Type 0} where
   -- no answer speaks of what is lent
@@ -66,14 +74,6 @@ module _ {A : Type 0} where
   gives_unlent end next s (Some (Err e)) t gives = gives
 
   -- ---- where the entry that came cannot be shared
-
-  unless_index : (b : _) (l : Left) → (left_unless b l).index ≡ l.index
-  unless_index true l = refl
-  unless_index false l = refl
-
-  unless_opened : (b : _) (l : Left) → (left_unless b l).opened ≡ l.opened
-  unless_opened true l = refl
-  unless_opened false l = refl
 
   ended_counts : {needed : ℕ} (s t : Range A) → CountsBlocks needed s t
       → CountsBlocks needed s (over t)
@@ -129,3 +129,21 @@ module _ {A : Type 0} where
       ap (λ (l : Option Entry). record (range_of_walk (record w { front = part }))
       { lent = option_map (lifted w.parts.of.global_seqno) l }) none
       ∙ ap (λ (es : List Entry). record (without_lent (range_of_walk w)) { front = es }) left
+
+  -- the same of what was taken, by the parts of the walk
+  pub unlent_by : (end : End) (next : Range A → Next) (s : Range A) (r : Option R) (v : W A)
+      (parts : Blocks A) (front back part : Option Cursor)
+      → record { parts = parts; front = front; back = back } ≡ v → lent_in part ≡ None
+      → behind_in part ≡ behind_in front
+      → RangeGives end next s r (stopped r (range_of_walk v))
+      → RangeGives end next s r (stopped r (range_of_walk (record {
+        parts = parts;
+        front = part;
+        back = back;
+      })))
+  unlent_by end next s r v parts front back part is none left gives =
+      let w : W A = record { parts = parts; front = front; back = back } in
+      subst (λ (u : Range A). RangeGives end next s r (stopped r u))
+      (sym (walk_unlent w part none left))
+      (gives_unlent end next s r (range_of_walk w)
+      (subst (λ (u : W A). RangeGives end next s r (stopped r (range_of_walk u))) (sym is) gives))

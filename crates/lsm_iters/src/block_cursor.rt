@@ -84,12 +84,9 @@ impl<A: Allocator> Ends for BlockCursor<A> {
 
     #[inline(always)]
     fn step(&mut self, at: Direction) -> Option<IterItem<A>> {
-        if !self.move_to(at) {
-            return None;
+        if self.move_to(at) {
+            return Some(self.share());
         }
-        match self.share() {
-            Ok(item) => Some(Ok(item)),
-            Err(refusal) => Some(Err(refusal)),
-        }
+        None
     }
 }

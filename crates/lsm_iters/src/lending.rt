@@ -61,9 +61,7 @@ pub(crate) fn share_in<A: Allocator>(
     ensures found { IfOk result (λ e. lent_in part.now ≡ Some e) }
     ensures err { IfErr result (λ e. e ≡ OutOfMemory) }
 {
-    let Some(part) = part else {
-        unreachable!()
-    };
+    let Some(part) = part else { unreachable!() };
     part.share()
 }
 
