@@ -6,5 +6,6 @@ pub mod ReadLaws
 pub mod FewLoads
 pub mod Points
 pub mod AskedReads
+pub mod ReadViews
 pub mod ManyReads
 pub mod BatchReads

@@ -1,6 +1,6 @@
 -- What a first match passes, and what a point read comes to.
 use Rattle.std.proofs.Common.{◌≡◌, ℕ, ◌-◌, ◌<◌, Bool, true, false, cond, ltb, List, [], ◌∷◌, Option}
-use Rattle.std.proofs.Common.{Some, None, refl, ap, subst, ◌∙◌}
+use Rattle.std.proofs.Common.{Some, None, refl, sym, ap, subst, ◌∙◌}
 use Rattle.std.specs.Prelude.{find, Result}
 use Rattle.std.specs.Result.{IsErrAnd}
 use Rattle.std.proofs.lemmas.Bool.{ltb-true}
@@ -10,6 +10,7 @@ use Rattle.sst_entries.specs.Key.{same_key}
 use Rattle.sst_entries.specs.Point.{is_hit, point}
 use Rattle.sst_entries.proofs.Booleans.{and_right}
 use Rattle.sst_blocks.specs.declared.opened.Opened.{Opened}
+use Rattle.sst_blocks.specs.Opened.{none_opened}
 use Rattle.sst_blocks.specs.Place.{Place}
 use Rattle.sst_sections.specs.Sections.{body_of}
 use Rattle.lsm_points.specs.declared.inner.Inner.{Inner}
@@ -84,3 +85,16 @@ answer_none body g parts key bound n lowered o o' does =
     by_answer body g parts key bound n lowered (result None) o o'
     (then_goes (admitted_handle body parts key n) (match_in body g key n) None
     (result None) o o' o' does (does_known None o'))
+
+-- the handle was read by a source of its own, which counted nothing before
+pub handle_begun : (bytes source : List ℕ) (parts : Parts) (key : List ℕ) (n : ℕ)
+    (h told : Result (Option Place) Error) (start new end : Opened) → source ≡ bytes
+    → start ≡ none_opened → end ≡ new → h ≡ told
+    → DoesRead h (admitted_handle (body_of source) parts key n) start new
+    → DoesRead told (admitted_handle (body_of bytes) parts key n) none_opened end
+handle_begun bytes source parts key n h told start new end same none counts is does =
+    let read = λ (b : List ℕ). admitted_handle (body_of b) parts key n in
+    let here = subst (λ (b : List ℕ). DoesRead h (read b) start new) same does in
+    let begun = subst (λ (o : Opened). DoesRead h (read bytes) o new) none here in
+    let ended = subst (λ (o : Opened). DoesRead h (read bytes) none_opened o) (sym counts) begun in
+    subst (λ (r : Result (Option Place) Error). DoesRead r (read bytes) none_opened end) is ended

@@ -15,5 +15,5 @@ pub use inner::{Inner, PinnedBlocks};
 pub use many::{Query, many_in};
 pub use meta::{ParsedMeta, load_item};
 pub use pinned::{PinnedBlockIndex, load_handles};
-pub use point::point_in;
+pub use point::{place_in, point_in};
 pub use regions::ParsedRegions;

@@ -1,15 +1,19 @@
 //! Point reads, over whatever blocks can be loaded from.
-ghost use Rattle.std.specs.Prelude.{◌≡◌, ◌+◌, ◌<◌, ◌^◌, [], Option, IfSome, IsOk};
+ghost use Rattle.std.specs.Prelude.{◌≡◌, ◌+◌, ◌<◌, ◌^◌, [], ℕ, List, Option, IfOk, IfSome, IsOk};
 ghost use Rattle.std.specs.Option.{option_map};
+ghost use Rattle.sst_blocks.specs.Asked.{told_map};
+ghost use Rattle.sst_blocks.specs.EntryPlace.{IsPlacedIn, entry_placed};
 ghost use Rattle.lsm_points.specs.Words.{DoesRead, Entry, FaultsFirst, Gives, LoadsFew, Opens};
 ghost use Rattle.lsm_points.specs.Words.{admission};
 ghost use Rattle.lsm_points.specs.Words.{admitted_handle, answer, block_admits, filter_admits};
-ghost use Rattle.lsm_points.specs.Words.{hash_of, lifted, match_at};
+ghost use Rattle.lsm_points.specs.Words.{body_of, hash_of, lifted, match_at, none_opened};
 ghost use Rattle.lsm_points.specs.Words.{parts_of};
 
 use crate::Inner;
 use crate::pinned::handle_by;
-use sst_blocks::{BlockHandle, Error, InternalValue, LoadBlocks, SeqNo};
+use sst_blocks::{
+    BlockHandle, BlockSource, Counted, EntryPlace, Error, InternalValue, LoadBlocks, Opened, SeqNo,
+};
 use std::alloc::Allocator;
 
 // The entry with the global number added, which the caller has tested to fit.
@@ -174,4 +178,118 @@ pub fn point_in<S: LoadBlocks>(
         Some(handle) => read_in(source, handle, inner.global_seqno, key, low),
         None => Ok(None),
     }
+}
+
+// The place of an entry with the global number added to its number, which the caller has tested to
+// fit.
+fn lift_place(place: EntryPlace, global_seqno: SeqNo) -> EntryPlace
+    requires { place.seqno + global_seqno < 2 ^ 64 }
+    ensures entry { (bytes : List ℕ) →
+        entry_placed bytes result ≡ lifted global_seqno (entry_placed bytes place) }
+    ensures placed { (bytes : List ℕ) → IsPlacedIn bytes place → IsPlacedIn bytes result }
+{
+    let mut place = place;
+    place.seqno += global_seqno;
+    place
+}
+
+// The place that was found, with its lifted number, which is to fit.
+fn lifted_place(found: Option<EntryPlace>, global_seqno: SeqNo) -> Option<EntryPlace>
+    requires { IfSome found (λ place. place.seqno + global_seqno < 2 ^ 64) }
+    ensures entry { (bytes : List ℕ) → option_map (entry_placed bytes) result
+        ≡ option_map (lifted global_seqno) (option_map (entry_placed bytes) found) }
+    ensures placed { (bytes : List ℕ) → IfSome found (IsPlacedIn bytes) →
+        IfSome result (IsPlacedIn bytes) }
+{
+    match found {
+        Some(place) => Some(lift_place(place, global_seqno)),
+        None => None,
+    }
+}
+
+// Where the first match is stored that the block of a handle has.
+fn place_at<A: Allocator + Clone>(
+    source: &BlockSource<A>,
+    handle: &BlockHandle,
+    global_seqno: SeqNo,
+    key: &[u8],
+    seqno: SeqNo,
+    opened: &mut Opened,
+) -> Result<Option<EntryPlace>, Error>
+    requires { seqno + global_seqno < 2 ^ 64 }
+    ensures read { let found = told_map (option_map (entry_placed source.now)) result in
+        let read = match_at (body_of source.now) global_seqno key.now seqno handle.now in
+        DoesRead found read opened.old opened.new }
+    ensures placed { IfOk result (λ found. IfSome found (IsPlacedIn source.now)) }
+{
+    let found = source.point_place(handle, key, seqno, opened)?;
+    Ok(lifted_place(found, global_seqno))
+}
+
+// Where the first match of a table is stored, with how many blocks were loaded for it.
+fn read_place<A: Allocator + Clone>(
+    source: &BlockSource<A>,
+    inner: &Inner<A>,
+    key: &[u8],
+    seqno: SeqNo,
+    key_hash: u64,
+) -> (Result<Option<EntryPlace>, Error>, Opened)
+    requires { key_hash ≡ hash_of key.now }
+    ensures read { let parts = parts_of inner.now in
+        let found = told_map (option_map (entry_placed source.now)) result.0 in
+        let read = answer (body_of source.now) inner.now.global_seqno parts key.now seqno in
+        DoesRead found read none_opened result.1 }
+    ensures placed { IfOk result.0 (λ found. IfSome found (IsPlacedIn source.now)) }
+{
+    let add = inner.global_seqno;
+    let low = seqno.saturating_sub(add);
+    let mut counted = Counted::new(source);
+    let admitted = admitted_handle(&mut counted, inner, key, low, key_hash);
+    let mut opened = counted.opened();
+    let handle = match admitted {
+        Ok(handle) => handle,
+        Err(error) => return (Err(error), opened),
+    };
+    match handle {
+        Some(handle) => {
+            let found = place_at(source, &handle, add, key, low, &mut opened);
+            (found, opened)
+        }
+        None => (Ok(None), opened),
+    }
+}
+
+/// Where the first entry of a key numbered below `seqno` is stored, its number with the global
+/// number added, and how many blocks were loaded for it. It loads what [`point_in`] loads, and
+/// shares nothing.
+///
+/// # Errors
+///
+/// The first fault of loading these blocks, as [`point_in`]. Where no block is loaded, it does not
+/// fail.
+pub fn place_in<A: Allocator + Clone>(
+    source: &BlockSource<A>,
+    inner: &Inner<A>,
+    key: &[u8],
+    seqno: SeqNo,
+    key_hash: u64,
+) -> (Result<Option<EntryPlace>, Error>, Opened)
+    requires { key_hash ≡ hash_of key.now }
+    ensures told { let parts = parts_of inner.now in
+        let read = answer (body_of source.now) inner.now.global_seqno parts key.now seqno in
+        Gives (option_map (entry_placed source.now)) result.0 read.told }
+    ensures early { let parts = parts_of inner.now in
+        let read = answer (body_of source.now) inner.now.global_seqno parts key.now seqno in
+        FaultsFirst result.0 read.early }
+    ensures calm { let parts = parts_of inner.now in
+        let read = answer (body_of source.now) inner.now.global_seqno parts key.now seqno in
+        read.loads ≡ [] → IsOk result.0 }
+    ensures opened { let parts = parts_of inner.now in
+        let read = answer (body_of source.now) inner.now.global_seqno parts key.now seqno in
+        Opens result.0 read.loads none_opened result.1 }
+    ensures few { LoadsFew (parts_of inner.now) none_opened result.1 }
+    // The entry is within the bytes.
+    ensures placed { IfOk result.0 (λ found. IfSome found (IsPlacedIn source.now)) }
+{
+    read_place(source, inner, key, seqno, key_hash)
 }

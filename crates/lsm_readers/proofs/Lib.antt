@@ -33,6 +33,7 @@ pub mod TableRanges
 pub mod Sizes
 pub mod ManyOfList
 pub mod ByKey
+pub mod LentReads
 pub mod OneIndex
 pub mod VerifySteps
 pub mod VerifyEntries

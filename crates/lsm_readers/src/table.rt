@@ -28,6 +28,7 @@ ghost use Rattle.sst_entries.specs.declared.error.Error.TheVariants.{OutOfMemory
 mod approximate_size;
 mod by_key;
 mod file;
+mod lent;
 mod queries;
 mod range;
 mod verification;

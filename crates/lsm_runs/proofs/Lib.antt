@@ -11,6 +11,7 @@ pub mod RunPoints
 pub mod ByAge
 pub mod RunLoops
 pub mod RunReads
+pub mod LentGets
 pub mod Together
 pub mod Numbered
 pub mod AllSources

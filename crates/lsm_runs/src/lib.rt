@@ -2,12 +2,14 @@
 #![tactic(auto)]
 
 mod lending_reader;
+mod lent_gets;
 mod lent_runs;
 mod run_reader;
 mod run_scanner;
 mod runs;
 mod sources;
 
+pub use lent_gets::get_runs_ref;
 pub use lent_runs::{LentNewestOf, LentNewestOfRunsAt, lend_runs_at};
 pub use lsm_run_parts::share;
 pub use run_reader::RunReader;

@@ -1,0 +1,45 @@
+-- A point read that borrows: what a place in the table's bytes has.
+use Rattle.std.proofs.Common.{◌≡◌, ℕ, List, [], refl, sym, subst}
+use Rattle.std.proofs.lemmas.Bool.{le-ltb}
+use Rattle.std.specs.Prelude.{Option, Some, Result, IsOk, length}
+use Rattle.std.specs.Option.{option_map}
+use Rattle.sst_entries.specs.declared.entry_ref.EntryRef.{EntryRef}
+use Rattle.sst_entries.specs.declared.error.Error.{Error}
+use Rattle.sst_entries.specs.Entry.{Entry}
+use Rattle.sst_entries.specs.Error.{FaultsFirst, Gives}
+use Rattle.sst_entries.specs.Lending.{entry_of_ref}
+use Rattle.sst_blocks.specs.declared.entry_place.EntryPlace.{EntryPlace}
+use Rattle.sst_blocks.specs.declared.opened.Opened.{Opened}
+use Rattle.sst_blocks.specs.Asked.{told_map}
+use Rattle.sst_blocks.specs.EntryPlace.{IsPlacedIn, entry_placed, placed_in}
+use Rattle.lsm_points.specs.Read.{DoesRead, Opens, Read}
+use Rattle.lsm_points.proofs.ReadViews.{does_by, gives_by, gives_seen}
+
+-- within the bytes there is an entry
+pub placed_there : (bytes : List ℕ) (p : EntryPlace) → IsPlacedIn bytes p
+    → placed_in bytes p ≡ Some (entry_placed bytes p)
+placed_there bytes p there = rw (
+  le-ltb p.value_at p.key_at there.0,
+  le-ltb p.end p.value_at there.1,
+  le-ltb (length bytes) p.end there.2,
+) refl
+
+module _ (bytes : List ℕ) (found : Result (Option EntryPlace) Error)
+    (lent : Result (Option EntryRef) Error)
+    (same : told_map (option_map entry_of_ref) lent
+    ≡ told_map (option_map (entry_placed bytes)) found) where
+  -- what is borrowed answers as its place
+  pub lent_gives : (told : Result (Option Entry) Error)
+      → Gives (option_map (entry_placed bytes)) found told
+      → Gives (option_map entry_of_ref) lent told
+  lent_gives told h = gives_seen (option_map entry_of_ref) lent told
+      (subst (λ (r : Result (Option Entry) Error). Gives (λ (x : Option Entry). x) r told)
+      (sym same) (gives_by (option_map (entry_placed bytes)) found told h))
+
+  pub lent_does : (read : Read (Option Entry)) (o o' : Opened)
+      → Gives (option_map (entry_placed bytes)) found read.told → FaultsFirst found read.early
+      → Opens found read.loads o o' → (read.loads ≡ [] → IsOk found)
+      → DoesRead (told_map (option_map entry_of_ref) lent) read o o'
+  lent_does read o o' told first opens calm =
+      subst (λ (r : Result (Option Entry) Error). DoesRead r read o o') (sym same)
+      (does_by (option_map (entry_placed bytes)) found read o o' told first opens calm)

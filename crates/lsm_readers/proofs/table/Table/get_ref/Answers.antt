@@ -1,0 +1,13 @@
+use Rattle.lsm_readers.proofs.table.Table.get_ref.Goals as goal
+
+pub returns-clause-told : goal.returns-clause-told
+returns-clause-told g c = c.get_ref_counted.ensures.told
+
+pub returns-clause-early : goal.returns-clause-early
+returns-clause-early g c = c.get_ref_counted.ensures.early
+
+pub returns-clause-calm : goal.returns-clause-calm
+returns-clause-calm g c = c.get_ref_counted.ensures.calm
+
+pub returns-clause-list : goal.returns-clause-list
+returns-clause-list g c es is = c.get_ref_counted.ensures.list es is
