@@ -12,7 +12,7 @@ use Rattle.sst_entries.specs.Entry.{Entry}
 use Rattle.sst_entries.specs.Error.{is_memory}
 use Rattle.sst_entries.specs.Point.{within}
 use Rattle.sst_entries.specs.Stream.{Deals, NoneStops, Runs, answer_stops, back_of, but_first, deal}
-use Rattle.sst_entries.specs.Stream.{first, front_of, ok_results}
+use Rattle.sst_entries.specs.Stream.{first, front_of, nowhere, ok_results}
 use Rattle.sst_entries.proofs.Booleans.{apart, is_false}
 use Rattle.sst_entries.proofs.StreamLemmas.{map_reverse}
 use Rattle.sst_entries.proofs.Refusals.{memory_is}
@@ -21,12 +21,14 @@ use Rattle.sst_blocks.specs.Handle.{Handle}
 use Rattle.lsm_block_indexes.specs.Dealt.{DealsEnding, ended_at_error}
 use Rattle.lsm_block_indexes.specs.Left.{with_index_loads}
 use Rattle.lsm_iters.specs.Bounds.{lower_edge, upper_edge}
+use Rattle.lsm_iters.specs.Lending.{RangeLends}
 use Rattle.lsm_iters.specs.Lift.{lift, lift_told}
 use Rattle.lsm_iters.specs.Range.{Next, Range, RangeGives, back_next, data_loaded, front_next}
 use Rattle.lsm_iters.specs.Range.{index_to_come, left_in, opened_in, range_left, to_come}
 use Rattle.lsm_iters.specs.Rows.{Bounded, rows}
 use Rattle.lsm_iters.proofs.Cuts.{all_within}
 use Rattle.lsm_iters.proofs.Ends.{if_false}
+use Rattle.lsm_iters.proofs.LentLaws.{lending_deals}
 use Rattle.lsm_iters.proofs.RangeLaws.{range_deals}
 use Rattle.lsm_readers.specs.BlockIndexes.{table_index}
 use Rattle.lsm_readers.specs.Ranges.{DealsAll, DealsWithin, IsRangeOf, LoadsAtMost, blocks_within}
@@ -194,6 +196,12 @@ module _ {A : Type 0} (t : OpenTable) (low high : Bound (List ℕ)) (s : Range A
   table_deals = subst (λ (xs : List R). DealsEnding gives back_gives (λ _. Unit {0})
       (λ _. Unit {0}) s xs) left_is (range_deals s)
 
+  -- and lends it from the front
+  pub table_lends : DealsEnding RangeLends nowhere (λ _. Unit {0}) (λ _. Unit {0}) s
+      (range_told t low high)
+  table_lends = subst (λ (xs : List R). DealsEnding RangeLends nowhere (λ _. Unit {0})
+      (λ _. Unit {0}) s xs) left_is (lending_deals s)
+
   loads_few : (blocks : ℕ) → length told ≡ blocks
       → LoadsAtMost gives back_gives blocks (index_within t low high) s
   loads_few blocks many ends rs u runs =
@@ -228,6 +236,15 @@ module _ {A : Type 0} (t : OpenTable) (low high : Bound (List ℕ)) (s : Range A
         (λ _. Unit {0}) s xs) of_list table_deals in
         deals_values gives back_gives (λ _. Unit {0}) (λ _. Unit {0}) s
         (within low high (lift es t.global_seqno)) deals stops memory
+
+    pub list_lends : DealsWithin RangeLends nowhere low high es t.global_seqno s
+    list_lends stops memory =
+        let of_list = stored_rows t.bytes es stored t.global_seqno held.recovered.pin_filter
+        held.recovered.pin_index t.parts held.recovered.told low high in
+        let lends = subst (λ (xs : List R). DealsEnding RangeLends nowhere (λ _. Unit {0})
+        (λ _. Unit {0}) s xs) of_list table_lends in
+        deals_values RangeLends nowhere (λ _. Unit {0}) (λ _. Unit {0}) s
+        (within low high (lift es t.global_seqno)) lends stops memory
 
     pub list_loads : LoadsAtMost gives back_gives (blocks_within stored low high)
         (index_within t low high) s

@@ -46,6 +46,7 @@ pub record IsRangeOf {A : Type 0} (t : OpenTable) (low high : Bound (List ℕ)) 
   pub front : s.front ≡ []
   pub back : s.back ≡ []
   pub opened : opened_in s ≡ none_opened
+  pub lent : s.lent ≡ None
 
 -- where want of memory stops its reader, it deals the entries of a list within the bounds, their
 -- numbers lifted, to whatever ends

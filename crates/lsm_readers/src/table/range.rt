@@ -6,12 +6,12 @@ ghost use Rattle.sst_entries.specs.declared.error.Error.TheVariants.{OutOfMemory
 ghost use Rattle.lsm_readers.specs.Words.{DealsAll, DealsEnding, DealsWithin, Entry, IsOpen};
 ghost use Rattle.lsm_readers.specs.Words.{IsRangeOf, LoadsAtMost, StoresList};
 ghost use Rattle.lsm_readers.specs.Words.{OpenTable, blocks_within, index_read, index_within};
-ghost use Rattle.lsm_readers.specs.Words.{range_told, table_index};
+ghost use Rattle.lsm_readers.specs.Words.{nowhere, range_told, table_index};
 
 use crate::{Inner, Table};
 use lsm_block_indexes::{BlockIndex, BlockIndexImpl};
 use lsm_iters::{Bound as Edge, Iter, beside};
-use sst_blocks::{Error, UserKey};
+use sst_blocks::{Error, Lending, UserKey};
 use std::alloc::Allocator;
 use std::ops::Bound;
 
@@ -29,6 +29,13 @@ impl<A: Allocator + Clone> Table<A> {
             let back_gives = ⟦<Iter<A> as DoubleEndedIterator>⟧.next_back_gives in
             (es : List Entry) → StoresList self.now.bytes es → let g = self.now.global_seqno in
             IfOk result (DealsAll gives back_gives es g) }
+        // From the front it lends the same.
+        ensures lends { let advances = ⟦<Iter<A> as Lending>⟧.advances in
+            let told = range_told self.now Unbounded Unbounded in
+            IfOk result (λ i. DealsEnding advances nowhere (λ _. Unit {0}) (λ _. Unit {0}) i told) }
+        ensures lends_list { let advances = ⟦<Iter<A> as Lending>⟧.advances in
+            (es : List Entry) → StoresList self.now.bytes es → let g = self.now.global_seqno in
+            IfOk result (DealsAll advances nowhere es g) }
         // It loads at most all data blocks, and the index blocks that lead to them.
         ensures few { let gives = ⟦<Iter<A> as Iterator>⟧.next_gives in
             let back_gives = ⟦<Iter<A> as DoubleEndedIterator>⟧.next_back_gives in
@@ -64,6 +71,13 @@ impl<A: Allocator + Clone> Table<A> {
             let back_gives = ⟦<Iter<A> as DoubleEndedIterator>⟧.next_back_gives in
             (es : List Entry) → StoresList self.now.bytes es → let g = self.now.global_seqno in
             IfOk result (DealsWithin gives back_gives lower upper es g) }
+        // From the front it lends the same.
+        ensures lends { let advances = ⟦<Iter<A> as Lending>⟧.advances in
+            let told = range_told self.now lower upper in
+            IfOk result (λ i. DealsEnding advances nowhere (λ _. Unit {0}) (λ _. Unit {0}) i told) }
+        ensures lends_list { let advances = ⟦<Iter<A> as Lending>⟧.advances in
+            (es : List Entry) → StoresList self.now.bytes es → let g = self.now.global_seqno in
+            IfOk result (DealsWithin advances nowhere lower upper es g) }
         // It loads at most the data blocks between the bounds, and the index blocks that lead
         // there.
         ensures few { let gives = ⟦<Iter<A> as Iterator>⟧.next_gives in
