@@ -12,6 +12,7 @@ pub mod ByAge
 pub mod RunLoops
 pub mod RunReads
 pub mod LentGets
+pub mod RunPlaces
 pub mod Together
 pub mod Numbered
 pub mod AllSources

@@ -5,5 +5,6 @@ pub mod SeveralRuns
 pub mod SpansRead
 pub mod LentRun
 pub mod LentNewestRuns
+pub mod RunPlaces
 pub mod Words
 pub use Rattle.lsm_run_parts.specs.RunParts

@@ -1,0 +1,16 @@
+-- Where an entry is stored in the tables of several runs.
+use Rattle.std.specs.Prelude.{List, Option, slice_get}
+use Rattle.std.specs.Option.{option_and_then}
+use Rattle.sst_entries.specs.Entry.{Entry}
+use Rattle.sst_blocks.specs.EntryPlace.{placed_in}
+use Rattle.lsm_readers.specs.Table.{OpenTable}
+use Rattle.lsm_runs.specs.declared.lent_gets.RunPlace.{RunPlace}
+
+-- the entry that the tables of a run have there: none where they are too few, or the bytes too
+-- short
+abbrev pub placed_in_run : List OpenTable → RunPlace → Option Entry
+placed_in_run tables p = option_and_then (λ t. placed_in t.bytes p.place) (slice_get tables p.table)
+
+-- the same of several runs
+abbrev pub placed_in_runs : List (List OpenTable) → RunPlace → Option Entry
+placed_in_runs runs p = option_and_then (λ tables. placed_in_run tables p) (slice_get runs p.run)
