@@ -1,9 +1,9 @@
-//! What is behind a handle.
+//! What a handle holds.
 ghost use Rattle.std.specs.Prelude.{◌≡◌, IfErr, IfOk, None};
 ghost use Rattle.std.specs.Option.{option_map};
 ghost use Rattle.sst_entries.specs.Lending.{entry_of_ref};
 ghost use Rattle.sst_entries.specs.declared.error.Error.TheVariants.{OutOfMemory};
-ghost use Rattle.sst_c.specs.Told.{found_by, lent_in};
+ghost use Rattle.sst_c.specs.Told.{found_by, in_table, lent_in};
 ghost use Rattle.sst_c.specs.What.{begun};
 ghost use Rattle.sst_c.specs.declared.held.FoundEntry.TheVariants.{Kept, Lent as IsLent};
 
@@ -15,10 +15,10 @@ use lsm_iters::Iter;
 use lsm_ranges::Packed;
 use lsm_readers::{Scanner, Table};
 use lsm_writers::{FinishedTable, Writer};
-use sst_blocks::{EntryRef, Error, InternalValue, Lending};
+use sst_blocks::{EntryPlace, EntryRef, Error, InternalValue, Lending};
 use std::alloc::Global;
 
-/// What is behind a handle.
+/// What a handle holds, and what the last read by it found.
 #[derive(Drop)]
 pub struct Held {
     /// What the last read found.
@@ -32,8 +32,10 @@ pub struct Held {
 pub enum FoundEntry {
     /// An entry with a share of the table's memory, or none.
     Kept(Option<InternalValue>),
-    /// What the scan that is held lends, with no share of its own.
+    /// The entry that the held scan or range borrows from the table's memory, or none.
     Lent,
+    /// The entry that starts there in the bytes of the held table.
+    InTable(EntryPlace),
 }
 
 impl FoundEntry {
@@ -44,7 +46,7 @@ impl FoundEntry {
         *self = FoundEntry::Kept(None);
     }
 
-    /// What the scan lends is found.
+    /// The entry that the scan or the range borrows is found.
     pub(crate) fn set_lent(&mut self)
         ensures { self.new ≡ IsLent }
     {
@@ -94,12 +96,23 @@ pub(crate) fn box_of(alloc: Global, what: What) -> Result<Box<Held>, Error>
     Ok(Box::new(alloc, Held { found, what })?)
 }
 
-// The entry that a scan lends.
+// The entry that a scan or a range borrows.
 fn lent(what: &What) -> Option<EntryRef<'_>>
     ensures { option_map entry_of_ref result ≡ lent_in what.now }
 {
     match what {
         What::Scan(scanner) => scanner.entry(),
+        What::Range(iter) => iter.entry(),
+        _ => None,
+    }
+}
+
+// The entry at a position in the bytes of a table.
+fn in_table<'a>(what: &'a What, place: &EntryPlace) -> Option<EntryRef<'a>>
+    ensures { option_map entry_of_ref result ≡ in_table place.now what.now }
+{
+    match what {
+        What::Table(table) => table.entry_at(place),
         _ => None,
     }
 }
@@ -112,6 +125,7 @@ impl Held {
         match &self.found {
             FoundEntry::Kept(found) => entry_of(found),
             FoundEntry::Lent => lent(&self.what),
+            FoundEntry::InTable(place) => in_table(&self.what, place),
         }
     }
 }
