@@ -142,7 +142,7 @@ static bool is_found_within(sst_handle *handle, const uint8_t *file, size_t len)
  * next read by that handle, whatever other handles read.
  */
 static void test_found(const uint8_t *file, size_t len) {
-  sst_handle table = {0}, range = {0}, scan = {0};
+  sst_handle table = {0}, range = {0}, scan = {0}, runs = {0};
   sst_entry entry, told;
   char key[16], value[32];
   sst_lent lent;
@@ -165,6 +165,11 @@ static void test_found(const uint8_t *file, size_t len) {
   }
   CHECK(sst_table_get(&table, bytes("nothing"), 7, SST_NEWEST, &entry) == 0);
   CHECK(sst_found_lend(&table, &lent) == SST_NOTHING);
+  CHECK(sst_runs_open(&runs) == 0 && sst_runs_add(&runs, &table) == 0);
+  CHECK(sst_runs_get(&runs, bytes("key000004"), 9, 2, &told) == 0);
+  CHECK(has_found(&runs, &told, "key000004", "value 1 of 4"));
+  CHECK(is_found_within(&runs, file, len));
+  sst_close(&runs);
   sst_close(&table);
   CHECK(is_found_within(&range, file, len) && is_found_within(&scan, file, len));
   while (sst_range_next(&range, false, &entry) == 0 && entry.kind != SST_NO_ENTRY) {
@@ -582,7 +587,9 @@ static void test_runs(const sst_options *options, const uint8_t *file, size_t le
   CHECK(sst_runs_get(&runs, bytes("other"), 5, SST_NEWEST, &entry) == 0 && entry.kind == 0);
   CHECK(sst_runs_add(&runs, &writer) == SST_OTHER_KIND);
   CHECK(sst_runs_add(&newer, &older) == SST_OTHER_KIND);
-  CHECK(sst_runs_add(&runs, &newer) == 0 && sst_runs_add(&runs, &older) == 0);
+  CHECK(sst_runs_add(&runs, &newer) == 0);
+  CHECK(sst_runs_get(&runs, bytes("other"), 5, SST_NEWEST, &entry) == 0);
+  CHECK(sst_runs_add(&runs, &older) == 0 && has_found(&runs, &entry, "other", "more"));
   sst_close(&newer);
   sst_close(&older);
   CHECK(sst_runs_get(&runs, bytes("key000001"), 9, SST_NEWEST, &entry) == 0);

@@ -1,11 +1,13 @@
 //! What a handle holds.
-ghost use Rattle.std.specs.Prelude.{◌≡◌, IfErr, IfOk, None};
+ghost use Rattle.std.specs.Prelude.{◌≡◌, ◌++◌, IfErr, IfOk, List, None};
 ghost use Rattle.std.specs.Option.{option_map};
 ghost use Rattle.sst_entries.specs.Lending.{entry_of_ref};
 ghost use Rattle.sst_entries.specs.declared.error.Error.TheVariants.{OutOfMemory};
-ghost use Rattle.sst_c.specs.Told.{found_by, in_table, lent_in};
+ghost use Rattle.lsm_readers.specs.Words.{OpenTable};
+ghost use Rattle.sst_c.specs.Told.{found_at, found_by, in_runs, in_table, is_settled, lent_in};
 ghost use Rattle.sst_c.specs.What.{begun};
 ghost use Rattle.sst_c.specs.declared.held.FoundEntry.TheVariants.{Kept, Lent as IsLent};
+ghost use Rattle.sst_c.specs.declared.held.What.TheVariants.{Runs as RunsOf};
 
 use crate::asked::Asked;
 use crate::entries::entry_of;
@@ -14,6 +16,7 @@ use crate::verifier::Verifier;
 use lsm_iters::Iter;
 use lsm_ranges::Packed;
 use lsm_readers::{Scanner, Table};
+use lsm_runs::RunPlace;
 use lsm_writers::{FinishedTable, Writer};
 use sst_blocks::{EntryPlace, EntryRef, Error, InternalValue, Lending};
 use std::alloc::Global;
@@ -36,6 +39,8 @@ pub enum FoundEntry {
     Lent,
     /// The entry that starts there in the bytes of the held table.
     InTable(EntryPlace),
+    /// The same of the tables of the held runs.
+    InRuns(RunPlace),
 }
 
 impl FoundEntry {
@@ -51,6 +56,28 @@ impl FoundEntry {
         ensures { self.new ≡ IsLent }
     {
         *self = FoundEntry::Lent;
+    }
+
+    // Whether it is no position in runs at which there is no entry.
+    fn is_settled(&self, runs: &RunList) -> bool
+        ensures { result ≡ is_settled self.now runs.now }
+    {
+        match self {
+            FoundEntry::InRuns(place) => runs.entry_at(place).is_some(),
+            _ => true,
+        }
+    }
+
+    /// Forgets a position in runs at which there is no entry, so that nothing is found there once
+    /// runs are added.
+    #[tactic(auto, using(crate::proofs::Placing::settled))]
+    pub(crate) fn settle(&mut self, runs: &RunList)
+        ensures { (more : List (List OpenTable)) →
+            found_at self.new (RunsOf (runs.now ++ more)) ≡ found_at self.old (RunsOf runs.now) }
+    {
+        if !self.is_settled(runs) {
+            self.clear();
+        }
     }
 }
 
@@ -117,6 +144,16 @@ fn in_table<'a>(what: &'a What, place: &EntryPlace) -> Option<EntryRef<'a>>
     }
 }
 
+// The same of the tables of runs.
+fn in_runs<'a>(what: &'a What, place: &RunPlace) -> Option<EntryRef<'a>>
+    ensures { option_map entry_of_ref result ≡ in_runs place.now what.now }
+{
+    match what {
+        What::Runs(runs) => runs.entry_at(place),
+        _ => None,
+    }
+}
+
 impl Held {
     /// The entry that the last read found, borrowed.
     pub(crate) fn found_entry(&self) -> Option<EntryRef<'_>>
@@ -126,6 +163,7 @@ impl Held {
             FoundEntry::Kept(found) => entry_of(found),
             FoundEntry::Lent => lent(&self.what),
             FoundEntry::InTable(place) => in_table(&self.what, place),
+            FoundEntry::InRuns(place) => in_runs(&self.what, place),
         }
     }
 }
