@@ -153,10 +153,12 @@ uint32_t sst_version(void);
 /* Closes a handle, whatever it holds; one that holds nothing stays as it is. */
 void sst_close(sst_handle *handle);
 
-/* What a read found. A read (`sst_table_get`, `sst_runs_get`, `sst_range_next`, `sst_range_take`,
- * `sst_scan_next`, `sst_scan_take`) keeps the entry that it found, and the handle keeps it until
- * the next read by it. Where the last read found nothing, or none was made, the two calls answer
- * SST_NOTHING, whatever is held.
+/* What a read found. A handle has the entry that the last read by it found (`sst_table_get`,
+ * `sst_runs_get`, `sst_range_next`, `sst_range_take`, `sst_scan_next`, `sst_scan_take`) until the
+ * next one. Point reads, scans, and a table's range from the front borrow the entry from the
+ * table's memory: no bytes are copied, and no reference to it is counted. The others hold a counted
+ * reference. Where the last read found nothing, or none was made, the two calls answer SST_NOTHING,
+ * whatever is held.
  */
 
 /* Copies the key and the value of what the last read by a handle found. SST_NOTHING where nothing
@@ -399,8 +401,7 @@ uint32_t sst_scan_open(sst_handle *table, sst_handle *scan);
 
 /* Takes the next entry of a scan, and keeps it: by key up, and of one key by number down, every
  * version. At the end it answers 0, and the kind is SST_NO_ENTRY. Where it is refused nothing more
- * comes. The entry is borrowed from the table's memory: no bytes are copied, and no reference to
- * it is counted.
+ * comes.
  */
 uint32_t sst_scan_next(sst_handle *scan, sst_entry *entry);
 

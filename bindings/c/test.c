@@ -131,6 +131,54 @@ static void test_bounds(sst_handle *table) {
   sst_close(&range);
 }
 
+/* Whether the key and the value of what a handle found are in these bytes. */
+static bool is_found_within(sst_handle *handle, const uint8_t *file, size_t len) {
+  sst_lent lent;
+  return sst_found_lend(handle, &lent) == 0 && lent.key >= file && lent.value >= file &&
+         lent.key + lent.key_len <= file + len && lent.value + lent.value_len <= file + len;
+}
+
+/* What a point read, a scan, and a range from each end found: it is in the caller's bytes until the
+ * next read by that handle, whatever other handles read.
+ */
+static void test_found(const uint8_t *file, size_t len) {
+  sst_handle table = {0}, range = {0}, scan = {0}, runs = {0};
+  sst_entry entry, told;
+  char key[16], value[32];
+  sst_lent lent;
+  CHECK(sst_table_open_kept(file, len, 0, true, true, &table) == 0);
+  CHECK(sst_range_open(&table, SST_EXCLUDED, bytes("key000000"), 9, 0, file, 0, &range) == 0);
+  CHECK(sst_scan_open(&table, &scan) == 0 && sst_scan_next(&scan, &entry) == 0);
+  CHECK(sst_table_get(&table, bytes("key000003"), 9, SST_NEWEST, &told) == 0);
+  for (int i = 1; i < 3; i++) { /* a key's two versions from the front, and one from the back */
+    key_of(i, key);
+    for (int version = 2; version > 0; version--) {
+      value_of(i, version, value);
+      CHECK(sst_range_next(&range, false, &entry) == 0 && has_found(&range, &entry, key, value));
+      CHECK(has_found(&range, &entry, key, value) && is_found_within(&range, file, len));
+    }
+    CHECK(sst_range_next(&range, true, &entry) == 0 && entry.kind != SST_NO_ENTRY);
+    CHECK(sst_found_lend(&range, &lent) == 0 && memcmp(lent.key, key, 9) > 0);
+    CHECK(is_found_within(&range, file, len) && is_found_within(&scan, file, len));
+    CHECK(has_found(&table, &told, "key000003", "value 2 of 3"));
+    CHECK(is_found_within(&table, file, len));
+  }
+  CHECK(sst_table_get(&table, bytes("nothing"), 7, SST_NEWEST, &entry) == 0);
+  CHECK(sst_found_lend(&table, &lent) == SST_NOTHING);
+  CHECK(sst_runs_open(&runs) == 0 && sst_runs_add(&runs, &table) == 0);
+  CHECK(sst_runs_get(&runs, bytes("key000004"), 9, 2, &told) == 0);
+  CHECK(has_found(&runs, &told, "key000004", "value 1 of 4"));
+  CHECK(is_found_within(&runs, file, len));
+  sst_close(&runs);
+  sst_close(&table);
+  CHECK(is_found_within(&range, file, len) && is_found_within(&scan, file, len));
+  while (sst_range_next(&range, false, &entry) == 0 && entry.kind != SST_NO_ENTRY) {
+  }
+  CHECK(sst_found_lend(&range, &lent) == SST_NOTHING);
+  sst_close(&range);
+  sst_close(&scan);
+}
+
 /* Two handles of one table: each reads for itself, and may be closed before the other. */
 static void test_shares(const uint8_t *file, size_t len) {
   sst_handle table = {0}, other = {0}, range = {0}, closed = {0};
@@ -539,7 +587,9 @@ static void test_runs(const sst_options *options, const uint8_t *file, size_t le
   CHECK(sst_runs_get(&runs, bytes("other"), 5, SST_NEWEST, &entry) == 0 && entry.kind == 0);
   CHECK(sst_runs_add(&runs, &writer) == SST_OTHER_KIND);
   CHECK(sst_runs_add(&newer, &older) == SST_OTHER_KIND);
-  CHECK(sst_runs_add(&runs, &newer) == 0 && sst_runs_add(&runs, &older) == 0);
+  CHECK(sst_runs_add(&runs, &newer) == 0);
+  CHECK(sst_runs_get(&runs, bytes("other"), 5, SST_NEWEST, &entry) == 0);
+  CHECK(sst_runs_add(&runs, &older) == 0 && has_found(&runs, &entry, "other", "more"));
   sst_close(&newer);
   sst_close(&older);
   CHECK(sst_runs_get(&runs, bytes("key000001"), 9, SST_NEWEST, &entry) == 0);
@@ -731,6 +781,7 @@ static void test_table(const sst_options *options, int n, size_t piece, bool pin
   if (n < 10) {
     test_misuse(options, file, len);
     test_one_handle_twice(options, file, len);
+    test_found(file, len);
     test_shares(file, len);
     test_kept(file, len, n);
     test_many(file, len);

@@ -83,6 +83,7 @@ pub use lsm_runs::get_runs;
 pub use lsm_runs::get_runs_by_age;
 pub use lsm_runs::get_runs_by_age_counted;
 pub use lsm_runs::get_runs_counted;
+pub use lsm_runs::get_runs_ref;
 pub use lsm_runs::lend_runs_at;
 pub use lsm_runs::range_runs;
 pub use lsm_runs::range_runs_at;

@@ -5,6 +5,8 @@ pub mod Behind
 pub mod RunOrder
 pub mod Asking
 pub mod Scanning
+pub mod Ranging
+pub mod Placing
 pub mod Taking
 pub mod Adding
 pub mod Bulk

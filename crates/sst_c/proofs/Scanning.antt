@@ -79,7 +79,8 @@ scan_or s _ = s
 pub same_scan : (w : What) (u s : Scan) → w ≡ ScanOf u → w ≡ ScanOf s → u ≡ s
 same_scan w u s is same = ap (scan_or s) (sym is) ∙ ap (scan_or s) same
 
-lent_comes : (lent : Option Entry) (more : Bool)
+-- what comes of a step that succeeds is what is lent
+pub lent_comes : (lent : Option Entry) (more : Bool)
     → (0 ≡ result_code (outcome_of (came (Ok more) lent)))
     × (lent ≡ found_of (outcome_of (came (Ok more) lent)))
 lent_comes None more = (refl, refl)

@@ -1,15 +1,21 @@
 -- What C is told of what a read found.
-use Rattle.std.specs.Prelude.{◌≡◌, ℕ, ◌+◌, ◌⊎◌, length, Option, Some, None, Result, Ok, Err}
+use Rattle.std.specs.Prelude.{◌≡◌, ℕ, ◌+◌, ◌⊎◌, Bool, true, List, length, is_some}
+use Rattle.std.specs.Prelude.{Option, Some, None, Result, Ok, Err}
 use Rattle.sst_entries.specs.Entry.{Entry}
 use Rattle.sst_entries.specs.Error.{number_of}
 use Rattle.sst_entries.specs.Kind.{tag_of}
 use Rattle.sst_entries.specs.declared.error.Error.{Error}
+use Rattle.sst_blocks.specs.EntryPlace.{placed_in}
+use Rattle.sst_blocks.specs.declared.entry_place.EntryPlace.{EntryPlace}
+use Rattle.lsm_readers.specs.Table.{OpenTable}
+use Rattle.lsm_runs.specs.RunPlaces.{placed_in_runs}
+use Rattle.lsm_runs.specs.declared.lent_gets.RunPlace.{RunPlace}
 use Rattle.sst_c.specs.declared.entries.EntryTold.{EntryTold}
 use Rattle.sst_c.specs.declared.held.FoundEntry.{FoundEntry}
-use Rattle.sst_c.specs.declared.held.FoundEntry.TheVariants.{Kept, Lent}
+use Rattle.sst_c.specs.declared.held.FoundEntry.TheVariants.{InRuns, InTable, Kept, Lent}
 use Rattle.sst_c.specs.declared.held.Held.{Held}
 use Rattle.sst_c.specs.declared.held.What.{What}
-use Rattle.sst_c.specs.declared.held.What.TheVariants.{Scan}
+use Rattle.sst_c.specs.declared.held.What.TheVariants.{Range, Runs, Scan, Table}
 
 -- an entry's kind, number and lengths, or zeros where there is none
 abbrev pub entry_facts : Option Entry → EntryTold
@@ -21,15 +27,29 @@ entry_facts (Some e) = record {
   value_len = length e.value;
 }
 
--- the entry that is lent, where a scan is held
+-- the entry that the held scan or range borrows
 abbrev pub lent_in : What → Option Entry
 lent_in (Scan s) = s.lent
+lent_in (Range s) = s.lent
 lent_in _ = None
 
--- what the last read found: what it kept, or what the scan lends
+-- the entry at a position in the bytes of the held table
+abbrev pub in_table : EntryPlace → What → Option Entry
+in_table p (Table t) = placed_in t.bytes p
+in_table p _ = None
+
+-- the same of the tables of the held runs
+abbrev pub in_runs : RunPlace → What → Option Entry
+in_runs p (Runs rs) = placed_in_runs rs p
+in_runs p _ = None
+
+-- what the last read found: the entry that it kept, that what is held borrows, or that is at a
+-- position
 abbrev pub found_at : FoundEntry → What → Option Entry
 found_at (Kept found) what = found
 found_at Lent what = lent_in what
+found_at (InTable p) what = in_table p what
+found_at (InRuns p) what = in_runs p what
 
 abbrev pub found_by : Held → Option Entry
 found_by h = found_at h.found h.what
@@ -43,6 +63,22 @@ found_in (Some h) = found_by h
 abbrev pub found_of : Result (Option Entry) Error → Option Entry
 found_of (Ok x) = x
 found_of (Err e) = None
+
+-- what is kept of the position of the entry that a read found
+abbrev pub kept_in_table : Result (Option EntryPlace) Error → FoundEntry
+kept_in_table (Ok None) = Kept None
+kept_in_table (Ok (Some p)) = InTable p
+kept_in_table (Err e) = Kept None
+
+abbrev pub kept_in_runs : Result (Option RunPlace) Error → FoundEntry
+kept_in_runs (Ok None) = Kept None
+kept_in_runs (Ok (Some p)) = InRuns p
+kept_in_runs (Err e) = Kept None
+
+-- it is no position in runs at which there is no entry
+abbrev pub is_settled : FoundEntry → List (List OpenTable) → Bool
+is_settled (InRuns p) rs = is_some (placed_in_runs rs p)
+is_settled _ rs = true
 
 -- want of memory aside, a read answered what is told: the entry or that there is none, with 0, or
 -- the refusal's number and no entry

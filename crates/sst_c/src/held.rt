@@ -1,11 +1,13 @@
-//! What is behind a handle.
-ghost use Rattle.std.specs.Prelude.{◌≡◌, IfErr, IfOk, None};
+//! What a handle holds.
+ghost use Rattle.std.specs.Prelude.{◌≡◌, ◌++◌, IfErr, IfOk, List, None};
 ghost use Rattle.std.specs.Option.{option_map};
 ghost use Rattle.sst_entries.specs.Lending.{entry_of_ref};
 ghost use Rattle.sst_entries.specs.declared.error.Error.TheVariants.{OutOfMemory};
-ghost use Rattle.sst_c.specs.Told.{found_by, lent_in};
+ghost use Rattle.lsm_readers.specs.Words.{OpenTable};
+ghost use Rattle.sst_c.specs.Told.{found_at, found_by, in_runs, in_table, is_settled, lent_in};
 ghost use Rattle.sst_c.specs.What.{begun};
 ghost use Rattle.sst_c.specs.declared.held.FoundEntry.TheVariants.{Kept, Lent as IsLent};
+ghost use Rattle.sst_c.specs.declared.held.What.TheVariants.{Runs as RunsOf};
 
 use crate::asked::Asked;
 use crate::entries::entry_of;
@@ -14,11 +16,12 @@ use crate::verifier::Verifier;
 use lsm_iters::Iter;
 use lsm_ranges::Packed;
 use lsm_readers::{Scanner, Table};
+use lsm_runs::RunPlace;
 use lsm_writers::{FinishedTable, Writer};
-use sst_blocks::{EntryRef, Error, InternalValue, Lending};
+use sst_blocks::{EntryPlace, EntryRef, Error, InternalValue, Lending};
 use std::alloc::Global;
 
-/// What is behind a handle.
+/// What a handle holds, and what the last read by it found.
 #[derive(Drop)]
 pub struct Held {
     /// What the last read found.
@@ -32,8 +35,12 @@ pub struct Held {
 pub enum FoundEntry {
     /// An entry with a share of the table's memory, or none.
     Kept(Option<InternalValue>),
-    /// What the scan that is held lends, with no share of its own.
+    /// The entry that the held scan or range borrows from the table's memory, or none.
     Lent,
+    /// The entry that starts there in the bytes of the held table.
+    InTable(EntryPlace),
+    /// The same of the tables of the held runs.
+    InRuns(RunPlace),
 }
 
 impl FoundEntry {
@@ -44,11 +51,33 @@ impl FoundEntry {
         *self = FoundEntry::Kept(None);
     }
 
-    /// What the scan lends is found.
+    /// The entry that the scan or the range borrows is found.
     pub(crate) fn set_lent(&mut self)
         ensures { self.new ≡ IsLent }
     {
         *self = FoundEntry::Lent;
+    }
+
+    // Whether it is no position in runs at which there is no entry.
+    fn is_settled(&self, runs: &RunList) -> bool
+        ensures { result ≡ is_settled self.now runs.now }
+    {
+        match self {
+            FoundEntry::InRuns(place) => runs.entry_at(place).is_some(),
+            _ => true,
+        }
+    }
+
+    /// Forgets a position in runs at which there is no entry, so that nothing is found there once
+    /// runs are added.
+    #[tactic(auto, using(crate::proofs::Placing::settled))]
+    pub(crate) fn settle(&mut self, runs: &RunList)
+        ensures { (more : List (List OpenTable)) →
+            found_at self.new (RunsOf (runs.now ++ more)) ≡ found_at self.old (RunsOf runs.now) }
+    {
+        if !self.is_settled(runs) {
+            self.clear();
+        }
     }
 }
 
@@ -94,12 +123,33 @@ pub(crate) fn box_of(alloc: Global, what: What) -> Result<Box<Held>, Error>
     Ok(Box::new(alloc, Held { found, what })?)
 }
 
-// The entry that a scan lends.
+// The entry that a scan or a range borrows.
 fn lent(what: &What) -> Option<EntryRef<'_>>
     ensures { option_map entry_of_ref result ≡ lent_in what.now }
 {
     match what {
         What::Scan(scanner) => scanner.entry(),
+        What::Range(iter) => iter.entry(),
+        _ => None,
+    }
+}
+
+// The entry at a position in the bytes of a table.
+fn in_table<'a>(what: &'a What, place: &EntryPlace) -> Option<EntryRef<'a>>
+    ensures { option_map entry_of_ref result ≡ in_table place.now what.now }
+{
+    match what {
+        What::Table(table) => table.entry_at(place),
+        _ => None,
+    }
+}
+
+// The same of the tables of runs.
+fn in_runs<'a>(what: &'a What, place: &RunPlace) -> Option<EntryRef<'a>>
+    ensures { option_map entry_of_ref result ≡ in_runs place.now what.now }
+{
+    match what {
+        What::Runs(runs) => runs.entry_at(place),
         _ => None,
     }
 }
@@ -112,6 +162,8 @@ impl Held {
         match &self.found {
             FoundEntry::Kept(found) => entry_of(found),
             FoundEntry::Lent => lent(&self.what),
+            FoundEntry::InTable(place) => in_table(&self.what, place),
+            FoundEntry::InRuns(place) => in_runs(&self.what, place),
         }
     }
 }

@@ -10,7 +10,7 @@ ghost use Rattle.sst_c.specs.Newest.{NewestAt};
 ghost use Rattle.sst_c.specs.Reads.{IsMergedAs, MergedReads, gives_at};
 ghost use Rattle.sst_c.specs.Steps.{StepsBy};
 ghost use Rattle.sst_c.specs.Takes.{ReadsMany};
-ghost use Rattle.sst_c.specs.Told.{entry_facts, found_by, found_in, outcome_of};
+ghost use Rattle.sst_c.specs.Told.{entry_facts, found_at, found_by, found_in, outcome_of};
 ghost use Rattle.sst_c.specs.What.{DealsTable, IsRangeWhere, MergedStepsBy, bound_told, is_range};
 ghost use Rattle.sst_c.specs.What.{is_table};
 ghost use Rattle.sst_c.specs.declared.held.Held.{Held as HeldValue};
@@ -20,14 +20,14 @@ ghost use Rattle.sst_c.specs.declared.held.What.TheVariants.{Table as TableOf};
 use crate::codes::{CLOSED, NO_SUCH, OPEN, OTHER_KIND};
 use crate::entries::{EntryTold, tell};
 use crate::handle::Handle;
-use crate::held::{Held, What};
+use crate::held::{FoundEntry, Held, What};
 use crate::merged::step_merged;
 use crate::reads::take_held;
 use crate::tables::keep;
 use lsm_iters::Iter;
 use lsm_readers::Table;
 use lsm_runs::NewestOfRunsAt;
-use sst_blocks::{Error, InternalValue, IterItem, Slice};
+use sst_blocks::{Error, InternalValue, IterItem, Lending, Slice};
 use std::alloc::Global;
 use std::ops::Bound;
 
@@ -214,14 +214,34 @@ pub(crate) fn outcome_of(answer: Option<IterItem<Global>>) -> Result<Option<Inte
     }
 }
 
-// A step of a range of a table.
-fn step_of(iter: &mut Iter, back: bool) -> Option<IterItem<Global>>
-    ensures front { back ≡ false →
-        ⟦<Iter<Global> as Iterator>⟧.next_gives iter.old result iter.new }
-    ensures back { back ≡ true →
-        ⟦<Iter<Global> as DoubleEndedIterator>⟧.next_back_gives iter.old result iter.new }
+// A step of a range of a table from the front, after which the range borrows the entry.
+#[tactic(auto, using(crate::proofs::Ranging::range_steps))]
+fn step_front(iter: &mut Iter) -> u32
+    ensures steps { let gives = ⟦<Iter<Global> as Iterator>⟧.next_gives in
+        StepsBy gives iter.old result iter.new.lent iter.new }
+    ensures fine { is_some iter.new.lent ≡ true → result ≡ 0 }
 {
-    if back { iter.next_back() } else { iter.next() }
+    match iter.advance() {
+        Ok(_) => 0,
+        Err(error) => u32::from(error.number()),
+    }
+}
+
+// A step of a range of a table. An entry from the back has a share of the table's memory.
+fn step_of(iter: &mut Iter, back: bool, found: &mut FoundEntry) -> u32
+    ensures front { back ≡ false → let gives = ⟦<Iter<Global> as Iterator>⟧.next_gives in
+        StepsBy gives iter.old result (found_at found.new (RangeOf iter.new)) iter.new }
+    ensures back { back ≡ true →
+        let gives = ⟦<Iter<Global> as DoubleEndedIterator>⟧.next_back_gives in
+        StepsBy gives iter.old result (found_at found.new (RangeOf iter.new)) iter.new }
+    ensures fine { is_some (found_at found.new (RangeOf iter.new)) ≡ true → result ≡ 0 }
+{
+    if back {
+        keep(found, outcome_of(iter.next_back()))
+    } else {
+        found.set_lent();
+        step_front(iter)
+    }
 }
 
 /// A step of a range, if it is one.
@@ -246,7 +266,7 @@ pub(crate) fn step(held: &mut Held, back: bool) -> u32
     ensures fine { is_some (found_by held.new) ≡ true → result ≡ 0 }
 {
     match &mut held.what {
-        What::Range(iter) => keep(&mut held.found, outcome_of(step_of(iter, back))),
+        What::Range(iter) => step_of(iter, back, &mut held.found),
         What::Merged(merged) => keep(&mut held.found, step_merged(merged, back)),
         _ => {
             held.found.clear();

@@ -1,9 +1,12 @@
 //! Lists of runs, each in order.
 ghost use Rattle.std.specs.Prelude.{◌≡◌, ◌≢◌, ◌∷◌, ◌⊎◌, ◌++◌, [], IfErr, IfOk, map, true};
 ghost use Rattle.std.specs.Arc.{arc_value};
+ghost use Rattle.std.specs.Option.{option_map};
+ghost use Rattle.sst_entries.specs.Lending.{entry_of_ref};
 ghost use Rattle.sst_entries.specs.declared.error.Error.TheVariants.{OutOfMemory};
 ghost use Rattle.lsm_ranges.specs.KeyRange.{is_well_formed};
 ghost use Rattle.lsm_ranges.specs.Packing.{AreInOrder};
+ghost use Rattle.lsm_runs.specs.RunPlaces.{placed_in_runs};
 ghost use Rattle.lsm_runs.specs.Words.{range_of};
 ghost use Rattle.sst_c.specs.Packed.{ArePackedOf};
 
@@ -11,7 +14,8 @@ use crate::codes::NO_MEMORY;
 use lsm_compactions::pack_runs;
 use lsm_ranges::Run;
 use lsm_readers::Table;
-use sst_blocks::Error;
+use lsm_runs::{RunPlace, entry_in_runs};
+use sst_blocks::{EntryRef, Error};
 use std::alloc::Global;
 use std::marker::Model;
 use std::sync::Arc;
@@ -88,6 +92,13 @@ impl RunList {
         ensures order { AreInOrder range_of self.now }
     {
         self.runs.as_slice()
+    }
+
+    /// The entry at a position in the tables of the runs.
+    pub(crate) fn entry_at(&self, place: &RunPlace) -> Option<EntryRef<'_>>
+        ensures { option_map entry_of_ref result ≡ placed_in_runs self.now place.now }
+    {
+        entry_in_runs(self.runs.as_slice(), place)
     }
 
     /// Puts a run of one table behind the others, and answers 0, or 1 for want of memory.

@@ -5,21 +5,21 @@ ghost use Rattle.lsm_readers.specs.Words.{Entry, OpenTable, point};
 ghost use Rattle.lsm_ranges.specs.KeyRange.{is_well_formed};
 ghost use Rattle.lsm_runs.specs.Words.{RunsHoldLists, range_of, runs_read, runs_told, union_in};
 ghost use Rattle.sst_c.specs.Codes.{TellsFirst, result_code};
-ghost use Rattle.sst_c.specs.Told.{AnswersRead, entry_facts, found_by, found_in, found_of};
+ghost use Rattle.sst_c.specs.Told.{AnswersRead, entry_facts, found_at, found_by, found_in};
+ghost use Rattle.sst_c.specs.Told.{kept_in_runs};
 ghost use Rattle.sst_c.specs.What.{are_runs, is_table, runs_held};
 ghost use Rattle.sst_c.specs.declared.held.Held.{Held as HeldValue};
-ghost use Rattle.sst_c.specs.declared.held.What.TheVariants.{Table as TableOf};
+ghost use Rattle.sst_c.specs.declared.held.What.TheVariants.{Runs as RunsOf, Table as TableOf};
 
 use crate::codes::{CLOSED, OPEN, OTHER_KIND, OUT_OF_ORDER};
 use crate::entries::{EntryTold, tell};
 use crate::handle::Handle;
-use crate::held::{Held, What};
+use crate::held::{FoundEntry, Held, What};
 use crate::run_list::RunList;
-use crate::tables::keep;
 use lsm_ranges::Ranged;
 use lsm_readers::Table;
-use lsm_runs::get_runs;
-use sst_blocks::{Error, InternalValue, SeqNo};
+use lsm_runs::{RunPlace, place_in_runs};
+use sst_blocks::{Error, SeqNo};
 use std::alloc::Global;
 
 /// Begins a list of runs, into a handle that holds nothing. Refused 101 where the handle holds
@@ -45,6 +45,7 @@ fn add_table_to(alloc: Global, runs: &mut RunList, table: &Table) -> u32
     ensures memory { is_well_formed (range_of table.now) ≡ true → (result ≡ 0) ⊎ (result ≡ 1) }
     ensures added { result ≡ 0 → runs.new ≡ runs.old ++ (table.now ∷ []) ∷ [] }
     ensures left { result ≢ 0 → runs.new ≡ runs.old }
+    ensures one { (runs.new ≡ runs.old) ⊎ (runs.new ≡ runs.old ++ (table.now ∷ []) ∷ []) }
 {
     if !table.key_range().is_well_formed() {
         return OUT_OF_ORDER;
@@ -67,7 +68,10 @@ fn add_table(alloc: Global, held: &mut Held, table: &Table) -> u32
     ensures left { result ≢ 0 → runs_held held.new.what ≡ runs_held held.old.what }
 {
     match &mut held.what {
-        What::Runs(runs) => add_table_to(alloc, runs, table),
+        What::Runs(runs) => {
+            held.found.settle(runs);
+            add_table_to(alloc, runs, table)
+        }
         _ => OTHER_KIND,
     }
 }
@@ -168,18 +172,39 @@ pub extern "C" fn sst_runs_add(alloc: Global, runs: &mut Handle, table: &mut Han
     code
 }
 
-// Reads a list of runs.
-#[tactic(auto, using(crate::proofs::Answering::reads))]
-fn get_in(runs: &RunList, key: &[u8], seqno: SeqNo) -> Result<Option<InternalValue>, Error>
-    ensures told { let code = result_code result in
-        AnswersRead code (found_of result) (runs_told key.now seqno None runs.now) }
-    ensures early { TellsFirst (result_code result) (runs_read key.now seqno None runs.now).early }
-    ensures calm { (runs_read key.now seqno None runs.now).loads ≡ [] → result_code result ≡ 0 }
-    ensures list { (lists : List (List (List Entry))) →
-        RunsHoldLists runs.now lists → let code = result_code result in
-        AnswersRead code (found_of result) (Ok (point (union_in lists) key.now seqno)) }
+// Keeps the position of what a read found, nothing if it failed. Returns 0 or the error code.
+fn keep_place(found: &mut FoundEntry, outcome: Result<Option<RunPlace>, Error>) -> u32
+    ensures code { result ≡ result_code outcome }
+    ensures found { found.new ≡ kept_in_runs outcome }
 {
-    get_runs(runs.as_slice(), key, seqno)
+    match outcome {
+        Ok(Some(place)) => {
+            *found = FoundEntry::InRuns(place);
+            0
+        }
+        Ok(None) => {
+            found.clear();
+            0
+        }
+        Err(error) => {
+            found.clear();
+            u32::from(error.number())
+        }
+    }
+}
+
+// Reads a key of a list of runs, and keeps the position of the entry that it finds.
+#[tactic(auto, using(crate::proofs::Answering::reads))]
+fn get_in(runs: &RunList, key: &[u8], seqno: SeqNo, found: &mut FoundEntry) -> u32
+    ensures told { let entry = found_at found.new (RunsOf runs.now) in
+        AnswersRead result entry (runs_told key.now seqno None runs.now) }
+    ensures early { TellsFirst result (runs_read key.now seqno None runs.now).early }
+    ensures calm { (runs_read key.now seqno None runs.now).loads ≡ [] → result ≡ 0 }
+    ensures list { (lists : List (List (List Entry))) →
+        RunsHoldLists runs.now lists → let entry = found_at found.new (RunsOf runs.now) in
+        AnswersRead result entry (Ok (point (union_in lists) key.now seqno)) }
+{
+    keep_place(found, place_in_runs(runs.as_slice(), key, seqno))
 }
 
 fn get(held: &mut Held, key: &[u8], seqno: SeqNo) -> u32
@@ -197,7 +222,7 @@ fn get(held: &mut Held, key: &[u8], seqno: SeqNo) -> u32
         AnswersRead result (found_by held.new) (Ok (point (union_in lists) key.now seqno)) }
 {
     match &held.what {
-        What::Runs(runs) => keep(&mut held.found, get_in(runs, key, seqno)),
+        What::Runs(runs) => get_in(runs, key, seqno, &mut held.found),
         _ => {
             held.found.clear();
             OTHER_KIND

@@ -5,7 +5,8 @@ ghost use Rattle.lsm_readers.specs.Parts.{early_fault};
 ghost use Rattle.lsm_readers.specs.Words.{Entry, OpenTable, StoresList, fits_told, lift, point};
 ghost use Rattle.lsm_readers.specs.Words.{recovered_told, table_answer};
 ghost use Rattle.sst_c.specs.Codes.{TellsCode, TellsFirst, result_code};
-ghost use Rattle.sst_c.specs.Told.{AnswersRead, entry_facts, found_by, found_in, found_of};
+ghost use Rattle.sst_c.specs.Told.{AnswersRead, entry_facts, found_at, found_by, found_in};
+ghost use Rattle.sst_c.specs.Told.{found_of, kept_in_table};
 ghost use Rattle.sst_c.specs.What.{IsOpenedAs, is_table};
 ghost use Rattle.sst_c.specs.declared.held.FoundEntry.TheVariants.{Kept};
 ghost use Rattle.sst_c.specs.declared.held.Held.{Held as HeldValue};
@@ -16,7 +17,7 @@ use crate::entries::{EntryTold, tell};
 use crate::handle::Handle;
 use crate::held::{FoundEntry, Held, What};
 use lsm_readers::Table;
-use sst_blocks::{Checksum, Error, InternalValue, SeqNo, Slice};
+use sst_blocks::{Checksum, EntryPlace, Error, InternalValue, SeqNo, Slice};
 use std::alloc::Global;
 
 /// Opens a table from its bytes, into a handle that holds nothing.
@@ -102,7 +103,42 @@ pub(crate) fn keep(found: &mut FoundEntry, outcome: Result<Option<InternalValue>
     }
 }
 
+// Keeps the position of what a read found, nothing if it failed. Returns 0 or the error code.
+fn keep_place(found: &mut FoundEntry, outcome: Result<Option<EntryPlace>, Error>) -> u32
+    ensures code { result ≡ result_code outcome }
+    ensures found { found.new ≡ kept_in_table outcome }
+{
+    match outcome {
+        Ok(Some(place)) => {
+            *found = FoundEntry::InTable(place);
+            0
+        }
+        Ok(None) => {
+            found.clear();
+            0
+        }
+        Err(error) => {
+            found.clear();
+            u32::from(error.number())
+        }
+    }
+}
+
+// Reads a key of a table, and keeps the position of the entry that it finds.
 #[tactic(auto, using(crate::proofs::Answering::reads))]
+fn get_in(table: &Table, key: &[u8], seqno: SeqNo, found: &mut FoundEntry) -> u32
+    ensures told { let entry = found_at found.new (TableOf table.now) in
+        AnswersRead result entry (table_answer table.now key.now seqno).told }
+    ensures early { TellsFirst result (table_answer table.now key.now seqno).early }
+    ensures calm { (table_answer table.now key.now seqno).loads ≡ [] → result ≡ 0 }
+    ensures list { (es : List Entry) → StoresList table.now.bytes es →
+        let entry = found_at found.new (TableOf table.now) in
+        AnswersRead result entry (Ok (point (lift es table.now.global_seqno) key.now seqno)) }
+{
+    let hash = Table::<Global>::key_hash(key);
+    keep_place(found, table.get_place(key, seqno, hash).0)
+}
+
 fn get(held: &mut Held, key: &[u8], seqno: SeqNo) -> u32
     ensures kept { held.new.what ≡ held.old.what }
     ensures other { is_table held.old.what ≡ false → (result ≡ 102) × (found_by held.new ≡ None) }
@@ -118,10 +154,7 @@ fn get(held: &mut Held, key: &[u8], seqno: SeqNo) -> u32
         (Ok (point (lift es t.global_seqno) key.now seqno)) }
 {
     match &held.what {
-        What::Table(table) => {
-            let hash = Table::<Global>::key_hash(key);
-            keep(&mut held.found, table.get(key, seqno, hash))
-        }
+        What::Table(table) => get_in(table, key, seqno, &mut held.found),
         _ => {
             held.found.clear();
             OTHER_KIND

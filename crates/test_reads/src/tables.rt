@@ -22,7 +22,7 @@ mod walks;
 
 use logpurple::Table;
 use lsm_writers::{BloomConstructionPolicy, FilterKind, IndexKind, Options, Timestamp, Writer};
-use sst_blocks::{Checksum, Error, InternalValue, SeqNo, Slice, ValueType};
+use sst_blocks::{Checksum, EntryRef, Error, InternalValue, SeqNo, Slice, ValueType};
 use std::alloc::Allocator;
 use test_tables::rows::{Row, fill, new_writer};
 use test_tables::stored::{filter_parts, one_entry, one_entry_filtered, two_levels};
@@ -309,15 +309,35 @@ const THREE: [u8; 8] = [3, 0, 0, 0, 0, 0, 0, 0];
 /// A key and a bound.
 pub(crate) type Sought = (&'static [u8], SeqNo);
 
-/// What a read answers, and how many blocks of data, of the index and of the filter it loads.
+/// What a read answers, and how many blocks of data, of the index and of the filter it loads. Where
+/// the read that lends answers or loads otherwise, the loads are as many as there are none.
 pub(crate) fn counted_read<A: Allocator + Copy>(
     table: &Table<A>,
     key: &[u8],
     seqno: SeqNo,
 ) -> (Result<Option<SeqNo>, Error>, [u64; 3]) {
-    let (found, opened) = table.get_counted(key, seqno, Table::<A>::key_hash(key));
-    let loads = [opened.data_loads, opened.index_loads, opened.filter_loads];
+    let key_hash = Table::<A>::key_hash(key);
+    let (found, opened) = table.get_counted(key, seqno, key_hash);
+    let (lent, lent_opened) = table.get_ref_counted(key, seqno, key_hash);
+    let loads = if lends_same(&found, &lent) && opened == lent_opened {
+        [opened.data_loads, opened.index_loads, opened.filter_loads]
+    } else {
+        [u64::MAX; 3]
+    };
     (number_of(found), loads)
+}
+
+/// Whether a read that lends answers as one that gives.
+pub(crate) fn lends_same<A: Allocator>(
+    found: &Result<Option<InternalValue<A>>, Error>,
+    lent: &Result<Option<EntryRef<'_>>, Error>,
+) -> bool {
+    match (found, lent) {
+        (Ok(Some(item)), Ok(Some(entry))) => item.as_entry_ref() == *entry,
+        (Ok(None), Ok(None)) => true,
+        (Err(fault), Err(error)) => fault == error,
+        _ => false,
+    }
 }
 
 /// A clone of a table.

@@ -175,6 +175,38 @@ fn lends_none_once_ended<A: Allocator>(cursor: &mut DataBlockCursor<A>, has_one:
     begins && cursor.entry().is_none() && !cursor.advance()
 }
 
+// Whether a cursor lends these entries from the front and from the back by turns, and then nothing.
+fn lends_by_turns<A: Allocator>(
+    cursor: &mut DataBlockCursor<A>,
+    rows: &[EntryRef<'static>],
+) -> bool {
+    let mut rest = rows;
+    let mut is_so = true;
+    for turn in 0..rows.len() {
+        let (row, others) = match rest {
+            [first, others @ ..] if turn % 2 == 0 => (first, others),
+            [others @ .., last] => (last, others),
+            [] => return false,
+        };
+        let moves = if turn % 2 == 0 {
+            cursor.advance()
+        } else {
+            cursor.advance_back()
+        };
+        is_so &= moves && cursor.entry() == Some(*row);
+        rest = others;
+    }
+    cursor.unlend();
+    is_so && cursor.entry().is_none() && !cursor.advance_back() && !cursor.advance()
+}
+
+// Whether a cursor of the entries from the second on lends these from both ends.
+fn lends_behind_the_first<A: Allocator>(block: DataBlock<A>, rows: &[EntryRef<'static>]) -> bool {
+    let len = block.len();
+    let mut cursor = block.into_cursor_of(1, len);
+    lends_by_turns(&mut cursor, rows.get(1..).unwrap_or_default())
+}
+
 // Whether a clone, which outlives its block, is read and lent as the block.
 fn is_cloned_so<A: Allocator>(
     copy: Result<DataBlock<A>, AllocError>,
@@ -197,10 +229,15 @@ fn is_cloned_so<A: Allocator>(
 fn both_are_read_so<A: Allocator>(block: DataBlock<A>, stored: &Stored, may_fail: bool) -> bool {
     let copy: Result<_, _> = block.clone();
     let is_so = is_read_so(&block, stored, may_fail);
+    let again: Result<_, _> = block.clone();
     let mut cursor = block.into_cursor();
     let is_ended = lends_none_once_ended(&mut cursor, !stored.rows.is_empty());
     drop(cursor);
-    is_cloned_so(copy, stored, may_fail) && is_so && is_ended
+    let is_part = match again {
+        Ok(again) => lends_behind_the_first(again, stored.rows),
+        Err(_) => may_fail,
+    };
+    is_cloned_so(copy, stored, may_fail) && is_so && is_ended && is_part
 }
 
 // Whether entries are written as their payload, or memory was refused where it may be.

@@ -1,8 +1,9 @@
 //! Point reads of several runs, of all of them and by age, and of one: what they find, the blocks
 //! that they load, and what they are refused where a table is damaged.
-use crate::tables::{cloned, number_of};
+use crate::tables::{cloned, lends_same, number_of};
 use logpurple::{
-    Table, get_runs, get_runs_by_age, get_runs_by_age_counted, get_runs_counted, read_run,
+    Table, get_runs, get_runs_by_age, get_runs_by_age_counted, get_runs_counted, get_runs_ref,
+    read_run,
 };
 use lsm_ranges::Run;
 use sst_blocks::{Error, InternalValue, Opened, SeqNo, ValueType};
@@ -41,11 +42,12 @@ fn is_so(read: (Result<Option<InternalValue>, Error>, Opened), wanted: &Read) ->
     number_of(found) == wanted.0 && opened.data_loads == wanted.1 && others == (0, 0, 0)
 }
 
-// Whether runs are read as a case says, with the loads counted and without.
+// Whether runs are read as a case says, with the loads counted and without, given and lent.
 fn is_read(runs: &[Tables<Global>], case: &Case) -> bool {
     let (key, bound, of_all, by_age) = (case.0, case.1, &case.2, &case.3);
     is_so(get_runs_counted(runs, key, bound), of_all)
         && is_so(get_runs_by_age_counted(runs, key, bound), by_age)
+        && lends_same(&get_runs(runs, key, bound), &get_runs_ref(runs, key, bound))
         && number_of(get_runs(runs, key, bound)) == of_all.0
         && number_of(get_runs_by_age(runs, key, bound)) == by_age.0
 }

@@ -441,3 +441,19 @@ fn a_scan_of_a_run_lends_what_it_gives(rt: HostRuntime) {
         assert!(rt; lent(rt.alloc(), damaged) == Ok(Some(walk)));
     }
 }
+
+// What a reader of a run that gives its entries and one that lends them walk, the table at a place
+// damaged.
+fn range_lent(alloc: Global, damaged: usize) -> Result<Option<(usize, u8)>, Error> {
+    walk_both(
+        span_reader_of(alloc, (LENT_TABLES, damaged), ALL, WHOLE),
+        span_reader_of(alloc, (LENT_TABLES, damaged), ALL, WHOLE),
+    )
+}
+
+#[test]
+fn a_range_of_a_run_lends_what_it_gives(rt: HostRuntime) {
+    for (damaged, walk) in [(3, (5, 0)), (2, (3, 5)), (1, (2, 5))] {
+        assert!(rt; range_lent(rt.alloc(), damaged) == Ok(Some(walk)));
+    }
+}

@@ -127,55 +127,57 @@ fn a_scan_lends_what_it_gives(rt: HostRuntime) {
 
 // ---- one range, lent and given by turns
 
-// Takes a range from the front by turns of a loan and a gift, and each third time one from the
-// back: how many came from either end, or `None` where an entry is not the next one of another
-// range's, or is lent on after a step at the back.
-fn by_turns(mut mixed: Iter, mut plain: Iter) -> Result<Option<(usize, usize)>, Error> {
-    let mut taken = (0usize, 0usize);
-    loop {
-        if !mixed.advance()? {
-            break;
-        }
-        let expected = plain.next();
-        let Some(Ok(expected)) = expected else {
-            return Ok(None);
-        };
-        if mixed.entry() != Some(expected.as_entry_ref()) {
-            return Ok(None);
-        }
-        taken.0 = taken.0.saturating_add(1);
-        match (mixed.next_back(), plain.next_back()) {
-            (None, None) => break,
-            (Some(Ok(found)), Some(Ok(last))) => {
-                if found != last || mixed.entry().is_some() {
-                    return Ok(None);
-                }
-                taken.1 = taken.1.saturating_add(1);
-            }
-            _ => return Ok(None),
-        }
-        match (mixed.next(), plain.next()) {
-            (None, None) => break,
-            (Some(Ok(found)), Some(Ok(first))) => {
-                if found != first {
-                    return Ok(None);
-                }
-                taken.0 = taken.0.saturating_add(1);
-            }
-            _ => return Ok(None),
-        }
+// Whether a range lends the next entry of another.
+fn lends_next(mixed: &mut Iter, plain: &mut Iter) -> Result<bool, Error> {
+    let more = mixed.advance()?;
+    match plain.next() {
+        Some(item) => Ok(more && mixed.entry() == Some(item?.as_entry_ref())),
+        None => Ok(!more && mixed.entry().is_none()),
     }
-    Ok(Some(taken))
+}
+
+// Whether a range gives what another gives, from the back or from the front, and lends nothing
+// behind a step at the back.
+fn gives_next(mixed: &mut Iter, plain: &mut Iter, back: bool) -> Result<bool, Error> {
+    let (found, wanted) = if back {
+        (mixed.next_back(), plain.next_back())
+    } else {
+        (mixed.next(), plain.next())
+    };
+    if back && mixed.entry().is_some() {
+        return Ok(false);
+    }
+    match (found, wanted) {
+        (Some(found), Some(wanted)) => Ok(found? == wanted?),
+        (None, None) => Ok(true),
+        _ => Ok(false),
+    }
+}
+
+// Whether two ranges are the same where one lends, gives from the back and gives from the front by
+// turns.
+fn are_same_by_turns(
+    mixed: Result<Iter, Error>,
+    plain: Result<Iter, Error>,
+) -> Result<bool, Error> {
+    let mut mixed = mixed?;
+    let mut plain = plain?;
+    let mut same = true;
+    for turn in 0..12 {
+        same &= match turn % 3 {
+            0 => lends_next(&mut mixed, &mut plain)?,
+            1 => gives_next(&mut mixed, &mut plain, true)?,
+            _ => gives_next(&mut mixed, &mut plain, false)?,
+        };
+    }
+    Ok(same)
 }
 
 #[test]
 fn a_range_lends_and_gives_by_turns(rt: HostRuntime) {
-    let kinds: Changed<'_> = (Of::Kinds, &[], PINS, 0);
-    let mixed = range_in(rt.alloc(), &kinds, ALL);
-    let plain = range_in(rt.alloc(), &kinds, ALL);
-    let (Ok(mixed), Ok(plain)) = (mixed, plain) else {
-        assert!(rt; false);
-        return;
-    };
-    assert!(rt; by_turns(mixed, plain) == Ok(Some((5, 2))));
+    for kind in KINDS {
+        let mixed = range_in(rt.alloc(), kind, ALL);
+        let plain = range_in(rt.alloc(), kind, ALL);
+        assert!(rt; are_same_by_turns(mixed, plain) == Ok(true));
+    }
 }

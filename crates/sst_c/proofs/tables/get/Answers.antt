@@ -1,15 +1,27 @@
-use Rattle.std.proofs.Common.{◌≡◌, Some, ◌∙◌, subst, sym}
-use Rattle.lsm_readers.specs.Words.{OpenTable, table_answer}
-use Rattle.sst_c.proofs.Answering.{first_tells}
-use Rattle.sst_c.proofs.Verifying.{same_table}
+use Rattle.std.proofs.Common.{◌≡◌, [], Ok}
+use Rattle.lsm_readers.specs.Words.{OpenTable, StoresList, lift, point, table_answer}
+use Rattle.sst_c.proofs.Placing.{at_table}
 use Rattle.sst_c.proofs.tables.get.Goals as goal
+use Rattle.sst_c.specs.Codes.{TellsFirst}
+use Rattle.sst_c.specs.Told.{AnswersRead, found_at}
+use Rattle.sst_c.specs.declared.held.What.{What}
 
--- the first fault of the read is told
+-- the table that is read is the one that is held
+pub returns-in-Table-clause-told : goal.returns-in-Table-clause-told
+returns-in-Table-clause-told c t same =
+    let P : What → OpenTable → Type 0 = λ w u.
+    AnswersRead c.get_in.result (found_at c.get_in.new.found w) (table_answer u c.args.key.now c.args.seqno).told in
+    at_table P c.args.held.now.what c.in-Table.table t c.in-Table.is same c.get_in.ensures.told
+
 pub returns-in-Table-clause-early : goal.returns-in-Table-clause-early
-returns-in-Table-clause-early c t same e is =
-    let table = c.in-Table.table in
-    let one = same_table c.args.held.now.what table t c.in-Table.is same in
-    let P : OpenTable → Type 0 = λ u. (table_answer u c.args.key.now c.args.seqno).early ≡ Some e in
-    c.keep.ensures.code
-    ∙ first_tells c.get.result (table_answer table c.args.key.now c.args.seqno).early c.get.ensures.early e
-    (subst P (sym one) is)
+returns-in-Table-clause-early c t same =
+    let P : What → OpenTable → Type 0 = λ w u.
+    TellsFirst c.get_in.result (table_answer u c.args.key.now c.args.seqno).early in
+    at_table P c.args.held.now.what c.in-Table.table t c.in-Table.is same c.get_in.ensures.early
+
+pub returns-in-Table-clause-list : goal.returns-in-Table-clause-list
+returns-in-Table-clause-list c t es same stores =
+    let P : What → OpenTable → Type 0 = λ w u. StoresList u.bytes es →
+    AnswersRead c.get_in.result (found_at c.get_in.new.found w)
+    (Ok (point (lift es u.global_seqno) c.args.key.now c.args.seqno)) in
+    at_table P c.args.held.now.what c.in-Table.table t c.in-Table.is same (c.get_in.ensures.list es) stores
