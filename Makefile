@@ -15,6 +15,7 @@
 PREFIX = /usr/local
 DESTDIR =
 
+.NOTPARALLEL:
 .PHONY: all program libraries test quick bench dist installed install uninstall help toolchain
 
 all: program libraries
