@@ -75,16 +75,67 @@ class FileTold(Structure):
     _fields_ = [("id", c_uint64), ("checksum", c_uint64), ("len", c_uint64)]
 
 
+#: The version of the calls that are declared below.
+VERSION = 4
+
+_FOLDER = os.path.dirname(os.path.abspath(__file__))
+# A library in the package's folder, as in a wheel; one that a checkout has built.
+_PACKAGED = os.path.join(_FOLDER, "libsst.so")
+_BUILT = os.path.normpath(os.path.join(_FOLDER, "..", "..", "out", "libsst.so"))
+# The names by which the system's loader may know it.
+_INSTALLED = ("libsst.so.1", "libsst.so")
+
+
 def _load():
+    """Loads the library, of the first of four places that has one.
+
+    These are the package's folder, the file that LOGPURPLE_LIBRARY names, bindings/out of a
+    checkout, and the folders of the system's loader. Raises `ImportError` if none has it, or if it
+    does not load.
+    """
     named = os.environ.get("LOGPURPLE_LIBRARY")
-    if named:
-        return ctypes.CDLL(named)
-    built = os.path.join(os.path.dirname(__file__), "..", "..", "out", "libsst.so")
-    return ctypes.CDLL(built if os.path.exists(built) else "libsst.so")
+    if os.path.exists(_PACKAGED):
+        names = (_PACKAGED,)
+    elif named:
+        names = (named,)
+    elif os.path.exists(_BUILT):
+        names = (_BUILT,)
+    else:
+        names = _INSTALLED
+    errors = []
+    for name in names:
+        try:
+            return ctypes.CDLL(name)
+        except OSError as error:
+            errors.append(str(error))
+    raise ImportError(f"""cannot load libsst.so: {errors[-1]}
+logpurple looks for it in this order:
+  1. {_PACKAGED}: {_state(_PACKAGED)}
+  2. the file that the environment variable LOGPURPLE_LIBRARY names: {named or 'not set'}
+  3. {_BUILT}: {_state(_BUILT)}
+  4. {' or '.join(_INSTALLED)}, where the system's loader finds it
+To build libsst.so, run bindings/build in a checkout. Then copy it to the first of these places, or
+set LOGPURPLE_LIBRARY to its path.""")
+
+
+def _state(path):
+    return "exists" if os.path.exists(path) else "does not exist"
+
+
+def _require_version():
+    """Raises `ImportError` unless the library has the calls that are declared below."""
+    try:
+        found = _library.sst_version()
+    except AttributeError as error:
+        raise ImportError(f"{_library._name} is not libsst: {error}") from error
+    if found != VERSION:
+        raise ImportError(
+            f"{_library._name} has version {found} of the calls of sst.h, and logpurple needs "
+            f"version {VERSION}: use the library and the package of one release")
 
 
 _library = _load()
-
+_require_version()
 
 def _call(name, *types, answers=c_uint32):
     call = getattr(_library, name)
@@ -101,12 +152,7 @@ _bytes = (c_char_p, c_size_t)
 _array = (c_void_p, c_size_t)
 _bounds = (c_uint32, *_bytes, c_uint32, *_bytes)
 
-#: The version of the calls that are declared below.
-VERSION = 4
-
 version = _call("sst_version")
-if version() != VERSION:
-    raise ImportError(f"the library has version {version()} of its calls, and not {VERSION}")
 close = _call("sst_close", _handle, answers=None)
 strerror_copy = _call("sst_strerror_copy", c_uint32, *_array, answers=c_uint64)
 found_lend = _call("sst_found_lend", _handle, _lent)
