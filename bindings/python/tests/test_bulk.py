@@ -95,6 +95,20 @@ class Bulk(unittest.TestCase):
                 single.add(key, value, 3, Kind.INDIRECTION)
             self.assertEqual(writer.finish(), single.finish())
 
+    def test_many_that_are_no_pairs(self):
+        """Lists of other lengths are no pairs, whatever they have together."""
+        for wrong in ([(b"a",), (b"b", b"1", b"2")], [(b"a", b"1", b"2")], [b"a"], [5], [None]):
+            writer = Writer()
+            with self.assertRaises((TypeError, ValueError)):
+                writer.add_many(wrong)
+            self.assertIsNone(writer.finish())
+
+    def test_a_short_range_takes_one_call(self):
+        for count in (0, 1, 15):
+            entries = table_of(ENTRIES).entries(b"%05d" % 0, b"%05d" % count)
+            self.assertEqual(len(list(entries)), 2 * count if count < 8 else 30)
+            self.assertEqual(entries._fetched, 1 if count < 8 else 2)
+
     def test_many_out_of_order(self):
         writer = Writer()
         with self.assertRaises(OutOfOrder):

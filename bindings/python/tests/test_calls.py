@@ -13,10 +13,10 @@ HEADER = os.path.join(HERE, "..", "..", "..", "include", "sst.h")
 # What a word of the header is in ctypes; a pointer to another struct stands by its name.
 PLAIN = {"size_t": ctypes.c_size_t, "uint64_t": ctypes.c_uint64, "uint32_t": ctypes.c_uint32,
          "bool": ctypes.c_bool, "void": None}
-STRUCTS = {"sst_handle": _calls.Handle, "sst_entry": _calls.EntryTold, "sst_lent": _calls.Lent,
-           "sst_facts": _calls.FactsTold, "sst_verified": _calls.VerifiedTold,
-           "sst_options": _calls.Options, "sst_file": _calls.FileTold,
-           "sst_progress": _calls.Progress, "sst_memory": _calls.MemoryTold}
+STRUCTS = {"sst_handle": _calls.Handle, "sst_entry": _calls.Entry, "sst_lent": _calls.Lent,
+           "sst_facts": _calls.Facts, "sst_verified": _calls.Verified,
+           "sst_options": _calls.Options, "sst_file": _calls.File,
+           "sst_progress": _calls.Progress, "sst_memory": _calls.Memory}
 POINTERS = (ctypes.c_char_p, ctypes.c_void_p)
 
 

@@ -130,7 +130,7 @@ class Steps(unittest.TestCase):
 
         def use(read, size):
             if read < size / 2:
-                self.assertEqual(table.verify().item_count, len(table))
+                self.assertEqual(table.verify().item_count, table.entry_count)
             else:
                 table.close()
 

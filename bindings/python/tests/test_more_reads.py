@@ -4,6 +4,7 @@ largest numbers, and every range of every small list."""
 import itertools
 import struct
 import unittest
+from ctypes import addressof
 
 from common import file_of, table_of
 
@@ -223,6 +224,21 @@ class Laid(unittest.TestCase):
 
 
 class Written(unittest.TestCase):
+    def test_options_that_change_the_meta_block_alone(self):
+        """The restart interval and the hash ratio: each is one item of it."""
+        entries = [Entry(b"%03d" % place, 1, Kind.VALUE, b"v") for place in range(300)]
+        file = file_of(entries, data_block_size=256)
+        place, _ = sections(file)[6]
+        for option, name, values in (
+                ("data_block_restart_interval", b"restart_interval#data", (1, 255)),
+                ("data_block_hash_ratio", b"data_block_hash_ratio", (750, 2**32 - 1))):
+            for value in values:
+                other = file_of(entries, data_block_size=256, **{option: value})
+                self.assertEqual((len(other), other[:place], other[-120:]),
+                                 (len(file), file[:place], file[-120:]))
+                self.assertEqual({after[2] for before, after in zip(items_of(file), items_of(other))
+                                  if before != after}, {name})
+
     def test_entries_follow_in_strict_order(self):
         for key, seqno, kind, follows in (
                 (b"a", 2, Kind.VALUE, False), (b"a", 1, Kind.VALUE, False),
@@ -236,7 +252,7 @@ class Written(unittest.TestCase):
             else:
                 with self.assertRaises(logpurple.OutOfOrder):
                     writer.add(key, b"", seqno, kind)
-            self.assertEqual(len(Table.open(writer.finish())), 1 + follows)
+            self.assertEqual(Table.open(writer.finish()).entry_count, 1 + follows)
 
     def test_the_longest_key_and_a_longer_one(self):
         longest = b"a" * 1048576
@@ -310,8 +326,8 @@ class Ranges(unittest.TestCase):
     """All ranges of all small lists, whatever five ends are asked."""
 
     def check(self, table, entries):
-        handle, told = _calls.Handle(), _calls.EntryTold()
-        ref, told_ref = _calls.addressof(handle), _calls.addressof(told)
+        handle, found = _calls.Handle(), _calls.Entry()
+        ref, found_ref = addressof(handle), addressof(found)
         for lower, upper in itertools.product(EDGES, repeat=2):
             numbers = [e.seqno for e in entries if is_within(e.key, lower, upper)]
             for ends in itertools.product((False, True), repeat=5):
@@ -319,8 +335,8 @@ class Ranges(unittest.TestCase):
                                          upper[0], upper[1], len(upper[1]), ref)
                 taken = []
                 for is_back in ends:
-                    code |= _calls.range_next(ref, is_back, told_ref)
-                    taken.append(told.seqno if told.kind else 0)
+                    code |= _calls.range_next(ref, is_back, found_ref)
+                    taken.append(found.seqno if found.kind else 0)
                 _calls.close(ref)
                 self.assertEqual((code, taken), (0, dealt(numbers, ends)),
                                  (entries, lower, upper, ends))

@@ -83,7 +83,8 @@ class Compactions(unittest.TestCase):
             written = versions(*((key, seqno, V, LONG) for key, count in numbers.items()
                                  for seqno in reversed(range(count))))
             files = compact([table_of(written)], target=1024)
-            self.assertEqual([len(Table.open(file)) for file in files], list(numbers.values()))
+            self.assertEqual([Table.open(file).entry_count for file in files],
+                             list(numbers.values()))
 
 
 class Packings(unittest.TestCase):

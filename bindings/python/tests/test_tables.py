@@ -23,7 +23,7 @@ class Tables(unittest.TestCase):
             entries = entries_of(seed, 300)
             file, keys = file_of(entries, **small(seed)), keys_of(entries)
             table = Table.open(file, 0, seed % 2 == 0, seed % 3 == 0)
-            self.assertEqual((len(table), table.verify().item_count), (len(entries),) * 2)
+            self.assertEqual((table.entry_count, table.verify().item_count), (len(entries),) * 2)
             for at in list(range(11)) + [logpurple.NEWEST]:
                 expected = [newest(entries, key, at) for key in keys]
                 self.assertEqual([table.entry(key, at) for key in keys], expected)

@@ -1,0 +1,56 @@
+"""Type hints: `mypy --strict` takes the package and its uses, and finds misuses."""
+
+import importlib.util
+import os
+import subprocess
+import sys
+import tempfile
+import unittest
+
+from common import HERE
+
+FOLDER = os.path.join(HERE, "..")
+WRONG = """from logpurple import Runs, Table, Writer, compact
+def f(table: Table, runs: Runs) -> None:
+    len(table)
+    len(runs)
+    table["a"]
+    table.get("a")
+    table.range("a")
+    Writer(Id=1)
+    Writer(id="1")
+    Writer(1)
+    compact([table], levels=1)
+    compact(5)
+    table.entry_count = 5
+    value: bytes = table.get(b"a")
+    runs.add(runs)
+"""
+
+
+def mypy(*words):
+    return subprocess.run(
+        [sys.executable, "-m", "mypy", "--strict", "--cache-dir", os.devnull, *words],
+        env=dict(os.environ, MYPYPATH=FOLDER), stdout=subprocess.PIPE, universal_newlines=True)
+
+
+@unittest.skipUnless(importlib.util.find_spec("mypy"), "mypy is not here")
+class Typing(unittest.TestCase):
+    def test_the_package_and_its_uses(self):
+        for version in ("3.8", "3.13"):
+            checked = mypy("--python-version", version, os.path.join(FOLDER, "logpurple"),
+                           os.path.join(HERE, "typed.py"), os.path.join(FOLDER, "example.py"))
+            self.assertEqual(checked.returncode, 0, checked.stdout)
+
+    def test_misuse(self):
+        with tempfile.TemporaryDirectory() as folder:
+            path = os.path.join(folder, "wrong.py")
+            with open(path, "w", encoding="utf-8") as file:
+                file.write(WRONG)
+            found = {int(line.split(":")[1]) for line in mypy(path).stdout.splitlines()
+                     if "wrong.py:" in line and ": error:" in line}
+        self.assertEqual(sorted(found), list(range(3, WRONG.count("\n") + 1)))
+
+
+if __name__ == "__main__":
+    unittest.main()
