@@ -34,12 +34,12 @@ b'green'
 Keys, values and tables may be any object with a buffer, which type hints call `BytesLike`. A range
 is from its lower bound on and below its upper one.
 
-What is opened is closed by `close`, by `with`, or with its last reference, in any order: what was
-opened from an object does not need it. It is neither copied nor pickled.
+An object is closed by `close`, by `with`, or with its last reference. Objects may be closed in any
+order: an iterator does not need its table. They cannot be copied or pickled.
 
 Threads may share an object: its calls take turns. To read a table at the same time, each thread
-takes a share of it, by `Table.share`. A process that was forked may use an object unless another
-thread was using it then.
+needs a share of it, which `Table.share` returns. A forked process may use an object unless another
+thread was using it at the fork.
 
 The package needs CPython 3.8 or later, and the library libsst.
 """

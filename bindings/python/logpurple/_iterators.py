@@ -88,7 +88,7 @@ class Steps(Returned):
     # An error of the source. It is raised after the entries that were fetched before it.
     _pending: Optional[Exception] = None
     _room: Optional[_Room] = None
-    # What was fetched at the front and at the back, and not yet taken.
+    # The entries that were fetched at the front and at the back, and not yet taken.
     _queues: Tuple[Deque[Entry], Deque[Entry]]
 
     # The call that copies the next entries into some room.

@@ -1,4 +1,4 @@
-"""Entries, and what calls return about a table."""
+"""Entries, and the results of calls about a table."""
 
 from __future__ import annotations
 
@@ -43,7 +43,7 @@ class Entry(NamedTuple):
 
 
 class Facts(NamedTuple):
-    """What a table claims about itself. In bytes from elsewhere it may be wrong.
+    """The claims of a table about itself. In bytes from elsewhere they may be wrong.
 
     `id`: the id that the table was written with.
     `version`: the format version, 3 or 4.

@@ -79,7 +79,7 @@ class Resource:
         self._ref = addressof(self._handle)
         # The bytes that the library reads without a copy. They stay until the handle is closed.
         self._kept: Tuple[memoryview, ...] = ()
-        # What a read fills. They are used within a turn only.
+        # A read fills these. They are used within a turn only.
         self._entry, self._lent = _calls.Entry(), _calls.Lent()
         self._entry_ref, self._lent_ref = addressof(self._entry), addressof(self._lent)
         self._is_open = True
@@ -142,7 +142,7 @@ class Resource:
         if hasattr(self, "_lent_ref") and _calls is not None and self._turn.try_enter():
             self._release()
 
-    # Closes the handle, within a turn. What is kept goes after it.
+    # Closes the handle, within a turn, and then drops the bytes that it kept.
     def _release(self) -> None:
         self._is_open = False
         _calls.close(self._ref)
@@ -169,7 +169,7 @@ class Resource:
         parts = self._parts()
         return f"<{' '.join(parts)}{' closed' if self.closed else ''}>"
 
-    # What `repr` shows of an object, beside whether it is closed.
+    # The words that `repr` shows, beside whether the object is closed.
     def _parts(self) -> List[str]:
         return [type(self).__name__] + ([] if self._path is None else [repr(self._path)])
 
@@ -179,5 +179,6 @@ class Returned(Resource):
 
     _maker = ""
 
-    def __init__(self, *_: object, **__: object) -> None:
+    def __init__(self, *_: NoReturn, **__: NoReturn) -> None:
+        """Raises `TypeError`: only the calls that the class names make such an object."""
         raise TypeError(f"a {type(self).__name__} is {self._maker}")

@@ -241,7 +241,7 @@ class _Reader(Resource):
     def __getitem__(self, key: BytesLike) -> bytes:
         """Returns the newest value of a key. This is a point read.
 
-        Raises `KeyError` if the key has no value, as if it is deleted.
+        Raises `KeyError` if the key has no value, for example because it is deleted.
 
         >>> writer = Writer()
         >>> writer.add(b"a", b"1")
@@ -338,13 +338,13 @@ class Table(Returned, _Reader):
         `global_seqno`: is added to the sequence number of each entry.
         `pin_filter`, `pin_index`: whether a filter or an index that is one block stays loaded. If
         it does not, each read loads it.
-        `kept`: the table reads the bytes themselves, which it and all that is opened from it
-        reference until they are closed. Nobody may write to them meanwhile, as to a mapped file.
+        `kept`: the table reads the bytes themselves. They are referenced until it is closed, and
+        all that was opened from it. Nobody may write to them meanwhile, as to a mapped file. They
+        have to be read-only and contiguous, as `bytes` and a map of a file with `ACCESS_READ` are.
 
-        Raises `OSError` if the file cannot be read, and a `TableError` if the bytes are no table.
-        Raises `BufferError` if bytes that are kept are not read-only or not contiguous, as `bytes`
-        and a map of a file with `ACCESS_READ` are. A table with damaged blocks may open: then reads
-        that load such a block fail, and `verify` finds it.
+        Raises `OSError` if the file cannot be read, a `TableError` if the bytes are no table, and
+        `BufferError` if bytes cannot be kept. A table with damaged blocks may open: then reads that
+        load such a block fail, and `verify` finds it.
 
         >>> writer = Writer()
         >>> writer.add(b"a", b"1", seqno=2)
@@ -402,10 +402,10 @@ class Table(Returned, _Reader):
         return self.facts().item_count
 
     def share(self: _SomeTable) -> _SomeTable:
-        """Returns another object for the same table, as for another thread.
+        """Returns another object for the same table, for example for another thread.
 
-        Both read the same bytes, of which none are copied, and each is closed by itself. Threads
-        that use one object take turns; threads with a share each read at the same time.
+        No bytes are copied. Each object is closed by itself. Threads that use one object take
+        turns, and threads with a share each read at the same time.
 
         >>> writer = Writer()
         >>> writer.add(b"a", b"1")
@@ -575,12 +575,12 @@ class Table(Returned, _Reader):
         Raises `Faulty` with the first fault, if there is one.
 
         `progress`: is called after each block, with the number of bytes of data blocks that were
-        read, and the number that there are. It may use the table. What it raises ends the
-        verification.
+        read, and the number that there are. It may use the table. An exception that it raises ends
+        the verification.
 
-        Some bytes are never read: in a table of a `Writer` these are the version section, and where
-        the trailer has the positions of this section, of the data blocks and of partitions. A
-        change of these is not found. The `checksum` of a `FinishedTable` is that of every byte.
+        Some bytes are never read, so a change of them is not found. In a table of a `Writer` these
+        are the version section, and the positions that the trailer has for this section, the data
+        blocks and partitions. The `checksum` of a `FinishedTable` is that of every byte.
 
         >>> writer = Writer()
         >>> writer.add(b"a", b"1")
@@ -712,7 +712,7 @@ class Runs(_Reader):
         """Returns an iterator over the newest versions of the keys from `lower` on and below
         `upper`, at the snapshot `at`.
 
-        Of each key it yields the newest version whose sequence number is below `at`, which may be a
+        It yields the newest version of each key whose sequence number is below `at`. This may be a
         deletion. The entries are in key order or, if `reverse`, in reverse. `None` is no bound.
         There are no entries if `lower` is not below `upper`. A table that is added later is not
         read.

@@ -219,8 +219,8 @@ def compact(tables: Union[Runs, Iterable[Table]], *, watermark: int = 0, evict: 
 
     The tables stay as they are. Memory holds all new tables at once.
 
-    `watermark`: the least snapshot that is still read. Of each key, the versions whose sequence
-    numbers are not below it are kept, and the newest one that is; older ones are dropped. By
+    `watermark`: the least snapshot that is still read. Versions whose sequence numbers are not
+    below it are kept, and the newest version of each key below it. Older ones are dropped. By
     default all are kept.
     `evict`: whether deletions that are not needed are dropped. Only for tables below which the tree
     has no older one.

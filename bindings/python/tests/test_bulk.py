@@ -1,5 +1,5 @@
-"""What is fetched ahead, and what is written many at a time: no entry is lost or comes twice, from
-either end, and an error comes in its place."""
+"""Entries that are fetched ahead or written in bulk. None is lost or repeated, at either end. An
+error is raised after the entries before it."""
 
 import random
 import unittest
@@ -29,7 +29,7 @@ class Bulk(unittest.TestCase):
         for count in (0, 1, 16, 17, 80, 81, 336, 337, 1499, 1500):
             entries = table.entries()
             self.assertEqual([entry for entry, _ in zip(entries, range(count))], ENTRIES[:count])
-            # `zip` takes one entry more than it gives, unless it is asked for that alone.
+            # `zip` takes one entry more than it yields.
             rest = list(entries)
             self.assertEqual(rest, ENTRIES[count + 1:])
             self.assertEqual(list(table.scan()), ENTRIES)
@@ -60,7 +60,7 @@ class Bulk(unittest.TestCase):
             self.assertEqual(found, ENTRIES[:len(found)])
             self.assertGreater(len(found), 100)
             self.assertEqual(list(steps), [])
-        # The front meets the error ahead of its place: the back gives what it has, and then it.
+        # The front fetches the error before it is due: the entries before it come first.
         entries = Table.open(file).entries()
         ahead = [entries.take() for _ in range(len(found))]
         self.assertEqual(ahead, found)

@@ -1,4 +1,4 @@
-"""What errors carry: the code, the path of the file, and the block where it is known."""
+"""The parts of errors: the code, the path of the file, and the block if it is known."""
 
 import copy
 import os

@@ -81,8 +81,8 @@ class Misuse(unittest.TestCase):
             held.close()
             held.close()
         for call in (lambda: table.get(b"a"), lambda: table.entry(b"a"), lambda: table[b"a"],
-                     lambda: b"a" in table, lambda: table.entry_count, lambda: list(table), table.facts,
-                     table.verify, table.share, table.entries, table.range, table.scan,
+                     lambda: b"a" in table, lambda: table.entry_count, lambda: list(table),
+                     table.facts, table.verify, table.share, table.entries, table.range, table.scan,
                      table.memory, lambda: next(scan),
                      lambda: table.get_many([b"a"]), lambda: table.get_many([]),
                      lambda: table.entry_many([b"a"]), lambda: writer.add(b"a", b""),
@@ -90,9 +90,9 @@ class Misuse(unittest.TestCase):
                      runs.entries, runs.range, lambda: compact(runs), lambda: compact([table]),
                      lambda: Runs(table), lambda: Runs().add(table),
                      lambda: next(entries), entries.take):
-            with self.assertRaises(logpurple.Closed) as refused:
+            with self.assertRaises(logpurple.Closed) as raised:
                 call()
-            self.assertEqual((refused.exception.code, isinstance(refused.exception, ValueError)),
+            self.assertEqual((raised.exception.code, isinstance(raised.exception, ValueError)),
                              (100, True))
 
     def test_closed_in_the_middle(self):
@@ -264,7 +264,7 @@ class Places(unittest.TestCase):
         gc.collect()
         self.assertIsNone(name())
 
-    def test_what_was_never_begun_is_let_go(self):
+    def test_an_object_without_a_handle(self):
         Table.__new__(Table).__del__()
         with self.assertRaises(logpurple.Closed):
             Table._empty().get(b"a")
