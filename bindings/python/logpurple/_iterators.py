@@ -7,7 +7,7 @@ import collections
 import ctypes
 import reprlib
 from ctypes import addressof
-from typing import Deque, Generator, Iterable, Iterator, List, Optional, Tuple, TypeVar
+from typing import Deque, Generator, Iterable, Iterator, List, Optional, Tuple, Type, TypeVar
 
 from . import _calls
 from ._calls import copied
@@ -91,12 +91,15 @@ class Steps(Returned):
     # The entries that were fetched at the front and at the back, and not yet taken.
     _queues: Tuple[Deque[Entry], Deque[Entry]]
 
+    @classmethod
+    def _empty(cls: Type[_Steps]) -> _Steps:
+        steps = super()._empty()
+        steps._queues = (collections.deque(), collections.deque())
+        return steps
+
     # The call that copies the next entries into some room.
     def _call(self, back: bool, *room: int) -> int:
         raise NotImplementedError
-
-    def _begin(self) -> None:
-        self._queues = (collections.deque(), collections.deque())
 
     def close(self) -> None:
         """Releases what the iterator reads, and drops the entries that it has fetched.
@@ -115,10 +118,9 @@ class Steps(Returned):
         logpurple.Closed: the handle is closed (100)
         """
         with self._turn:
-            if self._queues[0] or self._queues[1]:
+            if self._queues[0] or self._queues[1] or self._pending:
                 self._is_over, self._pending = False, None
-            self._drop()
-            self._release()
+            self._end()
 
     @property
     def closed(self) -> bool:
@@ -136,15 +138,18 @@ class Steps(Returned):
         """Returns the iterator itself. It yields each entry once."""
         return self
 
-    def _drop(self) -> None:
+    # Drops what was fetched, and releases the source.
+    def _end(self) -> None:
         for queue in self._queues:
             queue.clear()
+        self._room = None
+        self._release()
 
     # Returns the next entries at an end of the source, within a turn; `None` at its end.
     def _batch(self, back: bool) -> Optional[Batch]:
         if self._pending is not None:
             pending, self._pending = self._pending, None
-            self._drop()
+            self._end()
             raise pending
         if self._is_over:
             return None
@@ -161,14 +166,14 @@ class Steps(Returned):
             raise
         except BaseException:
             # Entries may be lost, so the iterator is exhausted.
-            self._drop()
+            self._end()
             raise
         self._is_over = is_over
         if code:
             self._pending = self._error(code)
         if is_over:
-            self._release()
             self._room = None
+            self._release()
         return batch
 
     # Yields each batch at an end.
@@ -256,10 +261,6 @@ class Entries(Steps):
     _maker = "made by Table.entries and Runs.entries"
     _bounds: Bounds = (0, b"", 0, 0, b"", 0)
     _reverse = False
-
-    def _begin_range(self, bounds: Bounds, reverse: bool) -> None:
-        self._begin()
-        self._bounds, self._reverse = bounds, bool(reverse)
 
     def take(self, reverse: bool = False) -> Optional[Entry]:
         """Returns the next entry from the front or, if `reverse`, from the back.

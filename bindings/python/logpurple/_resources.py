@@ -26,7 +26,12 @@ def number(value: Any, bits: int = 64) -> int:
 
 def plain(value: Any) -> bytes:
     """Returns the bytes of a buffer. Raises `TypeError` for anything else."""
-    return value if type(value) is bytes else bytes(memoryview(value))
+    if type(value) is bytes:
+        return value
+    try:
+        return bytes(memoryview(value))
+    except TypeError:
+        raise TypeError(f"bytes are expected, and not {type(value).__name__}") from None
 
 
 class Turn:

@@ -510,7 +510,7 @@ class Table(Returned, _Reader):
                at: int) -> Entries:
         bounds = _bounds(lower, upper)
         entries = Entries._empty()
-        entries._begin_range(bounds, reverse)
+        entries._bounds, entries._reverse = bounds, bool(reverse)
         with self._turn:
             entries._kept, entries._path = self._kept, self._path
             self._check(_calls.range_open(self._ref, *bounds, entries._ref))
@@ -530,7 +530,6 @@ class Table(Returned, _Reader):
         [(b'a', 2), (b'a', 1), (b'b', 3)]
         """
         scan = Scan._empty()
-        scan._begin()
         with self._turn:
             scan._kept, scan._path = self._kept, self._path
             self._check(_calls.scan_open(self._ref, scan._ref))
@@ -629,9 +628,9 @@ class Table(Returned, _Reader):
     # The facts are left out while another call is at work, which may take long.
     def _parts(self) -> List[str]:
         parts = super()._parts()
-        if self._turn.try_enter():
+        if self._is_open and self._turn.try_enter():
             try:
-                if self._is_open:
+                if self._is_open:  # still
                     facts = self._facts()
                     parts += [f"id={facts.id}", f"entry_count={facts.item_count}"]
             finally:
@@ -732,7 +731,7 @@ class Runs(_Reader):
                at: int) -> Entries:
         bounds = _bounds(lower, upper)
         entries = Entries._empty()
-        entries._begin_range(bounds, reverse)
+        entries._bounds, entries._reverse = bounds, bool(reverse)
         with self._turn:
             entries._kept = self._kept
             self._check(_calls.runs_range_open(self._ref, *bounds, at, entries._ref))

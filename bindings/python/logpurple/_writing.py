@@ -112,6 +112,8 @@ class Writer(Resource):
     7
     """
 
+    _id: Optional[int] = None
+
     def __init__(self, *, id: int = 0, created_at: int = 0, level: int = 0,
                  data_block_size: int = 4096, data_block_restart_interval: int = 16,
                  data_block_hash_ratio: int = 0, index_partition_size: int = 0,

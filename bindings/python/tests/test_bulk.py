@@ -59,7 +59,17 @@ class Bulk(unittest.TestCase):
                     found.append(entry)
             self.assertEqual(found, ENTRIES[:len(found)])
             self.assertGreater(len(found), 100)
+            self.assertTrue(steps.closed)
             self.assertEqual(list(steps), [])
+        # An error that is left by closing is not raised.
+        for steps in (Table.open(file).entries(), Table.open(file).scan()):
+            for _ in found:
+                next(steps)
+            self.assertFalse(steps.closed)
+            steps.close()
+            self.assertTrue(steps.closed)
+            with self.assertRaises(Closed):
+                next(steps)
         # The front fetches the error before it is due: the entries before it come first.
         entries = Table.open(file).entries()
         ahead = [entries.take() for _ in range(len(found))]

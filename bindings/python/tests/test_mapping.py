@@ -180,7 +180,7 @@ class Named(Table):
 
 
 class Representations(unittest.TestCase):
-    """`repr` shows what an object is, and never raises."""
+    """`repr` shows what an object is, also of one that could not be made."""
 
     def test_tables(self):
         table = table_of(TWO, id=7)
@@ -190,7 +190,7 @@ class Representations(unittest.TestCase):
         table.close()
         self.assertEqual(repr(table), "<Table closed>")
         self.assertEqual(repr(Named.open(file_of(TWO))), "<Named id=0 entry_count=10>")
-        self.assertIn("Table", repr(Table.__new__(Table)))
+        self.assertEqual(repr(Table.__new__(Table)), "<Table closed>")
 
     def test_runs(self):
         runs = Runs(table_of(TWO), table_of(TWO[:1]))
@@ -216,6 +216,7 @@ class Representations(unittest.TestCase):
     def test_what_is_written(self):
         writer = Writer(id=5)
         self.assertEqual(repr(writer), "<Writer id=5>")
+        self.assertEqual(repr(Writer.__new__(Writer)), "<Writer id=None closed>")
         writer.add(b"a", b"1")
         file = writer.finish()
         self.assertEqual(repr(writer), "<Writer id=5 closed>")
