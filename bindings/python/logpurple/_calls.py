@@ -82,47 +82,52 @@ class File(Structure):
 VERSION = 4
 
 _FOLDER = os.path.dirname(os.path.abspath(__file__))
-# A library in the package's folder, as in a wheel; one that a checkout has built.
+_BINDINGS = os.path.normpath(os.path.join(_FOLDER, "..", ".."))
+# The library in the package's folder, as in a wheel; and the one that bindings/build has built, if
+# the package is in a checkout.
 _PACKAGED = os.path.join(_FOLDER, "libsst.so")
-_BUILT = os.path.normpath(os.path.join(_FOLDER, "..", "..", "out", "libsst.so"))
+_BUILT = os.path.join(_BINDINGS, "out", "libsst.so")
 # The names by which the system's loader may know it.
 _INSTALLED = ("libsst.so.1", "libsst.so")
 
 
 def _load() -> ctypes.CDLL:
-    """Loads the library, of the first of four places that has one.
+    """Loads the library.
 
-    These are the package's folder, the file that LOGPURPLE_LIBRARY names, bindings/out of a
-    checkout, and the folders of the system's loader. Raises `ImportError` if none has it, or if it
-    does not load.
+    It is in the package's folder, or else the file that LOGPURPLE_LIBRARY names, or else what a
+    checkout has built, or else where the system's loader finds it. Raises `ImportError` if it is in
+    none of these places, or if the first that has it has one that does not load.
     """
     named = os.environ.get("LOGPURPLE_LIBRARY")
+    places = [f"{_PACKAGED}: {_state(_PACKAGED)}",
+              f"the file that the variable LOGPURPLE_LIBRARY names: {named or 'it is not set'}"]
+    is_checkout = os.path.exists(os.path.join(_BINDINGS, "build"))
+    if is_checkout:
+        places.append(f"{_BUILT}: {_state(_BUILT)}")
+    names: Tuple[str, ...] = _INSTALLED
     if os.path.exists(_PACKAGED):
-        names: Tuple[str, ...] = (_PACKAGED,)
+        names = (_PACKAGED,)
     elif named:
         names = (named,)
-    elif os.path.exists(_BUILT):
+    elif is_checkout and os.path.exists(_BUILT):
         names = (_BUILT,)
-    else:
-        names = _INSTALLED
     errors = []
     for name in names:
         try:
             return ctypes.CDLL(name)
         except OSError as error:
             errors.append(str(error))
+    listed = "\n".join(f"  {place}" for place in places)
     raise ImportError(f"""cannot load libsst.so: {errors[-1]}
-logpurple looks for it in this order:
-  1. {_PACKAGED}: {_state(_PACKAGED)}
-  2. the file that the environment variable LOGPURPLE_LIBRARY names: {named or 'not set'}
-  3. {_BUILT}: {_state(_BUILT)}
-  4. {' or '.join(_INSTALLED)}, where the system's loader finds it
-To build libsst.so, run bindings/build in a checkout. Then copy it to the first of these places, or
-set LOGPURPLE_LIBRARY to its path.""")
+logpurple looks for it in these places, and takes the first:
+{listed}
+  {' or '.join(_INSTALLED)} where the system's loader finds it
+To build it, run bindings/build in a checkout of logpurple. Then copy it to the first of these
+places, or set LOGPURPLE_LIBRARY to its path.""")
 
 
 def _state(path: str) -> str:
-    return "exists" if os.path.exists(path) else "does not exist"
+    return "it exists" if os.path.exists(path) else "it does not exist"
 
 
 def _declare(name: str, *types: Any, returns: Any = c_uint32) -> Callable[..., int]:

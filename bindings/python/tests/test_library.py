@@ -27,6 +27,8 @@ class Library(unittest.TestCase):
         self.packaged = os.path.join(self.package, "libsst.so")
         self.named = os.path.join(self.folder, "named.so")
         self.built = os.path.join(self.folder, "site", "out", "libsst.so")
+        self.script = os.path.join(self.folder, "site", "build")
+        open(self.script, "wb").close()
         self.installed = os.path.join(self.folder, "libsst.so.1")
         os.mkdir(os.path.dirname(self.built))
 
@@ -57,6 +59,8 @@ class Library(unittest.TestCase):
             self.finds(name, named or "")
         os.remove(self.packaged)
         self.finds(self.built)
+        os.remove(self.script)  # which only a checkout has
+        self.finds("libsst.so.1")
 
     def fails(self, *texts, named=None):
         found = self.run_with(named)
@@ -70,6 +74,8 @@ class Library(unittest.TestCase):
             self.skipTest("the system has the library")
         self.fails("cannot load libsst.so", self.packaged, self.built, "LOGPURPLE_LIBRARY",
                    "bindings/build")
+        os.remove(self.script)
+        self.assertNotIn(self.built, self.run_with().stderr)
 
     def test_one_that_is_named_and_not_there(self):
         """No other one is taken in its place."""
