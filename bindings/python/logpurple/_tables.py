@@ -123,9 +123,10 @@ class _Reader(Resource):
     def entry(self, key: BytesLike, at: int = NEWEST) -> Optional[Entry]:
         """Returns the newest version of a key whose sequence number is below `at`.
 
-        The version may be a deletion. Returns `None` if there is no such version. This is a point
-        read: of each table it loads at most one block of the filter, one of the index, and one of
-        data.
+        The version may be a deletion. Returns `None` if there is no such version.
+
+        This is a point read. It loads at most one block of each of the filter, the index and the
+        data; of a `Runs` as many for each run.
 
         >>> writer = Writer()
         >>> writer.delete(b"a", seqno=7)

@@ -41,10 +41,9 @@ def mypy(*words):
 @unittest.skipUnless(importlib.util.find_spec("mypy"), "mypy is not here")
 class Typing(unittest.TestCase):
     def test_the_package_and_its_uses(self):
-        for version in ("3.8", "3.13"):
-            checked = mypy("--python-version", version, os.path.join(FOLDER, "logpurple"),
-                           os.path.join(HERE, "typed.py"), os.path.join(FOLDER, "example.py"))
-            self.assertEqual(checked.returncode, 0, checked.stdout)
+        checked = mypy(os.path.join(FOLDER, "logpurple"), os.path.join(HERE, "typed.py"),
+                       os.path.join(FOLDER, "example.py"))
+        self.assertEqual(checked.returncode, 0, checked.stdout)
 
     def test_misuse(self):
         with tempfile.TemporaryDirectory() as folder:
