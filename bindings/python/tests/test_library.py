@@ -9,9 +9,11 @@ import unittest
 
 from common import HERE
 
+import logpurple
 from logpurple import _calls
 
-PACKAGE = os.path.join(HERE, "..", "logpurple")
+PACKAGE = os.path.dirname(os.path.abspath(logpurple.__file__))
+VERSION = os.path.join(HERE, "..", "..", "..", "VERSION")
 SHOW = "import logpurple._calls as c; print(c._library._name)"
 
 
@@ -97,6 +99,11 @@ class Library(unittest.TestCase):
 
 
 class Versions(unittest.TestCase):
+    @unittest.skipUnless(os.path.exists(VERSION), "the file of the version is not here")
+    def test_the_version_of_the_package(self):
+        with open(VERSION, encoding="ascii") as file:
+            self.assertEqual(logpurple.__version__, file.read().strip())
+
     def test_another_version(self):
         class Other:
             _name = "other.so"

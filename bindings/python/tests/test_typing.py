@@ -9,7 +9,10 @@ import unittest
 
 from common import HERE
 
-FOLDER = os.path.join(HERE, "..")
+import logpurple
+
+PACKAGE = os.path.dirname(os.path.abspath(logpurple.__file__))
+EXAMPLE = os.path.join(HERE, "..", "example.py")
 WRONG = """from logpurple import Runs, Table, Writer, compact
 def f(table: Table, runs: Runs) -> None:
     len(table)
@@ -35,14 +38,14 @@ def f(table: Table, runs: Runs) -> None:
 def mypy(*words):
     return subprocess.run(
         [sys.executable, "-m", "mypy", "--strict", "--cache-dir", os.devnull, *words],
-        env=dict(os.environ, MYPYPATH=FOLDER), stdout=subprocess.PIPE, universal_newlines=True)
+        env=dict(os.environ, MYPYPATH=os.path.dirname(PACKAGE)), stdout=subprocess.PIPE, universal_newlines=True)
 
 
 @unittest.skipUnless(importlib.util.find_spec("mypy"), "mypy is not here")
 class Typing(unittest.TestCase):
     def test_the_package_and_its_uses(self):
-        checked = mypy(os.path.join(FOLDER, "logpurple"), os.path.join(HERE, "typed.py"),
-                       os.path.join(FOLDER, "example.py"))
+        checked = mypy(PACKAGE, os.path.join(HERE, "typed.py"),
+                       *([EXAMPLE] if os.path.exists(EXAMPLE) else []))
         self.assertEqual(checked.returncode, 0, checked.stdout)
 
     def test_misuse(self):
