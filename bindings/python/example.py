@@ -1,33 +1,41 @@
-"""Writes two tables, opens them, reads keys and walks a range, of one table and of both together;
-compacts them into one and verifies it. `bindings/test` runs it."""
+"""Writes two tables, opens them, reads keys and ranges of one and of both together, compacts them
+into one and verifies it. `bindings/test` runs it."""
 
-from logpurple import NEWEST, Runs, Table, Writer, compact
+from typing import Iterable
+
+from logpurple import NEWEST, Entry, FinishedTable, Runs, Table, Writer, compact
 
 
-def write_older():
-    """The older table: of `apple` two versions, the newest first."""
+def opened(file: "FinishedTable | None") -> Table:
+    """Opens a table that was written, which has entries."""
+    assert file is not None
+    return Table.open(file)
+
+
+def write_older() -> Table:
+    """Writes the older table. It has two versions of `apple`, the newest first."""
     with Writer(id=1) as writer:
         writer.add(b"apple", b"red", seqno=7)
         writer.add(b"apple", b"green", seqno=3)
         writer.add(b"pear", b"yellow", seqno=5)
         writer.delete(b"plum", seqno=6)
-        return Table.open(writer.finish())
+        return opened(writer.finish())
 
 
-def write_newer():
-    """The newer table, in which `pear` is deleted."""
+def write_newer() -> Table:
+    """Writes the newer table, in which `pear` is deleted."""
     with Writer(id=2) as writer:
         writer.add(b"fig", b"violet", seqno=9)
         writer.delete(b"pear", seqno=8)
-        return Table.open(writer.finish())
+        return opened(writer.finish())
 
 
-def show(what, entry):
-    print(what, entry.key.decode(), entry.seqno, int(entry.kind), entry.value.decode())
+def show(word: str, entry: Entry) -> None:
+    print(word, entry.key.decode(), entry.seqno, int(entry.kind), entry.value.decode())
 
 
-def read_key(table, key, at=NEWEST):
-    """The version of a key that a reader at a number sees."""
+def read_key(table: Table, key: bytes, at: int = NEWEST) -> None:
+    """Shows the version of a key that is visible at a snapshot."""
     entry = table.entry(key, at)
     if entry is None:
         print("none", key.decode())
@@ -35,22 +43,22 @@ def read_key(table, key, at=NEWEST):
         show("found", entry)
 
 
-def walk(entries):
+def walk(entries: Iterable[Entry]) -> None:
     for entry in entries:
         show("walked", entry)
 
 
-def main():
+def main() -> None:
     older, newer = write_older(), write_newer()
     read_key(older, b"apple")
-    read_key(older, b"apple", at=5)  # sees what is numbered below 5
+    read_key(older, b"apple", at=5)  # sees the versions whose sequence numbers are below 5
     read_key(older, b"fig")
     walk(older.entries(b"pear", reverse=True))
     runs = Runs(newer, older)  # the newest first
-    newer.close()  # the list has shares
+    newer.close()  # `runs` has shares of both
     older.close()
     walk(runs.entries())
-    # What is left of all tables where nobody reads older versions, as one new table.
+    # Nobody reads older versions, so the new table has the newest values only.
     (file,) = compact(runs, watermark=NEWEST, evict=True, id=3)
     print("verified", Table.open(file).verify().item_count)
 

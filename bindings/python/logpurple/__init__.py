@@ -1,50 +1,65 @@
-"""Sorted tables of a log-structured store: written, read from both ends, compacted and verified.
+"""Sorted tables of a log-structured store: written, read, compacted and verified.
 
-A table is bytes, and each entry has a key, a number, a kind and a value:
+A table is bytes, as those of a file. It stores entries in order. Each has a key, a sequence number,
+a kind and a value:
 
 >>> writer = Writer()
 >>> writer.add(b"apple", b"red", seqno=2)
 >>> writer.add(b"apple", b"green", seqno=1)
 >>> writer.delete(b"pear", seqno=3)
 >>> file = writer.finish()
+
+A table reads as a mapping of the keys to their newest values. A key whose newest version is a
+deletion is not in it:
+
 >>> table = Table.open(file)
->>> table[b"apple"]
-b'red'
+>>> table[b"apple"], b"pear" in table, dict(table.items())
+(b'red', False, {b'apple': b'red'})
+
+A snapshot `at` sees the versions whose sequence numbers are below it. `entries` yields every
+version, deletions too:
+
 >>> table.get(b"apple", at=2)
 b'green'
->>> b"pear" in table
-False
 >>> [(entry.key, entry.seqno, entry.kind.name) for entry in table.entries()]
 [(b'apple', 2, 'VALUE'), (b'apple', 1, 'VALUE'), (b'pear', 3, 'TOMBSTONE')]
 
-`Table`, several as one in `Runs`, `Writer` and `compact` are what is used; their pages, as
-`help(logpurple.Table)` shows them, have an example of each call. A range is from its lower bound on
-and below its upper one. `NEWEST` is the largest number: reads at it, as where none is named, find
-the newest version. What is told are named tuples: `Entry`, `Facts`, `Memory`, `Packing`,
-`Verified`, `Finding`. What is written is bytes, a `FinishedTable` with its `checksum`. What is
-refused is an exception of the class `TableError`; a table that is not sound is `Faulty`.
-`BytesLike` is what has bytes.
+- `Table` reads one table, and `Runs` several as one.
+- `Writer` writes a table, and `compact` merges several into new ones. Both return `FinishedTable`,
+  which is `bytes` with an `id` and a `checksum`.
+- `Entry`, `Facts`, `Memory`, `Packing`, `Verified` and `Finding` are named tuples.
+- Errors are exceptions of the class `TableError`. `Table.verify` raises `Faulty`.
+- `NEWEST` is the largest sequence number, and the default snapshot.
 
-Any number of threads may use what they share: those that use one object take turns, and those that
-have a share of a table each, made by `Table.share`, read at the same time. A process that was
-forked may use what no thread was at work on. What is opened is neither copied nor pickled.
+Keys, values and tables may be any object with a buffer, which type hints call `BytesLike`. A range
+is from its lower bound on and below its upper one.
 
-It needs CPython 3.8 or a later one, and no compiler.
+An object is closed by `close`, by `with`, or with its last reference. Objects may be closed in any
+order: an iterator does not need its table. They cannot be copied or pickled.
+
+Threads may share an object: its calls take turns. To read a table at the same time, each thread
+needs a share of it, which `Table.share` returns. A forked process may use an object unless another
+thread was using it at the fork.
+
+The package needs CPython 3.8 or later, and the library libsst.
 """
 
 from . import _errors
 from ._errors import *  # noqa: F401,F403
-from ._tables import BytesLike, Entries, Runs, Scan, Table
-from ._told import (NEWEST, Entry, Facts, Fault, Finding, Kind, Memory, Packing, Section,
-                    Verified)
+from ._iterators import Entries, Scan
+from ._records import (NEWEST, Entry, Facts, Fault, Finding, Kind, Memory, Packing, Section,
+                       Verified)
+from ._tables import BytesLike, Items, Keys, Runs, Table, Values
 from ._writing import Compacted, FinishedTable, Writer, compact
 
+__version__ = "1.0.0"
+
 __all__ = ["NEWEST", "BytesLike", "Compacted", "Entries", "Entry", "Facts", "Fault", "Finding",
-           "FinishedTable", "Kind", "Memory", "Packing", "Runs", "Scan", "Section", "Table",
-           "Verified", "Writer", "compact"]
+           "FinishedTable", "Items", "Keys", "Kind", "Memory", "Packing", "Runs", "Scan",
+           "Section", "Table", "Values", "Verified", "Writer", "compact"]
 __all__ += _errors.__all__
 
-# What is public says that it is of this package.
+# The names of the package are the public ones, as errors and `help` show them.
 for _name in __all__:
     if hasattr(globals()[_name], "__qualname__"):
         globals()[_name].__module__ = __name__

@@ -1,8 +1,11 @@
-"""Refusals: each has an exception of its name."""
+"""The errors: an exception for each error code."""
 
-from typing import Dict, Optional, Type
+from __future__ import annotations
 
-from ._told import Finding
+from typing import Any, Dict, List, Optional, Type
+
+from . import _calls
+from ._records import Finding, Section
 
 __all__ = [
     "TableError", "OutOfMemory", "Truncated", "InvalidHeader", "InvalidTag", "ChecksumMismatch",
@@ -16,237 +19,282 @@ __all__ = [
 
 
 class TableError(Exception):
-    """A call was refused. `code` is the number of the refusal: 1 to 24 are the library's, from 100
-    on the calls' own.
+    """The base class of the errors of this package.
 
-    >>> Table.open(b"no table")
-    Traceback (most recent call last):
-    ..
-    logpurple.InvalidTrailer: invalid trailer (11)
+    `code`: the error code, 1 to 24 for a table or a writer, 100 to 107 for a call.
+    `path`: the path of the table's file, if the table was opened by its path.
+    `section`, `offset`: the block that is at fault, where it is known: its section, and the offset
+    in the file at which it starts, in bytes.
+
+    The last three are `None` if they are not known.
+
+    >>> try:
+    ...     Table.open(b"no table")
+    ... except TableError as error:
+    ...     print(error, error.code, error.path)
+    invalid trailer (11) 11 None
     """
 
     code = 0
-    text = "unknown refusal"
 
-    def __init__(self, code: Optional[int] = None):
+    def __init__(self, code: Optional[int] = None, *, path: Optional[str] = None,
+                 section: Optional[Section] = None, offset: Optional[int] = None) -> None:
         if code is not None:
             self.code = code
-        super().__init__(f"{self.text} ({self.code})")
+        super().__init__(self.code)
+        self.path, self.section, self.offset = path, section, offset
 
-    def __reduce__(self):
-        return type(self), (self.code,), self.__dict__.copy()
+    @property
+    def text(self) -> str:
+        """The library's text for the error code.
+
+        >>> ChecksumMismatch().text
+        'checksum mismatch'
+        """
+        return _calls.strerror(self.code)
+
+    def __str__(self) -> str:
+        parts = self._parts()
+        return f"{self.text} ({self.code})" + (": " + ", ".join(parts) if parts else "")
+
+    def __repr__(self) -> str:
+        return f"{type(self).__name__}({str(self)!r})"
+
+    # Where the error occurred, as far as it is known.
+    def _parts(self) -> List[str]:
+        parts = []
+        if self.path is not None:
+            parts.append(repr(self.path))
+        if self.section is not None:
+            parts.append(f"section {self.section.name}")
+        if self.offset is not None:
+            parts.append(f"offset {self.offset}")
+        return parts
 
 
 class OutOfMemory(TableError, MemoryError):
-    """Memory was refused."""
+    """An allocation failed. Any call may raise this."""
 
-    code, text = 1, "out of memory"
+    code = 1
 
 
 class Truncated(TableError):
     """A block reaches past the sections."""
 
-    code, text = 2, "a block reaches past the sections"
+    code = 2
 
 
 class InvalidHeader(TableError):
-    """A block's header is none."""
+    """The header of a block is invalid."""
 
-    code, text = 3, "invalid block header"
+    code = 3
 
 
 class InvalidTag(TableError):
-    """A block is of another kind than is asked for."""
+    """A block is of another kind than was expected."""
 
-    code, text = 4, "a block of another kind"
+    code = 4
 
 
 class ChecksumMismatch(TableError):
-    """A block was damaged."""
+    """The bytes of a block do not have its checksum."""
 
-    code, text = 5, "checksum mismatch"
+    code = 5
 
 
 class InvalidBlock(TableError):
-    """A block's payload is none."""
+    """The payload of a block is invalid."""
 
-    code, text = 6, "invalid block payload"
+    code = 6
 
 
 class KeyTooLong(TableError):
     """A key has more than 1,048,576 bytes."""
 
-    code, text = 7, "key too long"
+    code = 7
 
 
 class ValueTooLong(TableError):
     """A value has 2^32 bytes or more."""
 
-    code, text = 8, "value too long"
+    code = 8
 
 
 class BlockTooLarge(TableError):
     """A block would have 2^32 bytes or more."""
 
-    code, text = 9, "block too large"
+    code = 9
 
 
 class SectionTooLarge(TableError):
-    """A section would have, or has, 2^32 bytes or more."""
+    """A section has 2^32 bytes or more, or would have as many."""
 
-    code, text = 10, "section too large"
+    code = 10
 
 
 class InvalidTrailer(TableError):
-    """The bytes do not end as a table does."""
+    """The bytes do not end with the trailer of a table."""
 
-    code, text = 11, "invalid trailer"
+    code = 11
 
 
 class MissingSection(TableError):
-    """A section that has to be there is not."""
+    """A required section is missing."""
 
-    code, text = 12, "missing section"
+    code = 12
 
 
 class MetaKeyMissing(TableError):
-    """An item of the meta block that has to be there is not."""
+    """A required item of the meta block is missing."""
 
-    code, text = 13, "missing meta item"
+    code = 13
 
 
 class InvalidMetaValue(TableError):
-    """An item of the meta block has a value that it cannot have."""
+    """The value of an item of the meta block is invalid."""
 
-    code, text = 14, "invalid meta value"
+    code = 14
 
 
 class UnsupportedTableVersion(TableError):
-    """The table's version is not 3 or 4."""
+    """The table's format version is not 3 or 4."""
 
-    code, text = 15, "unsupported table version"
+    code = 15
 
 
 class UnsupportedHashType(TableError):
-    """The filter's hashes are others."""
+    """The filter uses another hash function."""
 
-    code, text = 16, "unsupported hash type"
+    code = 16
 
 
 class UnsupportedChecksumType(TableError):
-    """The checksums are others."""
+    """The table uses another checksum."""
 
-    code, text = 17, "unsupported checksum type"
+    code = 17
 
 
 class UnsupportedIndexInterval(TableError):
-    """The index restarts otherwise than after each handle."""
+    """The restart interval of the index is not 1."""
 
-    code, text = 18, "unsupported index restart interval"
+    code = 18
 
 
 class UnsupportedCompression(TableError):
-    """A block is compressed."""
+    """The table is compressed."""
 
-    code, text = 19, "unsupported compression"
+    code = 19
 
 
 class GlobalSeqNoTooLarge(TableError):
-    """The highest stored number and the global number have no sum."""
+    """The highest sequence number plus the global one exceeds 64 bits."""
 
-    code, text = 20, "global sequence number too large"
+    code = 20
 
 
 class SeqNoOverflow(TableError):
-    """An entry's number and the global number have no sum."""
+    """The sequence number of an entry plus the global one exceeds 64 bits."""
 
-    code, text = 21, "sequence number overflow"
+    code = 21
 
 
 class TableIdsSpent(TableError):
-    """There is no further id for a table."""
+    """No id is left for a further table."""
 
-    code, text = 22, "table ids spent"
+    code = 22
 
 
 class WriterFailed(TableError):
-    """The writer has been refused before."""
+    """An earlier call of the writer failed."""
 
-    code, text = 23, "the writer has failed"
+    code = 23
 
 
 class SourceError(TableError):
-    """A source of entries failed."""
+    """A source of entries failed. Nothing in this package raises this."""
 
-    code, text = 24, "source error"
+    code = 24
 
 
 class Closed(TableError, ValueError):
-    """What is used was closed."""
+    """The object is closed."""
 
-    code, text = 100, "the handle is closed"
+    code = 100
 
 
 class AlreadyOpen(TableError):
-    """A handle that is to be filled holds something. Nothing of this package is refused so."""
+    """A handle to fill holds something. Nothing in this package raises this."""
 
-    code, text = 101, "the handle is open"
+    code = 101
 
 
 class OtherKind(TableError):
-    """A handle holds something of another kind. Nothing of this package is refused so."""
+    """A handle holds something of another kind. Nothing in this package raises this."""
 
-    code, text = 102, "the handle holds another kind"
+    code = 102
 
 
 class NoRoom(TableError):
-    """There is less room than a copy needs. Nothing of this package is refused so."""
+    """A buffer is too small. Nothing in this package raises this."""
 
-    code, text = 103, "the room is too small"
+    code = 103
 
 
 class OutOfOrder(TableError, ValueError):
-    """An entry does not follow the one before it, or a table's greatest key its least."""
+    """An entry does not follow the one before it, or a table's least key is above its greatest."""
 
-    code, text = 104, "an entry is out of order"
+    code = 104
 
 
 class NoSuch(TableError, ValueError):
-    """An option is out of its range, as `Writer` has them, or there is no such kind."""
+    """An option is out of its range, or a kind is not one of `Kind`."""
 
-    code, text = 105, "there is no such number"
+    code = 105
 
 
 class Nothing(TableError):
-    """Nothing was found. Nothing of this package is refused so: it answers `None`."""
+    """Nothing was found. Nothing in this package raises this: calls return `None`."""
 
-    code, text = 106, "nothing was found"
+    code = 106
 
 
 class Faulty(TableError):
-    """A table is not sound. `finding` says what is wrong first, and where."""
+    """`Table.verify` found a fault. `finding` is the first one, and where it is.
 
-    code, text = 107, "the table is not sound"
+    The cause (`__cause__`) is the error of loading the block, if it does not load.
+    """
+
+    code = 107
     finding: Optional[Finding] = None
 
-    def __str__(self) -> str:
-        found = self.finding
-        if found is None:
-            return super().__str__()
-        return f"{super().__str__()}: {found.fault!r} in {found.section!r} at {found.offset}"
+    def _parts(self) -> List[str]:
+        parts = super()._parts()
+        if self.finding is not None:
+            parts.append(f"fault {self.finding.fault.name}")
+        return parts
 
 
-#: The exception of each number.
+#: The exception of each error code.
 BY_CODE: Dict[int, Type[TableError]] = {kind.code: kind for kind in TableError.__subclasses__()}
 
 
-def of(code: int) -> TableError:
-    """The exception for a number."""
+def error(code: int, **parts: Any) -> TableError:
+    """Returns the exception for an error code. `parts` are those of a `TableError`."""
     kind = BY_CODE.get(code)
-    return TableError(code) if kind is None else kind()
+    return TableError(code, **parts) if kind is None else kind(**parts)
 
 
-def test(code: int) -> None:
-    """Raises where a call was refused."""
+def check(code: int, path: Optional[str] = None) -> None:
+    """Raises the exception for an error code. 0 is none."""
     if code:
-        raise of(code)
+        raise error(code, path=path)
+
+
+def faulty(finding: Finding, path: Optional[str]) -> Faulty:
+    """Returns the exception for a finding, with its cause."""
+    raised = Faulty(path=path, section=finding.section, offset=finding.offset)
+    raised.finding = finding
+    if finding.detail:
+        raised.__cause__ = error(finding.detail, path=path, section=finding.section,
+                                 offset=finding.offset)
+    return raised

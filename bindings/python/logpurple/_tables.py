@@ -1,314 +1,132 @@
-"""Tables, and what is read of one and of several."""
+"""Tables, and how one or several of them are read."""
+
+from __future__ import annotations
 
 import array
-import collections
 import ctypes
+import mmap
+import operator
 import os
-from typing import Callable, Iterable, Iterator, List, Optional, Tuple, Type, TypeVar, Union
+from ctypes import addressof, byref
+from typing import (Any, Callable, Generic, Iterable, Iterator, List, Optional, Tuple, Type,
+                    TypeVar, Union, overload)
 
 from . import _calls
-from ._calls import addressof, byref, copied
-from ._errors import Closed, Faulty, of, test
-from ._held import Held, Made, entries_of, entry, number, plain
-from ._told import (NEWEST, Entry, Facts, Fault, Finding, Kind, Memory, Packing, Section,
-                    Verified)
+from ._calls import copied
+from ._errors import Faulty, check, faulty
+from ._iterators import DELETIONS, KINDS, Batch, Bounds, Entries, Pairs, Scan, visible
+from ._records import (NEWEST, Entry, Facts, Fault, Finding, Memory, Packing, Section, Verified)
+from ._resources import Resource, Returned, number, plain
 
-#: What has bytes.
-BytesLike = Union[bytes, bytearray, memoryview]
+#: An object with a buffer, whose bytes a call reads.
+BytesLike = Union[bytes, bytearray, memoryview, mmap.mmap, "array.array[Any]"]
 
 _Default = TypeVar("_Default")
+_Item = TypeVar("_Item")
 _SomeTable = TypeVar("_SomeTable", bound="Table")
-_DELETIONS = (int(Kind.TOMBSTONE), int(Kind.WEAK_TOMBSTONE))
+
+# The kinds of what a read finds that has no value: no entry, and deletions.
+_WITHOUT_VALUE = (0, *DELETIONS)
+_first, _second = operator.itemgetter(0), operator.itemgetter(1)
 
 
-# How many entries the first calls of an iterator fetch, and how many the later ones; and how many
-# bytes of keys and values a call fetches at most, but for one entry that has more.
-_BATCHES = (16, 64, 256)
-_BATCH_BYTES = 1 << 16
+class _View(Generic[_Item]):
+    """Keys, values or pairs of a table or of several. Each iteration starts anew."""
 
-# Rows of kind, number and lengths, and the bytes of their keys and values, one after another.
-_Batch = Tuple[Iterable[Tuple[int, int, int, int]], bytes]
+    def __init__(self, reader: _Reader) -> None:
+        self._reader = reader
 
-
-class _Steps(Made):
-    """Reads entries one by one, and fetches up to a few hundred at a time. It has a share of what
-    it reads, which may be closed meanwhile. After an error nothing more comes."""
-
-    # Whether the source gives no more, and how many batches were fetched. An error comes once the
-    # entries that were fetched before it are taken.
-    _is_over = False
-    _fetched = 0
-    _error: Optional[Exception] = None
-    _room: Optional["_Room"] = None
-
-    # The call that copies the next entries into some room.
-    def _call(self, back: bool, *room: int) -> int:
+    # Begins an iteration.
+    def _begin(self, reverse: bool) -> Iterator[_Item]:
         raise NotImplementedError
 
-    # What was fetched at the front and at the back, and not taken.
-    def _begin(self) -> None:
-        self._queues: Tuple["collections.deque[Entry]", "collections.deque[Entry]"] = (
-            collections.deque(), collections.deque())
+    def __iter__(self) -> Iterator[_Item]:
+        return self._begin(False)
 
-    def close(self) -> None:
-        """Releases what is read, and drops what was fetched. It may be closed twice.
+    def __reversed__(self) -> Iterator[_Item]:
+        return self._begin(True)
 
-        >>> writer = Writer()
-        >>> for key in (b"a", b"b"):
-        ...     writer.add(key, b"")
-        >>> entries = Table.open(writer.finish()).entries()
-        >>> next(entries).key
-        b'a'
-        >>> entries.close()
-        >>> next(entries)
-        Traceback (most recent call last):
-        ..
-        logpurple.Closed: the handle is closed (100)
-        """
-        with self._turn:
-            if self._queues[0] or self._queues[1]:
-                self._is_over, self._error = False, None
-            self._drop()
-            self._let_go()
-
-    def _drop(self) -> None:
-        for queue in self._queues:
-            queue.clear()
-
-    # The next entries of the source at an end, within a turn; `None` at its end.
-    def _batch(self, back: bool) -> Optional[_Batch]:
-        if self._error is not None:
-            error, self._error = self._error, None
-            self._drop()
-            raise error
-        if self._is_over:
-            return None
-        if self._fetched < len(_BATCHES) or self._room is None:
-            self._room = _Room(_BATCHES[min(self._fetched, len(_BATCHES) - 1)])
-        self._fetched += 1
-        self._is_over = True
-        try:
-            batch, code = self._room.fill(self, back)
-            if batch is None:
-                test(code)
-        except Closed:
-            self._is_over = False
-            raise
-        except BaseException:
-            # What was taken may be lost: so nothing more comes.
-            self._drop()
-            raise
-        self._is_over = batch is None or code != 0
-        if code:
-            self._error = of(code)
-        if self._is_over:
-            self._let_go()
-            self._room = None
-        return batch
-
-    # Each batch at an end.
-    def _batches(self, back: bool) -> Iterator[_Batch]:
-        while True:
-            with self._turn:
-                batch = self._batch(back)
-            if batch is None:
-                return
-            yield batch
-
-    # The next entry at an end; `None` where nothing is left. Two threads may take at the same time.
-    def _step(self, back: bool) -> Optional[Entry]:
-        ahead, behind = self._queues[back], self._queues[not back]
-        while True:
-            try:
-                return ahead.popleft()
-            except IndexError:
-                pass
-            with self._turn:
-                if ahead:
-                    continue
-                batch = self._batch(back)
-                if batch is not None:
-                    ahead.extend(entries_of(*batch))
-                    continue
-            # At the end of the source, what is left is what the other end has fetched.
-            try:
-                return behind.pop()
-            except IndexError:
-                return None
+    def __repr__(self) -> str:
+        return f"<{type(self).__name__} of {self._reader!r}>"
 
 
-class _Room:
-    """Room for a number of entries that a call copies."""
+class Keys(_View[bytes]):
+    """The keys that have a value, which `Table.keys` and `Runs.keys` return.
 
-    __slots__ = ("_rows", "_bytes", "_count", "_words")
-
-    def __init__(self, size: int) -> None:
-        self._rows = array.array("Q", bytes(32 * size))
-        self._bytes = ctypes.create_string_buffer(_BATCH_BYTES)
-        self._count = _calls.c_uint64()
-        self._words = (self._rows.buffer_info()[0], size, addressof(self._bytes), _BATCH_BYTES,
-                       addressof(self._count))
-
-    # What a call copies, and the entry that has no room, if there is one; `None` if there is none
-    # of both. Beside it the call's code.
-    def fill(self, steps: _Steps, back: bool) -> Tuple[Optional[_Batch], int]:
-        code = steps._call(back, *self._words, steps._told_ref)
-        if code == Closed.code:
-            return None, code
-        rows = self._rows[:4 * self._count.value]
-        keys, values = rows[2::4], rows[3::4]
-        data = copied(self._words[2], sum(keys) + sum(values))
-        told = steps._told
-        if told.kind:
-            test(_calls.found_lend(steps._ref, steps._lent_ref))
-            lent = steps._lent
-            rows.extend((told.kind, told.seqno, lent.key_len, lent.value_len))
-            keys, values = rows[2::4], rows[3::4]
-            data += copied(lent.key, lent.key_len) + copied(lent.value, lent.value_len)
-        return ((zip(rows[0::4], rows[1::4], keys, values), data) if rows else None), code
-
-
-class Scan(_Steps):
-    """Reads all entries of a table in order, from its data blocks alone. It has a share of the
-    table, which may be closed meanwhile. Where it is refused nothing more comes.
+    Each iteration reads the table from the start, and `reversed` from the end. `in` is a point
+    read.
 
     >>> writer = Writer()
-    >>> for key in (b"a", b"b"):
-    ...     writer.add(key, b"")
-    >>> scan = Table.open(writer.finish()).scan()
-    >>> next(scan).key, [entry.key for entry in scan]
-    (b'a', [b'b'])
+    >>> writer.add_many([(b"a", b"1"), (b"b", b"2")])
+    >>> keys = Table.open(writer.finish()).keys()
+    >>> list(keys), list(reversed(keys)), b"a" in keys
+    ([b'a', b'b'], [b'b', b'a'], True)
     """
 
-    _by = "made by Table.scan"
+    def _begin(self, reverse: bool) -> Iterator[bytes]:
+        return map(_first, self._reader.range(reverse=reverse))
 
-    def __iter__(self) -> "Scan":
-        """Itself: what was read does not come again."""
-        return self
-
-    def _call(self, back: bool, *room: int) -> int:
-        return _calls.scan_take(self._ref, *room)
-
-    def __next__(self) -> Entry:
-        try:
-            return self._queues[0].popleft()
-        except IndexError:
-            found = self._step(False)
-        if found is None:
-            raise StopIteration
-        return found
+    def __contains__(self, key: BytesLike) -> bool:
+        return key in self._reader
 
 
-class Entries(_Steps):
-    """Reads entries one by one. It has a share of what it reads, which may be closed meanwhile.
-    Where it is refused nothing more comes.
+class Values(_View[bytes]):
+    """The newest values, in key order, which `Table.values` and `Runs.values` return.
+
+    Each iteration reads the table from the start, and `reversed` from the end. `in` is an
+    iteration.
 
     >>> writer = Writer()
-    >>> for key in (b"a", b"b", b"c"):
-    ...     writer.add(key, b"")
-    >>> entries = Table.open(writer.finish()).entries()
-    >>> next(entries).key
-    b'a'
-    >>> entries.take(reverse=True).key
-    b'c'
-    >>> [entry.key for entry in entries]
-    [b'b']
+    >>> writer.add_many([(b"a", b"1"), (b"b", b"2")])
+    >>> values = Table.open(writer.finish()).values()
+    >>> list(values), list(reversed(values)), b"3" in values
+    ([b'1', b'2'], [b'2', b'1'], False)
     """
 
-    _by = "made by Table.entries and Runs.entries"
-    _reverse = False
-
-    def take(self, reverse: bool = False) -> Optional[Entry]:
-        """The next entry from the front or, in reverse, from the back; `None` at the end.
-
-        >>> writer = Writer()
-        >>> for key in (b"a", b"b"):
-        ...     writer.add(key, b"")
-        >>> entries = Table.open(writer.finish()).entries()
-        >>> entries.take(reverse=True).key, entries.take().key, entries.take()
-        (b'b', b'a', None)
-        """
-        return self._step(bool(reverse))
-
-    def _call(self, back: bool, *room: int) -> int:
-        return _calls.range_take(self._ref, back, *room)
-
-    def __iter__(self) -> "Entries":
-        """Itself: what was taken does not come again."""
-        return self
-
-    def __next__(self) -> Entry:
-        found = self._step(self._reverse)
-        if found is None:
-            raise StopIteration
-        return found
+    def _begin(self, reverse: bool) -> Iterator[bytes]:
+        return map(_second, self._reader.range(reverse=reverse))
 
 
-# Entries that a call begins next; as an iterator they go from the back in reverse.
-def _entries(reverse: bool) -> Entries:
-    entries = Entries._begun()
-    entries._begin()
-    entries._reverse = bool(reverse)
-    return entries
+class Items(_View[Tuple[bytes, bytes]]):
+    """The keys and their newest values, which `Table.items` and `Runs.items` return.
+
+    Each iteration reads the table from the start, and `reversed` from the end. `in` is a point
+    read.
+
+    >>> writer = Writer()
+    >>> writer.add_many([(b"a", b"1"), (b"b", b"2")])
+    >>> items = Table.open(writer.finish()).items()
+    >>> dict(items), next(reversed(items)), (b"a", b"2") in items
+    ({b'a': b'1', b'b': b'2'}, (b'b', b'2'), False)
+    """
+
+    def _begin(self, reverse: bool) -> Pairs:
+        return self._reader.range(reverse=reverse)
+
+    def __contains__(self, item: Tuple[BytesLike, BytesLike]) -> bool:
+        key, value = item
+        found = self._reader.get(key)
+        return found is not None and found == value
 
 
-# The bounds of a range as a call takes them: from the lower one on, and below the upper one.
-def _bounds(lower: Optional[BytesLike], upper: Optional[BytesLike]):
-    low = b"" if lower is None else plain(lower)
-    high = b"" if upper is None else plain(upper)
-    return (0 if lower is None else 1, low, len(low), 0 if upper is None else 2, high, len(high))
+class _Reader(Resource):
+    """A reader of keys and their newest values."""
 
+    # The library's call for a point read.
+    _get: Callable[..., int]
 
-# Keys and values of what a reader at a number sees, of entries from the front: the first version of
-# a key that is numbered low enough is the newest.
-def _shown_ahead(entries: Entries, at: int) -> Iterator[Tuple[bytes, bytes]]:
-    last: Optional[bytes] = None
-    with entries:
-        for rows, data in entries._batches(False):
-            start = 0
-            for kind, seqno, key_len, value_len in rows:
-                middle = start + key_len
-                end = middle + value_len
-                if seqno < at:
-                    key = data[start:middle]
-                    if key != last:
-                        last = key
-                        if kind not in _DELETIONS:
-                            yield key, data[middle:end]
-                start = end
-
-
-# The same of entries from the back: the last such version is the newest.
-def _shown_back(entries: Entries, at: int) -> Iterator[Tuple[bytes, bytes]]:
-    last: Optional[bytes] = None
-    kind, value = 0, b""
-    with entries:
-        for rows, data in entries._batches(True):
-            start = 0
-            for next_kind, seqno, key_len, value_len in rows:
-                middle = start + key_len
-                end = middle + value_len
-                if seqno < at:
-                    key = data[start:middle]
-                    if last is not None and key != last and kind not in _DELETIONS:
-                        yield last, value
-                    last, kind, value = key, next_kind, data[middle:end]
-                start = end
-    if last is not None and kind not in _DELETIONS:
-        yield last, value
-
-
-def _shown(entries: Entries, at: int, reverse: bool) -> Iterator[Tuple[bytes, bytes]]:
-    return (_shown_back if reverse else _shown_ahead)(entries, at)
-
-
-class _Read(Held):
-    """What is read by keys."""
-
-    _get = None
+    # Begins to read the entries of a range: those that are visible at a snapshot, or more.
+    def _range(self, lower: Optional[BytesLike], upper: Optional[BytesLike], reverse: bool,
+               at: int) -> Entries:
+        raise NotImplementedError
 
     def entry(self, key: BytesLike, at: int = NEWEST) -> Optional[Entry]:
-        """The newest version of a key that is numbered below `at`, a deletion too.
+        """Returns the newest version of a key whose sequence number is below `at`.
+
+        The version may be a deletion. Returns `None` if there is no such version.
+
+        This is a point read. It loads at most one block of each of the filter, the index and the
+        data; of a `Runs` as many for each run.
 
         >>> writer = Writer()
         >>> writer.delete(b"a", seqno=7)
@@ -317,14 +135,31 @@ class _Read(Held):
         ('TOMBSTONE', None, None)
         """
         key, at = plain(key), number(at)
+        entry, lent = self._entry, self._lent
         with self._turn:
-            test(self._get(self._ref, key, len(key), at, self._told_ref))
-            return self._found()
+            code = self._get(self._ref, key, len(key), at, self._entry_ref)
+            if code:
+                raise self._error(code)
+            if entry.kind == 0:
+                return None
+            self._check(_calls.found_lend(self._ref, self._lent_ref))
+            return Entry(copied(lent.key, lent.key_len), entry.seqno, KINDS[entry.kind],
+                         copied(lent.value, lent.value_len))
+
+    @overload
+    def get(self, key: BytesLike, default: None = None, at: int = NEWEST) -> Optional[bytes]: ...
+
+    @overload
+    def get(self, key: BytesLike, default: _Default,
+            at: int = NEWEST) -> Union[bytes, _Default]: ...
 
     def get(self, key: BytesLike, default: Optional[_Default] = None,
             at: int = NEWEST) -> Union[bytes, Optional[_Default]]:
-        """The value of a key as a reader at a number sees it; `default` where it has none. Of a
-        `Kind.INDIRECTION` it is what is stored, as `entry` tells with the kind.
+        """Returns the value of a key at the snapshot `at`, or `default` if it has none.
+
+        The snapshot sees the versions whose sequence numbers are below `at`. A key has no value if
+        it sees none of its versions, or if the newest that it sees is a deletion. The value of a
+        `Kind.INDIRECTION` is what the table stores; `entry` returns the kind, too.
 
         >>> writer = Writer()
         >>> writer.add(b"a", b"1", seqno=4)
@@ -333,28 +168,85 @@ class _Read(Held):
         (b'1', None, b'none')
         """
         key, at = plain(key), number(at)
-        told, lent = self._told, self._lent
+        lent = self._lent
         with self._turn:
-            test(self._get(self._ref, key, len(key), at, self._told_ref))
-            kind = told.kind
-            if kind == 0 or kind in _DELETIONS:
+            code = self._get(self._ref, key, len(key), at, self._entry_ref)
+            if code:
+                raise self._error(code)
+            if self._entry.kind in _WITHOUT_VALUE:
                 return default
-            test(_calls.found_lend(self._ref, self._lent_ref))
+            self._check(_calls.found_lend(self._ref, self._lent_ref))
             return copied(lent.value, lent.value_len)
 
-    def entries(self, lower: Optional[BytesLike] = None, upper: Optional[BytesLike] = None,
-                reverse: bool = False) -> Entries:
-        raise NotImplementedError
-
     def range(self, lower: Optional[BytesLike] = None, upper: Optional[BytesLike] = None,
-              reverse: bool = False, at: int = NEWEST) -> Iterator[Tuple[bytes, bytes]]:
-        raise NotImplementedError
+              reverse: bool = False, at: int = NEWEST) -> Pairs:
+        """Yields the keys from `lower` on and below `upper`, with their values at a snapshot.
 
-    def __getitem__(self, key: BytesLike) -> bytes:
-        """The newest value of a key. `KeyError` where it has none, as where it is deleted.
+        The snapshot `at` sees the versions whose sequence numbers are below it. The pairs are in
+        key order or, if `reverse`, in reverse. `None` is no bound. There are no pairs if `lower` is
+        not below `upper`. Keys for which `get` finds no value are left out. The cost is that of
+        reading every version of each key in the range.
+
+        The iterator can be left at any time. It is released with the last reference to it, or by
+        its `close`. One thread at a time may use it.
+
+        >>> writer = Writer()
+        >>> for key, seqno in ((b"a", 2), (b"a", 1), (b"b", 3)):
+        ...     writer.add(key, b"%d" % seqno, seqno)
+        >>> table = Table.open(writer.finish())
+        >>> list(table.range(reverse=True)), list(Runs(table).range(at=2))
+        ([(b'b', b'3'), (b'a', b'2')], [(b'a', b'1')])
+        """
+        at = number(at)
+        return visible(self._range(lower, upper, reverse, at), at, bool(reverse))
+
+    def keys(self) -> Keys:
+        """Returns a view of the keys that have a value. `for key in table` is the same.
+
+        `dict(table)` makes a point read for each key. `dict(table.items())` reads the table once.
 
         >>> writer = Writer()
         >>> writer.add(b"a", b"1")
+        >>> writer.delete(b"b")
+        >>> table = Table.open(writer.finish())
+        >>> list(table.keys()), dict(table), list(Runs(table).keys())
+        ([b'a'], {b'a': b'1'}, [b'a'])
+        """
+        return Keys(self)
+
+    def values(self) -> Values:
+        """Returns a view of the newest values, in key order.
+
+        >>> writer = Writer()
+        >>> writer.add(b"a", b"2", seqno=2)
+        >>> writer.add(b"a", b"1", seqno=1)
+        >>> table = Table.open(writer.finish())
+        >>> list(table.values()), list(Runs(table).values())
+        ([b'2'], [b'2'])
+        """
+        return Values(self)
+
+    def items(self) -> Items:
+        """Returns a view of the keys that have a value, with their newest values.
+
+        `range` does the same within bounds and at a snapshot.
+
+        >>> writer = Writer()
+        >>> writer.add_many([(b"a", b"1"), (b"b", b"2")])
+        >>> table = Table.open(writer.finish())
+        >>> list(table.items()), dict(Runs(table).items())
+        ([(b'a', b'1'), (b'b', b'2')], {b'a': b'1', b'b': b'2'})
+        """
+        return Items(self)
+
+    def __getitem__(self, key: BytesLike) -> bytes:
+        """Returns the newest value of a key. This is a point read.
+
+        Raises `KeyError` if the key has no value, for example because it is deleted.
+
+        >>> writer = Writer()
+        >>> writer.add(b"a", b"1")
+        >>> writer.delete(b"b")
         >>> table = Table.open(writer.finish())
         >>> table[b"a"]
         b'1'
@@ -369,7 +261,7 @@ class _Read(Held):
         return found
 
     def __contains__(self, key: BytesLike) -> bool:
-        """Whether a key has a newest value.
+        """Returns whether a key has a value. This is a point read.
 
         >>> writer = Writer()
         >>> writer.add(b"a", b"1")
@@ -378,10 +270,15 @@ class _Read(Held):
         >>> b"a" in table, b"b" in table, b"c" in Runs(table)
         (True, False, False)
         """
-        return self.get(key) is not None
+        key = plain(key)
+        with self._turn:
+            code = self._get(self._ref, key, len(key), NEWEST, self._entry_ref)
+            if code:
+                raise self._error(code)
+            return self._entry.kind not in _WITHOUT_VALUE
 
     def __iter__(self) -> Iterator[bytes]:
-        """The keys that have a newest value, in order.
+        """Yields the keys that have a value, in order.
 
         >>> writer = Writer()
         >>> writer.add(b"a", b"1")
@@ -391,34 +288,64 @@ class _Read(Held):
         >>> list(table), list(Runs(table))
         ([b'a', b'c'], [b'a', b'c'])
         """
-        return (key for key, _ in self.range())
+        return iter(self.keys())
+
+    def __reversed__(self) -> Iterator[bytes]:
+        """Yields the keys that have a value, in reverse order.
+
+        >>> writer = Writer()
+        >>> writer.add_many([(b"a", b"1"), (b"b", b"2")])
+        >>> table = Table.open(writer.finish())
+        >>> list(reversed(table)), list(reversed(Runs(table)))
+        ([b'b', b'a'], [b'b', b'a'])
+        """
+        return reversed(self.keys())
 
 
-class Table(Made, _Read):
-    """An opened table, as `Table.open` makes it.
+class Table(Returned, _Reader):
+    """A sorted table, which `Table.open` opens.
+
+    It reads as a mapping of the keys to their newest values: `table[key]`, `get`, `in`, iteration,
+    `keys`, `values`, `items` and `reversed`. A key whose newest version is a deletion is not in it.
+    `entries` and `scan` read every version, deletions too.
+
+    A table does not store how many keys have a value, so it has no `len`:
+    `sum(1 for key in table)` reads the whole table. `entry_count` is the number of versions, and
+    takes constant time.
+
+    `table[key]`, `get`, `entry` and `in` are point reads, which load one data block at most.
+    Iterations read the data blocks one after another.
 
     >>> writer = Writer()
-    >>> writer.add(b"a", b"1")
+    >>> writer.add(b"a", b"new", seqno=2)
+    >>> writer.add(b"a", b"old", seqno=1)
+    >>> writer.delete(b"b", seqno=3)
     >>> with Table.open(writer.finish()) as table:
-    ...     len(table), list(table), dict(table.range())
-    (1, [b'a'], {b'a': b'1'})
+    ...     table[b"a"], list(table), b"b" in table, table.entry_count
+    (b'new', [b'a'], False, 3)
     """
 
-    _by = "opened by Table.open"
-    _get = staticmethod(_calls.table_get)
+    _maker = "opened by Table.open"
+    _get = _calls.table_get
 
     @classmethod
-    def open(cls: Type[_SomeTable], source: Union[BytesLike, str, "os.PathLike[str]"],
+    def open(cls: Type[_SomeTable], source: Union[BytesLike, str, os.PathLike[str]],
              global_seqno: int = 0, pin_filter: bool = True, pin_index: bool = True,
              kept: bool = False) -> _SomeTable:
-        """Opens a table from a copy of its bytes, or the file at a path. `global_seqno` is added to
-        every stored number. A filter and an index in one block stay loaded where they are pinned,
-        else each read loads them.
+        """Opens a table from its bytes or from the path of a file.
 
-        With `kept` the bytes are not copied: the table, and what is opened from it, name them until
-        they are closed. They have to be read-only and to lie in one piece, as `bytes` or a map of a
-        file with `ACCESS_READ`, else this is refused with `BufferError`. Nobody may write to them
-        meanwhile, as to a mapped file.
+        A file is read whole. Bytes are copied, unless they are kept.
+
+        `global_seqno`: is added to the sequence number of each entry.
+        `pin_filter`, `pin_index`: whether a filter or an index that is one block stays loaded. If
+        it does not, each read loads it.
+        `kept`: the table reads the bytes themselves. They are referenced until it is closed, and
+        all that was opened from it. Nobody may write to them meanwhile, as to a mapped file. They
+        have to be read-only and contiguous, as `bytes` and a map of a file with `ACCESS_READ` are.
+
+        Raises `OSError` if the file cannot be read, a `TableError` if the bytes are no table, and
+        `BufferError` if bytes cannot be kept. A table with damaged blocks may open: then reads that
+        load such a block fail, and `verify` finds it.
 
         >>> writer = Writer()
         >>> writer.add(b"a", b"1", seqno=2)
@@ -434,23 +361,52 @@ class Table(Made, _Read):
         BufferError: bytes that are kept have to be read-only
         """
         global_seqno, call = number(global_seqno), _calls.table_open
+        table = cls._empty()
         if isinstance(source, (str, os.PathLike)):
-            # Nobody else names what is read here, so it needs no copy.
+            # Nothing else references the bytes that are read here, so they need no copy.
             kept = True
+            table._path = os.fsdecode(source)
             with open(source, "rb") as file:
                 source = file.read()
-        table = cls._begun()
         if kept:
             source, call = _calls.kept(source), _calls.table_open_kept
             table._kept = (source,)
-        with _calls.Lending(source) as (at, length):
-            test(call(at, length, global_seqno, bool(pin_filter), bool(pin_index), table._ref))
+        with _calls.Borrowed(source) as (address, length):
+            table._check(call(address, length, global_seqno, bool(pin_filter), bool(pin_index),
+                              table._ref))
         return table
 
+    @property
+    def path(self) -> Optional[str]:
+        """The path that the table was opened by; `None` if it was opened from bytes.
+
+        >>> writer = Writer()
+        >>> writer.add(b"a", b"1")
+        >>> Table.open(writer.finish()).path is None
+        True
+        """
+        return self._path
+
+    @property
+    def entry_count(self) -> int:
+        """The number of entries: every version of each key, deletions too.
+
+        It is `facts().item_count`, which the meta block states, so it takes constant time.
+
+        >>> writer = Writer()
+        >>> writer.add(b"a", b"1", seqno=2)
+        >>> writer.delete(b"a", seqno=1)
+        >>> table = Table.open(writer.finish())
+        >>> table.entry_count, len(list(table.entries()))
+        (2, 2)
+        """
+        return self.facts().item_count
+
     def share(self: _SomeTable) -> _SomeTable:
-        """The same table once more, for another thread: both read the same bytes, of which none are
-        copied, and either may be closed. Threads that read by one table take turns; those that
-        have a share each read at the same time.
+        """Returns another object for the same table, for example for another thread.
+
+        No bytes are copied. Each object is closed by itself. Threads that use one object take
+        turns, and threads with a share each read at the same time.
 
         >>> writer = Writer()
         >>> writer.add(b"a", b"1")
@@ -460,35 +416,43 @@ class Table(Made, _Read):
         >>> other[b"a"]
         b'1'
         """
-        other = self._begun()
+        other = self._empty()
         with self._turn:
-            other._kept = self._kept
-            test(_calls.table_share(self._ref, other._ref))
+            other._kept, other._path = self._kept, self._path
+            self._check(_calls.table_share(self._ref, other._ref))
         return other
 
-    def get_many(self, keys: Iterable[BytesLike], default: Optional[_Default] = None,
-                 at: int = NEWEST) -> List[Union[bytes, Optional[_Default]]]:
-        """What `get` answers to each of some keys, in their order. A block in which several stand
-        is loaded once for them.
+    @overload
+    def get_many(self, keys: Iterable[BytesLike], default: None = None,
+                 at: int = NEWEST) -> List[Optional[bytes]]: ...
+
+    @overload
+    def get_many(self, keys: Iterable[BytesLike], default: _Default,
+                 at: int = NEWEST) -> List[Union[bytes, _Default]]: ...
+
+    def get_many(self, keys: Iterable[BytesLike], default: Any = None,
+                 at: int = NEWEST) -> List[Any]:
+        """Returns what `get` returns for each of some keys, in their order.
+
+        The keys may be in any order and repeat. A block that has several of them is loaded once.
+        Raises the error of the first key that has one.
 
         >>> writer = Writer()
-        >>> writer.add(b"a", b"1")
-        >>> writer.add(b"b", b"2")
+        >>> writer.add_many([(b"a", b"1"), (b"b", b"2")])
         >>> Table.open(writer.finish()).get_many([b"b", b"c", b"a", b"b"])
         [b'2', None, b'1', b'2']
         """
-        values: List[Union[bytes, Optional[_Default]]] = []
-        rows, data = self._ask(keys, at)
+        values = []
+        rows, data = self._find(keys, at)
         start = 0
         for kind, _, key_len, value_len in rows:
             start += key_len
-            values.append(default if kind == 0 or kind in _DELETIONS
-                          else data[start:start + value_len])
+            values.append(default if kind in _WITHOUT_VALUE else data[start:start + value_len])
             start += value_len
         return values
 
     def entry_many(self, keys: Iterable[BytesLike], at: int = NEWEST) -> List[Optional[Entry]]:
-        """What `entry` answers to each of some keys, in their order.
+        """Returns what `entry` returns for each of some keys, in their order, as `get_many` does.
 
         >>> writer = Writer()
         >>> writer.add(b"a", b"1", seqno=5)
@@ -496,51 +460,43 @@ class Table(Made, _Read):
         [None, Entry(key=b'a', seqno=5, kind=<Kind.VALUE: 1>, value=b'1')]
         """
         found: List[Optional[Entry]] = []
-        rows, data = self._ask(keys, at)
+        rows, data = self._find(keys, at)
         start = 0
         for kind, seqno, key_len, value_len in rows:
             middle = start + key_len
             end = middle + value_len
-            found.append(entry(kind, seqno, data[start:middle], data[middle:end]) if kind else None)
+            found.append(Entry(data[start:middle], seqno, KINDS[kind], data[middle:end])
+                         if kind else None)
             start = end
         return found
 
-    # Kind, number and lengths of what is found of each of many keys, zeros if nothing is; and all
-    # keys and values that were found.
-    def _ask(self, keys: Iterable[BytesLike], at: int) -> _Batch:
+    # Returns a row for what is found of each of some keys, zeros if nothing is.
+    def _find(self, keys: Iterable[BytesLike], at: int) -> Batch:
         if isinstance(keys, (bytes, bytearray, memoryview, str)):
-            raise TypeError("several keys are asked for, and not one")
+            raise TypeError("keys are expected, and not one key")
         at, each = number(at), [plain(key) for key in keys]
         joined, lengths = b"".join(each), array.array("Q", map(len, each)) or _NUMBER
-        told = array.array("Q", bytes(32 * len(each)))
-        with Held() as answers:
+        found = array.array("Q", bytes(32 * len(each)))
+        with Resource() as answers:
             with self._turn:
                 answers._kept = self._kept
-                test(_calls.table_get_many(self._ref, joined, len(joined),
-                                           lengths.buffer_info()[0], len(each), at,
-                                           (told or _NUMBER).buffer_info()[0], len(each),
-                                           answers._ref))
-            key_lens, value_lens = told[2::4], told[3::4]
+                self._check(_calls.table_get_many(
+                    self._ref, joined, len(joined), lengths.buffer_info()[0], len(each), at,
+                    (found or _NUMBER).buffer_info()[0], len(each), answers._ref))
+            key_lens, value_lens = found[2::4], found[3::4]
             room = ctypes.create_string_buffer(sum(key_lens) + sum(value_lens) or 1)
-            count = _calls.c_uint64()
-            test(_calls.answers_take(answers._ref, 0, addressof(room), len(room), byref(count)))
-            return zip(told[0::4], told[1::4], key_lens, value_lens), room.raw
-
-    def __len__(self) -> int:
-        """How many entries there are: versions, not keys.
-
-        >>> writer = Writer()
-        >>> writer.add(b"a", b"1", seqno=2)
-        >>> writer.delete(b"a", seqno=1)
-        >>> len(Table.open(writer.finish()))
-        2
-        """
-        return self.facts().item_count
+            count = ctypes.c_uint64()
+            self._check(_calls.answers_take(answers._ref, 0, addressof(room), len(room),
+                                            byref(count)))
+            return zip(found[0::4], found[1::4], key_lens, value_lens), room.raw
 
     def entries(self, lower: Optional[BytesLike] = None, upper: Optional[BytesLike] = None,
                 reverse: bool = False) -> Entries:
-        """Every version of each key from `lower` on and below `upper`, in order; none where
-        `lower` is not below `upper`.
+        """Returns an iterator over every version of the keys from `lower` on and below `upper`.
+
+        The entries are in key order, and those of one key from the newest to the oldest; if
+        `reverse`, all of this in reverse. `None` is no bound. There are no entries if `lower` is
+        not below `upper`. Nothing is loaded before the first entry is taken.
 
         >>> writer = Writer()
         >>> for key, seqno in ((b"a", 2), (b"a", 1), (b"b", 3)):
@@ -549,31 +505,23 @@ class Table(Made, _Read):
         >>> [(entry.key, entry.seqno) for entry in table.entries(b"a", b"b", reverse=True)]
         [(b'a', 1), (b'a', 2)]
         """
-        bounds, entries = _bounds(lower, upper), _entries(reverse)
+        return self._range(lower, upper, reverse, NEWEST)
+
+    def _range(self, lower: Optional[BytesLike], upper: Optional[BytesLike], reverse: bool,
+               at: int) -> Entries:
+        bounds = _bounds(lower, upper)
+        entries = Entries._empty()
+        entries._bounds, entries._reverse = bounds, bool(reverse)
         with self._turn:
-            entries._kept = self._kept
-            test(_calls.range_open(self._ref, *bounds, entries._ref))
+            entries._kept, entries._path = self._kept, self._path
+            self._check(_calls.range_open(self._ref, *bounds, entries._ref))
         return entries
 
-    def range(self, lower: Optional[BytesLike] = None, upper: Optional[BytesLike] = None,
-              reverse: bool = False, at: int = NEWEST) -> Iterator[Tuple[bytes, bytes]]:
-        """Keys from `lower` on and below `upper`, and their values: of each key the newest version
-        that is numbered below `at`, and none where that is a deletion. Nothing comes where `lower`
-        is not below `upper`. The value of a `Kind.INDIRECTION` is what is stored of it.
-
-        >>> writer = Writer()
-        >>> for key, seqno in ((b"a", 2), (b"a", 1), (b"b", 3)):
-        ...     writer.add(key, b"%d" % seqno, seqno)
-        >>> table = Table.open(writer.finish())
-        >>> list(table.range(reverse=True)), list(table.range(at=2))
-        ([(b'b', b'3'), (b'a', b'2')], [(b'a', b'1')])
-        """
-        at = number(at)
-        return _shown(self.entries(lower, upper, reverse), at, reverse)
-
     def scan(self) -> Scan:
-        """Every version of each key, in order, from the data blocks as they lie in the file: each
-        is read once, and no index is. The first is read at once.
+        """Returns an iterator over every version of each key, in order.
+
+        It reads the data blocks in the order of the file, each once, and no index. So it also reads
+        a table whose index is damaged. The first block is loaded at once, and its error raised.
 
         >>> writer = Writer()
         >>> for key, seqno in ((b"a", 2), (b"a", 1), (b"b", 3)):
@@ -582,15 +530,14 @@ class Table(Made, _Read):
         ...     [(entry.key, entry.seqno) for entry in table.scan()]
         [(b'a', 2), (b'a', 1), (b'b', 3)]
         """
-        scan = Scan._begun()
-        scan._begin()
+        scan = Scan._empty()
         with self._turn:
-            scan._kept = self._kept
-            test(_calls.scan_open(self._ref, scan._ref))
+            scan._kept, scan._path = self._kept, self._path
+            self._check(_calls.scan_open(self._ref, scan._ref))
         return scan
 
     def memory(self) -> Memory:
-        """How much memory the table holds.
+        """Returns how much memory the table holds, in bytes.
 
         >>> writer = Writer()
         >>> writer.add(b"a", b"1")
@@ -599,13 +546,13 @@ class Table(Made, _Read):
         >>> memory.file_len == len(file), memory.pinned_filter_size, memory.marks_size
         (True, 0, 8)
         """
-        told = _calls.MemoryTold()
+        found = _calls.Memory()
         with self._turn:
-            test(_calls.table_memory(self._ref, byref(told)))
-        return Memory(*(getattr(told, name) for name in Memory._fields))
+            self._check(_calls.table_memory(self._ref, byref(found)))
+        return Memory(*(getattr(found, name) for name in Memory._fields))
 
     def facts(self) -> Facts:
-        """What the table says of itself.
+        """Returns what the table claims about itself. It takes constant time.
 
         >>> writer = Writer(id=3)
         >>> writer.add(b"a", b"1", seqno=8)
@@ -613,91 +560,137 @@ class Table(Made, _Read):
         >>> facts.id, facts.item_count, facts.highest_seqno
         (3, 1, 8)
         """
-        told = _calls.FactsTold()
         with self._turn:
-            test(_calls.table_facts(self._ref, byref(told)))
-        return Facts(*(getattr(told, name) for name in Facts._fields))
+            return self._facts()
+
+    # Returns the facts, within a turn.
+    def _facts(self) -> Facts:
+        found = _calls.Facts()
+        self._check(_calls.table_facts(self._ref, byref(found)))
+        return Facts(*(getattr(found, name) for name in Facts._fields))
 
     def verify(self, progress: Optional[Callable[[int, int], object]] = None) -> Verified:
-        """Reads all blocks of the table, and raises `Faulty` where its bytes store no list of
-        entries in order, whoever wrote them; its `finding` says what is wrong first, and where.
+        """Reads every block once, and checks that the table stores entries in order.
 
-        Bytes that no read needs are not looked at, as that of the version section, and where the
-        trailer says that this section, the data blocks and partitions lie: a file in which one of
-        these differs may open, and be verified. The `checksum` of a `FinishedTable` is that of
-        every byte.
+        Raises `Faulty` with the first fault, if there is one.
 
-        `progress` is called behind each block that is read, with how many bytes of data blocks were
-        read of how many; what it raises ends this. It may use the table meanwhile.
+        `progress`: is called after each block, with the number of bytes of data blocks that were
+        read, and the number that there are. It may use the table. An exception that it raises ends
+        the verification.
+
+        Some bytes are never read, so a change of them is not found. In a table of a `Writer` these
+        are the version section, and the positions that the trailer has for this section, the data
+        blocks and partitions. The `checksum` of a `FinishedTable` is that of every byte.
 
         >>> writer = Writer()
         >>> writer.add(b"a", b"1")
         >>> file = bytearray(writer.finish())
         >>> Table.open(file).verify().item_count
         1
-        >>> told = []
-        >>> Table.open(file).verify(lambda read, size: told.append(read == size)).item_count
+        >>> calls = []
+        >>> Table.open(file).verify(lambda read, size: calls.append(read == size)).item_count
         1
-        >>> told
+        >>> calls
         [False, False, True]
+        >>> file[0] ^= 1
+        >>> Table.open(file).verify()
+        Traceback (most recent call last):
+        ..
+        logpurple.Faulty: the table is not sound (107): section DATA, offset 0, fault UNLOADED
         """
         if progress is not None:
             return self._verify_by_steps(progress)
-        told = _calls.VerifiedTold()
+        found = _calls.Verified()
         with self._turn:
-            code = _calls.table_verify(self._ref, byref(told))
-        return _verified_of(code, told)
+            code = _calls.table_verify(self._ref, byref(found))
+        return self._verified(code, found)
 
     def _verify_by_steps(self, progress: Callable[[int, int], object]) -> Verified:
-        steps, how_far, told = Held(), _calls.Progress(), _calls.VerifiedTold()
+        steps, state, found = Resource(), _calls.Progress(), _calls.Verified()
         with self._turn:
             steps._kept = self._kept
-            test(_calls.verification_open(self._ref, steps._ref))
+            self._check(_calls.verification_open(self._ref, steps._ref))
         with steps:
             while True:
                 with steps._turn:
-                    code = _calls.verification_step(steps._ref, byref(how_far), byref(told))
-                if code or how_far.at_end:
-                    return _verified_of(code, told)
-                progress(how_far.bytes_read, how_far.data_size)
+                    code = _calls.verification_step(steps._ref, byref(state), byref(found))
+                if code or state.at_end:
+                    return self._verified(code, found)
+                progress(state.bytes_read, state.data_size)
+
+    # Returns the result of a verification, or raises its error.
+    def _verified(self, code: int, found: _calls.Verified) -> Verified:
+        if code == Faulty.code:
+            raise faulty(Finding(Section(found.section), found.offset, Fault(found.fault),
+                                 found.detail), self._path)
+        self._check(code)
+        return Verified(found.item_count, found.data_block_count)
+
+    # The facts are left out while another call is at work, which may take long.
+    def _parts(self) -> List[str]:
+        parts = super()._parts()
+        if self._is_open and self._turn.try_enter():
+            try:
+                if self._is_open:  # still
+                    facts = self._facts()
+                    parts += [f"id={facts.id}", f"entry_count={facts.item_count}"]
+            finally:
+                self._turn.leave()
+        return parts
 
 
-# Where nothing is to lie: a pointer is never NULL.
+# An array for a call that reads none of it: a pointer is never NULL.
 _NUMBER = array.array("Q", [0])
 
 
-# What a verification told; where it was refused this raises, with what was found.
-def _verified_of(code: int, told: _calls.VerifiedTold) -> Verified:
-    if code == Faulty.code:
-        faulty = Faulty()
-        faulty.finding = Finding(Section(told.section), told.offset, Fault(told.fault), told.detail)
-        raise faulty from (of(told.detail) if told.detail else None)
-    test(code)
-    return Verified(told.item_count, told.data_block_count)
+# The bounds of a range as a call takes them: from the lower one on, and below the upper one.
+def _bounds(lower: Optional[BytesLike], upper: Optional[BytesLike]) -> Bounds:
+    low = b"" if lower is None else plain(lower)
+    high = b"" if upper is None else plain(upper)
+    return (0 if lower is None else 1, low, len(low), 0 if upper is None else 2, high, len(high))
 
 
-class Runs(_Read):
-    """Several tables as one, the newest first.
+class Runs(_Reader):
+    """Several tables that are read as one. The newest table comes first.
+
+    It reads as a mapping of the keys to their newest values in all tables, as a `Table` does: a key
+    whose newest version is a deletion is not in it, and it has no `len`. A point read looks into
+    each run. A run is one table, unless `packed` has put several in it that do not overlap.
+
+    Unlike that of a `Table`, `entries` yields only the newest version of each key.
 
     >>> newer, older = Writer(), Writer()
     >>> newer.add(b"a", b"new", seqno=2)
     >>> older.add(b"a", b"old", seqno=1)
     >>> older.add(b"b", b"more", seqno=1)
     >>> runs = Runs(Table.open(newer.finish()), Table.open(older.finish()))
-    >>> runs[b"a"], runs.get(b"a", at=2), runs[b"b"]
-    (b'new', b'old', b'more')
+    >>> runs[b"a"], runs.get(b"a", at=2), runs[b"b"], list(runs)
+    (b'new', b'old', b'more', [b'a', b'b'])
     """
 
-    _get = staticmethod(_calls.runs_get)
+    _get = _calls.runs_get
+    _table_count = 0
 
     def __init__(self, *tables: Table) -> None:
+        """Reads some tables as one, the newest first. They may be closed then."""
         super().__init__()
-        test(_calls.runs_open(self._ref))
+        check(_calls.runs_open(self._ref))
         for table in tables:
             self.add(table)
 
+    @property
+    def table_count(self) -> int:
+        """The number of tables.
+
+        >>> Runs().table_count
+        0
+        """
+        return self._table_count
+
     def add(self, table: Table) -> None:
-        """Adds a table behind those that are there. It may be closed then.
+        """Adds a table, which is older than those before it. It may be closed then.
+
+        Raises `OutOfOrder` if the table claims that its least key is above its greatest.
 
         >>> writer = Writer()
         >>> writer.add(b"a", b"1")
@@ -707,16 +700,22 @@ class Runs(_Read):
         >>> runs[b"a"]
         b'1'
         """
-        _require_table(table)
+        if not isinstance(table, Table):
+            raise TypeError(f"a Table is expected, and not a {type(table).__name__}")
         with self._turn, table._turn:
-            test(_calls.runs_add(self._ref, table._ref))
+            table._check(_calls.runs_add(self._ref, table._ref))
             self._kept += table._kept
+            self._table_count += 1
 
     def entries(self, lower: Optional[BytesLike] = None, upper: Optional[BytesLike] = None,
                 reverse: bool = False, at: int = NEWEST) -> Entries:
-        """Of each key from `lower` on and below `upper` the newest version that is numbered below
-        `at`, a deletion too, in order; none where `lower` is not below `upper`. A table that is
-        added later is not in it.
+        """Returns an iterator over the newest versions of the keys from `lower` on and below
+        `upper`, at the snapshot `at`.
+
+        It yields the newest version of each key whose sequence number is below `at`. This may be a
+        deletion. The entries are in key order or, if `reverse`, in reverse. `None` is no bound.
+        There are no entries if `lower` is not below `upper`. A table that is added later is not
+        read.
 
         >>> newer, older = Writer(), Writer()
         >>> newer.delete(b"a", seqno=2)
@@ -727,31 +726,23 @@ class Runs(_Read):
         >>> [entry.kind.name for entry in runs.entries(at=2)]
         ['VALUE']
         """
-        bounds, at, entries = _bounds(lower, upper), number(at), _entries(reverse)
+        return self._range(lower, upper, reverse, number(at))
+
+    def _range(self, lower: Optional[BytesLike], upper: Optional[BytesLike], reverse: bool,
+               at: int) -> Entries:
+        bounds = _bounds(lower, upper)
+        entries = Entries._empty()
+        entries._bounds, entries._reverse = bounds, bool(reverse)
         with self._turn:
             entries._kept = self._kept
-            test(_calls.runs_range_open(self._ref, *bounds, at, entries._ref))
+            self._check(_calls.runs_range_open(self._ref, *bounds, at, entries._ref))
         return entries
 
-    def range(self, lower: Optional[BytesLike] = None, upper: Optional[BytesLike] = None,
-              reverse: bool = False, at: int = NEWEST) -> Iterator[Tuple[bytes, bytes]]:
-        """Keys from `lower` on and below `upper`, and their values, as a reader at a number sees
-        them in all tables together. Nothing comes where `lower` is not below `upper`. The value of
-        a `Kind.INDIRECTION` is what is stored of it.
+    def packed(self) -> Runs:
+        """Returns the same tables in as few runs as possible.
 
-        >>> newer, older = Writer(), Writer()
-        >>> newer.delete(b"a", seqno=2)
-        >>> older.add(b"a", b"old", seqno=1)
-        >>> older.add(b"b", b"more", seqno=1)
-        >>> runs = Runs(Table.open(newer.finish()), Table.open(older.finish()))
-        >>> list(runs.range()), list(runs.range(reverse=True, at=2))
-        ([(b'b', b'more')], [(b'b', b'more'), (b'a', b'old')])
-        """
-        return _shown(self.entries(lower, upper, reverse, at), NEWEST, reverse)
-
-    def packed(self) -> "Runs":
-        """The same tables in as few runs as there can be, so that each key keeps the order of its
-        tables: reads find the same, over fewer runs. These stay.
+        Tables that do not overlap go into one run, and each key keeps the order of its tables. So
+        reads find the same, in fewer steps. This object stays as it is.
 
         >>> runs = Runs()
         >>> for key in (b"a", b"b"):
@@ -761,15 +752,15 @@ class Runs(_Read):
         >>> list(runs.packed().range())
         [(b'a', b'1'), (b'b', b'1')]
         """
-        packed = self._begun()
+        packed = self._empty()
         with self._turn:
-            packed._kept = self._kept
-            test(_calls.runs_pack(self._ref, packed._ref))
+            packed._kept, packed._table_count = self._kept, self._table_count
+            self._check(_calls.runs_pack(self._ref, packed._ref))
         return packed
 
     def packing(self) -> Packing:
-        """In which runs the tables go where these are as few as there can be, and why there are no
-        fewer.
+        """Returns the runs that `packed` makes, and a chain of tables that shows that fewer cannot
+        do.
 
         >>> runs = Runs()
         >>> for keys in (b"ac", b"d", b"b"):
@@ -780,35 +771,26 @@ class Runs(_Read):
         >>> runs.packing()
         Packing(runs=[[0, 1], [2]], chain=[0, 2])
         """
-        with Held() as packing:
+        with Resource() as packing:
             with self._turn:
-                test(_calls.packing_open(self._ref, packing._ref))
-            count = _calls.c_uint64()
-            test(_calls.packing_count(packing._ref, byref(count)))
-            return Packing([_run_of(packing, run) for run in range(count.value)],
-                           [_told(_calls.packing_chain, packing, place)
-                            for place in range(count.value)])
+                self._check(_calls.packing_open(self._ref, packing._ref))
 
+            def read(call: Callable[..., int], *indices: int) -> int:
+                found = ctypes.c_uint64()
+                self._check(call(packing._ref, *indices, byref(found)))
+                return found.value
 
-# A number that a call tells of a place.
-def _told(call: Callable[..., int], packing: Held, *place: int) -> int:
-    told = _calls.c_uint64()
-    test(call(packing._ref, *place, byref(told)))
-    return told.value
+            count = read(_calls.packing_count)
+            runs = [[read(_calls.packing_table, run, index)
+                     for index in range(read(_calls.packing_run, run))] for run in range(count)]
+            return Packing(runs, [read(_calls.packing_chain, index) for index in range(count)])
 
-
-def _run_of(packing: Held, run: int) -> List[int]:
-    return [_told(_calls.packing_table, packing, run, place)
-            for place in range(_told(_calls.packing_run, packing, run))]
+    def _parts(self) -> List[str]:
+        return super()._parts() + [f"table_count={self._table_count}"]
 
 
 def listed(tables: Iterable[Table]) -> List[Table]:
-    """Some tables. One alone, which deals its keys, is none of these."""
+    """Returns some tables. A single one, which is an iterable of its keys, is a `TypeError`."""
     if isinstance(tables, Table):
-        raise TypeError("several tables are wanted, and not one")
+        raise TypeError("tables are expected, and not one table")
     return list(tables)
-
-
-def _require_table(table: object) -> None:
-    if not isinstance(table, Table):
-        raise TypeError(f"a Table is wanted, and not a {type(table).__name__}")

@@ -1,81 +1,101 @@
-"""Writing tables: of entries, and of the entries of other tables."""
+"""Writing tables, from entries and from other tables."""
+
+from __future__ import annotations
 
 import array
 import ctypes
 import itertools
-from typing import Dict, Iterable, List, Optional, Tuple, Union
+from ctypes import byref
+from typing import Iterable, List, Optional, Tuple, Union
 
 from . import _calls
-from ._calls import byref
-from ._errors import test
-from ._held import Held, number, plain
+from ._records import NEWEST, Kind
+from ._resources import Resource, number, plain
 from ._tables import BytesLike, Runs, Table, listed
-from ._told import NEWEST, Kind
 
-# How many entries `Writer.add_many` hands over at once.
+# How many entries `Writer.add_many` passes to a call.
 _MANY = 256
 
-_OPTIONS = {name: 8 * ctypes.sizeof(kind) for name, kind in _calls.Options._fields_
-            if name != "unused"}
+# The bits of each option, in the order of its structure.
+_BITS = [8 * ctypes.sizeof(kind) for name, kind in _calls.Options._fields_[:-1]]
 
 
-# What a table is written with: the defaults, and what else is asked for.
-def _chosen(options: Dict[str, int]) -> _calls.Options:
-    chosen = _calls.Options()
-    _calls.options_default(byref(chosen))
-    for name, value in options.items():
-        if name not in _OPTIONS:
-            raise TypeError(f"no option {name!r}")
-        setattr(chosen, name, number(value, _OPTIONS[name]))
-    return chosen
+# The options of a writer, in the order of its structure.
+def _options(*values: int) -> _calls.Options:
+    return _calls.Options(*map(number, values, _BITS))
 
 
 class FinishedTable(bytes):
-    """The bytes of a table that was written. `id` is the table's, and `checksum` the FNV-1a sum of
-    all bytes, which stands nowhere in them."""
+    """The bytes of a table, which `Writer.finish` and `compact` return.
+
+    `id`: the id of the table.
+    `checksum`: the FNV-1a hash of all bytes, which is not part of them.
+
+    >>> writer = Writer(id=4)
+    >>> writer.add(b"a", b"1")
+    >>> writer.finish()
+    <FinishedTable id=4 checksum=8836759aab92fee1 1250 bytes>
+    """
 
     id: int
     checksum: int
 
+    def __repr__(self) -> str:
+        if not hasattr(self, "checksum"):
+            return f"FinishedTable({super().__repr__()})"
+        return f"<FinishedTable id={self.id} checksum={self.checksum:016x} {len(self)} bytes>"
+
+    __str__ = __repr__
+
 
 class Compacted(List[FinishedTable]):
-    """The tables that a compaction wrote, in order of their keys; none where nothing was kept.
-    `next_id` is the first id that is left, and `None` where none is."""
+    """The tables that `compact` wrote, in key order. It is empty if no entry was kept.
+
+    `next_id`: the first id that no table has, for the next one; `None` if no id is left.
+    """
 
     next_id: Optional[int]
 
-
-# Finished tables.
-def _files(files: Held) -> List[FinishedTable]:
-    count = _calls.c_uint64()
-    test(_calls.files_count(files._ref, byref(count)))
-    return [_file(files, place) for place in range(count.value)]
+    def __repr__(self) -> str:
+        return f"Compacted({super().__repr__()}, next_id={getattr(self, 'next_id', None)})"
 
 
-def _file(files: Held, place: int) -> FinishedTable:
-    told, count = _calls.FileTold(), _calls.c_uint64()
-    test(_calls.files_tell(files._ref, place, byref(told)))
-    # Zeros, which nothing else sees before they are written over.
-    file = FinishedTable(told.len)
-    test(_calls.files_copy(files._ref, place, 0, file, told.len, byref(count)))
-    file.id, file.checksum = told.id, told.checksum
+# The finished tables that a handle holds.
+def _files(files: Resource) -> List[FinishedTable]:
+    count = ctypes.c_uint64()
+    files._check(_calls.files_count(files._ref, byref(count)))
+    return [_file(files, index) for index in range(count.value)]
+
+
+def _file(files: Resource, index: int) -> FinishedTable:
+    found, count = _calls.File(), ctypes.c_uint64()
+    files._check(_calls.files_tell(files._ref, index, byref(found)))
+    # Zeros, which the call writes over before anything else refers to them.
+    file = FinishedTable(found.len)
+    files._check(_calls.files_copy(files._ref, index, 0, file, found.len, byref(count)))
+    file.id, file.checksum = found.id, found.checksum
     return file
 
 
-class Writer(Held):
-    """Writes a table. Keys ascend, and the numbers of one key descend.
+class Writer(Resource):
+    """Writes a table: its entries in order, and then `finish`, which returns its bytes.
 
-    Options: `id`; `created_at`, in nanoseconds since 1970; `level`, at most 255; `data_block_size`,
-    in bytes of keys and values, at most 4 MiB; `index_partition_size` and `filter_partition_size`,
-    in bytes, at most 4 MiB, 0 for one block; `filter_bits_per_key`, in tenths of a bit, 0 for no
-    filter. `data_block_restart_interval` (1 to 255) and `data_block_hash_ratio` are stored in the
-    meta block and change nothing else. By default blocks have 4,096 bytes, index and filter are one
-    block each, a key has ten bits, the restart interval is 16, and the rest is 0. `NoSuch` is
-    raised if an option is out of its range (4 MiB are 4,194,304 bytes). `OverflowError` is raised
-    if a number is negative or does not fit its field: 64 bits for `id` and `created_at`, 32 for the
-    others.
+    Keys ascend. The versions of one key follow each other, with descending sequence numbers. The
+    whole table is in memory. A writer that is closed before `finish`, as by `with`, writes none.
 
-    Where a `with` ends, the writer is closed: what was written and not finished is given up.
+    `id`: the id of the table, up to 64 bits.
+    `created_at`: the time of creation, in nanoseconds since 1970, up to 64 bits.
+    `level`: the level of the tree that the table is for, up to 255.
+    `data_block_size`: a data block ends once its keys and values have as many bytes, up to 4 MiB.
+    `data_block_restart_interval` (1 to 255), `data_block_hash_ratio` (up to 32 bits): are stored in
+    the meta block. They change nothing else.
+    `index_partition_size`, `filter_partition_size`: the size of a partition, in bytes, up to 4 MiB;
+    0 for one block without partitions.
+    `filter_bits_per_key`: the size of the filter, in tenths of a bit for each key, up to 32 bits; 0
+    for no filter.
+
+    Raises `NoSuch` if an option is out of its range, and `OverflowError` if it is negative or has
+    more bits than its field. 4 MiB are 4,194,304 bytes.
 
     >>> with Writer() as writer:
     ...     writer.add(b"a", b"1")
@@ -92,61 +112,72 @@ class Writer(Held):
     7
     """
 
-    def __init__(self, **options: int) -> None:
+    _id: Optional[int] = None
+
+    def __init__(self, *, id: int = 0, created_at: int = 0, level: int = 0,
+                 data_block_size: int = 4096, data_block_restart_interval: int = 16,
+                 data_block_hash_ratio: int = 0, index_partition_size: int = 0,
+                 filter_partition_size: int = 0, filter_bits_per_key: int = 100) -> None:
+        """Begins a table. The class has the options."""
         super().__init__()
-        test(_calls.writer_open(byref(_chosen(options)), self._ref))
+        options = _options(id, created_at, level, data_block_size, data_block_restart_interval,
+                           data_block_hash_ratio, index_partition_size, filter_partition_size,
+                           filter_bits_per_key)
+        self._id = options.id
+        self._check(_calls.writer_open(byref(options), self._ref))
 
     def add(self, key: BytesLike, value: BytesLike, seqno: int = 0,
             kind: Kind = Kind.VALUE) -> None:
-        """Writes an entry, whose key and value are copied. Refused with `OutOfOrder` where it does
-        not follow the one before it, or is numbered `NEWEST`, and with `NoSuch` where there is no
-        such kind; the writer stays as it is then.
+        """Writes an entry. Its key and value are copied.
 
-        Refused with `KeyTooLong` where the key has more than 1,048,576 bytes, with `ValueTooLong`
-        where the value has 2^32 or more, and with `BlockTooLarge` where the data block that is
-        being filled would have 2^32 or more: 28, and of each of its entries 17, the key and the
-        value. After one of these, or want of memory, an entry that may follow is refused with
-        `WriterFailed`.
+        Raises `OutOfOrder` if the entry does not follow the one before it or if `seqno` is
+        `NEWEST`, and `NoSuch` if there is no such kind. The writer stays as it was.
+
+        Raises `KeyTooLong` if the key has more than 1,048,576 bytes, and `ValueTooLong` if the
+        value has 2^32 bytes or more. Raises `BlockTooLarge` if the data block would have 2^32 bytes
+        or more: 28, and for each entry 17 and the bytes of its key and value. After one of these,
+        or `OutOfMemory`, the writer has failed: `add` and `finish` raise `WriterFailed`.
 
         >>> writer = Writer()
         >>> writer.add(b"a", b"1", seqno=2)
         >>> writer.add(b"a", b"", seqno=1, kind=Kind.WEAK_TOMBSTONE)
-        >>> len(Table.open(writer.finish()))
+        >>> Table.open(writer.finish()).entry_count
         2
         """
-        key, seqno, kind = plain(key), number(seqno), number(kind, 32)
-        with _calls.Lending(value) as (at, length), self._turn:
-            test(_calls.writer_add(self._ref, key, len(key), seqno, kind, at, length))
+        key, seqno, kind_number = plain(key), number(seqno), number(kind, 32)
+        with _calls.Borrowed(value) as (address, length), self._turn:
+            self._check(_calls.writer_add(self._ref, key, len(key), seqno, kind_number, address,
+                                          length))
 
     def add_many(self, entries: Iterable[Tuple[BytesLike, BytesLike]], seqno: int = 0,
                  kind: Kind = Kind.VALUE) -> None:
-        """Writes many keys with their values, all with one number and of one kind, as `add` does
-        one after another, in much less time.
+        """Writes many keys with their values, all with one sequence number and of one kind.
 
-        An error is that of the first entry that fails; the entries before it are written.
+        It does what `add` does for each, in much less time. It raises the error of the first entry
+        that fails; the entries before it are written.
 
         >>> writer = Writer()
         >>> writer.add_many((b"%d" % digit, b"") for digit in range(10))
-        >>> len(Table.open(writer.finish()))
+        >>> Table.open(writer.finish()).entry_count
         10
         """
-        seqno, kind = number(seqno), number(kind, 32)
-        items, count = iter(entries), _calls.c_uint64()
+        seqno, kind_number = number(seqno), number(kind, 32)
+        items, count = iter(entries), ctypes.c_uint64()
         while True:
             some = list(itertools.islice(items, _MANY))
             if not some:
                 return
-            parts = [plain(part) for item in some for part in item]
-            rows = array.array("Q", (kind, seqno, 0, 0)) * len(some)
+            parts = [part for key, value in some for part in (plain(key), plain(value))]
+            rows = array.array("Q", (kind_number, seqno, 0, 0)) * len(some)
             rows[2::4] = array.array("Q", map(len, parts[0::2]))
             rows[3::4] = array.array("Q", map(len, parts[1::2]))
             data = b"".join(parts)
             with self._turn:
-                test(_calls.writer_add_many(self._ref, rows.buffer_info()[0], len(some), data,
-                                            len(data), byref(count)))
+                self._check(_calls.writer_add_many(self._ref, rows.buffer_info()[0], len(some),
+                                                   data, len(data), byref(count)))
 
     def delete(self, key: BytesLike, seqno: int = 0) -> None:
-        """Writes a deletion of every older version of a key.
+        """Writes a deletion of every older version of a key. It raises the errors of `add`.
 
         >>> writer = Writer()
         >>> writer.delete(b"a")
@@ -156,7 +187,10 @@ class Writer(Held):
         self.add(key, b"", seqno, Kind.TOMBSTONE)
 
     def finish(self) -> Optional[FinishedTable]:
-        """The bytes of the table; `None` where nothing was written. The writer is closed then.
+        """Returns the bytes of the table, or `None` if no entry was written.
+
+        The writer is closed then, also if this fails. Raises `WriterFailed` if the writer has
+        failed.
 
         >>> Writer().finish() is None
         True
@@ -168,34 +202,46 @@ class Writer(Held):
         """
         with self._turn:
             try:
-                test(_calls.writer_finish(self._ref))
+                self._check(_calls.writer_finish(self._ref))
                 files = _files(self)
             finally:
-                _calls.close(self._ref)
+                self._release()
         return files[0] if files else None
+
+    def _parts(self) -> List[str]:
+        return super()._parts() + [f"id={self._id}"]
 
 
 def compact(tables: Union[Runs, Iterable[Table]], *, watermark: int = 0, evict: bool = False,
-            zero: bool = False, target: int = NEWEST, **options: int) -> Compacted:
-    """Writes what is kept of all entries of some tables, the newest first, into new ones, and
-    answers their bytes, in order of their keys; none where nothing is kept. The tables stay.
+            zero: bool = False, target: int = NEWEST, id: int = 0, created_at: int = 0,
+            level: int = 0, data_block_size: int = 4096, data_block_restart_interval: int = 16,
+            data_block_hash_ratio: int = 0, index_partition_size: int = 0,
+            filter_partition_size: int = 0, filter_bits_per_key: int = 100) -> Compacted:
+    """Merges some tables, the newest first, into new ones. Returns these, in key order.
 
-    No reader stands below `watermark`: of each key the versions that are not below it are kept, and
-    the newest one that is; all older ones go. Of those that are kept the oldest alone may go too: a
-    weak tombstone goes where the version directly behind it, which goes, is a `Kind.VALUE`; with
-    `evict` a `Kind.TOMBSTONE` goes, and a weak tombstone behind which the tables have no version of
-    its key. Any other deletion stays. With a watermark of 0 and without `evict` all entries are
-    kept. `evict` is only for tables behind which no older one stands.
+    The tables stay as they are. Memory holds all new tables at once.
 
-    With `zero` numbers below the watermark become 0. A new table begins at the next key once the
-    data blocks of the present one have `target` bytes; with `NEWEST` there is one. The tables are
-    written with `options`, which a `Writer` takes too, and their ids run on from `id`, or from the
-    one behind it where `target` is 0. The first that is left is `next_id` of what is answered; that
-    of `id` is taken where nothing is kept, too.
+    `watermark`: the least snapshot that is still read. Versions whose sequence numbers are not
+    below it are kept, and the newest version of each key below it. Older ones are dropped. By
+    default all are kept.
+    `evict`: whether deletions that are not needed are dropped. Only for tables below which the tree
+    has no older one.
+    `zero`: whether sequence numbers below the watermark become 0.
+    `target`: a new table starts at the next key once the data blocks of the last one have as many
+    bytes. By default there is one table.
+    `id`: the id of the first table; that of each next one is by one larger. If `target` is 0, the
+    first table has the id after it. If no entry is kept, the id is taken, too.
 
-    Refused with `OutOfOrder` where a table does not hold what a writer makes, or two of them have
-    one key under one number; with `NoSuch` as a `Writer` is, and with `TableIdsSpent` where no id
-    is left.
+    The other options are those of `Writer`.
+
+    A deletion is dropped only if it is the oldest version of its key that is kept. A
+    `Kind.WEAK_TOMBSTONE` is dropped if the version directly before it is a `Kind.VALUE` that is
+    dropped. With `evict` it is also dropped if there is no older version of its key, and a
+    `Kind.TOMBSTONE` is dropped.
+
+    Raises `OutOfOrder` if a table is not as a writer makes it, or if two tables have one key with
+    one sequence number. Raises `TableIdsSpent` if no id is left, `NoSuch` and `OverflowError` as a
+    `Writer` does, and the errors of reading and writing. No table is returned then.
 
     >>> newer, older = Writer(), Writer()
     >>> newer.delete(b"a", seqno=9)
@@ -203,16 +249,19 @@ def compact(tables: Union[Runs, Iterable[Table]], *, watermark: int = 0, evict: 
     >>> older.add(b"b", b"more", seqno=2)
     >>> tables = [Table.open(writer.finish()) for writer in (newer, older)]
     >>> files = compact(tables, watermark=10, evict=True, id=8)
-    >>> [(file.id, list(Table.open(file).range())) for file in files], files.next_id
+    >>> [(file.id, list(Table.open(file).items())) for file in files], files.next_id
     ([(8, [(b'b', b'more')])], 9)
     """
-    watermark, target, chosen = number(watermark), number(target), _chosen(options)
+    watermark, target = number(watermark), number(target)
+    options = _options(id, created_at, level, data_block_size, data_block_restart_interval,
+                       data_block_hash_ratio, index_partition_size, filter_partition_size,
+                       filter_bits_per_key)
     runs = tables if isinstance(tables, Runs) else Runs(*listed(tables))
-    files, next_id = Held(), _calls.c_uint64()
+    files, next_id = Resource(), ctypes.c_uint64()
     with files:
         with runs._turn:
-            test(_calls.compact(runs._ref, byref(chosen), watermark, bool(evict), bool(zero),
-                                target, files._ref, byref(next_id)))
+            files._check(_calls.compact(runs._ref, byref(options), watermark, bool(evict),
+                                        bool(zero), target, files._ref, byref(next_id)))
         compacted = Compacted(_files(files))
         compacted.next_id = next_id.value or None
         return compacted

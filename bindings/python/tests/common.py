@@ -1,4 +1,4 @@
-"""What the tests share: lists of entries, tables of them, and what a plain list says of both."""
+"""Shared by the tests: lists of entries, tables of them, and the same reads of plain lists."""
 
 import os
 import random
@@ -13,7 +13,8 @@ KINDS = [Kind.VALUE, Kind.VALUE, Kind.TOMBSTONE, Kind.WEAK_TOMBSTONE, Kind.INDIR
 
 
 def entries_of(seed, count, above=0, step=1):
-    """A list of entries in the order of a table; their numbers are above one, and so far apart."""
+    """Returns random entries in the order of a table. Their sequence numbers are above one number,
+    and a step apart."""
     dice = random.Random(seed)
     versions = {}
     for _ in range(count):
@@ -26,7 +27,7 @@ def entries_of(seed, count, above=0, step=1):
 
 
 def small(seed):
-    """Options for small blocks, with and without partitions, buckets and a filter."""
+    """Returns options for small blocks, with and without partitions and a filter."""
     return {"id": seed, "data_block_size": 64, "data_block_hash_ratio": 500 * (seed % 3),
             "index_partition_size": 100 * (seed % 2), "filter_partition_size": 50 * (seed // 2 % 2),
             "data_block_restart_interval": 1 + seed % 4,
@@ -50,7 +51,7 @@ def sorted_entries(*lists):
 
 
 def keys_of(entries):
-    """Keys of some entries, and some that none has."""
+    """Returns the keys of some entries, and some that none has."""
     return sorted({entry.key for entry in entries} | {b"zz", b"c" * 9})
 
 
@@ -59,7 +60,7 @@ def newest(entries, key, at=NEWEST):
 
 
 def seen(entries, at=NEWEST):
-    """Of each key the newest version that is numbered below one, of entries in order."""
+    """Returns the newest version of each key that is visible at a snapshot, of sorted entries."""
     found = {}
     for entry in entries:
         if entry.seqno < at:
@@ -77,7 +78,7 @@ def within(pairs, lower, upper):
 
 
 def kept(entries, watermark, evict, zero):
-    """What a compaction keeps of entries in order."""
+    """Returns the entries that a compaction keeps of sorted entries."""
     left = []
     for key in sorted({entry.key for entry in entries}):
         versions = [entry for entry in entries if entry.key == key]

@@ -1,5 +1,5 @@
-"""What is fetched ahead, and what is written many at a time: no entry is lost or comes twice, from
-either end, and an error comes in its place."""
+"""Entries that are fetched ahead or written in bulk. None is lost or repeated, at either end. An
+error is raised after the entries before it."""
 
 import random
 import unittest
@@ -29,7 +29,7 @@ class Bulk(unittest.TestCase):
         for count in (0, 1, 16, 17, 80, 81, 336, 337, 1499, 1500):
             entries = table.entries()
             self.assertEqual([entry for entry, _ in zip(entries, range(count))], ENTRIES[:count])
-            # `zip` takes one entry more than it gives, unless it is asked for that alone.
+            # `zip` takes one entry more than it yields.
             rest = list(entries)
             self.assertEqual(rest, ENTRIES[count + 1:])
             self.assertEqual(list(table.scan()), ENTRIES)
@@ -59,8 +59,18 @@ class Bulk(unittest.TestCase):
                     found.append(entry)
             self.assertEqual(found, ENTRIES[:len(found)])
             self.assertGreater(len(found), 100)
+            self.assertTrue(steps.closed)
             self.assertEqual(list(steps), [])
-        # The front meets the error ahead of its place: the back gives what it has, and then it.
+        # An error that is left by closing is not raised.
+        for steps in (Table.open(file).entries(), Table.open(file).scan()):
+            for _ in found:
+                next(steps)
+            self.assertFalse(steps.closed)
+            steps.close()
+            self.assertTrue(steps.closed)
+            with self.assertRaises(Closed):
+                next(steps)
+        # The front fetches the error before it is due: the entries before it come first.
         entries = Table.open(file).entries()
         ahead = [entries.take() for _ in range(len(found))]
         self.assertEqual(ahead, found)
@@ -94,6 +104,20 @@ class Bulk(unittest.TestCase):
             for key, value in items:
                 single.add(key, value, 3, Kind.INDIRECTION)
             self.assertEqual(writer.finish(), single.finish())
+
+    def test_many_that_are_no_pairs(self):
+        """Lists of other lengths are no pairs, whatever they have together."""
+        for wrong in ([(b"a",), (b"b", b"1", b"2")], [(b"a", b"1", b"2")], [b"a"], [5], [None]):
+            writer = Writer()
+            with self.assertRaises((TypeError, ValueError)):
+                writer.add_many(wrong)
+            self.assertIsNone(writer.finish())
+
+    def test_a_short_range_takes_one_call(self):
+        for count in (0, 1, 15):
+            entries = table_of(ENTRIES).entries(b"%05d" % 0, b"%05d" % count)
+            self.assertEqual(len(list(entries)), 2 * count if count < 8 else 30)
+            self.assertEqual(entries._fetched, 1 if count < 8 else 2)
 
     def test_many_out_of_order(self):
         writer = Writer()

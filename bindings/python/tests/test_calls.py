@@ -10,13 +10,13 @@ from common import HERE
 from logpurple import Fault, Section, _calls, _errors
 
 HEADER = os.path.join(HERE, "..", "..", "..", "include", "sst.h")
-# What a word of the header is in ctypes; a pointer to another struct stands by its name.
+# The types of the header in ctypes.
 PLAIN = {"size_t": ctypes.c_size_t, "uint64_t": ctypes.c_uint64, "uint32_t": ctypes.c_uint32,
          "bool": ctypes.c_bool, "void": None}
-STRUCTS = {"sst_handle": _calls.Handle, "sst_entry": _calls.EntryTold, "sst_lent": _calls.Lent,
-           "sst_facts": _calls.FactsTold, "sst_verified": _calls.VerifiedTold,
-           "sst_options": _calls.Options, "sst_file": _calls.FileTold,
-           "sst_progress": _calls.Progress, "sst_memory": _calls.MemoryTold}
+STRUCTS = {"sst_handle": _calls.Handle, "sst_entry": _calls.Entry, "sst_lent": _calls.Lent,
+           "sst_facts": _calls.Facts, "sst_verified": _calls.Verified,
+           "sst_options": _calls.Options, "sst_file": _calls.File,
+           "sst_progress": _calls.Progress, "sst_memory": _calls.Memory}
 POINTERS = (ctypes.c_char_p, ctypes.c_void_p)
 
 
@@ -46,7 +46,7 @@ class Calls(unittest.TestCase):
         self.assertGreater(len(declared), 25)
         for answer, name, parts in declared:
             call = getattr(_calls, name[4:], None)
-            if call is None:  # what this package has no use for
+            if call is None:  # the package does not use it
                 self.assertIn(name, ("sst_found_copy", "sst_answers_copy", "sst_answers_lend"))
                 continue
             self.assertEqual(call.restype, PLAIN[answer], name)
@@ -61,7 +61,7 @@ class Calls(unittest.TestCase):
                 else:
                     self.assertTrue(is_pointer(kind), name)
 
-    # The numbers of the header's enumeration that has a name, without what its names begin with.
+    # The numbers of the header's enumeration that has a name, without the names' prefix.
     def numbers(self, name, begin="SST_"):
         body = next(body for body in re.findall(r"enum \{(.*?)\};", self.header, re.S)
                     if re.search(r"\b%s =" % name, body))
@@ -73,9 +73,9 @@ class Calls(unittest.TestCase):
                          {section.name: section.value for section in Section})
         self.assertEqual(self.numbers("SST_FAULT_HOLLOW", "SST_FAULT_"),
                          {fault.name: fault.value for fault in Fault})
-        refusals = {**self.numbers("SST_TRUNCATED"), **self.numbers("SST_CLOSED")}
-        self.assertEqual(len(refusals), len(_errors.BY_CODE))
-        for name, number in refusals.items():
+        codes = {**self.numbers("SST_TRUNCATED"), **self.numbers("SST_CLOSED")}
+        self.assertEqual(len(codes), len(_errors.BY_CODE))
+        for name, number in codes.items():
             kind = _errors.BY_CODE[number]
             self.assertEqual(kind.__name__.replace("Already", "").lower(),
                              name.replace("_", "").lower())

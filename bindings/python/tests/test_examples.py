@@ -1,5 +1,4 @@
-"""The examples in the package's pages: each public call has one, and what a class has from those
-that it stands on."""
+"""The docstrings: every public class, call and property has one, and their examples run."""
 
 import doctest
 import inspect
@@ -8,56 +7,69 @@ import unittest
 import common  # noqa: F401
 
 import logpurple
-from logpurple._held import Held
+from logpurple._resources import Resource
 
-# What is public though it begins with an underscore, since Python has a spelling of its own for it.
-SPELLED = ("__getitem__", "__contains__", "__iter__", "__len__", "__enter__")
+# The special methods that are public.
+SPECIAL = ("__getitem__", "__contains__", "__iter__", "__reversed__", "__enter__")
 
 
-def methods(kind):
-    """The calls of a class, with those of what it stands on, up to `Held`."""
+def members(kind):
+    """Yields the public calls and properties of a class, with those of its bases up to
+    `Resource`."""
     found = {}
     for base in reversed(kind.__mro__):
-        if base is kind or issubclass(base, Held):
+        if base is kind or issubclass(base, Resource):
             found.update(vars(base))
-    for part, method in found.items():
-        if isinstance(method, (classmethod, staticmethod)):
-            method = method.__func__
-        if inspect.isfunction(method) and (part in SPELLED or not part.startswith("_")):
-            yield part, method
+    for name, member in found.items():
+        if isinstance(member, (classmethod, staticmethod)):
+            member = member.__func__
+        if isinstance(member, property):
+            member = member.fget
+        if inspect.isfunction(member) and (name in SPECIAL or not name.startswith("_")):
+            yield name, member
 
 
 def public():
-    """What is public and does something, by its name."""
+    """Yields what is public, by its name."""
     yield "logpurple", logpurple
     for name in logpurple.__all__:
         value = getattr(logpurple, name)
         if not inspect.isclass(value) and not inspect.isfunction(value):
             continue
         yield name, value
-        for part, method in methods(value) if inspect.isclass(value) else ():
-            yield f"{name}.{part}", method
+        for part, member in members(value) if inspect.isclass(value) else ():
+            yield f"{name}.{part}", member
+
+
+# The classes with an example, and those of them whose members need none.
+WITH_EXAMPLE = ("Table", "Runs", "Writer", "Entries", "Scan", "Keys", "Values", "Items", "Kind",
+                "TableError", "FinishedTable")
+SHOWN_BY_CLASS = ("Keys", "Values", "Items", "Kind")
 
 
 def wants_example(name, value):
-    """Calls do; of classes those that have calls, but not exceptions, tuples and numbers. The
-    examples of what is stepped through go through it already."""
+    """Returns whether an example is expected."""
     if inspect.isclass(value):
-        return name in ("Table", "Runs", "Writer", "Entries", "Scan", "TableError")
-    return name not in ("Entries.__iter__", "Scan.__iter__")
+        return name in WITH_EXAMPLE
+    return name.split(".")[0] not in SHOWN_BY_CLASS and name not in (
+        "Entries.__iter__", "Scan.__iter__")
 
 
 class Examples(unittest.TestCase):
-    def test_each_is_explained_and_hinted(self):
+    def test_docstrings_and_hints(self):
         for name, value in public():
+            if "." in name and name.split(".")[0] in SHOWN_BY_CLASS:
+                continue
             with self.subTest(name):
-                self.assertTrue(inspect.getdoc(value))
+                summary = inspect.getdoc(value).split("\n\n")[0]
+                self.assertRegex(summary, r"[.:]($|\s)")
                 if inspect.isfunction(value):
                     hints = inspect.signature(value)
                     self.assertIsNot(hints.return_annotation, inspect.Signature.empty)
                     for part in list(hints.parameters.values()):
                         if part.name not in ("self", "cls"):
                             self.assertIsNot(part.annotation, inspect.Parameter.empty)
+                            self.assertNotEqual(part.kind, inspect.Parameter.VAR_KEYWORD)
 
     def test_examples(self):
         finder = doctest.DocTestFinder(recurse=False)
@@ -70,9 +82,9 @@ class Examples(unittest.TestCase):
                     self.assertTrue(examples, "there is no example")
                 for test in tests:
                     runner = doctest.DocTestRunner(optionflags=doctest.ELLIPSIS)
-                    told = []
-                    runner.run(test, out=told.append)
-                    self.assertEqual(runner.failures, 0, "".join(told))
+                    output = []
+                    runner.run(test, out=output.append)
+                    self.assertEqual(runner.failures, 0, "".join(output))
 
 
 if __name__ == "__main__":

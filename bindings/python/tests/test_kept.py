@@ -48,7 +48,7 @@ class Kept(unittest.TestCase):
             with self.assertRaises(TypeError):
                 Table.open(file, kept=True)
 
-    def test_refused(self):
+    def test_bytes_that_are_no_table(self):
         file = self.file[:-1]
         before = counted(file)
         with self.assertRaises(logpurple.InvalidTrailer):
@@ -117,20 +117,20 @@ class Steps(unittest.TestCase):
     def test_progress(self):
         written = entries_of(3, 300)
         for seed in range(4):
-            table, told = table_of(written, **small(seed)), []
-            verified = table.verify(lambda read, size: told.append((read, size)))
+            table, calls = table_of(written, **small(seed)), []
+            verified = table.verify(lambda read, size: calls.append((read, size)))
             self.assertEqual(verified, table.verify())
-            self.assertEqual([read for read, _ in told], sorted(read for read, _ in told))
-            self.assertEqual({size for _, size in told}, {table.facts().data_size})
-            self.assertEqual((told[0][0], told[-1][0]), (0, table.facts().data_size))
-            self.assertGreater(len(told), table.facts().data_block_count)
+            self.assertEqual([read for read, _ in calls], sorted(read for read, _ in calls))
+            self.assertEqual({size for _, size in calls}, {table.facts().data_size})
+            self.assertEqual((calls[0][0], calls[-1][0]), (0, table.facts().data_size))
+            self.assertGreater(len(calls), table.facts().data_block_count)
 
     def test_the_table_may_be_used_and_closed(self):
         table = table_of(entries_of(3, 80), **small(1))
 
         def use(read, size):
             if read < size / 2:
-                self.assertEqual(table.verify().item_count, len(table))
+                self.assertEqual(table.verify().item_count, table.entry_count)
             else:
                 table.close()
 
@@ -139,15 +139,15 @@ class Steps(unittest.TestCase):
             table.verify(use)
 
     def test_stopped(self):
-        told = []
+        calls = []
 
         def stop(read, size):
-            told.append(read)
+            calls.append(read)
             raise KeyboardInterrupt
 
         with self.assertRaises(KeyboardInterrupt):
             table_of(entries_of(3, 80)).verify(stop)
-        self.assertEqual(told, [0])
+        self.assertEqual(calls, [0])
 
     def test_what_progress_raises_stays(self):
         wrong = logpurple.Faulty()

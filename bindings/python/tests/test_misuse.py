@@ -1,8 +1,10 @@
-"""What is refused: damage, closed handles, wrong types, numbers that do not fit, and calls from
-places where none is expected."""
+"""Errors: damage, closed objects, wrong types, numbers that do not fit, and calls from places where
+none is expected."""
 
 import copy
+import ctypes
 import gc
+import inspect
 import itertools
 import os
 import pickle
@@ -79,8 +81,8 @@ class Misuse(unittest.TestCase):
             held.close()
             held.close()
         for call in (lambda: table.get(b"a"), lambda: table.entry(b"a"), lambda: table[b"a"],
-                     lambda: b"a" in table, lambda: len(table), lambda: list(table), table.facts,
-                     table.verify, table.share, table.entries, table.range, table.scan,
+                     lambda: b"a" in table, lambda: table.entry_count, lambda: list(table),
+                     table.facts, table.verify, table.share, table.entries, table.range, table.scan,
                      table.memory, lambda: next(scan),
                      lambda: table.get_many([b"a"]), lambda: table.get_many([]),
                      lambda: table.entry_many([b"a"]), lambda: writer.add(b"a", b""),
@@ -88,9 +90,9 @@ class Misuse(unittest.TestCase):
                      runs.entries, runs.range, lambda: compact(runs), lambda: compact([table]),
                      lambda: Runs(table), lambda: Runs().add(table),
                      lambda: next(entries), entries.take):
-            with self.assertRaises(logpurple.Closed) as refused:
+            with self.assertRaises(logpurple.Closed) as raised:
                 call()
-            self.assertEqual((refused.exception.code, isinstance(refused.exception, ValueError)),
+            self.assertEqual((raised.exception.code, isinstance(raised.exception, ValueError)),
                              (100, True))
 
     def test_closed_in_the_middle(self):
@@ -125,7 +127,7 @@ class Misuse(unittest.TestCase):
                 writer.add(b"c", b"", 4, kind)
         writer.add(b"b", b"", 3)
         writer.add(b"b\0", b"", NEWEST - 1)
-        self.assertEqual(len(Table.open(writer.finish())), 3)
+        self.assertEqual(Table.open(writer.finish()).entry_count, 3)
 
     def test_a_key_that_is_too_long(self):
         writer = Writer()
@@ -148,6 +150,18 @@ class Misuse(unittest.TestCase):
         for options in ({"unused": 0}, {"ID": 1}, {"level": "1"}, {"level": None}, {"level": 1.0}):
             with self.assertRaises(TypeError):
                 Writer(**options)
+        with self.assertRaises(TypeError):
+            Writer(1)
+
+    def test_default_options(self):
+        """Those of the signatures are those of the library, in the order of its structure."""
+        defaults = _calls.Options()
+        _calls.options_default(ctypes.byref(defaults))
+        wanted = [(name, getattr(defaults, name)) for name, _ in _calls.Options._fields_[:-1]]
+        for call in (Writer, compact):
+            parameters = list(inspect.signature(call).parameters.values())[-len(wanted):]
+            self.assertEqual([(each.name, each.default) for each in parameters], wanted)
+            self.assertEqual({each.kind for each in parameters}, {inspect.Parameter.KEYWORD_ONLY})
 
     def test_numbers_that_do_not_fit(self):
         writer, table = Writer(), table_of(entries_of(8, 3))
@@ -188,18 +202,18 @@ class Misuse(unittest.TestCase):
                     copied(held)
 
     def test_exceptions(self):
-        text = _calls.ctypes.create_string_buffer(100)
+        text = ctypes.create_string_buffer(100)
         by_code = {}
         for name in logpurple._errors.__all__[1:]:
             kind = getattr(logpurple, name)
             self.assertTrue(issubclass(kind, TableError) and kind.__doc__)
             by_code[kind.code] = kind
             length = _calls.strerror_copy(kind.code, text, 100)
-            self.assertEqual(text.raw[:length].decode(), kind.text)
+            self.assertEqual(text.raw[:length].decode(), kind().text)
             again = pickle.loads(pickle.dumps(kind()))
             self.assertEqual((type(again), str(again), again.code), (kind, str(kind()), kind.code))
         self.assertEqual(sorted(by_code), list(range(1, 25)) + list(range(100, 108)))
-        self.assertEqual(str(logpurple._errors.of(99)), "unknown refusal (99)")
+        self.assertEqual(logpurple._errors.error(99).code, 99)
         for code in (0, 25, 99, 108, 2**32 - 1):
             _calls.strerror_copy(code, text, 100)
         self.assertTrue(issubclass(logpurple.OutOfMemory, MemoryError))
@@ -210,7 +224,7 @@ class Misuse(unittest.TestCase):
         for call in (lambda: Table.get(writer, b"a"), lambda: Table.facts(writer),
                      lambda: Table.entries(writer), lambda: Table.verify(writer),
                      lambda: Table.scan(writer), lambda: Table.memory(writer),
-                     lambda: Table._ask(writer, [b"a"], 1), lambda: Writer.add(table, b"a", b"")):
+                     lambda: Table._find(writer, [b"a"], 1), lambda: Writer.add(table, b"a", b"")):
             with self.assertRaises(logpurple.OtherKind):
                 call()
 
@@ -234,7 +248,7 @@ class Places(unittest.TestCase):
                     if held[i] is not None:
                         self.assertNotIn(next(held[i]), firsts)
                 if held[0] is not None:
-                    self.assertEqual(len(held[0]), len(wanted))
+                    self.assertEqual(held[0].entry_count, len(wanted))
                 if held[3] is not None:
                     self.assertEqual(list(held[3].entries()), wanted)
 
@@ -250,10 +264,10 @@ class Places(unittest.TestCase):
         gc.collect()
         self.assertIsNone(name())
 
-    def test_what_was_never_begun_is_let_go(self):
+    def test_an_object_without_a_handle(self):
         Table.__new__(Table).__del__()
         with self.assertRaises(logpurple.Closed):
-            Table._begun().get(b"a")
+            Table._empty().get(b"a")
 
     def test_what_calls_alone_make(self):
         for kind, by in ((Table, "a Table is opened by Table.open"),

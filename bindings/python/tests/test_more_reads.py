@@ -4,6 +4,7 @@ largest numbers, and every range of every small list."""
 import itertools
 import struct
 import unittest
+from ctypes import addressof
 
 from common import file_of, table_of
 
@@ -25,8 +26,8 @@ def fnv(data):
 
 
 def sections(file):
-    """Where the sections lie: of data, the index, its top level, the filter, its top level, the
-    version and the meta block."""
+    """Returns the offsets and sizes of the sections: data, index, its top level, filter, its top
+    level, version and meta block."""
     numbers = struct.unpack("<14Q", file[-120:-8])
     return [None if place == NONE else (place, size)
             for place, size in zip(numbers[::2], numbers[1::2])]
@@ -84,7 +85,7 @@ prefix_truncation#data prefix_truncation#index restart_interval#data user_data_s
 
 
 class Items(unittest.TestCase):
-    """What opening a table answers where one item or more of its meta block is changed."""
+    """Opening a table in which items of the meta block are changed."""
 
     def test_the_same_items(self):
         file = file_of([A1], id=1, filter_bits_per_key=0)
@@ -92,16 +93,16 @@ class Items(unittest.TestCase):
         self.assertEqual([name.decode() for _, _, name, _ in items_of(file)],
                          sorted(READ + NOT_READ))
 
-    def check(self, changes, refusal):
-        """Whether opening is refused so, or reads what it did."""
-        if refusal is None:
+    def check(self, changes, error):
+        """Checks that opening fails so or, for `None`, that reads find the same."""
+        if error is None:
             self.assertEqual(list(Table.open(changed(changes)).entries()), [A1])
         else:
-            with self.assertRaises(refusal):
+            with self.assertRaises(error):
                 Table.open(changed(changes))
 
     def test_one_item_with_another_value(self):
-        for name, value, refusal in (
+        for name, value, error in (
                 ("table_version", [5], VERSION), ("table_version", [], VERSION),
                 ("table_version", [3, 0], VERSION), ("table_version", [4, 0], VERSION),
                 ("table_version", [3], None), ("table_version", [4], None),
@@ -117,7 +118,7 @@ class Items(unittest.TestCase):
                 ("compression#index", [1], COMPRESSION), ("compression#index", [], SHORT),
                 ("crate_version", [], None)):
             with self.subTest(name=name, value=value):
-                self.check({name: bytes(value)}, refusal)
+                self.check({name: bytes(value)}, error)
 
     def test_an_item_that_is_read_has_to_be_there(self):
         """Below the largest number, and whatever its tag is. One that is not read may be gone."""
@@ -132,9 +133,9 @@ class Items(unittest.TestCase):
                 self.check({name: GONE}, None)
 
     def test_items_are_read_in_one_order(self):
-        """Of two faults the first one is told."""
+        """The error is that of the first of two faults."""
         two = b"\2"
-        for first, second, refusal in (
+        for first, second, error in (
                 (("table_version", two), ("filter_hash_type", GONE), VERSION),
                 (("filter_hash_type", two), ("checksum_type", two), HASH),
                 (("checksum_type", two), ("restart_interval#index", GONE), CHECKSUM),
@@ -144,7 +145,7 @@ class Items(unittest.TestCase):
                 (("key#max", GONE), ("seqno#min", b""), MISSING),
                 (("seqno#max", GONE), ("compression#data", two), MISSING)):
             with self.subTest(first=first, second=second):
-                self.check(dict([first, second]), refusal)
+                self.check(dict([first, second]), error)
 
     def test_an_item_that_is_not_borne_out(self):
         """Which item it is, `test_reads` compares."""
@@ -181,8 +182,8 @@ class Items(unittest.TestCase):
 
 
 class Laid(unittest.TestCase):
-    """Where the sections of written tables lie, and how many blocks of index and filter there
-    are."""
+    """The positions of the sections of written tables, and the numbers of blocks of index and
+    filter."""
 
     def check(self, entries, laid, index, filters, **options):
         file = file_of(entries, id=1, **options)
@@ -215,14 +216,29 @@ class Laid(unittest.TestCase):
 
     def test_steps_of_a_verification(self):
         """The index and the block of data come before the answer: the table has no filter."""
-        told = []
+        calls = []
         verified = table_of([A1], filter_bits_per_key=0).verify(
-            lambda read, size: told.append((read, size)))
+            lambda read, size: calls.append((read, size)))
         self.assertEqual((verified.item_count, verified.data_block_count), (1, 1))
-        self.assertEqual(told, [(0, 47), (47, 47)])
+        self.assertEqual(calls, [(0, 47), (47, 47)])
 
 
 class Written(unittest.TestCase):
+    def test_options_that_change_the_meta_block_alone(self):
+        """The restart interval and the hash ratio: each is one item of it."""
+        entries = [Entry(b"%03d" % place, 1, Kind.VALUE, b"v") for place in range(300)]
+        file = file_of(entries, data_block_size=256)
+        place, _ = sections(file)[6]
+        for option, name, values in (
+                ("data_block_restart_interval", b"restart_interval#data", (1, 255)),
+                ("data_block_hash_ratio", b"data_block_hash_ratio", (750, 2**32 - 1))):
+            for value in values:
+                other = file_of(entries, data_block_size=256, **{option: value})
+                self.assertEqual((len(other), other[:place], other[-120:]),
+                                 (len(file), file[:place], file[-120:]))
+                self.assertEqual({after[2] for before, after in zip(items_of(file), items_of(other))
+                                  if before != after}, {name})
+
     def test_entries_follow_in_strict_order(self):
         for key, seqno, kind, follows in (
                 (b"a", 2, Kind.VALUE, False), (b"a", 1, Kind.VALUE, False),
@@ -236,7 +252,7 @@ class Written(unittest.TestCase):
             else:
                 with self.assertRaises(logpurple.OutOfOrder):
                     writer.add(key, b"", seqno, kind)
-            self.assertEqual(len(Table.open(writer.finish())), 1 + follows)
+            self.assertEqual(Table.open(writer.finish()).entry_count, 1 + follows)
 
     def test_the_longest_key_and_a_longer_one(self):
         longest = b"a" * 1048576
@@ -299,7 +315,7 @@ def is_within(key, lower, upper):
 
 
 def dealt(numbers, ends):
-    """What five steps at these ends take of a list, and 0 where nothing is left."""
+    """Returns the numbers that steps at some ends take from a list, and 0 after the last."""
     numbers, taken = list(numbers), []
     for is_back in ends:
         taken.append(numbers.pop(-1 if is_back else 0) if numbers else 0)
@@ -307,11 +323,11 @@ def dealt(numbers, ends):
 
 
 class Ranges(unittest.TestCase):
-    """All ranges of all small lists, whatever five ends are asked."""
+    """All ranges of all small lists, read by five steps at any ends."""
 
     def check(self, table, entries):
-        handle, told = _calls.Handle(), _calls.EntryTold()
-        ref, told_ref = _calls.addressof(handle), _calls.addressof(told)
+        handle, found = _calls.Handle(), _calls.Entry()
+        ref, found_ref = addressof(handle), addressof(found)
         for lower, upper in itertools.product(EDGES, repeat=2):
             numbers = [e.seqno for e in entries if is_within(e.key, lower, upper)]
             for ends in itertools.product((False, True), repeat=5):
@@ -319,8 +335,8 @@ class Ranges(unittest.TestCase):
                                          upper[0], upper[1], len(upper[1]), ref)
                 taken = []
                 for is_back in ends:
-                    code |= _calls.range_next(ref, is_back, told_ref)
-                    taken.append(told.seqno if told.kind else 0)
+                    code |= _calls.range_next(ref, is_back, found_ref)
+                    taken.append(found.seqno if found.kind else 0)
                 _calls.close(ref)
                 self.assertEqual((code, taken), (0, dealt(numbers, ends)),
                                  (entries, lower, upper, ends))
@@ -350,7 +366,7 @@ class Many(unittest.TestCase):
             table.entry_many([b"c", b"a"], 2)
         self.assertEqual(table.entry_many([b"c", b"a"], 1), [None, None])
 
-    def test_the_earliest_refusal(self):
+    def test_the_earliest_error(self):
         """The last byte of the block of a@7 is changed, and the mark of that of b@1."""
         file = bytearray(file_of(ROWS, data_block_size=0, filter_bits_per_key=0))
         file[91], file[138] = ord("?"), ord("?")

@@ -46,7 +46,7 @@ class Reads(unittest.TestCase):
             self.assertIsNone(entries.take(not reverse))
             self.assertIsNone(entries.take(reverse))
         self.assertEqual(runs.entry(key, 6), older[0])
-        # It is compacted, behind another one.
+        # It is compacted, after another one.
         kept = versions((b"a", 1, V, b"x"), (b"k" * LONGEST, 1, V, b"y"))
         files = compact([table_of(kept)], watermark=5, target=0)
         self.assertEqual([list(Table.open(file).entries()) for file in files],
@@ -69,7 +69,7 @@ class Compactions(unittest.TestCase):
             [(b"a", 9, V, LONG), (b"b", 6, V, b"x"), (b"d", 4, V, LONG)],
             [(b"a", 5, V, b"x"), (b"c", 7, T, b""), (b"e", 1, V, LONG)],
             [(b"b", 2, V, b"x"), (b"c", 3, V, b"x"), (b"d", 2, V, b"x")])]
-        # What follows d@4 goes.
+        # The versions after d@4 are dropped.
         of_each = [[(b"a", 9), (b"a", 5)], [(b"b", 6), (b"b", 2)], [(b"c", 7), (b"c", 3)],
                    [(b"d", 4)], [(b"e", 1)]]
         by_size = [of_each[0], of_each[1] + of_each[2] + of_each[3], of_each[4]]
@@ -83,7 +83,8 @@ class Compactions(unittest.TestCase):
             written = versions(*((key, seqno, V, LONG) for key, count in numbers.items()
                                  for seqno in reversed(range(count))))
             files = compact([table_of(written)], target=1024)
-            self.assertEqual([len(Table.open(file)) for file in files], list(numbers.values()))
+            self.assertEqual([Table.open(file).entry_count for file in files],
+                             list(numbers.values()))
 
 
 class Packings(unittest.TestCase):
@@ -108,7 +109,7 @@ class Packings(unittest.TestCase):
 
     def test_a_run_of_two_tables(self):
         runs = Runs(self.table(b"mp"), self.table(b"ac")).packed()
-        # They stand in the order of their keys.
+        # They are in key order.
         self.check(runs, [[0, 1]], [[0, 1]])
         for ends in (b"bn", b"df", b"xz"):
             runs.add(self.table(ends))

@@ -148,7 +148,7 @@ class Several(unittest.TestCase):
             self.assertEqual([e for table in tables for e in table.entries()], wanted)
             self.assertEqual(list(Runs(*tables).entries()), seen(wanted))
 
-    def test_what_compaction_refuses(self):
+    def test_errors_of_compaction(self):
         both = [table_of(self.lists[0]), table_of(self.lists[0])]
         with self.assertRaises(logpurple.OutOfOrder):
             compact(both)
@@ -177,13 +177,13 @@ class Several(unittest.TestCase):
         with self.assertRaises(logpurple.ChecksumMismatch):
             compact([Table.open(file), self.tables[0]])
 
-    def test_an_exception_in_what_deals_tables(self):
-        def dealt():
+    def test_an_exception_of_an_iterator_of_tables(self):
+        def yielded():
             yield self.tables[0]
             raise ZeroDivisionError
 
         with self.assertRaises(ZeroDivisionError):
-            compact(dealt())
+            compact(yielded())
 
     def test_one_table_twice(self):
         table = self.tables[0]

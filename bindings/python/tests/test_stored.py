@@ -1,5 +1,5 @@
-"""The tables that the repository stores, which other programs wrote: each is read as the list of
-its entries says, compacted, and written again where it is told what it was written with."""
+"""The stored tables of the repository, which other programs wrote. Each is read, compared with the
+list of its entries, and compacted. It is written again if its options are known."""
 
 import os
 import unittest
@@ -17,8 +17,8 @@ def bytes_of(word):
     return b"" if word == "-" else bytes.fromhex(word)
 
 
-# Id, level and moment; then, where they are not the defaults, the size of partitions, the kinds of
-# index and filter, the size of partitions, that of blocks, tenths of a bit and the interval.
+# The id, the level and the timestamp. If there are more numbers, they are whether the index and the
+# filter are partitioned, the sizes of partitions and blocks, tenths of a bit, and the interval.
 def options_of(words):
     numbers = [int(word) for word in words]
     options = dict(zip(("id", "level", "created_at"), numbers))
@@ -98,7 +98,7 @@ class StoredTables(unittest.TestCase):
 
     @unittest.skipUnless(HAS_READER, "the second reader is not here")
     def test_damaged(self):
-        refused = errors = 0
+        unopened = errors = 0
         for each in stored():
             keys = [key for key, _ in each.queries]
             for is_filter, is_index, *places in each.damages:
@@ -108,10 +108,10 @@ class StoredTables(unittest.TestCase):
                 wanted = read_again(file, keys, is_filter == 1, is_index == 1)
                 self.assertEqual(read(file, keys, is_filter == 1, is_index == 1), wanted)
                 if isinstance(wanted, int):
-                    refused += 1
+                    unopened += 1
                 else:
                     errors += wanted[0][1] > 0
-        self.assertGreater(refused, 100)
+        self.assertGreater(unopened, 100)
         self.assertGreater(errors, 100)
 
 

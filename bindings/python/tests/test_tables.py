@@ -23,7 +23,7 @@ class Tables(unittest.TestCase):
             entries = entries_of(seed, 300)
             file, keys = file_of(entries, **small(seed)), keys_of(entries)
             table = Table.open(file, 0, seed % 2 == 0, seed % 3 == 0)
-            self.assertEqual((len(table), table.verify().item_count), (len(entries),) * 2)
+            self.assertEqual((table.entry_count, table.verify().item_count), (len(entries),) * 2)
             for at in list(range(11)) + [logpurple.NEWEST]:
                 expected = [newest(entries, key, at) for key in keys]
                 self.assertEqual([table.entry(key, at) for key in keys], expected)
@@ -89,22 +89,22 @@ class Tables(unittest.TestCase):
     def test_memory(self):
         for seed in (0, 1, 2, 3):
             file = file_of(entries_of(seed, 300), **{**small(seed), "filter_bits_per_key": 100})
-            told = [Table.open(file, 0, *pins).memory() for pins in
+            found = [Table.open(file, 0, *pins).memory() for pins in
                     ((False, False), (True, False), (False, True), (True, True))]
-            for each in told:
+            for each in found:
                 self.assertIsInstance(each, Memory)
                 self.assertEqual((each.file_len, each.marks_size),
                                  (len(file), 8 * (len(file) // 2048 + 1)))
-            filters = [each.pinned_filter_size for each in told]
+            filters = [each.pinned_filter_size for each in found]
             self.assertEqual([filters[0], filters[1]], [filters[2], filters[3]])
             has_parts = small(seed)["filter_partition_size"] > 0
             self.assertEqual((filters[0], filters[1] > 0), (0, not has_parts))
-            indexes = [each.pinned_index_size for each in told]
+            indexes = [each.pinned_index_size for each in found]
             self.assertEqual([indexes[0], indexes[2]], [indexes[1], indexes[3]])
             self.assertGreater(indexes[2], 0)
             with Table.open(file, kept=True) as kept:
                 self.assertEqual(kept.memory(), kept.share().memory())
-                self.assertEqual(kept.memory(), told[3])
+                self.assertEqual(kept.memory(), found[3])
 
     def test_long_and_empty(self):
         longest, value = b"k" * 65535, os.urandom(1 << 20)
@@ -140,10 +140,10 @@ class Tables(unittest.TestCase):
             self.assertEqual(dict(table.range()), {b"a": b"12", b"b": b"2", b"c": b"\1\0\0\0"})
             self.assertEqual(table[bytearray(b"a")], b"12")
 
-    def test_what_is_lent_is_given_back(self):
+    def test_a_borrowed_buffer_is_released(self):
         file = bytearray(file_of(entries_of(2, 9)))
         table = Table.open(file)
-        file.append(0)  # a buffer that is lent cannot grow
+        file.append(0)  # a borrowed buffer cannot grow
         file[:] = bytes(len(file))
         with self.assertRaises(logpurple.InvalidTrailer):
             Table.open(file)

@@ -10,7 +10,7 @@ from logpurple import Entries, Runs, Table, Writer, compact
 
 
 def together(works):
-    """Does some work on a thread each, and raises what any of them raises."""
+    """Calls each function in a thread of its own, and raises the error of any."""
     raised, start = [], threading.Barrier(len(works))
 
     def run(work):
@@ -103,7 +103,7 @@ class Threads(unittest.TestCase):
 
         together([read, read, table.close])
 
-    def test_shares_are_made_and_let_go_at_once(self):
+    def test_shares_are_made_and_closed_at_once(self):
         table = self.tables[1]
 
         def work():

@@ -1,4 +1,4 @@
-"""What is read of a table that may be damaged: by the library, and by a second reader. That is
+"""Reads of a table that may be damaged, by the library and by a second reader. That is
 `.ci/answers`, which was written from docs/FORMAT.md and shares no code with the library."""
 
 import os
@@ -36,9 +36,12 @@ def drained(begin):
 
 
 def read(file, keys, pin_filter, pin_index):
-    """Returns the code of the error of opening a table. If it opens, returns its entries from the
-    front, from the back and in the order of the file, each with the error that ends them; then the
-    newest entry of each key, or the error in its place; and then the same of all keys at once."""
+    """Returns the code of the error of opening a table.
+
+    If it opens, returns its entries from the front, from the back and in the order of the file,
+    each with the error that ends them. Then follow the newest entry of each key, or the error in
+    its place, and the same of all keys at once.
+    """
     table = outcome(lambda: Table.open(file, pin_filter=pin_filter, pin_index=pin_index))
     if isinstance(table, int):
         return table

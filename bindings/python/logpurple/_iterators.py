@@ -1,0 +1,342 @@
+"""The iterators over entries. They fetch many entries by each call of the library."""
+
+from __future__ import annotations
+
+import array
+import collections
+import ctypes
+import reprlib
+from ctypes import addressof
+from typing import Deque, Generator, Iterable, Iterator, List, Optional, Tuple, Type, TypeVar
+
+from . import _calls
+from ._calls import copied
+from ._errors import Closed
+from ._records import Entry, Kind
+from ._resources import Returned
+
+_Steps = TypeVar("_Steps", bound="Steps")
+
+# How many entries the first calls of an iterator fetch, and how many the later ones; and how many
+# bytes of keys and values a call fetches at most, except for one entry that has more.
+_BATCHES = (16, 64, 256)
+_BATCH_BYTES = 1 << 16
+
+# Rows of kind, sequence number and lengths; and the bytes of their keys and values, one after
+# another.
+Batch = Tuple[Iterable[Tuple[int, int, int, int]], bytes]
+
+# The kind, the bytes and the length of a range's lower bound and of its upper one.
+Bounds = Tuple[int, bytes, int, int, bytes, int]
+
+KINDS = {int(kind): kind for kind in Kind}
+DELETIONS = (int(Kind.TOMBSTONE), int(Kind.WEAK_TOMBSTONE))
+_new = tuple.__new__
+
+
+def entries_of(batch: Batch) -> Iterator[Entry]:
+    """Yields the entries of a batch."""
+    rows, data = batch
+    start = 0
+    for kind, seqno, key_len, value_len in rows:
+        middle = start + key_len
+        end = middle + value_len
+        yield _new(Entry, (data[start:middle], seqno, KINDS[kind], data[middle:end]))
+        start = end
+
+
+class _Room:
+    """Room for a number of entries that a call copies."""
+
+    __slots__ = ("_size", "_rows", "_bytes", "_count", "_words")
+
+    def __init__(self, size: int) -> None:
+        self._size = size
+        self._rows = array.array("Q", bytes(32 * size))
+        self._bytes = ctypes.create_string_buffer(_BATCH_BYTES)
+        self._count = ctypes.c_uint64()
+        self._words = (self._rows.buffer_info()[0], size, addressof(self._bytes), _BATCH_BYTES,
+                       addressof(self._count))
+
+    # Returns the entries that a call copies, with the one that does not fit, if there is one;
+    # `None` if there are no entries. Returns the call's error code, and whether the end is reached.
+    def fill(self, steps: Steps, back: bool) -> Tuple[Optional[Batch], int, bool]:
+        code = steps._call(back, *self._words, steps._entry_ref)
+        if code == Closed.code:
+            return None, code, False
+        rows = self._rows[:4 * self._count.value]
+        keys, values = rows[2::4], rows[3::4]
+        data = copied(self._words[2], sum(keys) + sum(values))
+        entry = steps._entry
+        is_over = code != 0 or not entry.kind and self._count.value < self._size
+        if entry.kind:
+            steps._check(_calls.found_lend(steps._ref, steps._lent_ref))
+            lent = steps._lent
+            rows.extend((entry.kind, entry.seqno, lent.key_len, lent.value_len))
+            keys, values = rows[2::4], rows[3::4]
+            data += copied(lent.key, lent.key_len) + copied(lent.value, lent.value_len)
+        batch = (zip(rows[0::4], rows[1::4], keys, values), data) if rows else None
+        return batch, code, is_over
+
+
+class Steps(Returned):
+    """An iterator over entries, which fetches up to a few hundred at a time."""
+
+    # Whether the source has no more, and how many batches were fetched.
+    _is_over = False
+    _fetched = 0
+    # An error of the source. It is raised after the entries that were fetched before it.
+    _pending: Optional[Exception] = None
+    _room: Optional[_Room] = None
+    # The entries that were fetched at the front and at the back, and not yet taken.
+    _queues: Tuple[Deque[Entry], Deque[Entry]]
+
+    @classmethod
+    def _empty(cls: Type[_Steps]) -> _Steps:
+        steps = super()._empty()
+        steps._queues = (collections.deque(), collections.deque())
+        return steps
+
+    # The call that copies the next entries into some room.
+    def _call(self, back: bool, *room: int) -> int:
+        raise NotImplementedError
+
+    def close(self) -> None:
+        """Releases what the iterator reads, and drops the entries that it has fetched.
+
+        A second call does nothing. If entries were left, later calls raise `Closed`.
+
+        >>> writer = Writer()
+        >>> writer.add_many([(b"a", b""), (b"b", b"")])
+        >>> entries = Table.open(writer.finish()).entries()
+        >>> next(entries).key
+        b'a'
+        >>> entries.close()
+        >>> next(entries)
+        Traceback (most recent call last):
+        ..
+        logpurple.Closed: the handle is closed (100)
+        """
+        with self._turn:
+            if self._queues[0] or self._queues[1] or self._pending:
+                self._is_over, self._pending = False, None
+            self._end()
+
+    @property
+    def closed(self) -> bool:
+        """Whether the iterator is closed, or has no entry left.
+
+        >>> writer = Writer()
+        >>> writer.add(b"a", b"1")
+        >>> entries = Table.open(writer.finish()).entries()
+        >>> entries.closed, len(list(entries)), entries.closed
+        (False, 1, True)
+        """
+        return not (self._is_open or self._queues[0] or self._queues[1] or self._pending)
+
+    def __iter__(self: _Steps) -> _Steps:
+        """Returns the iterator itself. It yields each entry once."""
+        return self
+
+    # Drops what was fetched, and releases the source.
+    def _end(self) -> None:
+        for queue in self._queues:
+            queue.clear()
+        self._room = None
+        self._release()
+
+    # Returns the next entries at an end of the source, within a turn; `None` at its end.
+    def _batch(self, back: bool) -> Optional[Batch]:
+        if self._pending is not None:
+            pending, self._pending = self._pending, None
+            self._end()
+            raise pending
+        if self._is_over:
+            return None
+        if self._fetched < len(_BATCHES) or self._room is None:
+            self._room = _Room(_BATCHES[min(self._fetched, len(_BATCHES) - 1)])
+        self._fetched += 1
+        self._is_over = True
+        try:
+            batch, code, is_over = self._room.fill(self, back)
+            if batch is None:
+                self._check(code)
+        except Closed:
+            self._is_over = False
+            raise
+        except BaseException:
+            # Entries may be lost, so the iterator is exhausted.
+            self._end()
+            raise
+        self._is_over = is_over
+        if code:
+            self._pending = self._error(code)
+        if is_over:
+            self._room = None
+            self._release()
+        return batch
+
+    # Yields each batch at an end.
+    def _batches(self, back: bool) -> Iterator[Batch]:
+        while True:
+            with self._turn:
+                batch = self._batch(back)
+            if batch is None:
+                return
+            yield batch
+
+    # Returns the next entry at an end; `None` if none is left. Two threads may call it at once.
+    def _step(self, back: bool) -> Optional[Entry]:
+        queue, other = self._queues[back], self._queues[not back]
+        while True:
+            try:
+                return queue.popleft()
+            except IndexError:
+                pass
+            with self._turn:
+                if queue:
+                    continue
+                batch = self._batch(back)
+                if batch is not None:
+                    queue.extend(entries_of(batch))
+                    continue
+            # At the end of the source, only what the other end has fetched is left.
+            try:
+                return other.pop()
+            except IndexError:
+                return None
+
+
+class Scan(Steps):
+    """An iterator over all entries of a table, which `Table.scan` returns.
+
+    It reads the data blocks in the order of the file, each once, and no index. It has a share of
+    the table, which may be closed meanwhile. It can be left at any time: it is released with the
+    last reference to it, by `close`, or at the end of a `with` statement.
+
+    After an error it is exhausted.
+
+    >>> writer = Writer()
+    >>> writer.add_many([(b"a", b""), (b"b", b"")])
+    >>> scan = Table.open(writer.finish()).scan()
+    >>> next(scan).key, [entry.key for entry in scan]
+    (b'a', [b'b'])
+    """
+
+    _maker = "made by Table.scan"
+
+    def _call(self, back: bool, *room: int) -> int:
+        return _calls.scan_take(self._ref, *room)
+
+    def __next__(self) -> Entry:
+        try:
+            return self._queues[0].popleft()
+        except IndexError:
+            found = self._step(False)
+        if found is None:
+            raise StopIteration
+        return found
+
+
+class Entries(Steps):
+    """An iterator over entries, which `Table.entries` and `Runs.entries` return.
+
+    `take` reads from either end. It has a share of what it reads, which may be closed meanwhile. It
+    can be left at any time: it is released with the last reference to it, by `close`, or at the end
+    of a `with` statement.
+
+    After an error it is exhausted, from both ends.
+
+    >>> writer = Writer()
+    >>> writer.add_many([(b"a", b""), (b"b", b""), (b"c", b"")])
+    >>> entries = Table.open(writer.finish()).entries()
+    >>> next(entries).key
+    b'a'
+    >>> entries.take(reverse=True).key
+    b'c'
+    >>> [entry.key for entry in entries]
+    [b'b']
+    """
+
+    _maker = "made by Table.entries and Runs.entries"
+    _bounds: Bounds = (0, b"", 0, 0, b"", 0)
+    _reverse = False
+
+    def take(self, reverse: bool = False) -> Optional[Entry]:
+        """Returns the next entry from the front or, if `reverse`, from the back.
+
+        Returns `None` if no entry is left.
+
+        >>> writer = Writer()
+        >>> writer.add_many([(b"a", b""), (b"b", b"")])
+        >>> entries = Table.open(writer.finish()).entries()
+        >>> entries.take(reverse=True).key, entries.take().key, entries.take()
+        (b'b', b'a', None)
+        """
+        return self._step(bool(reverse))
+
+    def _call(self, back: bool, *room: int) -> int:
+        return _calls.range_take(self._ref, back, *room)
+
+    def __next__(self) -> Entry:
+        found = self._step(self._reverse)
+        if found is None:
+            raise StopIteration
+        return found
+
+    def _parts(self) -> List[str]:
+        has_lower, lower, _, has_upper, upper, _ = self._bounds
+        parts = super()._parts()
+        if has_lower:
+            parts.append(f"lower={reprlib.repr(lower)}")
+        if has_upper:
+            parts.append(f"upper={reprlib.repr(upper)}")
+        if self._reverse:
+            parts.append("reverse=True")
+        return parts
+
+
+Pairs = Generator[Tuple[bytes, bytes], None, None]
+
+
+def visible(entries: Entries, at: int, reverse: bool) -> Pairs:
+    """Yields the keys and values that are visible at a snapshot, and closes the entries."""
+    return _visible_backward(entries, at) if reverse else _visible_forward(entries, at)
+
+
+# From the front the first version of a key that is visible is the newest.
+def _visible_forward(entries: Entries, at: int) -> Pairs:
+    last: Optional[bytes] = None
+    with entries:
+        for rows, data in entries._batches(False):
+            start = 0
+            for kind, seqno, key_len, value_len in rows:
+                middle = start + key_len
+                end = middle + value_len
+                if seqno < at:
+                    key = data[start:middle]
+                    if key != last:
+                        last = key
+                        if kind not in DELETIONS:
+                            yield key, data[middle:end]
+                start = end
+
+
+# From the back the last version of a key that is visible is the newest.
+def _visible_backward(entries: Entries, at: int) -> Pairs:
+    last: Optional[bytes] = None
+    kind, value = 0, b""
+    with entries:
+        for rows, data in entries._batches(True):
+            start = 0
+            for next_kind, seqno, key_len, value_len in rows:
+                middle = start + key_len
+                end = middle + value_len
+                if seqno < at:
+                    key = data[start:middle]
+                    if last is not None and key != last and kind not in DELETIONS:
+                        yield last, value
+                    last, kind, value = key, next_kind, data[middle:end]
+                start = end
+    if last is not None and kind not in DELETIONS:
+        yield last, value
