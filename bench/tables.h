@@ -12,6 +12,7 @@
 #include "hashing.h"
 #include "keys.h"
 #include "rivals.h"
+#include "scans.h"
 #include "times.h"
 
 constexpr size_t kSources = 8;
@@ -156,6 +157,7 @@ class TableBench {
       CheckKeys("calls absent", table_, CallGet, absent_, passes, Digest{});
       CheckKeys("calls batch", table_, CallGetMany, batch_, passes, batch_found_);
       CheckTable("calls scan", CallScan, passes, whole_);
+      CheckTable("calls scan bulk", CallScanBulk, passes, whole_);
       CheckTable("calls verify", CallVerify, passes, Digest{count_, 0, 0});
       CheckTable("calls verify steps", CallVerifySteps, passes, Digest{count_, 0, 0});
       CheckFiles("runs", tool_bench_range_runs, passes);
@@ -164,6 +166,8 @@ class TableBench {
       CheckFiles("merge_lent", tool_bench_merge_lent, passes);
       CheckRanges("range", tool_bench_range, passes);
       CheckRanges("range_lent", tool_bench_range_lent, passes);
+      CheckRanges("calls range", CallRange, passes);
+      CheckRanges("calls range bulk", CallRangeBulk, passes);
     }
     for (uint64_t passes : {uint64_t{0}, uint64_t{0}, uint64_t{1}}) {
       Compact(passes);
@@ -395,6 +399,8 @@ class TableBench {
     PassRows("scan", an_entry, "scan", "scan", data * kBeside, entries, 1, &rows);
     PassRows("scan, lent", an_entry, "scan_lent", "scan", data * kBeside, entries, 1, &rows);
     PassRows("scan from C", an_entry, "calls scan", "scan", data * kBeside, entries, 1, &rows);
+    PassRows("scan from C, in bulk", an_entry, "calls scan bulk", "scan", data * kBeside, entries,
+             1, &rows);
     PassRows("verify", an_entry, "calls verify", "none", data * kBeside, entries, 1, &rows);
     PassRows("verify by steps", an_entry, "calls verify steps", "none", data * kBeside, entries, 1,
              &rows);
@@ -404,6 +410,10 @@ class TableBench {
     PassRows("range of 50 entries", "", "range", "range", data * kBeside, keys, again, &rows);
     PassRows("range of 50 entries, lent", "", "range_lent", "range", data * kBeside, keys, again,
              &rows);
+    PassRows("range of 50 entries from C", "", "calls range", "range", data * kBeside, keys, again,
+             &rows);
+    PassRows("range of 50 entries from C, in bulk", "", "calls range bulk", "range",
+             data * kBeside, keys, again, &rows);
     PassRows("merge of 8", an_entry, "merge", "merge", read_ * kBeside, merged, 1, &rows);
     PassRows("merge of 8, lent", an_entry, "merge_lent", "merge", read_ * kBeside, merged, 1,
              &rows);
