@@ -13,6 +13,7 @@
 #include "keys.h"
 #include "rivals.h"
 #include "scans.h"
+#include "threads.h"
 #include "times.h"
 
 constexpr size_t kSources = 8;
@@ -41,6 +42,9 @@ class TableBench {
     }
     return Rows();
   }
+
+  // The same table's reads by several threads at once.
+  std::vector<Row> RunThreads(int rounds) { return ThreadBench(single_, table_, rivals_).Run(rounds); }
 
  private:
   // How often a second pass is made, for a time that can be measured.
