@@ -82,31 +82,6 @@ inline uint32_t CallGetMany(const uint8_t* file, size_t file_len, const uint8_t*
   return code;
 }
 
-// All entries of a scan. What it gives is lent, and not copied.
-inline uint32_t CallScanAll(sst_handle* table, Digest* digest) {
-  Call scan;
-  sst_entry entry;
-  sst_lent lent;
-  uint32_t code = sst_scan_open(table, scan.words());
-  while (code == 0) {
-    code = sst_scan_next(scan.words(), &entry);
-    if (code != 0 || entry.kind == SST_NO_ENTRY) break;
-    code = sst_found_lend(scan.words(), &lent);
-    if (code == 0) AddLent(digest, lent);
-  }
-  return code;
-}
-
-inline uint32_t CallScan(const uint8_t* file, size_t file_len, uint64_t passes, Digest* digest) {
-  Call table;
-  uint32_t code = sst_table_open(file, file_len, 0, true, true, table.words());
-  for (; code == 0 && passes > 0; passes--) {
-    *digest = Digest{};
-    code = CallScanAll(table.words(), digest);
-  }
-  return code;
-}
-
 // A whole verification, at once and by steps, of which the digest has how many entries it told.
 inline uint32_t CallVerify(const uint8_t* file, size_t file_len, uint64_t passes, Digest* digest) {
   Call table;

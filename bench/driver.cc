@@ -2,8 +2,8 @@
 // them answer. `run` in this folder builds and starts it.
 //
 // Each figure is the least of several rounds, in which the stores take turns, of the processor time
-// of this thread. A workload of the library opens its tables anew, so the time of a call that does
-// nothing else is taken off.
+// of this thread; where several threads work at once, of the clock's time. A workload of the library
+// opens its tables anew, so the time of a call that does nothing else is taken off.
 #include <malloc.h>
 
 #include <climits>
@@ -64,10 +64,13 @@ int main(int argc, char** argv) {
   printf("\na cycle takes %.3f ns: a byte of FNV-1a takes four\n", cycle * 1e9);
   std::vector<Row> rows;
   for (size_t count : counts) {
-    rows = TableBench(count, count < 100000 ? rounds * 4 : rounds, filter_bits, cycle).Run();
-    PrintTable("Tables of " + std::to_string(count) + " entries of 16 + 100 bytes; " +
-                   FilterWords(filter_bits),
-               StoreNames(), rows);
+    TableBench bench(count, count < 100000 ? rounds * 4 : rounds, filter_bits, cycle);
+    rows = bench.Run();
+    std::string entries = std::to_string(count) + " entries of 16 + 100 bytes; ";
+    PrintTable("Tables of " + entries + FilterWords(filter_bits), StoreNames(), rows);
+    PrintTable("One table by several threads at once, " + entries +
+                   "time of the clock over the operations of all threads together",
+               StoreNames(), bench.RunThreads(rounds));
   }
   PrintTable("Runs of tables", {}, PackingRows(rounds));
   if (!chart_path.empty()) {

@@ -16,6 +16,7 @@ namespace {
 class LevelDb {
  public:
   using Iterator = leveldb::Iterator;
+  using Value = std::string;
 
   explicit LevelDb(const Setup& setup)
       : env_(leveldb::NewMemEnv(leveldb::Env::Default())),
@@ -101,17 +102,18 @@ class LevelDb {
     Require(tables == 1, "LevelDB: not one table");
   }
 
-  void Get(std::string_view key, Digest* digest) {
-    leveldb::Status status = db_->Get(read_, leveldb::Slice(key.data(), key.size()), &value_);
+  void Get(std::string_view key, Value* value, Digest* digest) const {
+    leveldb::Status status = db_->Get(read_, leveldb::Slice(key.data(), key.size()), value);
     if (status.ok()) {
-      Add(digest, key, value_);
+      Add(digest, key, *value);
     } else {
       Require(status.IsNotFound(), status.ToString());
     }
   }
 
-  void GetMany(const std::vector<std::string>& keys, Digest* digest) {
-    for (const std::string& key : keys) Get(key, digest);
+  void GetMany(const std::vector<std::string>& keys, Digest* digest) const {
+    Value value;
+    for (const std::string& key : keys) Get(key, &value, digest);
   }
 
  private:
@@ -121,7 +123,6 @@ class LevelDb {
   leveldb::Options options_;
   leveldb::ReadOptions read_;
   std::unique_ptr<leveldb::DB> db_;
-  std::string value_;
 };
 
 }  // namespace

@@ -15,15 +15,16 @@ struct Setup {
   bool partitioned;  // whether index and filter are in partitions, where the store has these
 };
 
+// Several threads may read at once.
 class Peer {
  public:
   virtual ~Peer() = default;
 
   // Makes a database of one table, which has these entries. It is what point reads are made of.
   virtual void OpenDatabase(const Entries& entries) = 0;
-  virtual Digest GetEach(const std::vector<std::string>& keys, uint64_t passes) = 0;
+  virtual Digest GetEach(const std::vector<std::string>& keys, uint64_t passes) const = 0;
   // The same in one call, where the store has one.
-  virtual Digest GetMany(const std::vector<std::string>& keys, uint64_t passes) = 0;
+  virtual Digest GetMany(const std::vector<std::string>& keys, uint64_t passes) const = 0;
 
   // Writes a table, and opens one so many times.
   virtual void Build(const std::string& path, const Entries& entries) = 0;
@@ -31,12 +32,12 @@ class Peer {
 
   // Opens tables, in place of those that were kept open. The first, or all of them, are read below.
   virtual void Keep(const std::vector<std::string>& paths) = 0;
-  virtual Digest Scan() = 0;
-  virtual Digest ScanBack() = 0;
+  virtual Digest Scan() const = 0;
+  virtual Digest ScanBack() const = 0;
   // From each key on, so many entries.
   virtual Digest RangeEach(const std::vector<std::string>& keys, uint64_t count,
-                           uint64_t passes) = 0;
-  virtual Digest Merge() = 0;
+                           uint64_t passes) const = 0;
+  virtual Digest Merge() const = 0;
   // Writes the newest versions into tables of about the target's size.
   virtual std::vector<std::string> Compact(uint64_t target) = 0;
 };

@@ -55,16 +55,17 @@ class PeerOf : public Peer {
 
   void OpenDatabase(const Entries& entries) override { store_.OpenDatabase(entries); }
 
-  Digest GetEach(const std::vector<std::string>& keys, uint64_t passes) override {
+  Digest GetEach(const std::vector<std::string>& keys, uint64_t passes) const override {
     Digest digest{};
+    typename Store::Value value;
     for (uint64_t pass = 0; pass < passes; pass++) {
       digest = Digest{};
-      for (const std::string& key : keys) store_.Get(key, &digest);
+      for (const std::string& key : keys) store_.Get(key, &value, &digest);
     }
     return digest;
   }
 
-  Digest GetMany(const std::vector<std::string>& keys, uint64_t passes) override {
+  Digest GetMany(const std::vector<std::string>& keys, uint64_t passes) const override {
     Digest digest{};
     for (uint64_t pass = 0; pass < passes; pass++) {
       digest = Digest{};
@@ -90,7 +91,7 @@ class PeerOf : public Peer {
     }
   }
 
-  Digest Scan() override {
+  Digest Scan() const override {
     Digest digest{};
     std::unique_ptr<Iterator> entries(kept_[0]->NewIterator());
     for (entries->SeekToFirst(); entries->Valid(); entries->Next()) {
@@ -100,7 +101,7 @@ class PeerOf : public Peer {
     return digest;
   }
 
-  Digest ScanBack() override {
+  Digest ScanBack() const override {
     Digest digest{};
     std::unique_ptr<Iterator> entries(kept_[0]->NewIterator());
     for (entries->SeekToLast(); entries->Valid(); entries->Prev()) {
@@ -111,7 +112,7 @@ class PeerOf : public Peer {
   }
 
   Digest RangeEach(const std::vector<std::string>& keys, uint64_t count,
-                   uint64_t passes) override {
+                   uint64_t passes) const override {
     Digest digest{};
     for (uint64_t pass = 0; pass < passes; pass++) {
       digest = Digest{};
@@ -127,7 +128,7 @@ class PeerOf : public Peer {
     return digest;
   }
 
-  Digest Merge() override {
+  Digest Merge() const override {
     Digest digest{};
     MergeNewest(Iterators(), [&](std::string_view key, std::string_view value) {
       Add(&digest, key, value);
@@ -156,9 +157,9 @@ class PeerOf : public Peer {
  private:
   using Iterator = typename Store::Iterator;
 
-  std::vector<std::unique_ptr<Iterator>> Iterators() {
+  std::vector<std::unique_ptr<Iterator>> Iterators() const {
     std::vector<std::unique_ptr<Iterator>> iterators;
-    for (auto& table : kept_) iterators.emplace_back(table->NewIterator());
+    for (const auto& table : kept_) iterators.emplace_back(table->NewIterator());
     return iterators;
   }
 

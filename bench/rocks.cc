@@ -17,6 +17,7 @@ namespace store = ROCKSDB_NAMESPACE;
 class RocksDb {
  public:
   using Iterator = store::Iterator;
+  using Value = store::PinnableSlice;
 
   explicit RocksDb(const Setup& setup) : env_(store::NewMemEnv(store::Env::Default())) {
     store::BlockBasedTableOptions table;
@@ -78,20 +79,19 @@ class RocksDb {
     Ok(db_->IngestExternalFile({"/ingested"}, store::IngestExternalFileOptions()));
   }
 
-  void Get(std::string_view key, Digest* digest) {
-    value_.Reset();
-    store::Status status =
-        db_->Get(read_, db_->DefaultColumnFamily(), store::Slice(key), &value_);
+  void Get(std::string_view key, Value* value, Digest* digest) const {
+    value->Reset();
+    store::Status status = db_->Get(read_, db_->DefaultColumnFamily(), store::Slice(key), value);
     if (status.ok()) {
-      Add(digest, key, View(value_));
+      Add(digest, key, View(*value));
     } else {
       Require(status.IsNotFound(), status.ToString());
     }
   }
 
-  void GetMany(const std::vector<std::string>& keys, Digest* digest) {
+  void GetMany(const std::vector<std::string>& keys, Digest* digest) const {
     std::vector<store::Slice> slices(keys.begin(), keys.end());
-    std::vector<store::PinnableSlice> values(keys.size());
+    std::vector<Value> values(keys.size());
     std::vector<store::Status> statuses(keys.size());
     db_->MultiGet(read_, db_->DefaultColumnFamily(), keys.size(), slices.data(), values.data(),
                   statuses.data());
@@ -109,7 +109,6 @@ class RocksDb {
   store::Options options_;
   store::ReadOptions read_;
   std::unique_ptr<store::DB> db_;
-  store::PinnableSlice value_;
 };
 
 }  // namespace

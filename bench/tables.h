@@ -10,65 +10,14 @@
 #include "chart.h"
 #include "entries.h"
 #include "hashing.h"
-#include "peer.h"
+#include "keys.h"
+#include "rivals.h"
+#include "scans.h"
+#include "threads.h"
 #include "times.h"
 
 constexpr size_t kSources = 8;
-constexpr uint64_t kStride = 40;  // more than the entries of a block
-constexpr size_t kRange = 50;     // how many entries a short range takes
-constexpr size_t kBatch = 1000;   // how many keys are read at once
-
-// Another store. Its figures stand in a column of their own.
-struct Store {
-  std::string name;
-  MakePeer make;
-  bool warm;
-  bool has_partitions;
-};
-
-#ifdef BUILT_LEVELDB
-constexpr MakePeer kLevel = BuiltLevelDb;
-#else
-constexpr MakePeer kLevel = PackagedLevelDb;
-#endif
-#ifdef BUILT_ROCKSDB
-constexpr MakePeer kRocks = BuiltRocksDb;
-#else
-constexpr MakePeer kRocks = PackagedRocksDb;
-#endif
-
-// Each as it was built from its sources, where it was, and then as it is packaged, too.
-inline std::vector<Store> Stores() {
-  std::vector<Store> stores = {{"LevelDB", kLevel, false, false}, {"RocksDB", kRocks, false, true}};
-  if (kLevel != PackagedLevelDb) {
-    stores.push_back({"LevelDB, packaged", PackagedLevelDb, false, false});
-  }
-  if (kRocks != PackagedRocksDb) {
-    stores.push_back({"RocksDB, packaged", PackagedRocksDb, false, true});
-  }
-  stores.push_back({"LevelDB, warm", kLevel, true, false});
-  stores.push_back({"RocksDB, warm", kRocks, true, true});
-  return stores;
-}
-
-inline std::vector<std::string> StoreNames() {
-  std::vector<std::string> names;
-  for (const Store& store : Stores()) names.push_back(store.name);
-  return names;
-}
-
-// Keys of one length behind one another, and each alone.
-struct Keys {
-  std::string joined;
-  std::vector<std::string> each;
-
-  explicit Keys(const std::vector<uint64_t>& numbers) {
-    for (uint64_t number : numbers) {
-      each.push_back(KeyOf(number));
-      joined += each.back();
-    }
-  }
-};
+constexpr size_t kBatch = 1000;  // how many keys are read at once
 
 // The workloads of tables with `count` entries.
 class TableBench {
@@ -94,21 +43,10 @@ class TableBench {
     return Rows();
   }
 
+  // The same table's reads by several threads at once.
+  std::vector<Row> RunThreads(int rounds) { return ThreadBench(single_, table_, rivals_).Run(rounds); }
+
  private:
-  struct Rival {
-    Store store;
-    std::unique_ptr<Peer> peer;
-    std::unique_ptr<Peer> partitioned;  // with index and filter in partitions, where it has these
-  };
-
-  // Numbers of entries that lie so far apart, in no order; or of keys that lie behind them.
-  static std::vector<uint64_t> Numbers(size_t count, size_t stride, uint64_t behind) {
-    std::vector<uint64_t> numbers;
-    for (uint64_t i = stride / 2; i < count; i += stride) numbers.push_back(2 * i + behind);
-    Random(7).Shuffle(&numbers);
-    return numbers;
-  }
-
   // How often a second pass is made, for a time that can be measured.
   static uint64_t Again(size_t count) { return std::max<uint64_t>(1, 100000 / count); }
 
@@ -117,7 +55,7 @@ class TableBench {
   void MakeEntries() {
     single_.Reserve(count_);
     for (uint64_t i = 0; i < count_; i++) single_.Append(2 * i, 0);
-    for (size_t i = 0; i < count_; i++) Add(&whole_, single_.Key(i), single_.Value(i));
+    whole_ = WholeOf(single_);
     for (size_t i = count_; i > 0; i--) Add(&back_, single_.Key(i - 1), single_.Value(i - 1));
     parts_.resize(kSources);
     for (uint64_t at = 0; at < count_ / kSources; at++) {
@@ -127,19 +65,10 @@ class TableBench {
         if (place == source) Add(&newest_, parts_[source].Key(at), parts_[source].Value(at));
       }
     }
-    for (const std::string& key : present_.each) {
-      size_t at = Place(key);
-      Add(&found_, single_.Key(at), single_.Value(at));
-      for (size_t i = at; i < std::min<size_t>(at + kRange, count_); i++) {
-        Add(&ranges_, single_.Key(i), single_.Value(i));
-      }
-    }
-    for (const std::string& key : batch_.each) {
-      Add(&batch_found_, single_.Key(Place(key)), single_.Value(Place(key)));
-    }
+    found_ = FoundOf(single_, present_);
+    ranges_ = RangesOf(single_, present_);
+    batch_found_ = FoundOf(single_, batch_);
   }
-
-  static size_t Place(const std::string& key) { return strtoull(key.c_str(), nullptr, 10) / 2; }
 
   using Build = decltype(&tool_bench_build);
 
@@ -232,20 +161,17 @@ class TableBench {
       CheckKeys("calls absent", table_, CallGet, absent_, passes, Digest{});
       CheckKeys("calls batch", table_, CallGetMany, batch_, passes, batch_found_);
       CheckTable("calls scan", CallScan, passes, whole_);
+      CheckTable("calls scan bulk", CallScanBulk, passes, whole_);
       CheckTable("calls verify", CallVerify, passes, Digest{count_, 0, 0});
       CheckTable("calls verify steps", CallVerifySteps, passes, Digest{count_, 0, 0});
       CheckFiles("runs", tool_bench_range_runs, passes);
       CheckFiles("runs_lent", tool_bench_range_runs_lent, passes);
       CheckFiles("merge", tool_bench_merge, passes);
       CheckFiles("merge_lent", tool_bench_merge_lent, passes);
-      Check("range", passes, ranges_, [&](Digest* digest) {
-        return tool_bench_range(Bytes(table_), table_.size(), Bytes(present_.joined),
-                               present_.joined.size(), kKeyLen, kRange, passes, digest);
-      });
-      Check("range_lent", passes, ranges_, [&](Digest* digest) {
-        return tool_bench_range_lent(Bytes(table_), table_.size(), Bytes(present_.joined),
-                                    present_.joined.size(), kKeyLen, kRange, passes, digest);
-      });
+      CheckRanges("range", tool_bench_range, passes);
+      CheckRanges("range_lent", tool_bench_range_lent, passes);
+      CheckRanges("calls range", CallRange, passes);
+      CheckRanges("calls range bulk", CallRangeBulk, passes);
     }
     for (uint64_t passes : {uint64_t{0}, uint64_t{0}, uint64_t{1}}) {
       Compact(passes);
@@ -289,6 +215,13 @@ class TableBench {
     Check(name, passes, wanted, [&](Digest* digest) {
       return call(Bytes(table), table.size(), Bytes(keys.joined), keys.joined.size(), kKeyLen,
                   passes, digest);
+    });
+  }
+
+  void CheckRanges(const std::string& name, decltype(&tool_bench_range) call, uint64_t passes) {
+    Check(name, passes, ranges_, [&](Digest* digest) {
+      return call(Bytes(table_), table_.size(), Bytes(present_.joined), present_.joined.size(),
+                  kKeyLen, kRange, passes, digest);
     });
   }
 
@@ -470,6 +403,8 @@ class TableBench {
     PassRows("scan", an_entry, "scan", "scan", data * kBeside, entries, 1, &rows);
     PassRows("scan, lent", an_entry, "scan_lent", "scan", data * kBeside, entries, 1, &rows);
     PassRows("scan from C", an_entry, "calls scan", "scan", data * kBeside, entries, 1, &rows);
+    PassRows("scan from C, in bulk", an_entry, "calls scan bulk", "scan", data * kBeside, entries,
+             1, &rows);
     PassRows("verify", an_entry, "calls verify", "none", data * kBeside, entries, 1, &rows);
     PassRows("verify by steps", an_entry, "calls verify steps", "none", data * kBeside, entries, 1,
              &rows);
@@ -479,6 +414,10 @@ class TableBench {
     PassRows("range of 50 entries", "", "range", "range", data * kBeside, keys, again, &rows);
     PassRows("range of 50 entries, lent", "", "range_lent", "range", data * kBeside, keys, again,
              &rows);
+    PassRows("range of 50 entries from C", "", "calls range", "range", data * kBeside, keys, again,
+             &rows);
+    PassRows("range of 50 entries from C, in bulk", "", "calls range bulk", "range",
+             data * kBeside, keys, again, &rows);
     PassRows("merge of 8", an_entry, "merge", "merge", read_ * kBeside, merged, 1, &rows);
     PassRows("merge of 8, lent", an_entry, "merge_lent", "merge", read_ * kBeside, merged, 1,
              &rows);

@@ -1,4 +1,4 @@
-// The least time of each kind of call, of the processor time of this thread.
+// The least time of each kind of call.
 #pragma once
 
 #include <algorithm>
@@ -14,13 +14,23 @@ inline const uint8_t* Bytes(std::string_view text) {
 
 inline void Answered(uint32_t code) { Require(code == 0, "refused: " + std::to_string(code)); }
 
+inline double ClockSeconds() {
+  timespec now;
+  clock_gettime(CLOCK_MONOTONIC, &now);
+  return now.tv_sec + now.tv_nsec * 1e-9;
+}
+
 class Times {
  public:
+  // By the processor time of this thread.
   template <class Work>
   void Take(const std::string& call, Work work) {
     double start = ThreadSeconds();
     work();
-    double took = ThreadSeconds() - start;
+    Keep(call, ThreadSeconds() - start);
+  }
+
+  void Keep(const std::string& call, double took) {
     auto [place, is_new] = least_.try_emplace(call, took);
     if (!is_new) place->second = std::min(place->second, took);
   }

@@ -1,0 +1,54 @@
+// The other stores: which there are, and one of each that has been set up.
+#pragma once
+
+#include <memory>
+#include <string>
+#include <vector>
+
+#include "peer.h"
+
+// Another store. Its figures stand in a column of their own.
+struct Store {
+  std::string name;
+  MakePeer make;
+  bool warm;
+  bool has_partitions;
+};
+
+#ifdef BUILT_LEVELDB
+constexpr MakePeer kLevel = BuiltLevelDb;
+#else
+constexpr MakePeer kLevel = PackagedLevelDb;
+#endif
+#ifdef BUILT_ROCKSDB
+constexpr MakePeer kRocks = BuiltRocksDb;
+#else
+constexpr MakePeer kRocks = PackagedRocksDb;
+#endif
+
+// Each as it was built from its sources, where it was, and then as it is packaged, too.
+inline std::vector<Store> Stores() {
+  std::vector<Store> stores = {{"LevelDB", kLevel, false, false}, {"RocksDB", kRocks, false, true}};
+  if (kLevel != PackagedLevelDb) {
+    stores.push_back({"LevelDB, packaged", PackagedLevelDb, false, false});
+  }
+  if (kRocks != PackagedRocksDb) {
+    stores.push_back({"RocksDB, packaged", PackagedRocksDb, false, true});
+  }
+  stores.push_back({"LevelDB, warm", kLevel, true, false});
+  stores.push_back({"RocksDB, warm", kRocks, true, true});
+  return stores;
+}
+
+inline std::vector<std::string> StoreNames() {
+  std::vector<std::string> names;
+  for (const Store& store : Stores()) names.push_back(store.name);
+  return names;
+}
+
+// A store that was set up.
+struct Rival {
+  Store store;
+  std::unique_ptr<Peer> peer;
+  std::unique_ptr<Peer> partitioned;  // with index and filter in partitions, where it has these
+};
