@@ -8,14 +8,14 @@ import mmap
 import operator
 import os
 from ctypes import addressof, byref
-from typing import (Any, Callable, Generator, Generic, Iterable, Iterator, List, Optional, Tuple, Type,
-                    TypeVar, Union, overload)
+from typing import (Any, Callable, Generator, Generic, Iterable, Iterator, List, Optional, Tuple,
+                    Type, TypeVar, Union, overload)
 
 from . import _calls
 from ._calls import copied
 from ._errors import Faulty, check, faulty
 from ._iterators import DELETIONS, KINDS, Batch, Bounds, Entries, Scan, visible
-from ._records import (NEWEST, Entry, Facts, Fault, Finding, Memory, Packing, Section, Verified)
+from ._records import NEWEST, Entry, Facts, Fault, Finding, Memory, Packing, Section, Verified
 from ._resources import Resource, Returned, number, plain
 
 #: An object with a buffer, whose bytes a call reads.
