@@ -8,14 +8,14 @@ import mmap
 import operator
 import os
 from ctypes import addressof, byref
-from typing import (Any, Callable, Generic, Iterable, Iterator, List, Optional, Tuple, Type,
-                    TypeVar, Union, overload)
+from typing import (Any, Callable, Generator, Generic, Iterable, Iterator, List, Optional, Tuple,
+                    Type, TypeVar, Union, overload)
 
 from . import _calls
 from ._calls import copied
 from ._errors import Faulty, check, faulty
-from ._iterators import DELETIONS, KINDS, Batch, Bounds, Entries, Pairs, Scan, visible
-from ._records import (NEWEST, Entry, Facts, Fault, Finding, Memory, Packing, Section, Verified)
+from ._iterators import DELETIONS, KINDS, Batch, Bounds, Entries, Scan, visible
+from ._records import NEWEST, Entry, Facts, Fault, Finding, Memory, Packing, Section, Verified
 from ._resources import Resource, Returned, number, plain
 
 #: An object with a buffer, whose bytes a call reads.
@@ -100,7 +100,7 @@ class Items(_View[Tuple[bytes, bytes]]):
     ({b'a': b'1', b'b': b'2'}, (b'b', b'2'), False)
     """
 
-    def _begin(self, reverse: bool) -> Pairs:
+    def _begin(self, reverse: bool) -> Iterator[Tuple[bytes, bytes]]:
         return self._reader.range(reverse=reverse)
 
     def __contains__(self, item: Tuple[BytesLike, BytesLike]) -> bool:
@@ -179,7 +179,8 @@ class _Reader(Resource):
             return copied(lent.value, lent.value_len)
 
     def range(self, lower: Optional[BytesLike] = None, upper: Optional[BytesLike] = None,
-              reverse: bool = False, at: int = NEWEST) -> Pairs:
+              reverse: bool = False,
+              at: int = NEWEST) -> Generator[Tuple[bytes, bytes], None, None]:
         """Yields the keys from `lower` on and below `upper`, with their values at a snapshot.
 
         The snapshot `at` sees the versions whose sequence numbers are below it. The pairs are in

@@ -34,7 +34,7 @@ class FinishedTable(bytes):
     >>> writer = Writer(id=4)
     >>> writer.add(b"a", b"1")
     >>> writer.finish()
-    <FinishedTable id=4 checksum=8836759aab92fee1 1250 bytes>
+    <FinishedTable id=4 checksum=8836759aab92fee1 ... bytes>
     """
 
     id: int

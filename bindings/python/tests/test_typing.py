@@ -38,7 +38,8 @@ def f(table: Table, runs: Runs) -> None:
 def mypy(*words):
     return subprocess.run(
         [sys.executable, "-m", "mypy", "--strict", "--cache-dir", os.devnull, *words],
-        env=dict(os.environ, MYPYPATH=os.path.dirname(PACKAGE)), stdout=subprocess.PIPE, universal_newlines=True)
+        env=dict(os.environ, MYPYPATH=os.path.dirname(PACKAGE)), stdout=subprocess.PIPE,
+        universal_newlines=True)
 
 
 @unittest.skipUnless(importlib.util.find_spec("mypy"), "mypy is not here")
