@@ -180,21 +180,17 @@ fn lends_by_turns<A: Allocator>(
     cursor: &mut DataBlockCursor<A>,
     rows: &[EntryRef<'static>],
 ) -> bool {
-    let mut rest = rows;
+    let mut first = 0usize;
+    let mut last = rows.len();
     let mut is_so = true;
     for turn in 0..rows.len() {
-        let (row, others) = match rest {
-            [first, others @ ..] if turn % 2 == 0 => (first, others),
-            [others @ .., last] => (last, others),
-            [] => return false,
-        };
-        let moves = if turn % 2 == 0 {
-            cursor.advance()
+        if turn % 2 == 0 {
+            is_so &= cursor.advance() && cursor.entry() == rows.get(first).copied();
+            first = first.saturating_add(1);
         } else {
-            cursor.advance_back()
-        };
-        is_so &= moves && cursor.entry() == Some(*row);
-        rest = others;
+            last = last.saturating_sub(1);
+            is_so &= cursor.advance_back() && cursor.entry() == rows.get(last).copied();
+        }
     }
     cursor.unlend();
     is_so && cursor.entry().is_none() && !cursor.advance_back() && !cursor.advance()
