@@ -220,7 +220,7 @@ class Misuse(unittest.TestCase):
 
     def test_a_handle_that_holds_another_kind(self):
         table, writer = table_of(entries_of(7, 3)), Writer()
-        writer._get = Table._get
+        writer._get, writer._facts = Table._get, lambda: Table._facts(writer)
         for call in (lambda: Table.get(writer, b"a"), lambda: Table.facts(writer),
                      lambda: Table.entries(writer), lambda: Table.verify(writer),
                      lambda: Table.scan(writer), lambda: Table.memory(writer),
