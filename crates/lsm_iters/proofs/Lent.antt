@@ -21,12 +21,12 @@ use Rattle.lsm_iters.specs.Blocks.{Blocks, KeepsBlocks, coming_blocks, range_of_
 use Rattle.lsm_iters.specs.Bounds.{lower_edge, upper_edge}
 use Rattle.lsm_iters.specs.Lending.{LendsFirst, RangeLends, behind_in, cursor_remains, lent_in}
 use Rattle.lsm_iters.specs.Lift.{lifted, lifted_told, number_told}
-use Rattle.lsm_iters.specs.Range.{Range, RangeGives, front_next, left_in}
+use Rattle.lsm_iters.specs.Range.{LendsOn, Range, RangeGives, front_next, left_in}
 use Rattle.lsm_iters.specs.Rows.{Bounded}
 use Rattle.lsm_iters.specs.Steps.{LoadsNone, SeeksOnce, lifted_answer, over, stopped}
 use Rattle.lsm_iters.proofs.Cursors.{given, lent_step, part_results, some_lent}
 use Rattle.lsm_iters.proofs.Moved.{none_to_come, takes_moved}
-use Rattle.lsm_iters.proofs.Ranges.{R}
+use Rattle.lsm_iters.proofs.Ranges.{R, none_on}
 use Rattle.lsm_iters.proofs.Walked.{W, walk_refused, walk_steps}
 
 -- ---- the blocks of a range
@@ -165,6 +165,14 @@ stopped_entry : {A : Type 0} (l : Option Entry) (t : Range A) → stopped (given
 stopped_entry None t = refl
 stopped_entry (Some e) t = refl
 
+-- what is lent, where it is what came
+pub came_on : {A : Type 0} (r : Result Bool Error) (t : Range A)
+    → LendsOn (came r t.lent) (stopped (came r t.lent) t).lent
+came_on {A = A} (Ok more) t =
+    subst (λ (u : Range A). LendsOn (given t.lent) u.lent) (sym (stopped_entry t.lent t))
+    (λ e is. ap given is)
+came_on {A = A} (Err e) t = none_on (Some (Err e))
+
 stopped_of : {A : Type 0} (q : Option R) (t : Range A) → (stopped q t).of ≡ t.of
 stopped_of None t = refl
 stopped_of (Some (Ok e)) t = refl
@@ -198,10 +206,11 @@ module _ {A : Type 0} where
     pub steps_by : (n : W A) (r q : Option R)
         → SeeksOnce s.parts.handles p.handles (lower_edge s.parts.of.low)
         (upper_edge s.parts.of.high) → Lends (with_parts s p) r n
-        → q ≡ lifted_answer n.parts.of.global_seqno r → Steps_on s q n
-    steps_by n r q seeks lends lifted =
-        let all = walk_steps Front s p n r q is none sought seeks
-        lends.takes lifted in
+        → q ≡ lifted_answer n.parts.of.global_seqno r → LendsOn q (stopped q (range_in n)).lent
+        → Steps_on s q n
+    steps_by n r q seeks lends lifted on =
+        let all = walk_steps Front s p n r q (range_in n).lent is none sought seeks
+        lends.takes lifted on in
         let same : n.parts.of.global_seqno ≡ s.parts.of.global_seqno =
         ap (λ (b : Bounded). b.global_seqno) (sym (stopped_of q (range_in n)) ∙ all.of) in
         record {

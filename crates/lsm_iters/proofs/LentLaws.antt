@@ -1,27 +1,26 @@
 -- What a range that lends deals, and how far off its end is.
 use Rattle.std.specs.Prelude.{Option, Some, None, Ok, Err}
-use Rattle.sst_entries.specs.Stream.{Lowers, front_of, nowhere}
+use Rattle.sst_entries.specs.Stream.{Lowers, back_of, front_of}
 use Rattle.lsm_block_indexes.specs.Dealt.{DealsEnding}
 use Rattle.lsm_block_indexes.proofs.Dealing.{Ending, deals_ending}
 use Rattle.lsm_iters.specs.Lending.{RangeLends}
-use Rattle.lsm_iters.specs.Range.{IsEndedRange, Range, front_next, range_left, range_size}
+use Rattle.lsm_iters.specs.Range.{IsEndedRange, Range, RangeGives, back_next, front_next}
+use Rattle.lsm_iters.specs.Range.{range_left, range_size}
 use Rattle.lsm_iters.proofs.Ends.{front_shortens}
-use Rattle.lsm_iters.proofs.RangeLaws.{nearer, nothing}
+use Rattle.lsm_iters.proofs.RangeLaws.{ends_by, nearer, nothing}
 use Rattle.lsm_iters.proofs.Ranges.{R}
 
 module _ {A : Type 0} where
-  ends_by : (s : Range A) (r : Option R) (t : Range A) → RangeLends s r t
+  lends_by : (s : Range A) (r : Option R) (t : Range A) → RangeLends s r t
       → Ending range_left IsEndedRange front_of s r t
-  ends_by s None t step = record { answer = step.gives.answer; ends = tt }
-  ends_by s (Some (Ok e)) t step = record { answer = step.gives.answer; ends = tt }
-  ends_by s (Some (Err e)) t step = record { answer = step.gives.answer; ends = step.gives.ends }
+  lends_by s r t step = ends_by front_of front_next s r t step.gives
 
-  -- what is left is lent up to the first error
-  pub lending_deals : (s : Range A) → DealsEnding RangeLends nowhere (λ _. Unit {0})
-      (λ _. Unit {0}) s (range_left s)
+  -- what is left is lent up to the first error, also where the back gives in between
+  pub lending_deals : (s : Range A) → DealsEnding RangeLends (RangeGives back_of back_next)
+      (λ _. Unit {0}) (λ _. Unit {0}) s (range_left s)
   lending_deals s =
-      deals_ending range_left IsEndedRange nothing RangeLends nowhere
-      (λ u r t step. ends_by u r t step) (λ u r t step. absurd step) s
+      deals_ending range_left IsEndedRange nothing RangeLends (RangeGives back_of back_next)
+      (λ u r t step. lends_by u r t step) (λ u r t step. ends_by back_of back_next u r t step) s
 
   -- an answer brings the end nearer
   pub lending_lowers : (s : Range A) (r : Option R) (t : Range A) → RangeLends s r t

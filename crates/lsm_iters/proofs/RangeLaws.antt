@@ -19,7 +19,7 @@ module _ {A : Type 0} where
   pub nothing : (s : Range A) → IsEndedRange s → range_left s ≡ []
   nothing s ended = nil_from_length (range_left s) (omega (arith, ended))
 
-  ends_by : (of : End) (next : Range A → Next) (s : Range A) (r : Option R) (t : Range A)
+  pub ends_by : (of : End) (next : Range A → Next) (s : Range A) (r : Option R) (t : Range A)
       → RangeGives of next s r t → Ending range_left IsEndedRange of s r t
   ends_by of next s None t step = record { answer = step.answer; ends = tt }
   ends_by of next s (Some (Ok e)) t step = record { answer = step.answer; ends = tt }

@@ -17,7 +17,8 @@ use Rattle.lsm_block_indexes.specs.Left.{with_index_loads, none_behind}
 use Rattle.lsm_block_indexes.proofs.TwoLevels.{loaded_more}
 use Rattle.lsm_iters.specs.Bounds.{lower_edge, upper_edge}
 use Rattle.lsm_iters.specs.Lift.{lift_told}
-use Rattle.lsm_iters.specs.Range.{CountsBlocks, IsEndedRange, Next, Range, RangeGives, back_next}
+use Rattle.lsm_iters.specs.Range.{CountsBlocks, IsEndedRange, LendsOn, Next, Range, RangeGives}
+use Rattle.lsm_iters.specs.Range.{back_next}
 use Rattle.lsm_iters.specs.Range.{blocks_early, blocks_for, blocks_needed, data_loaded, early_for}
 use Rattle.lsm_iters.specs.Range.{front_next, index_to_come, left_in, left_unless, range_left}
 use Rattle.lsm_iters.specs.Range.{to_come}
@@ -33,6 +34,10 @@ H = Result Handle Error
 
 abbrev pub End : Type 0
 End = List R → Option R × List R
+
+-- where nothing is lent
+pub none_on : (r : Option R) → LendsOn r None
+none_on r e is = let wrong : None ≡ Some e = is in absurd cc
 
 -- ---- what is left, once the edges were sought
 
@@ -217,6 +222,7 @@ module _ {A : Type 0} (s t : Range A) (is : t ≡ record s { handles = t.handles
       early_behind_some s.of (next s).entries
           (next s).handles f early,
     ));
+    lent = none_on (Some (Err e));
   }
 
 -- nothing of u comes behind t, and no more blocks were loaded than may be
@@ -298,9 +304,9 @@ module _ {A : Type 0} where
       ≡ none_behind near (blocks_needed u.of turned))
       → ((f : Error) → early_behind near (blocks_early u.of turned) ≡ Some f
       → moves.blocks ≡ none_behind near (blocks_needed u.of turned) → r ≡ Some (Err f))
-      → From end u r t → RangeGives end next s r (stopped r t)
+      → From end u r t → LendsOn r (stopped r t).lent → RangeGives end next s r (stopped r t)
   unfolding counts_on counts_over
-  gives_all end next near turned s u t None reached moves all first from = record {
+  gives_all end next near turned s u t None reached moves all first from on = record {
     answer = (sym reached.results ∙ from.0, size_over t moves.sought from.1);
     ends = tt;
     of = moves.of ∙ reached.of;
@@ -310,8 +316,9 @@ module _ {A : Type 0} where
     exact = λ fine. all_counted (next s) near turned s u t reached moves (all fine);
     first = λ f early full. first f (reached.early ∙ early)
         (counted_all (next s) near turned s u t reached moves full);
+    lent = on;
   }
-  gives_all end next near turned s u t (Some (Ok e)) reached moves all first from = record {
+  gives_all end next near turned s u t (Some (Ok e)) reached moves all first from on = record {
     answer = ap end (sym reached.results) ∙ from ∙ pair refl (sym (left_is t moves.sought));
     ends = tt;
     of = moves.of ∙ reached.of;
@@ -321,8 +328,9 @@ module _ {A : Type 0} where
     exact = λ fine. all_counted (next s) near turned s u t reached moves (all fine);
     first = λ f early full. first f (reached.early ∙ early)
         (counted_all (next s) near turned s u t reached moves full);
+    lent = on;
   }
-  gives_all end next near turned s u t (Some (Err e)) reached moves all first from = record {
+  gives_all end next near turned s u t (Some (Err e)) reached moves all first from on = record {
     answer = (
       λ fine. ap (λ (rs : List R). (end rs).0) (sym reached.results)
           ∙ from.0 fine,
@@ -336,4 +344,5 @@ module _ {A : Type 0} where
     exact = λ fine. all_counted (next s) near turned s u t reached moves (all fine);
     first = λ f early full. first f (reached.early ∙ early)
         (counted_all (next s) near turned s u t reached moves full);
+    lent = on;
   }

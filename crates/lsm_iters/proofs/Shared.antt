@@ -12,13 +12,14 @@ use Rattle.lsm_walks.proofs.AtEnds.{not_memory}
 use Rattle.lsm_iters.specs.Blocks.{Blocks, range_of_walk}
 use Rattle.lsm_iters.specs.Lending.{RangeLends, behind_in, lent_in}
 use Rattle.lsm_iters.specs.Lift.{lifted}
-use Rattle.lsm_iters.specs.Range.{CountsBlocks, Next, Range, RangeGives, front_next, left_unless}
+use Rattle.lsm_iters.specs.Range.{CountsBlocks, LendsOn, Next, Range, RangeGives, front_next}
+use Rattle.lsm_iters.specs.Range.{left_unless}
 use Rattle.lsm_iters.specs.Range.{range_left}
 use Rattle.lsm_iters.specs.Steps.{over, stopped, without_lent}
 use Rattle.lsm_iters.proofs.Cursors.{given}
 use Rattle.lsm_iters.proofs.Ends.{front_shortens}
-use Rattle.lsm_iters.proofs.Ranges.{End, R}
-use Rattle.lsm_iters.proofs.Walked.{W}
+use Rattle.lsm_iters.proofs.Ranges.{End, R, none_on}
+use Rattle.lsm_iters.proofs.Walked.{W, lending}
 
 -- a lifted entry is there where the entry is
 pub lifted_some : (g : ℕ) (l : Option Entry) → is_some (option_map (lifted g) l) ≡ true
@@ -35,44 +36,6 @@ unless_opened true l = refl
 unless_opened false l = refl
 
 module _ {A : Type 0} where
-  -- no answer speaks of what is lent
-  still_counts : {needed : ℕ} (s t : Range A) → CountsBlocks needed s t
-      → CountsBlocks needed s (without_lent t)
-  still_counts s t c = record {
-    blocks = c.blocks;
-    counts = c.counts;
-    within = c.within;
-    most = c.most;
-    index = c.index;
-    index_counts = c.index_counts;
-    index_within = c.index_within;
-  }
-
-  pub gives_unlent : (end : End) (next : Range A → Next) (s : Range A) (r : Option R) (t : Range A)
-      → RangeGives end next s r (stopped r t) → RangeGives end next s r (stopped r (without_lent t))
-  unfolding still_counts
-  gives_unlent end next s None t gives = record {
-    answer = gives.answer;
-    ends = gives.ends;
-    of = gives.of;
-    index = gives.index;
-    initialized = gives.initialized;
-    loads = still_counts s t gives.loads;
-    exact = gives.exact;
-    first = gives.first;
-  }
-  gives_unlent end next s (Some (Ok e)) t gives = record {
-    answer = gives.answer;
-    ends = gives.ends;
-    of = gives.of;
-    index = gives.index;
-    initialized = gives.initialized;
-    loads = still_counts s t gives.loads;
-    exact = gives.exact;
-    first = gives.first;
-  }
-  gives_unlent end next s (Some (Err e)) t gives = gives
-
   -- ---- where the entry that came cannot be shared
 
   ended_counts : {needed : ℕ} (s t : Range A) → CountsBlocks needed s t
@@ -108,7 +71,14 @@ module _ {A : Type 0} where
     exact = λ fine. absurd (not_memory e memory fine);
     first = λ f early all. let wrong : Some (Ok x) ≡ Some (Err f) = gives.first f early all in
         absurd cc;
+    lent = none_on (Some (Err e));
   }
+
+  -- nothing is lent on
+  pub nothing_on : (r : Option R) (t : Range A) → LendsOn r (stopped r (without_lent t)).lent
+  nothing_on None t = none_on None
+  nothing_on (Some (Ok e)) t = none_on (Some (Ok e))
+  nothing_on (Some (Err e)) t = none_on (Some (Err e))
 
   -- what came, where an entry is lent
   pub came_there : (s t : Range A) (l : Option Entry) (x : Entry) → RangeLends s (given l) t
@@ -135,7 +105,7 @@ module _ {A : Type 0} where
       (parts : Blocks A) (front back part : Option Cursor)
       → record { parts = parts; front = front; back = back } ≡ v → lent_in part ≡ None
       → behind_in part ≡ behind_in front
-      → RangeGives end next s r (stopped r (range_of_walk v))
+      → RangeGives end next s r (stopped r (lending v None))
       → RangeGives end next s r (stopped r (range_of_walk (record {
         parts = parts;
         front = part;
@@ -145,5 +115,4 @@ module _ {A : Type 0} where
       let w : W A = record { parts = parts; front = front; back = back } in
       subst (λ (u : Range A). RangeGives end next s r (stopped r u))
       (sym (walk_unlent w part none left))
-      (gives_unlent end next s r (range_of_walk w)
-      (subst (λ (u : W A). RangeGives end next s r (stopped r (range_of_walk u))) (sym is) gives))
+      (subst (λ (u : W A). RangeGives end next s r (stopped r (lending u None))) (sym is) gives)

@@ -32,7 +32,8 @@ use Rattle.lsm_iters.specs.Blocks.{range_of_walk, stored_in, stored_rows}
 use Rattle.lsm_iters.specs.Bounds.{lower_edge, upper_edge}
 use Rattle.lsm_iters.specs.Lending.{behind_in, cursor_remains, lent_in}
 use Rattle.lsm_iters.specs.Lift.{lift_told, lifted_told}
-use Rattle.lsm_iters.specs.Range.{Range, RangeGives, blocks_early, blocks_needed, data_loaded}
+use Rattle.lsm_iters.specs.Range.{LendsOn, Range, RangeGives, blocks_early, blocks_needed}
+use Rattle.lsm_iters.specs.Range.{data_loaded}
 use Rattle.lsm_iters.specs.Range.{left_in, next_at}
 use Rattle.lsm_iters.specs.Rows.{Bounded, block_rows, handle_rows, rows, rows_in}
 use Rattle.lsm_iters.specs.Steps.{LoadsNone, SeeksOnce, lifted_answer, over, stopped}
@@ -167,6 +168,10 @@ module _ {A : Type 0} where
   abbrev handles_in : W A → List H
   handles_in w = (left_in w.parts.handles).results
 
+  -- the range of a walk, by what it lends
+  abbrev pub lending : W A → Option Entry → Range A
+  lending w l = record (range_of_walk w) { lent = l }
+
   told_left : (w : W A) → map (told w.parts.of.global_seqno) (left_of_walk w).results
       ≡ left_rows (range_of_walk w)
   told_left w =
@@ -217,11 +222,12 @@ module _ {A : Type 0} where
       ∙ ap (λ (f : Option Error). early_behind xs f) (early_is b (seen_from at (handles_in w)))
       ∙ near_early at w (blocks_early b (seen_from at (handles_in w)))
 
-  moves : (at : Direction) (w v : W A) (r : Option R) → w.parts.handles.sought ≡ true
+  moves : (at : Direction) (w v : W A) (r : Option R) (l : Option Entry)
+      → w.parts.handles.sought ≡ true
       → WalkTakes cursor_remains coming_blocks KeepsBlocks at w r v
       → Moves (none_behind (next_at at (range_of_walk w)).entries
-      (blocks_needed w.parts.of (seen_from at (handles_in w)))) (range_of_walk w) (range_of_walk v)
-  moves at w v r sought takes =
+      (blocks_needed w.parts.of (seen_from at (handles_in w)))) (range_of_walk w) (lending v l)
+  moves at w v r l sought takes =
       let m = moved takes.named w.parts v.parts sought takes.loads in
       record {
         of = m.of;
@@ -240,8 +246,9 @@ module _ {A : Type 0} where
         loads = m.loads;
       }
 
-  over_range : (at : Direction) (v : W A) → IsWalkOver (left_of_walk v) → IsOver (range_of_walk v)
-  over_range at v over =
+  over_range : (at : Direction) (v : W A) (l : Option Entry) → IsWalkOver (left_of_walk v)
+      → IsOver (lending v l)
+  over_range at v l over =
       let parts = (all_over cursor_remains coming_blocks at v over).done in
       record {
         rows = sym (told_left v) ∙ ap (map (told v.parts.of.global_seqno)) over.results;
@@ -274,22 +281,23 @@ module _ {A : Type 0} where
     λ over. none_at at (left_rows u) (Err e) over.rows (ap (λ (p : Option R × List R). p.0) gives),
   )
 
-  from_walk : (at : Direction) (w v : W A) (r : Option R)
+  from_walk : (at : Direction) (w v : W A) (r : Option R) (l : Option Entry)
       → StepAnswers at (left_of_walk w) r (left_of_walk v) → v.parts.of ≡ w.parts.of
-      → From (taken_at at) (range_of_walk w) (lifted_answer w.parts.of.global_seqno r)
-      (range_of_walk v)
-  from_walk at w v None gives same =
-      (sym (told_left w) ∙ ap (map (told w.parts.of.global_seqno)) gives.0, over_range at v gives.1)
-  from_walk at w v (Some (Ok e)) gives same =
+      → From (taken_at at) (range_of_walk w) (lifted_answer w.parts.of.global_seqno r) (lending v l)
+  from_walk at w v None l gives same = (
+    sym (told_left w) ∙ ap (map (told w.parts.of.global_seqno)) gives.0,
+    over_range at v l gives.1,
+  )
+  from_walk at w v (Some (Ok e)) l gives same =
       let g : ℕ = w.parts.of.global_seqno in
       let rest : map (told g) (left_of_walk v).results ≡ left_rows (range_of_walk v) =
       ap (λ (b : Bounded). map (told b.global_seqno) (left_of_walk v).results) (sym same)
       ∙ told_left v in
-      from_item at (range_of_walk w) (range_of_walk v) (lifted_told g e)
+      from_item at (range_of_walk w) (lending v l) (lifted_told g e)
       (ap (taken_at at) (sym (told_left w))
       ∙ map_taken (told g) at (left_of_walk w).results (left_of_walk v).results (Ok e) gives
       ∙ ap (λ (rs : List R). (Some (lifted_told g e), rs)) rest)
-  from_walk at w v (Some (Err e)) gives same = (
+  from_walk at w v (Some (Err e)) l gives same = (
     λ fine. ap (λ (rs : List R). (taken_at at rs).0) (sym (told_left w))
         ∙ map_first (told w.parts.of.global_seqno) at (left_of_walk w).results (Err e)
         (gives.0 fine),
@@ -304,24 +312,27 @@ module _ {A : Type 0} where
   starts_at Front s t is none sought seeks = front_starts s t is none sought seeks
   starts_at Back s t is none sought seeks = back_starts s t is none sought seeks
 
-  pub walked : (at : Direction) (s : Range A) (w v : W A) (r : Option R)
+  pub walked : (at : Direction) (s : Range A) (w v : W A) (r : Option R) (l : Option Entry)
       → Reached (next_at at (range_of_walk w)).entries (seen_from at (handles_in w)) (next_at at s)
       s
       (range_of_walk w) → w.parts.handles.sought ≡ true
       → WalkTakes cursor_remains coming_blocks KeepsBlocks at w r v
+      → LendsOn (lifted_answer w.parts.of.global_seqno r)
+      (stopped (lifted_answer w.parts.of.global_seqno r) (lending v l)).lent
       → RangeGives (taken_at at) (next_at at) s (lifted_answer w.parts.of.global_seqno r)
-      (stopped (lifted_answer w.parts.of.global_seqno r) (range_of_walk v))
+      (stopped (lifted_answer w.parts.of.global_seqno r) (lending v l))
   unfolding moves
-  walked at s w v r reached sought takes =
+  walked at s w v r l reached sought takes on =
       let g : ℕ = w.parts.of.global_seqno in
       gives_all (taken_at at) (next_at at) (next_at at (range_of_walk w)).entries
-      (seen_from at (handles_in w)) s (range_of_walk w) (range_of_walk v) (lifted_answer g r)
+      (seen_from at (handles_in w)) s (range_of_walk w) (lending v l) (lifted_answer g r)
       reached
-      (moves at w v r sought takes)
+      (moves at w v r l sought takes)
       (λ fine. takes.exact (fine_before g r fine) ∙ allowed at w)
       (λ f early all. ap (lifted_answer g) (takes.first f (early_allowed at w ∙ early)
       (all ∙ sym (allowed at w))))
-      (from_walk at w v r takes.answer (moved takes.named w.parts v.parts sought takes.loads).of)
+      (from_walk at w v r l takes.answer (moved takes.named w.parts v.parts sought takes.loads).of)
+      on
 
   -- ---- the iterator's own calls
 
@@ -339,14 +350,15 @@ module _ {A : Type 0} where
       (ap (λ (q : Blocks A). range_of_walk (with_parts w q)) is) none sought (taken_at at)
       (next_at at) e memory once
 
+  -- what is lent of the range after it is the entry that it gave, or nothing
   pub walk_steps : (at : Direction) (w : W A) (p : Blocks A) (v : W A) (r q : Option R)
-      → p ≡ record w.parts { handles = p.handles }
+      (l : Option Entry) → p ≡ record w.parts { handles = p.handles }
       → LoadsNone (left_in w.parts.handles) (left_in p.handles) → p.handles.sought ≡ true
       → SeeksOnce w.parts.handles p.handles (lower_edge w.parts.of.low) (upper_edge w.parts.of.high)
       → WalkTakes cursor_remains coming_blocks KeepsBlocks at (with_parts w p) r v
-      → q ≡ lifted_answer v.parts.of.global_seqno r
-      → RangeGives (taken_at at) (next_at at) (range_of_walk w) q (stopped q (range_of_walk v))
-  walk_steps at w p v r q is none sought seeks takes lifted =
+      → q ≡ lifted_answer v.parts.of.global_seqno r → LendsOn q (stopped q (lending v l)).lent
+      → RangeGives (taken_at at) (next_at at) (range_of_walk w) q (stopped q (lending v l))
+  walk_steps at w p v r q l is none sought seeks takes lifted on =
       let u : W A = with_parts w p in
       let reached = starts_at at (range_of_walk w) (range_of_walk u)
       (ap (λ (b : Blocks A). range_of_walk (with_parts w b)) is) none sought seeks in
@@ -354,8 +366,9 @@ module _ {A : Type 0} where
       lifted ∙ ap (λ (b : Bounded). lifted_answer b.global_seqno r)
       (moved takes.named p v.parts sought takes.loads).of in
       subst (λ (x : Option R). RangeGives (taken_at at) (next_at at) (range_of_walk w) x
-      (stopped x (range_of_walk v))) (sym same)
-      (walked at (range_of_walk w) u v r reached sought takes)
+      (stopped x (lending v l))) (sym same)
+      (walked at (range_of_walk w) u v r l reached sought takes
+      (subst (λ (x : Option R). LendsOn x (stopped x (lending v l)).lent) same on))
 
   pub walk_over : (w v : W A) → Ended coming_blocks EndsBlocks w v → range_of_walk v ≡ over
       (range_of_walk w)

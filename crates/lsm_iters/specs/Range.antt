@@ -177,6 +177,10 @@ pub record CountsBlocks {A : Type 0} (needed : ℕ) (s t : Range A) : Type 0 whe
   pub index_counts : (left_in t.handles).opened ≡ with_index_loads index (left_in s.handles).opened
   pub index_within : index + index_to_come t ≤ index_to_come s
 
+-- an entry that is lent after a call is the one that the call gave
+abbrev pub LendsOn : Option (Result Entry Error) → Option Entry → Type 0
+LendsOn r lent = (e : Entry) → lent ≡ Some e → r ≡ Some (Ok e)
+
 -- one call at an end; an error ends the iterator; it loads the blocks that it needs, and no more
 -- where it wants memory; where all of them were loaded, a fault that needs no memory to be found
 -- comes before any want of it
@@ -192,3 +196,4 @@ pub record RangeGives {A : Type 0} (end : List (Result Entry Error)
   pub exact : answer_stops is_memory r ≡ false → loads.blocks ≡ blocks_for s.of (next s)
   pub first : (f : Error) → early_for s.of (next s) ≡ Some f
       → loads.blocks ≡ blocks_for s.of (next s) → r ≡ Some (Err f)
+  pub lent : LendsOn r t.lent

@@ -15,7 +15,7 @@ pub use Rattle.lsm_block_indexes.specs.Left.{LeftGives}
 pub use Rattle.lsm_iters.specs.Bounds.{edge_in, edge_of, key_of, lower_edge, upper_edge}
 pub use Rattle.lsm_iters.specs.Lift.{lift, lift_told, lifted, lifted_told, number_told}
 pub use Rattle.lsm_iters.specs.Range.{Range, RangeGives, back_next, data_loaded, front_next}
-pub use Rattle.lsm_iters.specs.Range.{left_in, new_range, next_at}
+pub use Rattle.lsm_iters.specs.Range.{LendsOn, left_in, new_range, next_at}
 pub use Rattle.lsm_iters.specs.Range.{opened_in, range_left, range_remains, range_size, with_sought}
 pub use Rattle.lsm_iters.specs.Rows.{Bounded, block_rows, rows}
 pub use Rattle.lsm_iters.specs.Steps.{LoadsNone, SeeksOnce, all_over, lifted_answer, over, stopped}

@@ -5,7 +5,7 @@ ghost use Rattle.sst_entries.specs.declared.error.Error.TheVariants.{OutOfMemory
 ghost use Rattle.lsm_iters.specs.Words.{DealsEnding, IsSought, RangeGives, RangeLends, back_next};
 ghost use Rattle.lsm_iters.specs.Words.{back_of, body_of, edge_of, front_next, front_of, new_range};
 ghost use Rattle.lsm_iters.specs.Words.{opened_in, range_left, range_remains, range_size, stopped};
-ghost use Rattle.lsm_iters.specs.Words.{with_sought};
+ghost use Rattle.lsm_iters.specs.Words.{with_sought, without_lent};
 
 use crate::Bound;
 use crate::blocks::Blocks;
@@ -25,10 +25,11 @@ use std::marker::Model;
 /// The entries of a table that lie within two bounds, from both ends, their numbers with the global
 /// number added. It owns what it reads: a share of the table's bytes.
 ///
-/// As an iterator it gives entries that share the table's bytes; as a [`Lending`] it lends them from
-/// where they lie, from the front, and an entry takes no memory then: one that stands in a loaded
-/// block comes whatever memory there is. Both go on from where the other stopped. What is lent is
-/// lent until the next call at either end.
+/// As an iterator it gives entries that share the table's bytes. As a [`Lending`] it lends them from
+/// where they lie, from the front, without taking memory: the next entry of the block that is
+/// loaded at the front comes whatever memory there is. Both go on from where the other stopped. An
+/// entry is lent until the next call at either end; after [`Iterator::next`] the entry that it gave
+/// is lent, and after [`DoubleEndedIterator::next_back`] none.
 ///
 /// A data block is loaded where a step first needs it, once, and the index is sought by the first
 /// step. Where a block cannot be loaded its fault comes in the place of its entries, and
@@ -134,6 +135,13 @@ impl<A: Allocator + Clone> Iter<A> {
         ensures { result ≡ opened_in self.now }
     {
         self.walk.parts.all_opened()
+    }
+
+    /// Lends nothing until the next [`Lending::advance`].
+    pub fn unlend(&mut self)
+        ensures { self.new ≡ without_lent self.old }
+    {
+        unlend_in(&mut self.walk.front);
     }
 
     /// The entry that is lent, whose key and value share the table's bytes. Refused

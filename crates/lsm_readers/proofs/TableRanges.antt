@@ -12,7 +12,7 @@ use Rattle.sst_entries.specs.Entry.{Entry}
 use Rattle.sst_entries.specs.Error.{is_memory}
 use Rattle.sst_entries.specs.Point.{within}
 use Rattle.sst_entries.specs.Stream.{Deals, NoneStops, Runs, answer_stops, back_of, but_first, deal}
-use Rattle.sst_entries.specs.Stream.{first, front_of, nowhere, ok_results}
+use Rattle.sst_entries.specs.Stream.{first, front_of, ok_results}
 use Rattle.sst_entries.proofs.Booleans.{apart, is_false}
 use Rattle.sst_entries.proofs.StreamLemmas.{map_reverse}
 use Rattle.sst_entries.proofs.Refusals.{memory_is}
@@ -158,6 +158,19 @@ module _ {A : Type 0} (blocks index : ℕ) where
   along (Back ∷ ends) (r ∷ rs) s t runs held = along ends rs runs.0 t runs.2
       (stays back_of back_next s r runs.0 runs.1 held)
 
+-- ---- a range that lends gives what it lends
+
+module _ {A : Type 0} where
+  pub gives_along : (ends : List Direction) (rs : List (Option R)) (s t : Range A)
+      → Runs RangeLends back_gives s ends rs t → Runs gives back_gives s ends rs t
+  gives_along [] [] s t runs = runs
+  gives_along [] (r ∷ rs) s t runs = absurd runs
+  gives_along (e ∷ ends) [] s t runs = absurd runs
+  gives_along (Front ∷ ends) (r ∷ rs) s t runs =
+      (runs.0, runs.1.gives, gives_along ends rs runs.0 t runs.2)
+  gives_along (Back ∷ ends) (r ∷ rs) s t runs =
+      (runs.0, runs.1, gives_along ends rs runs.0 t runs.2)
+
 -- ---- a range of an opened table
 
 module _ {A : Type 0} (t : OpenTable) (low high : Bound (List ℕ)) (s : Range A)
@@ -197,9 +210,9 @@ module _ {A : Type 0} (t : OpenTable) (low high : Bound (List ℕ)) (s : Range A
       (λ _. Unit {0}) s xs) left_is (range_deals s)
 
   -- and lends it from the front
-  pub table_lends : DealsEnding RangeLends nowhere (λ _. Unit {0}) (λ _. Unit {0}) s
+  pub table_lends : DealsEnding RangeLends back_gives (λ _. Unit {0}) (λ _. Unit {0}) s
       (range_told t low high)
-  table_lends = subst (λ (xs : List R). DealsEnding RangeLends nowhere (λ _. Unit {0})
+  table_lends = subst (λ (xs : List R). DealsEnding RangeLends back_gives (λ _. Unit {0})
       (λ _. Unit {0}) s xs) left_is (lending_deals s)
 
   loads_few : (blocks : ℕ) → length told ≡ blocks
@@ -237,14 +250,11 @@ module _ {A : Type 0} (t : OpenTable) (low high : Bound (List ℕ)) (s : Range A
         deals_values gives back_gives (λ _. Unit {0}) (λ _. Unit {0}) s
         (within low high (lift es t.global_seqno)) deals stops memory
 
-    pub list_lends : DealsWithin RangeLends nowhere low high es t.global_seqno s
-    list_lends stops memory =
-        let of_list = stored_rows t.bytes es stored t.global_seqno held.recovered.pin_filter
-        held.recovered.pin_index t.parts held.recovered.told low high in
-        let lends = subst (λ (xs : List R). DealsEnding RangeLends nowhere (λ _. Unit {0})
-        (λ _. Unit {0}) s xs) of_list table_lends in
-        deals_values RangeLends nowhere (λ _. Unit {0}) (λ _. Unit {0}) s
-        (within low high (lift es t.global_seqno)) lends stops memory
+    pub list_lends : DealsWithin RangeLends back_gives low high es t.global_seqno s
+    list_lends stops memory = record {
+      answers = λ ends rs u runs fine.
+          (list_deals stops memory).answers ends rs u (gives_along ends rs s u runs) fine;
+    }
 
     pub list_loads : LoadsAtMost gives back_gives (blocks_within stored low high)
         (index_within t low high) s
@@ -252,6 +262,10 @@ module _ {A : Type 0} (t : OpenTable) (low high : Bound (List ℕ)) (s : Range A
         loads_few (blocks_within stored low high) (stored_blocks t.bytes es stored t.global_seqno
         held.recovered.pin_filter held.recovered.pin_index t.parts held.recovered.told
         (lower_edge low) (upper_edge high))
+
+    pub list_lends_few : LoadsAtMost RangeLends back_gives (blocks_within stored low high)
+        (index_within t low high) s
+    list_lends_few ends rs u runs = list_loads ends rs u (gives_along ends rs s u runs)
 
 pub deals_all : {S : Type 0} (front back : S → Option R → S → Type 0) (r : Result S Error)
     (es : List Entry) (g : ℕ) → IfOk r (DealsWithin front back Unbounded Unbounded es g)

@@ -28,7 +28,7 @@ use Rattle.lsm_runs.specs.LentRun.{RunLends}
 use Rattle.lsm_run_parts.specs.RunParts.{RunSpan}
 use Rattle.lsm_runs.specs.RunRange.{IsRunOf, RunRange, run_left, run_size}
 use Rattle.lsm_runs.specs.SpansRead.{spans_within}
-use Rattle.lsm_runs.proofs.LentRunLaws.{lending_deals}
+use Rattle.lsm_runs.proofs.LentRunLaws.{lending_front}
 use Rattle.lsm_runs.proofs.RunLists.{new_left}
 use Rattle.lsm_runs.proofs.Unions.{filter_ascends}
 
@@ -115,7 +115,7 @@ module _ {A : Type 0} (bound : ℕ) where
       (below_of bound s) refl).deals stops (span_told run)
       (subst (λ (xs : List R). Deals (answer_stops stops) RunLends nowhere s (up_to_error xs))
       (new_left run.0 run.1 s is)
-      (ends_lending RunLends (run_left s) s (lending_deals s) stops memory))
+      (ends_lending RunLends (run_left s) s (lending_front s) stops memory))
 
   each_lends : (stops : Error → Bool) → stops OutOfMemory ≡ true → (ss : List (RunRange A))
       (spans : List (List OpenTable × RunSpan))

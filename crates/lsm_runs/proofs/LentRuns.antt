@@ -13,9 +13,10 @@ use Rattle.lsm_walks.specs.Walks.{WalkTakes}
 use Rattle.lsm_walks.proofs.Reaching.{Going, Reached, entered, fault, item, kept, rest, starts}
 use Rattle.lsm_iters.specs.Lending.{RangeLends}
 use Rattle.lsm_iters.specs.Lift.{lifted_told}
-use Rattle.lsm_iters.specs.Range.{Range, range_remains}
+use Rattle.lsm_iters.specs.Range.{LendsOn, Range, range_remains}
 use Rattle.lsm_iters.proofs.Moved.{none_to_come, takes_moved}
 use Rattle.lsm_iters.proofs.RangeLaws.{range_step}
+use Rattle.lsm_iters.proofs.Ranges.{none_on}
 use Rattle.lsm_runs.specs.LentRun.{ReaderLends, RunLends, Stands, lent_of_reader, over_run}
 use Rattle.lsm_runs.specs.RunRange.{run_of}
 use Rattle.lsm_run_parts.specs.Tables.{Unopened}
@@ -191,18 +192,22 @@ module _ {A : Type 0} where
 
   -- ---- the run
 
-  pub lends_run : (s n : W A) (l : Option Entry) → Lends s (given l) n
-      → RunLends (run_of s) (given l) (run_of n)
-  lends_run s n None lends = record {
+  lends_on : (s n : W A) (l : Option Entry) → Lends s (given l) n
+      → LendsOn (given l) (lent_of_reader n.front) → RunLends (run_of s) (given l) (run_of n)
+  lends_on s n None lends on = record {
     gives = run_gives Front s n None
-        (record { taken = n; takes = lends.takes; goes = refl });
+        (record { taken = n; takes = lends.takes; goes = refl }) on;
     there = lends.there;
   }
-  lends_run s n (Some e) lends = record {
+  lends_on s n (Some e) lends on = record {
     gives = run_gives Front s n (Some (Ok e))
-        (record { taken = n; takes = lends.takes; goes = refl });
+        (record { taken = n; takes = lends.takes; goes = refl }) on;
     there = lends.there;
   }
+
+  pub lends_run : (s n : W A) → Lends s (given (lent_of_reader n.front)) n
+      → RunLends (run_of s) (given (lent_of_reader n.front)) (run_of n)
+  lends_run s n lends = lends_on s n (lent_of_reader n.front) lends (λ e is. ap given is)
 
   abbrev ended_walk : W A → W A
   ended_walk n = record { parts = none_unopened n.parts; front = None; back = None }
@@ -219,6 +224,6 @@ module _ {A : Type 0} where
         done = record { parts = refl; loads = refl };
         kept = refl;
       };
-    });
+    }) (none_on (Some (Err e)));
     there = lends.there;
   }

@@ -7,6 +7,7 @@ use Rattle.sst_entries.specs.declared.stream.Direction.TheVariants.{Front, Back}
 use Rattle.sst_entries.specs.Entry.{Entry}
 use Rattle.sst_entries.specs.Stream.{Deals, Runs, answer_stops, front_of, nowhere, ok_results}
 use Rattle.std.specs.Prelude.{nat_lt}
+use Rattle.sst_entries.proofs.FrontLemmas.{deals_in_front as deals_front}
 use Rattle.lsm_formats.specs.Chunks.{joined}
 use Rattle.lsm_merge.specs.Ends.{R}
 use Rattle.lsm_merge.specs.InPlace.{merge_of}
@@ -19,7 +20,7 @@ use Rattle.lsm_sorted.specs.declared.below.Below.{Below}
 use Rattle.lsm_sorted.proofs.BelowLemmas.{below_entries, deals_in_front}
 use Rattle.lsm_sorted.specs.LentBelow.{LendsBelow, MayLendBelow}
 use Rattle.lsm_runs.specs.LentNewestRuns.{LendsNewest}
-use Rattle.lsm_runs.specs.LentRun.{LendsOfAtMost, RunLends}
+use Rattle.lsm_runs.specs.LentRun.{RunLends}
 use Rattle.lsm_runs.specs.RunLists.{DealTogether, DealsList}
 use Rattle.lsm_runs.specs.RunRange.{OpensAtMost, RunGives, RunRange, front_tables}
 use Rattle.lsm_runs.proofs.MergeOrder.{merged_ascends}
@@ -34,16 +35,17 @@ module _ {A : Type 0} (back : RunRange A → Option R → RunRange A → Type 0)
   Gives = RunGives front_of front_tables
 
   gives_along : (ends : List Direction) (rs : List (Option R)) (s t : RunRange A)
-      → Runs RunLends nowhere s ends rs t → Runs Gives back s ends rs t
+      → Runs RunLends back s ends rs t → Runs Gives back s ends rs t
   gives_along [] [] s t runs = runs
   gives_along [] (r ∷ rs) s t runs = absurd runs
   gives_along (e ∷ ends) [] s t runs = absurd runs
   gives_along (Front ∷ ends) (r ∷ rs) s t runs =
       (runs.0, runs.1.gives, gives_along ends rs runs.0 t runs.2)
-  gives_along (Back ∷ ends) (r ∷ rs) s t runs = absurd runs.1
+  gives_along (Back ∷ ends) (r ∷ rs) s t runs =
+      (runs.0, runs.1, gives_along ends rs runs.0 t runs.2)
 
   pub lends_list : (s : RunRange A) (es : List Entry) → DealsList Gives back es s
-      → DealsList RunLends nowhere es s
+      → DealsList RunLends back es s
   lends_list s es deals stops memory = record {
     answers = λ ends rs t runs fine.
         (deals stops memory).answers ends rs t (gives_along ends rs s t runs) fine;
@@ -51,8 +53,32 @@ module _ {A : Type 0} (back : RunRange A → Option R → RunRange A → Type 0)
 
   -- and opens no more tables
   pub lends_few : (s : RunRange A) (most : ℕ) → OpensAtMost Gives back most s
-      → LendsOfAtMost RunLends most s
+      → OpensAtMost RunLends back most s
   lends_few s most few ends rs t runs = few ends rs t (gives_along ends rs s t runs)
+
+-- ---- sources with two ends, from the front alone
+
+module _ {S : Type 0} (front back : S → Option R → S → Type 0) where
+  each_front : (sources : List S) (dealt : List (List Entry))
+      → AllZip (λ (s : S) (es : List Entry). DealsList front back es s) sources dealt
+      → AllZip (λ (s : S) (es : List Entry). DealsList front nowhere es s) sources dealt
+  each_front [] [] all = tt
+  each_front [] (es ∷ dealt) all = absurd all
+  each_front (s ∷ sources) [] all = absurd all
+  each_front (s ∷ sources) (es ∷ dealt) all = (
+    λ stops memory. deals_front (answer_stops stops) front back s (ok_results es)
+        (all.0 stops memory),
+    each_front sources dealt all.1,
+  )
+
+  pub together_front : (sources : List S) (found : List (List Entry))
+      → DealTogether front back sources found → DealTogether front nowhere sources found
+  together_front sources found d = record {
+    dealt = d.dealt;
+    same = d.same;
+    ascend = d.ascend;
+    deal = each_front sources d.dealt d.deal;
+  }
 
 -- ---- below a bound
 

@@ -17,7 +17,7 @@ module _ {A : Type 0} where
   pub nothing : (s : RunRange A) → IsRunEnded s → run_left s ≡ []
   nothing s ended = nil_from_length (run_left s) (omega (arith, ended))
 
-  ends_by : (of : End) (needed : RunRange A → ℕ) (s : RunRange A) (r : Option R) (t : RunRange A)
+  pub ends_by : (of : End) (needed : RunRange A → ℕ) (s : RunRange A) (r : Option R) (t : RunRange A)
       → RunGives of needed s r t → Ending run_left IsRunEnded of s r t
   ends_by of needed s None t step = record { answer = (step.answer, step.lowers); ends = tt }
   ends_by of needed s (Some (Ok e)) t step = record { answer = step.answer; ends = tt }

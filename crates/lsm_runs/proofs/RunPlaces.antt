@@ -2,22 +2,31 @@
 use Rattle.std.proofs.Common.{◌≡◌, refl, sym, ◌∙◌, ap, subst, ℕ, zero, suc, true, List}
 use Rattle.std.proofs.Common.{[], ◌∷◌, drop, arith, inl, inr}
 use Rattle.std.proofs.lemmas.Bool.{cases_Bool}
-use Rattle.std.specs.Prelude.{IfOk, IfSome, Option, Some, None, Result, Ok, Err, map, slice_get}
-use Rattle.std.specs.Option.{option_and_then}
+use Rattle.std.specs.Prelude.{◌⊎◌, IfOk, IfSome, IsOk, Option, Some, None, Result, Ok, Err, is_some}
+use Rattle.std.specs.Prelude.{map, slice_get}
+use Rattle.std.specs.Option.{option_and_then, option_map}
 use Rattle.std.specs.declared.ops.Bound.TheVariants.{Included}
+use Rattle.sst_entries.specs.declared.entry_ref.EntryRef.{EntryRef}
 use Rattle.sst_entries.specs.declared.error.Error.{Error}
 use Rattle.sst_entries.specs.Entry.{Entry}
+use Rattle.sst_entries.specs.Error.{FaultsFirst, Gives}
+use Rattle.sst_entries.specs.Lending.{entry_of_ref}
+use Rattle.sst_blocks.specs.declared.entry_place.EntryPlace.{EntryPlace}
+use Rattle.sst_blocks.specs.declared.opened.Opened.{Opened}
 use Rattle.sst_blocks.specs.Asked.{told_map}
+use Rattle.sst_blocks.specs.EntryPlace.{IsPlacedIn, entry_placed, placed_in}
+use Rattle.sst_blocks.specs.Opened.{none_opened}
 use Rattle.lsm_ranges.specs.KeyRange.{Interval, key_le}
 use Rattle.lsm_ranges.specs.Run.{are_in_order, ends_before, first_and_last, how_many}
 use Rattle.lsm_ranges.specs.Run.{overlap_indexes, starts_within, table_of_key}
 use Rattle.lsm_ranges.proofs.RunLemmas.{falls-starts_within, first_and_last-some, key_found}
 use Rattle.lsm_ranges.proofs.RunLemmas.{key_none, key_past, none_count, rest_in_order}
-use Rattle.lsm_readers.specs.Read.{Read}
+use Rattle.lsm_points.proofs.ReadViews.{does_by, gives_by, gives_seen}
+use Rattle.lsm_readers.specs.Read.{DoesRead, Opens, Read}
 use Rattle.lsm_readers.specs.Table.{OpenTable}
-use Rattle.lsm_runs.specs.RunPlaces.{placed_in_run, placed_in_runs}
+use Rattle.lsm_readers.proofs.LentReads.{placed_there}
+use Rattle.lsm_runs.specs.RunPlaces.{IsThere, place_in, placed_in_run, placed_in_runs}
 use Rattle.lsm_runs.specs.declared.lent_gets.RunPlace.{RunPlace}
-use Rattle.lsm_runs.proofs.LentGets.{DoesSome}
 use Rattle.lsm_runs.proofs.RunReads.{found_is}
 
 -- ---- the index of the table whose range has a key
@@ -70,6 +79,40 @@ module _ {T : Type 0} (f : T → Interval) (key : List ℕ) (ts : List T)
       (how_many (starts_within (Included key)) rs))) (sym (map_drop low ts))
       ∙ by_rest (drop low ts) refl
 
+-- ---- what was found in a table of a run
+
+module _ (tables : List OpenTable) (t : OpenTable) (run at : ℕ)
+    (is : slice_get tables at ≡ Some t) where
+  one_there : (p : EntryPlace) → IsPlacedIn t.bytes p
+      → placed_in_run tables (place_in run at p) ≡ Some (entry_placed t.bytes p)
+  one_there p there = ap (option_and_then (λ (u : OpenTable). placed_in u.bytes p)) is
+      ∙ placed_there t.bytes p there
+
+  abbrev AreThere : Result (Option EntryPlace) Error → Type 0
+  AreThere found = IfOk found (λ o. IfSome o (IsPlacedIn t.bytes))
+
+  -- it is the entry of the table's bytes
+  pub seen_there : (found : Result (Option EntryPlace) Error) → AreThere found
+      → told_map (option_and_then (placed_in_run tables))
+      (told_map (option_map (place_in run at)) found)
+      ≡ told_map (option_map (entry_placed t.bytes)) found
+  seen_there (Ok None) there = refl
+  seen_there (Ok (Some p)) there = ap (λ (o : Option Entry). found_is o) (one_there p there)
+  seen_there (Err e) there = refl
+
+  pub all_there : (found : Result (Option EntryPlace) Error) → AreThere found
+      → IfOk (told_map (option_map (place_in run at)) found)
+      (λ o. IfSome o (λ p. is_some (placed_in_run tables p) ≡ true))
+  all_there (Ok None) there = tt
+  all_there (Ok (Some p)) there = ap is_some (one_there p there)
+  all_there (Err e) there = tt
+
+  pub all_numbered : (found : Result (Option EntryPlace) Error)
+      → IfOk (told_map (option_map (place_in run at)) found) (λ o. IfSome o (λ p. p.run ≡ run))
+  all_numbered (Ok None) = tt
+  all_numbered (Ok (Some p)) = refl
+  all_numbered (Err e) = tt
+
 -- ---- an entry in one run is one in several
 
 module _ (runs : List (List OpenTable)) (tables : List OpenTable) (n : ℕ)
@@ -85,7 +128,7 @@ module _ (runs : List (List OpenTable)) (tables : List OpenTable) (n : ℕ)
   found_in_runs (Some p) is = sym (in_runs p is)
 
   -- so of what was found, or the error
-  pub seen_in_runs : (r : Result (Option RunPlace) Error)
+  seen_in_runs : (r : Result (Option RunPlace) Error)
       → IfOk r (λ found. IfSome found (λ p. p.run ≡ n))
       → told_map (option_and_then (placed_in_run tables)) r
       ≡ told_map (option_and_then (placed_in_runs runs)) r
@@ -93,11 +136,39 @@ module _ (runs : List (List OpenTable)) (tables : List OpenTable) (n : ℕ)
   seen_in_runs (Err e) is = refl
 
   pub does_in_runs : (r : Result (Option RunPlace) Error) (read : Read (Option Entry))
-      → IfOk r (λ found. IfSome found (λ p. p.run ≡ n))
-      → DoesSome (told_map (option_and_then (placed_in_run tables)) r) read
-      → DoesSome (told_map (option_and_then (placed_in_runs runs)) r) read
-  does_in_runs r read is does =
-      subst (λ (s : Result (Option Entry) Error). DoesSome s read) (seen_in_runs r is) does
+      (own : Opened) → IfOk r (λ found. IfSome found (λ p. p.run ≡ n))
+      → DoesRead (told_map (option_and_then (placed_in_run tables)) r) read none_opened own
+      → DoesRead (told_map (option_and_then (placed_in_runs runs)) r) read none_opened own
+  does_in_runs r read own is does =
+      subst (λ (s : Result (Option Entry) Error). DoesRead s read none_opened own)
+      (seen_in_runs r is) does
 
-abbrev pub place_is : Option RunPlace → Result (Option RunPlace) Error
-place_is found = Ok found
+  pub there_in_runs : (found : Option RunPlace) → IfSome found (λ p. p.run ≡ n)
+      → IfSome found (λ p. is_some (placed_in_run tables p) ≡ true) → IfSome found (IsThere runs)
+  there_in_runs None is some = tt
+  there_in_runs (Some p) is some = ap is_some (in_runs p is) ∙ some
+
+-- one of two
+pub one_of : {X : Type 0} (P : X → Type 0) (a b c : Option X) → (c ≡ a) ⊎ (c ≡ b) → IfSome a P
+    → IfSome b P → IfSome c P
+one_of P a b c (inl is) here there = subst (λ (o : Option _). IfSome o P) (sym is) here
+one_of P a b c (inr is) here there = subst (λ (o : Option _). IfSome o P) (sym is) there
+
+-- ---- what was found, borrowed
+
+module _ (entry : RunPlace → Option Entry) (found : Result (Option RunPlace) Error)
+    (lent : Result (Option EntryRef) Error)
+    (same : told_map (option_map entry_of_ref) lent ≡ told_map (option_and_then entry) found) where
+  pub lent_gives : (told : Result (Option Entry) Error) → Gives (option_and_then entry) found told
+      → Gives (option_map entry_of_ref) lent told
+  lent_gives told h = gives_seen (option_map entry_of_ref) lent told
+      (subst (λ (r : Result (Option Entry) Error). Gives (λ (x : Option Entry). x) r told)
+      (sym same) (gives_by (option_and_then entry) found told h))
+
+  pub lent_does : (read : Read (Option Entry)) (o o' : Opened)
+      → Gives (option_and_then entry) found read.told → FaultsFirst found read.early
+      → Opens found read.loads o o' → (read.loads ≡ [] → IsOk found)
+      → DoesRead (told_map (option_map entry_of_ref) lent) read o o'
+  lent_does read o o' told first opens calm =
+      subst (λ (r : Result (Option Entry) Error). DoesRead r read o o') (sym same)
+      (does_by (option_and_then entry) found read o o' told first opens calm)

@@ -14,10 +14,13 @@ use Rattle.lsm_walks.specs.Parts.{Loading, Loads, all_results, loads_in, needed,
 use Rattle.lsm_walks.specs.Walks.{Ended, WalkGives, WalkTakes, needed_at, walk_left}
 use Rattle.lsm_walks.proofs.AtEnds.{map_seen, no_items, shortens}
 use Rattle.lsm_walks.proofs.Instances.{loads_one, positive}
-use Rattle.lsm_iters.specs.Range.{Range, range_remains}
+use Rattle.std.specs.Option.{option_map}
+use Rattle.lsm_iters.specs.Range.{LendsOn, Range, range_remains}
+use Rattle.lsm_iters.specs.Steps.{without_lent}
+use Rattle.lsm_iters.proofs.Ranges.{none_on}
 use Rattle.lsm_run_parts.specs.RunParts.{Part, part_loads, part_told}
 use Rattle.lsm_run_parts.specs.Tables.{Unopened}
-use Rattle.lsm_runs.specs.RunRange.{CountsTables, IsRunEnded, RunGives}
+use Rattle.lsm_runs.specs.RunRange.{CountsTables, IsRunEnded, RunGives, lent_of_reader}
 use Rattle.lsm_run_parts.specs.Tables.{parts_loads}
 use Rattle.lsm_runs.specs.RunRange.{left_of_reader, run_left}
 use Rattle.lsm_run_parts.specs.Tables.{run_parts_told}
@@ -116,11 +119,14 @@ module _ {A : Type 0} where
 
   pub run_gives : (at : Direction) (w v : W A) (r : Option R)
       → WalkGives range_remains coming_tables KeepsTables EndsTables at w r v
+      → LendsOn r (lent_of_reader v.front)
       → RunGives (taken_at at) (tables_at at) (run_of w) r (run_of v)
   unfolding counts
-  run_gives at w v None gives =
+  run_gives at w v None gives on =
       let takes = gives.takes in
       let u : W A = gives.taken in
+      let here : LendsOn None (lent_of_reader u.front) =
+      subst (λ (x : W A). LendsOn None (lent_of_reader x.front)) gives.goes on in
       subst (λ (x : W A). RunGives (taken_at at) (tables_at at) (run_of w) None (run_of x))
       (sym gives.goes) (record {
         answer = sym (left_is w) ∙ takes.answer.0;
@@ -128,13 +134,16 @@ module _ {A : Type 0} where
         lowers = over_is u takes.answer.1;
         tables = counts at w u None u.parts takes refl (omega arith);
         exact = λ fine. takes.exact fine ∙ needs_is at w;
+        lent = here;
       })
-  run_gives at w v (Some (Ok e)) gives =
+  run_gives at w v (Some (Ok e)) gives on =
       let takes = gives.takes in
       let u : W A = gives.taken in
       let answer : taken_at at (run_left (run_of w)) ≡ (Some (Ok e), run_left (run_of u)) =
       ap (taken_at at) (sym (left_is w)) ∙ takes.answer
       ∙ ap (λ (rs : List R). (Some (Ok e), rs)) (left_is u) in
+      let here : LendsOn (Some (Ok e)) (lent_of_reader u.front) =
+      subst (λ (x : W A). LendsOn (Some (Ok e)) (lent_of_reader x.front)) gives.goes on in
       subst (λ (x : W A). RunGives (taken_at at) (tables_at at) (run_of w) (Some (Ok e)) (run_of x))
       (sym gives.goes) (record {
         answer = answer;
@@ -147,8 +156,9 @@ module _ {A : Type 0} where
         );
         tables = counts at w u (Some (Ok e)) u.parts takes refl (omega arith);
         exact = λ fine. takes.exact fine ∙ needs_is at w;
+        lent = here;
       })
-  run_gives at w v (Some (Err e)) gives =
+  run_gives at w v (Some (Err e)) gives on =
       let takes = gives.takes in
       let u : W A = gives.taken in
       let ended = ended_is u v gives.goes in
@@ -166,4 +176,65 @@ module _ {A : Type 0} where
             (ap (λ (x : Unopened). x.opened) gives.goes.kept)
             (omega (arith, ap (λ (x : Unopened). length x.parts) gives.goes.kept));
         exact = λ fine. takes.exact fine ∙ needs_is at w;
+        lent = on;
       }
+
+-- ---- behind a step by value nothing is lent
+
+module _ {A : Type 0} where
+  abbrev pub unlent_walk : W A → W A
+  unlent_walk w = record w { front = option_map without_lent w.front }
+
+  takes_unlent : (at : Direction) (w : W A) (r : Option R) (p : Unopened) (f b : Option (Range A))
+      → WalkTakes range_remains coming_tables KeepsTables at w r
+      (record { parts = p; front = f; back = b })
+      → WalkTakes range_remains coming_tables KeepsTables at w r
+      (record { parts = p; front = option_map without_lent f; back = b })
+  takes_unlent at w r p None b takes = takes
+  takes_unlent at w r p (Some s) b takes = record {
+    answer = takes.answer;
+    others = takes.others;
+    named = takes.named;
+    loads = takes.loads;
+    within = takes.within;
+    most = takes.most;
+    some = takes.some;
+    exact = takes.exact;
+    first = takes.first;
+  }
+
+  gives_unlent : (at : Direction) (w v : W A) (r : Option R)
+      → WalkGives range_remains coming_tables KeepsTables EndsTables at w r v
+      → WalkGives range_remains coming_tables KeepsTables EndsTables at w r (unlent_walk v)
+  gives_unlent at w v None gives = record {
+    taken = unlent_walk gives.taken;
+    takes = takes_unlent at w None gives.taken.parts gives.taken.front gives.taken.back gives.takes;
+    goes = ap unlent_walk gives.goes;
+  }
+  gives_unlent at w v (Some (Ok e)) gives = record {
+    taken = unlent_walk gives.taken;
+    takes = takes_unlent at w (Some (Ok e)) gives.taken.parts gives.taken.front gives.taken.back
+        gives.takes;
+    goes = ap unlent_walk gives.goes;
+  }
+  gives_unlent at w v (Some (Err e)) gives = record {
+    taken = gives.taken;
+    takes = gives.takes;
+    goes = record {
+      front = ap (option_map without_lent) gives.goes.front;
+      back = gives.goes.back;
+      done = gives.goes.done;
+      kept = gives.goes.kept;
+    };
+  }
+
+  unlent_on : (r : Option R) (f : Option (Range A))
+      → LendsOn r (lent_of_reader (option_map without_lent f))
+  unlent_on r None = none_on r
+  unlent_on r (Some s) = none_on r
+
+  pub run_gives_unlent : (at : Direction) (w v : W A) (r : Option R)
+      → WalkGives range_remains coming_tables KeepsTables EndsTables at w r v
+      → RunGives (taken_at at) (tables_at at) (run_of w) r (run_of (unlent_walk v))
+  run_gives_unlent at w v r gives =
+      run_gives at w (unlent_walk v) r (gives_unlent at w v r gives) (unlent_on r v.front)

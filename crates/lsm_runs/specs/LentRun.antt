@@ -1,24 +1,19 @@
 -- A reader of a run that lends its entries, from the front.
-use Rattle.std.specs.Prelude.{◌≡◌, ℕ, ◌≤◌, true, List, ◌∷◌, Option, Some, None, Result, Ok, Err}
+use Rattle.std.specs.Prelude.{◌≡◌, true, List, ◌∷◌, Option, Some, None, Result, Ok, Err}
 use Rattle.sst_entries.specs.declared.error.Error.{Error}
-use Rattle.sst_entries.specs.declared.stream.Direction.{Direction}
 use Rattle.sst_entries.specs.declared.stream.Direction.TheVariants.{Front}
 use Rattle.sst_entries.specs.Entry.{Entry}
-use Rattle.sst_entries.specs.Stream.{Runs, front_of, nowhere}
+use Rattle.sst_entries.specs.Stream.{front_of}
 use Rattle.lsm_walks.specs.declared.walk.Walk.{Walk}
 use Rattle.lsm_walks.specs.Ends.{StepGives, remains_in}
 use Rattle.lsm_walks.specs.Parts.{LoadGives}
 use Rattle.lsm_iters.specs.Lift.{lifted_told}
 use Rattle.lsm_iters.specs.Range.{Range, range_remains}
 use Rattle.lsm_run_parts.specs.Tables.{KeepsTables, Unopened, coming_tables, none_unopened}
+pub use Rattle.lsm_runs.specs.RunRange.{lent_of_reader}
 use Rattle.lsm_runs.specs.RunRange.{RunGives, RunRange, front_tables}
 
 -- ---- the reader of one table
-
--- the entry that it lends, where a table is opened
-abbrev pub lent_of_reader : {A : Type 0} → Option (Range A) → Option Entry
-lent_of_reader None = None
-lent_of_reader (Some s) = s.lent
 
 -- what comes next of a table stands in a block that is loaded
 pub record Stands {A : Type 0} (reader : Option (Range A)) (x : Result Entry Error) : Type 0 where
@@ -67,10 +62,3 @@ pub record RunLends {A : Type 0} (s : RunRange A) (r : Option (Result Entry Erro
     (t : RunRange A) : Type 0 where
   pub gives : RunGives front_of front_tables s r t
   pub there : (x : Result Entry Error) → Stands s.front x → r ≡ Some x
-
--- wherever it goes on no more tables were opened than so many
-abbrev pub LendsOfAtMost : {A : Type 0} (advances : RunRange A → Option (Result Entry Error)
-    → RunRange A → Type 0) → ℕ → RunRange A → Type 0
-LendsOfAtMost {A} advances most s =
-    (ends : List Direction) (rs : List (Option (Result Entry Error))) (t : RunRange A) →
-    Runs advances nowhere s ends rs t → t.unopened.opened ≤ most

@@ -1,7 +1,8 @@
 -- Where an entry is stored in the tables of several runs.
-use Rattle.std.specs.Prelude.{List, Option, slice_get}
+use Rattle.std.specs.Prelude.{◌≡◌, ℕ, true, is_some, List, Option, slice_get}
 use Rattle.std.specs.Option.{option_and_then}
 use Rattle.sst_entries.specs.Entry.{Entry}
+use Rattle.sst_blocks.specs.declared.entry_place.EntryPlace.{EntryPlace}
 use Rattle.sst_blocks.specs.EntryPlace.{placed_in}
 use Rattle.lsm_readers.specs.Table.{OpenTable}
 use Rattle.lsm_runs.specs.declared.lent_gets.RunPlace.{RunPlace}
@@ -14,3 +15,11 @@ placed_in_run tables p = option_and_then (λ t. placed_in t.bytes p.place) (slic
 -- the same of several runs
 abbrev pub placed_in_runs : List (List OpenTable) → RunPlace → Option Entry
 placed_in_runs runs p = option_and_then (λ tables. placed_in_run tables p) (slice_get runs p.run)
+
+-- there is an entry
+abbrev pub IsThere : List (List OpenTable) → RunPlace → Type 0
+IsThere runs p = is_some (placed_in_runs runs p) ≡ true
+
+-- a place in a table of a run
+abbrev pub place_in : ℕ → ℕ → EntryPlace → RunPlace
+place_in run table place = record { run = run; table = table; place = place }

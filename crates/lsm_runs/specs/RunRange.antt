@@ -10,7 +10,7 @@ use Rattle.sst_entries.specs.Stream.{Lowers, Runs, answer_stops}
 use Rattle.lsm_walks.specs.Ends.{remains_in}
 use Rattle.lsm_walks.specs.Parts.{none_behind}
 use Rattle.lsm_walks.specs.declared.walk.Walk.{Walk}
-use Rattle.lsm_iters.specs.Range.{Range, range_remains}
+use Rattle.lsm_iters.specs.Range.{LendsOn, Range, range_remains}
 use Rattle.lsm_readers.specs.Table.{OpenTable}
 use Rattle.lsm_run_parts.specs.RunParts.{Part, RunSpan, part_told, span_parts}
 use Rattle.lsm_run_parts.specs.Tables.{Unopened, parts_loads, run_parts_told}
@@ -91,6 +91,11 @@ pub record CountsTables (needed : ℕ) (s t : Unopened) : Type 0 where
   pub within : count + length t.parts ≤ length s.parts
   pub most : count ≤ needed
 
+-- the entry that it lends, where a table is opened
+abbrev pub lent_of_reader : {A : Type 0} → Option (Range A) → Option Entry
+lent_of_reader None = None
+lent_of_reader (Some s) = s.lent
+
 -- one call at an end; an error ends the reader; it opens the tables that it needs, and no more
 -- where it wants memory; each answer but the last `None` brings the end nearer, and once all is
 -- over `None` alone comes
@@ -102,6 +107,7 @@ pub record RunGives {A : Type 0} (end : List (Result Entry Error) → Option (Re
   pub lowers : Lowers r (run_size s) (run_size t)
   pub tables : CountsTables (needed s) s.unopened t.unopened
   pub exact : answer_stops is_memory r ≡ false → tables.count ≡ needed s
+  pub lent : LendsOn r (lent_of_reader t.front)
 
 -- wherever calls lead no more tables were opened than so many
 abbrev pub OpensAtMost : {A : Type 0} (front back : RunRange A → Option (Result Entry Error)

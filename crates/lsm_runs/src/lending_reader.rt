@@ -5,6 +5,7 @@ ghost use Rattle.sst_entries.specs.Lending.{entry_of_ref};
 ghost use Rattle.sst_entries.specs.declared.stream.Direction.TheVariants.{Front};
 ghost use Rattle.sst_entries.specs.declared.error.Error.{Error};
 ghost use Rattle.lsm_iters.specs.Range.{range_remains};
+ghost use Rattle.lsm_iters.specs.Steps.{without_lent};
 ghost use Rattle.lsm_walks.specs.Walks.{WalkTakes};
 ghost use Rattle.lsm_run_parts.specs.Tables.{KeepsTables, coming_tables};
 ghost use Rattle.lsm_runs.specs.Words.{Entry, OpensNext, ReaderLends, Stands, came};
@@ -68,6 +69,16 @@ pub(crate) fn entry_in<A: Allocator + Clone>(part: &Option<Iter<A>>) -> Option<E
     match part {
         Some(part) => part.entry(),
         None => None,
+    }
+}
+
+/// Lends nothing of a table, where one is opened, until it goes on.
+#[inline(always)]
+pub(crate) fn unlend_in<A: Allocator + Clone>(part: &mut Option<Iter<A>>)
+    ensures { part.new ≡ option_map without_lent part.old }
+{
+    if let Some(part) = part {
+        part.unlend();
     }
 }
 

@@ -1,23 +1,22 @@
 //! Point reads of several runs that borrow the entry from its table.
-ghost use Rattle.std.specs.Prelude.{◌≡◌, [], IfOk, IfSome, IsOk, List, None, Ok, Option};
-ghost use Rattle.std.specs.Prelude.{Some, map, slice_get};
+ghost use Rattle.std.specs.Prelude.{◌≡◌, ◌⊎◌, [], IfOk, IfSome, IsOk, List, None, Ok, Option, length};
+ghost use Rattle.std.specs.Prelude.{is_some, map, slice_get, true};
 ghost use Rattle.std.specs.Arc.{arc_value};
 ghost use Rattle.std.specs.List.{AllByRecursion};
 ghost use Rattle.std.specs.Option.{option_and_then, option_map};
 ghost use Rattle.sst_blocks.specs.Asked.{told_map};
-ghost use Rattle.sst_blocks.specs.EntryPlace.{IsPlacedIn, entry_placed, placed_in};
-ghost use Rattle.sst_blocks.specs.declared.opened.Opened.{Opened};
 ghost use Rattle.sst_entries.specs.Lending.{entry_of_ref};
 ghost use Rattle.sst_filters.specs.KeyHash.{hash_of};
-ghost use Rattle.lsm_runs.specs.Words.{DoesRead, Entry, FaultsFirst, Gives, IsInOrder, OpenTable};
+ghost use Rattle.lsm_runs.specs.Words.{DoesRead, Entry, FaultsFirst, Gives, IsInOrder, LoadsEach};
+ghost use Rattle.lsm_runs.specs.Words.{Opens, RunsHoldLists, leading_of, none_opened, point};
+ghost use Rattle.lsm_runs.specs.Words.{range_of, run_read, runs_read, runs_told, union_in};
 ghost use Rattle.lsm_ranges.specs.Run.{table_of_key};
-ghost use Rattle.lsm_runs.specs.RunPlaces.{placed_in_run, placed_in_runs};
-ghost use Rattle.lsm_runs.specs.Words.{RunsHoldLists, leading_of, none_opened, point, range_of};
-ghost use Rattle.lsm_runs.specs.Words.{run_read, runs_read, runs_told, union_in};
+ghost use Rattle.lsm_runs.specs.RunPlaces.{IsThere, place_in, placed_in_run, placed_in_runs};
 
+use crate::runs::together;
 use lsm_ranges::Run;
 use lsm_readers::Table;
-use sst_blocks::{EntryPlace, EntryRef, Error, SeqNo};
+use sst_blocks::{EntryPlace, EntryRef, Error, Opened, SeqNo};
 use std::alloc::Allocator;
 use std::ops::Bound;
 use std::sync::Arc;
@@ -31,86 +30,6 @@ pub struct RunPlace {
     place: EntryPlace,
 }
 
-// Of two entries that may be there the one that is before the other: of one key that with the
-// higher number. The first, where neither is.
-#[tactic(auto, using(crate::proofs::LentGets::same_order))]
-fn leading_ref<'a>(
-    first: Option<EntryRef<'a>>,
-    second: Option<EntryRef<'a>>,
-) -> Option<EntryRef<'a>>
-    ensures { option_map entry_of_ref result
-        ≡ leading_of (option_map entry_of_ref first.entry) (option_map entry_of_ref second.entry) }
-{
-    match (first, second) {
-        (Some(first), Some(second)) => {
-            if second.compare_key(&first).is_lt() {
-                Some(second)
-            } else {
-                Some(first)
-            }
-        }
-        (Some(first), None) => Some(first),
-        (None, second) => second,
-    }
-}
-
-// The first match in the one table of a run whose range has the key, borrowed from that table.
-fn get_run_ref<'a, A: Allocator + Clone>(
-    run: &'a Run<Table<A>, A>,
-    key: &[u8],
-    seqno: SeqNo,
-    key_hash: u64,
-) -> Result<Option<EntryRef<'a>>, Error>
-    requires { key_hash ≡ hash_of key.now }
-    ensures { IsInOrder range_of run.now → (own : Opened) ×
-        DoesRead (told_map (option_map entry_of_ref) result)
-        (run_read key.now seqno run.now) none_opened own }
-{
-    match run.get_for_key(key) {
-        Some(table) => table.get_ref_counted(key, seqno, key_hash).0,
-        None => Ok(None),
-    }
-}
-
-/// The first entry of a key numbered below `seqno`, of what several runs have together, borrowed
-/// from its table: what [`crate::get_runs`] returns, with no reference count taken. In each run it
-/// reads one table at most, the one whose range has the key.
-///
-/// # Errors
-///
-/// The first error of these reads, in the order of the runs. Where no block is loaded, it does not
-/// fail.
-pub fn get_runs_ref<'a, A: Allocator + Clone>(
-    runs: &'a [Arc<Run<Table<A>, A>, A>],
-    key: &[u8],
-    seqno: SeqNo,
-) -> Result<Option<EntryRef<'a>>, Error>
-    // On runs in order it is what the runs' tables tell, whatever their bytes, except for
-    // `OutOfMemory`.
-    ensures told { AllByRecursion (IsInOrder range_of) (map arc_value runs.now) →
-        Gives (option_map entry_of_ref) result
-        (runs_told key.now seqno None (map arc_value runs.now)) }
-    // Of tables of lists it is the first match in the sorted entries of all lists, lifted.
-    ensures list { (lists : List (List (List Entry))) →
-        RunsHoldLists (map arc_value runs.now) lists →
-        Gives (option_map entry_of_ref) result (Ok (point (union_in lists) key.now seqno)) }
-    // A fault that is found before memory is taken, of the first block that is loaded, comes before
-    // `OutOfMemory`,
-    ensures early { AllByRecursion (IsInOrder range_of) (map arc_value runs.now) →
-        FaultsFirst result (runs_read key.now seqno None (map arc_value runs.now)).early }
-    // and where no block is loaded, as where there are no runs, the read does not fail.
-    ensures calm { AllByRecursion (IsInOrder range_of) (map arc_value runs.now) →
-        (runs_read key.now seqno None (map arc_value runs.now)).loads ≡ [] → IsOk result }
-{
-    let mut found = None;
-    let key_hash = Table::<A>::key_hash(key);
-    for run in runs {
-        let next = get_run_ref(run, key, seqno, key_hash)?;
-        found = leading_ref(found, next);
-    }
-    Ok(found)
-}
-
 // The index of the one table of a run whose range has the key.
 #[tactic(auto, using(crate::proofs::RunPlaces::index_of_key))]
 fn index_of_key<A: Allocator + Clone>(run: &Run<Table<A>, A>, key: &[u8]) -> Option<usize>
@@ -121,68 +40,47 @@ fn index_of_key<A: Allocator + Clone>(run: &Run<Table<A>, A>, key: &[u8]) -> Opt
     Some(index)
 }
 
-// Where an entry is in the one table of a run whose range has the key.
-fn in_run<A: Allocator + Clone>(
-    run: &Run<Table<A>, A>,
-    number: usize,
-    key: &[u8],
-    place: EntryPlace,
-) -> Option<RunPlace>
-    ensures there { (t : OpenTable) → IsInOrder range_of run.now →
-        table_of_key range_of key.now run.now ≡ Some t →
-        option_and_then (placed_in_run run.now) result ≡ placed_in t.bytes place }
-    ensures number { IfSome result (λ p. p.run ≡ number) }
-{
-    let table = index_of_key(run, key)?;
-    Some(RunPlace {
-        run: number,
-        table,
-        place,
-    })
-}
-
-// What was found in that table, with where it is in the runs.
-fn found_in_run<A: Allocator + Clone>(
-    run: &Run<Table<A>, A>,
-    number: usize,
-    key: &[u8],
+// What was found in a table of a run, with where that table is.
+fn found_in(
+    run: usize,
+    table: usize,
     found: Result<Option<EntryPlace>, Error>,
 ) -> Result<Option<RunPlace>, Error>
-    ensures there { (t : OpenTable) → IsInOrder range_of run.now →
-        table_of_key range_of key.now run.now ≡ Some t →
-        IfOk found (λ place. IfSome place (IsPlacedIn t.bytes)) →
-        told_map (option_and_then (placed_in_run run.now)) result
-        ≡ told_map (option_map (entry_placed t.bytes)) found }
-    ensures number { IfOk result (λ place. IfSome place (λ p. p.run ≡ number)) }
+    ensures { result ≡ told_map (option_map (place_in run table)) found }
 {
     match found {
-        Ok(Some(place)) => Ok(in_run(run, number, key, place)),
+        Ok(Some(place)) => Ok(Some(RunPlace { run, table, place })),
         Ok(None) => Ok(None),
         Err(error) => Err(error),
     }
 }
 
-// Where the first match is that the one table of a run has whose range has the key.
+// Where the first match is that the one table of a run has whose range has the key, with how many
+// blocks were loaded for it.
 fn place_in_run<A: Allocator + Clone>(
     run: &Run<Table<A>, A>,
     number: usize,
     key: &[u8],
     seqno: SeqNo,
     key_hash: u64,
-) -> Result<Option<RunPlace>, Error>
+) -> (Result<Option<RunPlace>, Error>, Opened)
     requires { key_hash ≡ hash_of key.now }
-    ensures read { IsInOrder range_of run.now → (own : Opened) ×
-        DoesRead (told_map (option_and_then (placed_in_run run.now)) result)
-        (run_read key.now seqno run.now) none_opened own }
-    ensures number { IfOk result (λ place. IfSome place (λ p. p.run ≡ number)) }
+    ensures read { IsInOrder range_of run.now →
+        DoesRead (told_map (option_and_then (placed_in_run run.now)) result.0)
+        (run_read key.now seqno run.now) none_opened result.1 }
+    ensures number { IfOk result.0 (λ found. IfSome found (λ p. p.run ≡ number)) }
+    ensures there { IfOk result.0 (λ found. IfSome found (λ p.
+        is_some (placed_in_run run.now p) ≡ true)) }
+    ensures few { LoadsEach 1 result.1 }
 {
-    match run.get_for_key(key) {
-        Some(table) => {
-            let found = table.get_place(key, seqno, key_hash).0;
-            found_in_run(run, number, key, found)
-        }
-        None => Ok(None),
-    }
+    let Some(index) = index_of_key(run, key) else {
+        return (Ok(None), Opened::none());
+    };
+    let Some(table) = run.as_slice().get(index) else {
+        return (Ok(None), Opened::none());
+    };
+    let (found, opened) = table.get_place(key, seqno, key_hash);
+    (found_in(number, index, found), opened)
 }
 
 /// The entry at a place that [`place_in_runs`] returned for these runs, borrowed from its table.
@@ -221,8 +119,9 @@ fn leading_place<A: Allocator + Clone>(
     first: Option<RunPlace>,
     second: Option<RunPlace>,
 ) -> Option<RunPlace>
-    ensures { let entry = option_and_then (placed_in_runs (map arc_value runs.now)) in
+    ensures leads { let entry = option_and_then (placed_in_runs (map arc_value runs.now)) in
         entry result ≡ leading_of (entry first) (entry second) }
+    ensures one { (result ≡ first) ⊎ (result ≡ second) }
 {
     let Some(before) = found_entry(runs, &first) else {
         return second;
@@ -235,6 +134,54 @@ fn leading_place<A: Allocator + Clone>(
     } else {
         first
     }
+}
+
+/// Where the entry is stored that [`get_runs_ref`] returns, and how many blocks were loaded for it.
+/// Returns what [`place_in_runs`] returns.
+pub fn place_in_runs_counted<A: Allocator + Clone>(
+    runs: &[Arc<Run<Table<A>, A>, A>],
+    key: &[u8],
+    seqno: SeqNo,
+) -> (Result<Option<RunPlace>, Error>, Opened)
+    // On runs in order it is what the runs' tables tell, whatever their bytes, except for
+    // `OutOfMemory`.
+    ensures told { AllByRecursion (IsInOrder range_of) (map arc_value runs.now) →
+        Gives (option_and_then (placed_in_runs (map arc_value runs.now))) result.0
+        (runs_told key.now seqno None (map arc_value runs.now)) }
+    // Of tables of lists it is the first match in the sorted entries of all lists, lifted.
+    ensures list { (lists : List (List (List Entry))) →
+        RunsHoldLists (map arc_value runs.now) lists →
+        Gives (option_and_then (placed_in_runs (map arc_value runs.now))) result.0
+        (Ok (point (union_in lists) key.now seqno)) }
+    // The blocks loaded are those of the reads of the runs' tables, up to the first error.
+    ensures opened { AllByRecursion (IsInOrder range_of) (map arc_value runs.now) →
+        let read = runs_read key.now seqno None (map arc_value runs.now) in
+        Opens result.0 read.loads none_opened result.1 }
+    // A fault that is found before memory is taken, of the first block that is loaded, comes before
+    // `OutOfMemory`,
+    ensures early { AllByRecursion (IsInOrder range_of) (map arc_value runs.now) →
+        FaultsFirst result.0 (runs_read key.now seqno None (map arc_value runs.now)).early }
+    // and where no block is loaded, as where there are no runs, the read does not fail.
+    ensures calm { AllByRecursion (IsInOrder range_of) (map arc_value runs.now) →
+        (runs_read key.now seqno None (map arc_value runs.now)).loads ≡ [] → IsOk result.0 }
+    // Whatever the runs and the tables' bytes, also where it fails: at most one data block, one
+    // index block and one filter block a run;
+    ensures few { LoadsEach (length runs.now) result.1 }
+    // and there is an entry where one was found.
+    ensures there { IfOk result.0 (λ found. IfSome found (IsThere (map arc_value runs.now))) }
+{
+    let mut found = None;
+    let mut opened = Opened::none();
+    let key_hash = Table::<A>::key_hash(key);
+    for (number, run) in runs.iter().enumerate() {
+        let (told, loads) = place_in_run(run, number, key, seqno, key_hash);
+        opened = together(opened, loads);
+        match told {
+            Ok(next) => found = leading_place(runs, found, next),
+            Err(error) => return (Err(error), opened),
+        }
+    }
+    (Ok(found), opened)
 }
 
 /// Where the entry is stored that [`get_runs_ref`] returns. The result borrows nothing:
@@ -265,12 +212,90 @@ pub fn place_in_runs<A: Allocator + Clone>(
     // and where no block is loaded, as where there are no runs, the read does not fail.
     ensures calm { AllByRecursion (IsInOrder range_of) (map arc_value runs.now) →
         (runs_read key.now seqno None (map arc_value runs.now)).loads ≡ [] → IsOk result }
+    // There is an entry where one was found.
+    ensures there { IfOk result (λ found. IfSome found (IsThere (map arc_value runs.now))) }
 {
-    let mut found = None;
-    let key_hash = Table::<A>::key_hash(key);
-    for (number, run) in runs.iter().enumerate() {
-        let next = place_in_run(run, number, key, seqno, key_hash)?;
-        found = leading_place(runs, found, next);
+    place_in_runs_counted(runs, key, seqno).0
+}
+
+// What was found, borrowed.
+fn borrowed<'a, A: Allocator + Clone>(
+    runs: &'a [Arc<Run<Table<A>, A>, A>],
+    found: Result<Option<RunPlace>, Error>,
+) -> Result<Option<EntryRef<'a>>, Error>
+    ensures { told_map (option_map entry_of_ref) result
+        ≡ told_map (option_and_then (placed_in_runs (map arc_value runs.now))) found }
+{
+    match found {
+        Ok(found) => Ok(found_entry(runs, &found)),
+        Err(error) => Err(error),
     }
-    Ok(found)
+}
+
+/// The first entry of a key numbered below `seqno`, of what several runs have together, borrowed
+/// from its table, and how many blocks were loaded for it. Returns what [`get_runs_ref`] returns.
+pub fn get_runs_ref_counted<'a, A: Allocator + Clone>(
+    runs: &'a [Arc<Run<Table<A>, A>, A>],
+    key: &[u8],
+    seqno: SeqNo,
+) -> (Result<Option<EntryRef<'a>>, Error>, Opened)
+    // On runs in order it is what the runs' tables tell, whatever their bytes, except for
+    // `OutOfMemory`.
+    ensures told { AllByRecursion (IsInOrder range_of) (map arc_value runs.now) →
+        Gives (option_map entry_of_ref) result.0
+        (runs_told key.now seqno None (map arc_value runs.now)) }
+    // Of tables of lists it is the first match in the sorted entries of all lists, lifted.
+    ensures list { (lists : List (List (List Entry))) →
+        RunsHoldLists (map arc_value runs.now) lists →
+        Gives (option_map entry_of_ref) result.0 (Ok (point (union_in lists) key.now seqno)) }
+    // The blocks loaded are those of the reads of the runs' tables, up to the first error.
+    ensures opened { AllByRecursion (IsInOrder range_of) (map arc_value runs.now) →
+        let read = runs_read key.now seqno None (map arc_value runs.now) in
+        Opens result.0 read.loads none_opened result.1 }
+    // A fault that is found before memory is taken, of the first block that is loaded, comes before
+    // `OutOfMemory`,
+    ensures early { AllByRecursion (IsInOrder range_of) (map arc_value runs.now) →
+        FaultsFirst result.0 (runs_read key.now seqno None (map arc_value runs.now)).early }
+    // and where no block is loaded, as where there are no runs, the read does not fail.
+    ensures calm { AllByRecursion (IsInOrder range_of) (map arc_value runs.now) →
+        (runs_read key.now seqno None (map arc_value runs.now)).loads ≡ [] → IsOk result.0 }
+    // Whatever the runs and the tables' bytes, also where it fails: at most one data block, one
+    // index block and one filter block a run.
+    ensures few { LoadsEach (length runs.now) result.1 }
+{
+    let (found, opened) = place_in_runs_counted(runs, key, seqno);
+    (borrowed(runs, found), opened)
+}
+
+/// The first entry of a key numbered below `seqno`, of what several runs have together, borrowed
+/// from its table: what [`crate::get_runs`] returns, with no reference count taken. In each run it
+/// reads one table at most, the one whose range has the key.
+///
+/// # Errors
+///
+/// The first error of these reads, in the order of the runs. Where no block is loaded, it does not
+/// fail.
+pub fn get_runs_ref<'a, A: Allocator + Clone>(
+    runs: &'a [Arc<Run<Table<A>, A>, A>],
+    key: &[u8],
+    seqno: SeqNo,
+) -> Result<Option<EntryRef<'a>>, Error>
+    // On runs in order it is what the runs' tables tell, whatever their bytes, except for
+    // `OutOfMemory`.
+    ensures told { AllByRecursion (IsInOrder range_of) (map arc_value runs.now) →
+        Gives (option_map entry_of_ref) result
+        (runs_told key.now seqno None (map arc_value runs.now)) }
+    // Of tables of lists it is the first match in the sorted entries of all lists, lifted.
+    ensures list { (lists : List (List (List Entry))) →
+        RunsHoldLists (map arc_value runs.now) lists →
+        Gives (option_map entry_of_ref) result (Ok (point (union_in lists) key.now seqno)) }
+    // A fault that is found before memory is taken, of the first block that is loaded, comes before
+    // `OutOfMemory`,
+    ensures early { AllByRecursion (IsInOrder range_of) (map arc_value runs.now) →
+        FaultsFirst result (runs_read key.now seqno None (map arc_value runs.now)).early }
+    // and where no block is loaded, as where there are no runs, the read does not fail.
+    ensures calm { AllByRecursion (IsInOrder range_of) (map arc_value runs.now) →
+        (runs_read key.now seqno None (map arc_value runs.now)).loads ≡ [] → IsOk result }
+{
+    get_runs_ref_counted(runs, key, seqno).0
 }

@@ -4,13 +4,13 @@ ghost use Rattle.std.specs.Prelude.{MatchOption, length, map};
 ghost use Rattle.std.specs.Arc.{arc_value};
 ghost use Rattle.std.specs.Iterator.{at_most};
 ghost use Rattle.lsm_runs.specs.Words.{ArePlacesOf, DealsEnding, DealsList, Entry, HoldLists};
-ghost use Rattle.lsm_runs.specs.Words.{IsInOrder, IsRunOf, LendsOfAtMost, OpensAtMost, RunGives};
+ghost use Rattle.lsm_runs.specs.Words.{IsInOrder, IsRunOf, OpensAtMost, RunGives};
 ghost use Rattle.lsm_runs.specs.Words.{RunLends, back_of, back_tables, ends_given, front_of};
-ghost use Rattle.lsm_runs.specs.Words.{front_tables, joined, lent_of_reader, nowhere};
+ghost use Rattle.lsm_runs.specs.Words.{front_tables, joined, lent_of_reader};
 ghost use Rattle.lsm_runs.specs.Words.{overlap_indexes, run_left, run_size, span_list, span_of};
 ghost use Rattle.lsm_runs.specs.Words.{tables_at, taken_at, within};
 
-use crate::lending_reader::{RunWalk, end, entry_in, step};
+use crate::lending_reader::{RunWalk, end, entry_in, step, unlend_in};
 use lsm_ranges::{Ranged, Run};
 use lsm_readers::Table;
 use lsm_run_parts::{Unopened, ends_in, places_within};
@@ -24,7 +24,8 @@ use std::sync::Arc;
 
 /// The entries of the tables of a run, one table behind another, from both ends. It shares the run.
 /// As an iterator it gives entries that share the tables' bytes; as a [`Lending`] it lends them from
-/// where they lie, from the front.
+/// where they lie, from the front. Both go on from where the other stopped; after an entry was given
+/// none is lent.
 ///
 /// A table is opened by the first step that needs it, once, also where both ends meet in it. After
 /// an error, [`Error::OutOfMemory`] among them, nothing more comes, from either end.
@@ -85,28 +86,32 @@ impl<A: Allocator + Clone> RunReader<A> {
             let back_gives = ⟦<RunReader<A> as DoubleEndedIterator>⟧.next_back_gives in
             let tables = arc_value run in
             IfOk result (λ r. IfSome r (OpensAtMost gives back_gives (length tables))) }
-        // Want of memory aside it lends what it gives from the front, up to the first error, and
-        // then nothing;
+        // Except for `OutOfMemory` it lends from the front what it gives there, up to the first
+        // error, also where it is asked from the back in between;
         ensures lends { let advances = ⟦<RunReader<A> as Lending>⟧.advances in
             let may = ⟦<RunReader<A> as Lending>⟧.can_advance in
+            let back_gives = ⟦<RunReader<A> as DoubleEndedIterator>⟧.next_back_gives in
             IfOk result (λ r. IfSome r (λ reader.
-            DealsEnding advances nowhere may may reader (run_left reader))) }
+            DealsEnding advances back_gives may may reader (run_left reader))) }
         // on tables of lists in a run in order just the entries within the bounds,
         ensures lends_list { let advances = ⟦<RunReader<A> as Lending>⟧.advances in
+            let back_gives = ⟦<RunReader<A> as DoubleEndedIterator>⟧.next_back_gives in
             let tables = arc_value run in IsInOrder ⟦<Table<A> as Ranged>⟧.range tables →
             (lists : List (List Entry)) → HoldLists tables lists →
             let found = within range.0 range.1 (joined lists) in
             IfOk result (λ r. MatchOption r (found ≡ [])
-            (λ reader. DealsList advances nowhere found reader)) }
+            (λ reader. DealsList advances back_gives found reader)) }
         // and it opens no more tables for them.
         ensures lends_few { let advances = ⟦<RunReader<A> as Lending>⟧.advances in
+            let back_gives = ⟦<RunReader<A> as DoubleEndedIterator>⟧.next_back_gives in
             let range_of = ⟦<Table<A> as Ranged>⟧.range in
             let tables = arc_value run in IsInOrder range_of tables → (ends : ℕ × ℕ) →
             overlap_indexes range.0 range.1 (map range_of tables) ≡ Some ends → IfOk result (λ r.
-            IfSome r (LendsOfAtMost advances (ends.1 + 1 - ends.0))) }
+            IfSome r (OpensAtMost advances back_gives (ends.1 + 1 - ends.0))) }
         ensures lends_most { let advances = ⟦<RunReader<A> as Lending>⟧.advances in
+            let back_gives = ⟦<RunReader<A> as DoubleEndedIterator>⟧.next_back_gives in
             let tables = arc_value run in
-            IfOk result (λ r. IfSome r (LendsOfAtMost advances (length tables))) }
+            IfOk result (λ r. IfSome r (OpensAtMost advances back_gives (length tables))) }
         ensures ok { IsOk result }
     {
         match places_within(&run, &range) {
@@ -140,22 +145,26 @@ impl<A: Allocator + Clone> RunReader<A> {
             let tables = arc_value run in let ends = ends_given tables span in
             (lists : List (List Entry)) → HoldLists tables lists → IfOk result
             (DealsList gives back_gives (span_list (span_of ends range.0 range.1) lists)) }
-        // It lends the same from the front.
+        // It lends the same from the front, also where it is asked from the back in between.
         ensures lends { let advances = ⟦<RunReader<A> as Lending>⟧.advances in
+            let back_gives = ⟦<RunReader<A> as DoubleEndedIterator>⟧.next_back_gives in
             let may = ⟦<RunReader<A> as Lending>⟧.can_advance in
-            IfOk result (λ reader. DealsEnding advances nowhere may may reader (run_left reader)) }
+            IfOk result (λ reader.
+            DealsEnding advances back_gives may may reader (run_left reader)) }
         ensures lends_list { let advances = ⟦<RunReader<A> as Lending>⟧.advances in
+            let back_gives = ⟦<RunReader<A> as DoubleEndedIterator>⟧.next_back_gives in
             let tables = arc_value run in let ends = ends_given tables span in
             (lists : List (List Entry)) → HoldLists tables lists → IfOk result
-            (DealsList advances nowhere (span_list (span_of ends range.0 range.1) lists)) }
+            (DealsList advances back_gives (span_list (span_of ends range.0 range.1) lists)) }
         // No more tables are opened than the span has.
         ensures few { let gives = ⟦<RunReader<A> as Iterator>⟧.next_gives in
             let back_gives = ⟦<RunReader<A> as DoubleEndedIterator>⟧.next_back_gives in
             let ends = ends_given (arc_value run) span in
             IfOk result (λ reader. OpensAtMost gives back_gives (ends.1 + 1 - ends.0) reader) }
         ensures lends_few { let advances = ⟦<RunReader<A> as Lending>⟧.advances in
+            let back_gives = ⟦<RunReader<A> as DoubleEndedIterator>⟧.next_back_gives in
             let ends = ends_given (arc_value run) span in
-            IfOk result (LendsOfAtMost advances (ends.1 + 1 - ends.0)) }
+            IfOk result (OpensAtMost advances back_gives (ends.1 + 1 - ends.0)) }
         ensures ok { IsOk result }
     {
         let ends = ends_in(run.as_slice(), span);
@@ -188,7 +197,9 @@ impl<A: Allocator + Clone> RunReader<A> {
     fn answer(&mut self, at: Direction) -> Option<IterItem<A>>
         ensures { RunGives (taken_at at) (tables_at at) self.old result self.new }
     {
-        self.walk.step(at)
+        let answer = self.walk.step(at);
+        unlend_in(&mut self.walk.front);
+        answer
     }
 }
 

@@ -10,7 +10,7 @@ ghost use Rattle.lsm_runs.specs.Words.{DealsList, DealsNewest, DoesRead, Entry, 
 ghost use Rattle.lsm_runs.specs.Words.{HoldLists, IsInOrder, IsNewestOf, IsOverSpans};
 ghost use Rattle.lsm_runs.specs.Words.{IsOverSpansBelow, IsRunOf, LoadsEach, Opens};
 ghost use Rattle.lsm_runs.specs.Words.{RunsHoldLists, is_older, joined};
-ghost use Rattle.lsm_runs.specs.Words.{loads_together, newest, none_opened, nowhere};
+ghost use Rattle.lsm_runs.specs.Words.{loads_together, newest, none_opened};
 ghost use Rattle.lsm_runs.specs.Words.{numbered_below};
 ghost use Rattle.lsm_runs.specs.Words.{overlap_indexes, point, range_of, run_read};
 ghost use Rattle.lsm_runs.specs.Words.{run_read_behind, runs_read, runs_read_by_age, runs_told};
@@ -50,10 +50,11 @@ fn reader_of<A: Allocator + Clone>(
         let found = within range.now.0 range.now.1 (joined lists) in IfOk result (λ r.
         MatchOption r (found ≡ []) (λ reader. DealsList gives back_gives found reader)) }
     ensures lends { let advances = ⟦<RunReader<A> as Lending>⟧.advances in
+        let back_gives = ⟦<RunReader<A> as DoubleEndedIterator>⟧.next_back_gives in
         (lists : List (List Entry)) →
         IsInOrder range_of (arc_value run.now) × HoldLists (arc_value run.now) lists →
         let found = within range.now.0 range.now.1 (joined lists) in IfOk result (λ r.
-        MatchOption r (found ≡ []) (λ reader. DealsList advances nowhere found reader)) }
+        MatchOption r (found ≡ []) (λ reader. DealsList advances back_gives found reader)) }
     // Of any tables in a run in order it is that of the span of those whose ranges reach past both
     // bounds.
     ensures span { let tables = arc_value run.now in IsInOrder range_of tables →
@@ -80,9 +81,10 @@ fn readers_of<A: Allocator + Clone>(
         let found = map (λ ls. within range.now.0 range.now.1 (joined ls)) lists in
         IfOk result (λ v. DealTogether gives back_gives v.items found) }
     ensures lends { let advances = ⟦<RunReader<A> as Lending>⟧.advances in
+        let back_gives = ⟦<RunReader<A> as DoubleEndedIterator>⟧.next_back_gives in
         (lists : List (List (List Entry))) → RunsHoldLists (map arc_value runs.now) lists →
         let found = map (λ ls. within range.now.0 range.now.1 (joined ls)) lists in
-        IfOk result (λ v. DealTogether advances nowhere v.items found) }
+        IfOk result (λ v. DealTogether advances back_gives v.items found) }
     // Of any tables in runs in order they are those of the spans.
     ensures spans { AllByRecursion (IsInOrder range_of) (map arc_value runs.now) →
         IfOk result (λ v. AllZip (λ reader span. IsRunOf span.0 span.1 reader) v.items
@@ -110,9 +112,10 @@ pub(crate) fn readers_within<A: Allocator + Clone>(
         let found = map (λ ls. within range.0 range.1 (joined ls)) lists in
         IfOk result (λ v. DealTogether gives back_gives v.items found) }
     ensures lends { let advances = ⟦<RunReader<A> as Lending>⟧.advances in
+        let back_gives = ⟦<RunReader<A> as DoubleEndedIterator>⟧.next_back_gives in
         (lists : List (List (List Entry))) → RunsHoldLists (map arc_value runs.now) lists →
         let found = map (λ ls. within range.0 range.1 (joined ls)) lists in
-        IfOk result (λ v. DealTogether advances nowhere v.items found) }
+        IfOk result (λ v. DealTogether advances back_gives v.items found) }
     ensures spans { AllByRecursion (IsInOrder range_of) (map arc_value runs.now) →
         IfOk result (λ v. AllZip (λ reader span. IsRunOf span.0 span.1 reader) v.items
         (spans_within range.0 range.1 (map arc_value runs.now))) }
@@ -253,8 +256,8 @@ fn get_run_counted<A: Allocator + Clone>(
     }
 }
 
-// The loads of two counts together.
-fn together(first: Opened, second: Opened) -> Opened
+/// The loads of two counts together.
+pub(crate) fn together(first: Opened, second: Opened) -> Opened
     ensures { result ≡ loads_together first second }
 {
     Opened {

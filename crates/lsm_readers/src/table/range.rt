@@ -6,7 +6,7 @@ ghost use Rattle.sst_entries.specs.declared.error.Error.TheVariants.{OutOfMemory
 ghost use Rattle.lsm_readers.specs.Words.{DealsAll, DealsEnding, DealsWithin, Entry, IsOpen};
 ghost use Rattle.lsm_readers.specs.Words.{IsRangeOf, LoadsAtMost, StoresList};
 ghost use Rattle.lsm_readers.specs.Words.{OpenTable, blocks_within, index_read, index_within};
-ghost use Rattle.lsm_readers.specs.Words.{nowhere, range_told, table_index};
+ghost use Rattle.lsm_readers.specs.Words.{range_told, table_index};
 
 use crate::{Inner, Table};
 use lsm_block_indexes::{BlockIndex, BlockIndexImpl};
@@ -29,20 +29,29 @@ impl<A: Allocator + Clone> Table<A> {
             let back_gives = ⟦<Iter<A> as DoubleEndedIterator>⟧.next_back_gives in
             (es : List Entry) → StoresList self.now.bytes es → let g = self.now.global_seqno in
             IfOk result (DealsAll gives back_gives es g) }
-        // From the front it lends the same.
+        // From the front it lends the same, also where it is asked from the back in between.
         ensures lends { let advances = ⟦<Iter<A> as Lending>⟧.advances in
-            let told = range_told self.now Unbounded Unbounded in
-            IfOk result (λ i. DealsEnding advances nowhere (λ _. Unit {0}) (λ _. Unit {0}) i told) }
+            let back_gives = ⟦<Iter<A> as DoubleEndedIterator>⟧.next_back_gives in
+            let told = range_told self.now Unbounded Unbounded in IfOk result (λ i.
+            DealsEnding advances back_gives (λ _. Unit {0}) (λ _. Unit {0}) i told) }
         ensures lends_list { let advances = ⟦<Iter<A> as Lending>⟧.advances in
+            let back_gives = ⟦<Iter<A> as DoubleEndedIterator>⟧.next_back_gives in
             (es : List Entry) → StoresList self.now.bytes es → let g = self.now.global_seqno in
-            IfOk result (DealsAll advances nowhere es g) }
-        // It loads at most all data blocks, and the index blocks that lead to them.
+            IfOk result (DealsAll advances back_gives es g) }
+        // It loads at most all data blocks, and the index blocks that lead to them, also where it
+        // lends.
         ensures few { let gives = ⟦<Iter<A> as Iterator>⟧.next_gives in
             let back_gives = ⟦<Iter<A> as DoubleEndedIterator>⟧.next_back_gives in
             (es : List Entry) (t : StoresList self.now.bytes es) →
             let blocks = blocks_within t Unbounded Unbounded in
             let index = index_within self.now Unbounded Unbounded in
             IfOk result (LoadsAtMost gives back_gives blocks index) }
+        ensures lends_few { let advances = ⟦<Iter<A> as Lending>⟧.advances in
+            let back_gives = ⟦<Iter<A> as DoubleEndedIterator>⟧.next_back_gives in
+            (es : List Entry) (t : StoresList self.now.bytes es) →
+            let blocks = blocks_within t Unbounded Unbounded in
+            let index = index_within self.now Unbounded Unbounded in
+            IfOk result (LoadsAtMost advances back_gives blocks index) }
         ensures err { IfErr result (λ e. e ≡ OutOfMemory) }
     {
         self.range(Bound::Unbounded, Bound::Unbounded)
@@ -71,21 +80,29 @@ impl<A: Allocator + Clone> Table<A> {
             let back_gives = ⟦<Iter<A> as DoubleEndedIterator>⟧.next_back_gives in
             (es : List Entry) → StoresList self.now.bytes es → let g = self.now.global_seqno in
             IfOk result (DealsWithin gives back_gives lower upper es g) }
-        // From the front it lends the same.
+        // From the front it lends the same, also where it is asked from the back in between.
         ensures lends { let advances = ⟦<Iter<A> as Lending>⟧.advances in
-            let told = range_told self.now lower upper in
-            IfOk result (λ i. DealsEnding advances nowhere (λ _. Unit {0}) (λ _. Unit {0}) i told) }
+            let back_gives = ⟦<Iter<A> as DoubleEndedIterator>⟧.next_back_gives in
+            let told = range_told self.now lower upper in IfOk result (λ i.
+            DealsEnding advances back_gives (λ _. Unit {0}) (λ _. Unit {0}) i told) }
         ensures lends_list { let advances = ⟦<Iter<A> as Lending>⟧.advances in
+            let back_gives = ⟦<Iter<A> as DoubleEndedIterator>⟧.next_back_gives in
             (es : List Entry) → StoresList self.now.bytes es → let g = self.now.global_seqno in
-            IfOk result (DealsWithin advances nowhere lower upper es g) }
+            IfOk result (DealsWithin advances back_gives lower upper es g) }
         // It loads at most the data blocks between the bounds, and the index blocks that lead
-        // there.
+        // there, also where it lends.
         ensures few { let gives = ⟦<Iter<A> as Iterator>⟧.next_gives in
             let back_gives = ⟦<Iter<A> as DoubleEndedIterator>⟧.next_back_gives in
             (es : List Entry) (t : StoresList self.now.bytes es) →
             let blocks = blocks_within t lower upper in
             let index = index_within self.now lower upper in
             IfOk result (LoadsAtMost gives back_gives blocks index) }
+        ensures lends_few { let advances = ⟦<Iter<A> as Lending>⟧.advances in
+            let back_gives = ⟦<Iter<A> as DoubleEndedIterator>⟧.next_back_gives in
+            (es : List Entry) (t : StoresList self.now.bytes es) →
+            let blocks = blocks_within t lower upper in
+            let index = index_within self.now lower upper in
+            IfOk result (LoadsAtMost advances back_gives blocks index) }
         ensures err { IfErr result (λ e. e ≡ OutOfMemory) }
     {
         let ((lower, upper), mut iter) = beside((lower, upper), self.unbounded())?;

@@ -3,7 +3,7 @@ use Rattle.std.specs.declared.ops.Bound.{Bound}
 use Rattle.std.specs.declared.ops.Bound.TheVariants.{Unbounded}
 use Rattle.lsm_readers.specs.Ranges.{IsRangeOf}
 use Rattle.lsm_points.proofs.Steps.{beside_first, beside_is}
-use Rattle.lsm_readers.proofs.TableRanges.{list_deals, list_lends, list_loads, table_deals, table_lends}
+use Rattle.lsm_readers.proofs.TableRanges.{list_deals, list_lends, list_lends_few, list_loads, table_deals, table_lends}
 use Rattle.lsm_readers.proofs.table.Table.range.Goals as goal
 
 pub returns-clause-is : goal.returns-clause-is
@@ -40,3 +40,9 @@ returns-clause-lends_list g c es is =
     let arm = c.in_ok-lower in
     let held = beside_is _ _ (c.args.lower, c.args.upper) c.unbounded.result (arm.lower, arm.upper) arm.iter c.unbounded.ensures.open arm.ensures.both in
     list_lends c.args.self.now c.args.lower c.args.upper c.set_upper.new.iter (returns-clause-is g c) held es is
+
+pub returns-clause-lends_few : goal.returns-clause-lends_few
+returns-clause-lends_few g c es is =
+    let arm = c.in_ok-lower in
+    let held = beside_is _ _ (c.args.lower, c.args.upper) c.unbounded.result (arm.lower, arm.upper) arm.iter c.unbounded.ensures.open arm.ensures.both in
+    list_lends_few c.args.self.now c.args.lower c.args.upper c.set_upper.new.iter (returns-clause-is g c) held es is
