@@ -1,0 +1,42 @@
+use Rattle.std.proofs.Common.{refl, subst}
+use Rattle.std.specs.Option.{option_map}
+use Rattle.std.specs.Prelude.{map}
+use Rattle.std.specs.Arc.{arc_value}
+use Rattle.std.specs.Prelude.{None}
+use Rattle.sst_blocks.specs.Opened.{none_opened}
+use Rattle.sst_entries.specs.Lending.{entry_of_ref}
+use Rattle.lsm_points.proofs.ReadViews.{first_seen, ok_seen, opens_seen}
+use Rattle.lsm_runs.specs.RunPlaces.{placed_in_runs}
+use Rattle.lsm_runs.specs.SeveralRuns.{runs_read}
+use Rattle.lsm_runs.proofs.RunPlaces.{lent_does, lent_gives}
+use Rattle.lsm_runs.proofs.lent_gets.get_runs_ref_counted.Goals as goal
+
+pub returns-clause-told : goal.returns-clause-told
+returns-clause-told g c order = lent_gives (placed_in_runs (map arc_value c.args.runs.now)) c.place_in_runs_counted-found.result.0 c.borrowed.result c.borrowed.ensures _ (c.place_in_runs_counted-found.ensures.told order)
+
+pub returns-clause-list : goal.returns-clause-list
+returns-clause-list g c lists held = lent_gives (placed_in_runs (map arc_value c.args.runs.now)) c.place_in_runs_counted-found.result.0 c.borrowed.result c.borrowed.ensures _ (c.place_in_runs_counted-found.ensures.list lists held)
+
+pub returns-clause-early : goal.returns-clause-early
+returns-clause-early g c order =
+    let all = map arc_value c.args.runs.now in
+    let told = c.place_in_runs_counted-found.ensures in
+    let read = runs_read c.args.key.now c.args.seqno None all in
+    let does = lent_does (placed_in_runs all) c.place_in_runs_counted-found.result.0 c.borrowed.result c.borrowed.ensures read none_opened c.place_in_runs_counted-found.result.1 (told.told order) (told.early order) (told.opened order) (told.calm order) in
+    first_seen (option_map entry_of_ref) c.borrowed.result read.early does.early
+
+pub returns-clause-calm : goal.returns-clause-calm
+returns-clause-calm g c order none =
+    let all = map arc_value c.args.runs.now in
+    let told = c.place_in_runs_counted-found.ensures in
+    let read = runs_read c.args.key.now c.args.seqno None all in
+    let does = lent_does (placed_in_runs all) c.place_in_runs_counted-found.result.0 c.borrowed.result c.borrowed.ensures read none_opened c.place_in_runs_counted-found.result.1 (told.told order) (told.early order) (told.opened order) (told.calm order) in
+    ok_seen (option_map entry_of_ref) c.borrowed.result (does.calm none)
+
+pub returns-clause-opened : goal.returns-clause-opened
+returns-clause-opened g c order =
+    let all = map arc_value c.args.runs.now in
+    let told = c.place_in_runs_counted-found.ensures in
+    let read = runs_read c.args.key.now c.args.seqno None all in
+    let does = lent_does (placed_in_runs all) c.place_in_runs_counted-found.result.0 c.borrowed.result c.borrowed.ensures read none_opened c.place_in_runs_counted-found.result.1 (told.told order) (told.early order) (told.opened order) (told.calm order) in
+    opens_seen (option_map entry_of_ref) c.borrowed.result read.loads none_opened c.place_in_runs_counted-found.result.1 does.opens

@@ -1,0 +1,13 @@
+use Rattle.lsm_runs.proofs.lent_gets.place_in_runs.Goals as goal
+
+pub returns-clause-told : goal.returns-clause-told
+returns-clause-told g c order = c.place_in_runs_counted.ensures.told order
+
+pub returns-clause-list : goal.returns-clause-list
+returns-clause-list g c lists held = c.place_in_runs_counted.ensures.list lists held
+
+pub returns-clause-early : goal.returns-clause-early
+returns-clause-early g c order = c.place_in_runs_counted.ensures.early order
+
+pub returns-clause-calm : goal.returns-clause-calm
+returns-clause-calm g c order none = c.place_in_runs_counted.ensures.calm order none
