@@ -148,6 +148,12 @@ module _ (runs : List (List OpenTable)) (tables : List OpenTable) (n : ℕ)
   there_in_runs None is some = tt
   there_in_runs (Some p) is some = ap is_some (in_runs p is) ∙ some
 
+abbrev pub found_place : Option RunPlace → Result (Option RunPlace) Error
+found_place found = Ok found
+
+abbrev pub refused_place : Error → Result (Option RunPlace) Error
+refused_place e = Err e
+
 -- one of two
 pub one_of : {X : Type 0} (P : X → Type 0) (a b c : Option X) → (c ≡ a) ⊎ (c ≡ b) → IfSome a P
     → IfSome b P → IfSome c P

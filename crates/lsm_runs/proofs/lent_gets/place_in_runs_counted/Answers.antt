@@ -6,13 +6,14 @@ use Rattle.std.specs.Arc.{arc_value}
 use Rattle.sst_entries.specs.declared.error.Error.{Error}
 use Rattle.sst_entries.specs.Entry.{Entry}
 use Rattle.sst_entries.specs.Error.{Gives}
-use Rattle.lsm_points.proofs.ReadViews.{first_seen, gives_seen, ok_seen, opens_seen}
+use Rattle.sst_blocks.specs.Opened.{none_opened}
+use Rattle.lsm_points.proofs.ReadViews.{opens_seen}
 use Rattle.lsm_ranges.specs.Run.{IsInOrder}
 use Rattle.lsm_run_parts.specs.RunParts.{range_of}
 use Rattle.lsm_runs.specs.RunPlaces.{IsThere, placed_in_runs}
 use Rattle.lsm_runs.specs.SeveralRuns.{loads_together, run_read, runs_read}
 use Rattle.lsm_runs.proofs.RunLoops.{all_at, mapped_at}
-use Rattle.lsm_runs.proofs.RunPlaces.{does_in_runs, one_of, there_in_runs}
+use Rattle.lsm_runs.proofs.RunPlaces.{does_in_runs, found_place, one_of, refused_place, there_in_runs}
 use Rattle.lsm_runs.proofs.RunPoints.{runs_in_order, runs_point}
 use Rattle.lsm_runs.proofs.RunReads.{all_each, every_run, found_is, more_each, none_each, none_small, reads_all, reads_fault, reads_next, refused_by, together_small}
 use Rattle.lsm_runs.proofs.lent_gets.place_in_runs_counted.Goals as goal
@@ -115,7 +116,7 @@ returns-in-Err-clause-opened g c order =
     let does = rw c.deref.ensures at (told.ensures.read (rw c.deref.ensures own)) in
     let here = rw c.in-Err.is at (does_in_runs all (arc_value run) i at told.result.0 (run_read key n (arc_value run)) told.result.1 told.ensures.number does) in
     let fault = reads_fault arc_value (every_run key n) runs i run less c.index-runs-number.is (option_and_then (placed_in_runs all) c.loop-number.found) c.loop-number.opened told.result.1 before.small (before.reads order) c.in-Err.error here in
-    rw c.together-opened.ensures fault.opens
+    rw c.together-opened.ensures (opens_seen (option_and_then (placed_in_runs all)) (refused_place c.in-Err.error) (runs_read key n None all).loads none_opened (loads_together c.loop-number.opened told.result.1) fault.opens)
 
 pub returns-in-Err-clause-list : goal.returns-in-Err-clause-list
 returns-in-Err-clause-list g c lists held =
@@ -137,7 +138,10 @@ returns-clause-told g c order =
 
 pub returns-clause-opened : goal.returns-clause-opened
 returns-clause-opened g c order =
-    (reads_all arc_value (every_run c.args.key.now c.args.seqno) c.args.runs.now c.loop-number.number (option_and_then (placed_in_runs (map arc_value c.args.runs.now)) c.loop-number.found) c.loop-number.opened (c.loop-number.invariant.reads order) c.loop-number-test.false).opens
+    let all = map arc_value c.args.runs.now in
+    let read = runs_read c.args.key.now c.args.seqno None all in
+    opens_seen (option_and_then (placed_in_runs all)) (found_place c.loop-number.found) read.loads none_opened c.loop-number.opened
+    (reads_all arc_value (every_run c.args.key.now c.args.seqno) c.args.runs.now c.loop-number.number (option_and_then (placed_in_runs all) c.loop-number.found) c.loop-number.opened (c.loop-number.invariant.reads order) c.loop-number-test.false).opens
 
 pub returns-clause-early : goal.returns-clause-early
 returns-clause-early g c order =

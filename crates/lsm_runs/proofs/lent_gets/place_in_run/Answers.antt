@@ -1,0 +1,45 @@
+use Rattle.std.proofs.Common.{◌≡◌, ◌∙◌, ap, length, refl, subst, sym}
+use Rattle.std.proofs.lemmas.Option.{slice_get_read}
+use Rattle.std.specs.Option.{option_and_then, option_map}
+use Rattle.std.specs.Prelude.{List, Option, Result, Some, slice_get}
+use Rattle.sst_entries.specs.declared.error.Error.{Error}
+use Rattle.sst_entries.specs.Entry.{Entry}
+use Rattle.sst_blocks.specs.Asked.{told_map}
+use Rattle.sst_blocks.specs.EntryPlace.{entry_placed}
+use Rattle.sst_blocks.specs.Opened.{none_opened}
+use Rattle.lsm_points.proofs.ReadViews.{does_by}
+use Rattle.lsm_readers.specs.Answer.{table_answer}
+use Rattle.lsm_readers.specs.Read.{DoesRead}
+use Rattle.lsm_readers.specs.Table.{OpenTable}
+use Rattle.lsm_runs.specs.RunPlaces.{place_in, placed_in_run}
+use Rattle.lsm_runs.specs.SeveralRuns.{run_read, table_read}
+use Rattle.lsm_runs.proofs.RunPlaces.{all_there, seen_there}
+use Rattle.lsm_runs.proofs.RunReads.{few_each}
+use Rattle.lsm_runs.proofs.lent_gets.place_in_run.Goals as goal
+
+table-there : (g : _) (c : goal.After-found_in g) → slice_get c.args.run.now c.in-Some.index ≡ Some c.in-Some-get.table.now
+table-there g c =
+    subst (λ (ts : List OpenTable). slice_get ts c.in-Some.index ≡ Some c.in-Some-get.table.now) c.as_slice.ensures
+    (slice_get_read c.as_slice.result.now (length c.as_slice.result.now) c.in-Some.index c.in-Some-get.table.now refl c.in-Some-get.ensures.lookup.3.0 c.in-Some-get.ensures.lookup.1)
+
+pub returns-clause-read : goal.returns-clause-read
+returns-clause-read g c order =
+    let t = c.in-Some-get.table.now in
+    let key = c.args.key.now in
+    let n = c.args.seqno in
+    let told = c.get_place-found.ensures in
+    let found = c.get_place-found.result.0 in
+    let own = c.get_place-found.result.1 in
+    let is = table-there g c in
+    let here = sym is ∙ c.in-Some.ensures order in
+    let does = does_by (option_map (entry_placed t.bytes)) found (table_answer t key n) none_opened own told.told told.early told.opened told.calm in
+    let seen = ap (told_map (option_and_then (placed_in_run c.args.run.now))) c.found_in.ensures ∙ seen_there c.args.run.now t c.args.number c.in-Some.index is found told.placed in
+    subst (λ (r : Result (Option Entry) Error). DoesRead r (run_read key n c.args.run.now) none_opened own) (sym seen)
+    (subst (λ (o : Option OpenTable). DoesRead (told_map (option_map (entry_placed t.bytes)) found) (table_read key n o) none_opened own) here does)
+
+pub returns-clause-there : goal.returns-clause-there
+returns-clause-there g c =
+    rw c.found_in.ensures (all_there c.args.run.now c.in-Some-get.table.now c.args.number c.in-Some.index (table-there g c) c.get_place-found.result.0 c.get_place-found.ensures.placed)
+
+pub returns-clause-few : goal.returns-clause-few
+returns-clause-few g c = few_each _ c.get_place-found.result.1 c.get_place-found.ensures.few
