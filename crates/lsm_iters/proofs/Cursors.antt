@@ -1,14 +1,13 @@
 -- A loaded block as a part of a walk.
-use Rattle.std.proofs.Common.{◌≡◌, ◌∙◌, ℕ, ◌+◌, true, false, List, [], ◌∷◌, refl, sym, ap, subst, arith}
+use Rattle.std.proofs.Common.{◌≡◌, ◌∙◌, ℕ, true, false, List, [], refl, sym, ap, subst, arith}
 use Rattle.std.specs.Prelude.{Option, Some, None, Result, Ok, Err, IfErr, IfOk, is_some}
 use Rattle.std.specs.Option.{option_map}
 use Rattle.sst_blocks.specs.Cursor.{Cursor}
 use Rattle.sst_entries.specs.declared.error.Error.{Error}
 use Rattle.sst_entries.specs.declared.error.Error.TheVariants.{OutOfMemory}
 use Rattle.sst_entries.specs.declared.stream.Direction.{Direction}
-use Rattle.sst_entries.specs.declared.stream.Direction.TheVariants.{Front}
 use Rattle.sst_entries.specs.Entry.{Entry}
-use Rattle.sst_entries.specs.Stream.{but_first, front_of, ok_results}
+use Rattle.sst_entries.specs.Stream.{ok_results}
 use Rattle.lsm_walks.specs.Ends.{StepAnswers, StepGives, remains_in, taken_at}
 use Rattle.lsm_walks.specs.Parts.{early_behind, none_behind, own_of}
 use Rattle.lsm_walks.proofs.AtEnds.{behind_map, early_map, map_none, map_taken, none_at}
@@ -107,28 +106,29 @@ pub part_early : (o : Option Cursor) (f : Option Error)
 part_early None f = refl
 part_early (Some c) f = early_map (λ (x : Entry). Ok x) _ f
 
-lent_answer : (o p : Option Cursor) (l : Option Entry)
-    → ◌≡◌ {A = Option Entry × List Entry} (l, behind_in p) (front_of (behind_in o))
-    → StepAnswers Front (remains_in cursor_remains o) (given l) (remains_in cursor_remains p)
-lent_answer o p None is =
-    let none : behind_in o ≡ [] = none_taken Front (behind_in o)
+lent_answer : (at : Direction) (o p : Option Cursor) (l : Option Entry)
+    → ◌≡◌ {A = Option Entry × List Entry} (l, behind_in p) (taken_at at (behind_in o))
+    → StepAnswers at (remains_in cursor_remains o) (given l) (remains_in cursor_remains p)
+lent_answer at o p None is =
+    let none : behind_in o ≡ [] = none_taken at (behind_in o)
     (sym (ap (λ (x : Option Entry × List Entry). x.0) is)) in (
       part_results o ∙ ap ok_results none,
       record {
         results = part_results p ∙ ap ok_results
-            (ap (λ (x : Option Entry × List Entry). x.1) is ∙ ap but_first none);
+            (ap (λ (x : Option Entry × List Entry). x.1) is
+            ∙ ap (λ (xs : List Entry). (taken_at at xs).1) none ∙ nothing_behind at);
         loads = no_part_loads p;
       },
     )
-lent_answer o p (Some e) is =
-    ap (taken_at Front) (part_results o)
-    ∙ map_taken (λ (y : Entry). Ok y) Front (behind_in o) (behind_in p) e (sym is)
+lent_answer at o p (Some e) is =
+    ap (taken_at at) (part_results o)
+    ∙ map_taken (λ (y : Entry). Ok y) at (behind_in o) (behind_in p) e (sym is)
     ∙ ap (λ (rs : List R). (Some (Ok e), rs)) (sym (part_results p))
 
-pub lent_step : (o p : Option Cursor) (l : Option Entry)
-    → ◌≡◌ {A = Option Entry × List Entry} (l, behind_in p) (front_of (behind_in o))
-    → StepGives Front (remains_in cursor_remains o) (given l) (remains_in cursor_remains p)
-lent_step o p l is = record {
-  answer = lent_answer o p l is;
+pub lent_step : (at : Direction) (o p : Option Cursor) (l : Option Entry)
+    → ◌≡◌ {A = Option Entry × List Entry} (l, behind_in p) (taken_at at (behind_in o))
+    → StepGives at (remains_in cursor_remains o) (given l) (remains_in cursor_remains p)
+lent_step at o p l is = record {
+  answer = lent_answer at o p l is;
   loads = omega (arith, no_part_loads o, no_part_loads p);
 }

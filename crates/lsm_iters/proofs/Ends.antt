@@ -3,7 +3,10 @@ use Rattle.std.proofs.Common.{◌≡◌, Bool, true, false, suc, List, [], ◌�
 use Rattle.std.proofs.Common.{◌∙◌, arith, if◌then◌else◌}
 use Rattle.std.proofs.lemmas.List.{length-append}
 use Rattle.std.specs.Prelude.{Option, Some}
+use Rattle.sst_entries.specs.declared.stream.Direction.{Direction}
+use Rattle.sst_entries.specs.declared.stream.Direction.TheVariants.{Front, Back}
 use Rattle.sst_entries.specs.Stream.{front_of, back_of}
+use Rattle.lsm_walks.specs.Ends.{taken_at}
 use Rattle.lsm_walks.proofs.AtEnds.{first_split, last_split}
 
 module _ {X : Type 0} where
@@ -43,3 +46,7 @@ module _ {X : Type 0} where
     length-append ys
         (x ∷ []),
   )
+
+  pub shortens_at : (at : Direction) → Shortens (taken_at at)
+  shortens_at Front = front_shortens
+  shortens_at Back = back_shortens

@@ -1,5 +1,5 @@
 -- What a range that lends deals, and how far off its end is.
-use Rattle.std.specs.Prelude.{Option, Some, None, Ok, Err}
+use Rattle.std.specs.Prelude.{Option, Some, None}
 use Rattle.sst_entries.specs.Stream.{Lowers, back_of, front_of}
 use Rattle.lsm_block_indexes.specs.Dealt.{DealsEnding}
 use Rattle.lsm_block_indexes.proofs.Dealing.{Ending, deals_ending}

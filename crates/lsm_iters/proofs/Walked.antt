@@ -22,22 +22,21 @@ use Rattle.lsm_walks.specs.Ends.{IsOver as IsWalkOver, Remains, StepAnswers, rem
 use Rattle.lsm_walks.specs.Ends.{taken_at}
 use Rattle.lsm_walks.specs.Parts.{Loading, Loads, all_results, early_among, loads_in, needed}
 use Rattle.lsm_walks.specs.Parts.{results_of}
-use Rattle.lsm_walks.specs.Walks.{Ended, WalkTakes, early_at, near, needed_at, walk_left}
+use Rattle.lsm_walks.specs.Walks.{WalkTakes, early_at, near, needed_at, walk_left}
 use Rattle.lsm_walks.proofs.Instances.{loads_one}
 use Rattle.lsm_walks.proofs.AtEnds.{early_map, behind_map, map_first, map_none, map_seen, map_taken}
 use Rattle.lsm_walks.proofs.AtEnds.{none_at}
 use Rattle.lsm_walks.proofs.Reaching.{all_over}
-use Rattle.lsm_iters.specs.Blocks.{Blocks, EndsBlocks, KeepsBlocks, block_named, coming_blocks}
-use Rattle.lsm_iters.specs.Blocks.{range_of_walk, stored_in, stored_rows}
+use Rattle.lsm_iters.specs.Blocks.{Blocks, KeepsBlocks, block_named, coming_blocks}
+use Rattle.lsm_iters.specs.Blocks.{range_lending, stored_in, stored_rows}
 use Rattle.lsm_iters.specs.Bounds.{lower_edge, upper_edge}
-use Rattle.lsm_iters.specs.Lending.{behind_in, cursor_remains, lent_in}
+use Rattle.lsm_iters.specs.Lending.{behind_in, cursor_remains}
 use Rattle.lsm_iters.specs.Lift.{lift_told, lifted_told}
 use Rattle.lsm_iters.specs.Range.{LendsOn, Range, RangeGives, blocks_early, blocks_needed}
 use Rattle.lsm_iters.specs.Range.{data_loaded}
 use Rattle.lsm_iters.specs.Range.{left_in, next_at}
 use Rattle.lsm_iters.specs.Rows.{Bounded, block_rows, handle_rows, rows, rows_in}
 use Rattle.lsm_iters.specs.Steps.{LoadsNone, SeeksOnce, lifted_answer, over, stopped}
-use Rattle.lsm_iters.specs.Steps.{all_over as all_over_handles}
 use Rattle.lsm_iters.proofs.Cursors.{no_part_loads, part_behind, part_early}
 use Rattle.lsm_iters.proofs.Ranges.{From, H, IsOver, Moves, R, Reached, back_starts, coming}
 use Rattle.lsm_iters.proofs.Ranges.{data_more, front_starts, gives_all, left_rows, refused}
@@ -161,19 +160,15 @@ fine_before g None fine = refl
 fine_before g (Some (Ok e)) fine = refl
 fine_before g (Some (Err e)) fine = fine
 
-module _ {A : Type 0} where
+module _ {A : Type 0} (k : Option Entry) where
   abbrev left_of_walk : W A → Remains Entry
   left_of_walk w = walk_left cursor_remains coming_blocks w
 
   abbrev handles_in : W A → List H
   handles_in w = (left_in w.parts.handles).results
 
-  -- the range of a walk, by what it lends
-  abbrev pub lending : W A → Option Entry → Range A
-  lending w l = record (range_of_walk w) { lent = l }
-
   told_left : (w : W A) → map (told w.parts.of.global_seqno) (left_of_walk w).results
-      ≡ left_rows (range_of_walk w)
+      ≡ left_rows (range_lending w k)
   told_left w =
       let b : Bounded = w.parts.of in
       let f = told b.global_seqno in
@@ -190,18 +185,18 @@ module _ {A : Type 0} where
 
   near_behind : (at : Direction) (w : W A) (n : ℕ)
       → none_behind (remains_in cursor_remains (near at w)).results n
-      ≡ none_behind (next_at at (range_of_walk w)).entries n
+      ≡ none_behind (next_at at (range_lending w k)).entries n
   near_behind Front w n = part_behind w.front n
   near_behind Back w n = part_behind w.back n
 
   near_early : (at : Direction) (w : W A) (f : Option Error)
       → early_behind (remains_in cursor_remains (near at w)).results f
-      ≡ early_behind (next_at at (range_of_walk w)).entries f
+      ≡ early_behind (next_at at (range_lending w k)).entries f
   near_early Front w f = part_early w.front f
   near_early Back w f = part_early w.back f
 
   allowed : (at : Direction) (w : W A) → needed_at cursor_remains coming_blocks at w
-      ≡ none_behind (next_at at (range_of_walk w)).entries
+      ≡ none_behind (next_at at (range_lending w k)).entries
       (blocks_needed w.parts.of (seen_from at (handles_in w)))
   allowed at w =
       let xs : List R = (remains_in cursor_remains (near at w)).results in
@@ -212,7 +207,7 @@ module _ {A : Type 0} where
       ∙ near_behind at w (blocks_needed b (seen_from at (handles_in w)))
 
   early_allowed : (at : Direction) (w : W A) → early_at cursor_remains coming_blocks at w
-      ≡ early_behind (next_at at (range_of_walk w)).entries
+      ≡ early_behind (next_at at (range_lending w k)).entries
       (blocks_early w.parts.of (seen_from at (handles_in w)))
   early_allowed at w =
       let xs : List R = (remains_in cursor_remains (near at w)).results in
@@ -225,8 +220,8 @@ module _ {A : Type 0} where
   moves : (at : Direction) (w v : W A) (r : Option R) (l : Option Entry)
       → w.parts.handles.sought ≡ true
       → WalkTakes cursor_remains coming_blocks KeepsBlocks at w r v
-      → Moves (none_behind (next_at at (range_of_walk w)).entries
-      (blocks_needed w.parts.of (seen_from at (handles_in w)))) (range_of_walk w) (lending v l)
+      → Moves (none_behind (next_at at (range_lending w k)).entries
+      (blocks_needed w.parts.of (seen_from at (handles_in w)))) (range_lending w k) (range_lending v l)
   moves at w v r l sought takes =
       let m = moved takes.named w.parts v.parts sought takes.loads in
       record {
@@ -247,7 +242,7 @@ module _ {A : Type 0} where
       }
 
   over_range : (at : Direction) (v : W A) (l : Option Entry) → IsWalkOver (left_of_walk v)
-      → IsOver (lending v l)
+      → IsOver (range_lending v l)
   over_range at v l over =
       let parts = (all_over cursor_remains coming_blocks at v over).done in
       record {
@@ -259,7 +254,7 @@ module _ {A : Type 0} where
         };
       }
 
-  over_walk : (w : W A) → IsOver (range_of_walk w) → IsWalkOver (left_of_walk w)
+  over_walk : (w : W A) → IsOver (range_lending w k) → IsWalkOver (left_of_walk w)
   over_walk w over = record {
     results = map_none (told w.parts.of.global_seqno) (left_of_walk w).results
         (told_left w ∙ over.rows);
@@ -283,17 +278,17 @@ module _ {A : Type 0} where
 
   from_walk : (at : Direction) (w v : W A) (r : Option R) (l : Option Entry)
       → StepAnswers at (left_of_walk w) r (left_of_walk v) → v.parts.of ≡ w.parts.of
-      → From (taken_at at) (range_of_walk w) (lifted_answer w.parts.of.global_seqno r) (lending v l)
+      → From (taken_at at) (range_lending w k) (lifted_answer w.parts.of.global_seqno r) (range_lending v l)
   from_walk at w v None l gives same = (
     sym (told_left w) ∙ ap (map (told w.parts.of.global_seqno)) gives.0,
     over_range at v l gives.1,
   )
   from_walk at w v (Some (Ok e)) l gives same =
       let g : ℕ = w.parts.of.global_seqno in
-      let rest : map (told g) (left_of_walk v).results ≡ left_rows (range_of_walk v) =
+      let rest : map (told g) (left_of_walk v).results ≡ left_rows (range_lending v k) =
       ap (λ (b : Bounded). map (told b.global_seqno) (left_of_walk v).results) (sym same)
       ∙ told_left v in
-      from_item at (range_of_walk w) (lending v l) (lifted_told g e)
+      from_item at (range_lending w k) (range_lending v l) (lifted_told g e)
       (ap (taken_at at) (sym (told_left w))
       ∙ map_taken (told g) at (left_of_walk w).results (left_of_walk v).results (Ok e) gives
       ∙ ap (λ (rs : List R). (Some (lifted_told g e), rs)) rest)
@@ -313,19 +308,19 @@ module _ {A : Type 0} where
   starts_at Back s t is none sought seeks = back_starts s t is none sought seeks
 
   pub walked : (at : Direction) (s : Range A) (w v : W A) (r : Option R) (l : Option Entry)
-      → Reached (next_at at (range_of_walk w)).entries (seen_from at (handles_in w)) (next_at at s)
+      → Reached (next_at at (range_lending w k)).entries (seen_from at (handles_in w)) (next_at at s)
       s
-      (range_of_walk w) → w.parts.handles.sought ≡ true
+      (range_lending w k) → w.parts.handles.sought ≡ true
       → WalkTakes cursor_remains coming_blocks KeepsBlocks at w r v
       → LendsOn (lifted_answer w.parts.of.global_seqno r)
-      (stopped (lifted_answer w.parts.of.global_seqno r) (lending v l)).lent
+      (stopped (lifted_answer w.parts.of.global_seqno r) (range_lending v l)).lent
       → RangeGives (taken_at at) (next_at at) s (lifted_answer w.parts.of.global_seqno r)
-      (stopped (lifted_answer w.parts.of.global_seqno r) (lending v l))
+      (stopped (lifted_answer w.parts.of.global_seqno r) (range_lending v l))
   unfolding moves
   walked at s w v r l reached sought takes on =
       let g : ℕ = w.parts.of.global_seqno in
-      gives_all (taken_at at) (next_at at) (next_at at (range_of_walk w)).entries
-      (seen_from at (handles_in w)) s (range_of_walk w) (lending v l) (lifted_answer g r)
+      gives_all (taken_at at) (next_at at) (next_at at (range_lending w k)).entries
+      (seen_from at (handles_in w)) s (range_lending w k) (range_lending v l) (lifted_answer g r)
       reached
       (moves at w v r l sought takes)
       (λ fine. takes.exact (fine_before g r fine) ∙ allowed at w)
@@ -343,11 +338,11 @@ module _ {A : Type 0} where
       → p ≡ record w.parts { handles = p.handles }
       → LoadsNone (left_in w.parts.handles) (left_in p.handles) → p.handles.sought ≡ true
       → e ≡ OutOfMemory → w.parts.handles.sought ≡ false
-      → RangeGives (taken_at at) (next_at at) (range_of_walk w) (Some (Err e))
-      (over (range_of_walk (with_parts w p)))
+      → RangeGives (taken_at at) (next_at at) (range_lending w k) (Some (Err e))
+      (over (range_lending (with_parts w p) k))
   walk_refused at w p e is none sought memory once =
-      refused (range_of_walk w) (range_of_walk (with_parts w p))
-      (ap (λ (q : Blocks A). range_of_walk (with_parts w q)) is) none sought (taken_at at)
+      refused (range_lending w k) (range_lending (with_parts w p) k)
+      (ap (λ (q : Blocks A). range_lending (with_parts w q) k) is) none sought (taken_at at)
       (next_at at) e memory once
 
   -- what is lent of the range after it is the entry that it gave, or nothing
@@ -356,28 +351,16 @@ module _ {A : Type 0} where
       → LoadsNone (left_in w.parts.handles) (left_in p.handles) → p.handles.sought ≡ true
       → SeeksOnce w.parts.handles p.handles (lower_edge w.parts.of.low) (upper_edge w.parts.of.high)
       → WalkTakes cursor_remains coming_blocks KeepsBlocks at (with_parts w p) r v
-      → q ≡ lifted_answer v.parts.of.global_seqno r → LendsOn q (stopped q (lending v l)).lent
-      → RangeGives (taken_at at) (next_at at) (range_of_walk w) q (stopped q (lending v l))
+      → q ≡ lifted_answer v.parts.of.global_seqno r → LendsOn q (stopped q (range_lending v l)).lent
+      → RangeGives (taken_at at) (next_at at) (range_lending w k) q (stopped q (range_lending v l))
   walk_steps at w p v r q l is none sought seeks takes lifted on =
       let u : W A = with_parts w p in
-      let reached = starts_at at (range_of_walk w) (range_of_walk u)
-      (ap (λ (b : Blocks A). range_of_walk (with_parts w b)) is) none sought seeks in
+      let reached = starts_at at (range_lending w k) (range_lending u k)
+      (ap (λ (b : Blocks A). range_lending (with_parts w b) k) is) none sought seeks in
       let same : q ≡ lifted_answer p.of.global_seqno r =
       lifted ∙ ap (λ (b : Bounded). lifted_answer b.global_seqno r)
       (moved takes.named p v.parts sought takes.loads).of in
-      subst (λ (x : Option R). RangeGives (taken_at at) (next_at at) (range_of_walk w) x
-      (stopped x (lending v l))) (sym same)
-      (walked at (range_of_walk w) u v r l reached sought takes
-      (subst (λ (x : Option R). LendsOn x (stopped x (lending v l)).lent) same on))
-
-  pub walk_over : (w v : W A) → Ended coming_blocks EndsBlocks w v → range_of_walk v ≡ over
-      (range_of_walk w)
-  walk_over w v ended =
-      ap (λ (p : Blocks A). range_of_walk (with_parts v p)) ended.kept
-      ∙ ap (λ (o : Option Cursor). range_of_walk (record (with_parts v ended_parts) { front = o }))
-      ended.front
-      ∙ ap (λ (o : Option Cursor). record (over (range_of_walk w)) { back = behind_in o })
-      ended.back
-    where
-      ended_parts : Blocks A
-      ended_parts = record w.parts { handles = all_over_handles w.parts.handles }
+      subst (λ (x : Option R). RangeGives (taken_at at) (next_at at) (range_lending w k) x
+      (stopped x (range_lending v l))) (sym same)
+      (walked at (range_lending w k) u v r l reached sought takes
+      (subst (λ (x : Option R). LendsOn x (stopped x (range_lending v l)).lent) same on))

@@ -7,12 +7,14 @@ use Rattle.sst_blocks.specs.Cursor.{Cursor}
 use Rattle.sst_blocks.specs.Handle.{Handle}
 use Rattle.std.specs.Option.{option_map}
 use Rattle.sst_entries.specs.declared.error.Error.{Error}
+use Rattle.sst_entries.specs.declared.stream.Direction.{Direction}
 use Rattle.sst_entries.specs.Entry.{Entry}
 use Rattle.sst_entries.specs.Point.{within}
 use Rattle.sst_entries.specs.Stream.{ok_results}
 use Rattle.lsm_block_indexes.specs.Left.{CountsLoads}
 use Rattle.lsm_walks.specs.declared.walk.Walk.{Walk}
 use Rattle.lsm_walks.specs.Parts.{Coming, Loading, loads_in}
+use Rattle.lsm_walks.specs.Walks.{near}
 use Rattle.lsm_iters.specs.Range.{Handles, Range, data_loaded, left_in}
 use Rattle.lsm_iters.specs.Rows.{Bounded}
 use Rattle.lsm_iters.specs.Lending.{behind_in, lent_in}
@@ -63,13 +65,25 @@ pub record KeepsBlocks {A : Type 0} (s : Blocks A) (named : Option (Result (Load
 abbrev pub EndsBlocks : {A : Type 0} → Blocks A → Blocks A → Type 0
 EndsBlocks s t = t ≡ record s { handles = all_over s.handles }
 
--- a walk over them is a range; only the block at the front lends
-abbrev pub range_of_walk : {A : Type 0} → Walk (Blocks A) Cursor → Range A
-range_of_walk w = record {
+-- a walk over them is a range, by the entry that it lends
+abbrev pub range_lending : {A : Type 0} → Walk (Blocks A) Cursor → Option Entry → Range A
+range_lending w lent = record {
   of = w.parts.of;
   handles = w.parts.handles;
   front = behind_in w.front;
   back = behind_in w.back;
   opened = w.parts.opened;
-  lent = option_map (lifted w.parts.of.global_seqno) (lent_in w.front);
+  lent = lent;
 }
+
+-- that of the block at an end, its number lifted
+abbrev pub lent_at : {A : Type 0} → Direction → Walk (Blocks A) Cursor → Option Entry
+lent_at at w = option_map (lifted w.parts.of.global_seqno) (lent_in (near at w))
+
+-- the range that an end of a walk lends of
+abbrev pub range_at : {A : Type 0} → Direction → Walk (Blocks A) Cursor → Range A
+range_at at w = range_lending w (lent_at at w)
+
+-- a walk with the blocks that are loaded at its ends swapped
+abbrev pub swapped : {A : Type 0} → Walk (Blocks A) Cursor → Walk (Blocks A) Cursor
+swapped w = record { parts = w.parts; front = w.back; back = w.front }

@@ -1,12 +1,14 @@
--- A range of a table that lends its entries, from the front.
-use Rattle.std.specs.Prelude.{◌≡◌, true, List, [], ◌∷◌, Option, Some, None, Result}
+-- A range of a table that lends its entries, from both ends.
+use Rattle.std.specs.Prelude.{◌≡◌, true, List, [], Option, Some, None, Result}
 use Rattle.sst_blocks.specs.Cursor.{Cursor}
 use Rattle.sst_entries.specs.declared.error.Error.{Error}
 use Rattle.sst_entries.specs.Entry.{Entry}
-use Rattle.sst_entries.specs.Stream.{front_of, ok_results}
-use Rattle.lsm_walks.specs.Ends.{Remains}
+use Rattle.sst_entries.specs.declared.stream.Direction.{Direction}
+use Rattle.sst_entries.specs.declared.stream.Direction.TheVariants.{Front}
+use Rattle.sst_entries.specs.Stream.{ok_results}
+use Rattle.lsm_walks.specs.Ends.{Remains, taken_at}
 use Rattle.lsm_iters.specs.Lift.{lifted_told}
-use Rattle.lsm_iters.specs.Range.{Range, RangeGives, front_next}
+use Rattle.lsm_iters.specs.Range.{Range, RangeGives, next_at}
 
 -- ---- a loaded block
 
@@ -23,16 +25,21 @@ abbrev pub behind_in : Option Cursor → List Entry
 behind_in None = []
 behind_in (Some c) = c.behind
 
--- one step of it: the first of what is left is lent, and the others are left
-abbrev pub LendsFirst : Option Cursor → Option Cursor → Type 0
-LendsFirst s t = (lent_in t, behind_in t) ≡ front_of (behind_in s)
+-- one step of it at an end: what stands there is lent, and the others are left
+abbrev pub LendsAt : Direction → Option Cursor → Option Cursor → Type 0
+LendsAt at s t = (lent_in t, behind_in t) ≡ taken_at at (behind_in s)
 
 -- ---- the range
 
--- one step: as one call at the front of the range; and once the edges were sought, of a block that
--- is loaded the first entry comes, or its fault, whatever memory there is
-pub record RangeLends {A : Type 0} (s : Range A) (r : Option (Result Entry Error)) (t : Range A)
-    : Type 0 where
-  pub gives : RangeGives front_of front_next s r t
-  pub there : s.handles.sought ≡ true → (e : Entry) (es : List Entry)
-      → s.front ≡ e ∷ es → r ≡ Some (lifted_told s.of.global_seqno e)
+-- one step at an end: as one call there; and once the edges were sought, the next entry of the
+-- block that is loaded there comes, or its fault, whatever memory there is
+pub record RangeLendsAt {A : Type 0} (at : Direction) (s : Range A)
+    (r : Option (Result Entry Error)) (t : Range A) : Type 0 where
+  pub gives : RangeGives (taken_at at) (next_at at) s r t
+  pub there : s.handles.sought ≡ true → (e : Entry)
+      → (taken_at at (next_at at s).entries).0 ≡ Some e
+      → r ≡ Some (lifted_told s.of.global_seqno e)
+
+-- at the front
+abbrev pub RangeLends : {A : Type 0} → Range A → Option (Result Entry Error) → Range A → Type 0
+RangeLends s r t = RangeLendsAt Front s r t

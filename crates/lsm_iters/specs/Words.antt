@@ -22,7 +22,8 @@ pub use Rattle.lsm_iters.specs.Steps.{LoadsNone, SeeksOnce, all_over, lifted_ans
 pub use Rattle.lsm_iters.specs.Steps.{without_lent}
 pub use Rattle.lsm_walks.specs.Ends.{taken_at}
 pub use Rattle.sst_blocks.specs.Cursor.{Cursor, advanced, cursor_of, unlent}
-pub use Rattle.lsm_walks.specs.Walks.{WalkTakes}
-pub use Rattle.lsm_iters.specs.Blocks.{EndsBlocks, KeepsBlocks, coming_blocks, range_of_walk}
-pub use Rattle.lsm_iters.specs.Blocks.{stored_rows}
-pub use Rattle.lsm_iters.specs.Lending.{LendsFirst, RangeLends, behind_in, cursor_remains, lent_in}
+pub use Rattle.lsm_walks.specs.Walks.{WalkTakes, far, near, with_near}
+pub use Rattle.lsm_iters.specs.Blocks.{EndsBlocks, KeepsBlocks, coming_blocks, lent_at, range_at}
+pub use Rattle.lsm_iters.specs.Blocks.{range_lending, stored_rows, swapped}
+pub use Rattle.lsm_iters.specs.Lending.{LendsAt, RangeLends, RangeLendsAt, behind_in}
+pub use Rattle.lsm_iters.specs.Lending.{cursor_remains, lent_in}

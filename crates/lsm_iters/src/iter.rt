@@ -2,16 +2,17 @@
 ghost use Rattle.std.specs.Prelude.{◌≡◌, ◌↔◌, None, Some, IfOk, IfErr, false, is_some, true};
 ghost use Rattle.std.specs.Iterator.{at_most};
 ghost use Rattle.sst_entries.specs.declared.error.Error.TheVariants.{OutOfMemory};
-ghost use Rattle.lsm_iters.specs.Words.{DealsEnding, IsSought, RangeGives, RangeLends, back_next};
-ghost use Rattle.lsm_iters.specs.Words.{back_of, body_of, edge_of, front_next, front_of, new_range};
-ghost use Rattle.lsm_iters.specs.Words.{opened_in, range_left, range_remains, range_size, stopped};
-ghost use Rattle.lsm_iters.specs.Words.{with_sought, without_lent};
+ghost use Rattle.sst_entries.specs.declared.stream.Direction.TheVariants.{Back};
+ghost use Rattle.lsm_iters.specs.Words.{DealsEnding, IsSought, RangeGives, RangeLends, RangeLendsAt};
+ghost use Rattle.lsm_iters.specs.Words.{back_next, back_of, body_of, came, edge_of, front_next};
+ghost use Rattle.lsm_iters.specs.Words.{front_of, new_range, next_at, opened_in, range_left};
+ghost use Rattle.lsm_iters.specs.Words.{range_remains, range_size, taken_at, with_sought};
+ghost use Rattle.lsm_iters.specs.Words.{without_lent};
 
 use crate::Bound;
 use crate::blocks::Blocks;
-use crate::cut::lift_answer;
 use crate::handles::Handles;
-use crate::lending::{RangeWalk, end, entry_in, next_entry, share_in, unlend_in};
+use crate::lending::{RangeWalk, end, entry_in, near, next_entry, share_in, unlend_in};
 use crate::pairs::beside;
 use lsm_block_indexes::BlockIndexIterImpl;
 use lsm_walks::{Ends, Walk};
@@ -25,11 +26,11 @@ use std::marker::Model;
 /// The entries of a table that lie within two bounds, from both ends, their numbers with the global
 /// number added. It owns what it reads: a share of the table's bytes.
 ///
-/// As an iterator it gives entries that share the table's bytes. As a [`Lending`] it lends them from
-/// where they lie, from the front, without taking memory: the next entry of the block that is
-/// loaded at the front comes whatever memory there is. Both go on from where the other stopped. An
-/// entry is lent until the next call at either end; after [`Iterator::next`] the entry that it gave
-/// is lent, and after [`DoubleEndedIterator::next_back`] none.
+/// As an iterator it gives entries that share the table's bytes. It also lends them from where they
+/// lie, without taking memory, from the front ([`Lending::advance`]) and from the back
+/// ([`Iter::advance_back`]): the next entry of the block that is loaded at that end comes whatever
+/// memory there is. All go on from where the others stopped. An entry is lent until the next call at
+/// either end. After a call by value the entry that it gave is lent.
 ///
 /// A data block is loaded where a step first needs it, once, and the index is sought by the first
 /// step. Where a block cannot be loaded its fault comes in the place of its entries, and
@@ -39,20 +40,23 @@ use std::marker::Model;
 #[derive(Drop)]
 pub struct Iter<A: Allocator = Global> {
     walk: RangeWalk<A>,
+    // The end that lends.
+    end: Direction,
 }
 
 impl<A: Allocator> Model for Iter<A> {
     ghost use Rattle.std.specs.Prelude.{◌+◌, ◌<◌, ◌^◌, MatchOption};
     ghost use Rattle.lsm_iters.specs.Range.{Range};
-    ghost use Rattle.lsm_iters.specs.Blocks.{range_of_walk};
+    ghost use Rattle.lsm_iters.specs.Blocks.{range_at};
     ghost use Rattle.lsm_iters.specs.Lending.{lent_in};
+    ghost use Rattle.lsm_walks.specs.Walks.{near};
 
     ghost Value = { Range A };
 
-    ghost view = { λ i. range_of_walk i.walk };
+    ghost view = { λ i. range_at i.end i.walk };
 
     // The number of the entry that is lent fits once it is lifted.
-    ghost invariant = { λ i. MatchOption (lent_in i.walk.front) (Unit {0})
+    ghost invariant = { λ i. MatchOption (lent_in (near i.end i.walk)) (Unit {0})
         (λ e. e.seqno + i.walk.parts.of.global_seqno < 2 ^ 64) };
 }
 
@@ -103,6 +107,7 @@ impl<A: Allocator + Clone> Iter<A> {
         };
         Ok(Iter {
             walk: Walk::new(blocks),
+            end: Direction::Front,
         })
     }
 
@@ -137,11 +142,46 @@ impl<A: Allocator + Clone> Iter<A> {
         self.walk.parts.all_opened()
     }
 
-    /// Lends nothing until the next [`Lending::advance`].
+    /// Goes on to the next entry at the back and lends it, and returns whether there is one. It is
+    /// to the back what [`Lending::advance`] is to the front.
+    ///
+    /// # Errors
+    ///
+    /// Those of [`Lending::advance`].
+    #[inline]
+    pub fn advance_back(&mut self) -> Result<bool, Error>
+        ensures goes { RangeLendsAt Back self.old (came result self.new.lent) self.new }
+        ensures more { IfOk result (λ more. more ≡ is_some self.new.lent) }
+        ensures none { IfErr result (λ _. self.new.lent ≡ None) }
+    {
+        self.go_on(Direction::Back)
+    }
+
+    /// Lends nothing until the next call.
     pub fn unlend(&mut self)
         ensures { self.new ≡ without_lent self.old }
     {
-        unlend_in(&mut self.walk.front);
+        match self.end {
+            Direction::Front => unlend_in(&mut self.walk.front),
+            Direction::Back => unlend_in(&mut self.walk.back),
+        }
+    }
+
+    /// Goes on to the next entry at an end, and returns whether there is one.
+    #[inline(always)]
+    fn go_on(&mut self, at: Direction) -> Result<bool, Error>
+        ensures goes { RangeLendsAt at self.old (came result self.new.lent) self.new }
+        ensures more { IfOk result (λ more. more ≡ is_some self.new.lent) }
+        ensures none { IfErr result (λ _. self.new.lent ≡ None) }
+    {
+        self.end = at;
+        match next_entry(&mut self.walk, at) {
+            Ok(more) => Ok(more),
+            Err(error) => {
+                end(&mut self.walk);
+                Err(error)
+            }
+        }
     }
 
     /// The entry that is lent, whose key and value share the table's bytes. Refused
@@ -152,17 +192,17 @@ impl<A: Allocator + Clone> Iter<A> {
         ensures found { IfOk result (λ e. self.now.lent ≡ Some e) }
         ensures err { IfErr result (λ e. e ≡ OutOfMemory) }
     {
-        let mut item = share_in(&self.walk.front)?;
+        let mut item = share_in(near(&self.walk, self.end))?;
         item.key.seqno += self.walk.parts.global_seqno;
         Ok(item)
     }
 
-    /// The answer at the front.
+    /// The answer at an end.
     #[inline(always)]
-    fn answer_front(&mut self) -> Option<IterItem<A>>
-        ensures { RangeGives front_of front_next self.old result self.new }
+    fn answer(&mut self, at: Direction) -> Option<IterItem<A>>
+        ensures { RangeGives (taken_at at) (next_at at) self.old result self.new }
     {
-        match self.advance() {
+        match self.go_on(at) {
             Ok(true) => match self.share() {
                 Ok(item) => Some(Ok(item)),
                 Err(refusal) => {
@@ -172,34 +212,6 @@ impl<A: Allocator + Clone> Iter<A> {
             },
             Ok(false) => None,
             Err(error) => Some(Err(error)),
-        }
-    }
-
-    /// The answer at the back; an error does not end the iterator yet. Nothing is lent then.
-    #[inline(always)]
-    fn take_back(&mut self) -> Option<IterItem<A>>
-        ensures { RangeGives back_of back_next self.old result (stopped result self.new) }
-    {
-        if let Err(refusal) = self.walk.parts.initialize() {
-            return Some(Err(refusal));
-        }
-        let answer = self.walk.take(Direction::Back);
-        unlend_in(&mut self.walk.front);
-        lift_answer(answer, self.walk.parts.global_seqno)
-    }
-
-    /// The answer at the back.
-    #[inline(always)]
-    fn answer_back(&mut self) -> Option<IterItem<A>>
-        ensures { RangeGives back_of back_next self.old result self.new }
-    {
-        match self.take_back() {
-            Some(Ok(item)) => Some(Ok(item)),
-            Some(Err(error)) => {
-                end(&mut self.walk);
-                Some(Err(error))
-            }
-            None => None,
         }
     }
 }
@@ -214,7 +226,7 @@ impl<A: Allocator + Clone> Iterator for Iter<A> {
     ghost remaining = { λ s. at_most (range_size s) };
 
     fn next(&mut self) -> Option<IterItem<A>> {
-        self.answer_front()
+        self.answer(Direction::Front)
     }
 }
 
@@ -224,7 +236,7 @@ impl<A: Allocator + Clone> DoubleEndedIterator for Iter<A> {
     ghost next_back_gives = { RangeGives back_of back_next };
 
     fn next_back(&mut self) -> Option<IterItem<A>> {
-        self.answer_back()
+        self.answer(Direction::Back)
     }
 }
 
@@ -239,19 +251,13 @@ impl<A: Allocator + Clone> Lending for Iter<A> {
 
     #[inline]
     fn advance(&mut self) -> Result<bool, Error> {
-        match next_entry(&mut self.walk) {
-            Ok(more) => Ok(more),
-            Err(error) => {
-                end(&mut self.walk);
-                Err(error)
-            }
-        }
+        self.go_on(Direction::Front)
     }
 
     // Always inlined, as all that it calls: a merger asks for it at each comparison.
     #[inline(always)]
     fn entry(&self) -> Option<EntryRef<'_>> {
-        match entry_in(&self.walk.front) {
+        match entry_in(near(&self.walk, self.end)) {
             None => None,
             Some(entry) => Some(EntryRef {
                 seqno: entry.seqno + self.walk.parts.global_seqno,
@@ -268,9 +274,6 @@ impl<A: Allocator + Clone> Ends for Iter<A> {
 
     #[inline(always)]
     fn step(&mut self, at: Direction) -> Option<IterItem<A>> {
-        match at {
-            Direction::Front => self.answer_front(),
-            Direction::Back => self.answer_back(),
-        }
+        self.answer(at)
     }
 }

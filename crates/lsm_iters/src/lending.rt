@@ -1,14 +1,14 @@
-//! One step of a range of a table that lends its entries, from the front.
-ghost use Rattle.std.specs.Prelude.{◌≡◌, ◌∷◌, ◌+◌, ◌<◌, ◌^◌, Ok, Err, IfErr, IfOk, List};
-ghost use Rattle.std.specs.Prelude.{MatchOption, None, Some, is_some, true};
+//! One step of a range of a table that lends its entries, at either end.
+ghost use Rattle.std.specs.Prelude.{◌≡◌, ◌+◌, ◌<◌, ◌^◌, Ok, Err, IfErr, IfOk, MatchOption, None};
+ghost use Rattle.std.specs.Prelude.{Option, Some, is_some, true};
 ghost use Rattle.std.specs.Option.{option_map};
 ghost use Rattle.sst_entries.specs.Entry.{Entry};
 ghost use Rattle.sst_entries.specs.Lending.{entry_of_ref};
 ghost use Rattle.sst_entries.specs.declared.error.Error.TheVariants.{OutOfMemory};
-ghost use Rattle.sst_entries.specs.declared.stream.Direction.TheVariants.{Front};
-ghost use Rattle.lsm_iters.specs.Words.{KeepsBlocks, LendsFirst, RangeLends, WalkTakes, behind_in};
-ghost use Rattle.lsm_iters.specs.Words.{came, coming_blocks, cursor_remains, lent_in};
-ghost use Rattle.lsm_iters.specs.Words.{lifted_answer, over, range_of_walk};
+ghost use Rattle.lsm_iters.specs.Words.{KeepsBlocks, LendsAt, RangeLendsAt, WalkTakes, behind_in};
+ghost use Rattle.lsm_iters.specs.Words.{came, coming_blocks, cursor_remains, far, lent_at, lent_in};
+ghost use Rattle.lsm_iters.specs.Words.{lifted_answer, near, over, range_at};
+ghost use Rattle.lsm_iters.specs.Words.{range_lending, swapped, taken_at, with_near};
 
 use crate::block_cursor::BlockCursor;
 use crate::blocks::Blocks;
@@ -22,23 +22,51 @@ use std::mem;
 /// The data blocks of a table that hold a range.
 pub(crate) type RangeWalk<A> = Walk<Blocks<A>, BlockCursor<A>>;
 
-// Goes on to the next entry of a block, where one is loaded, and answers whether there is one.
-#[inline]
-fn advance_in<A: Allocator>(part: &mut Option<BlockCursor<A>>) -> bool
-    ensures first { LendsFirst part.old part.new }
+// Moves to the entry at an end of a block, where one is loaded, and returns whether there is one.
+#[inline(always)]
+fn move_in<A: Allocator>(part: &mut Option<BlockCursor<A>>, at: Direction) -> bool
+    ensures moved { LendsAt at part.old part.new }
     ensures more { result ≡ is_some (lent_in part.new) }
 {
     match part {
-        Some(part) => part.move_to(Direction::Front),
+        Some(part) => part.move_to(at),
         None => false,
     }
 }
 
-// Lets a block go for the next one.
-fn put<A: Allocator>(part: &mut Option<BlockCursor<A>>, next: BlockCursor<A>)
-    ensures { part.new ≡ Some next }
+// Moves to the next entry of the block that is loaded at an end, and returns whether there is one.
+#[inline(always)]
+fn move_near<A: Allocator>(walk: &mut RangeWalk<A>, at: Direction) -> bool
+    ensures is { walk.new ≡ with_near at walk.old (near at walk.new) }
+    ensures moved { LendsAt at (near at walk.old) (near at walk.new) }
+    ensures more { result ≡ is_some (lent_in (near at walk.new)) }
 {
-    drop(mem::replace(part, Some(next)));
+    match at {
+        Direction::Front => move_in(&mut walk.front, at),
+        Direction::Back => move_in(&mut walk.back, at),
+    }
+}
+
+// Puts a block that was loaded at an end, and lets go the one that was there.
+#[inline(always)]
+fn put<A: Allocator>(walk: &mut RangeWalk<A>, part: BlockCursor<A>, at: Direction)
+    ensures { walk.new ≡ with_near at walk.old (Some part) }
+{
+    match at {
+        Direction::Front => drop(mem::replace(&mut walk.front, Some(part))),
+        Direction::Back => drop(mem::replace(&mut walk.back, Some(part))),
+    }
+}
+
+// Moves to the next entry of the block at the other end, where no other is left, and returns whether
+// there is one. The block comes to this end, since an end lends of its own block alone.
+fn move_far<A: Allocator>(walk: &mut RangeWalk<A>, at: Direction) -> bool
+    ensures is { walk.new ≡ with_near at (swapped walk.old) (near at walk.new) }
+    ensures moved { LendsAt at (far at walk.old) (near at walk.new) }
+    ensures more { result ≡ is_some (lent_in (near at walk.new)) }
+{
+    mem::swap(&mut walk.front, &mut walk.back);
+    move_near(walk, at)
 }
 
 /// The entry that is lent of a block, where one is loaded, as it is stored.
@@ -76,50 +104,50 @@ pub(crate) fn unlend_in<A: Allocator>(part: &mut Option<BlockCursor<A>>)
     }
 }
 
-// Goes on to the next entry of the block at the back, where no other is left, and answers whether
-// there is one. The block comes to the front, so that only what stands there ever lends.
-fn advance_last<A: Allocator>(walk: &mut RangeWalk<A>) -> bool
-    ensures is { walk.new ≡ record walk.old { front = walk.new.front; back = walk.old.front } }
-    ensures first { LendsFirst walk.old.back walk.new.front }
-    ensures more { result ≡ is_some (lent_in walk.new.front) }
-{
-    mem::swap(&mut walk.front, &mut walk.back);
-    advance_in(&mut walk.front)
-}
-
-// Goes on to the next entry, as it is stored, and answers whether there is one. A block is let go
-// where the next is loaded, and with it the entry that was lent of it.
-#[inline]
-fn step<A: Allocator + Clone>(walk: &mut RangeWalk<A>) -> Result<bool, Error>
-    ensures takes { WalkTakes cursor_remains coming_blocks KeepsBlocks Front walk.old
-        (came result (lent_in walk.new.front)) walk.new }
-    ensures there { (e : Entry) (es : List Entry) → behind_in walk.old.front ≡ e ∷ es →
-        came result (lent_in walk.new.front) ≡ Some (Ok e) }
+// Goes on to the next entry at an end, as it is stored, and returns whether there is one. A block is
+// let go where the next is loaded, and with it the entry that was lent of it.
+#[inline(always)]
+fn step<A: Allocator + Clone>(walk: &mut RangeWalk<A>, at: Direction) -> Result<bool, Error>
+    ensures takes { WalkTakes cursor_remains coming_blocks KeepsBlocks at walk.old
+        (came result (lent_in (near at walk.new))) walk.new }
+    ensures there { (e : Entry) → (taken_at at (behind_in (near at walk.old))).0 ≡ Some e →
+        came result (lent_in (near at walk.new)) ≡ Some (Ok e) }
 {
     loop {
-        if advance_in(&mut walk.front) {
+        if move_near(walk, at) {
             return Ok(true);
         }
-        match walk.parts.load(Direction::Front) {
-            Some(Ok(part)) => put(&mut walk.front, part),
+        match walk.parts.load(at) {
+            Some(Ok(part)) => put(walk, part, at),
             Some(Err(error)) => return Err(error),
-            None => return Ok(advance_last(walk)),
+            None => return Ok(move_far(walk, at)),
         }
     }
 }
 
-// Whether an entry is lent. Refused [`Error::SeqNoOverflow`] where its number passes `u64` with the
-// global number added.
-#[inline]
-fn lends<A: Allocator>(walk: &RangeWalk<A>) -> Result<bool, Error>
-    ensures lifted { let stored = option_map (λ e. Ok e) (lent_in walk.now.front) in
-        came result (range_of_walk walk.now).lent
+/// The block that is loaded at an end.
+#[inline(always)]
+pub(crate) fn near<A: Allocator>(walk: &RangeWalk<A>, at: Direction) -> &Option<BlockCursor<A>>
+    ensures { result.now ≡ near at walk.now }
+{
+    match at {
+        Direction::Front => &walk.front,
+        Direction::Back => &walk.back,
+    }
+}
+
+// Whether an entry is lent of the block at an end. Fails with [`Error::SeqNoOverflow`] where its
+// number passes `u64` with the global number added.
+#[inline(always)]
+fn lends<A: Allocator>(walk: &RangeWalk<A>, at: Direction) -> Result<bool, Error>
+    ensures lifted { let stored = option_map (λ e. Ok e) (lent_in (near at walk.now)) in
+        came result (lent_at at walk.now)
         ≡ lifted_answer walk.now.parts.of.global_seqno stored }
-    ensures more { IfOk result (λ more. more ≡ is_some (range_of_walk walk.now).lent) }
-    ensures fits { IfOk result (λ _. MatchOption (lent_in walk.now.front) (Unit {0})
+    ensures more { IfOk result (λ more. more ≡ is_some (lent_at at walk.now)) }
+    ensures fits { IfOk result (λ _. MatchOption (lent_in (near at walk.now)) (Unit {0})
         (λ e. e.seqno + walk.now.parts.of.global_seqno < 2 ^ 64)) }
 {
-    match entry_in(&walk.front) {
+    match entry_in(near(walk, at)) {
         None => Ok(false),
         Some(entry) => match lift_seqno(entry.seqno, walk.parts.global_seqno) {
             Ok(_) => Ok(true),
@@ -128,30 +156,35 @@ fn lends<A: Allocator>(walk: &RangeWalk<A>) -> Result<bool, Error>
     }
 }
 
-/// Goes on to the next entry, and answers whether there is one; an error does not end the walk yet.
-#[inline]
-pub(crate) fn next_entry<A: Allocator + Clone>(walk: &mut RangeWalk<A>) -> Result<bool, Error>
-    ensures ok { IfOk result (λ _. RangeLends (range_of_walk walk.old)
-        (came result (range_of_walk walk.new).lent) (range_of_walk walk.new)) }
-    ensures more { IfOk result (λ more. more ≡ is_some (range_of_walk walk.new).lent) }
-    ensures fits { IfOk result (λ _. MatchOption (lent_in walk.new.front) (Unit {0})
+/// Goes on to the next entry at an end, and returns whether there is one; an error does not end the
+/// walk yet.
+#[inline(always)]
+pub(crate) fn next_entry<A: Allocator + Clone>(
+    walk: &mut RangeWalk<A>,
+    at: Direction,
+) -> Result<bool, Error>
+    ensures ok { (l : Option Entry) → IfOk result (λ _. RangeLendsAt at
+        (range_lending walk.old l) (came result (lent_at at walk.new))
+        (range_at at walk.new)) }
+    ensures more { IfOk result (λ more. more ≡ is_some (lent_at at walk.new)) }
+    ensures fits { IfOk result (λ _. MatchOption (lent_in (near at walk.new)) (Unit {0})
         (λ e. e.seqno + walk.new.parts.of.global_seqno < 2 ^ 64)) }
-    ensures err { IfErr result (λ e. RangeLends (range_of_walk walk.old) (Some (Err e))
-        (over (range_of_walk walk.new))) }
+    ensures err { (l : Option Entry) → IfErr result (λ e. RangeLendsAt at
+        (range_lending walk.old l) (Some (Err e)) (over (range_at at walk.new))) }
 {
     if let Err(refusal) = walk.parts.initialize() {
         return Err(refusal);
     }
-    match step(walk) {
-        Ok(_) => lends(walk),
-        Err(error) => Err(error),
+    if let Err(error) = step(walk, at) {
+        return Err(error);
     }
+    lends(walk, at)
 }
 
 /// Lets go what is lent and what is left.
 pub(crate) fn end<A: Allocator + Clone>(walk: &mut RangeWalk<A>)
-    ensures over { range_of_walk walk.new ≡ over (range_of_walk walk.old) }
-    ensures none { lent_in walk.new.front ≡ None }
+    ensures over { (at : Direction) → range_at at walk.new ≡ over (range_at at walk.old) }
+    ensures none { (at : Direction) → lent_in (near at walk.new) ≡ None }
 {
     walk.parts.end();
     walk.front = None;

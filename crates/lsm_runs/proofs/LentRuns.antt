@@ -6,6 +6,7 @@ use Rattle.sst_entries.specs.declared.error.Error.{Error}
 use Rattle.sst_entries.specs.declared.stream.Direction.TheVariants.{Front}
 use Rattle.sst_entries.specs.Entry.{Entry}
 use Rattle.sst_entries.specs.Lending.{came}
+use Rattle.sst_entries.specs.Stream.{first}
 use Rattle.lsm_walks.specs.declared.walk.Walk.{Walk}
 use Rattle.lsm_walks.specs.Ends.{IsOver, remains_in}
 use Rattle.lsm_walks.specs.Parts.{LoadGives}
@@ -45,7 +46,7 @@ module _ {A : Type 0} where
   stands_there s r t step x stands =
       let same : s ≡ stands.range = let is : Some s ≡ Some stands.range = stands.is in cc in
       step.there (ap (λ (u : Range A). u.handles.sought) same ∙ stands.sought) stands.entry
-      stands.others (ap (λ (u : Range A). u.front) same ∙ stands.front)
+      (ap (λ (u : Range A). first u.front) same ∙ ap first stands.front)
       ∙ ap (λ (u : Range A). Some (lifted_told u.of.global_seqno stands.entry)) same
       ∙ ap (λ (y : R). Some y) (sym stands.told)
 
@@ -160,9 +161,9 @@ module _ {A : Type 0} where
           → ReaderLends u.back (came r (lent_of_reader b)) b
           → Lends s (came r (lent_of_reader b)) (record { parts = p; front = b; back = o })
       lends_rest p b r loads last = record {
-        takes = takes_moved (range_remains {A = A}) coming_tables KeepsTables s
+        takes = takes_moved (range_remains {A = A}) coming_tables KeepsTables Front s
             (record { parts = p; front = o; back = b }) over_front.results
-            (none_to_come (range_remains {A = A}) coming_tables KeepsTables u.parts p loads)
+            (none_to_come (range_remains {A = A}) coming_tables KeepsTables Front u.parts p loads)
             (came r (lent_of_reader b))
             (rest (range_remains {A = A}) coming_tables KeepsTables Front s
             (with_front u o) (record u { parts = p; front = o })

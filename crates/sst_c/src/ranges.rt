@@ -227,7 +227,20 @@ fn step_front(iter: &mut Iter) -> u32
     }
 }
 
-// A step of a range of a table. An entry from the back has a share of the table's memory.
+// A step of a range of a table from the back, after which the range borrows the entry.
+#[tactic(auto, using(crate::proofs::Ranging::range_steps_back))]
+fn step_back(iter: &mut Iter) -> u32
+    ensures steps { let gives = ⟦<Iter<Global> as DoubleEndedIterator>⟧.next_back_gives in
+        StepsBy gives iter.old result iter.new.lent iter.new }
+    ensures fine { is_some iter.new.lent ≡ true → result ≡ 0 }
+{
+    match iter.advance_back() {
+        Ok(_) => 0,
+        Err(error) => u32::from(error.number()),
+    }
+}
+
+// A step of a range of a table, after which the range borrows the entry.
 fn step_of(iter: &mut Iter, back: bool, found: &mut FoundEntry) -> u32
     ensures front { back ≡ false → let gives = ⟦<Iter<Global> as Iterator>⟧.next_gives in
         StepsBy gives iter.old result (found_at found.new (RangeOf iter.new)) iter.new }
@@ -236,10 +249,10 @@ fn step_of(iter: &mut Iter, back: bool, found: &mut FoundEntry) -> u32
         StepsBy gives iter.old result (found_at found.new (RangeOf iter.new)) iter.new }
     ensures fine { is_some (found_at found.new (RangeOf iter.new)) ≡ true → result ≡ 0 }
 {
+    found.set_lent();
     if back {
-        keep(found, outcome_of(iter.next_back()))
+        step_back(iter)
     } else {
-        found.set_lent();
         step_front(iter)
     }
 }

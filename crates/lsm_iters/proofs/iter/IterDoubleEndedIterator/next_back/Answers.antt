@@ -6,4 +6,4 @@ use Rattle.lsm_iters.proofs.iter.IterDoubleEndedIterator.next_back.Goals as goal
 
 pub returns-clause-goes : goal.returns-clause-goes
 returns-clause-goes g c =
-    progress back_of back_shortens back_next c.args.self.now c.answer_back.result c.answer_back.new.self c.answer_back.ensures
+    progress back_of back_shortens back_next c.args.self.now c.answer.result c.answer.new.self c.answer.ensures

@@ -6,4 +6,4 @@ use Rattle.lsm_iters.proofs.iter.IterIterator.next.Goals as goal
 
 pub returns-clause-goes : goal.returns-clause-goes
 returns-clause-goes g c =
-    progress front_of front_shortens front_next c.args.self.now c.answer_front.result c.answer_front.new.self c.answer_front.ensures
+    progress front_of front_shortens front_next c.args.self.now c.answer.result c.answer.new.self c.answer.ensures

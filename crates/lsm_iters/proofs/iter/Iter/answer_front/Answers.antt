@@ -1,9 +1,0 @@
-use Rattle.std.proofs.Common.{◌∙◌, sym}
-use Rattle.lsm_iters.proofs.Cursors.{none_lent}
-use Rattle.lsm_iters.proofs.Shared.{came_none}
-use Rattle.lsm_iters.proofs.iter.Iter.answer_front.Goals as goal
-
-pub returns-in-Ok-false : goal.returns-in-Ok-false
-returns-in-Ok-false g c =
-    let t = c.advance.new.self in
-    came_none c.args.self.now t t.lent c.in-Ok-false.ensures.goes (none_lent t.lent (sym c.in-Ok-false.ensures.more ∙ c.in-Ok-false.field-0-test))
