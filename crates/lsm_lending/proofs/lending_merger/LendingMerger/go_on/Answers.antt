@@ -19,12 +19,14 @@ advance-requires g c =
 pub returns-in_err-advance-clause-ready : goal.returns-in_err-advance-clause-ready
 returns-in_err-advance-clause-ready g c =
     ready_on g.L.Lending.advances g.L.Lending.can_advance g.L.Lending.lent c.args.self.now _ c.args.source c.index_mut.result.now c.advance.new.self _ c.requires.ready c.requires.place c.index_mut.ensures.value c.in_err-advance.ensures.goes refl (omega arith) c.requires.ready.known
-    (queue_stays g.L.Lending.lent c.args.self.now.sources.items c.args.source c.advance.new.self c.args.self.now.queue.items c.requires.apart c.requires.ready.queue)
+    (queue_stays g.L.Lending.lent c.args.self.now.sources.items c.args.source c.advance.new.self (queued c.args.self.now) c.requires.apart c.requires.ready.queue)
+    (heads_stay g.L.Lending.lent c.args.self.now.sources.items c.args.source c.advance.new.self c.args.self.now.queue.items c.requires.apart c.requires.ready.heads)
 
 pub returns-else-branch-clause-ready : goal.returns-else-branch-clause-ready
 returns-else-branch-clause-ready g c =
     ready_on g.L.Lending.advances g.L.Lending.can_advance g.L.Lending.lent c.args.self.now _ c.args.source c.index_mut.result.now c.advance.new.self _ c.requires.ready c.requires.place c.index_mut.ensures.value c.in_ok-advance.ensures.goes refl (omega arith) c.requires.ready.known
-    (queue_stays g.L.Lending.lent c.args.self.now.sources.items c.args.source c.advance.new.self c.args.self.now.queue.items c.requires.apart c.requires.ready.queue)
+    (queue_stays g.L.Lending.lent c.args.self.now.sources.items c.args.source c.advance.new.self (queued c.args.self.now) c.requires.apart c.requires.ready.queue)
+    (heads_stay g.L.Lending.lent c.args.self.now.sources.items c.args.source c.advance.new.self c.args.self.now.queue.items c.requires.apart c.requires.ready.heads)
 
 -- there is room
 put_in : {X : Type 0} (b : Bool) (xs ys new : List X) → new ≡ cond b xs ys → b ≡ true → new ≡ xs
