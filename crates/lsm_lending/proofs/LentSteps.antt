@@ -551,7 +551,7 @@ module _ {S : Type 0} (stops : Error → Bool) (advances : S → Option R → S 
   answers_lent n ys started queue known lists h is = (
     ap (option_map (λ y. Ok y)) (first_queued lent n)
         ∙ lent_answer stops advances lent n.sources.items (queued n) lists h queue
-            (recursion_from_All (λ q. q < length n.sources.items) (queued n) known)
+        (recursion_from_All (λ q. q < length n.sources.items) (queued n) known)
         ∙ sym (ap first is),
     record {
       parts = subst (λ (b : Bool). LeavesIf stops advances lent b n (but_first ys)) (sym started)
