@@ -51,17 +51,16 @@ pub record Belongs (at : ℕ → Option Entry) (i : ℕ) (qs : List ℕ) (place 
 
 -- ---- heads
 
--- n is the number of the first sixteen bytes of a key, zeros where it is shorter
+-- n is the number of the first sixteen bytes of a key; zeros follow a shorter key
 pub record IsPrefix (n : ℕ) (key : List ℕ) : Type 0 where
   pub bytes : (i : ℕ) → slice_index_or key i 0 < 256
   pub number : n ≡ from_be_bytes w128 key
 
--- a head has the prefix of what its source lends
+-- a head has the prefix of its source's current key
 pub record IsHead (at : ℕ → Option Entry) (h : Head) : Type 0 where
   pub prefix : (x : Entry) → at h.source ≡ Some x → IsPrefix h.prefix x.user_key
 
--- one head goes before another, of which these entries are lent: by their prefixes, and where these
--- tie by the entries
+-- whether one head goes before another: by the prefixes, or if these are equal by the entries
 abbrev pub head_before : Option Entry → Head → Option Entry → Head → Bool
 head_before o h p k = cond (h.prefix == k.prefix) (goes_before o h.source p k.source)
     (nat_lt h.prefix k.prefix)

@@ -1,7 +1,6 @@
 //! Several sorted sources that lend their entries, as one that lends.
 ghost use Rattle.std.specs.Prelude.{◌≡◌, ℕ, ◌+◌, ◌<◌, ◌≤◌, true, false, [], length, All, IfOk};
 ghost use Rattle.std.specs.Prelude.{Bool, IfErr, IsOk, Some, None};
-ghost use Rattle.std.specs.Int.{w128, from_be_bytes};
 ghost use Rattle.std.specs.Option.{option_map};
 ghost use Rattle.std.specs.Vec.{vec_capacity};
 ghost use Rattle.std.specs.List.{insert};
@@ -12,8 +11,7 @@ ghost use Rattle.sst_entries.specs.declared.error.Error.TheVariants.{OutOfMemory
 ghost use Rattle.lsm_lending.specs.Lent.{AsksOne, IsPrefix, IsReady, MayLend, StepsOn, goes_before};
 ghost use Rattle.lsm_lending.specs.Lent.{head_before, is_queued, is_turn, lent_at, lent_first};
 ghost use Rattle.lsm_lending.specs.Lent.{AdvancesLent, Belongs, IsHead, LendsNoMore, StartsLent};
-ghost use Rattle.lsm_lending.specs.Lent.{queued};
-ghost use Rattle.lsm_lending.specs.Lent.{StepLowers, lent_size, lent_total};
+ghost use Rattle.lsm_lending.specs.Lent.{StepLowers, lent_size, lent_total, queued};
 ghost use Rattle.lsm_merge.specs.MergeLaws.{DealsInPlace, DealsMerged};
 
 use lsm_merge::compare_refs;
@@ -31,24 +29,24 @@ use std::cmp::Ordering;
 #[derive(Drop)]
 pub struct LendingMerger<L, A: Allocator = Global> {
     sources: Vec<L, A>,
-    // A head for each source that lends an entry. The head of the first entry stands last, so that
-    // it is taken out and put back there without a move where it stays ahead.
+    // One head for each source with a current entry. The head of the first entry is the last
+    // element: while its source stays ahead, it is popped and pushed back without a move.
     queue: Vec<Head, A>,
     is_started: bool,
     // Whether the source that went on last stayed ahead of all others.
     stayed_ahead: bool,
 }
 
-// A source that lends an entry, by its index, and the prefix of that entry's key. Two heads with
-// different prefixes are in order without a look at their entries.
+// A source with a current entry, by its index, and the prefix of that entry's key. Two different
+// prefixes order their heads without a read of the entries.
 #[derive(Clone, Copy)]
 struct Head {
     prefix: u128,
     source: usize,
 }
 
-// The first sixteen bytes of a key as one number, which is ordered as the keys are. Zeros follow a
-// shorter key. Keys that count up within one table often have their first eight bytes in common.
+// The first sixteen bytes of a key as one number, the first byte the highest. Zeros follow a shorter
+// key. Eight bytes would decide less: keys that count up often have the first eight in common.
 #[inline(always)]
 fn prefix_of(key: &[u8]) -> u128
     ensures { IsPrefix result key.now }
@@ -59,7 +57,7 @@ fn prefix_of(key: &[u8]) -> u128
     }
 }
 
-// The same of a key below sixteen bytes.
+// The same for a key of fewer than sixteen bytes.
 fn short_prefix(key: &[u8]) -> u128
     requires { length key.now < 16 }
     ensures { IsPrefix result key.now }
@@ -128,23 +126,33 @@ impl<L: Lending, A: Allocator> LendingMerger<L, A> {
         }
     }
 
-    // Whether the entry of one head comes before that of another. Another entry is read only where
-    // both prefixes are equal.
-    #[inline(always)]
-    fn comes_before(&self, entry: &EntryRef<'_>, head: Head, other: Head) -> bool
-        ensures { result ≡ head_before (Some (entry_of_ref entry.now)) head
-            (lent_at L.lent self.now.sources.items other.source) other }
+    // Whether an entry of one source comes before what another lends. Called only where the prefixes
+    // are equal, and kept out of the search that calls it, which is short without it.
+    #[inline(never)]
+    fn comes_before(&self, entry: &EntryRef<'_>, source: usize, other: usize) -> bool
+        ensures { result ≡ goes_before (Some (entry_of_ref entry.now)) source
+            (lent_at L.lent self.now.sources.items other) other }
     {
-        if head.prefix != other.prefix {
-            return head.prefix < other.prefix;
-        }
-        match self.lent_by(other.source) {
-            Some(other_entry) => is_before(entry, head.source, &other_entry, other.source),
+        match self.lent_by(other) {
+            Some(other_entry) => is_before(entry, source, &other_entry, other),
             None => false,
         }
     }
 
-    // Where a head belongs in a queue in which its source is not.
+    // Whether the entry of one head comes before that of another. The other entry is read only if
+    // the prefixes are equal.
+    #[inline(always)]
+    fn is_ahead(&self, entry: &EntryRef<'_>, head: Head, other: Head) -> bool
+        ensures { result ≡ head_before (Some (entry_of_ref entry.now)) head
+            (lent_at L.lent self.now.sources.items other.source) other }
+    {
+        if head.prefix == other.prefix {
+            return self.comes_before(entry, head.source, other.source);
+        }
+        head.prefix < other.prefix
+    }
+
+    // The index at which a head belongs in a queue that does not have its source.
     #[inline(always)]
     fn index_of(&self, entry: &EntryRef<'_>, head: Head) -> usize
         requires heads { All (IsHead (lent_at L.lent self.now.sources.items)) self.now.queue.items }
@@ -158,16 +166,17 @@ impl<L: Lending, A: Allocator> LendingMerger<L, A> {
         match self.queue.last() {
             // One comparison where a source stays ahead for long. Where sources take turns, it
             // would be in vain most times.
-            Some(&next) if self.stayed_ahead && self.comes_before(entry, head, next) => {
+            Some(&next) if self.stayed_ahead && self.is_ahead(entry, head, next) => {
                 self.queue.len()
             }
             _ => self
                 .queue
-                .partition_point(|&other| self.comes_before(entry, head, other)),
+                .partition_point(|&other| self.is_ahead(entry, head, other)),
         }
     }
 
-    // The head of a source that lends, and where it belongs in a queue in which the source is not.
+    // The index at which a source with a current entry belongs in a queue that does not have it, and
+    // its head.
     fn head_of(&self, source: usize) -> (usize, Head)
         requires heads { All (IsHead (lent_at L.lent self.now.sources.items)) self.now.queue.items }
         ensures within { result.0 ≤ length self.now.queue.items }

@@ -40,7 +40,7 @@ returns-in-Some-clause-belongs g c = record {
       (sym c.in-Some.ensures.value) in
       let first : head_before (at h.source) h (at k.source) k ≡ true =
       subst (λ (o : Option Entry). head_before o h (at k.source) k ≡ true) (sym c.requires.entry)
-      (sym c.comes_before.ensures ∙ c.if-comes_before.true) in
+      (sym c.is_ahead.ensures ∙ c.if-is_ahead.true) in
       let long : length c.deref.result.now ≡ length hs = ap length same in
       head_ahead at h hs c.requires.heads c.requires.head some queue c.len.result k apart
       (omega (arith, c.len.ensures, c.deref.ensures.len, long)) last first;
