@@ -1,6 +1,6 @@
 -- The numbers of the first bytes of two keys are in order where they differ, as the keys are.
 use Rattle.std.proofs.Common.{◌≡◌, refl, sym, ◌∙◌, ap, subst, ℕ, zero, suc, ◌+◌, ◌*◌, ◌<◌, ◌≤◌}
-use Rattle.std.proofs.Common.{List, [], ◌∷◌, ◌++◌, length, get_or, drop, replicate, arith, inl, inr}
+use Rattle.std.proofs.Common.{List, [], ◌∷◌, ◌++◌, get_or, drop, replicate, arith, inl, inr}
 use Rattle.std.specs.declared.cmp.Ordering.{Ordering}
 use Rattle.std.specs.declared.cmp.Ordering.TheVariants.{Less, Equal, Greater}
 use Rattle.std.specs.Cmp.Lexicographic.{slice_cmp}

@@ -20,9 +20,10 @@ use std::alloc::{Allocator, Global};
 use std::cmp::Ordering;
 
 /// Lends the entries of several sorted sources that lend, in order. Entries with the same key,
-/// number and kind come source by source. Nothing is moved and nothing is shared: entries are
-/// compared where they lie. The first call of [`Lending::advance`] asks each source for its first
-/// entry, and each later one asks only the source whose entry was lent.
+/// number and kind come source by source. Entries are neither moved nor shared. A comparison takes
+/// copies of the first sixteen bytes of both keys, and reads the entries only where these are equal.
+/// The first call of [`Lending::advance`] asks each source for its first entry, and each later one
+/// asks only the source whose entry was lent.
 ///
 /// An error of a source is the answer of the call that met it: it stands right behind the entry
 /// before it in its source. Nothing comes after it.

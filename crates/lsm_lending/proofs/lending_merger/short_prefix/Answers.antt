@@ -1,5 +1,5 @@
 -- A key below sixteen bytes, with zeros behind it.
-use Rattle.std.proofs.Common.{◌≡◌, List, ℕ, ap, ◌∙◌, ◌++◌, drop, length, replicate, arith}
+use Rattle.std.proofs.Common.{List, ℕ, ap, ◌∙◌, ◌++◌, drop, length, replicate, arith}
 use Rattle.std.specs.Int.{w128, from_be_bytes}
 use Rattle.lsm_lending.proofs.PrefixLemmas.{padded}
 use Rattle.lsm_lending.proofs.lending_merger.short_prefix.Goals as goal

@@ -1,6 +1,6 @@
 -- Where a head goes in the queue.
-use Rattle.std.proofs.Common.{◌≡◌, Bool, true, List, length, map, sym, ◌∙◌, ap, subst, arith, rules}
-use Rattle.std.specs.Prelude.{Option, Some, is_some, slice_get, ◌-◌, All}
+use Rattle.std.proofs.Common.{◌≡◌, true, List, length, map, sym, ◌∙◌, ap, subst, arith, rules}
+use Rattle.std.specs.Prelude.{Option, Some, slice_get, ◌-◌, All}
 use Rattle.std.specs.List.{insert}
 use Rattle.std.proofs.lemmas.List.Sorted.{IsPartitionPoint-from_clause}
 use Rattle.sst_entries.specs.Entry.{Entry}
