@@ -18,7 +18,7 @@ use Rattle.lsm_merge.specs.Ends.{R}
 use Rattle.lsm_merge.specs.InPlace.{Placed, places_of, put_in_place, sort_places, all_placed}
 use Rattle.lsm_merge.specs.InPlace.{up_to_error, merge_of}
 use Rattle.lsm_lending.specs.Lent.{AdvancesLent, LendsNoMore, LeavesLent, LeavesIf, MayLend}
-use Rattle.lsm_lending.specs.Lent.{IsQueue, Rests, lent_at}
+use Rattle.lsm_lending.specs.Lent.{IsHead, IsQueue, Rests, lent_at, queued, source_of}
 use Rattle.lsm_merge.specs.MergeLaws.{DealSorted, DealsInPlace, DealsMerged}
 use Rattle.lsm_merge.specs.Union.{item_cmp, entries_among, errors_among, all_entries, all_errors}
 use Rattle.lsm_merge.specs.Union.{insert_sorted, sort_entries, union_of}
@@ -155,13 +155,18 @@ module _ {S A : Type 0} (advances : S → Option R → S → Type 0) (can : S �
     lent_may room all = record {
       ready = record {
         sources = subst (All (CanDeal advances nowhere can can)) (sym sources) all;
-        known = subst (All (λ q. q < length m.sources.items)) (sym empty)
+        known = subst (All (λ q. q < length m.sources.items)) (sym none)
             (All-nil (λ q. q < length m.sources.items));
         room = subst (λ (ss : List S). length ss ≤ vec_capacity m.queue) (sym sources) room;
-        queue = subst (λ (qs : List ℕ). IsQueue (lent_at lent m.sources.items) qs) (sym empty) tt;
+        queue = subst (λ (qs : List ℕ). IsQueue (lent_at lent m.sources.items) qs) (sym none) tt;
+        heads = subst (All (IsHead (lent_at lent m.sources.items))) (sym empty)
+            (All-nil (IsHead (lent_at lent m.sources.items)));
       };
       fresh = λ e. empty;
     }
+      where
+        none : queued m ≡ []
+        none = ap (map source_of) empty
 
   pub lent_can : (m : LendingMerger S A) → MayLend advances can lent m
       → CanDeal Adv nowhere (MayLend advances can lent) (MayLend advances can lent) m

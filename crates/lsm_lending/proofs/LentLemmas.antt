@@ -38,7 +38,7 @@ module _ {S : Type 0} where
   set_own (s ∷ ss) (suc i) t d lt = set_own ss i t d (omega arith)
 
   module _ (lent : S → Option Entry) where
-    lent_other : (ss : List S) (i j : ℕ) (t : S) → (i ≡ j → ⊥)
+    pub lent_other : (ss : List S) (i j : ℕ) (t : S) → (i ≡ j → ⊥)
         → lent_at lent (slice_set ss i t) j ≡ lent_at lent ss j
     lent_other [] i j t apart = refl
     lent_other (s ∷ ss) zero zero t apart = absurd (apart refl)

@@ -13,6 +13,7 @@ use Rattle.std.specs.declared.cmp.Ordering.TheVariants.{Less, Equal, Greater}
 use Rattle.std.proofs.lemmas.Bool.{eqb-true, eq-eqb}
 use Rattle.std.proofs.lemmas.Bool.Decides.{nat_tests}
 use Rattle.std.proofs.lemmas.Cmp.{tied_itself}
+use Rattle.std.proofs.lemmas.List.{length-map, map_push}
 use Rattle.std.proofs.lemmas.List.Elements.{All-from_recursion, All-nil, All-set}
 use Rattle.std.proofs.lemmas.List.Elements.{recursion_from_All}
 use Rattle.sst_entries.specs.Entry.{Entry}
@@ -20,15 +21,17 @@ use Rattle.sst_entries.specs.Stream.{CanDeal, Lowers, but_first, first, nowhere}
 use Rattle.sst_entries.specs.declared.error.Error.{Error}
 use Rattle.sst_entries.proofs.Lists.{all_more}
 use Rattle.sst_entries.proofs.StreamLemmas.{can_front}
+use Rattle.lsm_lending.specs.declared.lending_merger.Head.{Head}
 use Rattle.lsm_lending.specs.declared.lending_merger.LendingMerger.{LendingMerger}
 use Rattle.lsm_merge.specs.Ends.{R}
 use Rattle.lsm_merge.specs.InPlace.{merge_of}
 use Rattle.lsm_lending.specs.Lent.{goes_before, is_turn, lent_at, lent_by, lent_first, IsQueue}
 use Rattle.lsm_lending.specs.Lent.{IsReady}
 use Rattle.lsm_lending.specs.Lent.{is_queued, RestIf, Rests, LeavesIf, LeavesLent, Belongs}
-use Rattle.lsm_lending.specs.Lent.{StepLowers, lent_size, lent_total}
+use Rattle.lsm_lending.specs.Lent.{IsHead, StepLowers, lent_size, lent_total, queued, source_of}
 use Rattle.lsm_merge.specs.Union.{item_cmp, AtMost, Ascends, entries_among}
 use Rattle.lsm_merge.proofs.InPlaceLemmas.{HasNoFault, merge_entry, merge_fault, merge_nothing}
+use Rattle.lsm_lending.proofs.HeadLemmas.{got_source}
 use Rattle.lsm_lending.proofs.LentLemmas.{lent_is, lent_own, queue_stays, rests_same, set_length}
 use Rattle.lsm_lending.proofs.LentLemmas.{set_other, set_own}
 use Rattle.lsm_merge.proofs.MergedLemmas.{item_total, Above, at_most_chain}
@@ -36,6 +39,16 @@ use Rattle.lsm_lending.proofs.QueueLemmas.{all_put_in, among_end, last_before, l
 use Rattle.lsm_lending.proofs.QueueLemmas.{queue_front}
 
 -- ---- whether it may be asked
+
+-- the last head is taken out of the queue
+pub queued_popped : {S A : Type 0} (m n : LendingMerger S A) (w : Head)
+    → m.queue.items ≡ n.queue.items ++ w ∷ [] → queued m ≡ queued n ++ w.source ∷ []
+queued_popped m n w items = ap (map source_of) items ∙ map_push source_of n.queue.items w
+
+all_front : {X : Type 0} (P : X → Type 0) (x : X) (ps : List X) → AllByRecursion P (ps ++ x ∷ [])
+    → AllByRecursion P ps
+all_front P x [] h = tt
+all_front P x (p ∷ ps) h = (h.0, all_front P x ps h.1)
 
 module _ {S : Type 0} (advances : S → Option R → S → Type 0) (can : S → Type 0)
     (lent : S → Option Entry) where
@@ -45,10 +58,11 @@ module _ {S : Type 0} (advances : S → Option R → S → Type 0) (can : S → 
       → s ≡ slice_index_or m.sources.items i s → advances s r t
       → n.sources.items ≡ slice_set m.sources.items i t
       → vec_capacity m.queue ≤ vec_capacity n.queue
-      → All (λ q. q < length m.sources.items) n.queue.items
-      → IsQueue (lent_at lent (slice_set m.sources.items i t)) n.queue.items
+      → All (λ q. q < length m.sources.items) (queued n)
+      → IsQueue (lent_at lent (slice_set m.sources.items i t)) (queued n)
+      → All (IsHead (lent_at lent (slice_set m.sources.items i t))) n.queue.items
       → IsReady advances can lent n
-  ready_on m n i s t r ready within is step set room known queue =
+  ready_on m n i s t r ready within is step set room known queue heads =
       let long : length n.sources.items ≡ length m.sources.items =
       ap length set ∙ set_length m.sources.items i t in
       let old : length m.sources.items ≤ vec_capacity m.queue = ready.room in
@@ -58,46 +72,51 @@ module _ {S : Type 0} (advances : S → Option R → S → Type 0) (can : S → 
             (can_front advances nowhere can can s r t
             (subst (CanDeal advances nowhere can can) (sym is) (ready.sources i s within)) step)
             ready.sources);
-        known = subst (λ (n' : ℕ). All (λ q. q < n') n.queue.items) (sym long) known;
+        known = subst (λ (n' : ℕ). All (λ q. q < n') (queued n)) (sym long) known;
         room = omega (arith, long, old, room);
-        queue = subst (λ (ss : List S). IsQueue (lent_at lent ss) n.queue.items) (sym set) queue;
+        queue = subst (λ (ss : List S). IsQueue (lent_at lent ss) (queued n)) (sym set) queue;
+        heads = subst (λ (ss : List S). All (IsHead (lent_at lent ss)) n.queue.items) (sym set)
+            heads;
       }
 
   -- the last is taken out of the queue
-  pub ready_popped : {A : Type 0} (m n : LendingMerger S A) (w : ℕ) → IsReady advances can lent m
+  pub ready_popped : {A : Type 0} (m n : LendingMerger S A) (w : Head) → IsReady advances can lent m
       → m.queue.items ≡ n.queue.items ++ w ∷ [] → n.sources.items ≡ m.sources.items
       → vec_capacity n.queue ≡ vec_capacity m.queue
-      → IsReady advances can lent n × (w < length m.sources.items)
-      × (is_queued w n.queue.items ≡ false)
+      → IsReady advances can lent n × (w.source < length m.sources.items)
+      × (is_queued w.source (queued n) ≡ false)
   ready_popped m n w ready items same room =
-      let queue : IsQueue (lent_at lent m.sources.items) (n.queue.items ++ w ∷ []) =
-      subst (IsQueue (lent_at lent m.sources.items)) items ready.queue in
-      let parts = queue_front (lent_at lent m.sources.items) n.queue.items w queue in
-      let known : AllByRecursion (λ q. q < length m.sources.items) (n.queue.items ++ w ∷ []) =
-      subst (AllByRecursion (λ q. q < length m.sources.items)) items
-      (recursion_from_All (λ q. q < length m.sources.items) m.queue.items ready.known) in
+      let at : ℕ → Option Entry = lent_at lent m.sources.items in
+      let sources : queued m ≡ queued n ++ w.source ∷ [] = queued_popped m n w items in
+      let queue : IsQueue at (queued n ++ w.source ∷ []) =
+      subst (IsQueue at) sources ready.queue in
+      let parts = queue_front at (queued n) w.source queue in
+      let known : AllByRecursion (λ q. q < length m.sources.items) (queued n ++ w.source ∷ []) =
+      subst (AllByRecursion (λ q. q < length m.sources.items)) sources
+      (recursion_from_All (λ q. q < length m.sources.items) (queued m) ready.known) in
+      let heads : AllByRecursion (IsHead at) (n.queue.items ++ w ∷ []) =
+      subst (AllByRecursion (IsHead at)) items
+      (recursion_from_All (IsHead at) m.queue.items ready.heads) in
       let long : length n.sources.items ≡ length m.sources.items = ap length same in
       let old : length m.sources.items ≤ vec_capacity m.queue = ready.room in (
         record {
           sources = subst (All (CanDeal advances nowhere can can)) (sym same) ready.sources;
-          known = subst (λ (b : ℕ). All (λ q. q < b) n.queue.items) (sym long)
-              (All-from_recursion (λ q. q < length m.sources.items) n.queue.items
-              (front n.queue.items known));
+          known = subst (λ (b : ℕ). All (λ q. q < b) (queued n)) (sym long)
+              (All-from_recursion (λ q. q < length m.sources.items) (queued n)
+              (all_front (λ q. q < length m.sources.items) w.source (queued n) known));
           room = omega (arith, long, old, room);
-          queue = subst (λ (ss : List S). IsQueue (lent_at lent ss) n.queue.items) (sym same)
+          queue = subst (λ (ss : List S). IsQueue (lent_at lent ss) (queued n)) (sym same)
               parts.0;
+          heads = subst (λ (ss : List S). All (IsHead (lent_at lent ss)) n.queue.items) (sym same)
+              (All-from_recursion (IsHead at) n.queue.items
+              (all_front (IsHead at) w n.queue.items heads));
         },
-        end n.queue.items known,
+        end (queued n) known,
         parts.1,
       )
     where
-      front : (ps : List ℕ) → AllByRecursion (λ q. q < length m.sources.items) (ps ++ w ∷ [])
-          → AllByRecursion (λ q. q < length m.sources.items) ps
-      front [] h = tt
-      front (p ∷ ps) h = (h.0, front ps h.1)
-
-      end : (ps : List ℕ) → AllByRecursion (λ q. q < length m.sources.items) (ps ++ w ∷ [])
-          → w < length m.sources.items
+      end : (ps : List ℕ) → AllByRecursion (λ q. q < length m.sources.items) (ps ++ w.source ∷ [])
+          → w.source < length m.sources.items
       end [] h = h.0
       end (p ∷ ps) h = end ps h.1
 
@@ -105,7 +124,8 @@ module _ {S : Type 0} (advances : S → Option R → S → Type 0) (can : S → 
   pub ready_cleared : {A : Type 0} (m n : LendingMerger S A) → IsReady advances can lent m
       → n.queue.items ≡ [] → n.sources.items ≡ m.sources.items
       → vec_capacity n.queue ≡ vec_capacity m.queue → IsReady advances can lent n
-  ready_cleared m n ready none same room =
+  ready_cleared m n ready items same room =
+      let none : queued n ≡ [] = ap (map source_of) items in
       let long : length n.sources.items ≡ length m.sources.items = ap length same in
       let old : length m.sources.items ≤ vec_capacity m.queue = ready.room in
       record {
@@ -114,6 +134,8 @@ module _ {S : Type 0} (advances : S → Option R → S → Type 0) (can : S → 
             (All-nil (λ q. q < length n.sources.items));
         room = omega (arith, long, old, room);
         queue = subst (IsQueue (lent_at lent n.sources.items)) (sym none) tt;
+        heads = subst (All (IsHead (lent_at lent n.sources.items))) (sym items)
+            (All-nil (IsHead (lent_at lent n.sources.items)));
       }
 
 -- all are below a bound, with one more
@@ -376,6 +398,14 @@ module _ {S : Type 0} (stops : Error → Bool) (advances : S → Option R → S 
 
 -- ---- before and after the first entry
 
+-- what is lent, by the sources in the queue
+pub first_queued : {S A : Type 0} (lent : S → Option Entry) (n : LendingMerger S A)
+    → lent_first lent n
+    ≡ lent_by (lent_at lent n.sources.items) (slice_get (queued n) (length (queued n) - 1))
+first_queued lent n = ap (lent_by (lent_at lent n.sources.items))
+    (got_source n.queue.items (length n.queue.items - 1)
+    ∙ ap (λ (k : ℕ). slice_get (queued n) (k - 1)) (sym (length-map n.queue.items source_of)))
+
 below_next : (j i : ℕ) → not (nat_lt j (i + 1)) ≡ (not (nat_lt j i) && not (j == i))
 below_next j i = grind (arith, nat_tests)
 
@@ -442,15 +472,15 @@ module _ {S : Type 0} (stops : Error → Bool) (advances : S → Option R → S 
 
     abbrev Behind : Type 0
     Behind = (lists : List (List R))
-        × Have stops advances lent (λ j. false) m.sources.items m.queue.items lists
+        × Have stops advances lent (λ j. false) m.sources.items (queued m) lists
         × (ys ≡ but_first (merge_of lists))
 
     behind : m.is_started ≡ true → Behind
     behind started = subst (λ (b : Bool). LeavesIf stops advances lent b m ys) started leaves.parts
 
     -- nothing is lent
-    pub empty_leaves : m.is_started ≡ true → m.queue.items ≡ [] → (lists : List (List R))
-        × Have stops advances lent (λ j. false) m.sources.items m.queue.items lists
+    pub empty_leaves : m.is_started ≡ true → queued m ≡ [] → (lists : List (List R))
+        × Have stops advances lent (λ j. false) m.sources.items (queued m) lists
         × (ys ≡ merge_of lists)
     empty_leaves started none =
         let b = behind started in
@@ -461,8 +491,8 @@ module _ {S : Type 0} (stops : Error → Bool) (advances : S → Option R → S 
 
     -- what is lent is taken out of the queue
     module _ (started : m.is_started ≡ true) (ps : List ℕ) (w : ℕ)
-        (items : m.queue.items ≡ ps ++ w ∷ [])
-        (queue : IsQueue (lent_at lent m.sources.items) m.queue.items)
+        (items : queued m ≡ ps ++ w ∷ [])
+        (queue : IsQueue (lent_at lent m.sources.items) (queued m))
         (within : w < length m.sources.items) (free : is_queued w ps ≡ false) where
       taken : (lists : List (List R))
           × Have stops advances lent (λ j. j == w) m.sources.items ps lists × (ys ≡ merge_of lists)
@@ -483,24 +513,24 @@ module _ {S : Type 0} (stops : Error → Bool) (advances : S → Option R → S 
           → ((waits : ℕ → Bool) (lists : List (List R))
           → Have stops advances lent waits m.sources.items ps lists → waits w ≡ true
           → MatchResult r (λ u. Have stops advances lent (λ j. waits j && not (j == w))
-          n.sources.items n.queue.items lists)
+          n.sources.items (queued n) lists)
           (λ e. stops e ≡ false → (rs : List R) × (slice_index_or lists w [] ≡ Err e ∷ rs)))
           → MatchResult r (λ u. (lists : List (List R))
-          × Have stops advances lent (λ j. false) n.sources.items n.queue.items lists
+          × Have stops advances lent (λ j. false) n.sources.items (queued n) lists
           × (ys ≡ merge_of lists)) (λ e. stops e ≡ false → ys ≡ Err e ∷ [])
       taken_on r n goes = by r (goes (λ j. j == w) taken.0 taken.1 (eq-eqb w w refl))
         where
           by : (q : Result (Unit {0}) Error)
               → MatchResult q (λ u. Have stops advances lent (λ j. (j == w) && not (j == w))
-              n.sources.items n.queue.items taken.0)
+              n.sources.items (queued n) taken.0)
               (λ e. stops e ≡ false → (rs : List R) × (slice_index_or taken.0 w [] ≡ Err e ∷ rs))
               → MatchResult q (λ u. (lists : List (List R))
-              × Have stops advances lent (λ j. false) n.sources.items n.queue.items lists
+              × Have stops advances lent (λ j. false) n.sources.items (queued n) lists
               × (ys ≡ merge_of lists)) (λ e. stops e ≡ false → ys ≡ Err e ∷ [])
           by (Ok u) h = (
             taken.0,
             rests_same stops advances lent (λ j. (j == w) && not (j == w)) (λ j. false)
-                n.sources.items n.queue.items taken.0 (λ j lt. none_waits j w) h,
+                n.sources.items (queued n) taken.0 (λ j lt. none_waits j w) h,
             taken.2,
           )
           by (Err e) h = λ fine. taken.2 ∙ fault_first stops advances lent (λ j. j == w)
@@ -511,16 +541,17 @@ module _ {S : Type 0} (stops : Error → Bool) (advances : S → Option R → S 
 
   -- what is lent now
   pub answers_lent : {A : Type 0} (n : LendingMerger S A) (ys : List R) → n.is_started ≡ true
-      → IsQueue (lent_at lent n.sources.items) n.queue.items
-      → All (λ q. q < length n.sources.items) n.queue.items
+      → IsQueue (lent_at lent n.sources.items) (queued n)
+      → All (λ q. q < length n.sources.items) (queued n)
       → (lists : List (List R))
-      → Have stops advances lent (λ j. false) n.sources.items n.queue.items lists
+      → Have stops advances lent (λ j. false) n.sources.items (queued n) lists
       → ys ≡ merge_of lists
       → (option_map (λ y. Ok y) (lent_first lent n) ≡ first ys)
       × LeavesLent stops advances lent n (but_first ys)
   answers_lent n ys started queue known lists h is = (
-    lent_answer stops advances lent n.sources.items n.queue.items lists h queue
-        (recursion_from_All (λ q. q < length n.sources.items) n.queue.items known)
+    ap (option_map (λ y. Ok y)) (first_queued lent n)
+        ∙ lent_answer stops advances lent n.sources.items (queued n) lists h queue
+        (recursion_from_All (λ q. q < length n.sources.items) (queued n) known)
         ∙ sym (ap first is),
     record {
       parts = subst (λ (b : Bool). LeavesIf stops advances lent b n (but_first ys)) (sym started)
@@ -530,7 +561,7 @@ module _ {S : Type 0} (stops : Error → Bool) (advances : S → Option R → S 
 
   -- after an error
   pub answers_fault : {A : Type 0} (n : LendingMerger S A) → n.is_started ≡ true
-      → n.queue.items ≡ [] → LeavesLent stops advances lent n []
+      → queued n ≡ [] → LeavesLent stops advances lent n []
   answers_fault n started none =
       let lists : List (List R) = map nothing_of n.sources.items in
       let h = rests_empty stops advances lent n.sources.items in
@@ -548,24 +579,27 @@ positive n = grind (arith, nat_tests)
 
 -- something is lent where the queue is not empty
 pub queue_lends : {S A : Type 0} (lent : S → Option Entry) (n : LendingMerger S A)
-    → IsQueue (lent_at lent n.sources.items) n.queue.items
+    → IsQueue (lent_at lent n.sources.items) (queued n)
     → not (length n.queue.items == 0) ≡ is_some (lent_first lent n)
-queue_lends lent n queue = elim (last_of_queue n.queue.items) [
-  | inl e ↦ ap (λ (ps : List ℕ). not (length ps == 0)) e
-      ∙ sym (ap (λ (ps : List ℕ). is_some (lent_by (lent_at lent n.sources.items)
-      (slice_get ps (length ps - 1)))) e)
-  | inr l ↦
-      let some : is_some (lent_at lent n.sources.items l.1) ≡ true =
-      (queue_front (lent_at lent n.sources.items) l.0 l.1
-      (subst (IsQueue (lent_at lent n.sources.items)) l.2 queue)).2 in
-      ap (λ (ps : List ℕ). not (length ps == 0)) l.2 ∙ long l.0 l.1
-      ∙ sym (ap (λ (o : Option ℕ). is_some (lent_by (lent_at lent n.sources.items) o)) l.3
-      ∙ some)
-]
+queue_lends lent n queue = ap (λ (k : ℕ). not (k == 0)) (sym (length-map n.queue.items source_of))
+    ∙ by_last (queued n) (lent_at lent n.sources.items) queue
+    ∙ sym (ap is_some (first_queued lent n))
   where
     long : (ps : List ℕ) (w : ℕ) → not (length (ps ++ w ∷ []) == 0) ≡ true
     long [] w = refl
     long (p ∷ ps) w = positive (length (ps ++ w ∷ []))
+
+    by_last : (qs : List ℕ) (at : ℕ → Option Entry) → IsQueue at qs
+        → not (length qs == 0) ≡ is_some (lent_by at (slice_get qs (length qs - 1)))
+    by_last qs at order = elim (last_of_queue qs) [
+      | inl e ↦ ap (λ (ps : List ℕ). not (length ps == 0)) e
+          ∙ sym (ap (λ (ps : List ℕ). is_some (lent_by at (slice_get ps (length ps - 1)))) e)
+      | inr l ↦
+          let some : is_some (at l.1) ≡ true =
+          (queue_front at l.0 l.1 (subst (IsQueue at) l.2 order)).2 in
+          ap (λ (ps : List ℕ). not (length ps == 0)) l.2 ∙ long l.0 l.1
+          ∙ sym (ap (λ (o : Option ℕ). is_some (lent_by at o)) l.3 ∙ some)
+    ]
 
 pub known_more : (i : ℕ) (qs : List ℕ) → All (λ q. q < i) qs → All (λ q. q < i + 1) qs
 known_more i qs all k d lt = let one = all k d lt in omega (arith, one)
@@ -596,7 +630,7 @@ is_positive : (n : ℕ) → not (n == 0) ≡ true → 0 < n
 is_positive n h = grind (arith, nat_tests, h)
 
 pub lowers_lent : {S A : Type 0} (left : S → ℕ) (lent : S → Option Entry) (m n : LendingMerger S A)
-    → n.is_started ≡ true → IsQueue (lent_at lent n.sources.items) n.queue.items
+    → n.is_started ≡ true → IsQueue (lent_at lent n.sources.items) (queued n)
     → StepLowers left m n
     → Lowers (option_map {U = R} (λ x. Ok x) (lent_first lent n)) (lent_size left m)
     (lent_size left n)
@@ -628,10 +662,10 @@ pub started_on : {S A : Type 0} (stops : Error → Bool) (advances : S → Optio
     (lent : S → Option Entry) (ys : List R) (lists : List (List R)) (r : Result (Unit {0}) Error)
     (n : LendingMerger S A) → ys ≡ merge_of lists
     → MatchResult r
-    (λ u. Rests stops advances lent (λ i. false) n.sources.items n.queue.items lists)
+    (λ u. Rests stops advances lent (λ i. false) n.sources.items (queued n) lists)
     (λ e. stops e ≡ false → merge_of lists ≡ Err e ∷ [])
     → MatchResult r (λ u. (lists : List (List R))
-    × Rests stops advances lent (λ j. false) n.sources.items n.queue.items lists
+    × Rests stops advances lent (λ j. false) n.sources.items (queued n) lists
     × (ys ≡ merge_of lists)) (λ e. stops e ≡ false → ys ≡ Err e ∷ [])
 started_on stops advances lent ys lists (Ok u) n is h = (lists, h, is)
 started_on stops advances lent ys lists (Err e) n is h = λ fine. is ∙ h fine
@@ -644,5 +678,6 @@ no_error (Some x) e is = cc
 
 pub over_lends : {S A : Type 0} (lent : S → Option Entry) (n : LendingMerger S A)
     → n.queue.items ≡ [] → option_map {U = R} (λ x. Ok x) (lent_first lent n) ≡ None
-over_lends lent n empty = ap (λ (qs : List ℕ). option_map {U = R} (λ x. Ok x)
-    (lent_by (lent_at lent n.sources.items) (slice_get qs (length qs - 1)))) empty
+over_lends lent n empty = ap (λ (hs : List Head). option_map {U = R} (λ x. Ok x)
+    (lent_by (lent_at lent n.sources.items)
+    (option_map source_of (slice_get hs (length hs - 1))))) empty

@@ -1,5 +1,7 @@
+pub mod PrefixLemmas
 pub mod QueueLemmas
 pub mod LentLemmas
+pub mod HeadLemmas
 pub mod LentSteps
 pub mod LentDeals
 pub mod LentFaultsLemmas

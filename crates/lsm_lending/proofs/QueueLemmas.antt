@@ -4,7 +4,7 @@ use Rattle.std.proofs.Common.{Bool, true}
 use Rattle.std.proofs.Common.{false, List, [], ◌∷◌, ◌++◌, length, get_or, ◌-◌, arith}
 use Rattle.std.specs.Prelude.{Option, Some, None, is_some, slice_get, ◌==◌, ◌||◌}
 use Rattle.std.specs.List.{AllByRecursion, insert}
-use Rattle.std.specs.List.Sorted.{IsPartitionedBy, IsPartitionPoint}
+use Rattle.std.specs.List.Sorted.{IsPartitionedBy}
 use Rattle.std.specs.Cmp.{IsTotalOrder, then_total, on_total, nat_cmp_total}
 use Rattle.std.specs.Ordering.{is_lt, nat_cmp, on, ordering_reverse, ordering_then, then_cmp}
 use Rattle.std.specs.declared.cmp.Ordering.{Ordering}
@@ -39,6 +39,13 @@ not_own Greater e h = cc
 
 no_own_turn : (x : Entry) (i : ℕ) → is_turn x i x i ≡ true → ⊥
 no_own_turn x i h = not_own (turns (x, i) (x, i)) (turns_total.antisymm (x, i) (x, i)) h
+
+pub no_return : (x y : Entry) (i j : ℕ) → is_turn y j x i ≡ true → is_turn x i y j ≡ false
+no_return x y i j back = go (is_turn x i y j) refl
+  where
+    go : (b : Bool) → is_turn x i y j ≡ b → is_turn x i y j ≡ false
+    go true e = absurd (no_own_turn x i (turn_chain x y x i j i e back))
+    go false e = e
 
 number_tie : (i j : ℕ) → nat_cmp i j ≡ Equal → i ≡ j
 number_tie i j h = grind (arith, nat_tests)
@@ -114,8 +121,8 @@ among_end j i (q ∷ qs) = ap (λ (b : Bool). (q == j) || b) (among_end j i qs)
 
 -- ---- the queue
 
-pub all_put_in : (P : ℕ → Type 0) (i p : ℕ) (qs : List ℕ) → P i → AllByRecursion P qs
-    → AllByRecursion P (insert qs p i)
+pub all_put_in : {X : Type 0} (P : X → Type 0) (i : X) (p : ℕ) (qs : List X) → P i
+    → AllByRecursion P qs → AllByRecursion P (insert qs p i)
 all_put_in P i zero qs one all = (one, all)
 all_put_in P i (suc p) [] one all = (one, tt)
 all_put_in P i (suc p) (q ∷ qs) one all = (all.0, all_put_in P i p qs one all.1)
@@ -149,7 +156,7 @@ module _ (at : ℕ → Option Entry) where
       go (q ∷ qs) h (suc k) (suc l) le lt p = go qs h.2 k l (omega arith) (omega arith) p
 
   -- i goes between those that it goes before and the others
-  put_queue : (i p : ℕ) (qs : List ℕ) → IsQueue at qs → is_some (at i) ≡ true
+  pub put_queue : (i p : ℕ) (qs : List ℕ) → IsQueue at qs → is_some (at i) ≡ true
       → is_queued i qs ≡ false
       → ((k : ℕ) → k < p → k < length qs → Before i (get_or qs k 0))
       → ((k : ℕ) → p ≤ k → k < length qs
@@ -175,13 +182,6 @@ module _ (at : ℕ → Option Entry) where
         (λ k lt within. early (suc k) (omega arith) (omega arith))
         (λ k le within. late (suc k) (omega arith) (omega arith)),
   )
-
-  pub belongs : (i p : ℕ) (qs : List ℕ) → IsQueue at qs → is_some (at i) ≡ true
-      → is_queued i qs ≡ false → IsPartitionPoint (λ j. goes_before (at i) i (at j) j ≡ true)
-      (λ j. goes_before (at i) i (at j) j ≡ false) qs p → IsQueue at (insert qs p i)
-  belongs i p qs h some apart point = put_queue i p qs h some apart
-      (λ k lt within. point.0 k 0 (omega arith) lt)
-      (λ k le within. point.1 k 0 le within)
 
   -- what goes before the last goes before all
   before_all : (i d : ℕ) (qs : List ℕ) → IsQueue at qs → 0 < length qs

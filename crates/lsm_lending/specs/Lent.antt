@@ -2,13 +2,16 @@
 use Rattle.std.specs.Prelude.{◌≡◌, ℕ, ◌+◌, ◌<◌, ◌≤◌, ◌==◌, ◌-◌, ◌&&◌, ◌||◌, not, Bool, true, false}
 use Rattle.std.specs.Prelude.{cond, List, [], ◌∷◌, length, map, All, Option, Some, None, Result, Ok}
 use Rattle.std.specs.Prelude.{Err}
-use Rattle.std.specs.Prelude.{MatchResult, is_some, slice_get, slice_index_or, sum_by}
+use Rattle.std.specs.Prelude.{MatchResult, is_some, nat_lt, slice_get, slice_index_or, sum_by}
+use Rattle.std.specs.Int.{w128, from_be_bytes}
+use Rattle.std.specs.Option.{option_map}
 use Rattle.std.specs.List.{AllByRecursion, insert}
 use Rattle.std.specs.Ordering.{is_lt, nat_cmp, ordering_then}
 use Rattle.std.specs.Vec.{vec_capacity}
 use Rattle.sst_entries.specs.Entry.{Entry}
 use Rattle.sst_entries.specs.Stream.{CanDeal, Deals, DealsFirst, answer_stops, but_first, nowhere}
 use Rattle.sst_entries.specs.declared.error.Error.{Error}
+use Rattle.lsm_lending.specs.declared.lending_merger.Head.{Head}
 use Rattle.lsm_lending.specs.declared.lending_merger.LendingMerger.{LendingMerger}
 use Rattle.lsm_merge.specs.Ends.{R}
 use Rattle.lsm_merge.specs.InPlace.{merge_of}
@@ -46,6 +49,29 @@ pub record Belongs (at : ℕ → Option Entry) (i : ℕ) (qs : List ℕ) (place 
   pub keeps : IsQueue at qs → is_some (at i) ≡ true → is_queued i qs ≡ false
       → IsQueue at (insert qs place i)
 
+-- ---- heads
+
+-- n is the number of the first sixteen bytes of a key; zeros follow a shorter key
+pub record IsPrefix (n : ℕ) (key : List ℕ) : Type 0 where
+  pub bytes : (i : ℕ) → slice_index_or key i 0 < 256
+  pub number : n ≡ from_be_bytes w128 key
+
+-- a head has the prefix of its source's current key
+pub record IsHead (at : ℕ → Option Entry) (h : Head) : Type 0 where
+  pub prefix : (x : Entry) → at h.source ≡ Some x → IsPrefix h.prefix x.user_key
+
+-- whether one head goes before another: by the prefixes, or if these are equal by the entries
+abbrev pub head_before : Option Entry → Head → Option Entry → Head → Bool
+head_before o h p k = cond (h.prefix == k.prefix) (goes_before o h.source p k.source)
+    (nat_lt h.prefix k.prefix)
+
+abbrev pub source_of : Head → ℕ
+source_of h = h.source
+
+-- the sources in the queue
+abbrev pub queued : {S A : Type 0} → LendingMerger S A → List ℕ
+queued m = map source_of m.queue.items
+
 -- what the last of these lends, if there is one
 abbrev pub lent_by : (ℕ → Option Entry) → Option ℕ → Option Entry
 lent_by at None = None
@@ -54,7 +80,7 @@ lent_by at (Some q) = at q
 -- what the merger lends
 abbrev pub lent_first : {S A : Type 0} → (S → Option Entry) → LendingMerger S A → Option Entry
 lent_first lent m = lent_by (lent_at lent m.sources.items)
-    (slice_get m.queue.items (length m.queue.items - 1))
+    (option_map source_of (slice_get m.queue.items (length m.queue.items - 1)))
 
 -- ---- how often it may be asked
 
@@ -75,9 +101,10 @@ module _ {S : Type 0} (advances : S → Option R → S → Type 0) (can : S → 
   -- the sources may be asked, and the queue is in order and has room for each of them
   pub record IsReady {A : Type 0} (m : LendingMerger S A) : Type 0 where
     pub sources : All (CanDeal advances nowhere can can) m.sources.items
-    pub known : All (λ q. q < length m.sources.items) m.queue.items
+    pub known : All (λ q. q < length m.sources.items) (queued m)
     pub room : length m.sources.items ≤ vec_capacity m.queue
-    pub queue : IsQueue (lent_at lent m.sources.items) m.queue.items
+    pub queue : IsQueue (lent_at lent m.sources.items) (queued m)
+    pub heads : All (IsHead (lent_at lent m.sources.items)) m.queue.items
 
   -- it may be asked; before the first time no source lends
   pub record MayLend {A : Type 0} (m : LendingMerger S A) : Type 0 where
@@ -113,7 +140,7 @@ module _ {S : Type 0} (stops : Error → Bool) (advances : S → Option R → S 
   LeavesIf false m ys = (lists : List (List R))
       × Rests (λ i. true) m.sources.items [] lists × (ys ≡ merge_of lists)
   LeavesIf true m ys = (lists : List (List R))
-      × Rests (λ i. false) m.sources.items m.queue.items lists × (ys ≡ but_first (merge_of lists))
+      × Rests (λ i. false) m.sources.items (queued m) lists × (ys ≡ but_first (merge_of lists))
 
   pub record LeavesLent {A : Type 0} (m : LendingMerger S A) (ys : List R) : Type 0 where
     pub parts : LeavesIf m.is_started m ys
@@ -122,9 +149,9 @@ module _ {S : Type 0} (stops : Error → Bool) (advances : S → Option R → S 
   abbrev pub AsksOne : {A : Type 0} → ℕ → LendingMerger S A → Result (Unit {0}) Error
       → LendingMerger S A → Type 0
   AsksOne i m r n = (waits : ℕ → Bool) (lists : List (List R))
-      → Rests waits m.sources.items m.queue.items lists → waits i ≡ true
+      → Rests waits m.sources.items (queued m) lists → waits i ≡ true
       → MatchResult r
-      (λ u. Rests (λ j. waits j && not (j == i)) n.sources.items n.queue.items lists)
+      (λ u. Rests (λ j. waits j && not (j == i)) n.sources.items (queued n) lists)
       (λ e. stops e ≡ false → (rs : List R) × (slice_index_or lists i [] ≡ Err e ∷ rs))
 
   -- all sources were asked: what they have together is what is now lent and left, or an error
@@ -132,7 +159,7 @@ module _ {S : Type 0} (stops : Error → Bool) (advances : S → Option R → S 
       → LendingMerger S A → Type 0
   StartsLent m r n = (lists : List (List R))
       → Rests (λ i. true) m.sources.items [] lists
-      → MatchResult r (λ u. Rests (λ i. false) n.sources.items n.queue.items lists)
+      → MatchResult r (λ u. Rests (λ i. false) n.sources.items (queued n) lists)
       (λ e. stops e ≡ false → merge_of lists ≡ Err e ∷ [])
 
   -- what was left is what is now lent and left, or an error
@@ -141,7 +168,7 @@ module _ {S : Type 0} (stops : Error → Bool) (advances : S → Option R → S 
   StepsOn m r n = (ys : List R) → LeavesLent m ys
       → MatchResult r
       (λ u. (lists : List (List R))
-      × Rests (λ j. false) n.sources.items n.queue.items lists × (ys ≡ merge_of lists))
+      × Rests (λ j. false) n.sources.items (queued n) lists × (ys ≡ merge_of lists))
       (λ e. stops e ≡ false → ys ≡ Err e ∷ [])
 
 -- nothing is lent any more

@@ -8,10 +8,10 @@ ghost use Rattle.sst_entries.specs.Lending.{entry_of_ref};
 ghost use Rattle.sst_entries.specs.Stream.{CanDeal, EndsAtError, nowhere};
 ghost use Rattle.sst_entries.specs.declared.error.Error.{Error};
 ghost use Rattle.sst_entries.specs.declared.error.Error.TheVariants.{OutOfMemory};
-ghost use Rattle.lsm_lending.specs.Lent.{AsksOne, IsReady, MayLend, StepsOn, goes_before};
-ghost use Rattle.lsm_lending.specs.Lent.{is_queued, is_turn, lent_at, lent_first};
-ghost use Rattle.lsm_lending.specs.Lent.{AdvancesLent, Belongs, LendsNoMore, StartsLent};
-ghost use Rattle.lsm_lending.specs.Lent.{StepLowers, lent_size, lent_total};
+ghost use Rattle.lsm_lending.specs.Lent.{AsksOne, IsPrefix, IsReady, MayLend, StepsOn, goes_before};
+ghost use Rattle.lsm_lending.specs.Lent.{head_before, is_queued, is_turn, lent_at, lent_first};
+ghost use Rattle.lsm_lending.specs.Lent.{AdvancesLent, Belongs, IsHead, LendsNoMore, StartsLent};
+ghost use Rattle.lsm_lending.specs.Lent.{StepLowers, lent_size, lent_total, queued};
 ghost use Rattle.lsm_merge.specs.MergeLaws.{DealsInPlace, DealsMerged};
 
 use lsm_merge::compare_refs;
@@ -20,21 +20,52 @@ use std::alloc::{Allocator, Global};
 use std::cmp::Ordering;
 
 /// Lends the entries of several sorted sources that lend, in order. Entries with the same key,
-/// number and kind come source by source. Nothing is moved and nothing is shared: entries are
-/// compared where they lie. The first call of [`Lending::advance`] asks each source for its first
-/// entry, and each later one asks only the source whose entry was lent.
+/// number and kind come source by source. Entries are neither moved nor shared. A comparison takes
+/// copies of the first sixteen bytes of both keys, and reads the entries only where these are equal.
+/// The first call of [`Lending::advance`] asks each source for its first entry, and each later one
+/// asks only the source whose entry was lent.
 ///
 /// An error of a source is the answer of the call that met it: it stands right behind the entry
 /// before it in its source. Nothing comes after it.
 #[derive(Drop)]
 pub struct LendingMerger<L, A: Allocator = Global> {
     sources: Vec<L, A>,
-    // The places of the sources that lend an entry. The source of the first entry stands last, so
-    // that it is taken out and put back there without a move where it stays ahead.
-    queue: Vec<usize, A>,
+    // One head for each source with a current entry. The head of the first entry is the last
+    // element: while its source stays ahead, it is popped and pushed back without a move.
+    queue: Vec<Head, A>,
     is_started: bool,
     // Whether the source that went on last stayed ahead of all others.
     stayed_ahead: bool,
+}
+
+// A source with a current entry, by its index, and the prefix of that entry's key. Two different
+// prefixes order their heads without a read of the entries.
+#[derive(Clone, Copy)]
+struct Head {
+    prefix: u128,
+    source: usize,
+}
+
+// The first sixteen bytes of a key as one number, the first byte the highest. Zeros follow a shorter
+// key. Eight bytes would decide less: keys that count up often have the first eight in common.
+#[inline(always)]
+fn prefix_of(key: &[u8]) -> u128
+    ensures { IsPrefix result key.now }
+{
+    match key.first_chunk::<16>() {
+        Some(bytes) => u128::from_be_bytes(*bytes),
+        None => short_prefix(key),
+    }
+}
+
+// The same for a key of fewer than sixteen bytes.
+fn short_prefix(key: &[u8]) -> u128
+    requires { length key.now < 16 }
+    ensures { IsPrefix result key.now }
+{
+    let mut bytes = [0; 16];
+    bytes[..key.len()].copy_from_slice(key);
+    u128::from_be_bytes(bytes)
 }
 
 // Whether an entry comes before another: by key, number and kind, and where these tie by the places
@@ -96,8 +127,9 @@ impl<L: Lending, A: Allocator> LendingMerger<L, A> {
         }
     }
 
-    // Whether an entry of one source comes before what another lends.
-    #[inline(always)]
+    // Whether an entry of one source comes before what another lends. Called only where the prefixes
+    // are equal, and kept out of the search that calls it, which is short without it.
+    #[inline(never)]
     fn comes_before(&self, entry: &EntryRef<'_>, source: usize, other: usize) -> bool
         ensures { result ≡ goes_before (Some (entry_of_ref entry.now)) source
             (lent_at L.lent self.now.sources.items other) other }
@@ -108,25 +140,58 @@ impl<L: Lending, A: Allocator> LendingMerger<L, A> {
         }
     }
 
-    // Where a source that lends belongs in a queue in which it is not.
-    fn place_of(&self, source: usize) -> usize
-        ensures within { result ≤ length self.now.queue.items }
-        ensures belongs { Belongs (lent_at L.lent self.now.sources.items) source
-            self.now.queue.items result }
+    // Whether the entry of one head comes before that of another. The other entry is read only if
+    // the prefixes are equal.
+    #[inline(always)]
+    fn is_ahead(&self, entry: &EntryRef<'_>, head: Head, other: Head) -> bool
+        ensures { result ≡ head_before (Some (entry_of_ref entry.now)) head
+            (lent_at L.lent self.now.sources.items other.source) other }
     {
-        let Some(entry) = self.lent_by(source) else {
-            return 0;
-        };
+        if head.prefix == other.prefix {
+            return self.comes_before(entry, head.source, other.source);
+        }
+        head.prefix < other.prefix
+    }
+
+    // The index at which a head belongs in a queue that does not have its source.
+    #[inline(always)]
+    fn index_of(&self, entry: &EntryRef<'_>, head: Head) -> usize
+        requires heads { All (IsHead (lent_at L.lent self.now.sources.items)) self.now.queue.items }
+        requires head { IsHead (lent_at L.lent self.now.sources.items) head }
+        requires entry { lent_at L.lent self.now.sources.items head.source ≡
+            Some (entry_of_ref entry.now) }
+        ensures within { result ≤ length self.now.queue.items }
+        ensures belongs { Belongs (lent_at L.lent self.now.sources.items) head.source
+            (queued self.now) result }
+    {
         match self.queue.last() {
             // One comparison where a source stays ahead for long. Where sources take turns, it
             // would be in vain most times.
-            Some(&next) if self.stayed_ahead && self.comes_before(&entry, source, next) => {
+            Some(&next) if self.stayed_ahead && self.is_ahead(entry, head, next) => {
                 self.queue.len()
             }
             _ => self
                 .queue
-                .partition_point(|&other| self.comes_before(&entry, source, other)),
+                .partition_point(|&other| self.is_ahead(entry, head, other)),
         }
+    }
+
+    // The index at which a source with a current entry belongs in a queue that does not have it, and
+    // its head.
+    fn head_of(&self, source: usize) -> (usize, Head)
+        requires heads { All (IsHead (lent_at L.lent self.now.sources.items)) self.now.queue.items }
+        ensures within { result.0 ≤ length self.now.queue.items }
+        ensures source { result.1.source ≡ source }
+        ensures head { IsHead (lent_at L.lent self.now.sources.items) result.1 }
+        ensures belongs { Belongs (lent_at L.lent self.now.sources.items) source
+            (queued self.now) result.0 }
+    {
+        let Some(entry) = self.lent_by(source) else {
+            return (0, Head { prefix: 0, source });
+        };
+        let prefix = prefix_of(entry.user_key);
+        let head = Head { prefix, source };
+        (self.index_of(&entry, head), head)
     }
 
     // Asks a source that is not in the queue for its next entry. Where it lends one, it goes to its
@@ -134,24 +199,24 @@ impl<L: Lending, A: Allocator> LendingMerger<L, A> {
     fn go_on(&mut self, source: usize) -> Result<(), Error>
         requires place { source < length self.old.sources.items }
         requires ready { IsReady L.advances L.can_advance L.lent self.old }
-        requires apart { is_queued source self.old.queue.items ≡ false }
+        requires apart { is_queued source (queued self.old) ≡ false }
         requires space { length self.old.queue.items < vec_capacity self.old.queue }
         ensures ready { IsReady L.advances L.can_advance L.lent self.new }
         ensures count { length self.new.sources.items ≡ length self.old.sources.items }
         ensures same { self.new.is_started ≡ self.old.is_started }
         ensures few { length self.new.queue.items ≤ length self.old.queue.items + 1 }
         ensures known { (bound : ℕ) → source < bound →
-            All (λ q. q < bound) self.old.queue.items → All (λ q. q < bound) self.new.queue.items }
+            All (λ q. q < bound) (queued self.old) → All (λ q. q < bound) (queued self.new) }
         ensures lowers { IfOk result (λ _.
             lent_total L.left self.new ≤ lent_total L.left self.old) }
         ensures goes { (stops : Error → Bool) →
             AsksOne stops L.advances L.lent source self.old result self.new }
     {
         if self.sources[source].advance()? {
-            let place = self.place_of(source);
-            self.stayed_ahead = place == self.queue.len();
+            let (index, head) = self.head_of(source);
+            self.stayed_ahead = index == self.queue.len();
             // There is room for each source.
-            let _ = self.queue.insert(place, source);
+            let _ = self.queue.insert(index, head);
         }
         Ok(())
     }
@@ -191,7 +256,7 @@ impl<L: Lending, A: Allocator> LendingMerger<L, A> {
             return self.start();
         }
         match self.queue.pop() {
-            Some(source) => self.go_on(source),
+            Some(head) => self.go_on(head.source),
             None => Ok(()),
         }
     }
@@ -219,7 +284,7 @@ impl<L: Lending, A: Allocator> Lending for LendingMerger<L, A> {
     #[inline]
     fn entry(&self) -> Option<EntryRef<'_>> {
         match self.queue.last() {
-            Some(&source) => self.lent_by(source),
+            Some(head) => self.lent_by(head.source),
             None => None,
         }
     }

@@ -2,7 +2,7 @@ use Rattle.std.proofs.Common.{◌≡◌, ◌<◌, ◌≤◌, Bool, true, List, [
 use Rattle.std.specs.Prelude.{All, not, nat_lt}
 use Rattle.sst_entries.specs.declared.error.Error.{Error}
 use Rattle.lsm_merge.specs.Ends.{R}
-use Rattle.lsm_lending.specs.Lent.{IsReady, Rests, lent_total}
+use Rattle.lsm_lending.specs.Lent.{IsReady, Rests, lent_total, queued}
 use Rattle.lsm_lending.proofs.lending_merger.LendingMerger.start.Given as goal
 
 abbrev pub invariant-loop-source : goal.invariant-loop-source
@@ -13,11 +13,11 @@ invariant-loop-source g l =
       ready : IsReady advances g.L.Lending.can_advance lent l.self;
       count : length l.self.sources.items ≡ length l.initial.self.sources.items;
       same : l.self.is_started ≡ l.initial.self.is_started;
-      known : All (λ q. q < l.source) l.self.queue.items;
+      known : All (λ q. q < l.source) (queued l.self);
       few : length l.self.queue.items ≤ l.source;
       lowers : lent_total g.L.Lending.left l.self ≤ lent_total g.L.Lending.left l.initial.self;
       rests : (stops : Error → Bool) (lists : List (List R))
           → Rests stops advances lent (λ i. true) l.initial.self.sources.items [] lists
           → Rests stops advances lent (λ j. not (nat_lt j l.source)) l.self.sources.items
-          l.self.queue.items lists;
+          (queued l.self) lists;
     }

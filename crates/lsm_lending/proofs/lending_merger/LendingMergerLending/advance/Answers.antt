@@ -1,8 +1,8 @@
 -- A call: what was left is what is lent and what is left.
-use Rattle.std.proofs.Common.{◌≡◌, ℕ, true, false, [], ◌∷◌, refl, sym, ◌∙◌, ap, subst}
+use Rattle.std.proofs.Common.{◌≡◌, ℕ, true, false, [], ◌∷◌, map, refl, sym, ◌∙◌, ap, subst}
 use Rattle.std.specs.Prelude.{Err, not, ◌==◌}
 use Rattle.sst_entries.specs.Stream.{but_first, first}
-use Rattle.lsm_lending.specs.Lent.{LeavesLent, lent_first}
+use Rattle.lsm_lending.specs.Lent.{LeavesLent, lent_first, source_of}
 use Rattle.lsm_lending.proofs.LentSteps.{answers_lent, answers_fault, lowers_lent, no_error, over_lends, queue_lends, ready_cleared}
 use Rattle.lsm_lending.proofs.lending_merger.LendingMergerLending.advance.Goals as goal
 
@@ -42,7 +42,7 @@ returns-in-Err-clause-goes g c =
       gives = λ stops ys leaves fine.
           let e : ys ≡ Err c.in-Err.error ∷ [] = c.in-Err.ensures.steps stops ys leaves fine in (
             sym (ap first e),
-            subst (LeavesLent stops g.L.Lending.advances g.L.Lending.lent n) (sym (ap but_first e)) (answers_fault stops g.L.Lending.advances g.L.Lending.lent n c.in-Err.ensures.started c.clear.ensures.items),
+            subst (LeavesLent stops g.L.Lending.advances g.L.Lending.lent n) (sym (ap but_first e)) (answers_fault stops g.L.Lending.advances g.L.Lending.lent n c.in-Err.ensures.started (ap (map source_of) c.clear.ensures.items)),
           );
       ends = λ e is. record { started = c.in-Err.ensures.started; empty = c.clear.ensures.items };
       over = λ over. let no : false ≡ true = (c.in-Err.ensures.over over).0 in absurd cc;
