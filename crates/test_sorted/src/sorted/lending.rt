@@ -1,18 +1,19 @@
-//! Newest versions, compactions and mergers that lend, beside those by value, over the same lists.
+//! Newest versions, compactions and mergers that lend, beside those by value, over the same lists;
+//! and what is lent of the entries below a bound.
 ghost use Rattle.std.specs.Prelude.{IfOk};
 ghost use Rattle.sst_entries.specs.Stream.{CanDeal, nowhere};
 
-use crate::sorted::words::{lends_so, results_of};
+use crate::sorted::words::{lends_so, results_of, said_by, said_lent};
 use lsm_lending::compaction::lending::LendingCompaction;
 use lsm_lending::{LendingMerger, LendingNewest};
 use lsm_merge::Merger;
-use lsm_sorted::MvccStream;
 use lsm_sorted::compaction::Rules;
 use lsm_sorted::compaction::stream::CompactionStream;
-use sst_entries::{Error, IterItem, Lending, ValueType};
+use lsm_sorted::{Below, MvccStream};
+use sst_entries::{Error, IterItem, Lending, SeqNo, ValueType};
 use std::alloc::Global;
 use std::vec::IntoIter;
-use test_lent::{LentList, agree, entry_of, lent_list, random};
+use test_lent::{LentList, agree, entry_of, go_on, lent_list, random};
 
 fn kind_of(number: u64) -> ValueType {
     match number % 6 {
@@ -224,5 +225,56 @@ fn an_error_is_answered_right_behind_the_entry_before_it(rt: HostRuntime) {
             matches!(merges(rt.alloc(), text, wanted), Ok(true)),
             "{text}"
         );
+    }
+}
+
+// ---- below a bound
+
+// What lends the results of a text, from the first one on or with that one lent already.
+fn source_of(alloc: Global, text: &'static str, is_lent: bool) -> Result<LentList, Error>
+    ensures can { IfOk result (CanDeal ⟦<LentList as Lending>⟧.advances nowhere
+        ⟦<LentList as Lending>⟧.can_advance ⟦<LentList as Lending>⟧.can_advance) }
+{
+    let mut source = lent_list(results_of(alloc, text)?);
+    if !is_lent {
+        return Ok(source);
+    }
+    go_on(&mut source)?;
+    Ok(source)
+}
+
+// A text, whether its first result is lent already, and a bound; what is lent before the first step,
+// and then.
+type LentBelow = (&'static str, bool, SeqNo, &'static str, &'static str);
+
+// Whether that is lent.
+fn lends_below(alloc: Global, case: &LentBelow) -> Result<bool, Error> {
+    let &(text, is_lent, seqno, before, wanted) = case;
+    let mut below = Below::lending(source_of(alloc, text, is_lent)?, seqno);
+    let is_first = said_lent(&below) == said_by(before);
+    Ok(lends_so(&mut below, wanted) && is_first)
+}
+
+const LENT_BELOW: &[LentBelow] = &[
+    ("", false, 9, "-", ""),
+    ("aV5 aV4 bT3", false, 5, "-", "aV4 bT3"),
+    ("aV5 aV4 bT3", false, 6, "-", "aV5 aV4 bT3"),
+    ("aV5 aV4 bT3", false, 3, "-", ""),
+    ("aV5 aV4 bT3", false, 0, "-", ""),
+    // Entries at the bound or above stand between others, and before an error.
+    ("aV1 bV7 cV5 dV2 eV5 !3", false, 5, "-", "aV1 dV2 !3"),
+    // An entry that is lent before the first step is lent on, if it is below the bound.
+    ("aV4 bV3", true, 5, "aV4", "bV3"),
+    ("aV5 bV3", true, 5, "-", "bV3"),
+    ("aV6 bV3", true, 5, "-", "bV3"),
+    ("aV6 bV5", true, 5, "-", ""),
+    ("", true, 5, "-", ""),
+];
+
+#[test]
+fn entries_at_a_bound_or_above_are_not_lent(rt: HostRuntime) {
+    for case in LENT_BELOW {
+        let lent = lends_below(rt.alloc(), case);
+        assert!(rt; matches!(lent, Ok(true)), "{}", case.0);
     }
 }

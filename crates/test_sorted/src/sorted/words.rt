@@ -132,16 +132,21 @@ fn said_of<A: Allocator>(answer: Option<IterItem<A>>) -> Said {
     }
 }
 
+/// What is said of the entry that is lent now.
+pub fn said_lent<L: Lending>(source: &L) -> Said {
+    match source.entry() {
+        Some(entry) => said_of_lent(&entry),
+        None => NOTHING,
+    }
+}
+
 // What is said of the next answer of what lends.
 fn said_next<L: Lending>(source: &mut L) -> Said
     requires { CanDeal L.advances nowhere L.can_advance L.can_advance source.old }
     ensures can { CanDeal L.advances nowhere L.can_advance L.can_advance source.new }
 {
     match go_on(source) {
-        Ok(_) => match source.entry() {
-            Some(entry) => said_of_lent(&entry),
-            None => NOTHING,
-        },
+        Ok(_) => said_lent(source),
         Err(error) => said_of_error(&error),
     }
 }
