@@ -1,15 +1,18 @@
-//! Data blocks: what is written of entries, and what reads, seeks and cursors find.
+//! Data blocks: what is written of entries, and what reads, seeks and cursors find, of a loaded block
+//! and of its source.
 
 use crate::blocks::large::{Size, Within, part};
-use crate::blocks::payloads::data_block;
+use crate::blocks::payloads::{data_block, source_of};
 use crate::blocks::walks::{Edge, NONE, Walk, Walked, refusal, walks_so};
 use crate::blocks::written::{Told, is_written, length_behind_seven};
+use crate::sections::tables::{handle, table_of};
 use sst_blocks::Direction::{Back, Front};
 use sst_blocks::{
-    BlockType, DataBlock, DataBlockCursor, DataBlockIter, Direction, EntryRef, Error,
-    InternalValue, IterItem, SeqNo, Slice, TableVersion, ValueType, are_strict, data_block_bound,
+    BlockHandle, BlockSource, BlockType, DataBlock, DataBlockCursor, DataBlockIter, Direction,
+    EntryPlace, EntryRef, Error, InternalValue, IterItem, Opened, SectionName, SeqNo, Slice,
+    TableVersion, ValueType, are_strict, data_block_bound,
 };
-use std::alloc::{AllocError, Allocator};
+use std::alloc::{AllocError, Allocator, Global};
 use test_refusing::Refusing;
 
 fn entry<A: Allocator>(row: &EntryRef<'static>) -> InternalValue<A> {
@@ -424,4 +427,114 @@ pub(crate) fn is_so_at(heap: &Refusing, place: usize, may_fail: bool) -> bool {
         }
         None => false,
     }
+}
+
+// ---- reads of a source
+
+// Whether the entry at a place of a source is the one that a read returned, or the read's error is
+// that of the place.
+fn is_placed(
+    source: &BlockSource,
+    place: Result<Option<EntryPlace>, Error>,
+    found: &Result<Option<InternalValue>, Error>,
+) -> bool {
+    match (place, found) {
+        (Ok(Some(place)), Ok(Some(item))) => source.entry_at(&place) == Some(item.as_entry_ref()),
+        (Ok(None), Ok(None)) => true,
+        (Err(fault), Err(error)) => fault == *error,
+        _ => false,
+    }
+}
+
+// What a point read of a source finds, where it finds the entry that is at the place that the
+// source returns for it, and each of both reads counts one load. Else `Source(9)`.
+fn found_in(
+    source: &BlockSource,
+    handle: &BlockHandle,
+    key: &[u8],
+    seqno: SeqNo,
+) -> Result<Option<InternalValue>, Error> {
+    let mut opened = Opened::none();
+    let place = source.point_place(handle, key, seqno, &mut opened);
+    let counted = opened.data_loads == 1;
+    let found = source.point_read(handle, key, seqno, &mut opened);
+    if counted && opened.data_loads == 2 && is_placed(source, place, &found) {
+        found
+    } else {
+        Err(Error::Source(9))
+    }
+}
+
+// Whether point reads of the source of a payload find what they should, also on a second call,
+// which does not test the block again.
+fn is_found_in_source(alloc: Global, stored: &Stored) -> Result<bool, Error> {
+    let source = source_of(alloc, stored.version, BlockType::Data, stored.payload)?;
+    let handle = handle(0, size_of(stored.payload));
+    for &(key, seqno, place) in stored.reads {
+        for _ in 0..2 {
+            let found = found_in(&source, &handle, key, seqno)?;
+            if !is_found(found.map(Ok), stored.rows.get(place), false) {
+                return Ok(false);
+            }
+        }
+    }
+    Ok(true)
+}
+
+// The size of a block of a payload, its header of 24 bytes included.
+fn size_of(payload: &[u8]) -> u32 {
+    u32::try_from(payload.len().saturating_add(24)).unwrap_or(0)
+}
+
+// Changes of a table of five entries, the position and the size of the block that is read, and the
+// error.
+type Refused = (&'static [(usize, u8)], u64, u32, Error);
+
+const REFUSED: &[Refused] = &[
+    (&[], 0, 23, Error::Truncated),
+    (&[], 0, 126, Error::InvalidHeader),
+    (&[], 1_000, 127, Error::Truncated),
+    (&[(126, b'?')], 0, 127, Error::ChecksumMismatch),
+    (&[(5, 1)], 0, 127, Error::UnsupportedCompression),
+];
+
+// Whether a point read fails so, at each key.
+fn is_refused(alloc: Global, refused: &Refused) -> Result<bool, Error> {
+    let (changes, offset, size, error) = refused;
+    let blocks = [(BlockType::Data, FIVE_IN_V4, 0, 127)];
+    let source = table_of(alloc, SectionName::Data, &blocks, changes)?;
+    let handle = handle(*offset, *size);
+    let mut is_so = true;
+    for &(key, seqno, _) in READS_OF_FIVE {
+        let found = found_in(&source, &handle, key, seqno);
+        is_so &= found.err().as_ref() == Some(error);
+    }
+    Ok(is_so)
+}
+
+// Whether the last entry of the second of two blocks is read, and a shorter source, which ends before
+// it, has nothing at its place.
+fn is_not_there(alloc: Global) -> Result<bool, Error> {
+    let blocks = [
+        (BlockType::Data, FIVE_IN_V4, 0, 127),
+        (BlockType::Data, FIVE_IN_V4, 127, 127),
+    ];
+    let source = table_of(alloc, SectionName::Data, &blocks, &[])?;
+    let other = source_of(alloc, TableVersion::V4, BlockType::Data, ONE_IN_V4)?;
+    let place = source.point_place(&handle(127, 127), b"e", 4, &mut Opened::none())?;
+    let Some(place) = place else {
+        return Ok(false);
+    };
+    Ok(source.entry_at(&place) == FIVE.last().copied() && other.entry_at(&place).is_none())
+}
+
+#[test]
+fn a_source_is_read_as_its_blocks(rt: HostRuntime) {
+    for stored in STORED {
+        assert!(rt; is_found_in_source(rt.alloc(), stored) == Ok(true));
+    }
+    for refused in REFUSED {
+        assert!(rt; is_refused(rt.alloc(), refused) == Ok(true));
+    }
+    assert!(rt; is_not_there(rt.alloc()) == Ok(true));
 }
