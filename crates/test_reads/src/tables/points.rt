@@ -1,10 +1,17 @@
-//! Point reads over a source that lists what it loads, and point reads of tables where a request for
-//! memory is refused.
-use crate::tables::{Changed, Of, Parted, Sought, TWO_LEVELS, counted_read, number_of, opened};
+//! Point reads over a source that lists what it loads; point reads of tables where a request for
+//! memory is refused; and point reads that borrow the entry, or return where it is stored.
+use crate::tables::{
+    Changed, LOADED, ON_DEMAND, Of, Parted, Sought, TWO_LEVELS, counted_read, lends_same,
+    number_of, open_with, opened, written,
+};
 use logpurple::{Table, point_in};
-use sst_blocks::{Block, BlockHandle, BlockSource, BlockType, Counted, Error, LoadBlocks, SeqNo};
-use std::alloc::Allocator;
+use sst_blocks::{
+    Block, BlockHandle, BlockSource, BlockType, Counted, EntryPlace, Error, InternalValue,
+    LoadBlocks, SeqNo, ValueType,
+};
+use std::alloc::{Allocator, Global};
 use test_tables::large::asked_with;
+use test_tables::rows::Row;
 
 // Where a block lies, and its size.
 type Place = (u64, u32);
@@ -120,18 +127,24 @@ const DAMAGED: Changed<'static> = (
 
 const MISMATCH: Result<Option<SeqNo>, Error> = Err(Error::ChecksumMismatch);
 
+// Reads of a@9, a@7, a@5 and b@1.
+const OF_FOUR: &[Found] = &[
+    ((b"a", 10), Ok(Some(9))),
+    ((b"a", 8), Ok(Some(7))),
+    ((b"a", 5), Ok(None)),
+    ((b"b", 2), Ok(Some(1))),
+    ((b"c", 100), Ok(None)),
+];
+
+// With a partition of the filter for each key, none of which is pinned.
+const FILTERED: Changed<'static> = (Of::Keys, &[], (false, false), 0);
+
+// Of a@3, to whose number 10 is added.
+const LIFTED: Changed<'static> = (Of::Numbered(3), &[], (true, true), 10);
+
 // Tables, and reads of them.
 const TABLES: &[(Changed<'static>, &[Found])] = &[
-    (
-        TWO_LEVELS,
-        &[
-            ((b"a", 10), Ok(Some(9))),
-            ((b"a", 8), Ok(Some(7))),
-            ((b"a", 5), Ok(None)),
-            ((b"b", 2), Ok(Some(1))),
-            ((b"c", 100), Ok(None)),
-        ],
-    ),
+    (TWO_LEVELS, OF_FOUR),
     (
         DAMAGED,
         &[
@@ -139,6 +152,17 @@ const TABLES: &[(Changed<'static>, &[Found])] = &[
             ((b"a", 8), Ok(Some(7))),
             ((b"a", 6), MISMATCH),
             ((b"b", 2), MISMATCH),
+        ],
+    ),
+    (LOADED, OF_FOUR),
+    (ON_DEMAND, OF_FOUR),
+    (FILTERED, OF_FOUR),
+    (
+        LIFTED,
+        &[
+            ((b"a", 14), Ok(Some(13))),
+            ((b"a", 13), Ok(None)),
+            ((b"b", 14), Ok(None)),
         ],
     ),
 ];
@@ -156,4 +180,89 @@ pub(crate) fn table_is_read<A: Allocator + Copy>(alloc: A, at: usize) -> Result<
         Some((changed, reads)) => asked_with(opened(alloc, changed), *reads, all_found),
         None => Ok(false),
     }
+}
+
+// ---- borrowed, and by the entry's place
+
+// Whether the entry at the place that a read of a table returned is the one that another read found.
+fn is_placed(
+    table: &Table,
+    place: Result<Option<EntryPlace>, Error>,
+    found: &Result<Option<InternalValue>, Error>,
+) -> bool {
+    match place {
+        Ok(Some(place)) => match table.entry_at(&place) {
+            Some(entry) => lends_same(found, &Ok(Some(entry))),
+            None => false,
+        },
+        Ok(None) => lends_same(found, &Ok(None)),
+        Err(error) => lends_same(found, &Err(error)),
+    }
+}
+
+// Whether each kind of point read of a table finds that, and those that count their loads have as
+// many.
+fn is_found_each_way(table: &Table, read: &Found) -> bool {
+    let ((key, seqno), expected) = read;
+    let key_hash = Table::<Global>::key_hash(key);
+    let (found, opened) = table.get_counted(key, *seqno, key_hash);
+    let (lent, lent_opened) = table.get_ref_counted(key, *seqno, key_hash);
+    let (place, place_opened) = table.get_place(key, *seqno, key_hash);
+    lent_opened == opened
+        && place_opened == opened
+        && lends_same(&found, &lent)
+        && lends_same(&found, &table.get_ref(key, *seqno, key_hash))
+        && lends_same(&table.get(key, *seqno, key_hash), &lent)
+        && is_placed(table, place, &found)
+        && number_of(found) == *expected
+}
+
+fn all_found_each_way(table: &Table, reads: &[Found]) -> Result<bool, Error> {
+    for read in reads {
+        if !is_found_each_way(table, read) {
+            return Ok(false);
+        }
+    }
+    Ok(true)
+}
+
+// The length of a value that is longer than a small table.
+const LONG: usize = 4_000;
+
+// Whether the entry at a place is in its own table, and another table, which ends before it, has
+// none there.
+fn is_past_the_end(short: &Table, of: (&Table, Option<EntryPlace>)) -> Result<bool, Error> {
+    let (long, place) = of;
+    let Some(place) = place else {
+        return Ok(false);
+    };
+    let is_there = match long.entry_at(&place) {
+        Some(entry) => entry.value.len() == LONG,
+        None => false,
+    };
+    Ok(is_there && short.entry_at(&place).is_none())
+}
+
+fn is_in_its_table_alone(long: &Table, alloc: Global) -> Result<bool, Error> {
+    let (place, _) = long.get_place(b"a", 2, Table::<Global>::key_hash(b"a"));
+    let place = place?;
+    asked_with(opened(alloc, &LOADED), (long, place), is_past_the_end)
+}
+
+// Whether that is so of the place of an entry with a long value.
+fn long_is_in_its_table_alone(alloc: Global) -> Result<bool, Error> {
+    let value = vec![in alloc; b'x'; LONG]?;
+    let rows: [Row<'_>; 1] = [(b"a", 1, ValueType::Value, value.as_slice())];
+    let bytes = written(alloc, Parted::Nothing, &rows, 0, 0)?;
+    let long = open_with(alloc, bytes, (true, true), 0);
+    asked_with(long, alloc, is_in_its_table_alone)
+}
+
+#[test]
+fn a_point_read_borrows_what_it_returns(rt: HostRuntime) {
+    for (changed, reads) in TABLES {
+        let found = asked_with(opened(rt.alloc(), changed), *reads, all_found_each_way);
+        assert!(rt; found == Ok(true));
+    }
+    assert!(rt; long_is_in_its_table_alone(rt.alloc()) == Ok(true));
 }
