@@ -1,12 +1,12 @@
 //! Readers and scanners of one run: within bounds and of a span, from both ends, whole entries of
-//! each kind, with a damaged table, and lent. What walks them is generic in them, so that none of
-//! their parts is looked at.
+//! each kind, with a damaged table, lent, and lent and given by turns. What walks them is generic in
+//! them, so that none of their parts is looked at.
 ghost use Rattle.std.specs.Prelude.{◌≡◌, ◌-◌, ◌<◌, ◌≤◌, true, IfOk, length, unwrap_or};
 ghost use Rattle.std.specs.Arc.{arc_value};
 ghost use Rattle.lsm_ranges.specs.Run.{ArePlacesOf};
 
 use logpurple::{RunReader, RunScanner};
-use sst_blocks::{Direction, Error, IterItem, ValueType};
+use sst_blocks::{Direction, Error, IterItem, Lending, ValueType};
 use std::alloc::{Allocator, Global};
 use std::ops::Bound;
 use test_tables::lending::walk_both;
@@ -455,5 +455,64 @@ fn range_lent(alloc: Global, damaged: usize) -> Result<Option<(usize, u8)>, Erro
 fn a_range_of_a_run_lends_what_it_gives(rt: HostRuntime) {
     for (damaged, walk) in [(3, (5, 0)), (2, (3, 5)), (1, (2, 5))] {
         assert!(rt; range_lent(rt.alloc(), damaged) == Ok(Some(walk)));
+    }
+}
+
+// ---- a reader, lent and given by turns
+
+// Whether a reader lends the entry of a row next, or nothing where there is no row.
+fn lends_row(reader: &mut RunReader<Global>, row: Option<&Row<'_>>) -> Result<bool, Error> {
+    let more = reader.advance()?;
+    match (reader.entry(), row) {
+        (Some(entry), Some(row)) => {
+            let key = (entry.user_key, entry.seqno, entry.value_type);
+            Ok(more && key == (row.0, row.1, row.2) && entry.value == row.3)
+        }
+        (None, None) => Ok(!more),
+        _ => Ok(false),
+    }
+}
+
+// Whether a reader gives the entry of a row at an end, or nothing where there is no row, and lends
+// nothing after that.
+fn gives_row(reader: &mut RunReader<Global>, end: Direction, row: Option<&Row<'_>>) -> bool {
+    let given = match end {
+        Direction::Front => reader.next(),
+        Direction::Back => reader.next_back(),
+    };
+    is_answer(&given, row) && reader.entry().is_none()
+}
+
+// Turns, a byte each: `L` to lend, `F` and `B` to give at the front and at the back; and the row of
+// each, by a letter for its place in all tables, or `.` for none.
+type Turns = (&'static [u8], &'static [u8]);
+
+// Whether the turns of a reader of all rows come so.
+fn takes_turns(alloc: Global, turns: &Turns) -> Result<bool, Error> {
+    let mut reader = span_reader_of(alloc, (LENT_TABLES, 3), ALL, WHOLE)?;
+    let mut is_so = reader.entry().is_none();
+    for (turn, letter) in turns.0.iter().zip(turns.1.iter()) {
+        let wanted = wanted_at(LENT_TABLES, *letter)?;
+        is_so &= match *turn {
+            b'L' => lends_row(&mut reader, wanted.as_ref())?,
+            b'F' => gives_row(&mut reader, F, wanted.as_ref()),
+            _ => gives_row(&mut reader, B, wanted.as_ref()),
+        };
+    }
+    Ok(is_so)
+}
+
+const TURNS: &[Turns] = &[
+    (b"LBFLBLFB", b"aebcd..."),
+    (b"FLBBLFLB", b"abedc..."),
+    (b"BLLFLBFL", b"eabcd..."),
+    (b"LLLLLLFB", b"abcde..."),
+    (b"BBBBLBLF", b"edcba..."),
+];
+
+#[test]
+fn a_range_of_a_run_lends_and_gives_by_turns(rt: HostRuntime) {
+    for turns in TURNS {
+        assert!(rt; takes_turns(rt.alloc(), turns) == Ok(true));
     }
 }

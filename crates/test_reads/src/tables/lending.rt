@@ -3,7 +3,7 @@
 use crate::tables::walks::{blocks_in, range_in};
 use crate::tables::{Changed, KINDS, Of, Pins, changed_bytes};
 use logpurple::Iter;
-use sst_blocks::{Error, Lending};
+use sst_blocks::{Error, IterItem, Lending};
 use std::alloc::Global;
 use std::ops::Bound;
 use test_tables::lending::{Walk, walk_both};
@@ -136,15 +136,24 @@ fn lends_next(mixed: &mut Iter, plain: &mut Iter) -> Result<bool, Error> {
     }
 }
 
-// Whether a range gives what another gives, from the back or from the front, and lends nothing
-// behind a step at the back.
+// Whether what a range lends after a step is what that step gave at the front, and nothing after a
+// step at the back.
+fn lends_given(mixed: &Iter, found: &Option<IterItem>, back: bool) -> bool {
+    match found {
+        Some(Ok(item)) if !back => mixed.entry() == Some(item.as_entry_ref()),
+        _ => mixed.entry().is_none(),
+    }
+}
+
+// Whether a range gives what another gives, from the back or from the front, and lends then what it
+// should.
 fn gives_next(mixed: &mut Iter, plain: &mut Iter, back: bool) -> Result<bool, Error> {
     let (found, wanted) = if back {
         (mixed.next_back(), plain.next_back())
     } else {
         (mixed.next(), plain.next())
     };
-    if back && mixed.entry().is_some() {
+    if !lends_given(mixed, &found, back) {
         return Ok(false);
     }
     match (found, wanted) {
