@@ -148,8 +148,12 @@ fn stays_over<W: Walk>(walk: &mut W) -> bool {
         && is_over(walk)
 }
 
-// What comes of some calls, where there is something to walk.
-fn walked<W: Walk + Drop>(made: Result<W, Error>, is_loaded: bool, calls: &[Call]) -> Came {
+/// What comes of some calls, where there is something to walk.
+pub(crate) fn walked<W: Walk + Drop>(
+    made: Result<W, Error>,
+    is_loaded: bool,
+    calls: &[Call],
+) -> Came {
     let mut walk = match made {
         Ok(walk) => walk,
         Err(error) => return Err((UNMADE, error)),
@@ -217,8 +221,8 @@ pub(crate) fn blocks_in<A: Allocator + Copy>(
     asked_with(BlockSource::new(alloc, bytes), (count, changed.3), scan_of)
 }
 
-// Whether the index stays loaded, so that a seek knows what it leaves.
-fn is_loaded(changed: &Changed<'_>) -> bool {
+/// Whether the index stays loaded, so that a seek knows what it leaves.
+pub(crate) fn is_loaded(changed: &Changed<'_>) -> bool {
     match changed.0 {
         Of::Rows(Parted::Nothing) => changed.2.1,
         _ => false,
