@@ -1,5 +1,5 @@
-//! Point reads of several runs, of all of them and by age, and of one: what they find, given, lent
-//! and by its place, the blocks that they load, and what they are refused where a table is damaged.
+//! Point reads of several runs, of all of them and by age, and of one: what they find, by value,
+//! borrowed and by its place, the blocks that they load, and their error where a table is damaged.
 use crate::tables::{cloned, lends_same, number_of};
 use logpurple::{
     RunPlace, Table, entry_in_runs, get_runs, get_runs_by_age, get_runs_by_age_counted,
@@ -42,7 +42,8 @@ fn is_so(read: (Result<Option<InternalValue>, Error>, Opened), wanted: &Read) ->
     number_of(found) == wanted.0 && opened.data_loads == wanted.1 && others == (0, 0, 0)
 }
 
-// Whether the entry at the place that a read of runs returned is the one that another read found.
+// Whether the runs have the entry that `get_runs` returned at the place that `place_in_runs`
+// returned, or both calls returned the same error.
 fn is_placed(
     runs: &[Tables<Global>],
     place: Result<Option<RunPlace>, Error>,
@@ -58,7 +59,7 @@ fn is_placed(
     }
 }
 
-// Whether a read of all runs finds that, given, lent and by its place.
+// Whether a read of all runs finds that, by value, borrowed and by its place.
 fn is_found_each_way(runs: &[Tables<Global>], key: &[u8], bound: SeqNo, wanted: &Found) -> bool {
     let found = get_runs(runs, key, bound);
     lends_same(&found, &get_runs_ref(runs, key, bound))
@@ -127,8 +128,8 @@ const READS: &[(DamagedRuns, &[Case])] = &[
     (
         (TWO_RUNS, (2, 0)),
         &[
-            // Both runs have a table for the key: each is asked, also where the first one answers;
-            // by age the second one is not, where all that it has is older than the answer.
+            // Both runs have a table for the key: each is read, also where the first one has it;
+            // by age the second one is not, where all that it has is older than the entry found.
             (b"a", 10, (Ok(Some(9)), 2), (Ok(Some(9)), 1)),
             (b"a", 9, (Ok(Some(5)), 2), (Ok(Some(5)), 2)),
             (b"b", 10, (Ok(Some(3)), 2), (Ok(Some(3)), 2)),
@@ -137,7 +138,7 @@ const READS: &[(DamagedRuns, &[Case])] = &[
             (b"d", 10, (Ok(Some(1)), 1), (Ok(Some(1)), 1)),
             // No run has one.
             (b"e", 10, (Ok(None), 0), (Ok(None), 0)),
-            // A table without a number below the bound loads nothing.
+            // A table without a sequence number below the bound loads no block.
             (b"a", 3, (Ok(None), 1), (Ok(None), 1)),
             (b"a", 2, (Ok(None), 0), (Ok(None), 0)),
         ],
@@ -150,7 +151,7 @@ const READS: &[(DamagedRuns, &[Case])] = &[
             (b"a", 9, (Ok(Some(7)), 3), (Ok(Some(7)), 3)),
             (b"d", 10, (Ok(Some(4)), 2), (Ok(Some(4)), 2)),
             (b"a", 7, (Ok(Some(5)), 3), (Ok(Some(5)), 3)),
-            // The third run has no number below the bound.
+            // The third run has no sequence number below the bound.
             (b"d", 4, (Ok(Some(1)), 1), (Ok(Some(1)), 1)),
             (b"c", 3, (Ok(Some(2)), 1), (Ok(Some(2)), 1)),
             // Runs may have a table for a key, and not the key.
@@ -171,10 +172,10 @@ const READS: &[(DamagedRuns, &[Case])] = &[
     (
         (BY_AGE, (2, 0)),
         &[
-            // All that the older run has is older than what the newer one answers.
+            // All that the older run has is older than what is found in the newer one.
             (b"a", SeqNo::MAX, (Ok(Some(9)), 2), (Ok(Some(9)), 1)),
             (b"a", 8, (Ok(Some(7)), 2), (Ok(Some(7)), 1)),
-            // The newer run has the key, and no number below the bound.
+            // The newer run has the key, and no sequence number below the bound.
             (b"a", 3, (Ok(Some(2)), 1), (Ok(Some(2)), 1)),
             // The older run may have a newer version of the key.
             (b"b", SeqNo::MAX, (Ok(Some(3)), 2), (Ok(Some(3)), 2)),
@@ -183,7 +184,7 @@ const READS: &[(DamagedRuns, &[Case])] = &[
             (b"d", SeqNo::MAX, (Ok(None), 0), (Ok(None), 0)),
         ],
     ),
-    // The load that is refused counts, and those behind it are not made.
+    // The load that fails counts, and those after it are not made.
     (
         (TWO_RUNS, (0, 0)),
         &[(b"a", 10, (DAMAGED, 1), (DAMAGED, 1))],
@@ -192,12 +193,12 @@ const READS: &[(DamagedRuns, &[Case])] = &[
         (TWO_RUNS, (1, 0)),
         &[
             (b"b", 10, (DAMAGED, 2), (DAMAGED, 2)),
-            // What is not asked is not refused.
+            // A table that is not read causes no error.
             (b"a", 10, (DAMAGED, 2), (Ok(Some(9)), 1)),
             (b"d", 10, (Ok(Some(1)), 1), (Ok(Some(1)), 1)),
         ],
     ),
-    // A damaged table refuses the reads of its keys.
+    // Reads of a damaged table's keys fail.
     (
         (TWICE, (0, 1)),
         &[
@@ -214,7 +215,7 @@ fn reads_of_runs_load_a_block_of_each_table_that_is_asked(rt: HostRuntime) {
     }
 }
 
-// Whether there is an entry at a place in each of some runs.
+// Whether some runs have an entry at a place.
 fn is_there(alloc: Global, lists: &[Lists], place: &RunPlace) -> Result<bool, Error> {
     let runs = runs_of(alloc, lists)?;
     Ok(entry_in_runs(&runs, place).is_some())
@@ -222,8 +223,8 @@ fn is_there(alloc: Global, lists: &[Lists], place: &RunPlace) -> Result<bool, Er
 
 const ONE_RUN: &[Lists] = &[&[A9_B3]];
 
-// A key and a bound of three runs, and other runs, which do not reach as far as the entry's place: no
-// runs, too few, and a run of too few tables.
+// A key and a bound of a read of three runs, and other runs, which have nothing at the place of the
+// entry: no runs, too few, and a run of too few tables.
 const ELSEWHERE: &[(&[u8], SeqNo, &[Lists])] = &[
     (b"a", 10, &[]),
     (b"d", 10, TWO_RUNS),
@@ -231,7 +232,7 @@ const ELSEWHERE: &[(&[u8], SeqNo, &[Lists])] = &[
     (b"d", 4, &[&[A9_B3], &[A5_C2]]),
 ];
 
-// Whether an entry of three runs is at its place, and there is none in other runs.
+// Whether three runs have an entry at its place, and other runs have none there.
 fn is_there_alone(
     alloc: Global,
     key: &[u8],
@@ -247,7 +248,7 @@ fn is_there_alone(
     Ok(is_there(alloc, THREE_RUNS, &place)? && !is_there(alloc, others, &place)?)
 }
 
-// Whether that is so of an entry with a long value, and a run of a table whose bytes end before it.
+// Whether that is so for an entry with a long value, and a run of a table that ends before it.
 fn long_is_there_alone(alloc: Global) -> Result<bool, Error> {
     let value = vec![in alloc; b'x'; 4_000]?;
     let rows: [Row<'_>; 1] = [(b"a", 1, VALUE, value.as_slice())];
@@ -277,14 +278,14 @@ fn unshared(run: &Tables<Global>, alloc: Global) -> Result<Run<Table>, Error> {
     Run::new(tables).ok_or(Error::Source(2))
 }
 
-// The first of two large values; the second is let go of.
+// The first of two large values; the second is dropped.
 fn first_of<T: Drop, U: Drop>(both: Result<(T, U), Error>) -> Result<T, Error> {
     let (first, second) = both?;
     drop(second);
     Ok(first)
 }
 
-// The number that a point read finds of a run alone, whose second table is damaged.
+// The sequence number that a point read finds in one run, whose second table is damaged.
 fn found_alone(alloc: Global, key: &[u8]) -> Found {
     let run = asked_with(damaged_run_of(alloc, THREE_TABLES, 1), alloc, unshared)?;
     let range = owned_range(alloc, ALL);

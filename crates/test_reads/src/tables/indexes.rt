@@ -1,7 +1,7 @@
-//! The index of tables of one list, which names the same blocks, whichever index they are written
-//! with, and whether or not it stays loaded: of what kind it is, where its readers start, and the
-//! entries within bounds over an index iterator that was sought or advanced. Which blocks these are,
-//! and in which order they come, `test_vectors` compares.
+//! The index of tables of one list, which has the same blocks, whichever index they are written
+//! with, and whether or not it is pinned: its kind, where its readers start, and the entries within
+//! bounds over an index iterator that was sought or advanced. `test_vectors` compares which blocks
+//! these are and their order.
 use crate::tables::walks::{Call, Walk, is_loaded, walked};
 use crate::tables::{Changed, KINDS, Of, Parted, Pins, opened};
 use logpurple::{BlockIndex, BlockIndexImpl, BlockIndexIterImpl, Bound as Edge, Iter, Table};
@@ -11,14 +11,14 @@ use std::ops::Bound;
 use test_tables::large::{asked, asked_if_any, asked_with};
 use test_tables::runs::{ALL, Bounds, Name, owned_range};
 
-// The index of a table. By the law it names the blocks of any table that is cut alike, as the table
+// The index of a table. By the law it has the blocks of any table that is cut alike, as the table
 // itself is.
 fn index_in(table: &Table) -> Result<BlockIndexImpl, Error> {
     table.names_blocks_as(table);
     table.block_index()
 }
 
-// The number of the first handle that a reader of an index gives, if any.
+// The sequence number of the first handle that a reader of an index yields, if any.
 fn first_number(reader: &mut BlockIndexIterImpl) -> Result<Option<SeqNo>, Error> {
     match reader.next() {
         Some(Ok(handle)) => Ok(Some(handle.seqno())),
@@ -27,7 +27,7 @@ fn first_number(reader: &mut BlockIndexIterImpl) -> Result<Option<SeqNo>, Error>
     }
 }
 
-// That of the reader from a key and a number on; `None` where there is no reader.
+// That of the reader from a key and a sequence number on; `None` where there is no reader.
 fn starts(
     index: &BlockIndexImpl,
     key: &[u8],
@@ -36,14 +36,14 @@ fn starts(
     asked_if_any(index.forward_reader(key, seqno), first_number)
 }
 
-// The kinds of an index: one that stays loaded, one that each reader loads, and one of two levels.
+// The kinds of an index: one that is pinned, one that each reader loads, and one of two levels.
 const FULL: u8 = 0;
 
 const ON_DEMAND: u8 = 1;
 
 const TWO_LEVELS: u8 = 2;
 
-// The kind of an index, and where its readers start, from a key within it and from one behind it.
+// The kind of an index, and where its readers start, from a key within it and from one after it.
 type Told = (u8, Option<Option<SeqNo>>, Option<Option<SeqNo>>);
 
 fn told(index: &BlockIndexImpl) -> Result<Told, Error> {
@@ -59,8 +59,8 @@ const FOUND: Option<Option<SeqNo>> = Some(Some(7));
 
 const NO_HANDLE: Option<Option<SeqNo>> = Some(None);
 
-// Tables, written and stored, what of them is pinned, and what is told of their index. Only one
-// that stays loaded tells at once that no handle reaches a key.
+// Tables, written and stored, their pins, and the kind and the readers of their index. Only a
+// pinned one returns no reader where no handle reaches a key.
 const INDEXES: &[(Of, Pins, Told)] = &[
     (Of::Rows(Parted::Nothing), (true, true), (FULL, FOUND, None)),
     (
@@ -92,7 +92,7 @@ const INDEXES: &[(Of, Pins, Told)] = &[
     (Of::Levels, (true, true), (TWO_LEVELS, FOUND, NO_HANDLE)),
 ];
 
-// Whether that is told of a table's index, once the table itself is gone.
+// Whether a table's index is so, once the table itself is dropped.
 fn tells(alloc: Global, of: Of, pins: Pins, expected: Told) -> bool {
     let index = asked(opened(alloc, &(of, &[], pins, 0)), index_in);
     asked(index, told) == Ok(expected)
@@ -108,14 +108,16 @@ fn readers_of_the_index_of_each_kind(rt: HostRuntime) {
 // ---- an index iterator that was sought or advanced
 
 // Calls of an index iterator of a@9, a@7, a@5 and b@1, in a block each; and whether it is unsought
-// after them, over an index that stays loaded, and over another.
+// after them, over a pinned index of one block and over another.
 type Before = (&'static [Call], bool, bool);
 
-// What is called before; bounds, and the calls of the entries within them; and how many blocks these
-// load: of data, over an index that stays loaded and over another, and of an index of two levels.
+// The calls before; bounds, and the calls of the entries within them; and how many blocks are
+// loaded: data blocks over a pinned index of one block and over another, and index blocks of two
+// levels.
 type Resumed = (Before, Bounds<'static>, &'static [Call], (u64, u64, u64));
 
-// Whether the calls of an index iterator come so, and it is then unsought as it should be.
+// Whether the calls of an index iterator return that, and it is then unsought or not as it should
+// be.
 fn is_before(
     handles: &mut BlockIndexIterImpl,
     before: &Before,
@@ -129,7 +131,7 @@ fn is_before(
     Ok(is_so && handles.is_unsought() == is_unsought)
 }
 
-// The handles of a table after some calls. `Source(9)` where these do not come so.
+// The handles of a table after some calls. `Source(9)` where these return something else.
 fn handles_after(
     table: &Table,
     before: &Before,
@@ -171,7 +173,7 @@ fn resumed_in(table: &Table, by: (Global, &Resumed, bool)) -> Result<Iter, Error
     Ok(iter)
 }
 
-// Whether they come so, and load as many blocks, over the index of a table.
+// Whether they are yielded so, with as many loads, over the index of a table.
 fn is_resumed(alloc: Global, changed: &Changed<'_>, resumed: &Resumed, index: u64) -> bool {
     let loaded = is_loaded(changed);
     let (whole, rest, _) = resumed.3;
@@ -180,8 +182,8 @@ fn is_resumed(alloc: Global, changed: &Changed<'_>, resumed: &Resumed, index: u6
     walked(iter, loaded, resumed.2) == Ok((data, index))
 }
 
-// Whether they do over each kind of index. One that stays loaded is never loaded, and one on demand
-// once.
+// Whether they are over each kind of index. A pinned one of one block is never loaded, and one on
+// demand once.
 fn is_resumed_over_each(alloc: Global, resumed: &Resumed) -> bool {
     let (_, _, index) = resumed.3;
     for (kind, loads) in KINDS.iter().zip([0, 1, index, index]) {
@@ -213,9 +215,10 @@ const B1_ALONE: &[Call] = &[Call::Front(B1), Call::Back(None), Call::Front(None)
 const NOTHING: &[Call] = &[Call::Front(None), Call::Back(None)];
 
 const RESUMED: &[Resumed] = &[
-    // The first step seeks the bounds where that was not done: it loads no block before them.
+    // The first step seeks the bounds in an iterator that was not sought: no block before them is
+    // loaded.
     ((&[], true, true), FROM_B, B1_ALONE, (1, 1, 1)),
-    // After a step, or a seek that leaves a handle out, it loads each block that is left.
+    // After a step, or a seek that leaves a handle out, each block that is left is loaded.
     (
         (&[Call::Front(A9)], false, false),
         FROM_B,
@@ -258,7 +261,7 @@ const RESUMED: &[Resumed] = &[
         &[Call::Back(A9), Call::Front(None)],
         (1, 1, 1),
     ),
-    // A seek that leaves none out counts as none over an index that stays loaded alone.
+    // A seek that leaves none out counts as none, over a pinned index of one block only.
     (
         (&[Call::Upper(b"a", 0, true)], true, false),
         FROM_B,
@@ -290,7 +293,7 @@ const RESUMED: &[Resumed] = &[
     ),
 ];
 
-// The place of the first case that comes otherwise.
+// The index of the first case that differs.
 fn wrong_resumed(alloc: Global, cases: &[Resumed]) -> Option<usize> {
     for (place, case) in cases.iter().enumerate() {
         if !is_resumed_over_each(alloc, case) {

@@ -13,7 +13,7 @@ use std::alloc::{Allocator, Global};
 use test_tables::large::asked_with;
 use test_tables::rows::Row;
 
-// Where a block lies, and its size.
+// The offset of a block, and its size.
 type Place = (u64, u32);
 
 // Lists the last two of the blocks that it loads.
@@ -39,7 +39,8 @@ impl<A: Allocator + Copy> LoadBlocks for Listing<'_, A> {
     }
 }
 
-// A key and a bound, the number that is found, and the one block that is loaded, if any.
+// A key and a snapshot, the sequence number that is found, and the one block that is loaded, if
+// any.
 type Read = (Sought, Option<SeqNo>, Option<Place>);
 
 // Each block has a header of 24 bytes, a count of 4, and 17 bytes and the key for its one entry.
@@ -49,7 +50,7 @@ const READS: &[Read] = &[
     ((b"c", 100), None, None),
 ];
 
-// Whether a read of a table finds a number, and loads one block at most.
+// Whether a read of a table finds that sequence number, and loads no block but that.
 fn is_right<A: Allocator + Copy>(
     table: &Table<A>,
     source: &BlockSource<A>,
@@ -67,7 +68,7 @@ fn is_right<A: Allocator + Copy>(
     Ok(found? == read.1 && places == [None, read.2])
 }
 
-// Whether the reads of a table are so.
+// Whether all reads of a table are right.
 fn all_right<A: Allocator + Copy>(
     source: &BlockSource<A>,
     table: &Table<A>,
@@ -80,13 +81,13 @@ fn all_right<A: Allocator + Copy>(
     Ok(true)
 }
 
-// Whether they are so over a source of its own.
+// Whether they are, over a source of their own.
 fn reads_in<A: Allocator + Copy>(table: &Table<A>, alloc: A) -> Result<bool, Error> {
     let bytes = table.bytes()?;
     asked_with(BlockSource::new(alloc, bytes), table, all_right)
 }
 
-/// Whether the reads ask for one block at most.
+/// Whether the reads load at most one block.
 pub(crate) fn are_right<A: Allocator + Copy>(alloc: A) -> Result<bool, Error> {
     let table = opened(alloc, &(Of::Rows(Parted::Nothing), &[], (true, true), 0));
     asked_with(table, alloc, reads_in)
@@ -94,7 +95,7 @@ pub(crate) fn are_right<A: Allocator + Copy>(alloc: A) -> Result<bool, Error> {
 
 // ---- out of memory
 
-// A read, and the number that is found, if any, or an error.
+// A read, and the sequence number that is found, if any, or an error.
 type Found = (Sought, Result<Option<SeqNo>, Error>);
 
 // Whether a read finds that. A read that runs out of memory is made again.
@@ -116,8 +117,8 @@ fn all_found<A: Allocator + Copy>(table: &Table<A>, reads: &[Found]) -> Result<b
     Ok(true)
 }
 
-// Three of the four data blocks are damaged. A read reports that even if there was no memory for the
-// verified-block cache.
+// Three of the four data blocks are damaged. A read reports that even if there was no memory for
+// the verified-block cache.
 const DAMAGED: Changed<'static> = (
     Of::Levels,
     &[(43, b"?"), (131, b"?"), (175, b"?")],
@@ -136,10 +137,10 @@ const OF_FOUR: &[Found] = &[
     ((b"c", 100), Ok(None)),
 ];
 
-// With a partition of the filter for each key, none of which is pinned.
+// With a partition of the filter for each key; neither filter nor index is pinned.
 const FILTERED: Changed<'static> = (Of::Keys, &[], (false, false), 0);
 
-// Of a@3, to whose number 10 is added.
+// The table of a@3, with the global sequence number 10.
 const LIFTED: Changed<'static> = (Of::Numbered(3), &[], (true, true), 10);
 
 // Tables, and reads of them.
@@ -184,7 +185,8 @@ pub(crate) fn table_is_read<A: Allocator + Copy>(alloc: A, at: usize) -> Result<
 
 // ---- borrowed, and by the entry's place
 
-// Whether the entry at the place that a read of a table returned is the one that another read found.
+// Whether the table has the entry that `get_counted` returned at the place that `get_place` returned,
+// or both calls returned the same error.
 fn is_placed(
     table: &Table,
     place: Result<Option<EntryPlace>, Error>,
@@ -200,8 +202,8 @@ fn is_placed(
     }
 }
 
-// Whether each kind of point read of a table finds that, and those that count their loads have as
-// many.
+// Whether each kind of point read of a table finds that, and those that count their loads count the
+// same.
 fn is_found_each_way(table: &Table, read: &Found) -> bool {
     let ((key, seqno), expected) = read;
     let key_hash = Table::<Global>::key_hash(key);
@@ -229,8 +231,7 @@ fn all_found_each_way(table: &Table, reads: &[Found]) -> Result<bool, Error> {
 // The length of a value that is longer than a small table.
 const LONG: usize = 4_000;
 
-// Whether the entry at a place is in its own table, and another table, which ends before it, has
-// none there.
+// Whether a place has its entry in its own table, and none in a table that ends before it.
 fn is_past_the_end(short: &Table, of: (&Table, Option<EntryPlace>)) -> Result<bool, Error> {
     let (long, place) = of;
     let Some(place) = place else {
@@ -249,7 +250,7 @@ fn is_in_its_table_alone(long: &Table, alloc: Global) -> Result<bool, Error> {
     asked_with(opened(alloc, &LOADED), (long, place), is_past_the_end)
 }
 
-// Whether that is so of the place of an entry with a long value.
+// Whether that is so for the place of an entry with a long value.
 fn long_is_in_its_table_alone(alloc: Global) -> Result<bool, Error> {
     let value = vec![in alloc; b'x'; LONG]?;
     let rows: [Row<'_>; 1] = [(b"a", 1, ValueType::Value, value.as_slice())];

@@ -1,5 +1,5 @@
-//! Newest versions, compactions and mergers that lend, beside those by value, over the same lists;
-//! and what is lent of the entries below a bound.
+//! Lending newest versions, compactions and mergers, compared with those by value over the same
+//! lists; and lending iterators of the entries below a bound.
 ghost use Rattle.std.specs.Prelude.{IfOk};
 ghost use Rattle.sst_entries.specs.Stream.{CanDeal, nowhere};
 
@@ -24,8 +24,8 @@ fn kind_of(number: u64) -> ValueType {
     }
 }
 
-// A sorted list: of each key some versions, the newest first, which may tie, also with those of
-// other lists. The first value is the one given.
+// A sorted list: some versions of each key, the newest first. They may tie, also with those of
+// other lists. The first entry has the value `value`.
 fn list_of(alloc: Global, mut seed: u64, count: u8, value: u8) -> Result<Vec<IterItem>, Error> {
     let mut list = Vec::new(alloc);
     let mut key = 0u8;
@@ -42,8 +42,8 @@ fn list_of(alloc: Global, mut seed: u64, count: u8, value: u8) -> Result<Vec<Ite
     Ok(list)
 }
 
-// Two values, or the refusal of the first that is refused. It is generic in them, so that none of
-// their parts is looked at.
+// Two values, or the first error. It is generic in them, so that a proof looks at none of their
+// parts.
 fn both<T: Drop>(one: Result<T, Error>, other: Result<T, Error>) -> Result<(T, T), Error> {
     let one = one?;
     let other = other?;
@@ -116,16 +116,16 @@ fn lending_merger_of(
     LendingMerger::new(alloc, sources)
 }
 
-// Whether mergers of so many lists give the same.
+// Whether mergers of so many lists yield the same.
 fn mergers_agree(alloc: Global, seed: u64, count: u8) -> Result<bool, Error> {
     let by_value = merger_of(alloc, lists_of(alloc, seed, count)?)?;
     let lending = lending_merger_of(alloc, lists_of(alloc, seed, count)?)?;
     agree(by_value, lending, 40 * usize::from(count) + 2)
 }
 
-// What lends is compared: the newest versions of a list; what a compaction keeps of it, for a
-// threshold, and whether it evicts tombstones and zeroes numbers; and what several lists have
-// together.
+// The lending iterator that is compared: the newest versions of a list; a compaction of it at a
+// watermark, and whether it evicts tombstones and zeroes sequence numbers; and a merger of several
+// lists.
 #[derive(Clone, Copy)]
 enum Kind {
     Newest,
@@ -133,7 +133,7 @@ enum Kind {
     Merged,
 }
 
-// Whether what lends gives the same as by value, of so many entries or lists.
+// Whether the lending iterator yields the same as the one by value, of so many entries or lists.
 fn kinds_agree(alloc: Global, kind: Kind, seed: u64, count: u8) -> Result<bool, Error> {
     match kind {
         Kind::Newest => newest_agree(alloc, seed, count),
@@ -198,23 +198,23 @@ fn spelled(alloc: Global, text: &'static str) -> Result<Vec<Vec<IterItem>>, Erro
     Ok(lists)
 }
 
-// Whether a merger of the sources that a text spells lends so.
+// Whether a lending merger of the sources that a text spells yields that.
 fn merges(alloc: Global, text: &'static str, wanted: &str) -> Result<bool, Error> {
     let mut lending = lending_merger_of(alloc, spelled(alloc, text)?)?;
     Ok(lending.entry().is_none() && lends_so(&mut lending, wanted))
 }
 
-// Sources, and what is lent of them.
+// Sources, and what their merger yields.
 const LENT: &[(&str, &str)] = &[
     ("", ""),
     ("aV1 dV1 / bV1 / cV1 /", "aV1 bV1 cV1 dV1"),
-    // An error stands right behind the entry before it, and nothing follows it.
+    // An error comes right after the entry before it, and nothing follows it.
     ("aV1 dV1 !7 / bV1 / cV1 eV1 /", "aV1 bV1 cV1 dV1 !7"),
     ("aV1 dV1 / bV1 !7 fV1 / cV1 /", "aV1 bV1 !7"),
     ("aV1 cV1 !7 / bV1 !7 / eV1 /", "aV1 bV1 !7"),
     ("aV1 aV1 !7 / aV1 bV1 /", "aV1 aV1 !7"),
     ("aV1 bV1 / aV1 !7 /", "aV1 aV1 !7"),
-    // At the head of a source it is the first answer.
+    // At the head of a source it is the first item.
     ("aV1 / !7 bV1 / !7 /", "!7"),
 ];
 
@@ -230,7 +230,7 @@ fn an_error_is_answered_right_behind_the_entry_before_it(rt: HostRuntime) {
 
 // ---- below a bound
 
-// What lends the results of a text, from the first one on or with that one lent already.
+// A lending iterator over the results of a text, before its first step or after it.
 fn source_of(alloc: Global, text: &'static str, is_lent: bool) -> Result<LentList, Error>
     ensures can { IfOk result (CanDeal ⟦<LentList as Lending>⟧.advances nowhere
         ⟦<LentList as Lending>⟧.can_advance ⟦<LentList as Lending>⟧.can_advance) }
@@ -243,11 +243,11 @@ fn source_of(alloc: Global, text: &'static str, is_lent: bool) -> Result<LentLis
     Ok(source)
 }
 
-// A text, whether its first result is lent already, and a bound; what is lent before the first step,
-// and then.
+// A text, whether its source made a step already, and a bound; the entry that is borrowed before
+// the first step, and what the steps yield.
 type LentBelow = (&'static str, bool, SeqNo, &'static str, &'static str);
 
-// Whether that is lent.
+// Whether the entries below the bound are borrowed so, and no others.
 fn lends_below(alloc: Global, case: &LentBelow) -> Result<bool, Error> {
     let &(text, is_lent, seqno, before, wanted) = case;
     let mut below = Below::lending(source_of(alloc, text, is_lent)?, seqno);
@@ -261,9 +261,9 @@ const LENT_BELOW: &[LentBelow] = &[
     ("aV5 aV4 bT3", false, 6, "-", "aV5 aV4 bT3"),
     ("aV5 aV4 bT3", false, 3, "-", ""),
     ("aV5 aV4 bT3", false, 0, "-", ""),
-    // Entries at the bound or above stand between others, and before an error.
+    // Entries at the bound or above are between others, and before an error.
     ("aV1 bV7 cV5 dV2 eV5 !3", false, 5, "-", "aV1 dV2 !3"),
-    // An entry that is lent before the first step is lent on, if it is below the bound.
+    // The source lends an entry before the first step. It is lent on only if it is below the bound.
     ("aV4 bV3", true, 5, "aV4", "bV3"),
     ("aV5 bV3", true, 5, "-", "bV3"),
     ("aV6 bV3", true, 5, "-", "bV3"),
