@@ -6,5 +6,5 @@ mod loading;
 mod memory;
 mod sections;
 mod stored_table;
-mod tables;
+pub mod tables;
 mod together;

@@ -1,15 +1,18 @@
-//! Data blocks: what is written of entries, and what reads, seeks and cursors find.
+//! Data blocks: how entries are encoded, and what reads, seeks and cursors find in a loaded block
+//! and in its source.
 
 use crate::blocks::large::{Size, Within, part};
-use crate::blocks::payloads::data_block;
+use crate::blocks::payloads::{data_block, source_of};
 use crate::blocks::walks::{Edge, NONE, Walk, Walked, refusal, walks_so};
 use crate::blocks::written::{Told, is_written, length_behind_seven};
+use crate::sections::tables::{handle, table_of};
 use sst_blocks::Direction::{Back, Front};
 use sst_blocks::{
-    BlockType, DataBlock, DataBlockCursor, DataBlockIter, Direction, EntryRef, Error,
-    InternalValue, IterItem, SeqNo, Slice, TableVersion, ValueType, are_strict, data_block_bound,
+    BlockHandle, BlockSource, BlockType, DataBlock, DataBlockCursor, DataBlockIter, Direction,
+    EntryPlace, EntryRef, Error, InternalValue, IterItem, Opened, SectionName, SeqNo, Slice,
+    TableVersion, ValueType, are_strict, data_block_bound,
 };
-use std::alloc::{AllocError, Allocator};
+use std::alloc::{AllocError, Allocator, Global};
 use test_refusing::Refusing;
 
 fn entry<A: Allocator>(row: &EntryRef<'static>) -> InternalValue<A> {
@@ -39,7 +42,7 @@ impl Within for InternalValue {
     }
 }
 
-// The bound on the block of some entries, which are encoded behind what is there.
+// The bound on the block of some entries, which are encoded after the bytes that are there.
 fn encoded<A: Allocator>(
     buf: &mut Vec<u8, A>,
     items: &[InternalValue<A>],
@@ -53,7 +56,7 @@ fn encoded<A: Allocator>(
     )
 }
 
-/// What is told of some entries that are written, and which payload that should be.
+/// How some entries are encoded, compared with the payload that they should have.
 pub(crate) fn told<A: Allocator>(
     alloc: A,
     entries: Result<Vec<InternalValue<A>, A>, Error>,
@@ -94,8 +97,8 @@ impl<A: Allocator> Walk for DataBlockIter<'_, A> {
     }
 }
 
-// A payload, the entries in it, keys and numbers with the place of the entry that a point read
-// finds, if it finds one, and walks.
+// A payload, the entries in it, keys and snapshots with the index of the entry that a point read
+// finds (99 where it finds none), and iterations.
 struct Stored {
     version: TableVersion,
     payload: &'static [u8],
@@ -104,7 +107,7 @@ struct Stored {
     walks: &'static [Walked],
 }
 
-// Whether an entry is found, or none, as wanted; or memory was refused where it may be.
+// Whether the wanted entry is found, or none; or `OutOfMemory`, where it may be.
 fn is_found<A: Allocator>(
     found: Option<IterItem<A>>,
     wanted: Option<&EntryRef<'static>>,
@@ -117,8 +120,8 @@ fn is_found<A: Allocator>(
     }
 }
 
-// Whether a block has its entries and no others, point reads find what they should, and it is
-// walked so.
+// Whether a block has its entries and no others, point reads find what they should, and its
+// iterators yield what they should.
 fn is_read_so<A: Allocator>(block: &DataBlock<A>, stored: &Stored, may_fail: bool) -> bool {
     if block.len() != stored.rows.len() || block.is_empty() != stored.rows.is_empty() {
         return false;
@@ -144,7 +147,7 @@ fn is_read_so<A: Allocator>(block: &DataBlock<A>, stored: &Stored, may_fail: boo
     true
 }
 
-// Whether a cursor goes on to an entry, lends it and shares it.
+// Whether a cursor advances to an entry, lends it and shares it.
 fn lends_next<A: Allocator>(
     cursor: &mut DataBlockCursor<A>,
     row: &EntryRef<'static>,
@@ -168,7 +171,7 @@ fn lends_so<A: Allocator>(
     !cursor.advance() && cursor.entry().is_none() && is_so
 }
 
-// Whether a cursor that is ended behind the first entry, if there is one, lends nothing more.
+// Whether a cursor that is ended after the first entry, if there is one, lends nothing more.
 fn lends_none_once_ended<A: Allocator>(cursor: &mut DataBlockCursor<A>, has_one: bool) -> bool {
     let begins = cursor.advance() == has_one;
     cursor.end();
@@ -203,7 +206,7 @@ fn lends_behind_the_first<A: Allocator>(block: DataBlock<A>, rows: &[EntryRef<'s
     lends_by_turns(&mut cursor, rows.get(1..).unwrap_or_default())
 }
 
-// Whether a clone, which outlives its block, is read and lent as the block.
+// Whether a clone, which outlives its block, is read as the block, and its cursor lends the same.
 fn is_cloned_so<A: Allocator>(
     copy: Result<DataBlock<A>, AllocError>,
     stored: &Stored,
@@ -221,7 +224,7 @@ fn is_cloned_so<A: Allocator>(
     }
 }
 
-// Whether a block, which is let go of, is read so, and then a clone of it.
+// Whether a block, which is dropped, is read so, and then a clone of it.
 fn both_are_read_so<A: Allocator>(block: DataBlock<A>, stored: &Stored, may_fail: bool) -> bool {
     let copy: Result<_, _> = block.clone();
     let is_so = is_read_so(&block, stored, may_fail);
@@ -236,13 +239,13 @@ fn both_are_read_so<A: Allocator>(block: DataBlock<A>, stored: &Stored, may_fail
     is_cloned_so(copy, stored, may_fail) && is_so && is_ended && is_part
 }
 
-// Whether entries are written as their payload, or memory was refused where it may be.
+// Whether entries are encoded as their payload; or `OutOfMemory`, where it may be.
 fn is_written_so(heap: &Refusing, stored: &Stored, may_fail: bool) -> bool {
     let told = told(heap, entries_of(heap, stored.rows), stored.payload);
     is_written(told, stored.payload, may_fail)
 }
 
-// Whether a payload is read as it should be, or memory was refused where it may be.
+// Whether a payload is read as it should be; or `OutOfMemory`, where it may be.
 fn is_loaded_so<A: Allocator + Copy>(alloc: A, stored: &Stored, may_fail: bool) -> bool {
     match data_block(alloc, stored.version, stored.payload) {
         Ok(block) => both_are_read_so(block, stored, may_fail),
@@ -344,7 +347,7 @@ const WALKS_OF_FIVE: &[Walked] = &[
     ends!(Below, b"c", 9, 5),
     ends!(Below, b"d", 9, 0),
     ends!(Below, b"f", 9, 3),
-    // Both ends deal one window.
+    // Both ends share one window.
     (
         &[],
         &[
@@ -368,7 +371,7 @@ const WALKS_OF_FIVE: &[Walked] = &[
             (Back, 99),
         ],
     ),
-    // Edges that cross at the first key leave nothing, whatever is sought later.
+    // Edges that cross at the first key leave nothing, whatever a later seek is.
     (
         &[
             (Edge::Above, b"a", 0, true),
@@ -413,8 +416,8 @@ const STORED: &[Stored] = &[
 /// How many cases the table above has.
 pub(crate) const CASES: usize = STORED.len();
 
-/// Whether the entries at a place of the table above are written, where their version is, and read
-/// so; or memory was refused where it may be.
+/// Whether the entries of the case at an index are encoded, where their version is still written,
+/// and read so; or `OutOfMemory`, where it may be.
 pub(crate) fn is_so_at(heap: &Refusing, place: usize, may_fail: bool) -> bool {
     match STORED.get(place) {
         Some(stored) => {
@@ -424,4 +427,114 @@ pub(crate) fn is_so_at(heap: &Refusing, place: usize, may_fail: bool) -> bool {
         }
         None => false,
     }
+}
+
+// ---- reads of a source
+
+// Whether the source has the entry that `point_read` returned at the place that `point_place`
+// returned, or both calls returned the same error.
+fn is_placed(
+    source: &BlockSource,
+    place: Result<Option<EntryPlace>, Error>,
+    found: &Result<Option<InternalValue>, Error>,
+) -> bool {
+    match (place, found) {
+        (Ok(Some(place)), Ok(Some(item))) => source.entry_at(&place) == Some(item.as_entry_ref()),
+        (Ok(None), Ok(None)) => true,
+        (Err(fault), Err(error)) => fault == *error,
+        _ => false,
+    }
+}
+
+// The entry that a point read of a source returns. `Source(9)` where `point_place` differs from
+// `point_read`, or where either does not count one load.
+fn found_in(
+    source: &BlockSource,
+    handle: &BlockHandle,
+    key: &[u8],
+    seqno: SeqNo,
+) -> Result<Option<InternalValue>, Error> {
+    let mut opened = Opened::none();
+    let place = source.point_place(handle, key, seqno, &mut opened);
+    let counted = opened.data_loads == 1;
+    let found = source.point_read(handle, key, seqno, &mut opened);
+    if counted && opened.data_loads == 2 && is_placed(source, place, &found) {
+        found
+    } else {
+        Err(Error::Source(9))
+    }
+}
+
+// Whether point reads of the source of a payload find what they should, also on a second call,
+// which does not test the block again.
+fn is_found_in_source(alloc: Global, stored: &Stored) -> Result<bool, Error> {
+    let source = source_of(alloc, stored.version, BlockType::Data, stored.payload)?;
+    let handle = handle(0, size_of(stored.payload));
+    for &(key, seqno, place) in stored.reads {
+        for _ in 0..2 {
+            let found = found_in(&source, &handle, key, seqno)?;
+            if !is_found(found.map(Ok), stored.rows.get(place), false) {
+                return Ok(false);
+            }
+        }
+    }
+    Ok(true)
+}
+
+// The size of a block of a payload, its header of 24 bytes included.
+fn size_of(payload: &[u8]) -> u32 {
+    u32::try_from(payload.len().saturating_add(24)).unwrap_or(0)
+}
+
+// Changes of a table of five entries, the position and the size of the block that is read, and the
+// error.
+type Refused = (&'static [(usize, u8)], u64, u32, Error);
+
+const REFUSED: &[Refused] = &[
+    (&[], 0, 23, Error::Truncated),
+    (&[], 0, 126, Error::InvalidHeader),
+    (&[], 1_000, 127, Error::Truncated),
+    (&[(126, b'?')], 0, 127, Error::ChecksumMismatch),
+    (&[(5, 1)], 0, 127, Error::UnsupportedCompression),
+];
+
+// Whether a point read fails so, at each key.
+fn is_refused(alloc: Global, refused: &Refused) -> Result<bool, Error> {
+    let (changes, offset, size, error) = refused;
+    let blocks = [(BlockType::Data, FIVE_IN_V4, 0, 127)];
+    let source = table_of(alloc, SectionName::Data, &blocks, changes)?;
+    let handle = handle(*offset, *size);
+    let mut is_so = true;
+    for &(key, seqno, _) in READS_OF_FIVE {
+        let found = found_in(&source, &handle, key, seqno);
+        is_so &= found.err().as_ref() == Some(error);
+    }
+    Ok(is_so)
+}
+
+// Whether the last entry of the second of two blocks is read, and a shorter source, which ends
+// before it, has nothing at its place.
+fn is_not_there(alloc: Global) -> Result<bool, Error> {
+    let blocks = [
+        (BlockType::Data, FIVE_IN_V4, 0, 127),
+        (BlockType::Data, FIVE_IN_V4, 127, 127),
+    ];
+    let source = table_of(alloc, SectionName::Data, &blocks, &[])?;
+    let other = source_of(alloc, TableVersion::V4, BlockType::Data, ONE_IN_V4)?;
+    let place = source.point_place(&handle(127, 127), b"e", 4, &mut Opened::none())?;
+    let Some(place) = place else {
+        return Ok(false);
+    };
+    Ok(source.entry_at(&place) == FIVE.last().copied() && other.entry_at(&place).is_none())
+}
+
+#[test]
+fn a_source_is_read_as_its_blocks(rt: HostRuntime) {
+    for stored in STORED {
+        assert!(rt; is_found_in_source(rt.alloc(), stored) == Ok(true));
+    }
+    for refused in REFUSED {
+        assert!(rt; is_refused(rt.alloc(), refused) == Ok(true));
+    }
+    assert!(rt; is_not_there(rt.alloc()) == Ok(true));
 }

@@ -1,16 +1,16 @@
-//! Point reads of several runs, of all of them and by age, and of one: what they find, the blocks
-//! that they load, and what they are refused where a table is damaged.
+//! Point reads of several runs, of all of them and by age, and of one: what they find, by value,
+//! borrowed and by its place, the blocks that they load, and their error where a table is damaged.
 use crate::tables::{cloned, lends_same, number_of};
 use logpurple::{
-    Table, get_runs, get_runs_by_age, get_runs_by_age_counted, get_runs_counted, get_runs_ref,
-    read_run,
+    RunPlace, Table, entry_in_runs, get_runs, get_runs_by_age, get_runs_by_age_counted,
+    get_runs_counted, get_runs_ref, place_in_runs, read_run,
 };
 use lsm_ranges::Run;
 use sst_blocks::{Error, InternalValue, Opened, SeqNo, ValueType};
 use std::alloc::Global;
 use test_tables::large::{add, asked_with};
 use test_tables::rows::Row;
-use test_tables::runs::{ALL, Lists, Tables, damaged_run_of, owned_range};
+use test_tables::runs::{ALL, Lists, Tables, damaged_run_of, owned_range, run_of, runs_of};
 
 // Some runs, and a table of one of them that is damaged.
 type DamagedRuns = (&'static [Lists], (usize, usize));
@@ -42,13 +42,37 @@ fn is_so(read: (Result<Option<InternalValue>, Error>, Opened), wanted: &Read) ->
     number_of(found) == wanted.0 && opened.data_loads == wanted.1 && others == (0, 0, 0)
 }
 
-// Whether runs are read as a case says, with the loads counted and without, given and lent.
+// Whether the runs have the entry that `get_runs` returned at the place that `place_in_runs`
+// returned, or both calls returned the same error.
+fn is_placed(
+    runs: &[Tables<Global>],
+    place: Result<Option<RunPlace>, Error>,
+    found: &Result<Option<InternalValue>, Error>,
+) -> bool {
+    match place {
+        Ok(Some(place)) => match entry_in_runs(runs, &place) {
+            Some(entry) => lends_same(found, &Ok(Some(entry))),
+            None => false,
+        },
+        Ok(None) => lends_same(found, &Ok(None)),
+        Err(error) => lends_same(found, &Err(error)),
+    }
+}
+
+// Whether a read of all runs finds that, by value, borrowed and by its place.
+fn is_found_each_way(runs: &[Tables<Global>], key: &[u8], bound: SeqNo, wanted: &Found) -> bool {
+    let found = get_runs(runs, key, bound);
+    lends_same(&found, &get_runs_ref(runs, key, bound))
+        && is_placed(runs, place_in_runs(runs, key, bound), &found)
+        && number_of(found) == *wanted
+}
+
+// Whether runs are read as a case says, with the loads counted and without.
 fn is_read(runs: &[Tables<Global>], case: &Case) -> bool {
     let (key, bound, of_all, by_age) = (case.0, case.1, &case.2, &case.3);
     is_so(get_runs_counted(runs, key, bound), of_all)
         && is_so(get_runs_by_age_counted(runs, key, bound), by_age)
-        && lends_same(&get_runs(runs, key, bound), &get_runs_ref(runs, key, bound))
-        && number_of(get_runs(runs, key, bound)) == of_all.0
+        && is_found_each_way(runs, key, bound, &of_all.0)
         && number_of(get_runs_by_age(runs, key, bound)) == by_age.0
 }
 
@@ -76,6 +100,10 @@ const D1: &[Row<'static>] = &[(b"d", 1, VALUE, b"x")];
 // The second run is of two tables.
 const TWO_RUNS: &[Lists] = &[&[A9_B3], &[A5_C2, D1]];
 
+const A7_D4: &[Row<'static>] = &[(b"a", 7, VALUE, b"x"), (b"d", 4, VALUE, b"y")];
+
+const THREE_RUNS: &[Lists] = &[&[A9_B3], &[A5_C2, D1], &[A7_D4]];
+
 // The newer run, and the older one.
 const BY_AGE: &[Lists] = &[
     &[&[
@@ -100,8 +128,8 @@ const READS: &[(DamagedRuns, &[Case])] = &[
     (
         (TWO_RUNS, (2, 0)),
         &[
-            // Both runs have a table for the key: each is asked, also where the first one answers;
-            // by age the second one is not, where all that it has is older than the answer.
+            // Both runs have a table for the key: each is read, also where the first one has it;
+            // by age the second one is not, where all that it has is older than the entry found.
             (b"a", 10, (Ok(Some(9)), 2), (Ok(Some(9)), 1)),
             (b"a", 9, (Ok(Some(5)), 2), (Ok(Some(5)), 2)),
             (b"b", 10, (Ok(Some(3)), 2), (Ok(Some(3)), 2)),
@@ -110,19 +138,44 @@ const READS: &[(DamagedRuns, &[Case])] = &[
             (b"d", 10, (Ok(Some(1)), 1), (Ok(Some(1)), 1)),
             // No run has one.
             (b"e", 10, (Ok(None), 0), (Ok(None), 0)),
-            // A table without a number below the bound loads nothing.
+            // A table without a sequence number below the bound loads no block.
             (b"a", 3, (Ok(None), 1), (Ok(None), 1)),
             (b"a", 2, (Ok(None), 0), (Ok(None), 0)),
+        ],
+    ),
+    (
+        (THREE_RUNS, (3, 0)),
+        &[
+            (b"a", 10, (Ok(Some(9)), 3), (Ok(Some(9)), 1)),
+            // The newest is in the last run, or in the second.
+            (b"a", 9, (Ok(Some(7)), 3), (Ok(Some(7)), 3)),
+            (b"d", 10, (Ok(Some(4)), 2), (Ok(Some(4)), 2)),
+            (b"a", 7, (Ok(Some(5)), 3), (Ok(Some(5)), 3)),
+            // The third run has no sequence number below the bound.
+            (b"d", 4, (Ok(Some(1)), 1), (Ok(Some(1)), 1)),
+            (b"c", 3, (Ok(Some(2)), 1), (Ok(Some(2)), 1)),
+            // Runs may have a table for a key, and not the key.
+            (b"c", 10, (Ok(Some(2)), 2), (Ok(Some(2)), 2)),
+            (b"bb", 10, (Ok(None), 2), (Ok(None), 2)),
+            (b"e", 10, (Ok(None), 0), (Ok(None), 0)),
+        ],
+    ),
+    (
+        (THREE_RUNS, (2, 0)),
+        &[
+            (b"a", 10, (DAMAGED, 3), (Ok(Some(9)), 1)),
+            (b"b", 10, (DAMAGED, 3), (DAMAGED, 3)),
+            (b"d", 4, (Ok(Some(1)), 1), (Ok(Some(1)), 1)),
         ],
     ),
     ((&[], (0, 0)), &[(b"a", 10, (Ok(None), 0), (Ok(None), 0))]),
     (
         (BY_AGE, (2, 0)),
         &[
-            // All that the older run has is older than what the newer one answers.
+            // All that the older run has is older than what is found in the newer one.
             (b"a", SeqNo::MAX, (Ok(Some(9)), 2), (Ok(Some(9)), 1)),
             (b"a", 8, (Ok(Some(7)), 2), (Ok(Some(7)), 1)),
-            // The newer run has the key, and no number below the bound.
+            // The newer run has the key, and no sequence number below the bound.
             (b"a", 3, (Ok(Some(2)), 1), (Ok(Some(2)), 1)),
             // The older run may have a newer version of the key.
             (b"b", SeqNo::MAX, (Ok(Some(3)), 2), (Ok(Some(3)), 2)),
@@ -131,7 +184,7 @@ const READS: &[(DamagedRuns, &[Case])] = &[
             (b"d", SeqNo::MAX, (Ok(None), 0), (Ok(None), 0)),
         ],
     ),
-    // The load that is refused counts, and those behind it are not made.
+    // The load that fails counts, and those after it are not made.
     (
         (TWO_RUNS, (0, 0)),
         &[(b"a", 10, (DAMAGED, 1), (DAMAGED, 1))],
@@ -140,12 +193,12 @@ const READS: &[(DamagedRuns, &[Case])] = &[
         (TWO_RUNS, (1, 0)),
         &[
             (b"b", 10, (DAMAGED, 2), (DAMAGED, 2)),
-            // What is not asked is not refused.
+            // A table that is not read causes no error.
             (b"a", 10, (DAMAGED, 2), (Ok(Some(9)), 1)),
             (b"d", 10, (Ok(Some(1)), 1), (Ok(Some(1)), 1)),
         ],
     ),
-    // A damaged table refuses the reads of its keys.
+    // Reads of a damaged table's keys fail.
     (
         (TWICE, (0, 1)),
         &[
@@ -162,6 +215,60 @@ fn reads_of_runs_load_a_block_of_each_table_that_is_asked(rt: HostRuntime) {
     }
 }
 
+// Whether some runs have an entry at a place.
+fn is_there(alloc: Global, lists: &[Lists], place: &RunPlace) -> Result<bool, Error> {
+    let runs = runs_of(alloc, lists)?;
+    Ok(entry_in_runs(&runs, place).is_some())
+}
+
+const ONE_RUN: &[Lists] = &[&[A9_B3]];
+
+// A key and a bound of a read of three runs, and other runs, which have nothing at the place of the
+// entry: no runs, too few, and a run of too few tables.
+const ELSEWHERE: &[(&[u8], SeqNo, &[Lists])] = &[
+    (b"a", 10, &[]),
+    (b"d", 10, TWO_RUNS),
+    (b"d", 4, ONE_RUN),
+    (b"d", 4, &[&[A9_B3], &[A5_C2]]),
+];
+
+// Whether three runs have an entry at its place, and other runs have none there.
+fn is_there_alone(
+    alloc: Global,
+    key: &[u8],
+    bound: SeqNo,
+    others: &[Lists],
+) -> Result<bool, Error> {
+    let runs = runs_of(alloc, THREE_RUNS)?;
+    let place = place_in_runs(&runs, key, bound)?;
+    drop(runs);
+    let Some(place) = place else {
+        return Ok(false);
+    };
+    Ok(is_there(alloc, THREE_RUNS, &place)? && !is_there(alloc, others, &place)?)
+}
+
+// Whether that is so for an entry with a long value, and a run of a table that ends before it.
+fn long_is_there_alone(alloc: Global) -> Result<bool, Error> {
+    let value = vec![in alloc; b'x'; 4_000]?;
+    let rows: [Row<'_>; 1] = [(b"a", 1, VALUE, value.as_slice())];
+    let runs = [run_of(alloc, &[rows.as_slice()])?];
+    let place = place_in_runs(&runs, b"a", 2)?;
+    let Some(place) = place else {
+        return Ok(false);
+    };
+    let is_here = entry_in_runs(&runs, &place).is_some();
+    Ok(is_here && !is_there(alloc, ONE_RUN, &place)?)
+}
+
+#[test]
+fn a_place_past_the_end_of_other_runs_has_no_entry(rt: HostRuntime) {
+    for &(key, bound, others) in ELSEWHERE {
+        assert!(rt; is_there_alone(rt.alloc(), key, bound, others) == Ok(true));
+    }
+    assert!(rt; long_is_there_alone(rt.alloc()) == Ok(true));
+}
+
 // A run of the same tables that is not shared. `Source(2)` where there are none.
 fn unshared(run: &Tables<Global>, alloc: Global) -> Result<Run<Table>, Error> {
     let mut tables = Vec::new(alloc);
@@ -171,14 +278,14 @@ fn unshared(run: &Tables<Global>, alloc: Global) -> Result<Run<Table>, Error> {
     Run::new(tables).ok_or(Error::Source(2))
 }
 
-// The first of two large values; the second is let go of.
+// The first of two large values; the second is dropped.
 fn first_of<T: Drop, U: Drop>(both: Result<(T, U), Error>) -> Result<T, Error> {
     let (first, second) = both?;
     drop(second);
     Ok(first)
 }
 
-// The number that a point read finds of a run alone, whose second table is damaged.
+// The sequence number that a point read finds in one run, whose second table is damaged.
 fn found_alone(alloc: Global, key: &[u8]) -> Found {
     let run = asked_with(damaged_run_of(alloc, THREE_TABLES, 1), alloc, unshared)?;
     let range = owned_range(alloc, ALL);

@@ -1,12 +1,12 @@
 //! Readers and scanners of one run: within bounds and of a span, from both ends, whole entries of
-//! each kind, with a damaged table, and lent. What walks them is generic in them, so that none of
-//! their parts is looked at.
+//! each kind, with a damaged table, as lending iterators, and lending and by value in turn. Most
+//! functions that call them are generic in them, so that a proof looks at none of their parts.
 ghost use Rattle.std.specs.Prelude.{◌≡◌, ◌-◌, ◌<◌, ◌≤◌, true, IfOk, length, unwrap_or};
 ghost use Rattle.std.specs.Arc.{arc_value};
 ghost use Rattle.lsm_ranges.specs.Run.{ArePlacesOf};
 
 use logpurple::{RunReader, RunScanner};
-use sst_blocks::{Direction, Error, IterItem, ValueType};
+use sst_blocks::{Direction, Error, IterItem, Lending, ValueType};
 use std::alloc::{Allocator, Global};
 use std::ops::Bound;
 use test_tables::lending::walk_both;
@@ -14,10 +14,10 @@ use test_tables::rows::Row;
 use test_tables::runs::{ALL, Bounds, Lists, Tables, damaged_run_of, owned_range};
 use test_tables::whole::{A7, A9, B6, B8, C5, D2, D3, is_answer};
 
-/// What a step gives: the entry of a row, nothing, or a refusal.
+/// The result of a step: the entry of a row, nothing, or an error.
 pub(crate) type Answer = Result<Option<Row<'static>>, Error>;
 
-/// Whether a step gave what is wanted.
+/// Whether a step has the result that is wanted.
 pub(crate) fn is_given<A: Allocator>(given: &Option<IterItem<A>>, wanted: &Answer) -> bool {
     match (given, wanted) {
         (Some(Err(error)), Err(refusal)) => *error == *refusal,
@@ -26,7 +26,7 @@ pub(crate) fn is_given<A: Allocator>(given: &Option<IterItem<A>>, wanted: &Answe
     }
 }
 
-// That; the step's refusal, where another answer is wanted.
+// That; the step's error, where another result is wanted.
 fn answers<A: Allocator>(given: Option<IterItem<A>>, wanted: &Answer) -> Result<bool, Error> {
     if is_given(&given, wanted) {
         return Ok(true);
@@ -37,13 +37,13 @@ fn answers<A: Allocator>(given: Option<IterItem<A>>, wanted: &Answer) -> Result<
     }
 }
 
-// What is walked.
+// An iterator of a run.
 trait Walk {
-    // Whether the step at an end gives what is wanted, as `answers` says it. A scan has nothing at
-    // the back.
+    // Whether the step at an end has the result that is wanted, as `answers` returns it. A scan has
+    // nothing at the back.
     fn gives(&mut self, end: Direction, wanted: &Answer) -> Result<bool, Error>;
 
-    // How many tables were opened; a scan does not say so.
+    // How many tables were opened; a scan does not count them.
     fn opened(&self) -> usize;
 }
 
@@ -73,12 +73,12 @@ impl<A: Allocator + Copy> Walk for RunScanner<A> {
     }
 }
 
-// The steps of a walk, three bytes each: `F` for the front or `B` for the back, a letter for the
-// row that is given, by its place in all tables, `.` for nothing or `!` for the refusal of a
-// damaged block, and how many tables were opened then.
+// Some steps, three bytes each: `F` for the front or `B` for the back, a letter for the row that is
+// yielded, by its index in all tables, `.` for nothing or `!` for the error of a damaged block, and
+// how many tables were opened then.
 type Steps = &'static [u8];
 
-/// The row at a place in all tables of a run, or which place it is behind them.
+/// The row at an index in all tables of a run, or which index it is after them.
 pub(crate) fn row_at(tables: Lists, place: usize) -> Result<Row<'static>, usize> {
     let mut left = place;
     for rows in tables {
@@ -90,7 +90,7 @@ pub(crate) fn row_at(tables: Lists, place: usize) -> Result<Row<'static>, usize>
     Err(left)
 }
 
-// What a letter stands for.
+// The result that a letter is for.
 fn wanted_at(tables: Lists, letter: u8) -> Answer {
     match letter {
         b'.' => Ok(None),
@@ -99,7 +99,7 @@ fn wanted_at(tables: Lists, letter: u8) -> Answer {
     }
 }
 
-// Whether no table was opened yet, and the steps of a walk give what they should.
+// Whether no table was opened yet, and the steps have the results that they should.
 fn steps_give<W: Walk>(walk: &mut W, tables: Lists, steps: Steps) -> Result<bool, Error> {
     if walk.opened() != 0 {
         return Ok(false);
@@ -117,20 +117,20 @@ fn steps_give<W: Walk>(walk: &mut W, tables: Lists, steps: Steps) -> Result<bool
     Ok(true)
 }
 
-// Whether nothing is left at either end of a walk.
+// Whether nothing is left at either end.
 fn is_over<W: Walk>(walk: &mut W) -> bool {
     walk.gives(F, &NOTHING) == Ok(true) && walk.gives(B, &NOTHING) == Ok(true)
 }
 
-// Whether a walk gives these steps, and nothing follows from either end; where a step is refused
-// otherwise the refusal, if nothing follows it.
+// Whether the steps have these results, and nothing follows at either end. The error of a step that
+// should not fail, if nothing follows it.
 fn gives_or_ends<W: Walk>(walk: &mut W, tables: Lists, steps: Steps) -> Result<bool, Error> {
     let given = steps_give(walk, tables, steps);
     if is_over(walk) { given } else { Ok(false) }
 }
 
-// Whether there is a reader that yields these steps, or no reader where there are no steps. A reader
-// that yields nothing is not the same as none.
+// Whether there is a reader that yields these steps, or no reader where there are no steps. A
+// reader that yields nothing is not the same as none.
 fn gives<W: Walk + Drop>(
     walk: Result<Option<W>, Error>,
     tables: Lists,
@@ -143,7 +143,7 @@ fn gives<W: Walk + Drop>(
     }
 }
 
-// A first and a last place, where they are not those of all tables.
+// The index of a first and a last table, where they are not those of all tables.
 type Span = (Option<usize>, Option<usize>);
 
 const WHOLE: Span = (None, None);
@@ -173,8 +173,7 @@ fn spanned<A: Allocator>(run: Result<Tables<A>, Error>, span: Span) -> Result<Ta
     }
 }
 
-// How a run is read: by what lies within bounds, by a span of it within bounds, or by a scan of a
-// span.
+// How a run is read: within bounds, by a span of it within bounds, or by a scan of a span.
 #[derive(Clone, Copy)]
 enum How {
     Within,
@@ -185,10 +184,10 @@ enum How {
 // The tables of a run, and which of them is damaged.
 type Given = (Lists, usize);
 
-// Bounds, how a run is read, and the steps that are given, if it can be read so.
+// Bounds, how a run is read, and the steps, if it can be read so.
 type Case = (Bounds<'static>, How, Option<Steps>);
 
-// The reader of what lies within bounds, if any table may have it.
+// The reader of the entries within bounds, if any table may have some.
 fn reader_of<A: Allocator + Copy>(
     alloc: A,
     given: Given,
@@ -227,7 +226,7 @@ fn some<T: Drop>(made: Result<T, Error>) -> Result<Option<T>, Error> {
     Ok(Some(made?))
 }
 
-// Whether a run is read as a case says; a refusal that it does not name, if nothing follows it.
+// Whether a run is read as a case has it; an error that is not in the case, if nothing follows it.
 fn reads<A: Allocator + Copy>(alloc: A, given: Given, case: &Case) -> Result<bool, Error> {
     let &(bounds, how, steps) = case;
     match how {
@@ -241,7 +240,7 @@ fn reads<A: Allocator + Copy>(alloc: A, given: Given, case: &Case) -> Result<boo
     }
 }
 
-// The place of the first case that is read otherwise.
+// The index of the first case that differs.
 fn wrong_case(alloc: Global, given: Given, cases: &[Case]) -> Option<usize> {
     for (place, case) in cases.iter().enumerate() {
         if reads(alloc, given, case) != Ok(true) {
@@ -348,7 +347,7 @@ const OF_FOUR: &[Case] = &[
     ),
     // The two tables at the ends have no key within the bounds; those between are read whole.
     (FROM_Y, How::Span(WHOLE), Some(b"Fd2Fe2Ff2Fg3Fh3Fi3F.4F.4")),
-    // Of the first table one key is within the bounds, of the last none.
+    // One key of the first table is within the bounds, and none of the last.
     (UNDER_B, How::Span(WHOLE), Some(b"Bi2Bh2Bg2Fa3Bf4Be4Bd4B.4")),
     // A table that both ends meet in is opened once.
     (ALL, How::Span((Some(2), Some(2))), Some(b"Fg1Bi1Fh1B.1")),
@@ -365,7 +364,7 @@ const OF_FOUR: &[Case] = &[
     (ALL, How::Scan((Some(2), Some(2))), Some(b"Fg0Fh0Fi0F.0")),
 ];
 
-// Entries of each kind, which come whole.
+// Entries of each kind, which are yielded whole.
 const EACH_KIND: Lists = &[&[A9, A7, B8, B6], &[C5, D3, D2]];
 
 const OF_EACH_KIND: &[Case] = &[
@@ -384,7 +383,7 @@ const OF_A_DAMAGED_ONE: &[Case] = &[
     (ALL, How::Scan(WHOLE), Some(b"Fa0Fb0F!0F.0F.0")),
 ];
 
-/// The place of the case of a reader that is asked at both ends in turn.
+/// The index of the case of a reader that is called at both ends in turn.
 pub(crate) const IN_TURN_WITHIN: usize = 0;
 
 /// That of a reader of a span.
@@ -393,7 +392,7 @@ pub(crate) const IN_TURN_BY_SPAN: usize = 1;
 /// That of a scan.
 pub(crate) const BY_SCAN: usize = 2;
 
-/// Whether a run is read as the case at a place says, or ends for good at a refusal.
+/// Whether a run is read as the case at an index has it, or is exhausted after an error.
 pub(crate) fn case_is_read<A: Allocator + Copy>(alloc: A, place: usize) -> Result<bool, Error> {
     match OF_FOUR.get(place) {
         Some(case) => reads(alloc, (FOUR_TABLES, 4), case),
@@ -401,7 +400,7 @@ pub(crate) fn case_is_read<A: Allocator + Copy>(alloc: A, place: usize) -> Resul
     }
 }
 
-// A damaged first table refuses the scan.
+// With a damaged first table no scan is made.
 const REFUSED_SCAN: Case = (ALL, How::Scan(WHOLE), None);
 
 #[test]
@@ -426,8 +425,7 @@ const LENT_TABLES: Lists = &[
     ],
 ];
 
-// What a scan of a run that gives its entries and one that lends them walk, the table at a place
-// damaged.
+// What a scan of a run by value and a lending one yield, with the table at an index damaged.
 fn lent(alloc: Global, damaged: usize) -> Result<Option<(usize, u8)>, Error> {
     walk_both(
         scanner_of(alloc, (LENT_TABLES, damaged), WHOLE),
@@ -442,8 +440,7 @@ fn a_scan_of_a_run_lends_what_it_gives(rt: HostRuntime) {
     }
 }
 
-// What a reader of a run that gives its entries and one that lends them walk, the table at a place
-// damaged.
+// What a reader of a run by value and a lending one yield, with the table at an index damaged.
 fn range_lent(alloc: Global, damaged: usize) -> Result<Option<(usize, u8)>, Error> {
     walk_both(
         span_reader_of(alloc, (LENT_TABLES, damaged), ALL, WHOLE),
@@ -455,5 +452,64 @@ fn range_lent(alloc: Global, damaged: usize) -> Result<Option<(usize, u8)>, Erro
 fn a_range_of_a_run_lends_what_it_gives(rt: HostRuntime) {
     for (damaged, walk) in [(3, (5, 0)), (2, (3, 5)), (1, (2, 5))] {
         assert!(rt; range_lent(rt.alloc(), damaged) == Ok(Some(walk)));
+    }
+}
+
+// ---- a reader, lending and by value in turn
+
+// Whether a reader lends the entry of a row next, or nothing where there is no row.
+fn lends_row(reader: &mut RunReader<Global>, row: Option<&Row<'_>>) -> Result<bool, Error> {
+    let more = reader.advance()?;
+    match (reader.entry(), row) {
+        (Some(entry), Some(row)) => {
+            let key = (entry.user_key, entry.seqno, entry.value_type);
+            Ok(more && key == (row.0, row.1, row.2) && entry.value == row.3)
+        }
+        (None, None) => Ok(!more),
+        _ => Ok(false),
+    }
+}
+
+// Whether a reader yields the entry of a row at an end, or nothing where there is no row, and lends
+// nothing after that.
+fn gives_row(reader: &mut RunReader<Global>, end: Direction, row: Option<&Row<'_>>) -> bool {
+    let given = match end {
+        Direction::Front => reader.next(),
+        Direction::Back => reader.next_back(),
+    };
+    is_answer(&given, row) && reader.entry().is_none()
+}
+
+// Turns, a byte each: `L` to lend, `F` and `B` for a step by value at the front and at the back;
+// and the row of each, by a letter for its index in all tables, or `.` for none.
+type Turns = (&'static [u8], &'static [u8]);
+
+// Whether a reader of all rows lends and yields that in turn.
+fn takes_turns(alloc: Global, turns: &Turns) -> Result<bool, Error> {
+    let mut reader = span_reader_of(alloc, (LENT_TABLES, 3), ALL, WHOLE)?;
+    let mut is_so = reader.entry().is_none();
+    for (turn, letter) in turns.0.iter().zip(turns.1.iter()) {
+        let wanted = wanted_at(LENT_TABLES, *letter)?;
+        is_so &= match *turn {
+            b'L' => lends_row(&mut reader, wanted.as_ref())?,
+            b'F' => gives_row(&mut reader, F, wanted.as_ref()),
+            _ => gives_row(&mut reader, B, wanted.as_ref()),
+        };
+    }
+    Ok(is_so)
+}
+
+const TURNS: &[Turns] = &[
+    (b"LBFLBLFB", b"aebcd..."),
+    (b"FLBBLFLB", b"abedc..."),
+    (b"BLLFLBFL", b"eabcd..."),
+    (b"LLLLLLFB", b"abcde..."),
+    (b"BBBBLBLF", b"edcba..."),
+];
+
+#[test]
+fn a_range_of_a_run_lends_and_gives_by_turns(rt: HostRuntime) {
+    for turns in TURNS {
+        assert!(rt; takes_turns(rt.alloc(), turns) == Ok(true));
     }
 }

@@ -1,15 +1,15 @@
-//! Ranges and scans that lend their entries beside those that give them: the same entries and
-//! errors in the same places, and as many loads, also over damaged bytes.
+//! Ranges and scans as lending iterators, compared with those by value: the same entries and errors
+//! in the same order, and as many loads, also over damaged bytes.
 use crate::tables::walks::{blocks_in, range_in};
 use crate::tables::{Changed, KINDS, Of, Pins, changed_bytes};
 use logpurple::Iter;
-use sst_blocks::{Error, Lending};
+use sst_blocks::{Error, IterItem, Lending};
 use std::alloc::Global;
 use std::ops::Bound;
 use test_tables::lending::{Walk, walk_both};
 use test_tables::runs::{ALL, Bounds};
 
-// Whether a range lends what it gives; an error where it is refused to be made.
+// Whether a range lends what it yields by value; the error, where it cannot be made.
 fn lends(alloc: Global, changed: &Changed<'_>, bounds: Bounds<'_>) -> Result<bool, Error> {
     let giving = range_in(alloc, changed, bounds);
     let lending = range_in(alloc, changed, bounds);
@@ -100,12 +100,12 @@ fn ranges_lend_what_they_give(rt: HostRuntime) {
 
 // ---- scans
 
-// A table, how many of its blocks are scanned, and what the scan walks.
+// A table, how many of its blocks are scanned, and what the scan yields.
 type Case = (Changed<'static>, u64, Walk);
 
 const PINS: Pins = (true, true);
 
-// All three blocks, some of them, the numbers lifted up to the largest one and past it, and a
+// All three blocks, some of them, a global sequence number up to the largest sum and past it, and a
 // damaged second block.
 const CASES: &[Case] = &[
     ((Of::Kinds, &[], PINS, 0), 3, (7, 0)),
@@ -125,9 +125,9 @@ fn a_scan_lends_what_it_gives(rt: HostRuntime) {
     }
 }
 
-// ---- one range, lent and given by turns
+// ---- one range, lending and by value in turn
 
-// Whether a range lends the next entry of another.
+// Whether a range lends next what another yields next by value.
 fn lends_next(mixed: &mut Iter, plain: &mut Iter) -> Result<bool, Error> {
     let more = mixed.advance()?;
     match plain.next() {
@@ -136,15 +136,24 @@ fn lends_next(mixed: &mut Iter, plain: &mut Iter) -> Result<bool, Error> {
     }
 }
 
-// Whether a range gives what another gives, from the back or from the front, and lends nothing
-// behind a step at the back.
+// Whether a range lends, after a step by value at the front, the entry that this step yielded, and
+// nothing after a step at the back.
+fn lends_given(mixed: &Iter, found: &Option<IterItem>, back: bool) -> bool {
+    match found {
+        Some(Ok(item)) if !back => mixed.entry() == Some(item.as_entry_ref()),
+        _ => mixed.entry().is_none(),
+    }
+}
+
+// Whether a range yields next what another yields next, at the back or at the front, and then lends
+// what it should.
 fn gives_next(mixed: &mut Iter, plain: &mut Iter, back: bool) -> Result<bool, Error> {
     let (found, wanted) = if back {
         (mixed.next_back(), plain.next_back())
     } else {
         (mixed.next(), plain.next())
     };
-    if back && mixed.entry().is_some() {
+    if !lends_given(mixed, &found, back) {
         return Ok(false);
     }
     match (found, wanted) {
@@ -154,8 +163,8 @@ fn gives_next(mixed: &mut Iter, plain: &mut Iter, back: bool) -> Result<bool, Er
     }
 }
 
-// Whether two ranges are the same where one lends, gives from the back and gives from the front by
-// turns.
+// Whether two ranges yield the same, where one in turn lends, yields by value at the back and
+// yields by value at the front.
 fn are_same_by_turns(
     mixed: Result<Iter, Error>,
     plain: Result<Iter, Error>,

@@ -1,6 +1,5 @@
-//! Ranges, scans and the handles of an index, walked from both ends: what they give and load, and
-//! that a refusal ends them. What walks them is generic in them, so that none of their parts is
-//! looked at.
+//! Ranges, scans and index iterators, from both ends: what they yield and load, and that an error
+//! exhausts them. What calls them is generic in them, so that a proof looks at none of their parts.
 use crate::tables::{
     BELITTLED, Changed, KINDS, LOADED, OLDER, ON_DEMAND, Of, Parted, Pins, TWO_LEVELS, UNDERSTATED,
     changed_bytes, opened,
@@ -13,9 +12,9 @@ use test_refusing::Refusing;
 use test_tables::large::{asked, asked_with};
 use test_tables::runs::{ALL, Bounds, Name, name_of, owned_range};
 
-/// A call and its answer: the name that a step from the front or from the back gives, if any; and
+/// A call and its result: the name that a step at the front or at the back yields, if any; and
 /// whether a seek of the lower or of the upper edge, before the first step, leaves anything. A seek
-/// in an index that is loaded later answers true.
+/// in an index that is loaded later returns true.
 pub(crate) enum Call {
     Front(Option<Name>),
     Back(Option<Name>),
@@ -25,9 +24,9 @@ pub(crate) enum Call {
     Unloaded,
 }
 
-/// What is walked.
+/// An iterator with both ends.
 pub(crate) trait Walk {
-    /// Whether a call is answered so.
+    /// Whether a call has that result.
     fn comes(&mut self, call: &Call, is_loaded: bool) -> Result<bool, Error>;
 
     /// How many blocks were loaded: of data, and of the index.
@@ -69,7 +68,7 @@ impl<A: Allocator + Clone> Walk for Scanner<A> {
     }
 }
 
-// A handle goes by its end key and number.
+// The name of a handle: its end key and sequence number.
 fn handle_name<A: Allocator>(
     item: Option<Result<KeyedBlockHandle<A>, Error>>,
 ) -> Result<Option<Name>, Error> {
@@ -108,16 +107,16 @@ impl<A: Allocator + Clone> Walk for BlockIndexIterImpl<A> {
     }
 }
 
-/// What came of some calls: how many blocks were loaded, where each came out so; or how many did,
-/// and what the next one was refused, behind which nothing came and nothing was loaded.
-/// `Source(9)` stands for another answer, and `UNMADE` for the call that makes what is walked.
+/// The outcome of some calls: how many blocks were loaded, where each has its result; or how many
+/// have it, and the error of the next one, after which nothing was yielded and nothing was loaded.
+/// `Source(9)` is another result, and `UNMADE` the call that makes the iterator.
 pub(crate) type Came = Result<(u64, u64), (usize, Error)>;
 
 pub(crate) const UNMADE: usize = 1_000;
 
 const OTHER: Error = Error::Source(9);
 
-// How many calls come out so before one that does not, and what that is refused.
+// How many calls have their result before one that does not, and the error of that.
 fn answered<W: Walk>(walk: &mut W, is_loaded: bool, calls: &[Call]) -> Result<(), (usize, Error)> {
     for (count, call) in calls.iter().enumerate() {
         match walk.comes(call, is_loaded) {
@@ -129,7 +128,7 @@ fn answered<W: Walk>(walk: &mut W, is_loaded: bool, calls: &[Call]) -> Result<()
     Ok(())
 }
 
-// Whether nothing comes at either end, and nothing is loaded.
+// Whether nothing is yielded at either end, and nothing is loaded.
 fn is_over<W: Walk>(walk: &mut W) -> bool {
     let before = walk.loads();
     answered(walk, false, ENDS).is_ok() && walk.loads() == before
@@ -137,7 +136,7 @@ fn is_over<W: Walk>(walk: &mut W) -> bool {
 
 const ENDS: &[Call] = &[Call::Front(None), Call::Back(None), Call::Front(None)];
 
-// Whether that is so, also behind further seeks.
+// Whether that is so, also after further seeks.
 fn stays_over<W: Walk>(walk: &mut W) -> bool {
     is_over(walk)
         && walk
@@ -148,8 +147,12 @@ fn stays_over<W: Walk>(walk: &mut W) -> bool {
         && is_over(walk)
 }
 
-// What comes of some calls, where there is something to walk.
-fn walked<W: Walk + Drop>(made: Result<W, Error>, is_loaded: bool, calls: &[Call]) -> Came {
+/// The outcome of some calls of an iterator, or of making it.
+pub(crate) fn walked<W: Walk + Drop>(
+    made: Result<W, Error>,
+    is_loaded: bool,
+    calls: &[Call],
+) -> Came {
     let mut walk = match made {
         Ok(walk) => walk,
         Err(error) => return Err((UNMADE, error)),
@@ -166,8 +169,8 @@ fn walked<W: Walk + Drop>(made: Result<W, Error>, is_loaded: bool, calls: &[Call
     }
 }
 
-/// What is walked: a range, the handles of the index, and a scan of a table that is gone before the
-/// first step; and a scan of so many blocks of its bytes.
+/// What is iterated: a range, the handles of the index, and a scan of a table that is dropped
+/// before the first step; and a scan of so many blocks of its bytes.
 pub(crate) enum Subject {
     Range(Bounds<'static>),
     Handles,
@@ -183,7 +186,7 @@ fn range_of<A: Allocator + Copy>(
     table.range(lower, upper)
 }
 
-/// A range of a table that is gone before the first step.
+/// A range of a table that is dropped before the first step.
 pub(crate) fn range_in<A: Allocator + Copy>(
     alloc: A,
     changed: &Changed<'_>,
@@ -199,7 +202,7 @@ fn handles_of<A: Allocator + Copy>(table: &Table<A>) -> Result<BlockIndexIterImp
     iter
 }
 
-// The scan of so many blocks, with a global number.
+// The scan of so many blocks, with a global sequence number.
 fn scan_of<A: Allocator + Copy>(
     source: &BlockSource<A>,
     of: (u64, SeqNo),
@@ -217,15 +220,15 @@ pub(crate) fn blocks_in<A: Allocator + Copy>(
     asked_with(BlockSource::new(alloc, bytes), (count, changed.3), scan_of)
 }
 
-// Whether the index stays loaded, so that a seek knows what it leaves.
-fn is_loaded(changed: &Changed<'_>) -> bool {
+/// Whether the index is one pinned block, so that a seek knows what it leaves.
+pub(crate) fn is_loaded(changed: &Changed<'_>) -> bool {
     match changed.0 {
         Of::Rows(Parted::Nothing) => changed.2.1,
         _ => false,
     }
 }
 
-// What comes of some calls.
+// The outcome of some calls.
 fn outcome<A: Allocator + Copy>(
     alloc: A,
     changed: &Changed<'_>,
@@ -269,7 +272,7 @@ const FROM_BOTH_ENDS: &[Call] = &[
 
 const NOTHING: &[Call] = &[Call::Front(None), Call::Back(None)];
 
-// What is walked, calls, and how many blocks they load: of data, and of an index of two levels.
+// What is iterated, calls, and how many blocks they load: of data, and of an index of two levels.
 type Case = (Subject, &'static [Call], u64, u64);
 
 const CASES: &[Case] = &[
@@ -398,8 +401,8 @@ const CASES: &[Case] = &[
     ),
 ];
 
-// Whether a case comes out so under each kind of index. One that stays loaded is never loaded, and
-// one on demand once.
+// Whether a case has its results under each kind of index. A pinned one of one block is never
+// loaded, and one on demand once.
 fn is_dealt(alloc: Global, case: &Case) -> bool {
     for (kind, index) in KINDS.iter().zip([0, 1, case.3, case.3]) {
         if outcome(alloc, kind, &case.0, case.1) != Ok((case.2, index)) {
@@ -409,7 +412,7 @@ fn is_dealt(alloc: Global, case: &Case) -> bool {
     true
 }
 
-// The place of the first case that comes out otherwise.
+// The index of the first case that differs.
 fn wrong_case(alloc: Global, cases: &[Case]) -> Option<usize> {
     for (place, case) in cases.iter().enumerate() {
         if !is_dealt(alloc, case) {
@@ -424,9 +427,9 @@ fn each_kind_of_index_leaves_what_lies_between_edges(rt: HostRuntime) {
     assert!(rt; wrong_case(rt.alloc(), CASES) == None);
 }
 
-// ---- numbers, and what is no block of data
+// ---- sequence numbers, and blocks of other kinds
 
-// What is walked, calls, and what comes of them.
+// What is iterated, calls, and their outcome.
 type Told = (Changed<'static>, Subject, &'static [Call], Came);
 
 const A_AT_1: Call = Call::Front(Some((b'a', 1)));
@@ -442,7 +445,7 @@ const PINS: Pins = (true, true);
 const OVERFLOWS: Came = Err((0, Error::SeqNoOverflow));
 
 const TOLD: &[Told] = &[
-    // a scan of some blocks, or of one at least; what lies behind them is no block of data
+    // a scan of some blocks, or of one at least; the block after them is no data block
     (
         (Of::One, &[], PINS, 0),
         Subject::Blocks(1),
@@ -461,7 +464,7 @@ const TOLD: &[Told] = &[
         &[A_AT_1, Call::Front(None)],
         Err((1, Error::InvalidTag(TagName::BlockType, 1))),
     ),
-    // it lifts up to the largest number
+    // it adds the global sequence number, up to the largest sum
     (
         (Of::One, &[], PINS, SeqNo::MAX - 1),
         Subject::Blocks(1),
@@ -499,7 +502,7 @@ const TOLD: &[Told] = &[
         ],
         Ok((4, 0)),
     ),
-    // a stored number and a global one, up to the largest number
+    // a stored sequence number and a global one, up to the largest sum
     (
         (Of::Numbered(SeqNo::MAX - 1), &[], PINS, 0),
         ALL_OF_IT,
@@ -538,7 +541,7 @@ const TOLD: &[Told] = &[
     ),
 ];
 
-// The place of the first row of which something else comes.
+// The index of the first row with another outcome.
 fn wrong_told(alloc: Global, rows: &[Told]) -> Option<usize> {
     for (place, (changed, subject, calls, came)) in rows.iter().enumerate() {
         if outcome(alloc, changed, subject, calls) != *came {
@@ -548,14 +551,14 @@ fn wrong_told(alloc: Global, rows: &[Told]) -> Option<usize> {
     None
 }
 
-// A table, and what comes of its first entry or its last one, and of a scan.
+// A table, and the outcome of a range's first step at either end, and of a scan's.
 type FailsAtOnce = (Changed<'static>, Came, Came);
 
 const FAIL_AT_ONCE: &[FailsAtOnce] = &[
-    // the numbers of entries are tested where they are read
+    // the sequence numbers of entries are tested where they are read
     (BELITTLED, OVERFLOWS, OVERFLOWS),
     (UNDERSTATED, OVERFLOWS, OVERFLOWS),
-    // a damaged block of data, which a scan loads as it is made
+    // a damaged data block, which a scan loads as it is made
     (
         (Of::One, &[(44, b"?")], PINS, 0),
         Err((0, Error::ChecksumMismatch)),
@@ -567,7 +570,7 @@ const FRONT: &[Call] = &[Call::Front(None)];
 
 const BACK: &[Call] = &[Call::Back(None)];
 
-// Whether a table does so.
+// Whether a table has these outcomes.
 fn fails_at_once(alloc: Global, row: &FailsAtOnce) -> bool {
     let (changed, came, scanned) = row;
     outcome(alloc, changed, &ALL_OF_IT, FRONT) == *came
@@ -583,10 +586,10 @@ fn numbers_are_lifted_and_a_refusal_ends_what_is_walked(rt: HostRuntime) {
     }
 }
 
-// ---- want of memory
+// ---- out of memory
 
-// What is walked, calls, and which of them run out of memory in some run where a request is refused,
-// and which in none: 1 stands for the first one, 2 for the second one, 4 for any after them.
+// What is iterated, calls, and which of them run out of memory in some run where one allocation
+// fails, and which in none: 1 is the first one, 2 the second one, 4 any after them.
 type Refused = (Changed<'static>, Subject, &'static [Call], u8, u8);
 
 const WITHIN: Bounds<'static> = (Bound::Included(A_KEY), Bound::Included(B_KEY));
@@ -611,7 +614,7 @@ const SCANNED: &[Call] = &[
 
 const PARTED: Changed<'static> = (Of::Rows(Parted::Index), &[], (false, false), 0);
 
-// A seek in an index that stays loaded takes no memory, nor does the first entry of a scan, whose
+// A seek in a pinned index of one block never allocates, nor does the first step of a scan, whose
 // block is loaded as the scan is made.
 static REFUSED: [Refused; 12] = [
     (ON_DEMAND, ALL_OF_IT, FROM_BOTH_ENDS, 7, 0),
@@ -628,7 +631,7 @@ static REFUSED: [Refused; 12] = [
     (PARTED, Subject::Scan, SCANNED, 6, 1),
 ];
 
-// Which call is refused, if any; none where something else comes of them.
+// Which call runs out of memory, if any; `None` where they have another outcome.
 fn refused_call(came: &Came) -> Option<u8> {
     match came {
         Ok(_) => Some(0),
@@ -640,16 +643,16 @@ fn refused_call(came: &Came) -> Option<u8> {
     }
 }
 
-// What comes of the calls with a request refused, or with none where it is 0, and how many there
-// were.
+// Which call runs out of memory where the `nth` allocation fails, or none does where it is 0, and
+// how many allocations there were.
 fn outcome_at(alloc: Global, nth: usize, refused: &Refused) -> (Option<u8>, usize) {
     let heap = Refusing::new(alloc, nth);
     let came = outcome(&heap, &refused.0, &refused.1, refused.2);
     (refused_call(&came), heap.requests())
 }
 
-// Which calls are refused over all runs with each request refused in turn; none where something
-// else comes of them, or no request is made.
+// Which calls run out of memory over all runs with each allocation failing in turn; `None` where
+// they have another outcome, or there is no allocation.
 fn refused_calls(alloc: Global, refused: &Refused) -> Option<u8> {
     let (calls, requests) = outcome_at(alloc, 0, refused);
     if calls != Some(0) || requests == 0 {
@@ -663,7 +666,7 @@ fn refused_calls(alloc: Global, refused: &Refused) -> Option<u8> {
     Some(calls)
 }
 
-// The place of the first row of which other calls are refused.
+// The index of the first row of which other calls run out of memory.
 fn wrong_refused(alloc: Global, rows: &[Refused]) -> Option<usize> {
     for (place, row) in rows.iter().enumerate() {
         match refused_calls(alloc, row) {

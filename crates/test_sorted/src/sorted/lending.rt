@@ -1,18 +1,19 @@
-//! Newest versions, compactions and mergers that lend, beside those by value, over the same lists.
+//! Lending newest versions, compactions and mergers, compared with those by value over the same
+//! lists; and lending iterators of the entries below a bound.
 ghost use Rattle.std.specs.Prelude.{IfOk};
 ghost use Rattle.sst_entries.specs.Stream.{CanDeal, nowhere};
 
-use crate::sorted::words::{lends_so, results_of};
+use crate::sorted::words::{lends_so, results_of, said_by, said_lent};
 use lsm_lending::compaction::lending::LendingCompaction;
 use lsm_lending::{LendingMerger, LendingNewest};
 use lsm_merge::Merger;
-use lsm_sorted::MvccStream;
 use lsm_sorted::compaction::Rules;
 use lsm_sorted::compaction::stream::CompactionStream;
-use sst_entries::{Error, IterItem, Lending, ValueType};
+use lsm_sorted::{Below, MvccStream};
+use sst_entries::{Error, IterItem, Lending, SeqNo, ValueType};
 use std::alloc::Global;
 use std::vec::IntoIter;
-use test_lent::{LentList, agree, entry_of, lent_list, random};
+use test_lent::{LentList, agree, entry_of, go_on, lent_list, random};
 
 fn kind_of(number: u64) -> ValueType {
     match number % 6 {
@@ -23,8 +24,8 @@ fn kind_of(number: u64) -> ValueType {
     }
 }
 
-// A sorted list: of each key some versions, the newest first, which may tie, also with those of
-// other lists. The first value is the one given.
+// A sorted list: some versions of each key, the newest first. They may tie, also with those of
+// other lists. The first entry has the value `value`.
 fn list_of(alloc: Global, mut seed: u64, count: u8, value: u8) -> Result<Vec<IterItem>, Error> {
     let mut list = Vec::new(alloc);
     let mut key = 0u8;
@@ -41,8 +42,8 @@ fn list_of(alloc: Global, mut seed: u64, count: u8, value: u8) -> Result<Vec<Ite
     Ok(list)
 }
 
-// Two values, or the refusal of the first that is refused. It is generic in them, so that none of
-// their parts is looked at.
+// Two values, or the first error. It is generic in them, so that a proof looks at none of their
+// parts.
 fn both<T: Drop>(one: Result<T, Error>, other: Result<T, Error>) -> Result<(T, T), Error> {
     let one = one?;
     let other = other?;
@@ -115,16 +116,16 @@ fn lending_merger_of(
     LendingMerger::new(alloc, sources)
 }
 
-// Whether mergers of so many lists give the same.
+// Whether mergers of so many lists yield the same.
 fn mergers_agree(alloc: Global, seed: u64, count: u8) -> Result<bool, Error> {
     let by_value = merger_of(alloc, lists_of(alloc, seed, count)?)?;
     let lending = lending_merger_of(alloc, lists_of(alloc, seed, count)?)?;
     agree(by_value, lending, 40 * usize::from(count) + 2)
 }
 
-// What lends is compared: the newest versions of a list; what a compaction keeps of it, for a
-// threshold, and whether it evicts tombstones and zeroes numbers; and what several lists have
-// together.
+// The lending iterator that is compared: the newest versions of a list; a compaction of it at a
+// watermark, and whether it evicts tombstones and zeroes sequence numbers; and a merger of several
+// lists.
 #[derive(Clone, Copy)]
 enum Kind {
     Newest,
@@ -132,7 +133,7 @@ enum Kind {
     Merged,
 }
 
-// Whether what lends gives the same as by value, of so many entries or lists.
+// Whether the lending iterator yields the same as the one by value, of so many entries or lists.
 fn kinds_agree(alloc: Global, kind: Kind, seed: u64, count: u8) -> Result<bool, Error> {
     match kind {
         Kind::Newest => newest_agree(alloc, seed, count),
@@ -197,23 +198,23 @@ fn spelled(alloc: Global, text: &'static str) -> Result<Vec<Vec<IterItem>>, Erro
     Ok(lists)
 }
 
-// Whether a merger of the sources that a text spells lends so.
+// Whether a lending merger of the sources that a text spells yields that.
 fn merges(alloc: Global, text: &'static str, wanted: &str) -> Result<bool, Error> {
     let mut lending = lending_merger_of(alloc, spelled(alloc, text)?)?;
     Ok(lending.entry().is_none() && lends_so(&mut lending, wanted))
 }
 
-// Sources, and what is lent of them.
+// Sources, and what their merger yields.
 const LENT: &[(&str, &str)] = &[
     ("", ""),
     ("aV1 dV1 / bV1 / cV1 /", "aV1 bV1 cV1 dV1"),
-    // An error stands right behind the entry before it, and nothing follows it.
+    // An error comes right after the entry before it, and nothing follows it.
     ("aV1 dV1 !7 / bV1 / cV1 eV1 /", "aV1 bV1 cV1 dV1 !7"),
     ("aV1 dV1 / bV1 !7 fV1 / cV1 /", "aV1 bV1 !7"),
     ("aV1 cV1 !7 / bV1 !7 / eV1 /", "aV1 bV1 !7"),
     ("aV1 aV1 !7 / aV1 bV1 /", "aV1 aV1 !7"),
     ("aV1 bV1 / aV1 !7 /", "aV1 aV1 !7"),
-    // At the head of a source it is the first answer.
+    // At the head of a source it is the first item.
     ("aV1 / !7 bV1 / !7 /", "!7"),
 ];
 
@@ -224,5 +225,56 @@ fn an_error_is_answered_right_behind_the_entry_before_it(rt: HostRuntime) {
             matches!(merges(rt.alloc(), text, wanted), Ok(true)),
             "{text}"
         );
+    }
+}
+
+// ---- below a bound
+
+// A lending iterator over the results of a text, before its first step or after it.
+fn source_of(alloc: Global, text: &'static str, is_lent: bool) -> Result<LentList, Error>
+    ensures can { IfOk result (CanDeal ⟦<LentList as Lending>⟧.advances nowhere
+        ⟦<LentList as Lending>⟧.can_advance ⟦<LentList as Lending>⟧.can_advance) }
+{
+    let mut source = lent_list(results_of(alloc, text)?);
+    if !is_lent {
+        return Ok(source);
+    }
+    go_on(&mut source)?;
+    Ok(source)
+}
+
+// A text, whether its source made a step already, and a bound; the entry that is borrowed before
+// the first step, and what the steps yield.
+type LentBelow = (&'static str, bool, SeqNo, &'static str, &'static str);
+
+// Whether the entries below the bound are borrowed so, and no others.
+fn lends_below(alloc: Global, case: &LentBelow) -> Result<bool, Error> {
+    let &(text, is_lent, seqno, before, wanted) = case;
+    let mut below = Below::lending(source_of(alloc, text, is_lent)?, seqno);
+    let is_first = said_lent(&below) == said_by(before);
+    Ok(lends_so(&mut below, wanted) && is_first)
+}
+
+const LENT_BELOW: &[LentBelow] = &[
+    ("", false, 9, "-", ""),
+    ("aV5 aV4 bT3", false, 5, "-", "aV4 bT3"),
+    ("aV5 aV4 bT3", false, 6, "-", "aV5 aV4 bT3"),
+    ("aV5 aV4 bT3", false, 3, "-", ""),
+    ("aV5 aV4 bT3", false, 0, "-", ""),
+    // Entries at the bound or above are between others, and before an error.
+    ("aV1 bV7 cV5 dV2 eV5 !3", false, 5, "-", "aV1 dV2 !3"),
+    // The source lends an entry before the first step. It is lent on only if it is below the bound.
+    ("aV4 bV3", true, 5, "aV4", "bV3"),
+    ("aV5 bV3", true, 5, "-", "bV3"),
+    ("aV6 bV3", true, 5, "-", "bV3"),
+    ("aV6 bV5", true, 5, "-", ""),
+    ("", true, 5, "-", ""),
+];
+
+#[test]
+fn entries_at_a_bound_or_above_are_not_lent(rt: HostRuntime) {
+    for case in LENT_BELOW {
+        let lent = lends_below(rt.alloc(), case);
+        assert!(rt; matches!(lent, Ok(true)), "{}", case.0);
     }
 }

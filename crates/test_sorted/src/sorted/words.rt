@@ -1,9 +1,9 @@
-//! Entries, errors and answers in short for tests, as the words of a text.
+//! Entries, errors and items in short for tests, as the words of a text.
 //!
 //! `aV9` is an entry of the key `a` and the number 9, a value that is its key, and `aV9x` has the
 //! value `x`. `T` and `W` are the tombstones and `I` an indirection, which have no value unless it
-//! is spelled. `!4` is the error 4 of a caller's own source, `?1` a refused request for memory, and
-//! `-` no answer.
+//! is spelled. `!4` is the error 4 of a caller's own source, `?1` is `OutOfMemory`, and `-` is no
+//! item.
 ghost use Rattle.std.specs.Iterator.{IsFinite};
 ghost use Rattle.sst_entries.specs.Stream.{CanDeal, nowhere};
 
@@ -13,8 +13,8 @@ use sst_entries::{
 use std::alloc::Allocator;
 use test_lent::go_on;
 
-/// What a word says: a key or the sign before a number, the letter of a kind, a number, and a
-/// value. What is not there is 0.
+/// The parts of a word: a key or the sign before a number, the letter of a kind, a number, and a
+/// value. A part that is not there is 0.
 pub type Said = (u8, u8, u64, u8);
 
 /// The first of some bytes, or 0.
@@ -25,7 +25,7 @@ pub fn byte_of(bytes: &[u8]) -> u8 {
     }
 }
 
-// The number that some digits spell, and the byte behind them, or 0.
+// The number that some digits spell, and the byte after them, or 0.
 fn number_and_byte(text: &[u8]) -> (u64, u8) {
     let mut number = 0u64;
     for byte in text {
@@ -38,7 +38,7 @@ fn number_and_byte(text: &[u8]) -> (u64, u8) {
     (number, 0)
 }
 
-/// What a word says.
+/// The parts of a word.
 pub fn said_by(word: &str) -> Said {
     match word.as_bytes() {
         [sign @ (b'!' | b'?' | b'-'), digits @ ..] => (*sign, 0, number_and_byte(digits).0, 0),
@@ -102,7 +102,7 @@ fn letter_of(kind: ValueType) -> u8 {
     }
 }
 
-/// What is said of an entry that is lent.
+/// The word of a borrowed entry, in parts.
 pub fn said_of_lent(entry: &EntryRef<'_>) -> Said {
     (
         byte_of(entry.user_key),
@@ -112,7 +112,7 @@ pub fn said_of_lent(entry: &EntryRef<'_>) -> Said {
     )
 }
 
-// What is said of an error.
+// The word of an error.
 fn said_of_error(error: &Error) -> Said {
     match error {
         Error::Source(code) => (b'!', 0, *code, 0),
@@ -120,10 +120,10 @@ fn said_of_error(error: &Error) -> Said {
     }
 }
 
-// What is said where there is no answer.
+// The word for no item.
 const NOTHING: Said = (b'-', 0, 0, 0);
 
-// What is said of an answer.
+// The word of an item.
 fn said_of<A: Allocator>(answer: Option<IterItem<A>>) -> Said {
     match answer {
         Some(Ok(entry)) => said_of_lent(&entry.as_entry_ref()),
@@ -132,21 +132,26 @@ fn said_of<A: Allocator>(answer: Option<IterItem<A>>) -> Said {
     }
 }
 
-// What is said of the next answer of what lends.
+/// The word of the entry that a lending iterator lends now.
+pub fn said_lent<L: Lending>(source: &L) -> Said {
+    match source.entry() {
+        Some(entry) => said_of_lent(&entry),
+        None => NOTHING,
+    }
+}
+
+// The word of the next item of a lending iterator.
 fn said_next<L: Lending>(source: &mut L) -> Said
     requires { CanDeal L.advances nowhere L.can_advance L.can_advance source.old }
     ensures can { CanDeal L.advances nowhere L.can_advance L.can_advance source.new }
 {
     match go_on(source) {
-        Ok(_) => match source.entry() {
-            Some(entry) => said_of_lent(&entry),
-            None => NOTHING,
-        },
+        Ok(_) => said_lent(source),
         Err(error) => said_of_error(&error),
     }
 }
 
-/// Whether what lends answers so next, and then nothing.
+/// Whether a lending iterator yields these, and then nothing.
 pub fn lends_so<L: Lending>(source: &mut L, wanted: &str) -> bool
     requires { CanDeal L.advances nowhere L.can_advance L.can_advance source.old }
 {
@@ -157,7 +162,7 @@ pub fn lends_so<L: Lending>(source: &mut L, wanted: &str) -> bool
     said_next(source) == NOTHING && is_right
 }
 
-/// Whether a stream answers so at the ends that `F` and `B` stand for.
+/// Whether a stream yields these at the ends that `F` and `B` stand for.
 pub fn answers_so<A: Allocator, I: DoubleEndedIterator<Item = IterItem<A>> + Drop>(
     mut stream: I,
     ends: &str,
@@ -179,7 +184,7 @@ pub fn answers_so<A: Allocator, I: DoubleEndedIterator<Item = IterItem<A>> + Dro
     is_right && words.next().is_none()
 }
 
-// What is said of the next answer of a stream.
+// The word of the next item of a stream.
 fn said_first<A: Allocator, I: Iterator<Item = IterItem<A>>>(stream: &mut I) -> Said
     requires { CanDeal I.next_gives nowhere I.can_next I.can_next stream.old }
     ensures can { CanDeal I.next_gives nowhere I.can_next I.can_next stream.new }
@@ -187,7 +192,7 @@ fn said_first<A: Allocator, I: Iterator<Item = IterItem<A>>>(stream: &mut I) -> 
     said_of(stream.next())
 }
 
-/// Whether a stream answers so next, and then nothing.
+/// Whether a stream yields these, and then nothing.
 pub fn gives_so<A: Allocator, I: Iterator<Item = IterItem<A>>>(stream: &mut I, wanted: &str) -> bool
     requires { CanDeal I.next_gives nowhere I.can_next I.can_next stream.old }
 {
@@ -198,7 +203,7 @@ pub fn gives_so<A: Allocator, I: Iterator<Item = IterItem<A>>>(stream: &mut I, w
     said_first(stream) == NOTHING && is_right
 }
 
-/// Whether a stream gives these results to its end.
+/// Whether a stream yields these to its end.
 pub fn gives_all<A: Allocator, I: Iterator<Item = IterItem<A>>>(
     stream: &mut I,
     wanted: &str,
