@@ -155,9 +155,8 @@ void sst_close(sst_handle *handle);
 
 /* What a read found. A handle has the entry that the last read by it found (`sst_table_get`,
  * `sst_runs_get`, `sst_range_next`, `sst_range_take`, `sst_scan_next`, `sst_scan_take`) until the
- * next one. Point reads, scans, and a table's range from the front borrow the entry from the
- * table's memory: no bytes are copied, and no reference to it is counted. The others hold a counted
- * reference. Where the last read found nothing, or none was made, the two calls answer SST_NOTHING,
+ * next one. Point reads, scans, and a table's range borrow the entry from the table's memory: no
+ * bytes are copied, and no reference to it is counted. The others hold a counted reference. Where the last read found nothing, or none was made, the two calls answer SST_NOTHING,
  * whatever is held.
  */
 

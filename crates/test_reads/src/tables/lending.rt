@@ -127,20 +127,23 @@ fn a_scan_lends_what_it_gives(rt: HostRuntime) {
 
 // ---- one range, lending and by value in turn
 
-// Whether a range lends next what another yields next by value.
-fn lends_next(mixed: &mut Iter, plain: &mut Iter) -> Result<bool, Error> {
-    let more = mixed.advance()?;
-    match plain.next() {
+// Whether a range lends next, at the back or at the front, what another yields next by value.
+fn lends_next(mixed: &mut Iter, plain: &mut Iter, back: bool) -> Result<bool, Error> {
+    let (more, wanted) = if back {
+        (mixed.advance_back()?, plain.next_back())
+    } else {
+        (mixed.advance()?, plain.next())
+    };
+    match wanted {
         Some(item) => Ok(more && mixed.entry() == Some(item?.as_entry_ref())),
         None => Ok(!more && mixed.entry().is_none()),
     }
 }
 
-// Whether a range lends, after a step by value at the front, the entry that this step yielded, and
-// nothing after a step at the back.
-fn lends_given(mixed: &Iter, found: &Option<IterItem>, back: bool) -> bool {
+// Whether a range lends, after a step by value, the entry that this step yielded.
+fn lends_given(mixed: &Iter, found: &Option<IterItem>) -> bool {
     match found {
-        Some(Ok(item)) if !back => mixed.entry() == Some(item.as_entry_ref()),
+        Some(Ok(item)) => mixed.entry() == Some(item.as_entry_ref()),
         _ => mixed.entry().is_none(),
     }
 }
@@ -153,7 +156,7 @@ fn gives_next(mixed: &mut Iter, plain: &mut Iter, back: bool) -> Result<bool, Er
     } else {
         (mixed.next(), plain.next())
     };
-    if !lends_given(mixed, &found, back) {
+    if !lends_given(mixed, &found) {
         return Ok(false);
     }
     match (found, wanted) {
@@ -163,8 +166,8 @@ fn gives_next(mixed: &mut Iter, plain: &mut Iter, back: bool) -> Result<bool, Er
     }
 }
 
-// Whether two ranges yield the same, where one in turn lends, yields by value at the back and
-// yields by value at the front.
+// Whether two ranges yield the same, where one in turn lends at either end and yields by value at
+// either end.
 fn are_same_by_turns(
     mixed: Result<Iter, Error>,
     plain: Result<Iter, Error>,
@@ -173,13 +176,38 @@ fn are_same_by_turns(
     let mut plain = plain?;
     let mut same = true;
     for turn in 0..12 {
-        same &= match turn % 3 {
-            0 => lends_next(&mut mixed, &mut plain)?,
+        same &= match turn % 4 {
+            0 => lends_next(&mut mixed, &mut plain, false)?,
             1 => gives_next(&mut mixed, &mut plain, true)?,
+            2 => lends_next(&mut mixed, &mut plain, true)?,
             _ => gives_next(&mut mixed, &mut plain, false)?,
         };
     }
+    mixed.unlend();
+    Ok(same && mixed.entry().is_none())
+}
+
+// Whether a range lends from its back all that another yields there by value.
+fn lends_from_back(
+    lending: Result<Iter, Error>,
+    plain: Result<Iter, Error>,
+) -> Result<bool, Error> {
+    let mut lending = lending?;
+    let mut plain = plain?;
+    let mut same = true;
+    for _ in 0..12 {
+        same &= lends_next(&mut lending, &mut plain, true)?;
+    }
     Ok(same)
+}
+
+#[test]
+fn a_range_lends_from_its_back(rt: HostRuntime) {
+    for kind in KINDS {
+        let lending = range_in(rt.alloc(), kind, ALL);
+        let plain = range_in(rt.alloc(), kind, ALL);
+        assert!(rt; lends_from_back(lending, plain) == Ok(true));
+    }
 }
 
 #[test]
