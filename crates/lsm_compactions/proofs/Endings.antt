@@ -1,15 +1,15 @@
 -- How the writing of entries ended, and what a compaction came to then.
-use Rattle.std.proofs.Common.{◌≡◌, refl, sym, subst, inl, inr, false, List}
-use Rattle.std.specs.Prelude.{◌≢◌, Bool, IfErr, IfOk, IsErrAnd, OnOk, Option, Result, Ok, Err}
+use Rattle.std.proofs.Common.{◌≡◌, refl, sym, subst, inr, List}
+use Rattle.std.specs.Prelude.{Bool, IfErr, IfOk, OnOk, Option, Result, Ok, Err}
 use Rattle.sst_entries.specs.declared.error.Error.{Error}
 use Rattle.sst_entries.specs.Entry.{Entry}
-use Rattle.sst_entries.specs.Error.{Faults, is_memory}
-use Rattle.sst_entries.specs.Stream.{but_last, ok_results}
+use Rattle.sst_entries.specs.Error.{Faults}
+use Rattle.sst_entries.specs.Stream.{but_last}
 use Rattle.lsm_merge.specs.Ends.{R}
 use Rattle.lsm_writers.specs.Tables.{IsFreshRun, TablesWriting, all_written}
 use Rattle.lsm_writers.proofs.OneCut.{one_cut_law}
-use Rattle.lsm_compactions.specs.AnyRuns.{AreTablesBy, CameOf, GoesThrough, HasMade}
-use Rattle.lsm_compactions.specs.AnyRuns.{MeetsFault, TakesOf, TookList}
+use Rattle.lsm_compactions.specs.AnyRuns.{AreTablesBy, HasMade}
+use Rattle.lsm_compactions.specs.AnyRuns.{TookList}
 use Rattle.lsm_compactions.specs.Chain.{writes_fault}
 use Rattle.lsm_compactions.specs.Compacted.{RunsOn}
 use Rattle.lsm_compactions.specs.Filtered.{IsWritten, RefusesWritten, WroteUntil}
@@ -17,8 +17,8 @@ use Rattle.lsm_compactions.specs.Observed.{GoesOnAt, WasTold, told_of}
 use Rattle.lsm_compactions.specs.declared.any_runs.CompactionOutcome.{CompactionOutcome}
 use Rattle.lsm_compactions.specs.declared.any_runs.CompactionOutcome.TheVariants.{OutOfOrder}
 use Rattle.lsm_compactions.specs.declared.any_runs.CompactionOutcome.TheVariants.{Stopped, Tables}
-use Rattle.lsm_compactions.specs.declared.any_runs.Ending.{Ending}
-use Rattle.lsm_compactions.specs.declared.any_runs.Ending.TheVariants.{AtDisorder, AtEnd, AtStop}
+use Rattle.lsm_compactions.specs.declared.any_runs_with.Ending.{Ending}
+use Rattle.lsm_compactions.specs.declared.any_runs_with.Ending.TheVariants.{AtDisorder, AtEnd, AtStop}
 use Rattle.lsm_compactions.specs.declared.observer.CompactionProgress.{CompactionProgress}
 
 -- what a compaction came to, by how its writing ended
@@ -43,20 +43,6 @@ module _ {S O : Type 0} (gives : S → Option R → S → Type 0)
 module _ {A : Type 0} (w m : TablesWriting) (fresh : IsFreshRun w) (next : RunsOn w) where
   -- ---- tables of all that was taken
 
-  all_came : (rs : List R) (es : List Entry) (out : Result (CompactionOutcome A) Error)
-      → rs ≡ ok_results es → TookList w es m → IfOk out (AreTablesBy w es)
-      → Faults out (writes_fault w es) → CameOf w rs out
-  all_came rs es (Ok (Tables tables left)) whole list made none =
-      record { list = es; whole = whole; none = none; written = made }
-  all_came rs es (Ok OutOfOrder) whole list made none = absurd made
-  all_came rs es (Ok Stopped) whole list made none = made
-  all_came rs es (Err e) whole list made fault = λ fine. inr (record {
-    list = es;
-    whole = whole;
-    taken = list.taken;
-    fault = fault fine;
-  })
-
   all_made : (es : List Entry) (out : Result (CompactionOutcome A) Error) → TookList w es m
       → IfOk out (AreTablesBy w es) → IfOk out (HasMade w)
   all_made es (Ok (Tables tables left)) list made =
@@ -65,26 +51,7 @@ module _ {A : Type 0} (w m : TablesWriting) (fresh : IsFreshRun w) (next : RunsO
   all_made es (Ok Stopped) list made = tt
   all_made es (Err e) list made = tt
 
-  all_through : (es : List Entry) (out : Result (CompactionOutcome A) Error)
-      → IfOk out (AreTablesBy w es) → IfOk out GoesThrough
-  all_through es (Ok (Tables tables left)) made = tt
-  all_through es (Ok OutOfOrder) made = tt
-  all_through es (Ok Stopped) made = made
-  all_through es (Err e) made = tt
-
   -- ---- as it ended
-
-  pub came_ended : (rs : List R) (r : Result Ending Error)
-      (out : Result (CompactionOutcome A) Error) → EndedBy m r out
-      → OnOk r (TookList w (all_written m) m) → TakesOf w rs m r → CameOf w rs out
-  came_ended rs (Ok AtEnd) out by list takes =
-      all_came rs (all_written m) out takes list
-      (by.tables refl w (all_written m) fresh next list) (by.refused refl w (all_written m) list)
-  came_ended rs (Ok AtDisorder) out by list takes =
-      subst (CameOf w rs) (sym (by.disorder refl)) takes
-  came_ended rs (Ok AtStop) out by list takes = absurd takes
-  came_ended rs (Err e) out by list takes =
-      subst (CameOf w rs) (sym (by.passed e refl)) (λ fine. inl (takes fine))
 
   pub made_ended : (r : Result Ending Error) (out : Result (CompactionOutcome A) Error)
       → EndedBy m r out → OnOk r (TookList w (all_written m) m) → IfOk out (HasMade w)
@@ -99,19 +66,6 @@ module _ {A : Type 0} (w m : TablesWriting) (fresh : IsFreshRun w) (next : RunsO
       subst (λ (o : Result (CompactionOutcome A) Error). IfOk o (HasMade w))
       (sym (by.passed e refl)) tt
 
-  pub through_ended : (r : Result Ending Error) (out : Result (CompactionOutcome A) Error)
-      → EndedBy m r out → OnOk r (TookList w (all_written m) m) → IfOk r (λ end. end ≢ AtStop)
-      → IfOk out GoesThrough
-  through_ended (Ok AtEnd) out by list goes =
-      all_through (all_written m) out (by.tables refl w (all_written m) fresh next list)
-  through_ended (Ok AtDisorder) out by list goes =
-      subst (λ (o : Result (CompactionOutcome A) Error). IfOk o GoesThrough)
-      (sym (by.disorder refl)) tt
-  through_ended (Ok AtStop) out by list goes = absurd (goes refl)
-  through_ended (Err e) out by list goes =
-      subst (λ (o : Result (CompactionOutcome A) Error). IfOk o GoesThrough)
-      (sym (by.passed e refl)) tt
-
   -- ---- of a stream, while an observer is told
 
   module _ {S O : Type 0} (gives : S → Option R → S → Type 0)
@@ -120,18 +74,19 @@ module _ {A : Type 0} (w m : TablesWriting) (fresh : IsFreshRun w) (next : RunsO
     Was out = IsWritten gives w s says o out u q
 
     all_written_so : (out : Result (CompactionOutcome A) Error) → TookList w (all_written m) m
-        → IfOk out (AreTablesBy w (all_written m)) → (Wrote gives says w m s o u q) AtEnd → IfOk out Was
-    all_written_so (Ok (Tables tables left)) list made wrote = record {
+        → IfOk out (AreTablesBy w (all_written m)) → Faults out (writes_fault w (all_written m))
+        → (Wrote gives says w m s o u q) AtEnd → IfOk out Was
+    all_written_so (Ok (Tables tables left)) list made none wrote = record {
       list = all_written m;
       taken = list.taken;
       led = wrote.led;
       gave = wrote.gave;
-      ends = (wrote.ends, made);
+      ends = (wrote.ends, none, made);
       told = wrote.told;
     }
-    all_written_so (Ok OutOfOrder) list made wrote = absurd made
-    all_written_so (Ok Stopped) list made wrote = absurd made
-    all_written_so (Err e) list made wrote = tt
+    all_written_so (Ok OutOfOrder) list made none wrote = absurd made
+    all_written_so (Ok Stopped) list made none wrote = absurd made
+    all_written_so (Err e) list made none wrote = tt
 
     all_refused : (out : Result (CompactionOutcome A) Error) → TookList w (all_written m) m
         → Faults out (writes_fault w (all_written m)) → (Wrote gives says w m s o u q) AtEnd → IfErr out (Refuses gives says w s o q)
@@ -162,7 +117,8 @@ module _ {A : Type 0} (w m : TablesWriting) (fresh : IsFreshRun w) (next : RunsO
     pub written_ended : (r : Result Ending Error) (out : Result (CompactionOutcome A) Error)
         → EndedBy m r out → OnOk r (TookList w (all_written m) m) → IfOk r (Wrote gives says w m s o u q) → IfOk out Was
     written_ended (Ok AtEnd) out by list wrote = all_written_so out list
-        (by.tables refl w (all_written m) fresh next list) wrote
+        (by.tables refl w (all_written m) fresh next list) (by.refused refl w (all_written m) list)
+        wrote
     written_ended (Ok AtDisorder) out by list wrote =
         subst (λ (x : Result (CompactionOutcome A) Error). IfOk x Was) (sym (by.disorder refl))
         (record {
@@ -214,10 +170,3 @@ module _ {A : Type 0} (w m : TablesWriting) (fresh : IsFreshRun w) (next : RunsO
     told_ended (Err e) out by list wrote =
         subst (λ (x : Result (CompactionOutcome A) Error). IfOk x (λ y. WasTold says w y o q))
         (sym (by.passed e refl)) tt
-
--- a refusal that is passed on
-pub takes_refused : (w m : TablesWriting) (rs : List R) (r : Result Ending Error) (f : Error)
-    → IsErrAnd r (λ y. y ≡ f) → (is_memory f ≡ false → MeetsFault w rs f) → TakesOf w rs m r
-takes_refused w m rs (Ok x) f is h = absurd is
-takes_refused w m rs (Err y) f is h =
-    subst (λ (e : Error). is_memory e ≡ false → MeetsFault w rs e) (sym is) h

@@ -6,7 +6,7 @@ use Rattle.std.specs.List.{AllByRecursion}
 use Rattle.std.specs.Iterator.{Yields}
 use Rattle.std.proofs.lemmas.Bool.{cases_Bool}
 use Rattle.sst_entries.specs.Entry.{Entry}
-use Rattle.sst_entries.specs.Error.{is_memory}
+use Rattle.sst_entries.specs.Error.{Faults, is_memory}
 use Rattle.sst_entries.specs.Stream.{ok_results, result_stops}
 use Rattle.sst_entries.specs.declared.error.Error.{Error}
 use Rattle.sst_entries.specs.declared.error.Error.TheVariants.{OutOfMemory}
@@ -98,7 +98,12 @@ module _ {S F C : Type 0} (next : S → Option R → S → Type 0)
             by_outcome (Tables tables behind) u q h = record {
               kept = h.list;
               taken = h.taken;
-              came = (filter_in u, given_whole h.list h.led u h.gave h.ends.0, h.ends.1);
+              came = (
+                filter_in u,
+                given_whole h.list h.led u h.gave h.ends.0,
+                h.ends.1,
+                h.ends.2,
+              );
               told = h.told;
             }
             by_outcome OutOfOrder u q h = record {
@@ -127,6 +132,7 @@ module _ {S F C : Type 0} (next : S → Option R → S → Type 0)
                 at.last,
                 callback_in at.then,
                 given_more h.list h.led at.then at.last at.fine h.gave at.one,
+                at.comes,
                 at.fault,
               )
               | inr end ↦ inr (
@@ -138,26 +144,6 @@ module _ {S F C : Type 0} (next : S → Option R → S → Type 0)
             ];
             told = h.told;
           }
-
-          pub refuses_by : is_memory e ≡ false → RefusesBy gives gets rules f c xs w e
-          refuses_by fine = elim (h.fails fine) [
-            | inl at ↦
-                let k = given_more h.list h.led at.then at.last at.fine h.gave at.one in
-                inl (record {
-                  gave = ok_results h.list ++ at.last ∷ [];
-                  filter = k.filter;
-                  callback = callback_in at.then;
-                  part = k.part;
-                  fault = at.fault;
-                })
-            | inr end ↦ inr (record {
-              kept = h.list;
-              filter = filter_in end.then;
-              callback = callback_in end.then;
-              compacted = given_whole h.list h.led end.then h.gave end.ended;
-              fault = end.fault;
-            })
-          ]
 
   module _ (es : List Entry)
       (does : CompactsAs gives gets rules f c (ok_results es) next s filter_in callback_in)
@@ -189,7 +175,7 @@ module _ {S F C : Type 0} (next : S → Option R → S → Type 0)
             filter = filter_in u;
             compacted = calm_compacted gives gets rules f (filter_in u) c (callback_in u) es
                 (ok_results h.list) (given_whole (ok_results es) does h.list h.led u h.gave h.ends.0);
-            written = h.ends.1;
+            written = h.ends.2;
           }
           by_outcome OutOfOrder u q h =
               may_not _ h.ends.2 (gives_on h.list h.led u h.ends.0 h.gave h.ends.1)
@@ -205,11 +191,15 @@ pub err_passed : {X : Type 0} (P : Error → Type 0) (r : Result X Error) (e : E
 err_passed P (Ok x) e is h = tt
 err_passed P (Err y) e is h = subst P (sym is) h
 
-pub memory_passed : {X : Type 0} (P : Error → Type 0) (r : Result X Error) (e : Error)
-    → IsErrAnd r (λ y. y ≡ e) → e ≡ OutOfMemory → IfErr r (λ x. is_memory x ≡ false → P x)
-memory_passed P (Ok x) e is memory = tt
-memory_passed P (Err y) e is memory = λ fine.
-    let both : true ≡ false = sym (ap is_memory (is ∙ memory)) ∙ fine in absurd cc
+-- the first error is that behind all that was kept and written
+pub refuses_by : {F C O X : Type 0} (gives : F → Entry → Result Verdict Error → F → Type 0)
+    (gets : C → Entry → C → Type 0) (rules : Rules) (f : F) (c : C) (xs : List R)
+    (w : TablesWriting) (says : O → CompactionProgress → Bool → O → Type 0) (o q : O)
+    (r : Result X Error) → IfErr r (λ e. CameUntil gives gets rules f c xs w says o e q)
+    → IfErr r (λ e. is_memory e ≡ false → RefusesBy gives gets rules f c xs w e)
+refuses_by gives gets rules f c xs w says o q (Ok x) until = tt
+refuses_by gives gets rules f c xs w says o q (Err e) until =
+    λ fine. record { kept = until.kept; taken = until.taken; fails = until.fails fine }
 
 -- what can be no fault is want of memory
 pub memory_unless : (e : Error) → (is_memory e ≡ false → ⊥) → e ≡ OutOfMemory
@@ -288,6 +278,13 @@ pub match_err : {X : Type 0} (P : X → Type 0) (Q : Error → Type 0) (r : Resu
     → IsErrAnd r (λ y. y ≡ e) → Q e → MatchResult r P Q
 match_err P Q (Ok x) e is h = absurd is
 match_err P Q (Err y) e is h = subst Q (sym is) h
+
+-- an `OutOfMemory` where there is no fault
+pub memory_faults : {X : Type 0} (r : Result X Error) (told : Option Error) → told ≡ None
+    → IfErr r (λ e. e ≡ OutOfMemory) → Faults r told
+memory_faults (Ok x) told none memory = none
+memory_faults (Err e) told none memory = λ fine.
+    let both : true ≡ false = sym (ap is_memory memory) ∙ fine in absurd cc
 
 -- a refusal for want of memory is no fault
 pub memory_tells : {X : Type 0} (P : Error → Type 0) (r : Result X Error)

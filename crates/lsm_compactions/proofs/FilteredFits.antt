@@ -1,7 +1,7 @@
 -- Where whatever may be kept fits as tables, and a filter refuses nothing but for want of memory,
 -- neither does a compaction.
 use Rattle.std.proofs.Common.{◌≡◌, refl, sym, ◌∙◌, ap, subst, true, false, List, [], ◌∷◌, ◌++◌}
-use Rattle.std.proofs.Common.{inl, inr, Bool}
+use Rattle.std.proofs.Common.{append-nil, inl, inr, Bool}
 use Rattle.std.specs.Prelude.{Option, Some, None, Result, Ok, Err}
 use Rattle.std.specs.List.{AllByRecursion}
 use Rattle.std.specs.Iterator.{Yields}
@@ -14,24 +14,24 @@ use Rattle.sst_entries.specs.declared.error.Error.TheVariants.{OutOfMemory}
 use Rattle.sst_entries.proofs.Lists.{all_append, all_behind, all_front}
 use Rattle.sst_entries.proofs.StreamLemmas.{map_append}
 use Rattle.lsm_merge.specs.Ends.{R}
+use Rattle.lsm_merge.specs.Union.{entries_among}
 use Rattle.lsm_sorted.specs.declared.compaction.Rules.{Rules}
-use Rattle.lsm_sorted.specs.Compaction.{Judged, Verdict, asked, entries, kept}
+use Rattle.lsm_sorted.specs.Compaction.{Judged, Verdict, asked, reported}
 use Rattle.lsm_sorted.specs.Compacting.{SaysOf}
-use Rattle.lsm_lending.specs.LentCompaction.{CompactedPart, past_hidden}
+use Rattle.lsm_lending.specs.LentCompaction.{CompactedLent, CompactedPart, lent_outs, past_hidden}
 use Rattle.lsm_lending.proofs.CompactionRuns.{calm_items}
 use Rattle.lsm_lending.proofs.KeepsAllLemmas.{IsMemoryAtMost, SaysMemory, as_they_are_so}
 use Rattle.lsm_lending.proofs.KeepsAllLemmas.{memory_at_most}
-use Rattle.lsm_lending.proofs.KeptOrder.{Ordered, kept_in_order}
 use Rattle.lsm_writers.specs.Tables.{IsFreshRun, TakesLaw, TablesWriting, took, took_fault}
 use Rattle.lsm_writers.specs.Writing.{IsWritable}
 use Rattle.lsm_compactions.specs.AnyRuns.{results_fault}
 use Rattle.lsm_compactions.specs.Chain.{writes_fault}
-use Rattle.lsm_compactions.specs.Compacted.{RunsOn}
+use Rattle.lsm_compactions.specs.Compacted.{FitsBy, RunsOn}
 use Rattle.lsm_compactions.specs.Filtered.{CompactsAs, FailsAt, FailsToEnd, FitsKept}
 use Rattle.lsm_compactions.specs.Filtered.{RefusesForMemory, RefusesWritten}
 use Rattle.lsm_compactions.specs.declared.observer.CompactionProgress.{CompactionProgress}
 use Rattle.lsm_compactions.proofs.FilteredCame.{more_stops, none_stops}
-use Rattle.lsm_compactions.proofs.FilteredFront.{all_of_it, front_of, ordered_of, writable_of}
+use Rattle.lsm_compactions.proofs.FilteredFront.{among_front, front_of, in_order}
 use Rattle.lsm_compactions.proofs.Observing.{yields_more}
 use Rattle.lsm_compactions.proofs.RunWriting.{left_none}
 use Rattle.lsm_compactions.proofs.WrittenBy.{fits_none}
@@ -80,19 +80,47 @@ part_memory gives gets rules f g c d es gave calm p =
     (sym h.answers) (memory_at_most rules h.judged (calm_items h.judged es h.over) h.tombstones
     says))
 
+-- a whole compaction is a part behind which nothing is left
+abbrev whole_part : {F C : Type 0} (gives : F → Entry → Result Verdict Error → F → Type 0)
+    (gets : C → Entry → C → Type 0) (rules : Rules) (f g : F) (c d : C) (xs gave : List R)
+    → CompactedLent gives gets rules f c xs gave g d → CompactedPart gives gets rules f c xs gave g d
+whole_part gives gets rules f g c d xs gave h = record {
+  key = None;
+  left = [];
+  does = record {
+    judged = h.judged;
+    over = h.over;
+    tombstones = h.tombstones;
+    answers = append-nil gave ∙ h.answers;
+    said = asked rules h.judged;
+    said_are = append-nil (asked rules h.judged);
+    says = h.says;
+    heard = reported rules h.judged;
+    heard_are = append-nil (reported rules h.judged);
+    reports = h.reports;
+    begun = h.judged;
+    begun_are = append-nil h.judged;
+  };
+}
+
 module _ {S F C : Type 0} (next : S → Option R → S → Type 0)
     (gives : F → Entry → Result Verdict Error → F → Type 0) (gets : C → Entry → C → Type 0)
     (rules : Rules) (f : F) (c : C) (filter_in : S → F) (callback_in : S → C) (s : S)
     (w : TablesWriting) (es : List Entry)
     (does : CompactsAs gives gets rules f c (ok_results es) next s filter_in callback_in)
     (writable : IsWritable es) (law : TakesLaw) (fresh : IsFreshRun w) (runs_on : RunsOn w)
-    (calm : RefusesForMemory gives) (fits : FitsKept w rules es) where
-  -- whatever is kept is written
-  kept_writes : (js : List Judged) → entries js ≡ es
-      → writes_fault w (kept rules js) ≡ None
-  kept_writes js are = fits_none w (kept rules js) law fresh runs_on
-      (writable_of (kept rules js) (kept_in_order rules js
-      (subst Ordered (sym are) (ordered_of es writable)))) (fits js are)
+    (calm : RefusesForMemory gives) (fits : FitsKept gives gets rules f c es w) where
+  -- what a part gave is written, and so is what the rules keep of the rest
+  part_writes : (list : List Entry) (g : F) (d : C)
+      (p : CompactedPart gives gets rules f c (ok_results es) (ok_results list) g d)
+      → writes_fault w (list ++ entries_among (lent_outs rules (past_hidden p.key p.left))) ≡ None
+  part_writes list g d p =
+      let rest : List R = lent_outs rules (past_hidden p.key p.left) in
+      let all = list ++ entries_among rest in
+      let fit : FitsBy w all = subst (FitsBy w) (among_front list rest)
+      (fits (ok_results list) g d p) in
+      fits_none w all law fresh runs_on
+      (in_order rules es list writable (front_of gives gets rules f g c d es list p)) fit
 
   fits_last : (last : R) (list : List Entry) (g : F) (d : C)
       → CompactedPart gives gets rules f c (ok_results es) (ok_results list ++ last ∷ []) g d
@@ -107,12 +135,11 @@ module _ {S F C : Type 0} (next : S → Option R → S → Type 0)
   fits_last (Ok x) list g d part fine e fault =
       let all = list ++ x ∷ [] in
       let listed : ok_results all ≡ ok_results list ++ Ok x ∷ [] = map_append list (x ∷ []) in
-      let k = front_of gives gets rules f g c d es all
-      (subst (λ (rs : List R). CompactedPart gives gets rules f c (ok_results es) rs g d)
-      (sym listed) part) in
+      let p : CompactedPart gives gets rules f c (ok_results es) (ok_results all) g d =
+      subst (λ (rs : List R). CompactedPart gives gets rules f c (ok_results es) rs g d)
+      (sym listed) part in
       none_faults _ e (ap (results_fault w) (sym listed)
-      ∙ front_none w all k.more (ap (writes_fault w) (sym k.front) ∙ kept_writes k.judged k.over))
-      fault
+      ∙ front_none w all _ (part_writes all g d p)) fault
 
   fits_among : (list : List Entry) (t : S) → Yields next s (ok_results list) t → (e : Error)
       → FailsAt next w s list t e → ⊥
@@ -123,9 +150,11 @@ module _ {S F C : Type 0} (next : S → Option R → S → Type 0)
   fits_behind : (list : List Entry) (t : S) → Yields next s (ok_results list) t → (e : Error)
       → FailsToEnd next w s list t e → ⊥
   fits_behind list t runs e h =
-      let k = all_of_it gives gets rules f (filter_in h.then) c (callback_in h.then) es list
+      let g = filter_in h.then in
+      let d = callback_in h.then in
+      let p = whole_part gives gets rules f g c d (ok_results es) (ok_results list)
       (does.whole (ok_results list) t h.then (none_stops is_memory list) runs h.ended) in
-      none_faults _ e (ap (writes_fault w) (sym k.2) ∙ kept_writes k.0 k.1) h.fault
+      none_faults _ e (ap (writes_fault w) (sym (append-nil list)) ∙ part_writes list g d p) h.fault
 
   pub fits_all : {O : Type 0} (says : O → CompactionProgress → Bool → O → Type 0) (o q : O)
       (e : Error) → RefusesWritten next w s says o e q → is_memory e ≡ false → ⊥

@@ -453,11 +453,13 @@ module _ {S O : Type 0} (next : S → Option R → S → Type 0)
         ∙ map_append (all_written m) (e ∷ [])))
         (yields_more next (ok_results (all_written m)) s t u (Ok e) h.gave step)
 
-    -- the writer refuses it
-    pub failed_entry : next t (Some (Ok e)) u → (f : Error) → took_fault m e ≡ Some f
+    -- the writer fails for it
+    pub failed_entry : may_be_written (all_written m) e.user_key e.seqno ≡ true
+        → next t (Some (Ok e)) u → (f : Error) → took_fault m e ≡ Some f
         → FailsAt next w s (all_written m) t f
-    failed_entry step f is = record {
+    failed_entry may step f is = record {
       last = Ok e;
+      comes = may;
       fine = refl;
       then = u;
       one = step;
@@ -472,6 +474,7 @@ module _ {S O : Type 0} (next : S → Option R → S → Type 0)
         → FailsAt next w s (all_written m) t f
     failed_result f fine step = record {
       last = Err f;
+      comes = tt;
       fine = fine;
       then = u;
       one = step;
