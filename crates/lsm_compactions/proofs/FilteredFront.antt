@@ -27,7 +27,7 @@ pub record JudgedOf (es : List Entry) (items_are : List JudgedItem) : Type 0 whe
   pub over : entries js ≡ es
   pub are : items_are ≡ ok_results js
 
-judged_of : (items_are : List JudgedItem) (es : List Entry) → items items_are ≡ ok_results es
+pub judged_of : (items_are : List JudgedItem) (es : List Entry) → items items_are ≡ ok_results es
     → JudgedOf es items_are
 judged_of [] [] h = record { js = []; over = refl; are = refl }
 judged_of [] (e ∷ es) h = absurd cc
