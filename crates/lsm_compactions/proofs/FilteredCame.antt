@@ -21,7 +21,7 @@ use Rattle.lsm_lending.proofs.CompactionRuns.{calm_compacted}
 use Rattle.lsm_lending.proofs.KeepsAllLemmas.{items_are, tombstones_stay}
 use Rattle.lsm_readers.specs.Table.{OpenTable}
 use Rattle.lsm_writers.specs.Tables.{TablesWriting}
-use Rattle.lsm_writers.specs.Writing.{IsWritable, may_be_written}
+use Rattle.lsm_writers.specs.Writing.{IsWritable}
 use Rattle.lsm_writers.proofs.ListWriting.{listed_follows}
 use Rattle.lsm_compactions.specs.AnyRuns.{BeginsWith}
 use Rattle.lsm_compactions.specs.Filtered.{CameTo, CameUntil, CameUpTo, CompactsAs}
@@ -145,44 +145,28 @@ module _ {S F C : Type 0} (next : S → Option R → S → Type 0)
             told = h.told;
           }
 
-  module _ (es : List Entry)
-      (does : CompactsAs gives gets rules f c (ok_results es) next s filter_in callback_in)
-      (writable : IsWritable es) where
-    -- an entry that it gives may follow those that it gave
-    gives_on : (gave : List Entry) (t u : S) (x : Entry) → Yields next s (ok_results gave) t
-        → next t (Some (Ok x)) u → may_be_written gave x.user_key x.seqno ≡ true
-    gives_on gave t u x runs step =
-        let k = given_next (ok_results es) does gave t u x runs step in
-        let front = front_of gives gets rules f k.filter c (callback_in u) es (gave ++ x ∷ [])
-        k.part in
-        listed_follows gave x front.more
-        (subst IsWritable (append_assoc gave (x ∷ []) front.more)
-        (in_order rules es (gave ++ x ∷ []) writable front))
-
-    module _ {O : Type 0} (says : O → CompactionProgress → Bool → O → Type 0) (o : O) where
-      pub came_to : {A : Type 0} (outcome : CompactionOutcome A) (u : S) (q : O) (d : C)
-          → d ≡ callback_in u → IsWritten next w s says o outcome u q
-          → CameTo gives gets rules f c es w outcome d
-      came_to outcome u q d is h =
-          subst (λ (b : C). CameTo gives gets rules f c es w outcome b) (sym is)
-          (by_outcome outcome u q h)
-        where
-          by_outcome : {A : Type 0} (outcome : CompactionOutcome A) (u : S) (q : O)
-              → IsWritten next w s says o outcome u q
-              → CameTo gives gets rules f c es w outcome (callback_in u)
-          by_outcome (Tables tables behind) u q h = record {
-            kept = h.list;
-            filter = filter_in u;
-            compacted = calm_compacted gives gets rules f (filter_in u) c (callback_in u) es
-                (ok_results h.list) (given_whole (ok_results es) does h.list h.led u h.gave h.ends.0);
-            written = h.ends.2;
-          }
-          by_outcome OutOfOrder u q h =
-              may_not _ h.ends.2 (gives_on h.list h.led u h.ends.0 h.gave h.ends.1)
-          by_outcome Stopped u q h =
-              let k = given_by (ok_results es) does h.list u
-              (subst (λ (v : S). Yields next s (ok_results h.list) v) h.ends h.gave) in
-              record { kept = h.list; filter = k.filter; part = k.part }
+-- what came of a list that can be written: its entries come in order
+pub came_to : {F C O A : Type 0} (gives : F → Entry → Result Verdict Error → F → Type 0)
+    (gets : C → Entry → C → Type 0) (rules : Rules) (f : F) (c : C) (es : List Entry)
+    (w : TablesWriting) (says : O → CompactionProgress → Bool → O → Type 0) (o q : O)
+    → IsWritable es → (outcome : CompactionOutcome A) (d : C)
+    → CameUpTo gives gets rules f c (ok_results es) w says o outcome d q
+    → CameTo gives gets rules f c es w outcome d
+came_to gives gets rules f c es w says o q writable (Tables tables left) d h = record {
+  kept = h.kept;
+  filter = h.came.0;
+  compacted = calm_compacted gives gets rules f h.came.0 c d es (ok_results h.kept) h.came.1;
+  written = h.came.3;
+}
+came_to gives gets rules f c es w says o q writable OutOfOrder d h =
+    let x = h.came.0 in
+    let k = h.came.1 in
+    let front = front_of gives gets rules f k.filter c d es (h.kept ++ x ∷ []) k.part in
+    may_not _ h.came.2 (listed_follows h.kept x front.more
+    (subst IsWritable (append_assoc h.kept (x ∷ []) front.more)
+    (in_order rules es (h.kept ++ x ∷ []) writable front)))
+came_to gives gets rules f c es w says o q writable Stopped d h =
+    record { kept = h.kept; filter = h.came.filter; part = h.came.part }
 
 -- ---- refusals that are passed on
 

@@ -2,13 +2,12 @@
 -- neither does a compaction.
 use Rattle.std.proofs.Common.{◌≡◌, refl, sym, ◌∙◌, ap, subst, true, false, List, [], ◌∷◌, ◌++◌}
 use Rattle.std.proofs.Common.{append-nil, inl, inr, Bool}
-use Rattle.std.specs.Prelude.{Option, Some, None, Result, Ok, Err}
+use Rattle.std.specs.Prelude.{Option, Some, None, Result, Ok, Err, IfErr}
 use Rattle.std.specs.List.{AllByRecursion}
-use Rattle.std.specs.Iterator.{Yields}
 use Rattle.std.specs.Option.{option_or}
 use Rattle.sst_entries.specs.Entry.{Entry}
 use Rattle.sst_entries.specs.Error.{is_memory}
-use Rattle.sst_entries.specs.Stream.{ok_results, result_stops}
+use Rattle.sst_entries.specs.Stream.{ok_results}
 use Rattle.sst_entries.specs.declared.error.Error.{Error}
 use Rattle.sst_entries.specs.declared.error.Error.TheVariants.{OutOfMemory}
 use Rattle.sst_entries.proofs.Lists.{all_append, all_behind, all_front}
@@ -24,15 +23,13 @@ use Rattle.lsm_lending.proofs.KeepsAllLemmas.{IsMemoryAtMost, SaysMemory, as_the
 use Rattle.lsm_lending.proofs.KeepsAllLemmas.{memory_at_most}
 use Rattle.lsm_writers.specs.Tables.{IsFreshRun, TakesLaw, TablesWriting, took, took_fault}
 use Rattle.lsm_writers.specs.Writing.{IsWritable}
-use Rattle.lsm_compactions.specs.AnyRuns.{results_fault}
+use Rattle.lsm_compactions.specs.AnyRuns.{AreTaken, results_fault}
 use Rattle.lsm_compactions.specs.Chain.{writes_fault}
 use Rattle.lsm_compactions.specs.Compacted.{FitsBy, RunsOn}
-use Rattle.lsm_compactions.specs.Filtered.{CompactsAs, FailsAt, FailsToEnd, FitsKept}
-use Rattle.lsm_compactions.specs.Filtered.{RefusesForMemory, RefusesWritten}
+use Rattle.lsm_compactions.specs.Filtered.{CameUntil, FitsKept, RefusesForMemory}
 use Rattle.lsm_compactions.specs.declared.observer.CompactionProgress.{CompactionProgress}
-use Rattle.lsm_compactions.proofs.FilteredCame.{more_stops, none_stops}
+use Rattle.lsm_compactions.proofs.FilteredCame.{memory_unless}
 use Rattle.lsm_compactions.proofs.FilteredFront.{among_front, front_of, in_order}
-use Rattle.lsm_compactions.proofs.Observing.{yields_more}
 use Rattle.lsm_compactions.proofs.RunWriting.{left_none}
 use Rattle.lsm_compactions.proofs.WrittenBy.{fits_none}
 
@@ -48,6 +45,17 @@ front_none m (e ∷ es) more h =
     ap (λ (x : Option Error). option_or x (results_fault (took m e) (ok_results es))) first
     ∙ front_none (took m e) es more
     (right_none (took_fault m e) (writes_fault (took m e) (es ++ more)) first h)
+
+-- an error behind entries that are taken
+fault_last : (m : TablesWriting) (es : List Entry) (e : Error)
+    → results_fault m (ok_results es) ≡ None
+    → results_fault m (ok_results es ++ Err e ∷ []) ≡ Some e
+fault_last m [] e none = refl
+fault_last m (x ∷ es) e none =
+    let first = left_none (took_fault m x) (results_fault (took m x) (ok_results es)) none in
+    ap (λ (o : Option Error). option_or o (results_fault (took m x) (ok_results es ++ Err e ∷ [])))
+    first ∙ fault_last (took m x) es e
+    (right_none (took_fault m x) (results_fault (took m x) (ok_results es)) first none)
 
 none_faults : (o : Option Error) (e : Error) → o ≡ None → o ≡ Some e → ⊥
 none_faults o e none some = let no : None ≡ Some e = sym none ∙ some in absurd cc
@@ -103,13 +111,11 @@ whole_part gives gets rules f g c d xs gave h = record {
   };
 }
 
-module _ {S F C : Type 0} (next : S → Option R → S → Type 0)
-    (gives : F → Entry → Result Verdict Error → F → Type 0) (gets : C → Entry → C → Type 0)
-    (rules : Rules) (f : F) (c : C) (filter_in : S → F) (callback_in : S → C) (s : S)
-    (w : TablesWriting) (es : List Entry)
-    (does : CompactsAs gives gets rules f c (ok_results es) next s filter_in callback_in)
-    (writable : IsWritable es) (law : TakesLaw) (fresh : IsFreshRun w) (runs_on : RunsOn w)
-    (calm : RefusesForMemory gives) (fits : FitsKept gives gets rules f c es w) where
+module _ {F C : Type 0} (gives : F → Entry → Result Verdict Error → F → Type 0)
+    (gets : C → Entry → C → Type 0) (rules : Rules) (f : F) (c : C) (w : TablesWriting)
+    (es : List Entry) (writable : IsWritable es) (law : TakesLaw) (fresh : IsFreshRun w)
+    (runs_on : RunsOn w) (calm : RefusesForMemory gives)
+    (fits : FitsKept gives gets rules f c es w) where
   -- what a part gave is written, and so is what the rules keep of the rest
   part_writes : (list : List Entry) (g : F) (d : C)
       (p : CompactedPart gives gets rules f c (ok_results es) (ok_results list) g d)
@@ -124,15 +130,17 @@ module _ {S F C : Type 0} (next : S → Option R → S → Type 0)
 
   fits_last : (last : R) (list : List Entry) (g : F) (d : C)
       → CompactedPart gives gets rules f c (ok_results es) (ok_results list ++ last ∷ []) g d
-      → result_stops is_memory last ≡ false → (e : Error)
-      → results_fault w (ok_results list ++ last ∷ []) ≡ Some e → ⊥
-  fits_last (Err q) list g d part fine e fault =
+      → AreTaken w list → (e : Error) → results_fault w (ok_results list ++ last ∷ []) ≡ Some e
+      → is_memory e ≡ false → ⊥
+  fits_last (Err q) list g d part taken e fault fine =
       let all = part_memory gives gets rules f g c d es (ok_results list ++ Err q ∷ []) calm part in
       let is : q ≡ OutOfMemory =
       (all_behind IsMemoryAtMost (ok_results list) (Err q ∷ []) all).0 in
-      let no : true ≡ false = sym (ap is_memory is) ∙ fine in
+      let same : Some q ≡ Some e = sym (fault_last w list q taken.none) ∙ fault in
+      let here : q ≡ e = cc in
+      let no : true ≡ false = sym (ap is_memory is) ∙ ap is_memory here ∙ fine in
       absurd cc
-  fits_last (Ok x) list g d part fine e fault =
+  fits_last (Ok x) list g d part taken e fault fine =
       let all = list ++ x ∷ [] in
       let listed : ok_results all ≡ ok_results list ++ Ok x ∷ [] = map_append list (x ∷ []) in
       let p : CompactedPart gives gets rules f c (ok_results es) (ok_results all) g d =
@@ -141,24 +149,20 @@ module _ {S F C : Type 0} (next : S → Option R → S → Type 0)
       none_faults _ e (ap (results_fault w) (sym listed)
       ∙ front_none w all _ (part_writes all g d p)) fault
 
-  fits_among : (list : List Entry) (t : S) → Yields next s (ok_results list) t → (e : Error)
-      → FailsAt next w s list t e → ⊥
-  fits_among list t runs e h = fits_last h.last list (filter_in h.then) (callback_in h.then)
-      (does.part (ok_results list ++ h.last ∷ []) h.then (more_stops list h.last h.fine)
-      (yields_more next (ok_results list) s t h.then h.last runs h.one)) h.fine e h.fault
+  fits_behind : (list : List Entry) (g : F) (d : C)
+      → CompactedLent gives gets rules f c (ok_results es) (ok_results list) g d → (e : Error)
+      → writes_fault w list ≡ Some e → ⊥
+  fits_behind list g d whole e fault =
+      let p = whole_part gives gets rules f g c d (ok_results es) (ok_results list) whole in
+      none_faults _ e (ap (writes_fault w) (sym (append-nil list)) ∙ part_writes list g d p) fault
 
-  fits_behind : (list : List Entry) (t : S) → Yields next s (ok_results list) t → (e : Error)
-      → FailsToEnd next w s list t e → ⊥
-  fits_behind list t runs e h =
-      let g = filter_in h.then in
-      let d = callback_in h.then in
-      let p = whole_part gives gets rules f g c d (ok_results es) (ok_results list)
-      (does.whole (ok_results list) t h.then (none_stops is_memory list) runs h.ended) in
-      none_faults _ e (ap (writes_fault w) (sym (append-nil list)) ∙ part_writes list g d p) h.fault
-
-  pub fits_all : {O : Type 0} (says : O → CompactionProgress → Bool → O → Type 0) (o q : O)
-      (e : Error) → RefusesWritten next w s says o e q → is_memory e ≡ false → ⊥
-  fits_all says o q e h fine = elim (h.fails fine) [
-    | inl at ↦ fits_among h.list h.led h.gave e at
-    | inr end ↦ fits_behind h.list h.led h.gave e end
-  ]
+  -- so no error is left but `OutOfMemory`
+  pub fits_all : {O X : Type 0} (says : O → CompactionProgress → Bool → O → Type 0) (o q : O)
+      (r : Result X Error)
+      → IfErr r (λ e. CameUntil gives gets rules f c (ok_results es) w says o e q)
+      → IfErr r (λ e. e ≡ OutOfMemory)
+  fits_all says o q (Ok x) until = tt
+  fits_all says o q (Err e) until = memory_unless e (λ fine. elim (until.fails fine) [
+    | inl at ↦ fits_last at.0 until.kept at.2.filter at.1 at.2.part until.taken e at.4 fine
+    | inr end ↦ fits_behind until.kept end.0 end.1 end.2 e end.3
+  ])

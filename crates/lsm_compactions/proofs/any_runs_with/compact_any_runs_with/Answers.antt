@@ -13,7 +13,7 @@ use Rattle.lsm_compactions.specs.Compacted.{RunsOn, merged_as}
 use Rattle.lsm_compactions.specs.Filtered.{CameTo, CameUntil, FitsKept}
 use Rattle.lsm_runs.specs.SeveralRuns.{union_in}
 use Rattle.lsm_runs.proofs.OneList.{one_way}
-use Rattle.lsm_compactions.proofs.FilteredCame.{came_none, came_or_begun, came_to, came_until, came_up, err_any, err_passed, match_err, memory_unless, refuses_by}
+use Rattle.lsm_compactions.proofs.FilteredCame.{came_none, came_or_begun, came_to, came_until, came_up, err_any, err_passed, match_err, refuses_by}
 use Rattle.lsm_compactions.proofs.FilteredFits.{fits_all}
 use Rattle.lsm_compactions.proofs.Observing.{told_nothing}
 use Rattle.lsm_compactions.proofs.RunWriting.{wants}
@@ -91,24 +91,21 @@ returns-in_err-outcome-clause-opens g c some = absurd (some c.in_ok-source.ensur
 pub returns-in_err-outcome-clause-taken : goal.returns-in_err-outcome-clause-taken
 returns-in_err-outcome-clause-taken g c able lists held calm fits =
     let a = c.args in
-    let r = c.from_residual-in_err-outcome in
-    let f = c.in_err-outcome.field-0.0 in
     let next : RunsOn c.args.writer = subst RunsOn c.writer.view_is (c.writer.invariant (ap (λ (w : TablesWriting). w.failed) c.writer.view_is ∙ c.requires.fresh.2)).next in
     let same = one_way (map arc_value a.runs.now) able.lists lists able.hold held in
     let kept = subst (λ (ls : List (List (List Entry))). FitsKept g.F.LentFilter.gives g.C.LentCallback.gets a.rules a.filter a.callback (union_in ls) a.writer) (sym same) fits in
-    wants r.result f r.ensures.1 (memory_unless f
-    (λ fine. fits_all _ g.F.LentFilter.gives g.C.LentCallback.gets a.rules a.filter a.callback lent_filter lent_callback c.in_ok-source.source a.writer (union_in able.lists) (c.in_ok-source.ensures.list (merged_as able)) able.writable c.tables_law.ensures.takes c.requires.fresh next calm kept g.O.CompactionObserver.says a.observer.now c.write_observed-written.new.observer f (err_at _ c.write_observed-written.result _ c.in_err-outcome.was c.write_observed-written.ensures.refused) fine))
-
-pub returns-clause-kept : goal.returns-clause-kept
-returns-clause-kept g c able lists held =
-    let a = c.args in
-    subst (λ (ls : List (List (List Entry))). CameTo g.F.LentFilter.gives g.C.LentCallback.gets a.rules a.filter a.callback (union_in ls) a.writer c.in_ok-outcome.outcome c.into_callback-callback.result) (one_way (map arc_value a.runs.now) able.lists lists able.hold held)
-    (came_to _ g.F.LentFilter.gives g.C.LentCallback.gets a.rules a.filter a.callback lent_filter lent_callback c.in_ok-source.source a.writer (union_in able.lists) (c.in_ok-source.ensures.list (merged_as able)) able.writable g.O.CompactionObserver.says a.observer.now c.in_ok-outcome.outcome c.write_observed-written.new.source c.write_observed-written.new.observer c.into_callback-callback.result c.into_callback-callback.ensures (ok_at _ c.write_observed-written.result _ c.in_ok-outcome.was c.write_observed-written.ensures.written))
+    fits_all g.F.LentFilter.gives g.C.LentCallback.gets a.rules a.filter a.callback a.writer (union_in able.lists) able.writable c.tables_law.ensures.takes c.requires.fresh next calm kept g.O.CompactionObserver.says a.observer.now c.write_observed-written.new.observer c.from_residual-in_err-outcome.result (returns-in_err-outcome-clause-until g c able.lists able.hold able.some)
 
 pub returns-clause-merged : goal.returns-clause-merged
 returns-clause-merged g c lists held some =
     let a = c.args in
     came_up _ g.F.LentFilter.gives g.C.LentCallback.gets a.rules a.filter a.callback lent_filter lent_callback c.in_ok-source.source a.writer (ok_results (union_in lists)) (c.in_ok-source.ensures.list (record { lists = lists; hold = held; some = some })) g.O.CompactionObserver.says a.observer.now c.in_ok-outcome.outcome c.write_observed-written.new.source c.write_observed-written.new.observer c.into_callback-callback.result c.into_callback-callback.ensures (ok_at _ c.write_observed-written.result _ c.in_ok-outcome.was c.write_observed-written.ensures.written)
+
+pub returns-clause-kept : goal.returns-clause-kept
+returns-clause-kept g c able lists held =
+    let a = c.args in
+    subst (λ (ls : List (List (List Entry))). CameTo g.F.LentFilter.gives g.C.LentCallback.gets a.rules a.filter a.callback (union_in ls) a.writer c.in_ok-outcome.outcome c.into_callback-callback.result) (one_way (map arc_value a.runs.now) able.lists lists able.hold held)
+    (came_to g.F.LentFilter.gives g.C.LentCallback.gets a.rules a.filter a.callback (union_in able.lists) a.writer g.O.CompactionObserver.says a.observer.now c.write_observed-written.new.observer able.writable c.in_ok-outcome.outcome c.into_callback-callback.result (returns-clause-merged g c able.lists able.hold able.some))
 
 pub returns-clause-any : goal.returns-clause-any
 returns-clause-any g c ascend =
