@@ -20,7 +20,7 @@ returns-clause-told g c = memory_tells _ c.compacted_from.result c.compacted_fro
 
 pub returns-in_err-scanners-clause-opens : goal.returns-in_err-scanners-clause-opens
 returns-in_err-scanners-clause-opens g c =
-    faults_refusal c.from_residual.result c.in_err-scanners.field-0.0 _ c.from_residual.ensures.1 c.in_err-scanners.ensures.opens
+    faults_refusal c.from_residual-in_err-scanners.result c.in_err-scanners.field-0.0 _ c.from_residual-in_err-scanners.ensures.1 c.in_err-scanners.ensures.opens
 
 pub returns-clause-opens : goal.returns-clause-opens
 returns-clause-opens g c = memory_faults c.compacted_from.result _ c.in_ok-scanners.ensures.opens c.compacted_from.ensures.err
