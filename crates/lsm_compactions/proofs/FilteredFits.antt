@@ -23,7 +23,7 @@ use Rattle.lsm_lending.proofs.KeepsAllLemmas.{IsMemoryAtMost, SaysMemory, as_the
 use Rattle.lsm_lending.proofs.KeepsAllLemmas.{memory_at_most}
 use Rattle.lsm_writers.specs.Tables.{IsFreshRun, TakesLaw, TablesWriting, took, took_fault}
 use Rattle.lsm_writers.specs.Writing.{IsWritable}
-use Rattle.lsm_compactions.specs.AnyRuns.{AreTaken, results_fault}
+use Rattle.lsm_compactions.specs.AnyRuns.{AreTaken, results_fault, took_all}
 use Rattle.lsm_compactions.specs.Chain.{writes_fault}
 use Rattle.lsm_compactions.specs.Compacted.{FitsBy, RunsOn}
 use Rattle.lsm_compactions.specs.Filtered.{CameUntil, FitsKept, RefusesForMemory}
@@ -31,6 +31,7 @@ use Rattle.lsm_compactions.specs.declared.observer.CompactionProgress.{Compactio
 use Rattle.lsm_compactions.proofs.FilteredCame.{memory_unless}
 use Rattle.lsm_compactions.proofs.FilteredFront.{among_front, front_of, in_order}
 use Rattle.lsm_compactions.proofs.RunWriting.{left_none}
+use Rattle.lsm_compactions.proofs.TookList.{behind_taken}
 use Rattle.lsm_compactions.proofs.WrittenBy.{fits_none}
 
 right_none : (a b : Option Error) → a ≡ None → option_or a b ≡ None → b ≡ None
@@ -45,17 +46,6 @@ front_none m (e ∷ es) more h =
     ap (λ (x : Option Error). option_or x (results_fault (took m e) (ok_results es))) first
     ∙ front_none (took m e) es more
     (right_none (took_fault m e) (writes_fault (took m e) (es ++ more)) first h)
-
--- an error behind entries that are taken
-fault_last : (m : TablesWriting) (es : List Entry) (e : Error)
-    → results_fault m (ok_results es) ≡ None
-    → results_fault m (ok_results es ++ Err e ∷ []) ≡ Some e
-fault_last m [] e none = refl
-fault_last m (x ∷ es) e none =
-    let first = left_none (took_fault m x) (results_fault (took m x) (ok_results es)) none in
-    ap (λ (o : Option Error). option_or o (results_fault (took m x) (ok_results es ++ Err e ∷ [])))
-    first ∙ fault_last (took m x) es e
-    (right_none (took_fault m x) (results_fault (took m x) (ok_results es)) first none)
 
 none_faults : (o : Option Error) (e : Error) → o ≡ None → o ≡ Some e → ⊥
 none_faults o e none some = let no : None ≡ Some e = sym none ∙ some in absurd cc
@@ -130,13 +120,13 @@ module _ {F C : Type 0} (gives : F → Entry → Result Verdict Error → F → 
 
   fits_last : (last : R) (list : List Entry) (g : F) (d : C)
       → CompactedPart gives gets rules f c (ok_results es) (ok_results list ++ last ∷ []) g d
-      → AreTaken w list → (e : Error) → results_fault w (ok_results list ++ last ∷ []) ≡ Some e
+      → AreTaken w list → (e : Error) → results_fault (took_all w list) (last ∷ []) ≡ Some e
       → is_memory e ≡ false → ⊥
   fits_last (Err q) list g d part taken e fault fine =
       let all = part_memory gives gets rules f g c d es (ok_results list ++ Err q ∷ []) calm part in
       let is : q ≡ OutOfMemory =
       (all_behind IsMemoryAtMost (ok_results list) (Err q ∷ []) all).0 in
-      let same : Some q ≡ Some e = sym (fault_last w list q taken.none) ∙ fault in
+      let same : Some q ≡ Some e = fault in
       let here : q ≡ e = cc in
       let no : true ≡ false = sym (ap is_memory is) ∙ ap is_memory here ∙ fine in
       absurd cc
@@ -146,8 +136,8 @@ module _ {F C : Type 0} (gives : F → Entry → Result Verdict Error → F → 
       let p : CompactedPart gives gets rules f c (ok_results es) (ok_results all) g d =
       subst (λ (rs : List R). CompactedPart gives gets rules f c (ok_results es) rs g d)
       (sym listed) part in
-      none_faults _ e (ap (results_fault w) (sym listed)
-      ∙ front_none w all _ (part_writes all g d p)) fault
+      none_faults _ e (sym (behind_taken w list (Ok x ∷ []) taken.none)
+      ∙ ap (results_fault w) (sym listed) ∙ front_none w all _ (part_writes all g d p)) fault
 
   fits_behind : (list : List Entry) (g : F) (d : C)
       → CompactedLent gives gets rules f c (ok_results es) (ok_results list) g d → (e : Error)

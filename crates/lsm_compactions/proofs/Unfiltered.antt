@@ -34,6 +34,7 @@ use Rattle.lsm_compactions.specs.declared.any_runs.CompactionOutcome.TheVariants
 use Rattle.lsm_compactions.specs.declared.any_runs.CompactionOutcome.TheVariants.{Stopped, Tables}
 use Rattle.lsm_compactions.specs.declared.observer.CompactionProgress.{CompactionProgress}
 use Rattle.lsm_compactions.proofs.AnyWritten.{came_refused}
+use Rattle.lsm_compactions.proofs.TookList.{behind_taken}
 
 -- ---- such a filter keeps what it is called for
 
@@ -192,7 +193,7 @@ module _ {F C : Type 0} (gets : C → Entry → C → Type 0) (rules : Rules) (f
             whole = front.1 ∙ append_assoc (ok_results h.kept) (at.0 ∷ []) front.0;
             taken = h.taken;
             comes = at.3;
-            fault = at.4;
+            fault = behind_taken w h.kept (at.0 ∷ []) h.taken.none ∙ at.4;
           })
       | inr end ↦ inr (record {
         list = h.kept;

@@ -17,7 +17,7 @@ use Rattle.lsm_lending.specs.LentCompaction.{CompactedLent, CompactedPart, lent_
 use Rattle.lsm_writers.specs.declared.writer.FinishedTable.{FinishedTable}
 use Rattle.lsm_writers.specs.Tables.{TablesWriting}
 use Rattle.lsm_writers.specs.Writing.{may_be_written}
-use Rattle.lsm_compactions.specs.AnyRuns.{AreTaken, MayCome, results_fault}
+use Rattle.lsm_compactions.specs.AnyRuns.{AreTaken, MayCome, results_fault, took_all}
 use Rattle.lsm_compactions.specs.Chain.{writes_fault}
 use Rattle.lsm_compactions.specs.Compacted.{AreWrittenBy, FitsBy}
 use Rattle.lsm_compactions.specs.Observed.{ToldOfPart, WasToldAt, WasToldOf}
@@ -47,15 +47,15 @@ module _ {S : Type 0} (next : S → Option R → S → Type 0) (w : TablesWritin
       (e : Entry) × next led (Some (Ok e)) u × (may_be_written list e.user_key e.seqno ≡ false)
   EndsAt list led AtStop u = led ≡ u
 
-  -- it gave a result more, which is this error or an entry that may follow and for which the writer
-  -- fails so; the result is no `OutOfMemory`
+  -- it gave a result more: this error, which is not `OutOfMemory`, or an entry that may follow and
+  -- for which the writer, once it took the list, fails so
   pub record FailsAt (list : List Entry) (led : S) (e : Error) : Type 0 where
     pub last : R
     pub comes : MayCome list last
     pub fine : result_stops is_memory last ≡ false
     pub then : S
     pub one : next led (Some last) then
-    pub fault : results_fault w (ok_results list ++ last ∷ []) ≡ Some e
+    pub fault : results_fault (took_all w list) (last ∷ []) ≡ Some e
 
   -- it gave nothing more, and the writer refuses so to finish
   pub record FailsToEnd (list : List Entry) (led : S) (e : Error) : Type 0 where
@@ -158,11 +158,11 @@ module _ {F C : Type 0} (gives : F → Entry → Result Verdict Error → F → 
     KeepsThen kept Stopped d = KeepsSome (ok_results kept) d
 
     -- it gives a result more, which is this error or an entry that may follow and for which the
-    -- writer fails so; or nothing more, and the writer fails so to finish
+    -- writer, once it took these, fails so; or nothing more, and the writer fails so to finish
     abbrev pub KeepsFault : List Entry → Error → Type 0
     KeepsFault kept e =
         ((last : R) × (d : C) × KeepsSome (ok_results kept ++ last ∷ []) d × MayCome kept last
-        × (results_fault w (ok_results kept ++ last ∷ []) ≡ Some e))
+        × (results_fault (took_all w kept) (last ∷ []) ≡ Some e))
         ⊎ ((g : F) × (d : C) × CompactedLent gives gets rules f c xs (ok_results kept) g d
         × (writes_fault w kept ≡ Some e))
 
