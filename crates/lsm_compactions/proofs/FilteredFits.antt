@@ -15,10 +15,10 @@ use Rattle.sst_entries.proofs.StreamLemmas.{map_append}
 use Rattle.lsm_merge.specs.Ends.{R}
 use Rattle.lsm_merge.specs.Union.{entries_among}
 use Rattle.lsm_sorted.specs.declared.compaction.Rules.{Rules}
-use Rattle.lsm_sorted.specs.Compaction.{Judged, Verdict, asked, reported}
+use Rattle.lsm_sorted.specs.Compaction.{Judged, JudgedItem, Verdict, asked, outs, reported}
 use Rattle.lsm_sorted.specs.Compacting.{SaysOf}
 use Rattle.lsm_lending.specs.LentCompaction.{CompactedLent, CompactedPart, lent_outs, past_hidden}
-use Rattle.lsm_lending.proofs.CompactionRuns.{calm_items}
+use Rattle.lsm_lending.proofs.CompactionRuns.{calm_items, calm_judged}
 use Rattle.lsm_lending.proofs.KeepsAllLemmas.{IsMemoryAtMost, SaysMemory, as_they_are_so}
 use Rattle.lsm_lending.proofs.KeepsAllLemmas.{memory_at_most}
 use Rattle.lsm_writers.specs.Tables.{IsFreshRun, TakesLaw, TablesWriting, took, took_fault}
@@ -26,10 +26,11 @@ use Rattle.lsm_writers.specs.Writing.{IsWritable}
 use Rattle.lsm_compactions.specs.AnyRuns.{AreTaken, results_fault, took_all}
 use Rattle.lsm_compactions.specs.Chain.{writes_fault}
 use Rattle.lsm_compactions.specs.Compacted.{FitsBy, RunsOn}
-use Rattle.lsm_compactions.specs.Filtered.{CameUntil, FitsKept, RefusesForMemory}
+use Rattle.lsm_compactions.specs.Filtered.{CameUntil, FitsKept, FitsThroughout}
+use Rattle.lsm_compactions.specs.Filtered.{RefusesForMemory}
 use Rattle.lsm_compactions.specs.declared.observer.CompactionProgress.{CompactionProgress}
 use Rattle.lsm_compactions.proofs.FilteredCame.{memory_unless}
-use Rattle.lsm_compactions.proofs.FilteredFront.{among_front, front_of, in_order}
+use Rattle.lsm_compactions.proofs.FilteredFront.{among_front, front_of, in_order, judged_of}
 use Rattle.lsm_compactions.proofs.RunWriting.{left_none}
 use Rattle.lsm_compactions.proofs.TookList.{behind_taken}
 use Rattle.lsm_compactions.proofs.WrittenBy.{fits_none}
@@ -78,6 +79,17 @@ part_memory gives gets rules f g c d es gave calm p =
     (sym h.answers) (memory_at_most rules h.judged (calm_items h.judged es h.over) h.tombstones
     says))
 
+-- where whatever a filter keeps fits, so does what this one keeps
+pub fits_any : {F C : Type 0} (gives : F → Entry → Result Verdict Error → F → Type 0)
+    (gets : C → Entry → C → Type 0) (rules : Rules) (f : F) (c : C) (es : List Entry)
+    (w : TablesWriting) → FitsKept w rules es → FitsThroughout gives gets rules f c es w
+fits_any gives gets rules f c es w fits gave g d p =
+    let h = p.does in
+    let j = judged_of h.judged es h.over in
+    subst (FitsBy w) (ap (λ (is : List JudgedItem). entries_among (outs rules is)) (sym j.are)
+    ∙ ap entries_among (sym (calm_judged rules h.judged es h.over) ∙ sym h.answers))
+    (fits j.js j.over)
+
 -- a whole compaction is a part behind which nothing is left
 abbrev whole_part : {F C : Type 0} (gives : F → Entry → Result Verdict Error → F → Type 0)
     (gets : C → Entry → C → Type 0) (rules : Rules) (f g : F) (c d : C) (xs gave : List R)
@@ -105,7 +117,7 @@ module _ {F C : Type 0} (gives : F → Entry → Result Verdict Error → F → 
     (gets : C → Entry → C → Type 0) (rules : Rules) (f : F) (c : C) (w : TablesWriting)
     (es : List Entry) (writable : IsWritable es) (law : TakesLaw) (fresh : IsFreshRun w)
     (runs_on : RunsOn w) (calm : RefusesForMemory gives)
-    (fits : FitsKept gives gets rules f c es w) where
+    (fits : FitsThroughout gives gets rules f c es w) where
   -- what a part gave is written, and so is what the rules keep of the rest
   part_writes : (list : List Entry) (g : F) (d : C)
       (p : CompactedPart gives gets rules f c (ok_results es) (ok_results list) g d)

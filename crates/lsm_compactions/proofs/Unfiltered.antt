@@ -26,7 +26,7 @@ use Rattle.lsm_runs.proofs.Unions.{entries_of}
 use Rattle.lsm_writers.specs.Tables.{TablesWriting}
 use Rattle.lsm_compactions.specs.AnyRuns.{BeginsWith, CameOf, GoesThrough, RefusesOf}
 use Rattle.lsm_compactions.specs.Compacted.{FitsBy}
-use Rattle.lsm_compactions.specs.Filtered.{CameUntil, CameUpTo, FitsKept, KeepsSome}
+use Rattle.lsm_compactions.specs.Filtered.{CameUntil, CameUpTo, FitsThroughout, KeepsSome}
 use Rattle.lsm_compactions.specs.Filtered.{RefusesForMemory}
 use Rattle.lsm_compactions.specs.Observed.{WasTold}
 use Rattle.lsm_compactions.specs.declared.any_runs.CompactionOutcome.{CompactionOutcome}
@@ -143,7 +143,7 @@ module _ {F C : Type 0} (gets : C → Entry → C → Type 0) (rules : Rules) (f
 
   -- where what is kept of a list fits as tables, so does what is kept of it behind any part
   pub fits_kept : (es : List Entry) (w : TablesWriting) → FitsBy w (kept rules (unfiltered es))
-      → FitsKept (KeepsAll {F = F}) gets rules f c es w
+      → FitsThroughout (KeepsAll {F = F}) gets rules f c es w
   fits_kept es w fits gave g d p =
       subst (FitsBy w) (sym (ap entries_among (part_front (ok_results es) gave g d p
       ∙ lent_kept rules es) ∙ entries_of (kept rules (unfiltered es)))) fits

@@ -11,7 +11,7 @@ use Rattle.sst_entries.specs.declared.error.Error.TheVariants.{OutOfMemory}
 use Rattle.lsm_merge.specs.Ends.{R}
 use Rattle.lsm_merge.specs.Union.{entries_among}
 use Rattle.lsm_sorted.specs.declared.compaction.Rules.{Rules}
-use Rattle.lsm_sorted.specs.Compaction.{Verdict}
+use Rattle.lsm_sorted.specs.Compaction.{Judged, Verdict, entries, kept}
 use Rattle.lsm_sorted.specs.Compacting.{Compacted}
 use Rattle.lsm_lending.specs.LentCompaction.{CompactedLent, CompactedPart, lent_outs, past_hidden}
 use Rattle.lsm_writers.specs.declared.writer.FinishedTable.{FinishedTable}
@@ -92,6 +92,10 @@ module _ {S : Type 0} (next : S → Option R → S → Type 0) (w : TablesWritin
 
 -- ---- a list that is compacted
 
+-- whatever a filter says of the entries of a list, what is kept of them fits as tables
+abbrev pub FitsKept : TablesWriting → Rules → List Entry → Type 0
+FitsKept w rules es = (js : List Judged) → entries js ≡ es → FitsBy w (kept rules js)
+
 -- a filter refuses nothing but for want of memory
 abbrev pub RefusesForMemory : {F : Type 0} → (F → Entry → Result Verdict Error → F → Type 0)
     → Type 0
@@ -113,10 +117,10 @@ module _ {F C : Type 0} (gives : F → Entry → Result Verdict Error → F → 
         → CompactedPart gives gets rules f c xs gave (filter_in t) (callback_in t)
 
   module _ (es : List Entry) (w : TablesWriting) where
-    -- whatever a compaction of the list gave so far, its entries fit as tables, together with what
-    -- the rules keep of the rest without a filter
-    abbrev pub FitsKept : Type 0
-    FitsKept = (gave : List R) (g : F) (d : C)
+    -- what a compaction of the list keeps fits as tables at each point of it: what it gave so far,
+    -- with what the rules keep of the rest without a filter
+    abbrev pub FitsThroughout : Type 0
+    FitsThroughout = (gave : List R) (g : F) (d : C)
         (p : CompactedPart gives gets rules f c (ok_results es) gave g d)
         → FitsBy w (entries_among (gave ++ lent_outs rules (past_hidden p.key p.left)))
 

@@ -25,8 +25,8 @@ pub use Rattle.lsm_compactions.specs.Compacted.{AreCompactable, AreMergeable, Ar
 pub use Rattle.lsm_compactions.specs.Compacted.{DealsWritable, FitsBy}
 pub use Rattle.lsm_compactions.specs.Compacted.{HaveEntries, RunsOn, kept_in, rules_by}
 pub use Rattle.lsm_compactions.specs.Filtered.{CameTo, CameUntil, CameUpTo, CompactsAs, FitsKept}
-pub use Rattle.lsm_compactions.specs.Filtered.{IsWritten, RefusesBy, RefusesForMemory}
-pub use Rattle.lsm_compactions.specs.Filtered.{RefusesWritten, WroteUntil}
+pub use Rattle.lsm_compactions.specs.Filtered.{FitsThroughout, IsWritten, RefusesBy}
+pub use Rattle.lsm_compactions.specs.Filtered.{RefusesForMemory, RefusesWritten, WroteUntil}
 pub use Rattle.lsm_compactions.specs.Observed.{HasBegun, IsCounted, TellsNext, WasTold}
 pub use Rattle.lsm_compactions.specs.Observed.{WasToldUntil}
 pub use Rattle.lsm_compactions.specs.OpenedBy.{AreOpenedBy, HasRunBy, IsOpenedBy, IsRunBy}

@@ -26,8 +26,8 @@ ghost use Rattle.lsm_compactions.specs.declared.any_runs_with.Ending.TheVariants
 ghost use Rattle.lsm_compactions.specs.Words.{AreCompactable, AreMergeable, AreTablesBy};
 ghost use Rattle.lsm_compactions.specs.Words.{BeginsWith, CameTo, CameUntil, CameUpTo, CanDeal};
 ghost use Rattle.lsm_compactions.specs.Words.{CompactsAs, DealTogether, DealsResults, Entry};
-ghost use Rattle.lsm_compactions.specs.Words.{Faults, FitsKept, HasBegun, HasMade, HaveEntries};
-ghost use Rattle.lsm_compactions.specs.Words.{IsCounted, IsFreshRun, IsWritten, RefusesBy};
+ghost use Rattle.lsm_compactions.specs.Words.{Faults, FitsKept, FitsThroughout, HasBegun, HasMade};
+ghost use Rattle.lsm_compactions.specs.Words.{HaveEntries, IsCounted, IsFreshRun, IsWritten, RefusesBy};
 ghost use Rattle.lsm_compactions.specs.Words.{RefusesForMemory, RefusesWritten, RunsHoldLists};
 ghost use Rattle.lsm_compactions.specs.Words.{RunsOn, TablesWriting, TellsNext, TookList, WasTold};
 ghost use Rattle.lsm_compactions.specs.Words.{WasToldUntil, WroteUntil, first_blocks_fault};
@@ -339,12 +339,17 @@ pub fn compact_any_runs_with<
         RunsHoldLists (map arc_value runs.now) lists → AllByRecursion HaveEntries lists →
         IfErr result (λ e. is_memory e ≡ false →
         RefusesBy F.gives C.gets rules filter callback (ok_results (union_in lists)) writer e) }
-    // If the only error of the filter is `OutOfMemory`, and whatever is kept fits as tables, with an
-    // id left for each, it is the only error of the compaction.
+    // Where the filter refuses nothing but for want of memory, and whatever may be kept fits as
+    // tables, with an id left for each, neither does the compaction.
     ensures taken { AreCompactable (map arc_value runs.now) →
         (lists : List (List (List Entry))) → RunsHoldLists (map arc_value runs.now) lists →
+        RefusesForMemory F.gives → FitsKept writer rules (union_in lists) →
+        IfErr result (λ e. e ≡ OutOfMemory) }
+    // The same if only what this filter keeps fits, whatever else a filter might keep.
+    ensures fits { AreCompactable (map arc_value runs.now) →
+        (lists : List (List (List Entry))) → RunsHoldLists (map arc_value runs.now) lists →
         RefusesForMemory F.gives →
-        FitsKept F.gives C.gets rules filter callback (union_in lists) writer →
+        FitsThroughout F.gives C.gets rules filter callback (union_in lists) writer →
         IfErr result (λ e. e ≡ OutOfMemory) }
 {
     // A list whose tables fit is taken whole.

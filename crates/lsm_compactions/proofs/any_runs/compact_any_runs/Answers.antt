@@ -29,7 +29,7 @@ returns-in_err-outcome-clause-taken g c able lists held fits =
     let a = c.args in
     let r = c.from_residual in
     wants r.result c.in_err-outcome.field-0.0 r.ensures.1
-    (c.in_err-outcome.ensures.taken able lists held never_fails (fits_kept _ a.rules _ _ (union_in lists) a.writer fits))
+    (c.in_err-outcome.ensures.fits able lists held never_fails (fits_kept _ a.rules _ _ (union_in lists) a.writer fits))
 
 pub returns-in_err-outcome-clause-faulted : goal.returns-in_err-outcome-clause-faulted
 returns-in_err-outcome-clause-faulted g c lists held some =

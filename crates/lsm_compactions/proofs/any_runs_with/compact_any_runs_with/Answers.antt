@@ -10,11 +10,11 @@ use Rattle.lsm_lending.specs.LentCompaction.{lent_callback, lent_filter}
 use Rattle.lsm_writers.specs.Tables.{TablesWriting}
 use Rattle.lsm_compactions.specs.AnyRuns.{BeginsWith, first_blocks_fault, scans_of}
 use Rattle.lsm_compactions.specs.Compacted.{RunsOn, merged_as}
-use Rattle.lsm_compactions.specs.Filtered.{CameTo, CameUntil, FitsKept}
+use Rattle.lsm_compactions.specs.Filtered.{CameTo, CameUntil, FitsThroughout}
 use Rattle.lsm_runs.specs.SeveralRuns.{union_in}
 use Rattle.lsm_runs.proofs.OneList.{one_way}
 use Rattle.lsm_compactions.proofs.FilteredCame.{came_none, came_or_begun, came_to, came_until, came_up, err_any, err_passed, match_err, refuses_by}
-use Rattle.lsm_compactions.proofs.FilteredFits.{fits_all}
+use Rattle.lsm_compactions.proofs.FilteredFits.{fits_all, fits_any}
 use Rattle.lsm_compactions.proofs.Observing.{told_nothing}
 use Rattle.lsm_compactions.proofs.RunWriting.{wants}
 use Rattle.lsm_compactions.proofs.TookList.{err_at, ok_at}
@@ -54,6 +54,11 @@ returns-in_err-source-clause-taken g c able lists held calm fits =
     let r = c.from_residual in
     wants r.result c.in_err-source.field-0.0 r.ensures.1 (c.in_err-source.ensures.err (merged_as able))
 
+pub returns-in_err-source-clause-fits : goal.returns-in_err-source-clause-fits
+returns-in_err-source-clause-fits g c able lists held calm fits =
+    let r = c.from_residual in
+    wants r.result c.in_err-source.field-0.0 r.ensures.1 (c.in_err-source.ensures.err (merged_as able))
+
 pub returns-in_err-outcome-clause-heard : goal.returns-in_err-outcome-clause-heard
 returns-in_err-outcome-clause-heard g c =
     let u = (err_at _ c.write_observed-written.result _ c.in_err-outcome.was c.write_observed-written.ensures.refused) in
@@ -88,13 +93,18 @@ returns-in_err-outcome-clause-refused g c lists held some =
 pub returns-in_err-outcome-clause-opens : goal.returns-in_err-outcome-clause-opens
 returns-in_err-outcome-clause-opens g c some = absurd (some c.in_ok-source.ensures.opens)
 
-pub returns-in_err-outcome-clause-taken : goal.returns-in_err-outcome-clause-taken
-returns-in_err-outcome-clause-taken g c able lists held calm fits =
+pub returns-in_err-outcome-clause-fits : goal.returns-in_err-outcome-clause-fits
+returns-in_err-outcome-clause-fits g c able lists held calm fits =
     let a = c.args in
     let next : RunsOn c.args.writer = subst RunsOn c.writer.view_is (c.writer.invariant (ap (λ (w : TablesWriting). w.failed) c.writer.view_is ∙ c.requires.fresh.2)).next in
     let same = one_way (map arc_value a.runs.now) able.lists lists able.hold held in
-    let kept = subst (λ (ls : List (List (List Entry))). FitsKept g.F.LentFilter.gives g.C.LentCallback.gets a.rules a.filter a.callback (union_in ls) a.writer) (sym same) fits in
+    let kept = subst (λ (ls : List (List (List Entry))). FitsThroughout g.F.LentFilter.gives g.C.LentCallback.gets a.rules a.filter a.callback (union_in ls) a.writer) (sym same) fits in
     fits_all g.F.LentFilter.gives g.C.LentCallback.gets a.rules a.filter a.callback a.writer (union_in able.lists) able.writable c.tables_law.ensures.takes c.requires.fresh next calm kept g.O.CompactionObserver.says a.observer.now c.write_observed-written.new.observer c.from_residual-in_err-outcome.result (returns-in_err-outcome-clause-until g c able.lists able.hold able.some)
+
+pub returns-in_err-outcome-clause-taken : goal.returns-in_err-outcome-clause-taken
+returns-in_err-outcome-clause-taken g c able lists held calm fits =
+    let a = c.args in
+    returns-in_err-outcome-clause-fits g c able lists held calm (fits_any g.F.LentFilter.gives g.C.LentCallback.gets a.rules a.filter a.callback (union_in lists) a.writer fits)
 
 pub returns-clause-merged : goal.returns-clause-merged
 returns-clause-merged g c lists held some =
