@@ -5,7 +5,7 @@ use Rattle.std.proofs.Common.{false, cond, List, [], ◌∷◌, ◌++◌, inl, i
 use Rattle.std.proofs.Common.{append-nil, arith, ◌≤◌}
 use Rattle.std.specs.Prelude.{Option, Some, None, Result, Ok, Err, IfOk, filter}
 use Rattle.std.specs.Prelude.{map}
-use Rattle.std.specs.List.{AllByRecursion, AllZip, Any, flat_map, slice_get}
+use Rattle.std.specs.List.{AllZip, Any, flat_map, slice_get}
 use Rattle.std.proofs.lemmas.Bool.{cases_Bool}
 use Rattle.std.proofs.lemmas.List.{length-map, map-append, take_all}
 use Rattle.std.proofs.lemmas.List.Elements.{filter-append}
@@ -19,13 +19,9 @@ use Rattle.sst_entries.specs.Stream.{Deals, NoneStops, Runs, answer_stops, deal,
 use Rattle.sst_entries.proofs.Refusals.{memory_is}
 use Rattle.lsm_block_indexes.specs.Dealt.{DealsEnding, ended_at_error}
 use Rattle.lsm_merge.specs.Ends.{R}
-use Rattle.lsm_merge.specs.InPlace.{merge_of}
-use Rattle.lsm_merge.specs.MergeLaws.{DealsInPlace}
-use Rattle.lsm_merge.specs.Union.{Ascends, entries_among}
 use Rattle.lsm_readers.specs.Scan.{up_to_error}
 use Rattle.lsm_readers.specs.Table.{OpenTable}
-use Rattle.lsm_lending.specs.LentCompaction.{CompactsLentResults, DealsCompactedResults}
-use Rattle.lsm_lending.specs.LentCompaction.{lent_outs}
+use Rattle.lsm_lending.specs.LentCompaction.{CompactsLentResults}
 use Rattle.sst_entries.specs.Entry.{Entry}
 use Rattle.lsm_sorted.specs.Compaction.{Verdict}
 use Rattle.lsm_compactions.specs.Filtered.{CompactsAs}
@@ -208,11 +204,16 @@ module _ {X S : Type 0} (f : X → List OpenTable) (next : S → Option R → S 
         ∙ blocks_more (take i (map f xs)) (f x)
         ∙ ap (λ (o : Option Error). option_or o (first_block_fault (f x))) before ∙ here
 
+    -- that of this run cannot be
+    pub blocks_fail : (e : Error) → first_blocks_fault (take i (map f xs)) ≡ None
+        → first_block_fault (f x) ≡ Some e → first_blocks_fault (map f xs) ≡ Some e
+    blocks_fail e before fails = blocks_at (map f xs) i (f x) e there before fails
+
     pub scan_begins : (e : Error) → has_table (f x) ≡ true
         → first_blocks_fault (take i (map f xs)) ≡ None → first_block_fault (f x) ≡ Some e
         → first (tables_scan (f x)) ≡ Some (Err e) → BeginsWith (map f xs) e
     scan_begins e some before fails begins = record {
-      fault = blocks_at (map f xs) i (f x) e there before fails;
+      fault = blocks_fail e before fails;
       begins = begins_at (map f xs) i (f x) e there some begins;
     }
 
@@ -221,6 +222,12 @@ module _ {X S : Type 0} (f : X → List OpenTable) (next : S → Option R → S 
   scan_all sources i all past =
       subst (λ (runs : List (List OpenTable)). AllZip (λ s rs. DealsResults next rs s) sources
       (scans_of runs)) (take_all i (map f xs) (omega (arith, length-map xs f, past))) all
+
+  -- all first blocks are loaded
+  pub loads_all : (i : ℕ) → first_blocks_fault (take i (map f xs)) ≡ None → length xs ≤ i
+      → first_blocks_fault (map f xs) ≡ None
+  loads_all i loads past = subst (λ (runs : List (List OpenTable)). first_blocks_fault runs ≡ None)
+      (take_all i (map f xs) (omega (arith, length-map xs f, past))) loads
 
 -- a run has a table
 pub some_table : (ts : List OpenTable) → 0 < length ts → has_table ts ≡ true
@@ -254,22 +261,6 @@ each_stops next stops memory [] (rs ∷ lists) all = absurd all
 each_stops next stops memory (s ∷ sources) [] all = absurd all
 each_stops next stops memory (s ∷ sources) (rs ∷ lists) all =
     (all.0 stops memory, each_stops next stops memory sources lists all.1)
-
-pub kept_merged : {S M T : Type 0} (front : S → Option R → S → Type 0)
-    (next : M → Option R → M → Type 0) (last : T → Option R → T → Type 0) (sources : List S)
-    (lists : List (List R)) (m : M) (rules : Rules) (r : Result T Error)
-    → DealsInPlace front nowhere sources next nowhere m
-    → IfOk r (λ t. DealsCompactedResults next m last t rules)
-    → AllZip (λ s rs. DealsResults front rs s) sources lists
-    → AllByRecursion (λ (rs : List R). Ascends (entries_among rs)) lists
-    → IfOk r (DealsResults last (lent_outs rules (merge_of lists)))
-kept_merged front next last sources lists m rules (Ok t) merges compacts deal ascend =
-    λ stops memory. compacts.deals stops (merge_of lists) memory
-    (merges.deals stops lists (record {
-      deal = each_stops front stops memory sources lists deal;
-      ascend = ascend;
-    }))
-kept_merged front next last sources lists m rules (Err e) merges compacts deal ascend = tt
 
 -- what compacts its source compacts what that deals
 pub compacts_as : {M T F C : Type 0} (next : M → Option R → M → Type 0)

@@ -1,10 +1,10 @@
 -- A stream that is written for as long as its entries come in order.
 use Rattle.std.proofs.Common.{◌≡◌, refl, sym, ◌∙◌, subst, false, true, List, [], ◌∷◌, ◌++◌, ◌<◌}
 use Rattle.std.proofs.Common.{◌-◌, ◌^◌, Bool, ap, inl, inr, ltb-true}
-use Rattle.std.specs.Prelude.{IfOk, None, Option, Result, Some, Ok, Err, nat_lt}
+use Rattle.std.specs.Prelude.{IfErr, IfOk, IsErrAnd, None, Option, Result, Some, Ok, Err, nat_lt}
 use Rattle.std.specs.Option.{option_or}
 use Rattle.sst_entries.specs.Entry.{Entry}
-use Rattle.sst_entries.specs.Error.{Faults}
+use Rattle.sst_entries.specs.Error.{Faults, is_memory}
 use Rattle.sst_entries.specs.Stream.{ok_results}
 use Rattle.sst_entries.specs.Strict.{IsStrictAfter}
 use Rattle.sst_entries.proofs.Booleans.{and_parts}
@@ -16,7 +16,7 @@ use Rattle.lsm_writers.specs.Writing.{IsWritable, may_be_written}
 use Rattle.lsm_writers.proofs.ListWriting.{listed_follows}
 use Rattle.lsm_writers.proofs.Taking.{strict_gained}
 use Rattle.lsm_compactions.specs.AnyRuns.{AreTablesBy, CameInOrder, CameOf, LeavesOrder}
-use Rattle.lsm_compactions.specs.AnyRuns.{results_fault}
+use Rattle.lsm_compactions.specs.AnyRuns.{RefusesOf, results_fault}
 use Rattle.lsm_compactions.specs.Chain.{writes_fault}
 use Rattle.lsm_compactions.specs.Compacted.{AreWrittenBy}
 use Rattle.lsm_compactions.specs.declared.any_runs.CompactionOutcome.{CompactionOutcome}
@@ -84,6 +84,21 @@ keeps_order w es writable h =
     let split = ok_split es h.front h.entry h.behind h.whole in
     may_not _ h.follows
     (listed_follows h.front h.entry split.0 (subst IsWritable split.1 writable))
+
+-- ---- an error that is passed on
+
+pub came_refused : {A : Type 0} (w : TablesWriting) (rs : List R)
+    (r : Result (CompactionOutcome A) Error) (f : Error) → IsErrAnd r (λ y. y ≡ f)
+    → (is_memory f ≡ false → RefusesOf w rs f) → CameOf w rs r
+came_refused w rs (Ok x) f is h = absurd is
+came_refused w rs (Err y) f is h =
+    subst (λ (e : Error). is_memory e ≡ false → RefusesOf w rs e) (sym is) h
+
+pub refused_of : {A : Type 0} (w : TablesWriting) (rs : List R)
+    (r : Result (CompactionOutcome A) Error) → CameOf w rs r
+    → IfErr r (λ e. is_memory e ≡ false → RefusesOf w rs e)
+refused_of w rs (Ok x) h = tt
+refused_of w rs (Err e) h = h
 
 -- ---- what comes of writing a list
 

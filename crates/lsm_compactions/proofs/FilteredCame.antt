@@ -6,7 +6,7 @@ use Rattle.std.specs.List.{AllByRecursion}
 use Rattle.std.specs.Iterator.{Yields}
 use Rattle.std.proofs.lemmas.Bool.{cases_Bool}
 use Rattle.sst_entries.specs.Entry.{Entry}
-use Rattle.sst_entries.specs.Error.{is_memory}
+use Rattle.sst_entries.specs.Error.{Faults, is_memory}
 use Rattle.sst_entries.specs.Stream.{ok_results, result_stops}
 use Rattle.sst_entries.specs.declared.error.Error.{Error}
 use Rattle.sst_entries.specs.declared.error.Error.TheVariants.{OutOfMemory}
@@ -21,7 +21,7 @@ use Rattle.lsm_lending.proofs.CompactionRuns.{calm_compacted}
 use Rattle.lsm_lending.proofs.KeepsAllLemmas.{items_are, tombstones_stay}
 use Rattle.lsm_readers.specs.Table.{OpenTable}
 use Rattle.lsm_writers.specs.Tables.{TablesWriting}
-use Rattle.lsm_writers.specs.Writing.{IsWritable, may_be_written}
+use Rattle.lsm_writers.specs.Writing.{IsWritable}
 use Rattle.lsm_writers.proofs.ListWriting.{listed_follows}
 use Rattle.lsm_compactions.specs.AnyRuns.{BeginsWith}
 use Rattle.lsm_compactions.specs.Filtered.{CameTo, CameUntil, CameUpTo, CompactsAs}
@@ -98,7 +98,12 @@ module _ {S F C : Type 0} (next : S → Option R → S → Type 0)
             by_outcome (Tables tables behind) u q h = record {
               kept = h.list;
               taken = h.taken;
-              came = (filter_in u, given_whole h.list h.led u h.gave h.ends.0, h.ends.1);
+              came = (
+                filter_in u,
+                given_whole h.list h.led u h.gave h.ends.0,
+                h.ends.1,
+                h.ends.2,
+              );
               told = h.told;
             }
             by_outcome OutOfOrder u q h = record {
@@ -127,6 +132,7 @@ module _ {S F C : Type 0} (next : S → Option R → S → Type 0)
                 at.last,
                 callback_in at.then,
                 given_more h.list h.led at.then at.last at.fine h.gave at.one,
+                at.comes,
                 at.fault,
               )
               | inr end ↦ inr (
@@ -139,64 +145,28 @@ module _ {S F C : Type 0} (next : S → Option R → S → Type 0)
             told = h.told;
           }
 
-          pub refuses_by : is_memory e ≡ false → RefusesBy gives gets rules f c xs w e
-          refuses_by fine = elim (h.fails fine) [
-            | inl at ↦
-                let k = given_more h.list h.led at.then at.last at.fine h.gave at.one in
-                inl (record {
-                  gave = ok_results h.list ++ at.last ∷ [];
-                  filter = k.filter;
-                  callback = callback_in at.then;
-                  part = k.part;
-                  fault = at.fault;
-                })
-            | inr end ↦ inr (record {
-              kept = h.list;
-              filter = filter_in end.then;
-              callback = callback_in end.then;
-              compacted = given_whole h.list h.led end.then h.gave end.ended;
-              fault = end.fault;
-            })
-          ]
-
-  module _ (es : List Entry)
-      (does : CompactsAs gives gets rules f c (ok_results es) next s filter_in callback_in)
-      (writable : IsWritable es) where
-    -- an entry that it gives may follow those that it gave
-    gives_on : (gave : List Entry) (t u : S) (x : Entry) → Yields next s (ok_results gave) t
-        → next t (Some (Ok x)) u → may_be_written gave x.user_key x.seqno ≡ true
-    gives_on gave t u x runs step =
-        let k = given_next (ok_results es) does gave t u x runs step in
-        let front = front_of gives gets rules f k.filter c (callback_in u) es (gave ++ x ∷ [])
-        k.part in
-        listed_follows gave x front.more
-        (subst IsWritable (append_assoc gave (x ∷ []) front.more)
-        (in_order rules es (gave ++ x ∷ []) writable front))
-
-    module _ {O : Type 0} (says : O → CompactionProgress → Bool → O → Type 0) (o : O) where
-      pub came_to : {A : Type 0} (outcome : CompactionOutcome A) (u : S) (q : O) (d : C)
-          → d ≡ callback_in u → IsWritten next w s says o outcome u q
-          → CameTo gives gets rules f c es w outcome d
-      came_to outcome u q d is h =
-          subst (λ (b : C). CameTo gives gets rules f c es w outcome b) (sym is)
-          (by_outcome outcome u q h)
-        where
-          by_outcome : {A : Type 0} (outcome : CompactionOutcome A) (u : S) (q : O)
-              → IsWritten next w s says o outcome u q
-              → CameTo gives gets rules f c es w outcome (callback_in u)
-          by_outcome (Tables tables behind) u q h = record {
-            kept = h.list;
-            filter = filter_in u;
-            compacted = calm_compacted gives gets rules f (filter_in u) c (callback_in u) es
-                (ok_results h.list) (given_whole (ok_results es) does h.list h.led u h.gave h.ends.0);
-            written = h.ends.1;
-          }
-          by_outcome OutOfOrder u q h =
-              may_not _ h.ends.2 (gives_on h.list h.led u h.ends.0 h.gave h.ends.1)
-          by_outcome Stopped u q h =
-              let k = given_by (ok_results es) does h.list u
-              (subst (λ (v : S). Yields next s (ok_results h.list) v) h.ends h.gave) in
-              record { kept = h.list; filter = k.filter; part = k.part }
+-- what came of a list that can be written: its entries come in order
+pub came_to : {F C O A : Type 0} (gives : F → Entry → Result Verdict Error → F → Type 0)
+    (gets : C → Entry → C → Type 0) (rules : Rules) (f : F) (c : C) (es : List Entry)
+    (w : TablesWriting) (says : O → CompactionProgress → Bool → O → Type 0) (o q : O)
+    → IsWritable es → (outcome : CompactionOutcome A) (d : C)
+    → CameUpTo gives gets rules f c (ok_results es) w says o outcome d q
+    → CameTo gives gets rules f c es w outcome d
+came_to gives gets rules f c es w says o q writable (Tables tables left) d h = record {
+  kept = h.kept;
+  filter = h.came.0;
+  compacted = calm_compacted gives gets rules f h.came.0 c d es (ok_results h.kept) h.came.1;
+  written = h.came.3;
+}
+came_to gives gets rules f c es w says o q writable OutOfOrder d h =
+    let x = h.came.0 in
+    let k = h.came.1 in
+    let front = front_of gives gets rules f k.filter c d es (h.kept ++ x ∷ []) k.part in
+    may_not _ h.came.2 (listed_follows h.kept x front.more
+    (subst IsWritable (append_assoc h.kept (x ∷ []) front.more)
+    (in_order rules es (h.kept ++ x ∷ []) writable front)))
+came_to gives gets rules f c es w says o q writable Stopped d h =
+    record { kept = h.kept; filter = h.came.filter; part = h.came.part }
 
 -- ---- refusals that are passed on
 
@@ -205,11 +175,15 @@ pub err_passed : {X : Type 0} (P : Error → Type 0) (r : Result X Error) (e : E
 err_passed P (Ok x) e is h = tt
 err_passed P (Err y) e is h = subst P (sym is) h
 
-pub memory_passed : {X : Type 0} (P : Error → Type 0) (r : Result X Error) (e : Error)
-    → IsErrAnd r (λ y. y ≡ e) → e ≡ OutOfMemory → IfErr r (λ x. is_memory x ≡ false → P x)
-memory_passed P (Ok x) e is memory = tt
-memory_passed P (Err y) e is memory = λ fine.
-    let both : true ≡ false = sym (ap is_memory (is ∙ memory)) ∙ fine in absurd cc
+-- the first error is that behind all that was kept and written
+pub refuses_by : {F C O X : Type 0} (gives : F → Entry → Result Verdict Error → F → Type 0)
+    (gets : C → Entry → C → Type 0) (rules : Rules) (f : F) (c : C) (xs : List R)
+    (w : TablesWriting) (says : O → CompactionProgress → Bool → O → Type 0) (o q : O)
+    (r : Result X Error) → IfErr r (λ e. CameUntil gives gets rules f c xs w says o e q)
+    → IfErr r (λ e. is_memory e ≡ false → RefusesBy gives gets rules f c xs w e)
+refuses_by gives gets rules f c xs w says o q (Ok x) until = tt
+refuses_by gives gets rules f c xs w says o q (Err e) until =
+    λ fine. record { kept = until.kept; taken = until.taken; fails = until.fails fine }
 
 -- what can be no fault is want of memory
 pub memory_unless : (e : Error) → (is_memory e ≡ false → ⊥) → e ≡ OutOfMemory
@@ -288,6 +262,13 @@ pub match_err : {X : Type 0} (P : X → Type 0) (Q : Error → Type 0) (r : Resu
     → IsErrAnd r (λ y. y ≡ e) → Q e → MatchResult r P Q
 match_err P Q (Ok x) e is h = absurd is
 match_err P Q (Err y) e is h = subst Q (sym is) h
+
+-- an `OutOfMemory` where there is no fault
+pub memory_faults : {X : Type 0} (r : Result X Error) (told : Option Error) → told ≡ None
+    → IfErr r (λ e. e ≡ OutOfMemory) → Faults r told
+memory_faults (Ok x) told none memory = none
+memory_faults (Err e) told none memory = λ fine.
+    let both : true ≡ false = sym (ap is_memory memory) ∙ fine in absurd cc
 
 -- a refusal for want of memory is no fault
 pub memory_tells : {X : Type 0} (P : Error → Type 0) (r : Result X Error)

@@ -1,39 +1,38 @@
 -- Where whatever may be kept fits as tables, and a filter refuses nothing but for want of memory,
 -- neither does a compaction.
 use Rattle.std.proofs.Common.{◌≡◌, refl, sym, ◌∙◌, ap, subst, true, false, List, [], ◌∷◌, ◌++◌}
-use Rattle.std.proofs.Common.{inl, inr, Bool}
-use Rattle.std.specs.Prelude.{Option, Some, None, Result, Ok, Err}
+use Rattle.std.proofs.Common.{append-nil, inl, inr, Bool}
+use Rattle.std.specs.Prelude.{Option, Some, None, Result, Ok, Err, IfErr}
 use Rattle.std.specs.List.{AllByRecursion}
-use Rattle.std.specs.Iterator.{Yields}
 use Rattle.std.specs.Option.{option_or}
 use Rattle.sst_entries.specs.Entry.{Entry}
 use Rattle.sst_entries.specs.Error.{is_memory}
-use Rattle.sst_entries.specs.Stream.{ok_results, result_stops}
+use Rattle.sst_entries.specs.Stream.{ok_results}
 use Rattle.sst_entries.specs.declared.error.Error.{Error}
 use Rattle.sst_entries.specs.declared.error.Error.TheVariants.{OutOfMemory}
 use Rattle.sst_entries.proofs.Lists.{all_append, all_behind, all_front}
 use Rattle.sst_entries.proofs.StreamLemmas.{map_append}
 use Rattle.lsm_merge.specs.Ends.{R}
+use Rattle.lsm_merge.specs.Union.{entries_among}
 use Rattle.lsm_sorted.specs.declared.compaction.Rules.{Rules}
-use Rattle.lsm_sorted.specs.Compaction.{Judged, Verdict, asked, entries, kept}
+use Rattle.lsm_sorted.specs.Compaction.{Judged, JudgedItem, Verdict, asked, outs, reported}
 use Rattle.lsm_sorted.specs.Compacting.{SaysOf}
-use Rattle.lsm_lending.specs.LentCompaction.{CompactedPart, past_hidden}
-use Rattle.lsm_lending.proofs.CompactionRuns.{calm_items}
+use Rattle.lsm_lending.specs.LentCompaction.{CompactedLent, CompactedPart, lent_outs, past_hidden}
+use Rattle.lsm_lending.proofs.CompactionRuns.{calm_items, calm_judged}
 use Rattle.lsm_lending.proofs.KeepsAllLemmas.{IsMemoryAtMost, SaysMemory, as_they_are_so}
 use Rattle.lsm_lending.proofs.KeepsAllLemmas.{memory_at_most}
-use Rattle.lsm_lending.proofs.KeptOrder.{Ordered, kept_in_order}
 use Rattle.lsm_writers.specs.Tables.{IsFreshRun, TakesLaw, TablesWriting, took, took_fault}
 use Rattle.lsm_writers.specs.Writing.{IsWritable}
-use Rattle.lsm_compactions.specs.AnyRuns.{results_fault}
+use Rattle.lsm_compactions.specs.AnyRuns.{AreTaken, results_fault, took_all}
 use Rattle.lsm_compactions.specs.Chain.{writes_fault}
-use Rattle.lsm_compactions.specs.Compacted.{RunsOn}
-use Rattle.lsm_compactions.specs.Filtered.{CompactsAs, FailsAt, FailsToEnd, FitsKept}
-use Rattle.lsm_compactions.specs.Filtered.{RefusesForMemory, RefusesWritten}
+use Rattle.lsm_compactions.specs.Compacted.{FitsBy, RunsOn}
+use Rattle.lsm_compactions.specs.Filtered.{CameUntil, FitsKept, FitsThroughout}
+use Rattle.lsm_compactions.specs.Filtered.{RefusesForMemory}
 use Rattle.lsm_compactions.specs.declared.observer.CompactionProgress.{CompactionProgress}
-use Rattle.lsm_compactions.proofs.FilteredCame.{more_stops, none_stops}
-use Rattle.lsm_compactions.proofs.FilteredFront.{all_of_it, front_of, ordered_of, writable_of}
-use Rattle.lsm_compactions.proofs.Observing.{yields_more}
+use Rattle.lsm_compactions.proofs.FilteredCame.{memory_unless}
+use Rattle.lsm_compactions.proofs.FilteredFront.{among_front, front_of, in_order, judged_of}
 use Rattle.lsm_compactions.proofs.RunWriting.{left_none}
+use Rattle.lsm_compactions.proofs.TookList.{behind_taken}
 use Rattle.lsm_compactions.proofs.WrittenBy.{fits_none}
 
 right_none : (a b : Option Error) → a ≡ None → option_or a b ≡ None → b ≡ None
@@ -80,56 +79,92 @@ part_memory gives gets rules f g c d es gave calm p =
     (sym h.answers) (memory_at_most rules h.judged (calm_items h.judged es h.over) h.tombstones
     says))
 
-module _ {S F C : Type 0} (next : S → Option R → S → Type 0)
-    (gives : F → Entry → Result Verdict Error → F → Type 0) (gets : C → Entry → C → Type 0)
-    (rules : Rules) (f : F) (c : C) (filter_in : S → F) (callback_in : S → C) (s : S)
-    (w : TablesWriting) (es : List Entry)
-    (does : CompactsAs gives gets rules f c (ok_results es) next s filter_in callback_in)
-    (writable : IsWritable es) (law : TakesLaw) (fresh : IsFreshRun w) (runs_on : RunsOn w)
-    (calm : RefusesForMemory gives) (fits : FitsKept w rules es) where
-  -- whatever is kept is written
-  kept_writes : (js : List Judged) → entries js ≡ es
-      → writes_fault w (kept rules js) ≡ None
-  kept_writes js are = fits_none w (kept rules js) law fresh runs_on
-      (writable_of (kept rules js) (kept_in_order rules js
-      (subst Ordered (sym are) (ordered_of es writable)))) (fits js are)
+-- where whatever a filter keeps fits, so does what this one keeps
+pub fits_any : {F C : Type 0} (gives : F → Entry → Result Verdict Error → F → Type 0)
+    (gets : C → Entry → C → Type 0) (rules : Rules) (f : F) (c : C) (es : List Entry)
+    (w : TablesWriting) → FitsKept w rules es → FitsThroughout gives gets rules f c es w
+fits_any gives gets rules f c es w fits gave g d p =
+    let h = p.does in
+    let j = judged_of h.judged es h.over in
+    subst (FitsBy w) (ap (λ (is : List JudgedItem). entries_among (outs rules is)) (sym j.are)
+    ∙ ap entries_among (sym (calm_judged rules h.judged es h.over) ∙ sym h.answers))
+    (fits j.js j.over)
+
+-- a whole compaction is a part behind which nothing is left
+abbrev whole_part : {F C : Type 0} (gives : F → Entry → Result Verdict Error → F → Type 0)
+    (gets : C → Entry → C → Type 0) (rules : Rules) (f g : F) (c d : C) (xs gave : List R)
+    → CompactedLent gives gets rules f c xs gave g d → CompactedPart gives gets rules f c xs gave g d
+whole_part gives gets rules f g c d xs gave h = record {
+  key = None;
+  left = [];
+  does = record {
+    judged = h.judged;
+    over = h.over;
+    tombstones = h.tombstones;
+    answers = append-nil gave ∙ h.answers;
+    said = asked rules h.judged;
+    said_are = append-nil (asked rules h.judged);
+    says = h.says;
+    heard = reported rules h.judged;
+    heard_are = append-nil (reported rules h.judged);
+    reports = h.reports;
+    begun = h.judged;
+    begun_are = append-nil h.judged;
+  };
+}
+
+module _ {F C : Type 0} (gives : F → Entry → Result Verdict Error → F → Type 0)
+    (gets : C → Entry → C → Type 0) (rules : Rules) (f : F) (c : C) (w : TablesWriting)
+    (es : List Entry) (writable : IsWritable es) (law : TakesLaw) (fresh : IsFreshRun w)
+    (runs_on : RunsOn w) (calm : RefusesForMemory gives)
+    (fits : FitsThroughout gives gets rules f c es w) where
+  -- what a part gave is written, and so is what the rules keep of the rest
+  part_writes : (list : List Entry) (g : F) (d : C)
+      (p : CompactedPart gives gets rules f c (ok_results es) (ok_results list) g d)
+      → writes_fault w (list ++ entries_among (lent_outs rules (past_hidden p.key p.left))) ≡ None
+  part_writes list g d p =
+      let rest : List R = lent_outs rules (past_hidden p.key p.left) in
+      let all = list ++ entries_among rest in
+      let fit : FitsBy w all = subst (FitsBy w) (among_front list rest)
+      (fits (ok_results list) g d p) in
+      fits_none w all law fresh runs_on
+      (in_order rules es list writable (front_of gives gets rules f g c d es list p)) fit
 
   fits_last : (last : R) (list : List Entry) (g : F) (d : C)
       → CompactedPart gives gets rules f c (ok_results es) (ok_results list ++ last ∷ []) g d
-      → result_stops is_memory last ≡ false → (e : Error)
-      → results_fault w (ok_results list ++ last ∷ []) ≡ Some e → ⊥
-  fits_last (Err q) list g d part fine e fault =
+      → AreTaken w list → (e : Error) → results_fault (took_all w list) (last ∷ []) ≡ Some e
+      → is_memory e ≡ false → ⊥
+  fits_last (Err q) list g d part taken e fault fine =
       let all = part_memory gives gets rules f g c d es (ok_results list ++ Err q ∷ []) calm part in
       let is : q ≡ OutOfMemory =
       (all_behind IsMemoryAtMost (ok_results list) (Err q ∷ []) all).0 in
-      let no : true ≡ false = sym (ap is_memory is) ∙ fine in
+      let same : Some q ≡ Some e = fault in
+      let here : q ≡ e = cc in
+      let no : true ≡ false = sym (ap is_memory is) ∙ ap is_memory here ∙ fine in
       absurd cc
-  fits_last (Ok x) list g d part fine e fault =
+  fits_last (Ok x) list g d part taken e fault fine =
       let all = list ++ x ∷ [] in
       let listed : ok_results all ≡ ok_results list ++ Ok x ∷ [] = map_append list (x ∷ []) in
-      let k = front_of gives gets rules f g c d es all
-      (subst (λ (rs : List R). CompactedPart gives gets rules f c (ok_results es) rs g d)
-      (sym listed) part) in
-      none_faults _ e (ap (results_fault w) (sym listed)
-      ∙ front_none w all k.more (ap (writes_fault w) (sym k.front) ∙ kept_writes k.judged k.over))
-      fault
+      let p : CompactedPart gives gets rules f c (ok_results es) (ok_results all) g d =
+      subst (λ (rs : List R). CompactedPart gives gets rules f c (ok_results es) rs g d)
+      (sym listed) part in
+      none_faults _ e (sym (behind_taken w list (Ok x ∷ []) taken.none)
+      ∙ ap (results_fault w) (sym listed) ∙ front_none w all _ (part_writes all g d p)) fault
 
-  fits_among : (list : List Entry) (t : S) → Yields next s (ok_results list) t → (e : Error)
-      → FailsAt next w s list t e → ⊥
-  fits_among list t runs e h = fits_last h.last list (filter_in h.then) (callback_in h.then)
-      (does.part (ok_results list ++ h.last ∷ []) h.then (more_stops list h.last h.fine)
-      (yields_more next (ok_results list) s t h.then h.last runs h.one)) h.fine e h.fault
+  fits_behind : (list : List Entry) (g : F) (d : C)
+      → CompactedLent gives gets rules f c (ok_results es) (ok_results list) g d → (e : Error)
+      → writes_fault w list ≡ Some e → ⊥
+  fits_behind list g d whole e fault =
+      let p = whole_part gives gets rules f g c d (ok_results es) (ok_results list) whole in
+      none_faults _ e (ap (writes_fault w) (sym (append-nil list)) ∙ part_writes list g d p) fault
 
-  fits_behind : (list : List Entry) (t : S) → Yields next s (ok_results list) t → (e : Error)
-      → FailsToEnd next w s list t e → ⊥
-  fits_behind list t runs e h =
-      let k = all_of_it gives gets rules f (filter_in h.then) c (callback_in h.then) es list
-      (does.whole (ok_results list) t h.then (none_stops is_memory list) runs h.ended) in
-      none_faults _ e (ap (writes_fault w) (sym k.2) ∙ kept_writes k.0 k.1) h.fault
-
-  pub fits_all : {O : Type 0} (says : O → CompactionProgress → Bool → O → Type 0) (o q : O)
-      (e : Error) → RefusesWritten next w s says o e q → is_memory e ≡ false → ⊥
-  fits_all says o q e h fine = elim (h.fails fine) [
-    | inl at ↦ fits_among h.list h.led h.gave e at
-    | inr end ↦ fits_behind h.list h.led h.gave e end
-  ]
+  -- so no error is left but `OutOfMemory`
+  pub fits_all : {O X : Type 0} (says : O → CompactionProgress → Bool → O → Type 0) (o q : O)
+      (r : Result X Error)
+      → IfErr r (λ e. CameUntil gives gets rules f c (ok_results es) w says o e q)
+      → IfErr r (λ e. e ≡ OutOfMemory)
+  fits_all says o q (Ok x) until = tt
+  fits_all says o q (Err e) until = memory_unless e (λ fine. elim (until.fails fine) [
+    | inl at ↦ fits_last at.0 until.kept at.2.filter at.1 at.2.part until.taken e at.4 fine
+    | inr end ↦ fits_behind until.kept end.0 end.1 end.2 e end.3
+  ])

@@ -1,7 +1,6 @@
 -- What a compaction gave of a list without errors is a front of what some verdicts keep of it, and
 -- comes in order where the list does.
 use Rattle.std.proofs.Common.{◌≡◌, refl, sym, ◌∙◌, ap, subst, List, [], ◌∷◌, ◌++◌}
-use Rattle.std.proofs.Common.{append-nil}
 use Rattle.std.specs.Prelude.{Result, Ok, Err}
 use Rattle.sst_entries.specs.Entry.{Entry}
 use Rattle.sst_entries.specs.Stream.{ok_results}
@@ -11,7 +10,7 @@ use Rattle.lsm_merge.specs.Union.{entries_among}
 use Rattle.lsm_merge.proofs.Pairs.{as_pairs, from_pairs}
 use Rattle.lsm_sorted.specs.declared.compaction.Rules.{Rules}
 use Rattle.lsm_sorted.specs.Compaction.{Judged, JudgedItem, Verdict, entries, items, kept, outs}
-use Rattle.lsm_lending.specs.LentCompaction.{CompactedLent, CompactedPart, lent_outs_by}
+use Rattle.lsm_lending.specs.LentCompaction.{CompactedPart, lent_outs_by}
 use Rattle.lsm_lending.proofs.CompactionRuns.{calm_judged}
 use Rattle.lsm_lending.proofs.KeptOrder.{Ordered, kept_in_order}
 use Rattle.lsm_writers.specs.Writing.{IsWritable}
@@ -28,7 +27,7 @@ pub record JudgedOf (es : List Entry) (items_are : List JudgedItem) : Type 0 whe
   pub over : entries js ≡ es
   pub are : items_are ≡ ok_results js
 
-judged_of : (items_are : List JudgedItem) (es : List Entry) → items items_are ≡ ok_results es
+pub judged_of : (items_are : List JudgedItem) (es : List Entry) → items items_are ≡ ok_results es
     → JudgedOf es items_are
 judged_of [] [] h = record { js = []; over = refl; are = refl }
 judged_of [] (e ∷ es) h = absurd cc
@@ -45,7 +44,7 @@ judged_of (Ok j ∷ js) (e ∷ es) h =
     }
 judged_of (Err f ∷ js) (e ∷ es) h = absurd cc
 
-among_front : (es : List Entry) (rs : List R)
+pub among_front : (es : List Entry) (rs : List R)
     → entries_among (ok_results es ++ rs) ≡ es ++ entries_among rs
 among_front [] rs = refl
 among_front (e ∷ es) rs = ap (λ (xs : List Entry). e ∷ xs) (among_front es rs)
@@ -78,14 +77,6 @@ front_by rules es list js rest over answers =
 
 module _ {F C : Type 0} (gives : F → Entry → Result Verdict Error → F → Type 0)
     (gets : C → Entry → C → Type 0) (rules : Rules) (f g : F) (c d : C) (es list : List Entry) where
-  pub front_of : CompactedPart gives gets rules f c (ok_results es) (ok_results list) g d
+  abbrev pub front_of : CompactedPart gives gets rules f c (ok_results es) (ok_results list) g d
       → KeptFront rules es list
   front_of p = front_by rules es list p.does.judged _ p.does.over p.does.answers
-
-  -- and nothing more where it is whole
-  pub all_of_it : CompactedLent gives gets rules f c (ok_results es) (ok_results list) g d
-      → (js : List Judged) × (entries js ≡ es) × (kept rules js ≡ list)
-  all_of_it h =
-      let k = front_by rules es list h.judged [] h.over
-      (append-nil (ok_results list) ∙ h.answers) in
-      (k.judged, k.over, k.front ∙ append-nil list)

@@ -18,6 +18,7 @@ pub mod Observing
 pub mod FilteredFront
 pub mod FilteredCame
 pub mod FilteredFits
+pub mod Unfiltered
 pub mod Scanners
 pub mod Keeping
 pub mod Versions

@@ -29,7 +29,7 @@ use Rattle.lsm_writers.proofs.AllTables.{joined_all}
 use Rattle.lsm_writers.proofs.CutTables.{cuts_first, cuts_longer, cuts_next, gained_snoc}
 use Rattle.lsm_writers.proofs.CutTables.{long_enough, no_end, some_length, still_short}
 use Rattle.lsm_writers.proofs.ListWriting.{same_label, written_gained}
-use Rattle.lsm_compactions.specs.AnyRuns.{results_fault}
+use Rattle.lsm_compactions.specs.AnyRuns.{results_fault, took_all}
 use Rattle.lsm_compactions.specs.Filtered.{FailsAt, FailsToEnd, RefusesWritten}
 use Rattle.lsm_compactions.specs.Observed.{GoesOnAt, IsCounted, StoppedAt, StopsAtLast, TellsNext}
 use Rattle.lsm_compactions.specs.Observed.{ToldOfPart, progress_at, told_behind}
@@ -453,15 +453,17 @@ module _ {S O : Type 0} (next : S → Option R → S → Type 0)
         ∙ map_append (all_written m) (e ∷ [])))
         (yields_more next (ok_results (all_written m)) s t u (Ok e) h.gave step)
 
-    -- the writer refuses it
-    pub failed_entry : next t (Some (Ok e)) u → (f : Error) → took_fault m e ≡ Some f
-        → FailsAt next w s (all_written m) t f
-    failed_entry step f is = record {
+    -- the writer fails for it
+    pub failed_entry : m ≡ took_all w (all_written m)
+        → may_be_written (all_written m) e.user_key e.seqno ≡ true → next t (Some (Ok e)) u
+        → (f : Error) → took_fault m e ≡ Some f → FailsAt next w s (all_written m) t f
+    failed_entry all may step f is = record {
       last = Ok e;
+      comes = may;
       fine = refl;
       then = u;
       one = step;
-      fault = h.taking.among (Ok e ∷ [])
+      fault = ap (λ (x : TablesWriting). results_fault x (Ok e ∷ [])) (sym all)
           ∙ or_first (took_fault m e) (results_fault (took m e) []) f is;
     }
 
@@ -472,10 +474,11 @@ module _ {S O : Type 0} (next : S → Option R → S → Type 0)
         → FailsAt next w s (all_written m) t f
     failed_result f fine step = record {
       last = Err f;
+      comes = tt;
       fine = fine;
       then = u;
       one = step;
-      fault = h.taking.among (Err f ∷ []);
+      fault = refl;
     }
 
     module _ (fresh : IsFreshRun w) where

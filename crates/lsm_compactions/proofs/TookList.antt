@@ -5,6 +5,7 @@ use Rattle.sst_entries.specs.declared.error.Error.{Error}
 use Rattle.sst_entries.specs.Entry.{Entry}
 use Rattle.sst_entries.specs.Error.{is_memory}
 use Rattle.sst_entries.specs.Stream.{ok_results}
+use Rattle.lsm_merge.specs.Ends.{R}
 use Rattle.lsm_writers.specs.Tables.{IsFreshRun, TablesWriting, all_written, run_fault, took}
 use Rattle.lsm_writers.specs.Tables.{took_fault}
 use Rattle.lsm_compactions.specs.AnyRuns.{TookList, results_fault, took_all}
@@ -42,6 +43,15 @@ none_behind : (m : TablesWriting) (e : Entry) (es : List Entry)
 none_behind m e es fine =
     sym (none_refused (took_fault m e) (results_fault (took m e) (ok_results es))
     (left_none _ _ fine)) ∙ fine
+
+-- what is refused behind entries that are taken
+pub behind_taken : (m : TablesWriting) (es : List Entry) (rs : List R)
+    → results_fault m (ok_results es) ≡ None
+    → results_fault m (ok_results es ++ rs) ≡ results_fault (took_all m es) rs
+behind_taken m [] rs fine = refl
+behind_taken m (e ∷ es) rs fine =
+    none_refused (took_fault m e) (results_fault (took m e) (ok_results es ++ rs))
+    (left_none _ _ fine) ∙ behind_taken (took m e) es rs (none_behind m e es fine)
 
 since_all : (w : TablesWriting) → IsFreshRun w → (m : TablesWriting) (es : List Entry) → Since w m
     → results_fault m (ok_results es) ≡ None → Since w (took_all m es)

@@ -21,8 +21,6 @@ use Rattle.lsm_compactions.specs.declared.any_runs.CompactionOutcome.{Compaction
 use Rattle.lsm_compactions.specs.declared.any_runs.CompactionOutcome.TheVariants.{OutOfOrder}
 use Rattle.lsm_compactions.specs.declared.any_runs.CompactionOutcome.TheVariants.{Stopped}
 use Rattle.lsm_compactions.specs.declared.any_runs.CompactionOutcome.TheVariants.{Tables}
-use Rattle.lsm_compactions.specs.declared.any_runs.Ending.{Ending}
-use Rattle.lsm_compactions.specs.declared.any_runs.Ending.TheVariants.{AtDisorder, AtEnd, AtStop}
 
 -- the first fault of results whose entries are written one after another
 abbrev pub results_fault : TablesWriting → List R → Option Error
@@ -109,14 +107,6 @@ pub record FailsBehind (w : TablesWriting) (rs : List R) (e : Error) : Type 0 wh
   pub whole : rs ≡ ok_results list
   pub taken : AreTaken w list
   pub fault : writes_fault w list ≡ Some e
-
--- what was taken of results, by how it ended: all of them, or up to the first that may not follow,
--- or, memory aside, up to the first fault
-abbrev pub TakesOf : TablesWriting → List R → TablesWriting → Result Ending Error → Type 0
-TakesOf w rs m (Ok AtEnd) = rs ≡ ok_results (all_written m)
-TakesOf w rs m (Ok AtDisorder) = LeavesOrder w rs
-TakesOf w rs m (Ok AtStop) = ⊥
-TakesOf w rs m (Err e) = is_memory e ≡ false → MeetsFault w rs e
 
 -- it refuses so, whichever is met first
 abbrev pub RefusesOf : TablesWriting → List R → Error → Type 0

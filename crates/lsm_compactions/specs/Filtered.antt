@@ -9,31 +9,33 @@ use Rattle.sst_entries.specs.Stream.{ok_results, result_stops}
 use Rattle.sst_entries.specs.declared.error.Error.{Error}
 use Rattle.sst_entries.specs.declared.error.Error.TheVariants.{OutOfMemory}
 use Rattle.lsm_merge.specs.Ends.{R}
+use Rattle.lsm_merge.specs.Union.{entries_among}
 use Rattle.lsm_sorted.specs.declared.compaction.Rules.{Rules}
 use Rattle.lsm_sorted.specs.Compaction.{Judged, Verdict, entries, kept}
 use Rattle.lsm_sorted.specs.Compacting.{Compacted}
-use Rattle.lsm_lending.specs.LentCompaction.{CompactedLent, CompactedPart}
+use Rattle.lsm_lending.specs.LentCompaction.{CompactedLent, CompactedPart, lent_outs, past_hidden}
 use Rattle.lsm_writers.specs.declared.writer.FinishedTable.{FinishedTable}
 use Rattle.lsm_writers.specs.Tables.{TablesWriting}
 use Rattle.lsm_writers.specs.Writing.{may_be_written}
-use Rattle.lsm_compactions.specs.AnyRuns.{AreTaken, results_fault}
+use Rattle.lsm_compactions.specs.AnyRuns.{AreTaken, MayCome, results_fault, took_all}
 use Rattle.lsm_compactions.specs.Chain.{writes_fault}
 use Rattle.lsm_compactions.specs.Compacted.{AreWrittenBy, FitsBy}
 use Rattle.lsm_compactions.specs.Observed.{ToldOfPart, WasToldAt, WasToldOf}
 use Rattle.lsm_compactions.specs.declared.any_runs.CompactionOutcome.{CompactionOutcome}
 use Rattle.lsm_compactions.specs.declared.any_runs.CompactionOutcome.TheVariants.{OutOfOrder}
 use Rattle.lsm_compactions.specs.declared.any_runs.CompactionOutcome.TheVariants.{Stopped, Tables}
-use Rattle.lsm_compactions.specs.declared.any_runs.Ending.{Ending}
-use Rattle.lsm_compactions.specs.declared.any_runs.Ending.TheVariants.{AtDisorder, AtEnd, AtStop}
+use Rattle.lsm_compactions.specs.declared.any_runs_with.Ending.{Ending}
+use Rattle.lsm_compactions.specs.declared.any_runs_with.Ending.TheVariants.{AtDisorder, AtEnd, AtStop}
 use Rattle.lsm_compactions.specs.declared.observer.CompactionProgress.{CompactionProgress}
 
 -- ---- a stream whose entries are written
 
 module _ {S : Type 0} (next : S → Option R → S → Type 0) (w : TablesWriting) (s : S) where
-  -- what a stream gave behind these entries: nothing more, where finished tables are theirs; an
-  -- entry that may not follow them; or nothing was asked of it
+  -- what a stream gave behind these entries: nothing more, where no fault is met and finished
+  -- tables are theirs; an entry that may not follow them; or it was not called again
   abbrev pub EndsAs : {A : Type 0} → List Entry → S → CompactionOutcome A → S → Type 0
-  EndsAs list led (Tables tables left) u = next led None u × AreWrittenBy w list tables.items left
+  EndsAs list led (Tables tables left) u =
+      next led None u × (writes_fault w list ≡ None) × AreWrittenBy w list tables.items left
   EndsAs list led OutOfOrder u =
       (e : Entry) × next led (Some (Ok e)) u × (may_be_written list e.user_key e.seqno ≡ false)
   EndsAs list led Stopped u = led ≡ u
@@ -45,13 +47,15 @@ module _ {S : Type 0} (next : S → Option R → S → Type 0) (w : TablesWritin
       (e : Entry) × next led (Some (Ok e)) u × (may_be_written list e.user_key e.seqno ≡ false)
   EndsAt list led AtStop u = led ≡ u
 
-  -- it gave a result more, no want of memory, at which it or the writer refuses so
+  -- it gave a result more: this error, which is not `OutOfMemory`, or an entry that may follow and
+  -- for which the writer, once it took the list, fails so
   pub record FailsAt (list : List Entry) (led : S) (e : Error) : Type 0 where
     pub last : R
+    pub comes : MayCome list last
     pub fine : result_stops is_memory last ≡ false
     pub then : S
     pub one : next led (Some last) then
-    pub fault : results_fault w (ok_results list ++ last ∷ []) ≡ Some e
+    pub fault : results_fault (took_all w list) (last ∷ []) ≡ Some e
 
   -- it gave nothing more, and the writer refuses so to finish
   pub record FailsToEnd (list : List Entry) (led : S) (e : Error) : Type 0 where
@@ -113,6 +117,13 @@ module _ {F C : Type 0} (gives : F → Entry → Result Verdict Error → F → 
         → CompactedPart gives gets rules f c xs gave (filter_in t) (callback_in t)
 
   module _ (es : List Entry) (w : TablesWriting) where
+    -- what a compaction of the list keeps fits as tables at each point of it: what it gave so far,
+    -- with what the rules keep of the rest without a filter
+    abbrev pub FitsThroughout : Type 0
+    FitsThroughout = (gave : List R) (g : F) (d : C)
+        (p : CompactedPart gives gets rules f c (ok_results es) gave g d)
+        → FitsBy w (entries_among (gave ++ lent_outs rules (past_hidden p.key p.left)))
+
     -- finished tables are those of what a compaction of the list keeps
     pub record KeepsAll {A : Type 0} (fs : List (FinishedTable A)) (left : Option ℕ) (d : C)
         : Type 0 where
@@ -134,50 +145,37 @@ module _ {F C : Type 0} (gives : F → Entry → Result Verdict Error → F → 
     CameTo Stopped d = KeepsPart d
 
   module _ (xs : List R) (w : TablesWriting) where
-    -- a compaction of the results gave these, at the last of which it or the writer refuses
-    pub record RefusesAt (e : Error) : Type 0 where
-      pub gave : List R
-      pub filter : F
-      pub callback : C
-      pub part : CompactedPart gives gets rules f c xs gave filter callback
-      pub fault : results_fault w gave ≡ Some e
-
-    -- the writer refuses all that a compaction of the results keeps
-    pub record RefusesKept (e : Error) : Type 0 where
-      pub kept : List Entry
-      pub filter : F
-      pub callback : C
-      pub compacted : CompactedLent gives gets rules f c xs (ok_results kept) filter callback
-      pub fault : writes_fault w kept ≡ Some e
-
-    -- which error is met first: of the filter, or of the writer
-    abbrev pub RefusesBy : Error → Type 0
-    RefusesBy e = RefusesAt e ⊎ RefusesKept e
-
     -- calls of a compaction of the results gave these, and its callback is then as said
     pub record KeepsSome (gave : List R) (d : C) : Type 0 where
       pub filter : F
       pub part : CompactedPart gives gets rules f c xs gave filter d
 
-    -- what such a compaction gives after these entries: nothing more, where finished tables are
-    -- theirs; an entry that may not follow them; or nothing was asked of it
+    -- what such a compaction gives after these entries: nothing more, where no fault is met and
+    -- finished tables are theirs; an entry that may not follow them; or it was not called again
     abbrev pub KeepsThen : {A : Type 0} → List Entry → CompactionOutcome A → C → Type 0
     KeepsThen kept (Tables tables left) d =
         (g : F) × CompactedLent gives gets rules f c xs (ok_results kept) g d
-        × AreWrittenBy w kept tables.items left
+        × (writes_fault w kept ≡ None) × AreWrittenBy w kept tables.items left
     KeepsThen kept OutOfOrder d =
         (e : Entry) × KeepsSome (ok_results (kept ++ e ∷ [])) d
         × (may_be_written kept e.user_key e.seqno ≡ false)
     KeepsThen kept Stopped d = KeepsSome (ok_results kept) d
 
-    -- it gives a result more, at which it or the writer refuses so; or nothing more, and the writer
-    -- refuses so to finish
+    -- it gives a result more, which is this error or an entry that may follow and for which the
+    -- writer, once it took these, fails so; or nothing more, and the writer fails so to finish
     abbrev pub KeepsFault : List Entry → Error → Type 0
     KeepsFault kept e =
-        ((last : R) × (d : C) × KeepsSome (ok_results kept ++ last ∷ []) d
-        × (results_fault w (ok_results kept ++ last ∷ []) ≡ Some e))
+        ((last : R) × (d : C) × KeepsSome (ok_results kept ++ last ∷ []) d × MayCome kept last
+        × (results_fault (took_all w kept) (last ∷ []) ≡ Some e))
         ⊎ ((g : F) × (d : C) × CompactedLent gives gets rules f c xs (ok_results kept) g d
         × (writes_fault w kept ≡ Some e))
+
+    -- the first error, of the source, the filter or the writer: that behind entries that the
+    -- compaction keeps and the writer takes
+    pub record RefusesBy (e : Error) : Type 0 where
+      pub kept : List Entry
+      pub taken : AreTaken w kept
+      pub fails : KeepsFault kept e
 
     module _ {O : Type 0} (says : O → CompactionProgress → Bool → O → Type 0) (o : O) where
       -- what a compaction of any results came to, and its callback and an observer then: these

@@ -12,8 +12,8 @@ use Rattle.lsm_compactions.specs.Compacted.{first_written}
 use Rattle.lsm_compactions.specs.declared.any_runs.CompactionOutcome.{CompactionOutcome}
 use Rattle.lsm_compactions.specs.declared.any_runs.CompactionOutcome.TheVariants.{OutOfOrder}
 use Rattle.lsm_compactions.specs.declared.any_runs.CompactionOutcome.TheVariants.{Stopped, Tables}
-use Rattle.lsm_compactions.specs.declared.any_runs.Ending.{Ending}
-use Rattle.lsm_compactions.specs.declared.any_runs.Ending.TheVariants.{AtDisorder, AtEnd, AtStop}
+use Rattle.lsm_compactions.specs.declared.any_runs_with.Ending.{Ending}
+use Rattle.lsm_compactions.specs.declared.any_runs_with.Ending.TheVariants.{AtDisorder, AtEnd, AtStop}
 use Rattle.lsm_compactions.specs.declared.observer.CompactionProgress.{CompactionProgress}
 
 -- a count that would pass the largest number stays there

@@ -1,36 +1,26 @@
 //! Compacting several runs of tables whose bytes nobody has verified.
-ghost use Rattle.std.specs.Prelude.{◌≡◌, ◌≢◌, ◌⊎◌, false, Err, IfErr, IfOk, IsErrAnd, List, Ok};
-ghost use Rattle.std.specs.Prelude.{OnOk, map};
+ghost use Rattle.std.specs.Prelude.{◌≡◌, ◌⊎◌, false, IfErr, IfOk, IsErrAnd, List, map};
 ghost use Rattle.std.specs.Arc.{arc_value};
-ghost use Rattle.sst_entries.specs.declared.error.Error.{Error};
 ghost use Rattle.sst_entries.specs.declared.error.Error.TheVariants.{OutOfMemory};
 ghost use Rattle.std.specs.List.{AllByRecursion};
 ghost use Rattle.sst_entries.specs.Error.{is_memory};
 ghost use Rattle.sst_entries.specs.Stream.{ok_results};
-ghost use Rattle.lsm_merge.specs.Ends.{R};
 ghost use Rattle.lsm_merge.specs.InPlace.{merge_of};
 ghost use Rattle.lsm_merge.specs.Union.{Ascends, entries_among};
 ghost use Rattle.lsm_lending.specs.LentCompaction.{lent_outs};
-ghost use Rattle.lsm_writers.specs.Tables.{all_written};
-ghost use Rattle.lsm_compactions.specs.declared.any_runs.CompactionOutcome.TheVariants.{
-  OutOfOrder,
-  Stopped,
-};
-ghost use Rattle.lsm_compactions.specs.declared.any_runs.Ending.TheVariants.{AtDisorder, AtEnd};
-ghost use Rattle.lsm_compactions.specs.declared.any_runs.Ending.TheVariants.{AtStop};
 ghost use Rattle.lsm_compactions.specs.Words.{AreCompactable, AreTablesBy, BeginsWith};
-ghost use Rattle.lsm_compactions.specs.Words.{CameInOrder, CameOf, CanDeal, DealsResults, Entry};
-ghost use Rattle.lsm_compactions.specs.Words.{Faults, FitsBy, GoesThrough, HasMade, HaveEntries};
-ghost use Rattle.lsm_compactions.specs.Words.{IsFreshRun, RefusesOf, RunsHoldLists, RunsOn};
-ghost use Rattle.lsm_compactions.specs.Words.{TablesWriting, TakesOf, TookList, kept_in, nowhere};
-ghost use Rattle.lsm_compactions.specs.Words.{scans_of, writes_fault};
+ghost use Rattle.lsm_compactions.specs.Words.{CameInOrder, CameOf, Entry, Faults, FitsBy};
+ghost use Rattle.lsm_compactions.specs.Words.{GoesThrough, HasMade, HaveEntries, IsFreshRun};
+ghost use Rattle.lsm_compactions.specs.Words.{RefusesOf, RunsHoldLists, kept_in, scans_of};
+ghost use Rattle.lsm_compactions.specs.Words.{writes_fault};
 
-use crate::compact::{Kept, finished, kept_of};
+use crate::{NoObserver, compact_any_runs_with};
 use lsm_ranges::Run;
 use lsm_readers::Table;
 use lsm_sorted::compaction::Rules;
-use lsm_writers::{FinishedTable, MultiWriter, TableIds, tables_law};
-use sst_blocks::{Error, Lending};
+use lsm_sorted::compaction::stream::{NoCallback, NoFilter};
+use lsm_writers::{FinishedTable, MultiWriter, TableIds};
+use sst_blocks::Error;
 use std::alloc::{Allocator, Global};
 use std::sync::Arc;
 
@@ -47,96 +37,6 @@ pub enum CompactionOutcome<A: Allocator = Global> {
     OutOfOrder,
     /// An observer stopped it between two tables. No table was kept.
     Stopped,
-}
-
-// How the writing of entries, one after another, ended.
-#[derive(Clone, Copy)]
-pub(crate) enum Ending {
-    // All are written.
-    AtEnd,
-    // An entry may not follow those before it.
-    AtDisorder,
-    // An observer stopped it.
-    AtStop,
-}
-
-// Writes what a source lends, for as long as each entry may follow the one before it. Refused as
-// the source and the writer are.
-fn write_while_in_order<L: Lending, A: Allocator + Clone>(
-    source: &mut L,
-    writer: &mut MultiWriter<A>,
-) -> Result<Ending, Error>
-    requires fresh { IsFreshRun writer.old }
-    requires can { CanDeal L.advances nowhere L.can_advance L.can_advance source.old }
-    ensures took { OnOk result (TookList writer.old (all_written writer.new) writer.new) }
-    ensures came { (rs : List R) → DealsResults L.advances rs source.old →
-        TakesOf writer.old rs writer.new result }
-    ensures through { IfOk result (λ end. end ≢ AtStop) }
-{
-    while source.advance()? {
-        if let Some(entry) = source.entry() {
-            if !writer.can_follow_ref(&entry) {
-                return Ok(Ending::AtDisorder);
-            }
-            writer.write_ref(&entry)?;
-        }
-    }
-    Ok(Ending::AtEnd)
-}
-
-// What a compaction came to, by how its writing ended: tables of all that the writer took at the
-// end alone. Refused as the writing was, and then as the writer is.
-pub(crate) fn ended<A: Allocator + Clone>(
-    writer: MultiWriter<A>,
-    ending: Result<Ending, Error>,
-) -> Result<CompactionOutcome<A>, Error>
-    ensures tables { ending ≡ Ok AtEnd → (w : TablesWriting) (es : List Entry) → IsFreshRun w →
-        RunsOn w → TookList w es writer → IfOk result (AreTablesBy w es) }
-    ensures refused { ending ≡ Ok AtEnd → (w : TablesWriting) (es : List Entry) →
-        TookList w es writer → Faults result (writes_fault w es) }
-    ensures disorder { ending ≡ Ok AtDisorder → result ≡ Ok OutOfOrder }
-    ensures stop { ending ≡ Ok AtStop → result ≡ Ok Stopped }
-    ensures passed { (e : Error) → ending ≡ Err e → result ≡ Err e }
-{
-    match ending {
-        Ok(Ending::AtEnd) => {
-            let (tables, left) = finished(writer)?;
-            Ok(CompactionOutcome::Tables(tables, left))
-        }
-        Ok(Ending::AtDisorder) => {
-            drop(writer);
-            Ok(CompactionOutcome::OutOfOrder)
-        }
-        Ok(Ending::AtStop) => {
-            drop(writer);
-            Ok(CompactionOutcome::Stopped)
-        }
-        Err(error) => {
-            drop(writer);
-            Err(error)
-        }
-    }
-}
-
-// Writes what is kept, as long as each entry may follow the one before it, and finishes. Refused as
-// the source and the writer are.
-fn write_in_order<L: Lending + Drop, A: Allocator + Clone>(
-    mut source: Kept<L, A>,
-    mut writer: MultiWriter<A>,
-) -> Result<CompactionOutcome<A>, Error>
-    requires fresh { IsFreshRun writer }
-    requires next { RunsOn writer }
-    requires can { CanDeal ⟦<Kept<L, A> as Lending>⟧.advances nowhere
-        ⟦<Kept<L, A> as Lending>⟧.can_advance ⟦<Kept<L, A> as Lending>⟧.can_advance source }
-    ensures came { (rs : List R) → DealsResults ⟦<Kept<L, A> as Lending>⟧.advances rs source →
-        CameOf writer rs result }
-    // Whatever the source lends, tables are those of a list that can be written.
-    ensures made { IfOk result (HasMade writer) }
-    ensures through { IfOk result GoesThrough }
-{
-    let ending = write_while_in_order(&mut source, &mut writer);
-    drop(source);
-    ended(writer, ending)
 }
 
 /// Compacts several runs of any tables that were opened into new tables: what a
@@ -194,8 +94,15 @@ pub fn compact_any_runs<A: Allocator + Clone>(
     // No observer stops it.
     ensures through { IfOk result GoesThrough }
 {
-    // A list whose tables fit is taken whole.
-    tables_law();
-    let kept = kept_of(alloc, runs, rules)?;
-    write_in_order(kept, writer)
+    let mut observer = NoObserver;
+    let (outcome, _) = compact_any_runs_with(
+        alloc,
+        runs,
+        rules,
+        writer,
+        NoFilter,
+        NoCallback,
+        &mut observer,
+    )?;
+    Ok(outcome)
 }

@@ -1,6 +1,6 @@
 //! Compacting several runs of any tables, with a filter, a callback and an observer.
-ghost use Rattle.std.specs.Prelude.{◌≡◌, ◌⊎◌, ◌++◌, ◌∷◌, [], All, Bool, false, true, IfErr, IfOk};
-ghost use Rattle.std.specs.Prelude.{IsTrue, List, MatchResult, OnErr, OnOk, map};
+ghost use Rattle.std.specs.Prelude.{◌≡◌, ◌≢◌, ◌⊎◌, ◌++◌, ◌∷◌, [], All, false, true, Err, IfErr};
+ghost use Rattle.std.specs.Prelude.{IfOk, IsTrue, List, MatchResult, None, Ok, OnErr, OnOk, map};
 ghost use Rattle.std.specs.Arc.{arc_value};
 ghost use Rattle.std.specs.List.{AllByRecursion, AllZip};
 ghost use Rattle.sst_entries.specs.declared.error.Error.{Error};
@@ -14,17 +14,26 @@ ghost use Rattle.lsm_merge.specs.Union.{Ascends, entries_among};
 ghost use Rattle.lsm_lending.specs.LentCompaction.{lent_callback, lent_filter};
 ghost use Rattle.lsm_writers.specs.Tables.{all_written, took, took_fault};
 ghost use Rattle.lsm_writers.specs.Writing.{may_be_written};
-ghost use Rattle.lsm_compactions.specs.Words.{AreCompactable, AreMergeable, BeginsWith, CameTo};
-ghost use Rattle.lsm_compactions.specs.Words.{CameUntil, CameUpTo, CanDeal, CompactsAs};
-ghost use Rattle.lsm_compactions.specs.Words.{DealTogether, DealsResults, Entry, Faults, FitsKept};
-ghost use Rattle.lsm_compactions.specs.Words.{HasBegun, HasMade, HaveEntries, IsCounted};
-ghost use Rattle.lsm_compactions.specs.Words.{IsFreshRun, IsWritten, RefusesBy, RefusesForMemory};
-ghost use Rattle.lsm_compactions.specs.Words.{RefusesWritten, RunsHoldLists, RunsOn, TellsNext};
-ghost use Rattle.lsm_compactions.specs.Words.{TookList, WasTold, WasToldUntil, WroteUntil, joined};
-ghost use Rattle.lsm_compactions.specs.Words.{nowhere, scans_of, union_in};
+ghost use Rattle.lsm_compactions.specs.declared.any_runs.CompactionOutcome.TheVariants.{
+  OutOfOrder,
+  Stopped,
+};
+ghost use Rattle.lsm_compactions.specs.declared.any_runs_with.Ending.TheVariants.{
+  AtDisorder,
+  AtEnd,
+  AtStop,
+};
+ghost use Rattle.lsm_compactions.specs.Words.{AreCompactable, AreMergeable, AreTablesBy};
+ghost use Rattle.lsm_compactions.specs.Words.{BeginsWith, CameTo, CameUntil, CameUpTo, CanDeal};
+ghost use Rattle.lsm_compactions.specs.Words.{CompactsAs, DealTogether, DealsResults, Entry};
+ghost use Rattle.lsm_compactions.specs.Words.{Faults, FitsKept, FitsThroughout, HasBegun, HasMade};
+ghost use Rattle.lsm_compactions.specs.Words.{HaveEntries, IsCounted, IsFreshRun, IsWritten, RefusesBy};
+ghost use Rattle.lsm_compactions.specs.Words.{RefusesForMemory, RefusesWritten, RunsHoldLists};
+ghost use Rattle.lsm_compactions.specs.Words.{RunsOn, TablesWriting, TellsNext, TookList, WasTold};
+ghost use Rattle.lsm_compactions.specs.Words.{WasToldUntil, WroteUntil, first_blocks_fault};
+ghost use Rattle.lsm_compactions.specs.Words.{joined, nowhere, scans_of, union_in, writes_fault};
 
-use crate::any_runs::{Ending, ended};
-use crate::compact::{Compacted, scanners_of};
+use crate::compact::{Compacted, finished, scanners_of};
 use crate::{CompactionObserver, CompactionOutcome, CompactionProgress};
 use lsm_lending::LendingMerger;
 use lsm_lending::compaction::lending::{LendingCompaction, LentCallback, LentFilter};
@@ -36,6 +45,17 @@ use lsm_writers::{MultiWriter, tables_law};
 use sst_blocks::{EntryRef, Error, Lending};
 use std::alloc::Allocator;
 use std::sync::Arc;
+
+// How the writing of entries, one after another, ended.
+#[derive(Clone, Copy)]
+enum Ending {
+    // All are written.
+    AtEnd,
+    // An entry may not follow those before it.
+    AtDisorder,
+    // An observer stopped it.
+    AtStop,
+}
 
 // Writes an entry and counts it. Where a table was finished for it, the observer is told, and says
 // whether to go on. Fails as the writer does.
@@ -108,6 +128,40 @@ fn write_while_observed<L: Lending, O: CompactionObserver, A: Allocator + Clone>
         }
     }
     Ok(Ending::AtEnd)
+}
+
+// What a compaction came to, by how its writing ended: tables of all that the writer took at the
+// end alone. Refused as the writing was, and then as the writer is.
+fn ended<A: Allocator + Clone>(
+    writer: MultiWriter<A>,
+    ending: Result<Ending, Error>,
+) -> Result<CompactionOutcome<A>, Error>
+    ensures tables { ending ≡ Ok AtEnd → (w : TablesWriting) (es : List Entry) → IsFreshRun w →
+        RunsOn w → TookList w es writer → IfOk result (AreTablesBy w es) }
+    ensures refused { ending ≡ Ok AtEnd → (w : TablesWriting) (es : List Entry) →
+        TookList w es writer → Faults result (writes_fault w es) }
+    ensures disorder { ending ≡ Ok AtDisorder → result ≡ Ok OutOfOrder }
+    ensures stop { ending ≡ Ok AtStop → result ≡ Ok Stopped }
+    ensures passed { (e : Error) → ending ≡ Err e → result ≡ Err e }
+{
+    match ending {
+        Ok(Ending::AtEnd) => {
+            let (tables, left) = finished(writer)?;
+            Ok(CompactionOutcome::Tables(tables, left))
+        }
+        Ok(Ending::AtDisorder) => {
+            drop(writer);
+            Ok(CompactionOutcome::OutOfOrder)
+        }
+        Ok(Ending::AtStop) => {
+            drop(writer);
+            Ok(CompactionOutcome::Stopped)
+        }
+        Err(error) => {
+            drop(writer);
+            Err(error)
+        }
+    }
 }
 
 // Writes what a compaction lends, for as long as each entry may follow the one before it and the
@@ -203,6 +257,8 @@ fn compacted_of<F: LentFilter<A> + Drop, C: LentCallback + Drop, A: Allocator + 
         lent_filter lent_callback) }
     ensures told { IfErr result (λ e. is_memory e ≡ false →
         BeginsWith (map arc_value runs.now) e) }
+    // The first data block of each run is loaded.
+    ensures opens { Faults result (first_blocks_fault (map arc_value runs.now)) }
 {
     let scanners = scanners_of(alloc.clone()?, runs)?;
     compacted_from(alloc, scanners, rules, filter, callback)
@@ -218,8 +274,12 @@ fn compacted_of<F: LentFilter<A> + Drop, C: LentCallback + Drop, A: Allocator + 
 /// finished and how many entries they have; where it says so, the compaction stops with
 /// [`CompactionOutcome::Stopped`], and no table is kept.
 ///
-/// Refused as [`compact_any_runs`](crate::compact_any_runs) is, and with any error of the filter.
-/// Whatever is answered, the runs are as they were.
+/// The first data block of each run is loaded before anything is written, in the order of the runs.
+/// The runs stay as they were, also after an error.
+///
+/// # Errors
+///
+/// As [`compact_any_runs`](crate::compact_any_runs), and any error of the filter.
 pub fn compact_any_runs_with<
     F: LentFilter<A> + Drop,
     C: LentCallback + Drop,
@@ -258,6 +318,10 @@ pub fn compact_any_runs_with<
         observer.old r.0 r.1 observer.new)
         (λ e. CameUntil F.gives C.gets rules filter callback (merge_of scans) writer O.says
         observer.old e observer.new ⊎ BeginsWith (map arc_value runs.now) e) }
+    // Except for `OutOfMemory`, the error is that of the first run whose first data block cannot be
+    // loaded, if there is one. The observer is not called then.
+    ensures opens { let first = first_blocks_fault (map arc_value runs.now) in first ≢ None →
+        Faults result first × (observer.new ≡ observer.old) }
     // Whatever the tables hold, what is made are tables of a list that can be written.
     ensures made { IfOk result (λ r. HasMade writer r.0) }
     // The observer was told of each table but the last, in their order; it is stopped just where
@@ -270,7 +334,7 @@ pub fn compact_any_runs_with<
         RunsHoldLists (map arc_value runs.now) lists → AllByRecursion HaveEntries lists →
         IfErr result (λ e. CameUntil F.gives C.gets rules filter callback
         (ok_results (union_in lists)) writer O.says observer.old e observer.new) }
-    // Memory aside, the refusal is the first one of the filter or of the writer.
+    // Except for `OutOfMemory`, the error is the first one, of the filter or of the writer.
     ensures refused { (lists : List (List (List Entry))) →
         RunsHoldLists (map arc_value runs.now) lists → AllByRecursion HaveEntries lists →
         IfErr result (λ e. is_memory e ≡ false →
@@ -280,6 +344,12 @@ pub fn compact_any_runs_with<
     ensures taken { AreCompactable (map arc_value runs.now) →
         (lists : List (List (List Entry))) → RunsHoldLists (map arc_value runs.now) lists →
         RefusesForMemory F.gives → FitsKept writer rules (union_in lists) →
+        IfErr result (λ e. e ≡ OutOfMemory) }
+    // The same if only what this filter keeps fits, whatever else a filter might keep.
+    ensures fits { AreCompactable (map arc_value runs.now) →
+        (lists : List (List (List Entry))) → RunsHoldLists (map arc_value runs.now) lists →
+        RefusesForMemory F.gives →
+        FitsThroughout F.gives C.gets rules filter callback (union_in lists) writer →
         IfErr result (λ e. e ≡ OutOfMemory) }
 {
     // A list whose tables fit is taken whole.

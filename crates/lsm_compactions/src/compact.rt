@@ -2,24 +2,20 @@
 ghost use Rattle.std.specs.Prelude.{◌≡◌, ◌<◌, All, Err, IfErr, IfOk, List, OnOk, Some, false};
 ghost use Rattle.std.specs.Prelude.{length, map};
 ghost use Rattle.std.specs.Arc.{arc_value};
-ghost use Rattle.std.specs.List.{AllByRecursion, AllZip};
+ghost use Rattle.std.specs.List.{AllZip};
 ghost use Rattle.sst_entries.specs.Error.{is_memory};
 ghost use Rattle.sst_entries.specs.Stream.{first};
 ghost use Rattle.sst_entries.specs.declared.error.Error.TheVariants.{OutOfMemory};
-ghost use Rattle.lsm_merge.specs.Ends.{R};
-ghost use Rattle.lsm_merge.specs.InPlace.{merge_of};
-ghost use Rattle.lsm_merge.specs.Union.{Ascends, entries_among};
 ghost use Rattle.lsm_runs.specs.RunScan.{tables_scan};
-ghost use Rattle.lsm_lending.specs.LentCompaction.{lent_outs};
 ghost use Rattle.lsm_compactions.specs.ReadsCompacted.{PointsStay, RangesStay, SideBySide};
 ghost use Rattle.lsm_compactions.specs.ReadsCompacted.{StayStrict, StayWritable};
 ghost use Rattle.lsm_compactions.specs.Words.{AreCompactable, AreMergeable, AreWrittenBy};
-ghost use Rattle.lsm_compactions.specs.Words.{BeginsWith, CanDeal, DealTogether};
-ghost use Rattle.lsm_compactions.specs.Words.{DealsList, DealsResults, scans_of};
-ghost use Rattle.lsm_compactions.specs.Words.{DealsWritable, Entry, Faults, FitsBy, HaveEntries};
-ghost use Rattle.lsm_compactions.specs.Words.{HoldLists, IsFreshRun, RunsHoldLists, RunsOn};
-ghost use Rattle.lsm_compactions.specs.Words.{TablesWriting, TookList, joined, kept_in, nowhere};
-ghost use Rattle.lsm_compactions.specs.Words.{first_block_fault, rules_by, writes_fault};
+ghost use Rattle.lsm_compactions.specs.Words.{BeginsWith, CanDeal, DealTogether, DealsList};
+ghost use Rattle.lsm_compactions.specs.Words.{DealsResults, DealsWritable, Entry, Faults, FitsBy};
+ghost use Rattle.lsm_compactions.specs.Words.{HaveEntries, HoldLists, IsFreshRun, RunsHoldLists};
+ghost use Rattle.lsm_compactions.specs.Words.{RunsOn, TablesWriting, TookList, first_block_fault};
+ghost use Rattle.lsm_compactions.specs.Words.{first_blocks_fault, joined, kept_in, nowhere};
+ghost use Rattle.lsm_compactions.specs.Words.{rules_by, scans_of, writes_fault};
 
 use lsm_lending::LendingMerger;
 use lsm_lending::compaction::lending::LendingCompaction;
@@ -70,6 +66,8 @@ pub(crate) fn scanners_of<A: Allocator + Clone>(
         (scans_of (map arc_value runs.now))) }
     ensures told { IfErr result (λ e. is_memory e ≡ false →
         BeginsWith (map arc_value runs.now) e) }
+    // It loads the first data block of each run, in their order.
+    ensures opens { Faults result (first_blocks_fault (map arc_value runs.now)) }
 {
     let mut scanners = Vec::new(alloc);
     for run in runs {
@@ -85,8 +83,8 @@ pub(crate) fn scanners_of<A: Allocator + Clone>(
 /// generic in streams.
 pub(crate) type Compacted<L, F, C, A> = LendingCompaction<LendingMerger<L, A>, F, C, A>;
 
-/// The same without a filter and a callback.
-pub(crate) type Kept<L, A> = Compacted<L, NoFilter, NoCallback, A>;
+// The same without a filter and a callback.
+type Kept<L, A> = Compacted<L, NoFilter, NoCallback, A>;
 
 // What is kept of all entries of some sources together, in order. It is generic in these, so that
 // none of a scanner's parts is looked at.
@@ -104,13 +102,6 @@ fn kept_from<L: Lending + Drop, A: Allocator + Clone>(
         (lists : List (List (List Entry))) →
         DealTogether L.advances nowhere sources.items (map joined lists) →
         IfOk result (DealsList advances nowhere (kept_in rules lists)) }
-    // Of any results that come in order from each source, what is kept of them together.
-    ensures any { let advances =
-        ⟦<Kept<L, A> as Lending>⟧.advances in
-        (lists : List (List R)) →
-        AllZip (λ s rs. DealsResults L.advances rs s) sources.items lists →
-        AllByRecursion (λ rs. Ascends (entries_among rs)) lists →
-        IfOk result (DealsResults advances (lent_outs rules (merge_of lists))) }
     ensures err { IfErr result (λ e. e ≡ OutOfMemory) }
 {
     let own = alloc.clone()?;
@@ -119,7 +110,7 @@ fn kept_from<L: Lending + Drop, A: Allocator + Clone>(
 }
 
 // What is kept of all entries of the runs together, in order where the runs may be merged.
-pub(crate) fn kept_of<A: Allocator + Clone>(
+fn kept_of<A: Allocator + Clone>(
     alloc: A,
     runs: &[Arc<Run<Table<A>, A>, A>],
     rules: Rules,
@@ -133,14 +124,6 @@ pub(crate) fn kept_of<A: Allocator + Clone>(
         (able : AreMergeable (map arc_value runs.now)) →
         IfOk result (DealsList advances nowhere (kept_in rules able.lists)) }
     ensures err { AreMergeable (map arc_value runs.now) → IfErr result (λ e. e ≡ OutOfMemory) }
-    // So of any tables whose scans come in order in each run.
-    ensures any { let advances =
-        ⟦<Kept<RunScanner<A>, A> as Lending>⟧.advances in
-        let scans = scans_of (map arc_value runs.now) in
-        AllByRecursion (λ rs. Ascends (entries_among rs)) scans →
-        IfOk result (DealsResults advances (lent_outs rules (merge_of scans))) }
-    ensures told { IfErr result (λ e. is_memory e ≡ false →
-        BeginsWith (map arc_value runs.now) e) }
 {
     let scanners = scanners_of(alloc.clone()?, runs)?;
     kept_from(alloc, scanners, rules)

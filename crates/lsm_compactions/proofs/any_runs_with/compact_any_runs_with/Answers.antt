@@ -1,20 +1,20 @@
-use Rattle.std.proofs.Common.{◌≡◌, ◌∙◌, ap, inl, sym, subst, false, List, []}
+use Rattle.std.proofs.Common.{◌∙◌, ap, inl, refl, sym, subst, List, []}
 use Rattle.std.specs.Prelude.{◌⊎◌, map}
 use Rattle.std.specs.Arc.{arc_value}
 use Rattle.sst_entries.specs.Entry.{Entry}
-use Rattle.sst_entries.specs.Error.{is_memory}
+use Rattle.sst_entries.proofs.Refusals.{faults_refusal}
 use Rattle.sst_entries.specs.Stream.{ok_results}
 use Rattle.sst_entries.specs.declared.error.Error.{Error}
 use Rattle.lsm_merge.specs.InPlace.{merge_of}
 use Rattle.lsm_lending.specs.LentCompaction.{lent_callback, lent_filter}
 use Rattle.lsm_writers.specs.Tables.{TablesWriting}
-use Rattle.lsm_compactions.specs.AnyRuns.{BeginsWith, scans_of}
+use Rattle.lsm_compactions.specs.AnyRuns.{BeginsWith, first_blocks_fault, scans_of}
 use Rattle.lsm_compactions.specs.Compacted.{RunsOn, merged_as}
-use Rattle.lsm_compactions.specs.Filtered.{CameTo, CameUntil, FitsKept, RefusesBy}
+use Rattle.lsm_compactions.specs.Filtered.{CameTo, CameUntil, FitsThroughout}
 use Rattle.lsm_runs.specs.SeveralRuns.{union_in}
 use Rattle.lsm_runs.proofs.OneList.{one_way}
-use Rattle.lsm_compactions.proofs.FilteredCame.{came_none, came_or_begun, came_to, came_until, came_up, err_any, err_passed, match_err, memory_passed, memory_unless, refuses_by}
-use Rattle.lsm_compactions.proofs.FilteredFits.{fits_all}
+use Rattle.lsm_compactions.proofs.FilteredCame.{came_none, came_or_begun, came_to, came_until, came_up, err_any, err_passed, match_err, refuses_by}
+use Rattle.lsm_compactions.proofs.FilteredFits.{fits_all, fits_any}
 use Rattle.lsm_compactions.proofs.Observing.{told_nothing}
 use Rattle.lsm_compactions.proofs.RunWriting.{wants}
 use Rattle.lsm_compactions.proofs.TookList.{err_at, ok_at}
@@ -43,11 +43,19 @@ returns-in_err-source-clause-any g c ascend =
 pub returns-in_err-source-clause-refused : goal.returns-in_err-source-clause-refused
 returns-in_err-source-clause-refused g c lists held some =
     let a = c.args in
-    let r = c.from_residual in
-    memory_passed (λ (e : Error). RefusesBy g.F.LentFilter.gives g.C.LentCallback.gets a.rules a.filter a.callback (ok_results (union_in lists)) a.writer e) r.result c.in_err-source.field-0.0 r.ensures.1 (c.in_err-source.ensures.err (record { lists = lists; hold = held; some = some }))
+    refuses_by g.F.LentFilter.gives g.C.LentCallback.gets a.rules a.filter a.callback (ok_results (union_in lists)) a.writer g.O.CompactionObserver.says a.observer.now a.observer.now c.from_residual.result (returns-in_err-source-clause-until g c lists held some)
+
+pub returns-in_err-source-clause-opens : goal.returns-in_err-source-clause-opens
+returns-in_err-source-clause-opens g c some =
+    (faults_refusal c.from_residual.result c.in_err-source.field-0.0 (first_blocks_fault (map arc_value c.args.runs.now)) c.from_residual.ensures.1 c.in_err-source.ensures.opens, refl)
 
 pub returns-in_err-source-clause-taken : goal.returns-in_err-source-clause-taken
 returns-in_err-source-clause-taken g c able lists held calm fits =
+    let r = c.from_residual in
+    wants r.result c.in_err-source.field-0.0 r.ensures.1 (c.in_err-source.ensures.err (merged_as able))
+
+pub returns-in_err-source-clause-fits : goal.returns-in_err-source-clause-fits
+returns-in_err-source-clause-fits g c able lists held calm fits =
     let r = c.from_residual in
     wants r.result c.in_err-source.field-0.0 r.ensures.1 (c.in_err-source.ensures.err (merged_as able))
 
@@ -80,39 +88,42 @@ returns-in_err-outcome-clause-any g c ascend =
 pub returns-in_err-outcome-clause-refused : goal.returns-in_err-outcome-clause-refused
 returns-in_err-outcome-clause-refused g c lists held some =
     let a = c.args in
-    let r = c.from_residual-in_err-outcome in
-    let f = c.in_err-outcome.field-0.0 in
-    let q = c.write_observed-written.new.observer in
-    let xs = ok_results (union_in lists) in
-    err_passed (λ (e : Error). is_memory e ≡ false → RefusesBy g.F.LentFilter.gives g.C.LentCallback.gets a.rules a.filter a.callback xs a.writer e) r.result f r.ensures.1
-    (refuses_by _ g.F.LentFilter.gives g.C.LentCallback.gets a.rules a.filter a.callback lent_filter lent_callback c.in_ok-source.source a.writer xs (c.in_ok-source.ensures.list (record { lists = lists; hold = held; some = some })) g.O.CompactionObserver.says a.observer.now q f (err_at _ c.write_observed-written.result _ c.in_err-outcome.was c.write_observed-written.ensures.refused))
+    refuses_by g.F.LentFilter.gives g.C.LentCallback.gets a.rules a.filter a.callback (ok_results (union_in lists)) a.writer g.O.CompactionObserver.says a.observer.now c.write_observed-written.new.observer c.from_residual-in_err-outcome.result (returns-in_err-outcome-clause-until g c lists held some)
+
+pub returns-in_err-outcome-clause-opens : goal.returns-in_err-outcome-clause-opens
+returns-in_err-outcome-clause-opens g c some = absurd (some c.in_ok-source.ensures.opens)
+
+pub returns-in_err-outcome-clause-fits : goal.returns-in_err-outcome-clause-fits
+returns-in_err-outcome-clause-fits g c able lists held calm fits =
+    let a = c.args in
+    let next : RunsOn c.args.writer = subst RunsOn c.writer.view_is (c.writer.invariant (ap (λ (w : TablesWriting). w.failed) c.writer.view_is ∙ c.requires.fresh.2)).next in
+    let same = one_way (map arc_value a.runs.now) able.lists lists able.hold held in
+    let kept = subst (λ (ls : List (List (List Entry))). FitsThroughout g.F.LentFilter.gives g.C.LentCallback.gets a.rules a.filter a.callback (union_in ls) a.writer) (sym same) fits in
+    fits_all g.F.LentFilter.gives g.C.LentCallback.gets a.rules a.filter a.callback a.writer (union_in able.lists) able.writable c.tables_law.ensures.takes c.requires.fresh next calm kept g.O.CompactionObserver.says a.observer.now c.write_observed-written.new.observer c.from_residual-in_err-outcome.result (returns-in_err-outcome-clause-until g c able.lists able.hold able.some)
 
 pub returns-in_err-outcome-clause-taken : goal.returns-in_err-outcome-clause-taken
 returns-in_err-outcome-clause-taken g c able lists held calm fits =
     let a = c.args in
-    let r = c.from_residual-in_err-outcome in
-    let f = c.in_err-outcome.field-0.0 in
-    let next : RunsOn c.args.writer = subst RunsOn c.writer.view_is (c.writer.invariant (ap (λ (w : TablesWriting). w.failed) c.writer.view_is ∙ c.requires.fresh.2)).next in
-    let same = one_way (map arc_value a.runs.now) able.lists lists able.hold held in
-    let kept = subst (λ (ls : List (List (List Entry))). FitsKept a.writer a.rules (union_in ls)) (sym same) fits in
-    wants r.result f r.ensures.1 (memory_unless f
-    (λ fine. fits_all _ g.F.LentFilter.gives g.C.LentCallback.gets a.rules a.filter a.callback lent_filter lent_callback c.in_ok-source.source a.writer (union_in able.lists) (c.in_ok-source.ensures.list (merged_as able)) able.writable c.tables_law.ensures.takes c.requires.fresh next calm kept g.O.CompactionObserver.says a.observer.now c.write_observed-written.new.observer f (err_at _ c.write_observed-written.result _ c.in_err-outcome.was c.write_observed-written.ensures.refused) fine))
-
-pub returns-clause-kept : goal.returns-clause-kept
-returns-clause-kept g c able lists held =
-    let a = c.args in
-    subst (λ (ls : List (List (List Entry))). CameTo g.F.LentFilter.gives g.C.LentCallback.gets a.rules a.filter a.callback (union_in ls) a.writer c.in_ok-outcome.outcome c.into_callback-callback.result) (one_way (map arc_value a.runs.now) able.lists lists able.hold held)
-    (came_to _ g.F.LentFilter.gives g.C.LentCallback.gets a.rules a.filter a.callback lent_filter lent_callback c.in_ok-source.source a.writer (union_in able.lists) (c.in_ok-source.ensures.list (merged_as able)) able.writable g.O.CompactionObserver.says a.observer.now c.in_ok-outcome.outcome c.write_observed-written.new.source c.write_observed-written.new.observer c.into_callback-callback.result c.into_callback-callback.ensures (ok_at _ c.write_observed-written.result _ c.in_ok-outcome.was c.write_observed-written.ensures.written))
+    returns-in_err-outcome-clause-fits g c able lists held calm (fits_any g.F.LentFilter.gives g.C.LentCallback.gets a.rules a.filter a.callback (union_in lists) a.writer fits)
 
 pub returns-clause-merged : goal.returns-clause-merged
 returns-clause-merged g c lists held some =
     let a = c.args in
     came_up _ g.F.LentFilter.gives g.C.LentCallback.gets a.rules a.filter a.callback lent_filter lent_callback c.in_ok-source.source a.writer (ok_results (union_in lists)) (c.in_ok-source.ensures.list (record { lists = lists; hold = held; some = some })) g.O.CompactionObserver.says a.observer.now c.in_ok-outcome.outcome c.write_observed-written.new.source c.write_observed-written.new.observer c.into_callback-callback.result c.into_callback-callback.ensures (ok_at _ c.write_observed-written.result _ c.in_ok-outcome.was c.write_observed-written.ensures.written)
 
+pub returns-clause-kept : goal.returns-clause-kept
+returns-clause-kept g c able lists held =
+    let a = c.args in
+    subst (λ (ls : List (List (List Entry))). CameTo g.F.LentFilter.gives g.C.LentCallback.gets a.rules a.filter a.callback (union_in ls) a.writer c.in_ok-outcome.outcome c.into_callback-callback.result) (one_way (map arc_value a.runs.now) able.lists lists able.hold held)
+    (came_to g.F.LentFilter.gives g.C.LentCallback.gets a.rules a.filter a.callback (union_in able.lists) a.writer g.O.CompactionObserver.says a.observer.now c.write_observed-written.new.observer able.writable c.in_ok-outcome.outcome c.into_callback-callback.result (returns-clause-merged g c able.lists able.hold able.some))
+
 pub returns-clause-any : goal.returns-clause-any
 returns-clause-any g c ascend =
     let a = c.args in
     came_up _ g.F.LentFilter.gives g.C.LentCallback.gets a.rules a.filter a.callback lent_filter lent_callback c.in_ok-source.source a.writer (merge_of (scans_of (map arc_value a.runs.now))) (c.in_ok-source.ensures.any ascend) g.O.CompactionObserver.says a.observer.now c.in_ok-outcome.outcome c.write_observed-written.new.source c.write_observed-written.new.observer c.into_callback-callback.result c.into_callback-callback.ensures (ok_at _ c.write_observed-written.result _ c.in_ok-outcome.was c.write_observed-written.ensures.written)
+
+pub returns-clause-opens : goal.returns-clause-opens
+returns-clause-opens g c some = absurd (some c.in_ok-source.ensures.opens)
 
 pub returns-clause-made : goal.returns-clause-made
 returns-clause-made g c = ok_at _ c.write_observed-written.result _ c.in_ok-outcome.was c.write_observed-written.ensures.made

@@ -61,7 +61,7 @@ returns-in_err-goes_on-clause-refused g c =
     err_passed (λ (e : Error). RefusesWritten next c.args.writer.now c.args.source.now says c.args.observer.now e c.write_and_tell.new.observer) c.from_residual-in_err-goes_on.result f c.from_residual-in_err-goes_on.ensures.1
     (subst (λ q. RefusesWritten next c.args.writer.now c.args.source.now says c.args.observer.now f q) (sym c.in_err-goes_on.ensures.still)
     (refused_so next says c.args.writer.now c.args.source.now c.args.observer.now l.writer l.source l.source l.progress l.observer l.invariant.observing c.requires.fresh f
-    (λ fine. inl (failed_entry next says c.args.writer.now c.args.source.now c.args.observer.now l.writer l.source c.advance.new.self l.progress l.observer l.invariant.observing (entry_of_ref c.in-Some.entry) step f (c.in_err-goes_on.ensures.refused fine)))))
+    (λ fine. inl (failed_entry next says c.args.writer.now c.args.source.now c.args.observer.now l.writer l.source c.advance.new.self l.progress l.observer l.invariant.observing (entry_of_ref c.in-Some.entry) l.invariant.took (sym c.can_follow_ref.ensures ∙ c.if-not-can_follow_ref.false) step f (c.in_err-goes_on.ensures.refused fine)))))
 
 pub returns-then-not-goes_on-clause-took : goal.returns-then-not-goes_on-clause-took
 returns-then-not-goes_on-clause-took g c =

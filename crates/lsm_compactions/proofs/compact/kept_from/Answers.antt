@@ -1,6 +1,5 @@
 use Rattle.sst_entries.specs.Stream.{nowhere}
 use Rattle.lsm_runs.specs.SeveralRuns.{union_in}
-use Rattle.lsm_compactions.proofs.AnyScans.{kept_merged}
 use Rattle.lsm_compactions.proofs.Scanners.{kept_lent, merged_together}
 use Rattle.lsm_compactions.proofs.compact.kept_from.Goals as goal
 
@@ -9,7 +8,3 @@ returns-clause-list g c lists together =
     let m = c.in_ok-merger.merger in
     kept_lent _ _ m c.args.rules (union_in lists) c.new-2.result c.new-2.ensures.kept
     (merged_together g.L.Lending.advances nowhere _ nowhere lists c.args.sources.items m together c.in_ok-merger.ensures.deals)
-
-pub returns-clause-any : goal.returns-clause-any
-returns-clause-any g c lists deal ascend =
-    kept_merged g.L.Lending.advances _ _ c.args.sources.items lists c.in_ok-merger.merger c.args.rules c.new-2.result c.in_ok-merger.ensures.places c.new-2.ensures.places deal ascend

@@ -1,4 +1,3 @@
-use Rattle.lsm_compactions.proofs.FilteredCame.{memory_tells}
 use Rattle.lsm_compactions.proofs.Scanners.{scan_asked}
 use Rattle.lsm_runs.proofs.Together.{all_of}
 use Rattle.lsm_compactions.proofs.compact.kept_of.Goals as goal
@@ -10,9 +9,3 @@ returns-clause-can g c =
 
 pub returns-clause-list : goal.returns-clause-list
 returns-clause-list g c able = c.kept_from.ensures.list able.lists (c.in_ok-scanners.ensures.list able)
-
-pub returns-clause-any : goal.returns-clause-any
-returns-clause-any g c ascend = c.kept_from.ensures.any _ c.in_ok-scanners.ensures.any ascend
-
-pub returns-clause-told : goal.returns-clause-told
-returns-clause-told g c = memory_tells _ c.kept_from.result c.kept_from.ensures.err

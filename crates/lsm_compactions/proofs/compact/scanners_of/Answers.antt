@@ -3,10 +3,11 @@ use Rattle.std.specs.Prelude.{map}
 use Rattle.std.specs.Arc.{arc_value}
 use Rattle.sst_entries.specs.Error.{is_memory}
 use Rattle.sst_entries.specs.declared.error.Error.{Error}
+use Rattle.sst_entries.proofs.Refusals.{faults_refusal}
 use Rattle.sst_entries.specs.Stream.{nowhere}
 use Rattle.lsm_runs.specs.RunScan.{RunScansNext}
 use Rattle.lsm_compactions.specs.AnyRuns.{BeginsWith}
-use Rattle.lsm_compactions.proofs.AnyScans.{loads_more, no_block, no_table, scan_all, scan_begins, scan_more, scan_passed, some_table}
+use Rattle.lsm_compactions.proofs.AnyScans.{blocks_fail, loads_all, loads_more, no_block, no_table, scan_all, scan_begins, scan_more, scan_passed, some_table}
 use Rattle.lsm_compactions.proofs.FilteredCame.{err_passed}
 use Rattle.lsm_compactions.proofs.RunWriting.{wants}
 use Rattle.lsm_compactions.proofs.Scanners.{own_fact, own_tables, scanned_all, scanned_more}
@@ -67,3 +68,11 @@ returns-in_err-scanner_of-clause-told g c =
 
 pub returns-clause-any : goal.returns-clause-any
 returns-clause-any g c = scan_all arc_value RunScansNext c.args.runs.now c.loop-run.scanners.items c.loop-run.run-index c.loop-run.invariant.any c.loop-run-test.false
+
+pub returns-in_err-scanner_of-clause-opens : goal.returns-in_err-scanner_of-clause-opens
+returns-in_err-scanner_of-clause-opens g c =
+    faults_refusal c.from_residual.result c.in_err-scanner_of.field-0.0 _ c.from_residual.ensures.1
+    (λ fine. blocks_fail arc_value RunScansNext c.args.runs.now c.loop-run.run-index c.run-item.result c.loop-run-test.true c.run-item.is c.in_err-scanner_of.field-0.0 c.loop-run.invariant.loads (c.in_err-scanner_of.ensures.opens fine))
+
+pub returns-clause-opens : goal.returns-clause-opens
+returns-clause-opens g c = loads_all arc_value RunScansNext c.args.runs.now c.loop-run.run-index c.loop-run.invariant.loads c.loop-run-test.false
