@@ -9,7 +9,10 @@ mod run_scanner;
 mod runs;
 mod sources;
 
-pub use lent_gets::{RunPlace, entry_in_runs, get_runs_ref, place_in_runs};
+pub use lent_gets::{
+    RunPlace, entry_in_runs, get_runs_ref, get_runs_ref_counted, place_in_runs,
+    place_in_runs_counted,
+};
 pub use lent_runs::{LentNewestOf, LentNewestOfRunsAt, lend_runs_at};
 pub use lsm_run_parts::share;
 pub use run_reader::RunReader;
