@@ -148,14 +148,18 @@ fn handles_after(
     }
 }
 
-// Sets the bounds of entries.
-fn set_bounds(iter: &mut Iter, range: (Bound<UserKey>, Bound<UserKey>)) {
-    match range.0 {
+// Sets a lower bound, where there is one.
+fn set_lower(iter: &mut Iter, lower: Bound<UserKey>) {
+    match lower {
         Bound::Included(key) => iter.set_lower_bound(Edge::Included(key)),
         Bound::Excluded(key) => iter.set_lower_bound(Edge::Excluded(key)),
         Bound::Unbounded => {}
     }
-    match range.1 {
+}
+
+// Sets an upper bound, where there is one.
+fn set_upper(iter: &mut Iter, upper: Bound<UserKey>) {
+    match upper {
         Bound::Included(key) => iter.set_upper_bound(Edge::Included(key)),
         Bound::Excluded(key) => iter.set_upper_bound(Edge::Excluded(key)),
         Bound::Unbounded => {}
@@ -165,11 +169,12 @@ fn set_bounds(iter: &mut Iter, range: (Bound<UserKey>, Bound<UserKey>)) {
 // The entries of a table within bounds, over its handles after some calls.
 fn resumed_in(table: &Table, by: (Global, &Resumed, bool)) -> Result<Iter, Error> {
     let (alloc, resumed, loaded) = by;
-    let range = owned_range(alloc, resumed.1)?;
+    let (lower, upper) = owned_range(alloc, resumed.1)?;
     let handles = handles_after(table, &resumed.0, loaded)?;
     let source = BlockSource::new(alloc, table.bytes()?)?;
     let mut iter = Iter::new(0, &source, handles, CompressionType::None)?;
-    set_bounds(&mut iter, range);
+    set_lower(&mut iter, lower);
+    set_upper(&mut iter, upper);
     Ok(iter)
 }
 
