@@ -6,6 +6,7 @@ use logpurple::{
     get_runs_counted, get_runs_ref, place_in_runs, read_run,
 };
 use lsm_ranges::Run;
+use lsm_runs::{get_runs_ref_counted, place_in_runs_counted};
 use sst_blocks::{Error, InternalValue, Opened, SeqNo, ValueType};
 use std::alloc::Global;
 use test_tables::large::{add, asked_with};
@@ -59,11 +60,19 @@ fn is_placed(
     }
 }
 
-// Whether a read of all runs finds that, by value, borrowed and by its place.
+// Whether a read of all runs finds that, by value, borrowed and by its place, with the loads
+// counted and without.
 fn is_found_each_way(runs: &[Tables<Global>], key: &[u8], bound: SeqNo, wanted: &Found) -> bool {
-    let found = get_runs(runs, key, bound);
-    lends_same(&found, &get_runs_ref(runs, key, bound))
+    let (found, opened) = get_runs_counted(runs, key, bound);
+    let (lent, lent_opened) = get_runs_ref_counted(runs, key, bound);
+    let (place, place_opened) = place_in_runs_counted(runs, key, bound);
+    lent_opened == opened
+        && place_opened == opened
+        && lends_same(&found, &lent)
+        && is_placed(runs, place, &found)
+        && lends_same(&found, &get_runs_ref(runs, key, bound))
         && is_placed(runs, place_in_runs(runs, key, bound), &found)
+        && lends_same(&get_runs(runs, key, bound), &lent)
         && number_of(found) == *wanted
 }
 
