@@ -46,12 +46,13 @@ module _ (rs : List Run) (ts : List (List OpenTable)) (same : run_tables rs ≡ 
   held = subst (λ (us : List (List OpenTable)). RunsHoldLists us (lists_of rs)) same (runs_held rs)
 
   -- a read of the runs' tables answers the first match in the sorted entries of all lists
-  pub point_gives : (result : Result (Option Entry) Error) (key : List ℕ) (bound : ℕ)
+  pub point_gives : {X : Type 0} (view : X → Option Entry) (result : Result X Error) (key : List ℕ)
+      (bound : ℕ)
       → ((lists : List (List (List Entry))) → RunsHoldLists ts lists
-      → Gives (λ (x : Option Entry). x) result (Ok (point (union_in lists) key bound)))
-      → Gives (λ (x : Option Entry). x) result (Ok (point (union rs) key bound))
-  point_gives result key bound reads =
-      subst (λ (es : List Entry). Gives (λ (x : Option Entry). x) result (Ok (point es key bound)))
+      → Gives view result (Ok (point (union_in lists) key bound)))
+      → Gives view result (Ok (point (union rs) key bound))
+  point_gives view result key bound reads =
+      subst (λ (es : List Entry). Gives view result (Ok (point es key bound)))
       (union_same rs) (reads (lists_of rs) held)
 
   -- a range of them deals the newest of what lies within the bounds

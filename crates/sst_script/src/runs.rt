@@ -11,7 +11,7 @@ ghost use Rattle.sst_script.specs.Words.{nowhere, point, within};
 
 use lsm_ranges::Run;
 use lsm_readers::Table;
-use lsm_runs::{get_runs, range_runs};
+use lsm_runs::{get_runs, get_runs_ref, range_runs};
 use lsm_sorted::NewestOf;
 use sst_blocks::{Error, InternalValue, IterItem, SeqNo, Slice, UserKey};
 use std::alloc::Allocator;
@@ -160,6 +160,6 @@ fn has_entry<A: Allocator + Clone>(
     ensures { ForRuns (map arc_value runs.now) (λ rs.
         Gives (λ (held : Bool). held) result (Ok (has_entry (union rs) key.now seqno))) }
 {
-    let found = get_runs(runs, key, seqno + 1)?;
-    Ok(found.is_some_and(|item| item.key.seqno == seqno))
+    let found = get_runs_ref(runs, key, seqno + 1)?;
+    Ok(found.is_some_and(|entry| entry.seqno == seqno))
 }
