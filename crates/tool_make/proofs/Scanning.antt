@@ -2,12 +2,15 @@
 use Rattle.std.proofs.Common.{◌≡◌, refl, sym, ◌∙◌, ap, subst, ℕ, ◌+◌, Bool, true, false, List, []}
 use Rattle.std.proofs.Common.{◌∷◌, ◌<◌, inl, inr, arith, length, true≢false}
 use Rattle.std.specs.Prelude.{◌≢◌, ◌&&◌, IfOk, IfSome, IsOk, OnOk, Option, Some, None, Result, Ok}
-use Rattle.std.specs.Prelude.{Err, is_ok}
+use Rattle.std.specs.Prelude.{Err, is_ok, is_some}
 use Rattle.std.specs.List.{AllByRecursion}
+use Rattle.std.specs.Option.{option_map}
 use Rattle.std.proofs.lemmas.Bool.{cases_Bool}
 use Rattle.sst_sections.specs.Sections.{body_of}
 use Rattle.sst_entries.specs.Entry.{Entry}
 use Rattle.sst_entries.specs.Error.{is_memory}
+use Rattle.sst_entries.specs.Lending.{came}
+use Rattle.sst_entries.specs.Point.{read_place}
 use Rattle.sst_entries.specs.declared.error.Error.{Error}
 use Rattle.sst_entries.specs.declared.error.Error.TheVariants.{OutOfMemory}
 use Rattle.sst_entries.specs.Stream.{answer_stops, first, nowhere, ok_results, up_to_error}
@@ -77,6 +80,27 @@ module _ {S : Type 0} (gives : S → Option R → S → Type 0) where
       absurd (none_some (sym (deals_front (answer_stops (λ e. true)) gives nowhere s (r ∷ rs) None t
       (d (λ e. true) refl) step refl).0))
 
+-- ---- what is lent
+
+module _ {S : Type 0} (gives : S → Option R → S → Type 0) where
+  -- an entry came, which is lent
+  pub came_entry : (s t : S) (lent : Option Entry) (more : Bool) → more ≡ is_some lent → more ≡ true
+      → gives s (came (Ok more) lent) t → (x : Entry) × gives s (Some (Ok x)) t
+  came_entry s t (Some x) more is so step = (x, step)
+  came_entry s t None more is so step = absurd (true≢false (sym so ∙ is))
+
+  -- none came
+  pub came_nothing : (s t : S) (lent : Option Entry) (more : Bool) → more ≡ is_some lent
+      → more ≡ false → gives s (came (Ok more) lent) t → gives s None t
+  came_nothing s t (Some x) more is not step = absurd (true≢false (sym is ∙ not))
+  came_nothing s t None more is not step = step
+
+  -- what is lent came
+  pub came_lent : (s t : S) (lent told : Option Entry) → told ≡ lent
+      → gives s (option_map (λ e. Ok e) lent) t → gives s (option_map (λ e. Ok e) told) t
+  came_lent s t lent told is step =
+      subst (λ (o : Option Entry). gives s (option_map (λ e. Ok e) o) t) (sym is) step
+
 -- ---- refusals among results
 
 -- the first result is the first refusal
@@ -142,24 +166,40 @@ unfolding is_strict_after
 order_step last x rest others are =
     ap (λ (l : List R). is_strict_after last (entries_among (up_to_error l))) are
 
+-- the key and the number of the entry before are all that counts
+order_seen : (x : Entry) (es : List Entry)
+    → is_strict_after (Some x) es ≡ is_strict_after (Some (read_place x.user_key x.seqno)) es
+unfolding is_strict_after
+order_seen x [] = refl
+order_seen x (e ∷ es) = refl
+
+-- what the test of an entry told, by the key that was kept
+pub test_told : (key given : List ℕ) (last : Option ℕ) (x : Entry) (told so : Bool) → given ≡ key
+    → told ≡ may_follow (option_map (read_place given) last) x → told ≡ so
+    → may_follow (option_map (read_place key) last) x ≡ so
+test_told key given last x told so same says is =
+    ap (λ (k : List ℕ). may_follow (option_map (read_place k) last) x) (sym same) ∙ sym says ∙ is
+
 -- one more entry may follow
-pub order_more : (last seen : Option Entry) (x : Entry) (rest others : List R) (told : Bool)
-    → seen ≡ last → told ≡ may_follow seen x → told ≡ true → rest ≡ Ok x ∷ others
+pub order_more : (last : Option Entry) (x : Entry) (key : List ℕ) (n : ℕ) (rest others : List R)
+    → may_follow last x ≡ true → rest ≡ Ok x ∷ others → key ≡ x.user_key → n ≡ x.seqno
     → is_strict_after last (entries_among (up_to_error rest))
-    ≡ is_strict_after (Some x) (entries_among (up_to_error others))
-order_more last seen x rest others told same says may are =
+    ≡ is_strict_after (Some (read_place key n)) (entries_among (up_to_error others))
+order_more last x key n rest others may are same_key same_number =
+    let es = entries_among (up_to_error others) in
     order_step last x rest others are
-    ∙ ap (λ (b : Bool). b && is_strict_after (Some x) (entries_among (up_to_error others)))
-    (ap (λ (l : Option Entry). may_follow l x) (sym same) ∙ sym says ∙ may)
+    ∙ ap (λ (b : Bool). b && is_strict_after (Some x) es) may
+    ∙ order_seen x es
+    ∙ sym (ap (λ (k : List ℕ). is_strict_after (Some (read_place k n)) es) same_key
+    ∙ ap (λ (m : ℕ). is_strict_after (Some (read_place x.user_key m)) es) same_number)
 
 -- one may not
-pub order_broken : (last seen : Option Entry) (x : Entry) (rest others : List R) (told : Bool)
-    → seen ≡ last → told ≡ may_follow seen x → told ≡ false → rest ≡ Ok x ∷ others
+pub order_broken : (last : Option Entry) (x : Entry) (rest others : List R)
+    → may_follow last x ≡ false → rest ≡ Ok x ∷ others
     → is_strict_after last (entries_among (up_to_error rest)) ≡ false
-order_broken last seen x rest others told same says not are =
+order_broken last x rest others not are =
     order_step last x rest others are
-    ∙ ap (λ (b : Bool). b && is_strict_after (Some x) (entries_among (up_to_error others)))
-    (ap (λ (l : Option Entry). may_follow l x) (sym same) ∙ sym says ∙ not)
+    ∙ ap (λ (b : Bool). b && is_strict_after (Some x) (entries_among (up_to_error others))) not
 
 entries_back : (es : List Entry) → entries_among (up_to_error (ok_results es)) ≡ es
 entries_back [] = refl

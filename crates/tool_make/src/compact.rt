@@ -139,7 +139,11 @@ fn blame_file<'a, A: Allocator + Copy>(
 }
 
 // Which file has entries out of order; where none has, a key has one number twice.
-fn blame_order<'a, A: Allocator + Copy>(paths: &[&'a str], tables: &[Table<A>]) -> CompactError<'a>
+fn blame_order<'a, A: Allocator + Copy>(
+    alloc: A,
+    paths: &[&'a str],
+    tables: &[Table<A>],
+) -> CompactError<'a>
     ensures none { BlamesNone result }
     ensures memory { BlamesNoneForMemory result }
     ensures misses { MissesNone tables.now result }
@@ -148,7 +152,7 @@ fn blame_order<'a, A: Allocator + Copy>(paths: &[&'a str], tables: &[Table<A>]) 
     ensures names { NamesOrder paths.now tables.now result }
 {
     for (place, table) in tables.iter().enumerate() {
-        match has_order(table) {
+        match has_order(alloc, table) {
             Ok(true) => {}
             Ok(false) => return CompactError::OutOfOrder(path_at(paths, place)),
             // Which file it is stays unknown.
@@ -239,7 +243,7 @@ fn compact_opened<'a, A: Allocator + Copy>(
     };
     match finished(outcome) {
         Some(tables) => Ok(NewTables { tables, entries }),
-        None => Err(blame_order(paths, tables)),
+        None => Err(blame_order(alloc, paths, tables)),
     }
 }
 

@@ -1,29 +1,34 @@
 //! Tables that are read whole, to find which is at fault.
 ghost use Rattle.std.specs.Prelude.{◌≡◌, ◌<◌, IfErr, IfOk, IfSome, IsOk, List, OnOk, Some, false};
 ghost use Rattle.std.specs.Prelude.{length, true};
+ghost use Rattle.std.specs.Option.{option_map};
 ghost use Rattle.lsm_compactions.specs.AnyRuns.{DealsResults};
 ghost use Rattle.lsm_merge.specs.Ends.{R};
-ghost use Rattle.lsm_readers.specs.Scan.{ScansNext};
+ghost use Rattle.lsm_readers.specs.Scan.{ScansLent};
 ghost use Rattle.lsm_runs.specs.RunScan.{early_scan_fault, table_scan};
+ghost use Rattle.sst_entries.specs.Lending.{entry_of_ref};
+ghost use Rattle.sst_entries.specs.Point.{read_place};
+ghost use Rattle.sst_entries.specs.Strict.{may_follow};
 ghost use Rattle.sst_entries.specs.declared.error.Error.{Error as Refusal};
 ghost use Rattle.logpurple.specs.Words.{Entry, OutOfMemory, StoresList, is_memory};
 ghost use Rattle.tool_make.specs.Scanned.{IsFirstRefusal, come_in_order};
 
-use logpurple::{Error, InternalValue, Scanner, Table};
+use logpurple::{EntryRef, Error, Lending, Scanner, SeqNo, Table, compare_versions};
 use std::alloc::Allocator;
 
 // The first refusal among entries.
 fn first_refusal<A: Allocator + Clone>(items: &mut Scanner<A>) -> Option<Error>
     // Memory aside, it is the first of those that come, and none where none comes.
-    ensures first { (rs : List R) → DealsResults ScansNext rs items.old →
+    ensures first { (rs : List R) → DealsResults ScansLent rs items.old →
         IsFirstRefusal rs result }
 {
-    while let Some(item) = items.next() {
-        if let Err(error) = item {
-            return Some(error);
+    loop {
+        match items.advance() {
+            Ok(true) => {}
+            Ok(false) => return None,
+            Err(error) => return Some(error),
         }
     }
-    None
 }
 
 // Whether entries that came in order up to an error do so up to the first that cannot be read: they
@@ -40,25 +45,50 @@ fn ended_by(error: Error) -> Result<bool, Error>
     Ok(true)
 }
 
+// Whether an entry may follow the one before it, if there was one with this key and number.
+fn may_follow(key: &[u8], last: Option<SeqNo>, entry: &EntryRef<'_>) -> bool
+    ensures { result ≡
+        may_follow (option_map (read_place key.now) last) (entry_of_ref entry.now) }
+{
+    match last {
+        None => true,
+        Some(seqno) => compare_versions(key, seqno, entry.user_key, entry.seqno).is_lt(),
+    }
+}
+
+// Replaces the bytes of a buffer. It fails with `OutOfMemory` alone.
+fn put_bytes<A: Allocator>(buffer: &mut Vec<u8, A>, bytes: &[u8]) -> Result<(), Error>
+    ensures put { IfOk result (λ _. buffer.new.items ≡ bytes.now) }
+    ensures memory { IfErr result (λ e. e ≡ OutOfMemory) }
+{
+    buffer.clear();
+    buffer.extend_from_slice(bytes)?;
+    Ok(())
+}
+
 // Whether entries come in order, up to the first that cannot be read. Refused for want of memory
 // alone.
-fn is_in_order<A: Allocator + Clone>(items: &mut Scanner<A>) -> Result<bool, Error>
-    ensures order { (rs : List R) → DealsResults ScansNext rs items.old →
+fn is_in_order<A: Allocator + Copy>(alloc: A, items: &mut Scanner<A>) -> Result<bool, Error>
+    ensures order { (rs : List R) → DealsResults ScansLent rs items.old →
         IfOk result (λ b. b ≡ come_in_order rs) }
     ensures memory { IfErr result (λ e. e ≡ OutOfMemory) }
 {
-    let mut last: Option<InternalValue<A>> = None;
-    while let Some(item) = items.next() {
-        let item = match item {
-            Ok(item) => item,
-            Err(error) => return ended_by(error),
+    // An entry is borrowed until the next step, so its key is copied here.
+    let mut key = Vec::new(alloc);
+    let mut last = None;
+    loop {
+        if let Err(error) = items.advance() {
+            return ended_by(error);
+        }
+        let Some(entry) = items.entry() else {
+            return Ok(true);
         };
-        if !item.may_follow(last.as_ref()) {
+        if !may_follow(&key, last, &entry) {
             return Ok(false);
         }
-        last = Some(item);
+        last = Some(entry.seqno);
+        put_bytes(&mut key, entry.user_key)?;
     }
-    Ok(true)
 }
 
 /// The first refusal of reading a table whole.
@@ -83,7 +113,7 @@ pub(crate) fn refusal_of<A: Allocator + Copy>(table: &Table<A>) -> Option<Error>
 
 /// Whether the entries of a table come in order, up to the first that cannot be read. Refused for
 /// want of memory alone.
-pub(crate) fn has_order<A: Allocator + Copy>(table: &Table<A>) -> Result<bool, Error>
+pub(crate) fn has_order<A: Allocator + Copy>(alloc: A, table: &Table<A>) -> Result<bool, Error>
     ensures order { IfOk result (λ b. b ≡ come_in_order (table_scan table.now)) }
     // Where its bytes store a list, they do.
     ensures list { (es : List Entry) → StoresList table.now.bytes es →
@@ -94,7 +124,7 @@ pub(crate) fn has_order<A: Allocator + Copy>(table: &Table<A>) -> Result<bool, E
 {
     match table.scan() {
         Ok(mut items) => {
-            let told = is_in_order(&mut items);
+            let told = is_in_order(alloc, &mut items);
             drop(items);
             told
         }

@@ -3,13 +3,13 @@ use Rattle.std.specs.Prelude.{List}
 use Rattle.lsm_compactions.specs.AnyRuns.{DealsResults}
 use Rattle.lsm_merge.specs.Ends.{R}
 use Rattle.lsm_merge.specs.Union.{errors_among}
-use Rattle.lsm_readers.specs.Scan.{ScansNext, scan_size}
+use Rattle.lsm_readers.specs.Scan.{ScansLent, scan_size}
 use Rattle.tool_make.proofs.scanned.first_refusal.Given as goal
 
-abbrev pub invariant-loop-item : goal.invariant-loop-item
-invariant-loop-item g l = (rs : List R) → DealsResults ScansNext rs l.fn.items
-    → (rest : List R) × DealsResults ScansNext rest l.items
+abbrev pub invariant-loop-error : goal.invariant-loop-error
+invariant-loop-error g l = (rs : List R) → DealsResults ScansLent rs l.fn.items
+    → (rest : List R) × DealsResults ScansLent rest l.items
     × (errors_among rs ≡ errors_among rest)
 
-abbrev pub decreases-loop-item : goal.decreases-loop-item
-decreases-loop-item g l = scan_size l.items
+abbrev pub decreases-loop-error : goal.decreases-loop-error
+decreases-loop-error g l = scan_size l.items

@@ -1,18 +1,21 @@
 use Rattle.std.proofs.Common.{◌≡◌}
 use Rattle.std.specs.Prelude.{List}
+use Rattle.std.specs.Option.{option_map}
+use Rattle.sst_entries.specs.Point.{read_place}
 use Rattle.sst_entries.specs.Stream.{up_to_error}
 use Rattle.sst_entries.specs.Strict.{is_strict_after}
 use Rattle.lsm_compactions.specs.AnyRuns.{DealsResults}
 use Rattle.lsm_merge.specs.Ends.{R}
 use Rattle.lsm_merge.specs.Union.{entries_among}
-use Rattle.lsm_readers.specs.Scan.{ScansNext, scan_size}
+use Rattle.lsm_readers.specs.Scan.{ScansLent, scan_size}
 use Rattle.tool_make.specs.Scanned.{come_in_order}
 use Rattle.tool_make.proofs.scanned.is_in_order.Given as goal
 
-abbrev pub invariant-loop-item : goal.invariant-loop-item
-invariant-loop-item g l = (rs : List R) → DealsResults ScansNext rs l.fn.items
-    → (rest : List R) × DealsResults ScansNext rest l.items
-    × (come_in_order rs ≡ is_strict_after l.last (entries_among (up_to_error rest)))
+abbrev pub invariant-loop-error : goal.invariant-loop-error
+invariant-loop-error g l = (rs : List R) → DealsResults ScansLent rs l.fn.items
+    → (rest : List R) × DealsResults ScansLent rest l.items
+    × (come_in_order rs
+    ≡ is_strict_after (option_map (read_place l.key.items) l.last) (entries_among (up_to_error rest)))
 
-abbrev pub decreases-loop-item : goal.decreases-loop-item
-decreases-loop-item g l = scan_size l.items
+abbrev pub decreases-loop-error : goal.decreases-loop-error
+decreases-loop-error g l = scan_size l.items

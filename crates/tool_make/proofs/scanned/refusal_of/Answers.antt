@@ -8,12 +8,12 @@ use Rattle.tool_make.proofs.scanned.refusal_of.Goals as goal
 
 pub returns-in-Ok-clause-first : goal.returns-in-Ok-clause-first
 returns-in-Ok-clause-first g c =
-    c.first_refusal-refusal.ensures.first (table_scan c.args.table.now) c.in-Ok.ensures.deals
+    c.first_refusal-refusal.ensures.first (table_scan c.args.table.now) c.in-Ok.ensures.lends
 
 pub returns-in-Ok-clause-list : goal.returns-in-Ok-clause-list
 returns-in-Ok-clause-list g c = λ es stored some.
     let lifted = lift es c.args.table.now.global_seqno in
-    only_memory lifted c.first_refusal-refusal.result (c.first_refusal-refusal.ensures.first (ok_results lifted) (c.in-Ok.ensures.list es stored))
+    only_memory lifted c.first_refusal-refusal.result (c.first_refusal-refusal.ensures.first (ok_results lifted) (c.in-Ok.ensures.lends_list es stored))
 
 pub returns-in-Err-clause-first : goal.returns-in-Err-clause-first
 returns-in-Err-clause-first g c = λ other.
