@@ -4,12 +4,14 @@ ghost use Rattle.std.specs.Prelude.{IsSomeAnd, None, Ok, Option, Some, false, is
 ghost use Rattle.std.specs.Arc.{arc_value};
 ghost use Rattle.std.specs.Io.KnownBytes.{Appends};
 ghost use Rattle.std.specs.List.{AllByRecursion, flat_map};
+ghost use Rattle.std.specs.Option.{option_map};
 ghost use Rattle.lsm_ranges.specs.Run.{IsInOrder};
 ghost use Rattle.lsm_runs.specs.RunLists.{RunsHoldLists};
 ghost use Rattle.lsm_runs.specs.RunParts.{range_of};
 ghost use Rattle.lsm_runs.specs.SeveralRuns.{runs_told, union_in};
 ghost use Rattle.sst_entries.specs.Entry.{Entry};
 ghost use Rattle.sst_entries.specs.Error.{is_memory};
+ghost use Rattle.sst_entries.specs.Lending.{entry_of_ref};
 ghost use Rattle.sst_entries.specs.Point.{point};
 ghost use Rattle.sst_entries.specs.declared.error.Error.{Error as Refusal};
 ghost use Rattle.sst_entries.specs.declared.error.Error.TheVariants.{OutOfMemory};
@@ -26,8 +28,8 @@ use crate::loads::loaded_by;
 use crate::{NamedTable, ShowError};
 use lsm_ranges::{Ranged, Run};
 use lsm_readers::Table;
-use lsm_runs::get_runs_counted;
-use sst_blocks::{Error, InternalValue, SeqNo};
+use lsm_runs::get_runs_ref;
+use sst_blocks::{EntryRef, Error, SeqNo};
 use std::alloc::Allocator;
 use std::io::Write;
 use std::sync::Arc;
@@ -90,17 +92,44 @@ pub fn get<'a, A: Allocator + Copy, W: Write>(
         IfErr result NamesNone }
 {
     let runs = runs_of(alloc, files)?;
-    let seqno = seen_below(options);
-    let read = get_runs_counted(&runs, options.key, seqno).0;
+    let is_there = print_read(alloc, output, &runs, files, options)?;
     drop(runs);
-    let found = match read {
-        Ok(found) => found,
-        Err(error) => return Err(refused_in(alloc, error, files, options.key, seqno)),
-    };
-    let is_there = found.is_some();
-    print_found(alloc, output, found, options.format)?;
     print_loads(alloc, output, files, options)?;
     Ok(is_there)
+}
+
+// Prints the version that a reader sees in the runs of files, borrowed from its table, and returns
+// whether there is one.
+fn print_read<'a, A: Allocator + Copy, W: Write>(
+    alloc: A,
+    output: &mut W,
+    runs: &[Arc<Run<Table<A>, A>, A>],
+    files: &[NamedTable<'a, A>],
+    options: &GetOptions<'_>,
+) -> Result<bool, ShowError<'a>>
+    ensures told { AllByRecursion (IsInOrder range_of) (map arc_value runs.now) →
+        IfOk result (λ there. (found : Option Entry)
+        × (runs_told options.now.key.now (seen_below options.now) None (map arc_value runs.now)
+        ≡ Ok found) × (there ≡ is_some found) × PrintsFound options.now.format found
+        (W.contents output.old) (W.contents output.new)) }
+    ensures list { (lists : List (List (List Entry))) →
+        RunsHoldLists (map arc_value runs.now) lists → IfOk result (λ there.
+        let found = point (union_in lists) options.now.key.now (seen_below options.now) in
+        (there ≡ is_some found) × PrintsFound options.now.format found
+        (W.contents output.old) (W.contents output.new)) }
+    ensures named { IfErr result
+        (NamesFaulty options.now.key.now (seen_below options.now) files.now) }
+    ensures sound { (lists : List (List (List Entry))) →
+        RunsHoldLists (map arc_value runs.now) lists → IfErr result NamesNone }
+{
+    let seqno = seen_below(options);
+    match get_runs_ref(runs, options.key, seqno) {
+        Ok(found) => {
+            print_found(alloc, output, &found, options.format)?;
+            Ok(found.is_some())
+        }
+        Err(error) => Err(refused_in(alloc, error, files, options.key, seqno)),
+    }
 }
 
 // The number below which a version is seen.
@@ -200,10 +229,10 @@ fn refusal_of<A: Allocator + Copy>(table: &Table<A>, key: &[u8], seqno: SeqNo) -
 fn print_found<'a, A: Allocator + Copy, W: Write>(
     alloc: A,
     output: &mut W,
-    found: Option<InternalValue<A>>,
+    found: &Option<EntryRef<'_>>,
     format: Format,
 ) -> Result<(), ShowError<'a>>
-    ensures printed { OnOk result (PrintsFound format found
+    ensures printed { OnOk result (PrintsFound format (option_map entry_of_ref found.now)
         (W.contents output.old) (W.contents output.new)) }
     ensures unnamed { IfErr result NamesNone }
 {
@@ -212,8 +241,8 @@ fn print_found<'a, A: Allocator + Copy, W: Write>(
             output.write_all(absent_line(format))?;
             Ok(())
         }
-        Some(item) => {
-            let text = append_entry(alloc, Vec::new(alloc), &item.as_entry_ref(), format)?;
+        Some(entry) => {
+            let text = append_entry(alloc, Vec::new(alloc), entry, format)?;
             output.write_all(&text)?;
             Ok(())
         }

@@ -1,35 +1,51 @@
-use Rattle.std.proofs.Common.{◌≡◌, rules, subst}
-use Rattle.std.specs.Prelude.{None, Ok, Option}
-use Rattle.lsm_runs.specs.SeveralRuns.{runs_told, union_in}
-use Rattle.sst_entries.specs.Entry.{Entry}
-use Rattle.sst_entries.specs.Point.{point}
+use Rattle.std.proofs.Common.{◌≡◌, ◌∙◌, List, ap, map, subst, sym}
+use Rattle.std.specs.Prelude.{None}
+use Rattle.std.specs.Arc.{arc_value}
+use Rattle.std.specs.List.{AllByRecursion}
+use Rattle.lsm_ranges.specs.Run.{IsInOrder}
+use Rattle.lsm_readers.specs.Table.{OpenTable}
+use Rattle.lsm_runs.specs.RunLists.{RunsHoldLists}
+use Rattle.lsm_runs.specs.RunParts.{range_of}
+use Rattle.lsm_runs.specs.SeveralRuns.{runs_told}
 use Rattle.tool_show.specs.Files.{runs_in}
-use Rattle.tool_show.specs.Lines.{PrintsText}
-use Rattle.tool_show.specs.Printed.{IsAnswer, PrintsFound, seen_below}
+use Rattle.tool_show.specs.Printed.{seen_below}
 use Rattle.tool_show.proofs.TextLemmas.{answer_text}
 use Rattle.tool_show.proofs.gets.get.Goals as goal
 
+pub returns-clause-told : goal.returns-clause-told
+returns-clause-told g c = λ order.
+    let same : map arc_value c.deref.result.now ≡ runs_in c.args.files.now
+    = ap (map arc_value) c.deref.ensures.value ∙ c.in_ok-runs.ensures.ok in
+    let read = c.in_ok-is_there.ensures.told
+    (subst (λ (ts : List (List OpenTable)). AllByRecursion (IsInOrder range_of) ts) (sym same) order)
+    in
+    (read.0, ap (runs_told c.args.options.now.key.now (seen_below c.args.options.now) None) (sym same) ∙ read.1, read.2)
+
 pub returns-clause-shown : goal.returns-clause-shown
 returns-clause-shown g c = λ order.
-    let o = c.args.options.now in
-    let told : runs_told o.key.now (seen_below o) None (runs_in c.args.files.now) ≡ Ok c.in-Ok.found
-    = search (rules, c.get_runs_counted-read.ensures.told) in
-    let line : PrintsFound o.format c.in-Ok.found (g.W.Write.contents c.args.output.now)
-    (g.W.Write.contents c.print_found.new.output) = search rules in (
-      c.in-Ok.found,
-      told,
-      answer_text o c.args.files.now c.in-Ok.found _ _ _ line c.in_ok-print_loads.ensures.printed,
+    let same : map arc_value c.deref.result.now ≡ runs_in c.args.files.now
+    = ap (map arc_value) c.deref.ensures.value ∙ c.in_ok-runs.ensures.ok in
+    let read = c.in_ok-is_there.ensures.told
+    (subst (λ (ts : List (List OpenTable)). AllByRecursion (IsInOrder range_of) ts) (sym same) order)
+    in (
+      read.0,
+      ap (runs_told c.args.options.now.key.now (seen_below c.args.options.now) None) (sym same) ∙ read.1,
+      answer_text c.args.options.now c.args.files.now read.0 _ _ _ read.3
+          c.in_ok-print_loads.ensures.printed,
     )
+
+pub returns-clause-found : goal.returns-clause-found
+returns-clause-found g c = λ lists hold.
+    let same : map arc_value c.deref.result.now ≡ runs_in c.args.files.now
+    = ap (map arc_value) c.deref.ensures.value ∙ c.in_ok-runs.ensures.ok in
+    (c.in_ok-is_there.ensures.list lists
+    (subst (λ (ts : List (List OpenTable)). RunsHoldLists ts lists) (sym same) hold)).0
 
 pub returns-clause-printed : goal.returns-clause-printed
 returns-clause-printed g c = λ lists hold.
-    let o = c.args.options.now in
-    let old = g.W.Write.contents c.args.output.now in
-    let new = g.W.Write.contents c.print_loads.new.output in
-    let is : c.in-Ok.found ≡ point (union_in lists) o.key.now (seen_below o)
-    = search (rules, c.get_runs_counted-read.ensures.list lists) in
-    let line : PrintsFound o.format c.in-Ok.found old
-    (g.W.Write.contents c.print_found.new.output) = search rules in
-    subst (λ (found : Option Entry). PrintsText (IsAnswer o c.args.files.now found) old new) is
-    (answer_text o c.args.files.now c.in-Ok.found old _ new line
-    c.in_ok-print_loads.ensures.printed)
+    let same : map arc_value c.deref.result.now ≡ runs_in c.args.files.now
+    = ap (map arc_value) c.deref.ensures.value ∙ c.in_ok-runs.ensures.ok in
+    answer_text c.args.options.now c.args.files.now _ _ _ _
+    (c.in_ok-is_there.ensures.list lists
+    (subst (λ (ts : List (List OpenTable)). RunsHoldLists ts lists) (sym same) hold)).1
+    c.in_ok-print_loads.ensures.printed
