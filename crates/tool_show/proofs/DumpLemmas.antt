@@ -1,10 +1,11 @@
 -- Entries that are printed one after another.
 use Rattle.std.proofs.Common.{◌≡◌, refl, sym, ◌∙◌, ap, subst, Bool, true, false, ℕ, zero, suc}
 use Rattle.std.proofs.Common.{List, [], ◌∷◌, ◌++◌, ◌+◌, ◌-◌, ◌<◌, ◌≤◌, append_assoc, append-nil}
-use Rattle.std.proofs.Common.{arith}
+use Rattle.std.proofs.Common.{arith, true≢false}
 use Rattle.std.proofs.Common.{length, reverse, take}
 use Rattle.std.proofs.lemmas.List.{length-append, length-map, map-append, reverse-reverse, take-map}
-use Rattle.std.specs.Prelude.{Option, None, Some, Result, Ok, Err, IfOk, OnOk}
+use Rattle.std.specs.Prelude.{Option, None, Some, Result, Ok, Err, IfErr, IfOk, OnOk}
+use Rattle.std.specs.Result.{IsErrAnd}
 use Rattle.std.proofs.KnownBytes.{Appends-nil, Appends-trans}
 use Rattle.sst_entries.specs.declared.error.Error.{Error}
 use Rattle.sst_entries.specs.Entry.{Entry}
@@ -15,8 +16,11 @@ use Rattle.sst_entries.proofs.StreamLemmas.{can_after_back, can_front, deals_bac
 use Rattle.sst_entries.proofs.StreamLemmas.{map_reverse}
 use Rattle.lsm_block_indexes.specs.Dealt.{DealsEnding, ended_at_error}
 use Rattle.tool_lines.specs.declared.entry_line.Format.{Format}
+use Rattle.tool_show.specs.Failures.{BlamesNoFile, FailsAs, IfRefusal}
+use Rattle.tool_show.specs.declared.error.Failure.{Failure}
+use Rattle.tool_show.specs.declared.error.Failure.TheVariants as failure
 use Rattle.tool_show.specs.Printed.{AreLinesOf, DealsTo, IsLineOf, PrintsLine, PrintsLines}
-use Rattle.tool_show.specs.Printed.{PrintsResults, Outcome, dumped, in_turn}
+use Rattle.tool_show.specs.Printed.{PrintsResults, ShowsItem, Outcome, dumped, in_turn}
 
 -- a line more behind others
 lines_more : (format : Format) (es : List Entry) (e : Entry) (text line : List ℕ)
@@ -363,3 +367,94 @@ may_go_on front back can can_back s t false r may front_step back_step =
     can_front front back can can_back s r t may (front_step refl)
 may_go_on front back can can_back s t true r may front_step back_step =
     can_after_back front back can can_back s r t may (back_step refl)
+
+-- ---- one item, asked for and shown
+
+no_answer : (f : Failure) (b : Bool) (r : Result Bool Failure) → r ≡ Err f → r ≡ Ok b → ⊥
+no_answer f b r is not = cc
+
+same_answer : (a b : Bool) (r : Result Bool Failure) → r ≡ Ok a → r ≡ Ok b → a ≡ b
+same_answer a b r is same = cc
+
+same_failure : (f g : Failure) (r : Result Bool Failure) → r ≡ Err f → r ≡ Err g → f ≡ g
+same_failure f g r is same = cc
+
+-- what blames no file fails as anything is told
+pub none_fails : (f : Failure) (IsTold : Error → Type 0) → BlamesNoFile f → FailsAs IsTold f
+none_fails (failure.Output error) IsTold none = tt
+none_fails (failure.Refused error) IsTold none =
+    λ other. absurd (true≢false (sym none ∙ other))
+
+-- and is no refusal of a file
+pub none_refused : (f : Failure) (Holds : Type 0) → BlamesNoFile f → IfRefusal Holds f
+none_refused (failure.Output error) Holds none = tt
+none_refused (failure.Refused error) Holds none =
+    λ other. absurd (true≢false (sym none ∙ other))
+
+module _ {S : Type 0} (front back : S → Option Outcome → S → Type 0) (s t : S) (from_end : Bool)
+    (format : Format) (old new : Option (List ℕ)) where
+  -- a call gave this item
+  pub record Gave (item : Option Outcome) : Type 0 where
+    pub at_front : from_end ≡ false → front s item t
+    pub at_back : from_end ≡ true → back s item t
+
+  abbrev pub ShowsNext : Result Bool Failure → Type 0
+  ShowsNext r = (item : Option Outcome) × (from_end ≡ false → front s item t)
+      × (from_end ≡ true → back s item t) × ShowsItem format item r old new
+
+  gave_next : (r : Result Bool Failure) (next : ShowsNext r) → Gave next.0
+  gave_next r next = record { at_front = next.1; at_back = next.2 }
+
+  -- it gave an entry, whose line was printed
+  pub record ShowsOne : Type 0 where
+    pub entry : Entry
+    pub gave : Gave (Some (Ok entry))
+    pub line : PrintsLine format entry old new
+
+  entry_by : (item : Option Outcome) (more : Bool) → more ≡ true → Gave item
+      → ShowsItem format item (Ok more) old new → ShowsOne
+  entry_by None more is gave shown =
+      absurd (true≢false (sym is ∙ same_answer more false (Ok more) refl shown.0))
+  entry_by (Some (Ok e)) more is gave shown = record { entry = e; gave = gave; line = shown.1 }
+  entry_by (Some (Err e)) more is gave shown =
+      absurd (no_answer (failure.Refused e) more (Ok more) shown.0 refl)
+
+  pub shows_one : (more : Bool) → more ≡ true → ShowsNext (Ok more) → ShowsOne
+  shows_one more is next = entry_by next.0 more is (gave_next (Ok more) next) next.3
+
+  -- it gave nothing
+  pub record ShowsEnd : Type 0 where
+    pub gave : Gave None
+    pub stays : new ≡ old
+
+  end_by : (item : Option Outcome) (more : Bool) → more ≡ false → Gave item
+      → ShowsItem format item (Ok more) old new → ShowsEnd
+  end_by None more is gave shown = record { gave = gave; stays = shown.1 }
+  end_by (Some (Ok e)) more is gave shown = absurd (true≢false (sym shown.0 ∙ is))
+  end_by (Some (Err e)) more is gave shown =
+      absurd (no_answer (failure.Refused e) more (Ok more) shown.0 refl)
+
+  pub shows_end : (more : Bool) → more ≡ false → ShowsNext (Ok more) → ShowsEnd
+  shows_end more is next = end_by next.0 more is (gave_next (Ok more) next) next.3
+
+  -- it gave an error
+  pub record ShowsError (error : Error) : Type 0 where
+    pub gave : Gave (Some (Err error))
+    pub stays : new ≡ old
+
+  error_item : (P : Failure → Type 0) (item : Option Outcome) (f : Failure)
+      → (BlamesNoFile f → P f) → ((e : Error) → ShowsError e → P (failure.Refused e)) → Gave item
+      → ShowsItem format item (Err f) old new → P f
+  error_item P None f none some gave shown = absurd (no_answer f false (Err f) refl shown.0)
+  error_item P (Some (Ok e)) f none some gave shown = none shown
+  error_item P (Some (Err e)) f none some gave shown =
+      subst P (sym (same_failure f (failure.Refused e) (Err f) refl shown.0))
+      (some e (record { gave = gave; stays = shown.1 }))
+
+  -- of a failure that is passed on, this holds where it blames no file, and where an error came
+  pub error_shown : {X : Type 0} (r : Result X Failure) (f : Failure) (P : Failure → Type 0)
+      → IsErrAnd r (λ x. x ≡ f) → (BlamesNoFile f → P f)
+      → ((e : Error) → ShowsError e → P (failure.Refused e)) → ShowsNext (Err f) → IfErr r P
+  error_shown (Ok x) f P is none some next = tt
+  error_shown (Err x) f P is none some next =
+      subst P (sym is) (error_item P next.0 f none some (gave_next (Err f) next) next.3)

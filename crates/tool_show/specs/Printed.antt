@@ -1,7 +1,8 @@
 -- What is printed.
 use denote.Ref.{Bor}
 use Rattle.std.specs.Prelude.{◌≡◌, List, [], ◌∷◌, ◌++◌, codes, ℕ, Bool, false, true, reverse, take}
-use Rattle.std.specs.Prelude.{Option, None, Result, Ok, Err, Some, ◌-◌, ◌^◌, if◌then◌else◌}
+use Rattle.std.specs.Prelude.{MatchResult, Option, None, Result, Ok, Err, Some, ◌-◌, ◌^◌}
+use Rattle.std.specs.Prelude.{if◌then◌else◌}
 use Rattle.std.specs.List.{flat_map}
 use Rattle.std.specs.Option.{option_map_or}
 use Rattle.std.specs.Io.KnownBytes.{Appends}
@@ -19,8 +20,11 @@ use Rattle.tool_lines.specs.ObjectLine.{WritesEntry}
 use Rattle.tool_lines.specs.WordLine.{word_line}
 use Rattle.tool_lines.specs.declared.entry_line.Format.{Format}
 use Rattle.tool_lines.specs.declared.entry_line.Format.TheVariants.{Json, Lines}
+use Rattle.tool_show.specs.Failures.{BlamesNoFile}
 use Rattle.tool_show.specs.Loads.{blocks_loaded, loads_line, loads_told}
 use Rattle.tool_show.specs.declared.dumps.DumpOptions.{DumpOptions}
+use Rattle.tool_show.specs.declared.error.Failure.{Failure}
+use Rattle.tool_show.specs.declared.error.Failure.TheVariants.{Refused}
 use Rattle.tool_show.specs.declared.gets.GetOptions.{GetOptions}
 use Rattle.tool_show.specs.declared.named.NamedTable.{NamedTable}
 
@@ -104,6 +108,15 @@ before_error (Err e ∷ rs) = []
 abbrev pub PrintsResults : Format → List Outcome → (old new : Option (List ℕ)) → Type 0
 PrintsResults format rs old new =
     (es : List Entry) × (rs ≡ ok_results es) × PrintsLines format es old new
+
+-- what showing an item returns and prints: false for none; an entry's line, unless writing it fails;
+-- and nothing for an error, which it returns
+abbrev pub ShowsItem : Format → Option Outcome → Result Bool Failure → (old new : Option (List ℕ))
+    → Type 0
+ShowsItem format None r old new = (r ≡ Ok false) × (new ≡ old)
+ShowsItem format (Some (Ok e)) r old new =
+    MatchResult r (λ more. (more ≡ true) × PrintsLine format e old new) BlamesNoFile
+ShowsItem format (Some (Err e)) r old new = (r ≡ Err (Refused e)) × (new ≡ old)
 
 -- up to its first error a source deals these results
 abbrev pub DealsTo : {S : Type 0} (front back : S → Option Outcome → S → Type 0) → List Outcome → S

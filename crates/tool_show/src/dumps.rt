@@ -1,6 +1,8 @@
 //! The entries of files, a line each.
-ghost use Rattle.std.specs.Prelude.{◌≡◌, ◌-◌, IfErr, IfOk, List, OnOk, Some, false, length, true};
+ghost use Rattle.std.specs.Prelude.{◌≡◌, ◌-◌, IfErr, IfOk, List, OnOk, Option, Some};
+ghost use Rattle.std.specs.Prelude.{false, length, true};
 ghost use Rattle.sst_entries.specs.Entry.{Entry};
+ghost use Rattle.sst_entries.specs.Lending.{entry_of_ref};
 ghost use Rattle.sst_entries.specs.Stream.{CanDeal};
 ghost use Rattle.lsm_block_indexes.specs.Dealt.{DealsEnding};
 ghost use Rattle.lsm_readers.specs.Stored.{StoresList};
@@ -8,13 +10,13 @@ ghost use Rattle.lsm_runs.specs.RunLists.{DealsList};
 ghost use Rattle.tool_show.specs.Failures.{BlamesNoFile, FailsAs, IfNamed, IfRefusal, NamesNone};
 ghost use Rattle.tool_show.specs.Failures.{NamesOnly};
 ghost use Rattle.tool_show.specs.Printed.{DealsTo, PrintsLine, PrintsLines, PrintsResults, Outcome};
-ghost use Rattle.tool_show.specs.Printed.{before_error, chosen, dumped, first_error, from_key};
+ghost use Rattle.tool_show.specs.Printed.{ShowsItem, before_error, chosen, dumped, first_error, from_key};
 ghost use Rattle.tool_show.specs.Printed.{readable, up_to_key};
 
 use crate::error::Failure;
 use crate::{NamedTable, ShowError};
 use lsm_readers::Table;
-use sst_blocks::{InternalValue, IterItem, Slice, UserKey};
+use sst_blocks::{EntryRef, IterItem, Lending, Slice, UserKey};
 use std::alloc::Allocator;
 use std::io::Write;
 use std::ops::Bound;
@@ -129,27 +131,31 @@ fn bounds_of<A: Allocator + Copy>(
 }
 
 // Generic in what has the entries, so that its parts are looked at once.
-fn dump_items<I: DoubleEndedIterator<Item = IterItem<A>> + Drop, A: Allocator + Copy, W: Write>(
+fn dump_items<
+    I: Lending + DoubleEndedIterator<Item = IterItem<A>> + Drop,
+    A: Allocator + Copy,
+    W: Write,
+>(
     alloc: A,
     output: &mut W,
     mut items: I,
     options: &DumpOptions<'_>,
     most: u64,
 ) -> Result<u64, Failure>
-    requires can { CanDeal I.next_gives I.next_back_gives I.can_next I.can_next_back items }
-    // The first of what is dealt are entries, and printed, or the last of it from the end on.
-    ensures printed { (rs : List Outcome) → DealsTo I.next_gives I.next_back_gives rs items →
+    requires can { CanDeal I.advances I.next_back_gives I.can_advance I.can_next_back items }
+    // It prints the first items, all of which are entries, or in reverse the last ones.
+    ensures printed { (rs : List Outcome) → DealsTo I.advances I.next_back_gives rs items →
         OnOk result (PrintsResults options.now.format (dumped options.now.reverse most rs)
         (W.contents output.old) (W.contents output.new)) }
-    ensures left { (rs : List Outcome) → DealsTo I.next_gives I.next_back_gives rs items →
+    ensures left { (rs : List Outcome) → DealsTo I.advances I.next_back_gives rs items →
         IfOk result (λ rest. rest ≡ most - length (dumped options.now.reverse most rs)) }
-    // A refusal is the first error of what is dealt up to that.
-    ensures refused { (rs : List Outcome) → DealsEnding I.next_gives I.next_back_gives
+    // It fails with the first error among these items.
+    ensures refused { (rs : List Outcome) → DealsEnding I.advances I.next_back_gives
         (λ _. Unit {0}) (λ _. Unit {0}) items rs →
         IfErr result (FailsAs (λ e. first_error (dumped options.now.reverse most rs) ≡ Some e)) }
-    ensures sound { (es : List Entry) → DealsList I.next_gives I.next_back_gives es items →
+    ensures sound { (es : List Entry) → DealsList I.advances I.next_back_gives es items →
         IfErr result BlamesNoFile }
-    ensures before { (rs : List Outcome) → DealsEnding I.next_gives I.next_back_gives
+    ensures before { (rs : List Outcome) → DealsEnding I.advances I.next_back_gives
         (λ _. Unit {0}) (λ _. Unit {0}) items rs →
         IfErr result (IfRefusal (PrintsLines options.now.format
         (before_error (dumped options.now.reverse most rs))
@@ -158,44 +164,84 @@ fn dump_items<I: DoubleEndedIterator<Item = IterItem<A>> + Drop, A: Allocator + 
     let mut left = most;
     // What stands behind the last of them is not read.
     while left > 0 {
-        match take_item(&mut items, options.reverse) {
-            None => return Ok(left),
-            Some(item) => print_entry(alloc, output, &item?, options.format)?,
+        if !print_item(alloc, output, &mut items, options)? {
+            return Ok(left);
         }
         left -= 1;
     }
     Ok(0)
 }
 
-// The next of what is left, or the last of it.
-fn take_item<I: DoubleEndedIterator<Item = IterItem<A>>, A: Allocator>(
+// Prints the next entry, or in reverse the last one, and returns whether there was one.
+fn print_item<I: Lending + DoubleEndedIterator<Item = IterItem<A>>, A: Allocator + Copy, W: Write>(
+    alloc: A,
+    output: &mut W,
     items: &mut I,
-    reverse: bool,
-) -> Option<IterItem<A>>
-    requires can { I.can_next items.old }
+    options: &DumpOptions<'_>,
+) -> Result<bool, Failure>
+    requires can { I.can_advance items.old }
     requires can_back { I.can_next_back items.old }
-    ensures front { reverse ≡ false → I.next_gives items.old result items.new }
-    ensures back { reverse ≡ true → I.next_back_gives items.old result items.new }
+    ensures { (item : Option Outcome)
+        × (options.now.reverse ≡ false → I.advances items.old item items.new)
+        × (options.now.reverse ≡ true → I.next_back_gives items.old item items.new)
+        × ShowsItem options.now.format item result
+        (W.contents output.old) (W.contents output.new) }
 {
-    if reverse {
-        items.next_back()
+    if options.reverse {
+        print_last(alloc, output, items, options.format)
     } else {
-        items.next()
+        print_next(alloc, output, items, options.format)
     }
+}
+
+// Prints the next entry, borrowed from its block.
+fn print_next<I: Lending, A: Allocator + Copy, W: Write>(
+    alloc: A,
+    output: &mut W,
+    items: &mut I,
+    format: Format,
+) -> Result<bool, Failure>
+    requires { I.can_advance items.old }
+    ensures { (item : Option Outcome) × I.advances items.old item items.new
+        × ShowsItem format item result (W.contents output.old) (W.contents output.new) }
+{
+    items.advance()?;
+    let Some(entry) = items.entry() else {
+        return Ok(false);
+    };
+    print_entry(alloc, output, &entry, format)?;
+    Ok(true)
+}
+
+// Prints the last entry, which a `DoubleEndedIterator` yields by value.
+fn print_last<I: DoubleEndedIterator<Item = IterItem<A>>, A: Allocator + Copy, W: Write>(
+    alloc: A,
+    output: &mut W,
+    items: &mut I,
+    format: Format,
+) -> Result<bool, Failure>
+    requires { I.can_next_back items.old }
+    ensures { (item : Option Outcome) × I.next_back_gives items.old item items.new
+        × ShowsItem format item result (W.contents output.old) (W.contents output.new) }
+{
+    let Some(item) = items.next_back() else {
+        return Ok(false);
+    };
+    print_entry(alloc, output, &item?.as_entry_ref(), format)?;
+    Ok(true)
 }
 
 fn print_entry<A: Allocator + Copy, W: Write>(
     alloc: A,
     output: &mut W,
-    item: &InternalValue<A>,
+    entry: &EntryRef<'_>,
     format: Format,
 ) -> Result<(), Failure>
-    ensures printed { OnOk result (PrintsLine format item.now
+    ensures printed { OnOk result (PrintsLine format (entry_of_ref entry.now)
         (W.contents output.old) (W.contents output.new)) }
     ensures sound { IfErr result BlamesNoFile }
 {
-    let entry = item.as_entry_ref();
-    let text = append_entry(alloc, Vec::new(alloc), &entry, format)?;
+    let text = append_entry(alloc, Vec::new(alloc), entry, format)?;
     output.write_all(&text)?;
     Ok(())
 }

@@ -1,12 +1,14 @@
-use Rattle.std.proofs.Common.{refl, true}
+use Rattle.std.proofs.Common.{◌≡◌, List, refl, subst, sym, true, ℕ}
+use Rattle.std.specs.Prelude.{Err, Ok, Option, Some}
 use Rattle.sst_entries.specs.Error.{is_memory}
 use Rattle.sst_entries.specs.Stream.{ok_results}
 use Rattle.sst_entries.proofs.StreamLemmas.{can_now, can_now_back}
-use Rattle.tool_show.proofs.DumpLemmas.{error_is_memory, line_printed, lines_before}
-use Rattle.tool_show.proofs.DumpLemmas.{may_go_on, no_line, prints_all, prints_end, prints_none}
-use Rattle.tool_show.proofs.DumpLemmas.{prints_one}
+use Rattle.tool_show.specs.Failures.{BlamesNoFile, FailsAs, IfRefusal}
+use Rattle.tool_show.specs.Printed.{PrintsLines, PrintsResults, before_error, dumped, first_error}
+use Rattle.tool_show.proofs.DumpLemmas.{error_is_memory, error_shown, line_printed, lines_before}
+use Rattle.tool_show.proofs.DumpLemmas.{may_go_on, no_line, none_fails, none_refused, prints_all}
+use Rattle.tool_show.proofs.DumpLemmas.{prints_end, prints_none, prints_one, shows_end, shows_one}
 use Rattle.tool_show.proofs.EndingLemmas.{comes_error, comes_none, comes_one, ends_up}
-use Rattle.tool_show.proofs.FileLemmas.{fails_as, if_refused, memory_blames_none}
 use Rattle.tool_show.proofs.dumps.dump_items.Goals as goal
 
 pub loop-left-init : goal.loop-left-init
@@ -17,82 +19,111 @@ loop-left-init g c = (
       (ends_up _ _ _ _ c.args.items rs deals) in (none.0, no_line _ none.0.came _ none.1),
 )
 
-pub take_item-requires-clause-can : goal.take_item-requires-clause-can
-take_item-requires-clause-can g c = can_now _ _ _ _ c.loop-left.items c.loop-left.invariant.0
+pub print_item-requires-clause-can : goal.print_item-requires-clause-can
+print_item-requires-clause-can g c = can_now _ _ _ _ c.loop-left.items c.loop-left.invariant.0
 
-pub take_item-requires-clause-can_back : goal.take_item-requires-clause-can_back
-take_item-requires-clause-can_back g c =
+pub print_item-requires-clause-can_back : goal.print_item-requires-clause-can_back
+print_item-requires-clause-can_back g c =
     can_now_back _ _ _ _ c.loop-left.items c.loop-left.invariant.0
 
 pub loop-left-preserved : goal.loop-left-preserved
-loop-left-preserved g c = (
-  may_go_on _ _ _ _ c.loop-left.items c.take_item.new.items c.args.options.now.reverse _ c.loop-left.invariant.0
-      c.in-Some.ensures.front c.in-Some.ensures.back,
-  λ stops rs deals. prints_one _ _ stops c.loop-left.items c.take_item.new.items c.args.options.now.reverse
-      c.loop-left.left _ _ c.in-Some.item c.in_ok-item-in-Some.field-0 _ _ _ _
-      c.loop-left-test.true c.in_ok-item-in-Some.was (c.loop-left.invariant.1 stops rs deals)
-      c.in-Some.ensures.front c.in-Some.ensures.back c.in_ok-print_entry-in-Some.ensures.printed,
-  λ rs deals.
-      let before = c.loop-left.invariant.2 rs deals in
-      let now = comes_one _ _ c.loop-left.items c.take_item.new.items c.args.options.now.reverse c.loop-left.left
-      c.in-Some.item c.in_ok-item-in-Some.field-0 _ c.loop-left-test.true c.in_ok-item-in-Some.was
-      before.0 c.in-Some.ensures.front c.in-Some.ensures.back in (
-        now.0,
-        line_printed _ before.0.came now.0.came c.in_ok-item-in-Some.field-0 _ _ _ now.1 before.1
-            c.in_ok-print_entry-in-Some.ensures.printed,
-      ),
-)
+loop-left-preserved g c =
+    let one = shows_one g.I.Lending.advances g.I.DoubleEndedIterator.next_back_gives c.loop-left.items
+    c.print_item.new.items c.args.options.now.reverse c.args.options.now.format
+    (g.W.Write.contents c.loop-left.output) (g.W.Write.contents c.print_item.new.output)
+    c.in_ok-print_item.field-0 c.if-not-branch.false c.in_ok-print_item.ensures in (
+      may_go_on _ _ _ _ c.loop-left.items c.print_item.new.items c.args.options.now.reverse
+          (Some (Ok one.entry)) c.loop-left.invariant.0 one.gave.at_front one.gave.at_back,
+      λ stops rs deals. prints_one _ _ stops c.loop-left.items c.print_item.new.items
+          c.args.options.now.reverse c.loop-left.left _ _ (Ok one.entry) one.entry _ _ _ _
+          c.loop-left-test.true refl (c.loop-left.invariant.1 stops rs deals) one.gave.at_front
+          one.gave.at_back one.line,
+      λ rs deals.
+          let before = c.loop-left.invariant.2 rs deals in
+          let now = comes_one _ _ c.loop-left.items c.print_item.new.items
+          c.args.options.now.reverse c.loop-left.left (Ok one.entry) one.entry _
+          c.loop-left-test.true refl before.0 one.gave.at_front one.gave.at_back in (
+            now.0,
+            line_printed _ before.0.came now.0.came one.entry _ _ _ now.1 before.1 one.line,
+          ),
+    )
 
-pub returns-in-None : goal.returns-in-None
-returns-in-None g c = record {
-  printed = λ rs deals. (prints_all _ _ (λ _. true) c.loop-left.items c.take_item.new.items
-      c.args.options.now.reverse c.loop-left.left _ _ _ _ _ (c.loop-left.invariant.1 (λ _. true) rs deals)
-      c.in-None.ensures.front c.in-None.ensures.back).0;
-  left = λ rs deals. (prints_all _ _ (λ _. true) c.loop-left.items c.take_item.new.items
-      c.args.options.now.reverse c.loop-left.left _ _ _ _ _ (c.loop-left.invariant.1 (λ _. true) rs deals)
-      c.in-None.ensures.front c.in-None.ensures.back).1;
-  refused = λ rs deals. tt;
-  sound = λ es deals. tt;
-  before = λ rs deals. tt;
-}
+pub returns-then-not-branch-clause-printed : goal.returns-then-not-branch-clause-printed
+returns-then-not-branch-clause-printed g c = λ rs deals.
+    let end = shows_end g.I.Lending.advances g.I.DoubleEndedIterator.next_back_gives c.loop-left.items
+    c.print_item.new.items c.args.options.now.reverse c.args.options.now.format
+    (g.W.Write.contents c.loop-left.output) (g.W.Write.contents c.print_item.new.output)
+    c.in_ok-print_item.field-0 c.if-not-branch.true c.in_ok-print_item.ensures in
+    subst (λ (known : Option (List ℕ)). PrintsResults c.args.options.now.format
+    (dumped c.args.options.now.reverse c.args.most rs) (g.W.Write.contents c.args.output.now) known)
+    (sym end.stays)
+    (prints_all _ _ (λ _. true) c.loop-left.items c.print_item.new.items
+    c.args.options.now.reverse c.loop-left.left _ _ _ _ _
+    (c.loop-left.invariant.1 (λ _. true) rs deals) end.gave.at_front end.gave.at_back).0
 
-pub returns : goal.returns
-returns g c = record {
-  printed = λ rs deals. (prints_end _ _ (λ _. true) c.loop-left.items c.args.options.now.reverse
-      c.loop-left.left _ _ _ _ _ c.loop-left-test.false
-      (c.loop-left.invariant.1 (λ _. true) rs deals)).0;
-  left = λ rs deals. (prints_end _ _ (λ _. true) c.loop-left.items c.args.options.now.reverse
-      c.loop-left.left _ _ _ _ _ c.loop-left-test.false
-      (c.loop-left.invariant.1 (λ _. true) rs deals)).1;
-  refused = λ rs deals. tt;
-  sound = λ es deals. tt;
-  before = λ rs deals. tt;
-}
+pub returns-then-not-branch-clause-left : goal.returns-then-not-branch-clause-left
+returns-then-not-branch-clause-left g c = λ rs deals.
+    let end = shows_end g.I.Lending.advances g.I.DoubleEndedIterator.next_back_gives c.loop-left.items
+    c.print_item.new.items c.args.options.now.reverse c.args.options.now.format
+    (g.W.Write.contents c.loop-left.output) (g.W.Write.contents c.print_item.new.output)
+    c.in_ok-print_item.field-0 c.if-not-branch.true c.in_ok-print_item.ensures in
+    (prints_all _ _ (λ _. true) c.loop-left.items c.print_item.new.items
+    c.args.options.now.reverse c.loop-left.left _ _ _ _ _
+    (c.loop-left.invariant.1 (λ _. true) rs deals) end.gave.at_front end.gave.at_back).1
 
-pub returns-in_err-item-in-Some-clause-sound : goal.returns-in_err-item-in-Some-clause-sound
-returns-in_err-item-in-Some-clause-sound g c = λ es deals.
-    memory_blames_none c.from_residual.result c.in_err-item-in-Some.field-0.0
-    c.from_residual.ensures.1
-    (error_is_memory _ _ c.loop-left.items c.take_item.new.items c.args.options.now.reverse c.loop-left.left _ _
-    c.in-Some.item c.in_err-item-in-Some.field-0.0 es _ _ c.loop-left-test.true
-    c.in_err-item-in-Some.was
+pub returns-clause-printed : goal.returns-clause-printed
+returns-clause-printed g c = λ rs deals.
+    (prints_end _ _ (λ _. true) c.loop-left.items c.args.options.now.reverse c.loop-left.left _ _ _
+    _ _ c.loop-left-test.false (c.loop-left.invariant.1 (λ _. true) rs deals)).0
+
+pub returns-clause-left : goal.returns-clause-left
+returns-clause-left g c = λ rs deals.
+    (prints_end _ _ (λ _. true) c.loop-left.items c.args.options.now.reverse c.loop-left.left _ _ _
+    _ _ c.loop-left-test.false (c.loop-left.invariant.1 (λ _. true) rs deals)).1
+
+pub returns-in_err-print_item-clause-sound : goal.returns-in_err-print_item-clause-sound
+returns-in_err-print_item-clause-sound g c = λ es deals.
+    let f = c.in_err-print_item.field-0.0 in
+    error_shown g.I.Lending.advances g.I.DoubleEndedIterator.next_back_gives c.loop-left.items
+    c.print_item.new.items c.args.options.now.reverse c.args.options.now.format
+    (g.W.Write.contents c.loop-left.output) (g.W.Write.contents c.print_item.new.output)
+    c.from_residual.result f BlamesNoFile c.from_residual.ensures.1 (λ none. none)
+    (λ e shown. error_is_memory _ _ c.loop-left.items c.print_item.new.items
+    c.args.options.now.reverse c.loop-left.left _ _ (Err e) e es _ _ c.loop-left-test.true refl
     (c.loop-left.invariant.1 is_memory (ok_results es) (deals is_memory refl))
-    c.in-Some.ensures.front c.in-Some.ensures.back)
+    shown.gave.at_front shown.gave.at_back)
+    c.in_err-print_item.ensures
 
-pub returns-in_err-item-in-Some-clause-refused : goal.returns-in_err-item-in-Some-clause-refused
-returns-in_err-item-in-Some-clause-refused g c = λ rs deals.
-    fails_as c.from_residual.result c.in_err-item-in-Some.field-0.0 _ c.from_residual.ensures.1
-    (λ other. (comes_error _ _ c.loop-left.items c.take_item.new.items c.args.options.now.reverse
-    c.loop-left.left c.in-Some.item c.in_err-item-in-Some.field-0.0 _ c.loop-left-test.true
-    c.in_err-item-in-Some.was other (c.loop-left.invariant.2 rs deals).0
-    c.in-Some.ensures.front c.in-Some.ensures.back).0)
+pub returns-in_err-print_item-clause-refused : goal.returns-in_err-print_item-clause-refused
+returns-in_err-print_item-clause-refused g c = λ rs deals.
+    let f = c.in_err-print_item.field-0.0 in
+    let read = dumped c.args.options.now.reverse c.args.most rs in
+    error_shown g.I.Lending.advances g.I.DoubleEndedIterator.next_back_gives c.loop-left.items
+    c.print_item.new.items c.args.options.now.reverse c.args.options.now.format
+    (g.W.Write.contents c.loop-left.output) (g.W.Write.contents c.print_item.new.output)
+    c.from_residual.result f (FailsAs (λ e. first_error read ≡ Some e)) c.from_residual.ensures.1
+    (none_fails f (λ e. first_error read ≡ Some e))
+    (λ e shown other. (comes_error _ _ c.loop-left.items c.print_item.new.items
+    c.args.options.now.reverse c.loop-left.left (Err e) e read c.loop-left-test.true refl other
+    (c.loop-left.invariant.2 rs deals).0 shown.gave.at_front shown.gave.at_back).0)
+    c.in_err-print_item.ensures
 
-pub returns-in_err-item-in-Some-clause-before : goal.returns-in_err-item-in-Some-clause-before
-returns-in_err-item-in-Some-clause-before g c = λ rs deals.
+pub returns-in_err-print_item-clause-before : goal.returns-in_err-print_item-clause-before
+returns-in_err-print_item-clause-before g c = λ rs deals.
+    let f = c.in_err-print_item.field-0.0 in
+    let old = g.W.Write.contents c.args.output.now in
+    let new = g.W.Write.contents c.print_item.new.output in
+    let read = dumped c.args.options.now.reverse c.args.most rs in
     let before = c.loop-left.invariant.2 rs deals in
-    if_refused c.from_residual.result c.in_err-item-in-Some.field-0.0 _ c.from_residual.ensures.1
-    (λ other. lines_before _ before.0.came _ _ _
-    (comes_error _ _ c.loop-left.items c.take_item.new.items c.args.options.now.reverse
-    c.loop-left.left c.in-Some.item c.in_err-item-in-Some.field-0.0 _ c.loop-left-test.true
-    c.in_err-item-in-Some.was other before.0 c.in-Some.ensures.front c.in-Some.ensures.back).1
-    before.1)
+    let Holds = PrintsLines c.args.options.now.format (before_error read) old new in
+    error_shown g.I.Lending.advances g.I.DoubleEndedIterator.next_back_gives c.loop-left.items
+    c.print_item.new.items c.args.options.now.reverse c.args.options.now.format
+    (g.W.Write.contents c.loop-left.output) (g.W.Write.contents c.print_item.new.output)
+    c.from_residual.result f (IfRefusal Holds) c.from_residual.ensures.1 (none_refused f Holds)
+    (λ e shown other. subst (λ (known : Option (List ℕ)). PrintsLines c.args.options.now.format
+    (before_error read) old known) (sym shown.stays)
+    (lines_before _ before.0.came _ _ _
+    (comes_error _ _ c.loop-left.items c.print_item.new.items c.args.options.now.reverse
+    c.loop-left.left (Err e) e read c.loop-left-test.true refl other before.0
+    shown.gave.at_front shown.gave.at_back).1 before.1))
+    c.in_err-print_item.ensures

@@ -10,18 +10,18 @@ use Rattle.tool_show.proofs.dumps.dump_items.Given as goal
 
 abbrev pub invariant-loop-left : goal.invariant-loop-left
 invariant-loop-left g l =
-    CanDeal g.I.Iterator.next_gives g.I.DoubleEndedIterator.next_back_gives g.I.Iterator.can_next
+    CanDeal g.I.Lending.advances g.I.DoubleEndedIterator.next_back_gives g.I.Lending.can_advance
     g.I.DoubleEndedIterator.can_next_back l.items
     × ((stops : Error → Bool) (rs : List Outcome)
-    → Deals (answer_stops stops) g.I.Iterator.next_gives g.I.DoubleEndedIterator.next_back_gives
+    → Deals (answer_stops stops) g.I.Lending.advances g.I.DoubleEndedIterator.next_back_gives
     l.fn.items rs
-    → Prints g.I.Iterator.next_gives g.I.DoubleEndedIterator.next_back_gives stops l.items l.options.reverse
+    → Prints g.I.Lending.advances g.I.DoubleEndedIterator.next_back_gives stops l.items l.options.reverse
     l.left l.fn.most l.options.format (dumped l.options.reverse l.fn.most rs)
     (g.W.Write.contents l.fn.output) (g.W.Write.contents l.output))
     × ((rs : List Outcome)
-    → DealsEnding g.I.Iterator.next_gives g.I.DoubleEndedIterator.next_back_gives (λ _. Unit {0})
+    → DealsEnding g.I.Lending.advances g.I.DoubleEndedIterator.next_back_gives (λ _. Unit {0})
     (λ _. Unit {0}) l.fn.items rs
-    → (before : Comes g.I.Iterator.next_gives g.I.DoubleEndedIterator.next_back_gives l.items
+    → (before : Comes g.I.Lending.advances g.I.DoubleEndedIterator.next_back_gives l.items
     l.options.reverse l.left (dumped l.options.reverse l.fn.most rs))
     × PrintsLines l.options.format before.came (g.W.Write.contents l.fn.output)
     (g.W.Write.contents l.output))
