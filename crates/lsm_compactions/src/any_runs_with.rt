@@ -130,8 +130,8 @@ fn write_while_observed<L: Lending, O: CompactionObserver, A: Allocator + Clone>
     Ok(Ending::AtEnd)
 }
 
-// What a compaction came to, by how its writing ended: tables of all that the writer took, if it came
-// to the end. Fails as the writing did, and then as the writer does.
+// What a compaction came to, by how its writing ended: tables of all that the writer took at the
+// end alone. Refused as the writing was, and then as the writer is.
 fn ended<A: Allocator + Clone>(
     writer: MultiWriter<A>,
     ending: Result<Ending, Error>,
