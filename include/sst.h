@@ -155,8 +155,9 @@ void sst_close(sst_handle *handle);
 
 /* What a read found. A handle has the entry that the last read by it found (`sst_table_get`,
  * `sst_runs_get`, `sst_range_next`, `sst_range_take`, `sst_scan_next`, `sst_scan_take`) until the
- * next one. Point reads, scans, and a table's range borrow the entry from the table's memory: no
- * bytes are copied, and no reference to it is counted. The others hold a counted reference. Where the last read found nothing, or none was made, the two calls answer SST_NOTHING,
+ * next one. Point reads, scans, and ranges of one table borrow the entry from the table's memory:
+ * no bytes are copied, and no reference to it is counted. Ranges of several tables hold a counted
+ * reference. Where the last read found nothing, or none was made, the two calls answer SST_NOTHING,
  * whatever is held.
  */
 
@@ -381,8 +382,8 @@ uint32_t sst_range_next(sst_handle *range, bool back, sst_entry *entry);
  *   the handle has found it, so `sst_found_lend` and `sst_found_copy` return it. `found` has its
  *   kind, number and lengths, and the next call goes on after it.
  *
- * In the other cases the handle has found nothing, and `found` is all zeros. So the end is reached if
- * 0 is returned, `count` is below `entry_room` and `found` is all zeros. Whatever follows the
+ * In the other cases the handle has found nothing, and `found` is all zeros. So the end is reached
+ * if 0 is returned, `count` is below `entry_room` and `found` is all zeros. Whatever follows the
  * copied entries in `entries` and `bytes` stays as it was. `count` is 0 if the handle is closed or
  * holds no range.
  */
