@@ -1,36 +1,64 @@
 //! Writes a table, opens it and reads it back: the calls that a store makes first.
 #![tactic(auto)]
 
-use logpurple::{InternalValue, OpenOptions, Slice, Timestamp, ValueType, Writer};
-use std::ops::Bound;
+use logpurple::{
+    Error, FinishedTable, InternalValue, OpenOptions, SeqNo, Slice, Table, Timestamp, ValueType,
+    Writer,
+};
+use std::alloc::Allocator;
 
-/// Keys, the sequence numbers of their versions, and values: keys upward, versions downward.
-const ENTRIES: [(&[u8], u64, &[u8]); 3] = [
+/// Keys, the numbers of their versions, and values: keys upward, and the versions of a key from the
+/// newest on.
+const ENTRIES: [(&[u8], SeqNo, &[u8]); 3] = [
     (b"apple", 7, b"red"),
     (b"apple", 3, b"green"),
     (b"pear", 5, b"yellow"),
 ];
 
-fn main(rt: HostRuntime) -> anyhow::Result<()> {
-    let mut writer = Writer::new(rt.alloc(), 1, 0, Timestamp::from(0))?;
-    let entries = ENTRIES;
-    for (key, seqno, value) in entries {
-        let (key, value) = (Slice::from_static(key), Slice::from_static(value));
-        let item = InternalValue::from_components(key, value, seqno, ValueType::Value);
-        if writer.can_follow(&item.key) {
-            writer.write(item)?;
-        }
+/// Writes an entry, if it comes after the one before it, by key and number.
+fn write_entry<A: Allocator + Copy>(
+    alloc: A,
+    writer: &mut Writer<A>,
+    (key, seqno, value): (&[u8], SeqNo, &[u8]),
+) -> Result<(), Error> {
+    let key = Slice::from(alloc, key)?;
+    let value = Slice::from(alloc, value)?;
+    let item = InternalValue::from_components(key, value, seqno, ValueType::Value);
+    if !writer.can_follow(&item.key) {
+        return Ok(());
     }
-    let Some(written) = writer.finish()? else {
+    writer.write(item)
+}
+
+/// Writes the entries as table 1 of level 0, created at moment 0.
+fn write_table<A: Allocator + Copy>(alloc: A) -> Result<Option<FinishedTable<A>>, Error> {
+    let mut writer = Writer::new(alloc, 1, 0, Timestamp::from(0))?;
+    let entries = ENTRIES;
+    for entry in entries {
+        write_entry(alloc, &mut writer, entry)?;
+    }
+    writer.finish()
+}
+
+/// Opens a table. By default nothing is added to the stored numbers, and filter and index stay
+/// loaded.
+fn open_table<A: Allocator + Copy>(alloc: A, written: FinishedTable<A>) -> Result<Table<A>, Error> {
+    OpenOptions::default().open(alloc, &written)
+}
+
+fn main(rt: HostRuntime) -> anyhow::Result<()> {
+    let Some(written) = write_table(rt.alloc())? else {
         return Ok(());
     };
-    let table = OpenOptions::default().open(rt.alloc(), &written)?;
+    let table = open_table(rt.alloc(), written)?;
+
+    // The newest version of a key that is numbered below 5.
     if let Some(item) = table.get_by_key(b"apple", 5)? {
         println!(rt; "found number {}", item.key.seqno)?;
     }
-    let from = Bound::Included(Slice::from_static(b"b"));
-    for item in table.range(from, Bound::Unbounded)? {
-        println!(rt; "in the range: number {}", item?.key.seqno)?;
+
+    for item in table.scan()? {
+        println!(rt; "scanned number {}", item?.key.seqno)?;
     }
     Ok(())
 }
