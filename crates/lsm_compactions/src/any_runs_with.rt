@@ -345,7 +345,7 @@ pub fn compact_any_runs_with<
         (lists : List (List (List Entry))) → RunsHoldLists (map arc_value runs.now) lists →
         RefusesForMemory F.gives → FitsKept writer rules (union_in lists) →
         IfErr result (λ e. e ≡ OutOfMemory) }
-    // The same if only what this filter keeps fits, whatever else a filter might keep.
+    // It is enough that what this filter keeps fits, whatever else a filter might keep.
     ensures fits { AreCompactable (map arc_value runs.now) →
         (lists : List (List (List Entry))) → RunsHoldLists (map arc_value runs.now) lists →
         RefusesForMemory F.gives →

@@ -93,7 +93,6 @@ impl<A: Allocator> Iterator for OwnedDataBlockIter<A> {
 
     ghost remaining = { λ s. at_most (s.to - s.from) };
 
-    // A range calls it at two places, and is slower where it is a call.
     #[inline(always)]
     fn next(&mut self) -> Option<IterItem<A>> {
         if self.to <= self.from {

@@ -58,7 +58,7 @@ fn prefix_of(key: &[u8]) -> u128
     }
 }
 
-// The same for a key of fewer than sixteen bytes.
+// The prefix of a key of fewer than sixteen bytes: the bytes that it lacks are zero.
 fn short_prefix(key: &[u8]) -> u128
     requires { length key.now < 16 }
     ensures { IsPrefix result key.now }

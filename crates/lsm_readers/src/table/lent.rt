@@ -110,7 +110,8 @@ impl<A: Allocator + Clone> Table<A> {
     /// # Errors
     ///
     /// The first fault of loading the blocks that the read needs, at most one of the filter, one of
-    /// the index and one of data. Where no block is loaded, it does not fail.
+    /// the index and one of data, or [`Error::OutOfMemory`]. Where no block is loaded, it does not
+    /// fail.
     pub fn get_ref(
         &self,
         key: &[u8],
