@@ -26,11 +26,11 @@ use std::marker::Model;
 /// The entries of a table that lie within two bounds, from both ends, their numbers with the global
 /// number added. It owns what it reads: a share of the table's bytes.
 ///
-/// As an iterator it gives entries that share the table's bytes. It also lends them from there, from
-/// the front ([`Lending::advance`]) and from the back ([`Iter::advance_back`]). Then only seeking and
-/// loading a block take memory: the next entry of the block that is loaded at that end comes
-/// whatever memory there is. All go on from where the others stopped. An entry is lent until the
-/// next call at either end. Any entry that is lent is the one that the last call gave.
+/// As an iterator it gives entries that share the table's bytes. It also lends them from there,
+/// from the front ([`Lending::advance`]) and from the back ([`Iter::advance_back`]). Then only
+/// seeking and loading a block take memory: the next entry of the block that is loaded at that
+/// end comes whatever memory there is. All go on from where the others stopped. An entry is lent
+/// until the next call at either end. Any entry that is lent is the one that the last call gave.
 ///
 /// A data block is loaded where a step first needs it, once, and the index is sought by the first
 /// step. Where a block cannot be loaded its fault comes in the place of its entries, and

@@ -23,9 +23,9 @@ use std::ops::Bound;
 use std::sync::Arc;
 
 /// The entries of the tables of a run, one table behind another, from both ends. It shares the run.
-/// As an iterator it gives entries that share the tables' bytes. As a [`Lending`] it lends them from
-/// there, from the front. Both go on from where the other stopped. Any entry that is lent is the one
-/// that the last call gave.
+/// As an iterator it gives entries that share the tables' bytes. As a [`Lending`] it lends them
+/// from there, from the front. Both go on from where the other stopped. Any entry that is lent is
+/// the one that the last call gave.
 ///
 /// A table is opened by the first step that needs it, once, also where both ends meet in it. After
 /// an error, [`Error::OutOfMemory`] among them, nothing more comes, from either end.
