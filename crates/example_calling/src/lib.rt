@@ -2,6 +2,9 @@
 //! table that stores a list, a list that is written, opened and read, a table of any bytes that is
 //! verified and read, runs that are compacted, and a loop over what several runs have below a
 //! number. The reads need no proof file, the compaction one law, and the loop one invariant.
+//!
+//! The modules have whole paths as theorems: what is read of a list that was written as a table, or
+//! as a run, or compacted, is the list's, by the contracts of the calls alone.
 #![tactic(auto)]
 
 ghost use Rattle.std.specs.Prelude.{◌≡◌, ◌-◌, ◌^◌, ◌≤◌, [], IfErr, IfOk, List, MatchOption, Some};
@@ -15,13 +18,27 @@ ghost use Rattle.logpurple.specs.Words.{is_memory, kept_in, label_of, newest, nu
 ghost use Rattle.logpurple.specs.Words.{opening_fault, point, rules_by, seen, tables_fault};
 ghost use Rattle.logpurple.specs.Words.{union_in};
 
-use logpurple::{
-    Error, InternalValue, IterItem, NewestOf, Rules, Run, SeqNo, Table, TableIds, Timestamp,
-    VerifyError, compact_to_run, range_runs_at, write_and_open,
-};
+mod chain;
+mod compacted;
+mod one_answer;
+mod part;
+mod reads;
+mod written;
+
+pub use chain::read_run_back;
+pub use compacted::compact_run_back;
+use logpurple::block::{Error, InternalValue, IterItem, SeqNo};
+use logpurple::compaction::{Rules, compact_to_run};
+use logpurple::merge::NewestOf;
+use logpurple::run::{Run, range_runs_at};
+use logpurple::table::{Table, TableIds, Timestamp, VerifyError, write_and_open};
+pub use one_answer::{PointAndScan, Ranges, read_each_way};
+pub use part::compact_part_back;
+pub use reads::{Reads, read_run};
 use std::alloc::Allocator;
 use std::ops::Bound;
 use std::sync::Arc;
+pub use written::read_back;
 
 /// The first entry of a key numbered below `seqno`, of a table that was opened without a global
 /// number. Whoever wrote a list, or has verified the table, has the premise. Refused for want of

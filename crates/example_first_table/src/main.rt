@@ -1,10 +1,8 @@
 //! Writes a table, opens it and reads it back: the calls that a store makes first.
 #![tactic(auto)]
 
-use logpurple::{
-    Error, FinishedTable, InternalValue, OpenOptions, SeqNo, Slice, Table, Timestamp, ValueType,
-    Writer,
-};
+use logpurple::block::{Error, InternalValue, SeqNo, Slice, ValueType};
+use logpurple::table::{FinishedTable, OpenOptions, Table, Timestamp, Writer};
 use std::alloc::Allocator;
 
 /// Keys, the numbers of their versions, and values: keys upward, and the versions of a key from the

@@ -3,7 +3,8 @@ ghost use Rattle.std.specs.Iterator.{IsFinite};
 ghost use Rattle.std.specs.Prelude.{IfOk};
 
 use crate::store::Store;
-use logpurple::{Below, Direction, Error, InternalValue, IterItem, NewestOf, SeqNo, Slice};
+use logpurple::block::{Direction, Error, InternalValue, IterItem, SeqNo, Slice};
+use logpurple::merge::{Below, NewestOf};
 use std::alloc::{Allocator, Global};
 use std::collections::BTreeMap;
 use std::ops::Bound;

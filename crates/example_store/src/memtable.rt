@@ -8,7 +8,7 @@ ghost use Rattle.logpurple.specs.Words.{CanDeal, DealsList, Entry, Gives, IsStri
 ghost use Rattle.logpurple.specs.Words.{OutOfMemory, front_length, is_before, is_from, is_to};
 ghost use Rattle.logpurple.specs.Words.{ok_results, point, read_place, within};
 
-use logpurple::{Error, InternalValue, IterItem, SeqNo, UserKey};
+use logpurple::block::{Error, InternalValue, IterItem, SeqNo, UserKey};
 use std::alloc::{Allocator, Global};
 use std::marker::Model;
 use std::ops::Bound;

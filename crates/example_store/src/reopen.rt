@@ -1,7 +1,7 @@
 //! A store that is closed, its tables written to files and read again, and opened from those.
 use crate::store::{Closed, Store};
 use anyhow::bail;
-use logpurple::{Error, Slice};
+use logpurple::block::{Error, Slice};
 use std::path::PathBuf;
 use std::{env, fs, process};
 

@@ -21,10 +21,9 @@ mod range;
 
 use crate::memtable::Memtable;
 pub use close::Closed;
-use logpurple::{
-    Error, InternalValue, Run, SeqNo, Slice, Table, TableIds, Timestamp, ValueType,
-    get_runs_by_age, write_run,
-};
+use logpurple::block::{Error, InternalValue, SeqNo, Slice, ValueType};
+use logpurple::run::{Run, get_runs_by_age, write_run};
+use logpurple::table::{Table, TableIds, Timestamp};
 pub use open::{FileFault, OpenError};
 pub use range::Range;
 use std::alloc::{Allocator, Global};

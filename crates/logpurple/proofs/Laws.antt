@@ -48,4 +48,4 @@ pub use Rattle.lsm_compactions.proofs.ShownRanges.{ranges_by_points}
 pub use Rattle.lsm_compactions.proofs.StaysWritable.{writable_after}
 pub use Rattle.lsm_compactions.proofs.Versions.{at, count_join, distinct_once, once_strict}
 pub use Rattle.lsm_compactions.proofs.Versions.{strict_once}
-pub use Rattle.logpurple.proofs.PartRuns.{share_all, share_next, share_none}
+pub use Rattle.logpurple.proofs.Shares.{share_all, share_next, share_none}

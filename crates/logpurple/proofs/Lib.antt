@@ -1,4 +1,2 @@
-pub mod Beside
 pub mod Laws
-pub mod OneRun
-pub mod PartRuns
+pub mod Shares

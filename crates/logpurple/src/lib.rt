@@ -1,146 +1,19 @@
 //! Sorted tables for log-structured stores: written, read from both ends, merged, compacted and
-//! packed. All that a store needs of this library, by one crate; what each call does and promises
-//! stands where it is defined. Here stand the whole ways, from a list to what is read of it.
+//! packed. All that a store needs of this library, by one crate. What each call does and promises
+//! stands where it is defined.
+//!
+//! - [`block`]: entries, keys, errors, and what was loaded
+//! - [`table`]: tables, written and read
+//! - [`run`]: tables beside one another, read as one, and packed
+//! - [`merge`]: sorted sources as one, and the newest version of each key
+//! - [`compaction`]: runs into fewer tables
+//! - [`laws`]: calls that do nothing, whose contracts are the statements
 #![tactic(auto)]
 
-mod chain;
-mod compacted;
-mod one_answer;
-mod part;
-mod reads;
+pub mod block;
+pub mod compaction;
+pub mod laws;
+pub mod merge;
+pub mod run;
+pub mod table;
 mod written;
-
-pub use chain::read_run_back;
-pub use compacted::compact_run_back;
-pub use lsm_block_indexes::BlockIndex;
-pub use lsm_block_indexes::BlockIndexImpl;
-pub use lsm_block_indexes::BlockIndexIter;
-pub use lsm_block_indexes::BlockIndexIterImpl;
-pub use lsm_block_indexes::FullBlockIndex;
-pub use lsm_block_indexes::OwnedIndexBlockIter;
-pub use lsm_block_indexes::TwoLevelBlockIndex;
-pub use lsm_block_indexes::VolatileBlockIndex;
-pub use lsm_compactions::CompactionObserver;
-pub use lsm_compactions::CompactionOutcome;
-pub use lsm_compactions::CompactionProgress;
-pub use lsm_compactions::NoObserver;
-pub use lsm_compactions::OpenOptions;
-pub use lsm_compactions::compact_any_runs;
-pub use lsm_compactions::compact_any_runs_with;
-pub use lsm_compactions::compact_runs;
-pub use lsm_compactions::compact_to_run;
-pub use lsm_compactions::compact_to_run_with;
-pub use lsm_compactions::compaction_law;
-pub use lsm_compactions::pack_runs;
-pub use lsm_compactions::packing_law;
-pub use lsm_compactions::write_run;
-pub use lsm_compactions::write_run_with;
-pub use lsm_formats::GlobalTableId;
-pub use lsm_formats::ItemName;
-pub use lsm_formats::TableId;
-pub use lsm_formats::Timestamp;
-pub use lsm_formats::TreeId;
-pub use lsm_iters::Bound;
-pub use lsm_iters::Iter;
-pub use lsm_iters::OwnedDataBlockIter;
-pub use lsm_lending::LendingMerger;
-pub use lsm_lending::LendingNewest;
-pub use lsm_lending::compaction::lending::LendingCompaction;
-pub use lsm_lending::compaction::lending::LentCallback;
-pub use lsm_lending::compaction::lending::LentFilter;
-pub use lsm_merge::Merger;
-pub use lsm_ranges::KeyRange;
-pub use lsm_ranges::Packed;
-pub use lsm_ranges::Placed;
-pub use lsm_ranges::Ranged;
-pub use lsm_ranges::Run;
-pub use lsm_ranges::optimize_runs;
-pub use lsm_ranges::overlap_chain;
-pub use lsm_ranges::pack_each;
-pub use lsm_readers::Fault;
-pub use lsm_readers::Finding;
-pub use lsm_readers::Inner;
-pub use lsm_readers::ParsedMeta;
-pub use lsm_readers::ParsedRegions;
-pub use lsm_readers::PinnedBlockIndex;
-pub use lsm_readers::Query;
-pub use lsm_readers::Scanner;
-pub use lsm_readers::Table;
-pub use lsm_readers::TableInner;
-pub use lsm_readers::Verification;
-pub use lsm_readers::Verified;
-pub use lsm_readers::VerifyError;
-pub use lsm_readers::get_many;
-pub use lsm_readers::point_in;
-pub use lsm_runs::LentNewestOf;
-pub use lsm_runs::LentNewestOfRunsAt;
-pub use lsm_runs::NewestOfRuns;
-pub use lsm_runs::NewestOfRunsAt;
-pub use lsm_runs::NewestOfSourcesAt;
-pub use lsm_runs::RunPlace;
-pub use lsm_runs::RunReader;
-pub use lsm_runs::RunScanner;
-pub use lsm_runs::entry_in_runs;
-pub use lsm_runs::get_runs;
-pub use lsm_runs::get_runs_by_age;
-pub use lsm_runs::get_runs_by_age_counted;
-pub use lsm_runs::get_runs_counted;
-pub use lsm_runs::get_runs_ref;
-pub use lsm_runs::get_runs_ref_counted;
-pub use lsm_runs::lend_runs_at;
-pub use lsm_runs::place_in_runs;
-pub use lsm_runs::place_in_runs_counted;
-pub use lsm_runs::range_runs;
-pub use lsm_runs::range_runs_at;
-pub use lsm_runs::range_sources_at;
-pub use lsm_runs::share;
-pub use lsm_sorted::Below;
-pub use lsm_sorted::MvccStream;
-pub use lsm_sorted::NewestOf;
-pub use lsm_sorted::compaction::Rules;
-pub use lsm_sorted::compaction::stream::CompactionStream;
-pub use lsm_sorted::compaction::stream::DroppedKvCallback;
-pub use lsm_sorted::compaction::stream::NoCallback;
-pub use lsm_sorted::compaction::stream::NoFilter;
-pub use lsm_sorted::compaction::stream::StreamFilter;
-pub use lsm_sorted::compaction::stream::StreamFilterVerdict;
-pub use lsm_sorted::each_below;
-pub use lsm_sorted::newest_of;
-pub use lsm_writers::BloomConstructionPolicy;
-pub use lsm_writers::FilterKind;
-pub use lsm_writers::FinishedTable;
-pub use lsm_writers::IndexKind;
-pub use lsm_writers::Metadata;
-pub use lsm_writers::MultiWriter;
-pub use lsm_writers::Options;
-pub use lsm_writers::TableIds;
-pub use lsm_writers::Writer;
-pub use lsm_writers::is_writable;
-pub use lsm_writers::write_list;
-pub use one_answer::PointAndScan;
-pub use one_answer::Ranges;
-pub use one_answer::read_each_way;
-pub use part::compact_part_back;
-pub use reads::Reads;
-pub use reads::read_run;
-pub use sst_blocks::Checksum;
-pub use sst_blocks::Direction;
-pub use sst_blocks::EntryPlace;
-pub use sst_blocks::EntryRef;
-pub use sst_blocks::Error;
-pub use sst_blocks::InternalKey;
-pub use sst_blocks::InternalValue;
-pub use sst_blocks::IterItem;
-pub use sst_blocks::Lending;
-pub use sst_blocks::Opened;
-pub use sst_blocks::SectionName;
-pub use sst_blocks::SeqNo;
-pub use sst_blocks::Slice;
-pub use sst_blocks::UserKey;
-pub use sst_blocks::UserValue;
-pub use sst_blocks::ValueType;
-pub use sst_blocks::answers_at;
-pub use sst_blocks::compare_versions;
-pub use sst_blocks::source_of;
-pub use written::read_back;
-pub use written::write_and_open;

@@ -6,7 +6,7 @@ ghost use Rattle.logpurple.specs.Words.{is_memory};
 ghost use Rattle.tool_show.specs.Lines.{PrintsText};
 ghost use Rattle.sst.specs.Verified.{IsLineAbout, IsRefusedLine};
 
-use logpurple::Error;
+use logpurple::block::Error;
 use std::fmt::InlineText;
 use std::io::{self, Write};
 use tool_files::FileFault;

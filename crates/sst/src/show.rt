@@ -23,7 +23,7 @@ use crate::bar::{Bar, Work, behind};
 use crate::failure::{Failure, KeyWord};
 use crate::lines::{is_memory, print_unopened_line, print_unread_line};
 use crate::make::format_of;
-use logpurple::{Error, Slice};
+use logpurple::block::{Error, Slice};
 use std::alloc::Global;
 use std::io::Write;
 use std::rt::{Clock, Files};

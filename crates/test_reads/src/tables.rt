@@ -20,7 +20,7 @@ mod sizes;
 mod verified;
 mod walks;
 
-use logpurple::Table;
+use logpurple::table::Table;
 use lsm_writers::{BloomConstructionPolicy, FilterKind, IndexKind, Options, Timestamp, Writer};
 use sst_blocks::{Checksum, EntryRef, Error, InternalValue, SeqNo, Slice, ValueType};
 use std::alloc::Allocator;

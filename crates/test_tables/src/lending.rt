@@ -1,7 +1,8 @@
 //! Readers that lend beside those that give by value: the same entries and errors in the same
 //! places, and as many loads. What walks them is generic in them, so that none of their parts is
 //! looked at.
-use logpurple::{Iter, RunReader, RunScanner, Scanner};
+use logpurple::run::{RunReader, RunScanner};
+use logpurple::table::{Iter, Scanner};
 use sst_blocks::{EntryRef, Error, IterItem, Lending, Opened};
 use std::alloc::Global;
 

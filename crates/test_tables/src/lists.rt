@@ -5,7 +5,7 @@ ghost use Rattle.sst_entries.specs.Stream.{CanDeal};
 
 use crate::rows::{Row, entry};
 use crate::runs::{Bounds, Name, Tables, name_in, name_of, owned_range};
-use logpurple::{RunReader, range_runs};
+use logpurple::run::{RunReader, range_runs};
 use lsm_sorted::NewestOf;
 use lsm_writers::is_writable;
 use sst_blocks::{Direction, Error, InternalValue, IterItem, answers_at};

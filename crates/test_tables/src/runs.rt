@@ -2,7 +2,7 @@
 use crate::large::add;
 use crate::rows::{Row, fill, new_writer};
 use crate::tables::{open, overwritten};
-use logpurple::Table;
+use logpurple::table::Table;
 use lsm_ranges::Run;
 use sst_blocks::{Error, InternalValue, IterItem, SeqNo, Slice, UserKey};
 use std::alloc::Allocator;

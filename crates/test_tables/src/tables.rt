@@ -1,5 +1,5 @@
 //! Opening a table, changing its bytes and reading from it, for the tests.
-use logpurple::Table;
+use logpurple::table::Table;
 use sst_blocks::{
     Block, BlockHandle, BlockSource, BlockType, Checksum, DataBlock, Error, Opened, SeqNo, Slice,
 };

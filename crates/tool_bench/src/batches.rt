@@ -1,7 +1,7 @@
 //! Many point reads at once.
 use crate::digest::{Digest, code};
 use crate::files::open_copy;
-use logpurple::{Query, get_many};
+use logpurple::table::{Query, get_many};
 use sst_blocks::{Error, InternalValue, SeqNo, Slice};
 use std::alloc::Global;
 

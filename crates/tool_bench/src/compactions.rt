@@ -7,7 +7,7 @@ use crate::builds::{Written, finished, write_next};
 use crate::digest::{Digest, code};
 use crate::files::{open, scanners_of, tables_of};
 use crate::scans::scan;
-use logpurple::Table;
+use logpurple::table::Table;
 use lsm_sorted::Merger;
 use lsm_sorted::compaction::stream::CompactionStream;
 use lsm_writers::{FinishedTable, Timestamp, Writer};

@@ -1,6 +1,6 @@
 //! Tables that are opened from bytes, one or several behind one another.
 use crate::digest::code;
-use logpurple::{Scanner, Table};
+use logpurple::table::{Scanner, Table};
 use sst_blocks::{Checksum, Error, Slice};
 use std::alloc::Global;
 

@@ -1,7 +1,7 @@
 //! Point reads.
 use crate::digest::{Digest, code};
 use crate::files::open_copy;
-use logpurple::Table;
+use logpurple::table::Table;
 use sst_blocks::{Error, SeqNo};
 use std::alloc::Global;
 

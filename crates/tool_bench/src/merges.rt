@@ -7,7 +7,7 @@ use crate::digest::{Digest, code};
 use crate::files::{scanners_of, tables_of};
 use crate::lending::merge_lent;
 use crate::ranges::take_newest;
-use logpurple::Table;
+use logpurple::table::Table;
 use lsm_sorted::newest_of;
 use sst_blocks::{Error, IterItem};
 use std::alloc::Global;

@@ -3,7 +3,8 @@ use crate::digest::{Digest, code};
 use crate::files::open_copy;
 use crate::lending::scan_lent;
 use crate::ranges::{take_all, take_from};
-use logpurple::{Direction, Table};
+use logpurple::block::Direction;
+use logpurple::table::Table;
 use sst_blocks::Error;
 use std::alloc::Global;
 

@@ -3,7 +3,7 @@ ghost use Rattle.std.specs.Prelude.{◌≡◌};
 ghost use Rattle.tool_files.specs.Files.{is_memory_fault};
 
 use crate::FileName;
-use logpurple::Error;
+use logpurple::block::Error;
 use std::alloc::{AllocError, AllocFailed};
 use std::{fmt, io};
 

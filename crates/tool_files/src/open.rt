@@ -7,7 +7,8 @@ ghost use Rattle.tool_files.specs.Opened.{AreOpenedFrom, HasContent, IsToldByByt
 ghost use Rattle.tool_files.specs.Opened.{TellsRefused};
 
 use crate::{FileError, FileFault, FileName, Place, read_file};
-use logpurple::{Checksum, Error, Slice, Table};
+use logpurple::block::{Checksum, Error, Slice};
+use logpurple::table::Table;
 use std::alloc::Allocator;
 
 /// Opens a table's bytes, of which no checksum is known, its numbers as they are stored. With

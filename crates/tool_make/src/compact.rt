@@ -26,9 +26,10 @@ use crate::fill::{check_folder, write_tables};
 use crate::print::path_at;
 use crate::scanned::{has_order, refusal_of};
 use crate::{CompactError, CompactOptions};
-use logpurple::{
-    CompactionOutcome, Error, FinishedTable, OpenOptions, Run, Table, compact_to_run_with,
-};
+use logpurple::block::Error;
+use logpurple::compaction::{CompactionOutcome, compact_to_run_with};
+use logpurple::run::Run;
+use logpurple::table::{FinishedTable, OpenOptions, Table};
 use std::alloc::Allocator;
 use std::sync::Arc;
 use tool_files::{Made, Place, open_tables};
@@ -268,7 +269,7 @@ fn open_and_compact<'a, P: Place, A: Allocator + Copy>(
 }
 
 /// Compacts files of tables, each a run of its own, as
-/// [`compact_any_runs`](logpurple::compact_any_runs), and writes the new tables into a folder that
+/// [`compact_any_runs`](logpurple::compaction::compact_any_runs), and writes the new tables into a folder that
 /// it makes: the files `1.sst`, `2.sst` and so on.
 ///
 /// Refused where anything has the folder's path, before any file is read; as [`open_tables`]; where

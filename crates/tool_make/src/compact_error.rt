@@ -1,5 +1,5 @@
 //! Why files were not compacted or packed.
-use logpurple::Error;
+use logpurple::block::Error;
 use std::alloc::{AllocError, AllocFailed};
 use std::fmt;
 use tool_files::FileError;

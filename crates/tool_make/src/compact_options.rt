@@ -3,7 +3,9 @@ ghost use Rattle.std.specs.Prelude.{◌≡◌, IfErr, IfOk};
 ghost use Rattle.logpurple.specs.Words.{OutOfMemory};
 ghost use Rattle.tool_make.specs.Compacted.{compactor_by};
 
-use logpurple::{Error, MultiWriter, Rules, TableIds, Timestamp};
+use logpurple::block::Error;
+use logpurple::compaction::Rules;
+use logpurple::table::{MultiWriter, TableIds, Timestamp};
 use std::alloc::Allocator;
 use tool_files::largest_table;
 

@@ -16,7 +16,8 @@ ghost use Rattle.tool_make.specs.Taken.{TookAll};
 ghost use Rattle.tool_make.specs.Written.{TookLine};
 
 use crate::{LineFault, MakeError};
-use logpurple::{Error, InternalValue, MultiWriter, SeqNo};
+use logpurple::block::{Error, InternalValue, SeqNo};
+use logpurple::table::MultiWriter;
 use std::alloc::{AllocError, Allocator};
 use std::cmp::Ordering;
 use std::io;

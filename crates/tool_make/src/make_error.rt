@@ -1,5 +1,5 @@
 //! Why files were not made.
-use logpurple::Error;
+use logpurple::block::Error;
 use std::alloc::{AllocError, AllocFailed};
 use std::{fmt, io};
 use tool_files::FileError;

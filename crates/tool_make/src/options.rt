@@ -6,7 +6,9 @@ ghost use Rattle.tool_make.specs.Refusing.{TellsSizes};
 ghost use Rattle.tool_make.specs.Written.{HasSmallSizes, options_of, writer_by};
 
 use crate::MakeError;
-use logpurple::{BloomConstructionPolicy, IndexKind, MultiWriter, Options, TableIds, Timestamp};
+use logpurple::table::{
+    BloomConstructionPolicy, IndexKind, MultiWriter, Options, TableIds, Timestamp,
+};
 use std::alloc::Allocator;
 use tool_files::largest_table;
 use tool_lines::Format;

@@ -8,7 +8,8 @@ ghost use Rattle.tool_make.specs.Packed.{NamesTurned, RefusesToPack};
 
 use crate::CompactError;
 use crate::print::path_at;
-use logpurple::{Packed, Ranged, Table, pack_each};
+use logpurple::run::{Packed, Ranged, pack_each};
+use logpurple::table::Table;
 use std::alloc::Allocator;
 use tool_files::{Place, open_tables};
 

@@ -13,7 +13,8 @@ ghost use Rattle.sst_entries.specs.declared.error.Error.{Error as Refusal};
 ghost use Rattle.logpurple.specs.Words.{Entry, OutOfMemory, StoresList, is_memory};
 ghost use Rattle.tool_make.specs.Scanned.{IsFirstRefusal, come_in_order};
 
-use logpurple::{EntryRef, Error, Lending, Scanner, SeqNo, Table, compare_versions};
+use logpurple::block::{EntryRef, Error, Lending, SeqNo, compare_versions};
+use logpurple::table::{Scanner, Table};
 use std::alloc::Allocator;
 
 // The first refusal among entries.

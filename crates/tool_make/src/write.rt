@@ -22,7 +22,7 @@ ghost use Rattle.tool_make.specs.Written.{AreOfLines, AreTablesOf, HasSmallSizes
 
 use crate::entries::{collect_lines, sort_rows, write_lines, write_rows};
 use crate::{MakeError, WriteOptions};
-use logpurple::{FinishedTable, MultiWriter};
+use logpurple::table::{FinishedTable, MultiWriter};
 use std::alloc::Allocator;
 use std::io::{BufRead, BufReader, Read};
 use tool_files::{

@@ -7,7 +7,9 @@ ghost use Rattle.example_store.specs.Story.{IsStore, IsTold};
 ghost use Rattle.logpurple.specs.Words.{Entry, OpenTable, OutOfMemory, is_memory, tables_fault};
 
 use crate::store::Store;
-use logpurple::{Error, Run, SeqNo, Slice, Table, TableIds};
+use logpurple::block::{Error, SeqNo, Slice};
+use logpurple::run::Run;
+use logpurple::table::{Table, TableIds};
 use std::alloc::{Allocator, Global};
 use std::sync::Arc;
 

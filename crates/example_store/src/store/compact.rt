@@ -11,7 +11,10 @@ ghost use Rattle.logpurple.specs.Words.{SameTables, ids_behind, is_memory, kept_
 ghost use Rattle.logpurple.specs.Words.{rules_by, run_label, tables_fault, union_in};
 
 use crate::store::Store;
-use logpurple::{Error, Rules, Run, SeqNo, Table, TableIds, Timestamp, compact_to_run, pack_runs};
+use logpurple::block::{Error, SeqNo};
+use logpurple::compaction::{Rules, compact_to_run};
+use logpurple::run::{Run, pack_runs};
+use logpurple::table::{Table, TableIds, Timestamp};
 use std::alloc::{AllocError, Allocator};
 use std::sync::Arc;
 

@@ -9,7 +9,10 @@ ghost use Rattle.logpurple.specs.Words.{HoldLists, IsStrict, OpenTable, OutOfMem
 ghost use Rattle.logpurple.specs.Words.{RunsHoldLists, joined, nowhere, union_in};
 ghost use Rattle.logpurple.proofs.Laws.{may_follow};
 
-use logpurple::{Error, InternalValue, IterItem, Merger, Run, RunScanner, Table};
+use logpurple::block::{Error, InternalValue, IterItem};
+use logpurple::merge::Merger;
+use logpurple::run::{Run, RunScanner};
+use logpurple::table::Table;
 use std::alloc::Allocator;
 use std::sync::Arc;
 

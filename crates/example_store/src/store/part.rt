@@ -9,7 +9,10 @@ ghost use Rattle.logpurple.specs.Words.{rules_by, tables_fault};
 
 use crate::store::Store;
 use crate::store::compact::compacted;
-use logpurple::{Error, Rules, Run, SeqNo, Table, TableIds};
+use logpurple::block::{Error, SeqNo};
+use logpurple::compaction::Rules;
+use logpurple::run::Run;
+use logpurple::table::{Table, TableIds};
 use std::alloc::Allocator;
 use std::sync::Arc;
 

@@ -9,7 +9,9 @@ ghost use Rattle.logpurple.specs.Words.{RunsHoldLists, all_shown, newest, number
 ghost use Rattle.logpurple.specs.Words.{sort_entries, union_in, within};
 
 use crate::store::Store;
-use logpurple::{Error, IterItem, NewestOfSourcesAt, Run, SeqNo, Table, UserKey, range_sources_at};
+use logpurple::block::{Error, IterItem, SeqNo, UserKey};
+use logpurple::run::{NewestOfSourcesAt, Run, range_sources_at};
+use logpurple::table::Table;
 use std::alloc::Allocator;
 use std::ops::Bound;
 use std::sync::Arc;

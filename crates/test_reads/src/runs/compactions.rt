@@ -1,10 +1,13 @@
 //! Compactions of runs that nobody has verified: what the new tables have, the ids that are drawn,
 //! what a filter changes, what a callback and an observer are told, and runs that stay.
 use crate::tables::number_of;
-use logpurple::{
-    CompactionObserver, CompactionOutcome, CompactionProgress, NoObserver, OpenOptions, Rules,
-    Scanner, Table, compact_any_runs_with, compact_to_run_with, compaction_law, get_runs,
+use logpurple::compaction::{
+    CompactionObserver, CompactionOutcome, CompactionProgress, NoObserver, Rules,
+    compact_any_runs_with, compact_to_run_with,
 };
+use logpurple::laws::compaction_law;
+use logpurple::run::get_runs;
+use logpurple::table::{OpenOptions, Scanner, Table};
 use lsm_lending::compaction::lending::{LentCallback, LentFilter};
 use lsm_sorted::compaction::stream::{NoCallback, NoFilter, StreamFilterVerdict};
 use lsm_writers::{FinishedTable, MultiWriter, TableId, TableIds, Timestamp};

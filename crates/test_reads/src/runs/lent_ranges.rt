@@ -2,7 +2,8 @@
 ghost use Rattle.std.specs.Iterator.{IsFinite};
 ghost use Rattle.sst_entries.specs.Stream.{CanDeal, nowhere};
 
-use logpurple::{LentNewestOf, NewestOf, lend_runs_at, range_runs_at};
+use logpurple::merge::NewestOf;
+use logpurple::run::{LentNewestOf, lend_runs_at, range_runs_at};
 use sst_blocks::{Error, IterItem, Lending, SeqNo, ValueType};
 use std::alloc::Global;
 use std::ops::Bound;

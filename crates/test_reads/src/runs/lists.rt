@@ -1,8 +1,9 @@
 //! Lists that are written as runs, which are read as they are or compacted first, and how a target
 //! cuts them.
-use logpurple::{
-    MultiWriter, OpenOptions, Rules, Table, compact_run_back, read_run_back, write_run_with,
-};
+use example_calling::{compact_run_back, read_run_back};
+use logpurple::compaction::Rules;
+use logpurple::run::write_run_with;
+use logpurple::table::{MultiWriter, OpenOptions, Table};
 use lsm_ranges::Run;
 use lsm_writers::{TableId, TableIds, Timestamp};
 use sst_blocks::{Error, SeqNo, ValueType};

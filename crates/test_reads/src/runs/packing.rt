@@ -1,6 +1,8 @@
 //! Runs of tables that are packed: which tables go into which run, a run that stays as it is, and
 //! one without tables, which is left out.
-use logpurple::{Table, pack_runs, packing_law, write_run};
+use logpurple::laws::packing_law;
+use logpurple::run::{pack_runs, write_run};
+use logpurple::table::Table;
 use lsm_writers::{TableIds, Timestamp};
 use sst_blocks::{Error, SeqNo, ValueType};
 use std::alloc::Global;

@@ -3,7 +3,9 @@ ghost use Rattle.std.specs.Prelude.{◌∷◌, [], IfOk, map};
 ghost use Rattle.std.specs.Arc.{arc_value};
 ghost use Rattle.lsm_compactions.specs.Compacted.{AreCompactable};
 
-use logpurple::{OpenOptions, Rules, compact_part_back, compact_to_run_with};
+use example_calling::compact_part_back;
+use logpurple::compaction::{Rules, compact_to_run_with};
+use logpurple::table::OpenOptions;
 use lsm_writers::{MultiWriter, TableId, TableIds, Timestamp};
 use sst_blocks::{Error, SeqNo, ValueType};
 use std::alloc::{Allocator, Global};

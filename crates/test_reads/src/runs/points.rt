@@ -1,10 +1,12 @@
 //! Point reads of several runs, of all of them and by age, and of one: what they find, by value,
 //! borrowed and by its place, the blocks that they load, and their error where a table is damaged.
 use crate::tables::{cloned, lends_same, number_of};
-use logpurple::{
-    RunPlace, Table, entry_in_runs, get_runs, get_runs_by_age, get_runs_by_age_counted,
-    get_runs_counted, get_runs_ref, place_in_runs, read_run,
+use example_calling::read_run;
+use logpurple::run::{
+    RunPlace, entry_in_runs, get_runs, get_runs_by_age, get_runs_by_age_counted, get_runs_counted,
+    get_runs_ref, place_in_runs,
 };
+use logpurple::table::Table;
 use lsm_ranges::Run;
 use lsm_runs::{get_runs_ref_counted, place_in_runs_counted};
 use sst_blocks::{Error, InternalValue, Opened, SeqNo, ValueType};

@@ -1,7 +1,8 @@
 //! Ranges of two runs and a table in memory, below a number.
 ghost use Rattle.std.specs.Iterator.{IsFinite};
 
-use logpurple::{NewestOf, range_sources_at};
+use logpurple::merge::NewestOf;
+use logpurple::run::range_sources_at;
 use sst_blocks::{Error, IterItem, SeqNo, ValueType};
 use std::alloc::{Allocator, Global};
 use test_tables::rows::{Row, entry};

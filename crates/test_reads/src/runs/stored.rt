@@ -9,7 +9,9 @@ ghost use Rattle.lsm_runs.specs.RunLists.{HoldsList};
 ghost use Rattle.test_reads.specs.Stored.{new_entries, stored_entries};
 
 use crate::runs::compactions::{Version, are, entries_of};
-use logpurple::{RunReader, Table, compact_runs};
+use logpurple::compaction::compact_runs;
+use logpurple::run::RunReader;
+use logpurple::table::Table;
 use lsm_ranges::Run;
 use lsm_writers::{FinishedTable, MultiWriter, TableIds, Timestamp, write_list};
 use sst_blocks::{Checksum, Error, InternalValue, Slice, ValueType};

@@ -5,7 +5,7 @@ ghost use Rattle.std.specs.Prelude.{◌≡◌, ◌-◌, ◌<◌, ◌≤◌, true
 ghost use Rattle.std.specs.Arc.{arc_value};
 ghost use Rattle.lsm_ranges.specs.Run.{ArePlacesOf};
 
-use logpurple::{RunReader, RunScanner};
+use logpurple::run::{RunReader, RunScanner};
 use sst_blocks::{Direction, Error, IterItem, Lending, ValueType};
 use std::alloc::{Allocator, Global};
 use std::ops::Bound;

@@ -4,7 +4,9 @@
 //! these are and their order.
 use crate::tables::walks::{Call, Walk, is_loaded, walked};
 use crate::tables::{Changed, KINDS, Of, Parted, Pins, opened};
-use logpurple::{BlockIndex, BlockIndexImpl, BlockIndexIterImpl, Bound as Edge, Iter, Table};
+use logpurple::table::{
+    BlockIndex, BlockIndexImpl, BlockIndexIterImpl, Bound as Edge, Iter, Table,
+};
 use sst_blocks::{BlockSource, CompressionType, Error, SeqNo, UserKey};
 use std::alloc::Global;
 use std::ops::Bound;

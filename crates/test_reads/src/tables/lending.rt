@@ -2,7 +2,7 @@
 //! in the same order, and as many loads, also over damaged bytes.
 use crate::tables::walks::{blocks_in, range_in};
 use crate::tables::{Changed, KINDS, Of, Pins, changed_bytes};
-use logpurple::Iter;
+use logpurple::table::Iter;
 use sst_blocks::{Error, IterItem, Lending};
 use std::alloc::Global;
 use std::ops::Bound;

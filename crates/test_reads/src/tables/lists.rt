@@ -1,6 +1,6 @@
 //! Lists that are written as one table, opened and read, and what the tables say of themselves.
-use example_calling::write_and_find;
-use logpurple::{Scanner, Table, read_back, write_and_open};
+use example_calling::{read_back, write_and_find};
+use logpurple::table::{Scanner, Table, write_and_open};
 use lsm_formats::ItemName;
 use lsm_ranges::Ranged;
 use lsm_writers::Timestamp;

@@ -3,7 +3,7 @@
 ghost use Rattle.std.specs.Prelude.{◌≡◌, []};
 
 use crate::tables::{ALL_PINS, Parted, open_with, written, written_by};
-use logpurple::Table;
+use logpurple::table::Table;
 use lsm_writers::Writer;
 use sst_blocks::{
     Block, BlockHandle, BlockSource, BlockType, CompressionType, DataBlock, Error, Opened,

@@ -1,7 +1,8 @@
 //! All reads of tables of one list, under each kind of index and of filter.
 use crate::tables::walks::{Call, Walk};
 use crate::tables::{Parted, open_with, written};
-use logpurple::{Iter, Scanner, Table, read_each_way};
+use example_calling::read_each_way;
+use logpurple::table::{Iter, Scanner, Table};
 use sst_blocks::{Error, InternalValue, Slice, ValueType};
 use std::alloc::Global;
 use std::ops::Bound;

@@ -4,7 +4,7 @@ use crate::tables::{
     Changed, LOADED, ON_DEMAND, Of, Parted, Sought, TWO_LEVELS, counted_read, lends_same,
     number_of, open_with, opened, written,
 };
-use logpurple::{Table, point_in};
+use logpurple::table::{Table, point_in};
 use sst_blocks::{
     Block, BlockHandle, BlockSource, BlockType, Counted, EntryPlace, Error, InternalValue,
     LoadBlocks, SeqNo, ValueType,

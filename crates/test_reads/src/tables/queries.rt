@@ -1,6 +1,6 @@
 //! Many reads of one table at once, and what memory reads ask for.
 use crate::tables::{Changed, Of, Parted, Pins, Sought, cloned, counted_read, opened};
-use logpurple::{Query, Table, get_many};
+use logpurple::table::{Query, Table, get_many};
 use sst_blocks::{Error, InternalValue, Slice};
 use std::alloc::{Allocator, Global};
 use test_refusing::Refusing;

@@ -7,7 +7,7 @@ use crate::tables::{
     ALL_PINS, BELITTLED, Changed, Of, Parted, Pins, Sought, UNDERSTATED, cloned, counted_read,
     opened,
 };
-use logpurple::Table;
+use logpurple::table::Table;
 use sst_blocks::{Error, SeqNo};
 use std::alloc::Global;
 use test_tables::large::{asked, asked_with};

@@ -1,7 +1,8 @@
 //! The layout of written tables: how long they are, where their sections are, and how many blocks of
 //! the index and of the filter their meta blocks count.
 use crate::tables::{Of, Parted, opened};
-use logpurple::{ItemName, Table};
+use logpurple::table::Table;
+use lsm_formats::ItemName;
 use sst_blocks::{Error, SectionName, Toc};
 use std::alloc::Global;
 use test_tables::large::asked_with;

@@ -1,6 +1,6 @@
 //! How many bytes the data blocks of a range take, by each kind of index.
 use crate::tables::{Parted, open_with, written};
-use logpurple::Table;
+use logpurple::table::Table;
 use sst_blocks::{Error, ValueType};
 use std::alloc::Global;
 use std::ops::Bound;

@@ -1,6 +1,6 @@
 //! What tables are verified to have, and what is wrong first with tables whose bytes were changed.
 use crate::tables::{Changed, Changes, Of, Pins, opened};
-use logpurple::{Fault, Finding, Table, Verified, VerifyError};
+use logpurple::table::{Fault, Finding, Table, Verified, VerifyError};
 use lsm_formats::ItemName;
 use sst_blocks::{Checksum, Error, SectionName};
 use std::alloc::Global;

@@ -4,7 +4,7 @@ use crate::tables::{
     BELITTLED, Changed, KINDS, LOADED, OLDER, ON_DEMAND, Of, Parted, Pins, TWO_LEVELS, UNDERSTATED,
     changed_bytes, opened,
 };
-use logpurple::{BlockIndex, BlockIndexIter, BlockIndexIterImpl, Iter, Scanner, Table};
+use logpurple::table::{BlockIndex, BlockIndexIter, BlockIndexIterImpl, Iter, Scanner, Table};
 use sst_blocks::{BlockSource, CompressionType, Error, KeyedBlockHandle, SeqNo, TagName};
 use std::alloc::{Allocator, Global};
 use std::ops::Bound;

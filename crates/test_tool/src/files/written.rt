@@ -1,6 +1,7 @@
 //! Lines that are written into files, compacted and read back.
 use crate::files::memory::Memory;
-use logpurple::{BloomConstructionPolicy, IndexKind, Rules, Timestamp};
+use logpurple::compaction::Rules;
+use logpurple::table::{BloomConstructionPolicy, IndexKind, Timestamp};
 use std::alloc::Global;
 use tool_files::{FileFault, Place, open_table};
 use tool_lines::Format;

@@ -1,0 +1,61 @@
+//! A list that is written as a run and read.
+ghost use Rattle.std.specs.Prelude.{◌≡◌, ◌+◌, ◌^◌, ◌<◌, [], Some, IfErr, IfOk, IfSome, MatchOption};
+ghost use Rattle.sst_entries.specs.declared.error.Error.TheVariants.{OutOfMemory};
+ghost use Rattle.logpurple.specs.Words.{CanDeal, Faults, FitsAsTables, IsWritable, ReadsOf};
+ghost use Rattle.logpurple.specs.Words.{chain_fault, highest_seqno, lift};
+
+use crate::{Reads, read_run};
+use logpurple::block::{Error, InternalValue, SeqNo, UserKey};
+use logpurple::run::{NewestOfRuns, write_run};
+use logpurple::table::{TableIds, Timestamp};
+use std::alloc::Allocator;
+use std::ops::Bound;
+
+/// What a point read and a range of a list give once it was written as a run and opened; `None`
+/// where the list has no entry. The contracts of writing, opening and reading runs alone say that
+/// it is the list. Refused as [`write_run`] with ids from 1 on.
+pub fn read_run_back<A: Allocator + Clone>(
+    alloc: A,
+    items: Vec<InternalValue<A>, A>,
+    target_size: u64,
+    global_seqno: SeqNo,
+    key: &[u8],
+    seqno: SeqNo,
+    range: (Bound<UserKey<A>>, Bound<UserKey<A>>),
+) -> Result<Option<Reads<A>>, Error>
+    requires { IsWritable items.items }
+    // The first match of the key, and from both ends the newest version of each key within the
+    // bounds, of the list, lifted.
+    ensures list { let gives = ⟦<NewestOfRuns<A> as Iterator>⟧.next_gives in
+        let back_gives = ⟦<NewestOfRuns<A> as DoubleEndedIterator>⟧.next_back_gives in
+        IfOk result (λ r. MatchOption r (items.items ≡ [])
+        (ReadsOf gives back_gives key.now seqno range.0 range.1 (lift items.items global_seqno))) }
+    // Where the list has no entry, there is no answer.
+    ensures none { IfOk result (λ r. IfSome r (λ _. items.items ≡ [] → ⊥)) }
+    // Both ends of the range may be asked however often.
+    ensures can { IfOk result (λ r. IfSome r (λ read.
+        CanDeal ⟦<NewestOfRuns<A> as Iterator>⟧.next_gives
+        ⟦<NewestOfRuns<A> as DoubleEndedIterator>⟧.next_back_gives
+        ⟦<NewestOfRuns<A> as Iterator>⟧.can_next
+        ⟦<NewestOfRuns<A> as DoubleEndedIterator>⟧.can_next_back read.1)) }
+    // Memory aside, the refusal is that of writing and opening the list: reading refuses nothing.
+    ensures refused { Faults result
+        (chain_fault (Some 1) target_size 0 items.items global_seqno) }
+    ensures taken { FitsAsTables (Some 1) target_size items.items →
+        highest_seqno items.items + global_seqno < 2 ^ 64 →
+        IfErr result (λ e. e ≡ OutOfMemory) }
+{
+    let (ids, created_at) = (TableIds::new(1), Timestamp::from(0));
+    let (run, _) = write_run(
+        alloc.clone()?,
+        ids,
+        target_size,
+        created_at,
+        items,
+        global_seqno,
+    )?;
+    match run {
+        Some(run) => Ok(Some(read_run(alloc, run, key, seqno, range)?)),
+        None => Ok(None),
+    }
+}

@@ -1,0 +1,130 @@
+//! A list that is written as a run, which is compacted alone and read.
+ghost use Rattle.std.specs.Prelude.{◌≡◌, ◌∷◌, [], List, IfErr, IfOk, IfSome, MatchOption, Some};
+ghost use Rattle.std.specs.Prelude.{length};
+ghost use Rattle.sst_entries.specs.declared.error.Error.TheVariants.{OutOfMemory};
+ghost use Rattle.logpurple.specs.Words.{AreCompactable, AreTables, CanDeal, Entry, Faults};
+ghost use Rattle.logpurple.specs.Words.{FitsAsTables, IsRunOfList, IsWritable, ReadsOf};
+ghost use Rattle.logpurple.specs.Words.{both_fault};
+ghost use Rattle.logpurple.specs.Words.{default_options, ids_behind, kept};
+ghost use Rattle.logpurple.specs.Words.{tables_fault, unfiltered};
+
+use crate::{Reads, read_run};
+use logpurple::block::{Error, InternalValue, SeqNo, UserKey};
+use logpurple::compaction::{Rules, compact_to_run};
+use logpurple::run::{NewestOfRuns, Run, write_run};
+use logpurple::table::{Table, TableIds, Timestamp};
+use std::alloc::Allocator;
+use std::ops::Bound;
+use std::sync::Arc;
+
+// Compacts a run alone into tables, and puts these in a run; none where nothing is kept.
+fn compact_alone<A: Allocator + Clone>(
+    alloc: A,
+    run: Run<Table<A>, A>,
+    ids: TableIds,
+    target_size: u64,
+    rules: Rules,
+) -> Result<Option<Run<Table<A>, A>>, Error>
+    requires { AreCompactable (run ∷ []) }
+    // It is the run of what is kept of the list.
+    ensures run { (es : List Entry) → IsRunOfList es 0 run →
+        let left = kept rules (unfiltered es) in
+        IfOk result (λ r. MatchOption r (left ≡ []) (λ new. IsRunOfList left 0 new)) }
+    ensures none { (es : List Entry) → IsRunOfList es 0 run →
+        let left = kept rules (unfiltered es) in
+        IfOk result (λ r. IfSome r (λ _. left ≡ [] → ⊥)) }
+    ensures refused { (es : List Entry) → IsRunOfList es 0 run →
+        Faults result (tables_fault ids target_size 0 (kept rules (unfiltered es))) }
+    ensures taken { (es : List Entry) → IsRunOfList es 0 run → IsWritable es →
+        FitsAsTables ids target_size (kept rules (unfiltered es)) →
+        IfErr result (λ e. e ≡ OutOfMemory) }
+{
+    let runs = [Arc::new(alloc.clone()?, run)?];
+    let created_at = Timestamp::from(0);
+    let (compacted, _) = compact_to_run(alloc, &runs, rules, ids, target_size, created_at)?;
+    Ok(compacted)
+}
+
+// Writes a list as a run and compacts it; none where nothing is kept.
+fn write_and_compact<A: Allocator + Clone>(
+    alloc: &A,
+    items: Vec<InternalValue<A>, A>,
+    target_size: u64,
+    rules: Rules,
+) -> Result<Option<Run<Table<A>, A>>, Error>
+    requires { IsWritable items.items }
+    ensures run { let left = kept rules (unfiltered items.items) in
+        IfOk result (λ r. MatchOption r (left ≡ []) (λ run. IsRunOfList left 0 run)) }
+    ensures none { let left = kept rules (unfiltered items.items) in
+        IfOk result (λ r. IfSome r (λ _. left ≡ [] → ⊥)) }
+    // The refusal is the first: of writing the list, which is cut into these tables, and then what
+    // is kept.
+    ensures refused { let left = kept rules (unfiltered items.items) in
+        (tables : List (List Entry)) →
+        AreTables default_options.data_block_size target_size items.items tables →
+        Faults result (both_fault target_size items.items tables left) }
+    ensures taken { let left = kept rules (unfiltered items.items) in
+        (first : FitsAsTables (Some 1) target_size items.items) →
+        FitsAsTables (ids_behind (Some 1) target_size (length first.tables)) target_size left →
+        IfErr result (λ e. e ≡ OutOfMemory) }
+{
+    let (ids, created_at) = (TableIds::new(1), Timestamp::from(0));
+    let (run, ids) = write_run(alloc.clone()?, ids, target_size, created_at, items, 0)?;
+    let Some(run) = run else {
+        return Ok(None);
+    };
+    compact_alone(alloc.clone()?, run, ids, target_size, rules)
+}
+
+/// What a point read and a range give of a list that was written as a run, compacted, and whose new
+/// tables were opened; `None` where nothing is kept. The contracts of writing, compacting, opening
+/// and reading runs alone say that it is what the compaction keeps of the list. The tables are of
+/// the first level, under ids from 1 on.
+///
+/// Refused with the first fault of writing the list, or else that of writing what is kept behind
+/// the list's tables; and [`Error::OutOfMemory`].
+pub fn compact_run_back<A: Allocator + Clone>(
+    alloc: A,
+    items: Vec<InternalValue<A>, A>,
+    target_size: u64,
+    rules: Rules,
+    key: &[u8],
+    seqno: SeqNo,
+    range: (Bound<UserKey<A>>, Bound<UserKey<A>>),
+) -> Result<Option<Reads<A>>, Error>
+    requires { IsWritable items.items }
+    // The first match of the key, and from both ends the newest version of each key within the
+    // bounds, of what is kept.
+    ensures list { let gives = ⟦<NewestOfRuns<A> as Iterator>⟧.next_gives in
+        let back_gives = ⟦<NewestOfRuns<A> as DoubleEndedIterator>⟧.next_back_gives in
+        let left = kept rules (unfiltered items.items) in
+        IfOk result (λ r. MatchOption r (left ≡ [])
+        (ReadsOf gives back_gives key.now seqno range.0 range.1 left)) }
+    // Where nothing is kept, there is no answer.
+    ensures none { let left = kept rules (unfiltered items.items) in
+        IfOk result (λ r. IfSome r (λ _. left ≡ [] → ⊥)) }
+    // Both ends of the range may be asked however often.
+    ensures can { IfOk result (λ r. IfSome r (λ read.
+        CanDeal ⟦<NewestOfRuns<A> as Iterator>⟧.next_gives
+        ⟦<NewestOfRuns<A> as DoubleEndedIterator>⟧.next_back_gives
+        ⟦<NewestOfRuns<A> as Iterator>⟧.can_next
+        ⟦<NewestOfRuns<A> as DoubleEndedIterator>⟧.can_next_back read.1)) }
+    // Memory aside, the refusal is the first: of writing the list, which is cut into these tables,
+    // and then what is kept.
+    ensures refused { let left = kept rules (unfiltered items.items) in
+        (tables : List (List Entry)) →
+        AreTables default_options.data_block_size target_size items.items tables →
+        Faults result (both_fault target_size items.items tables left) }
+    // Where the tables of the list fit, and behind them those of what is kept, with an id left for
+    // each, it is refused for want of memory alone.
+    ensures taken { let left = kept rules (unfiltered items.items) in
+        (first : FitsAsTables (Some 1) target_size items.items) →
+        FitsAsTables (ids_behind (Some 1) target_size (length first.tables)) target_size left →
+        IfErr result (λ e. e ≡ OutOfMemory) }
+{
+    let run = write_and_compact(&alloc, items, target_size, rules)?;
+    match run {
+        Some(run) => Ok(Some(read_run(alloc, run, key, seqno, range)?)),
+        None => Ok(None),
+    }
+}

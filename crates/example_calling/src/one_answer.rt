@@ -1,0 +1,88 @@
+//! All reads of one table.
+ghost use Rattle.std.specs.Prelude.{◌≡◌, [], IfErr, IfOk, List};
+ghost use Rattle.sst_entries.specs.declared.error.Error.TheVariants.{OutOfMemory};
+ghost use Rattle.lsm_readers.specs.Words.{DealsAll, DealsWithin, Entry, StoresList};
+ghost use Rattle.sst_entries.specs.Error.{Faults};
+ghost use Rattle.lsm_compactions.specs.Written.{ReadsList, reads_fault};
+
+use logpurple::block::{Error, InternalValue, SeqNo, UserKey};
+use logpurple::table::{Iter, Scanner, Table};
+use lsm_iters::beside;
+use std::alloc::Allocator;
+use std::ops::Bound;
+
+/// The entries of a table within two bounds, and all of them.
+pub type Ranges<A> = (Iter<A>, Iter<A>);
+
+/// What a point read of a table finds, and a scan of the table.
+pub type PointAndScan<A> = (Option<InternalValue<A>>, Scanner<A>);
+
+// The entries within two bounds, and all.
+fn ranges_of<A: Allocator + Clone>(
+    table: &Table<A>,
+    lower: Bound<UserKey<A>>,
+    upper: Bound<UserKey<A>>,
+) -> Result<Ranges<A>, Error>
+    ensures list { let gives = ⟦<Iter<A> as Iterator>⟧.next_gives in
+        let back_gives = ⟦<Iter<A> as DoubleEndedIterator>⟧.next_back_gives in
+        let g = table.now.global_seqno in
+        (es : List Entry) → StoresList table.now.bytes es → IfOk result (λ ranges.
+        DealsWithin gives back_gives lower upper es g ranges.0
+        × DealsAll gives back_gives es g ranges.1) }
+    ensures err { IfErr result (λ e. e ≡ OutOfMemory) }
+{
+    let range = table.range(lower, upper)?;
+    let all = table.iter();
+    beside(range, all)
+}
+
+// What a point read finds, and a scan.
+fn read_and_scan<A: Allocator + Clone>(
+    table: &Table<A>,
+    key: &[u8],
+    seqno: SeqNo,
+) -> Result<PointAndScan<A>, Error>
+    ensures list { (es : List Entry) → StoresList table.now.bytes es → IfOk result (λ read.
+        ReadsList es table.now.global_seqno key.now seqno read.0 read.1) }
+    ensures refused { Faults result (reads_fault table.now key.now seqno) }
+    ensures err { (es : List Entry) → StoresList table.now.bytes es → (es ≡ [] → ⊥) →
+        IfErr result (λ e. e ≡ OutOfMemory) }
+{
+    let found = table.get(key, seqno, Table::<A>::key_hash(key))?;
+    Ok((found, table.scan()?))
+}
+
+/// What each read of a table gives: what a point read finds, beside a scan of all; and the entries
+/// within two bounds, beside all entries, both from both ends.
+///
+/// Of bytes that store a list these are the list's, its numbers lifted by the global number, and
+/// nothing else of the table has a say in it: whoever wrote it, whichever index and filter it was
+/// written with, in one block or in partitions, whichever of their blocks stay loaded, of whichever
+/// sizes its blocks are and in whichever version it is stored. So two tables of one list answer
+/// alike. Where the list has an
+/// entry it is refused [`Error::OutOfMemory`] alone; other tables as [`Table::get`], or else
+/// [`Table::scan`], is.
+pub fn read_each_way<A: Allocator + Clone>(
+    table: &Table<A>,
+    key: &[u8],
+    seqno: SeqNo,
+    lower: Bound<UserKey<A>>,
+    upper: Bound<UserKey<A>>,
+) -> Result<(PointAndScan<A>, Ranges<A>), Error>
+    ensures list { let gives = ⟦<Iter<A> as Iterator>⟧.next_gives in
+        let back_gives = ⟦<Iter<A> as DoubleEndedIterator>⟧.next_back_gives in
+        let g = table.now.global_seqno in
+        (es : List Entry) → StoresList table.now.bytes es → IfOk result (λ read.
+        ReadsList es g key.now seqno read.0.0 read.0.1
+        × DealsWithin gives back_gives lower upper es g read.1.0
+        × DealsAll gives back_gives es g read.1.1) }
+    // Whatever the table's bytes are, the refusal is that of the point read, or else of the scan,
+    // memory aside.
+    ensures refused { Faults result (reads_fault table.now key.now seqno) }
+    // Where the list has an entry, it is refused for want of memory alone.
+    ensures err { (es : List Entry) → StoresList table.now.bytes es → (es ≡ [] → ⊥) →
+        IfErr result (λ e. e ≡ OutOfMemory) }
+{
+    let read = read_and_scan(table, key, seqno)?;
+    Ok((read, ranges_of(table, lower, upper)?))
+}
