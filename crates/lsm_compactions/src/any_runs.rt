@@ -1,5 +1,5 @@
 //! Compacting several runs of tables whose bytes nobody has verified.
-ghost use Rattle.std.specs.Prelude.{◌≡◌, ◌⊎◌, false, IfErr, IfOk, IsErrAnd, List, map};
+ghost use Rattle.std.specs.Prelude.{◌≡◌, ◌≢◌, ◌⊎◌, false, IfErr, IfOk, IsErrAnd, List, None, map};
 ghost use Rattle.std.specs.Arc.{arc_value};
 ghost use Rattle.sst_entries.specs.declared.error.Error.TheVariants.{OutOfMemory};
 ghost use Rattle.std.specs.List.{AllByRecursion};
@@ -11,8 +11,8 @@ ghost use Rattle.lsm_lending.specs.LentCompaction.{lent_outs};
 ghost use Rattle.lsm_compactions.specs.Words.{AreCompactable, AreTablesBy, BeginsWith};
 ghost use Rattle.lsm_compactions.specs.Words.{CameInOrder, CameOf, Entry, Faults, FitsBy};
 ghost use Rattle.lsm_compactions.specs.Words.{GoesThrough, HasMade, HaveEntries, IsFreshRun};
-ghost use Rattle.lsm_compactions.specs.Words.{RefusesOf, RunsHoldLists, kept_in, scans_of};
-ghost use Rattle.lsm_compactions.specs.Words.{writes_fault};
+ghost use Rattle.lsm_compactions.specs.Words.{RefusesOf, RunsHoldLists, first_blocks_fault, kept_in};
+ghost use Rattle.lsm_compactions.specs.Words.{scans_of, writes_fault};
 
 use crate::{NoObserver, compact_any_runs_with};
 use lsm_ranges::Run;
@@ -89,6 +89,10 @@ pub fn compact_any_runs<A: Allocator + Clone>(
         AllByRecursion (λ rs. Ascends (entries_among rs)) scans →
         CameOf writer (lent_outs rules (merge_of scans)) result
         ⊎ IsErrAnd result (BeginsWith (map arc_value runs.now)) }
+    // The first data block of each run is loaded before anything is written, in their order: where
+    // one cannot be loaded, that is the refusal, memory aside.
+    ensures opens { let first = first_blocks_fault (map arc_value runs.now) in first ≢ None →
+        Faults result first }
     // Whatever the tables hold, what is made are tables of a list that can be written.
     ensures made { IfOk result (HasMade writer) }
     // No observer stops it.
