@@ -6,7 +6,7 @@ ghost use Rattle.lsm_writers.specs.Writing.{IsWritable};
 ghost use Rattle.lsm_readers.specs.Stored.{StoresList};
 ghost use Rattle.lsm_compactions.specs.Written.{IsOpened, opening_fault};
 
-use crate::Table;
+use lsm_readers::Table;
 use lsm_writers::{TableId, Timestamp, write_list};
 use sst_blocks::{Error, InternalValue, SeqNo};
 use std::alloc::Allocator;
