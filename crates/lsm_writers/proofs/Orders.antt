@@ -96,12 +96,12 @@ pub follows_nothing : (es : List Entry) (key : List ℕ) (n : ℕ) → last_of N
     → nat_lt n (2 ^ 64 - 1) ≡ true → true ≡ may_be_written es key n
 follows_nothing es key n h lt = rw (h, lt) refl
 
--- where there is a last one, nothing before counts
-pub some_last_of : (before : Option Entry) (es : List Entry) (x : Entry)
-    → Some x ≡ last_of None es → Some x ≡ last_of before es
+-- where there are entries, nothing before counts
+pub behind_some : (before r : Option Entry) (es : List Entry) → (es ≡ [] → ⊥)
+    → r ≡ last_of None es → r ≡ last_of before es
 unfolding last_of
-some_last_of before [] x h = absurd cc
-some_last_of before (e ∷ es) x h = h
+behind_some before r [] some h = absurd (some refl)
+behind_some before r (e ∷ es) some h = h
 
 pub the_last : (es : List Entry) (x : Entry) → last_of None es ≡ Some x → x ≡ last_entry es
 the_last es x h = sym (ap (λ (o : Option Entry). unwrap_or o (entry [] [] 0 Value)) h)
@@ -116,7 +116,7 @@ is_not_empty es x h e =
     let no : Some x ≡ None = h ∙ ap (last_of None) e ∙ nothing_last in
     absurd cc
 
-pub behind_nothing : (before r : Option Entry) (es : List Entry) → None ≡ last_of None es
+pub behind_nothing : (before r : Option Entry) (es : List Entry) → es ≡ []
     → r ≡ before → r ≡ last_of before es
 unfolding last_of
-behind_nothing before r es h e = rw (nothing_is_last es (sym h)) e
+behind_nothing before r es h e = rw h e

@@ -566,11 +566,9 @@ fn last_written<'a, A: Allocator + Clone>(
     // Each entry that was cut has bytes of its own, so there are fewer than can be counted.
     ensures few { entry_head_len * length (joined blocks.now.chunks) < 2 ^ 64 }
 {
-    let cut = blocks.last();
-    match chunk.last() {
-        Some(last) => Some(last),
-        None => cut,
-    }
+    let cut = blocks.last_block();
+    let buffer = if chunk.is_empty() { cut } else { chunk };
+    buffer.last()
 }
 
 /// Checks an entry that comes after `before`, and registers its key. Answers what it adds to the

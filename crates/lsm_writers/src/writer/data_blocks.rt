@@ -78,13 +78,14 @@ impl<A: Allocator + Clone> DataBlocks<A> {
         })
     }
 
-    /// The last entry of the blocks.
-    pub(crate) fn last(&self) -> Option<EntryRef<'_>>
-        ensures last { option_map entry_of_ref result ≡ last_of None (joined self.now.chunks) }
+    /// The entries of the last block, of which the last is that of all blocks.
+    #[inline]
+    pub(crate) fn last_block(&self) -> &BlockBuffer<A>
+        ensures last { last_of None result.now ≡ last_of None (joined self.now.chunks) }
         // Each entry has bytes of its own, so there are fewer than can be counted.
         ensures few { entry_head_len * length (joined self.now.chunks) < 2 ^ 64 }
     {
-        self.last_block.last()
+        &self.last_block
     }
 
     /// Cuts the entries of `chunk` off as a block, where there are some, and registers it with the

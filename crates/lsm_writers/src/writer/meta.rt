@@ -4,6 +4,7 @@ ghost use Rattle.std.specs.Option.{option_map};
 ghost use Rattle.sst_entries.specs.Lending.{entry_of_ref};
 ghost use Rattle.sst_entries.specs.declared.error.Error.TheVariants.{OutOfMemory};
 ghost use Rattle.lsm_formats.specs.Facts.{is_weak, is_value_kind, starts_key, is_reclaimable};
+ghost use Rattle.sst_entries.specs.Key.{same_key};
 ghost use Rattle.sst_entries.specs.Kind.{is_weak_kind};
 
 use lsm_section_writers::KeyBuffer;
@@ -74,8 +75,17 @@ pub(crate) fn starts_key(before: Option<EntryRef<'_>>, entry: &EntryRef<'_>) -> 
 {
     match before {
         None => true,
-        Some(before) => before.user_key != entry.user_key,
+        Some(before) => !is_same_key(before.user_key, entry.user_key),
     }
+}
+
+/// Whether two keys are the same. Their last bytes are compared first: neighbours share their
+/// first bytes and mostly differ there.
+#[inline]
+fn is_same_key(key: &[u8], other: &[u8]) -> bool
+    ensures { result ≡ same_key key.now other.now }
+{
+    key.last() == other.last() && key == other
 }
 
 /// Whether an entry is a value directly after a weak tombstone of its key.
@@ -88,7 +98,7 @@ fn is_reclaimable(before: Option<EntryRef<'_>>, entry: &EntryRef<'_>) -> bool
         Some(before) => {
             is_value(entry.value_type)
                 && is_weak(before.value_type)
-                && before.user_key == entry.user_key
+                && is_same_key(before.user_key, entry.user_key)
         }
     }
 }

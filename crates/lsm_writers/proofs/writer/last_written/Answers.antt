@@ -1,8 +1,13 @@
-use Rattle.lsm_writers.proofs.Orders.{behind_nothing, some_last_of}
+use Rattle.std.proofs.Common.{◌∙◌, refl, rules}
+use Rattle.lsm_writers.proofs.Orders.{behind_nothing, behind_some}
 use Rattle.lsm_writers.proofs.writer.last_written.Goals as goal
+use Rattle.lsm_writers.proofs.writer.last_written.Goals.{then-is_empty, else-is_empty}
 
-pub returns-in-Some-clause-last : goal.returns-in-Some-clause-last
-returns-in-Some-clause-last g c = some_last_of _ _ _ c.in-Some.ensures
-
-pub returns-in-None-clause-last : goal.returns-in-None-clause-last
-returns-in-None-clause-last g c = behind_nothing _ _ _ c.in-None.ensures c.last-cut.ensures.last
+pub returns-clause-last : goal.returns-clause-last
+returns-clause-last g c = elim c.if-is_empty.branch [
+  | then-is_empty w ↦
+      behind_nothing _ _ _ (search rules)
+      (c.last.ensures ∙ rw w.buffer-is c.last_block-cut.ensures.last)
+  | else-is_empty w ↦
+      behind_some _ _ _ (search rules) (c.last.ensures ∙ rw w.buffer-is refl)
+]
