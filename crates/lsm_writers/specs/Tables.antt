@@ -287,7 +287,7 @@ pub record TableFits (options : Options) (t : List Entry) : Type 0 where
       (parts_by (is_full options.data_block_size) t)
   pub sections : table_fault options t ≡ None
 
--- the id of the first table: the second id at target 0, as the first table then has no entry
+-- the id of the first table: at target 0 the second id, as the first goes to no table
 abbrev pub first_id : ℕ → ℕ → ℕ
 first_id target first = if target == 0 then first + 1 else first
 

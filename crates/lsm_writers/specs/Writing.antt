@@ -135,7 +135,7 @@ sections_fault w =
 abbrev pub finish_fault : Writing → Option Error
 finish_fault w = if w.failed then Some WriterFailed else sections_fault (spilled w)
 
--- a finished table: its id, its checksum, and bytes that are a table of the strict list
+-- a finished table: its id, its checksum, and its bytes: a table of the strict list, which fits
 pub record IsFinished (w : Writing) (id : ℕ) (checksum : ℕ) (bytes : List ℕ) : Type 0 where
   pub some : written w ≡ [] → ⊥
   pub id_is : id ≡ w.label.table_id

@@ -666,7 +666,7 @@ fn take_entry<A: Allocator + Clone>(
         return Ok(());
     }
     if let Err(error) = blocks.cut(chunk, meta) {
-        chunk.rewind(before); // the entry is given up
+        chunk.rewind(before); // drops the entry
         return Err(error);
     }
     *chunk_size = 0;

@@ -77,10 +77,10 @@ impl<A: Allocator + Clone> DataBlocks<A> {
         })
     }
 
-    /// Returns the last entry of the blocks.
+    /// The last entry of the blocks.
     pub(crate) fn last(&self) -> Option<EntryRef<'_>>
         ensures last { option_map entry_of_ref result ≡ last_of None (joined self.now.chunks) }
-        // Each entry takes `entry_head_len` bytes or more, so a `u64` can count them.
+        // Each entry has bytes of its own, so there are fewer than can be counted.
         ensures few { entry_head_len * length (joined self.now.chunks) < 2 ^ 64 }
     {
         self.last_block.last()

@@ -80,7 +80,7 @@ pub(crate) fn starts_key(before: Option<EntryRef<'_>>, entry: &EntryRef<'_>) -> 
     }
 }
 
-/// Returns whether an entry is a value directly after a weak tombstone of its key.
+/// Whether an entry is a value directly after a weak tombstone of its key.
 fn is_reclaimable(before: Option<EntryRef<'_>>, entry: &EntryRef<'_>) -> bool
     ensures { let e = entry_of_ref entry.now in
         result ≡ is_reclaimable (option_map entry_of_ref before.entry) e }
