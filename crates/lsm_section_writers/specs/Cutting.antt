@@ -1,7 +1,7 @@
--- What has been cut of a list, item by item, and what waits for the next part to be full.
+-- Cutting a list into parts, item by item, and the pending items of the next part.
 use Rattle.std.specs.Prelude.{Bool, List, [], ◌∷◌, ◌++◌, if◌then◌else◌}
 
--- the parts that are cut, where some items wait and others come
+-- the parts cut from some items, after those that are pending
 unfoldable pub closed_after : {A : Type 0} → (List A → Bool) → List A → List A → List (List A)
 closed_after full waiting [] = []
 closed_after full waiting (x ∷ xs) =
@@ -9,7 +9,7 @@ closed_after full waiting (x ∷ xs) =
     then (waiting ++ x ∷ []) ∷ closed_after full [] xs
     else closed_after full (waiting ++ x ∷ []) xs
 
--- the items that wait then
+-- the items that are then pending
 unfoldable pub waiting_after : {A : Type 0} → (List A → Bool) → List A → List A → List A
 waiting_after full waiting [] = waiting
 waiting_after full waiting (x ∷ xs) =
@@ -17,7 +17,7 @@ waiting_after full waiting (x ∷ xs) =
     then waiting_after full [] xs
     else waiting_after full (waiting ++ x ∷ []) xs
 
--- the parts that are cut of a list, and what is left of it
+-- the parts cut from a list, and the items left
 abbrev pub closed_by : {A : Type 0} → (List A → Bool) → List A → List (List A)
 closed_by full xs = closed_after full [] xs
 

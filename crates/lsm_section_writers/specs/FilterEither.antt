@@ -1,4 +1,4 @@
--- What a writer of either kind holds, and such a writer with other options.
+-- The keys that a filter writer of either kind holds, and that writer with other options.
 use Rattle.std.specs.Prelude.{ℕ, Bool}
 use Rattle.sst_filters.specs.declared.policy.BloomConstructionPolicy.{BloomConstructionPolicy}
 use Rattle.lsm_formats.specs.declared.options.FilterKind.{FilterKind}
@@ -13,7 +13,7 @@ use Rattle.lsm_section_writers.specs.declared.filter_either.FilterWriterImpl.The
   Partitioned as PartitionedWriter,
 }
 
--- the kind of a writer, its policy, and whether it has refused
+-- the kind of a writer, its policy, and whether a call failed
 abbrev pub kind_by : {A : Type 0} → FilterWriterImpl A → FilterKind
 kind_by (FullWriter w) = Full
 kind_by (PartitionedWriter w) = Partitioned w.size
@@ -26,13 +26,12 @@ abbrev pub failed_by : {A : Type 0} → FilterWriterImpl A → Bool
 failed_by (FullWriter w) = w.failed
 failed_by (PartitionedWriter w) = w.failed
 
--- the keys that a writer of either kind stands for
+-- the keys that a writer of either kind holds
 abbrev pub HoldsBy : {A : Type 0} → FilterWriterImpl A → GivenKeys → Type 0
 HoldsBy (FullWriter w) given = HoldsHashes w given
 HoldsBy (PartitionedWriter w) given = HoldsParts w given
 
--- a writer of either kind with another policy, or with partitions of another size: a full filter
--- has none
+-- a writer with another policy, or with another partition size if it has partitions
 abbrev pub with_policy_by : {A : Type 0} → FilterWriterImpl A → BloomConstructionPolicy
     → FilterWriterImpl A
 with_policy_by (FullWriter w) policy = FullWriter (record w { policy = policy })

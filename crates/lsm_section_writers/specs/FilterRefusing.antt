@@ -1,4 +1,4 @@
--- What writers of filters refuse.
+-- The faults of filter writers.
 use Rattle.std.specs.Prelude.{ℕ, List, [], ◌∷◌, ◌++◌, length, map, sum_by, Option, None}
 use Rattle.std.specs.Prelude.{if◌then◌else◌}
 use Rattle.std.specs.Option.{option_or}
@@ -15,47 +15,46 @@ use Rattle.lsm_formats.specs.Parts.{parts_by}
 use Rattle.lsm_section_writers.specs.Cutting.{waiting_by}
 use Rattle.lsm_section_writers.specs.Given.{GivenKeys, KeyPart, keys_in, key_parts_of}
 
--- the filter of these keys is too large: none without keys
+-- the fault of a filter of these keys that is too large; none without keys
 abbrev pub keys_fault : BloomConstructionPolicy → List (List ℕ) → Option Error
 keys_fault policy [] = None
 keys_fault policy (k ∷ keys) = fault_for (tenths_of policy) (length (k ∷ keys))
 
--- so is that of a part that is cut
+-- the fault of the filter of a part, if the part is full
 abbrev pub cut_fault : BloomConstructionPolicy → ℕ → List (List ℕ) → Option Error
 cut_fault policy size part =
     if is_full_filter policy size part then fault_for (tenths_of policy) (length part) else None
 
--- what registering a key refuses where others are pending: the filter of a part that is cut is too
--- large
+-- the fault of registering a key after the pending ones: the part that it completes is too large
 abbrev pub register_fault : FilterKind → BloomConstructionPolicy → List (List ℕ) → List ℕ
     → Option Error
 register_fault Full policy pending key = None
 register_fault (Partitioned size) policy pending key =
     cut_fault policy size (pending ++ key ∷ [])
 
--- the size at which a partition is cut: none in a full filter
+-- the partition size; 0 for a full filter
 abbrev pub partition_size : FilterKind → ℕ
 partition_size Full = 0
 partition_size (Partitioned size) = size
 
--- how long the blocks of these parts are at most, one after another
+-- a bound on the total length of the filter blocks of these parts
 abbrev pub parts_bound : BloomConstructionPolicy → List (List (List ℕ)) → ℕ
 parts_bound policy parts = sum_by (λ p. bound_for (tenths_of policy) (length p)) parts
 
--- how long the blocks of these parts are at most, where each part has a policy of its own
+-- the same, each part under its own policy
 abbrev pub key_parts_bound : List KeyPart → ℕ
 key_parts_bound parts =
     sum_by (λ (p : KeyPart). bound_for (tenths_of p.policy) (length p.keys)) parts
 
--- a handle that ends with this key
+-- a handle with this end key
 abbrev pub end_handle : List ℕ → Handle
 end_handle key = record { end_key = key; seqno = 0; offset = 0; size = 0 }
 
--- what the top level of parts with these last keys refuses
+-- the fault of the top level of partitions with these last keys
 abbrev pub top_fault : List (List ℕ) → Option Error
 top_fault ends = handles_fault (map end_handle ends)
 
--- what is too large by the number of keys alone: the filter of what is pending; then, of
+-- the first size fault by the number of keys alone: the filter of the pending keys; then, of
 -- partitions, the section of all parts
 abbrev pub size_fault : FilterKind → BloomConstructionPolicy → GivenKeys → Option Error
 size_fault Full policy given = keys_fault policy given.pending
@@ -63,8 +62,8 @@ size_fault (Partitioned size) policy given =
     option_or (keys_fault policy given.pending)
     (section_fault (key_parts_bound (key_parts_of policy given)))
 
--- what finishing a filter of these keys refuses, all given under one kind and one policy: the
--- filter of all of them; or that of the rest, then the section of all parts, then the top level
+-- the first fault of finishing a filter of keys all registered under one kind and policy: its
+-- filter, or that of the rest, then the section and the top level
 abbrev pub filter_fault : FilterKind → BloomConstructionPolicy → List (List ℕ) → Option Error
 filter_fault Full policy keys = keys_fault policy keys
 filter_fault (Partitioned size) policy keys =
@@ -73,9 +72,8 @@ filter_fault (Partitioned size) policy keys =
     option_or (keys_fault policy (waiting_by full keys))
     (option_or (section_fault (parts_bound policy parts)) (top_fault (map last_of_keys parts)))
 
--- what finishing a filter refuses of keys that were given under any options, this kind and this
--- policy in force at the end: the filter of what is pending; then, of partitions, the section of
--- all parts and the top level
+-- the first fault of finishing a filter under any earlier options: the filter of the pending keys;
+-- then, of partitions, the section and the top level
 abbrev pub given_fault : FilterKind → BloomConstructionPolicy → GivenKeys → Option Error
 given_fault Full policy given = keys_fault policy given.pending
 given_fault (Partitioned size) policy given =

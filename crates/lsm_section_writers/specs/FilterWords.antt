@@ -1,4 +1,4 @@
--- The words of clauses, from one place.
+-- The definitions that contracts of filter writers cite, re-exported from one module.
 pub use Rattle.sst_entries.specs.Error.{Faults, FaultsFirst, Refuses}
 pub use Rattle.sst_filters.specs.KeyHash.{hash_of}
 pub use Rattle.sst_sections.specs.Sections.{slot_index}

@@ -1,4 +1,4 @@
--- The keys that a writer of a filter was given: the parts that were cut off, and what is pending.
+-- The keys registered with a filter writer: those of the cut parts, and the pending ones.
 use Rattle.std.specs.Prelude.{ℕ, ◌<◌, List, [], ◌∷◌, ◌++◌, length, map, if◌then◌else◌}
 use Rattle.sst_filters.specs.declared.policy.BloomConstructionPolicy.{BloomConstructionPolicy}
 use Rattle.lsm_formats.specs.declared.options.FilterKind.{FilterKind}
@@ -7,7 +7,7 @@ use Rattle.lsm_formats.specs.Filters.{is_full_filter}
 use Rattle.lsm_formats.specs.Parts.{joined_parts}
 use Rattle.lsm_section_writers.specs.Cutting.{closed_by, waiting_by}
 
--- the keys of a part, and the policy in force when it was cut
+-- a part: its keys, and the policy under which it was cut
 pub record KeyPart : Type 0 where
   pub policy : BloomConstructionPolicy
   pub keys : List (List ℕ)
@@ -19,24 +19,24 @@ key_part policy keys = record { policy = policy; keys = keys }
 abbrev pub keys_in : List KeyPart → List (List (List ℕ))
 keys_in parts = map (λ (p : KeyPart). p.keys) parts
 
--- a part has a key
+-- a part has keys
 pub record IsSomePart (p : KeyPart) : Type 0 where
   pub some : 0 < length p.keys
 
--- the keys that a writer was given: the parts that were cut off, and what is pending
+-- the registered keys: the cut parts, and the pending keys
 pub record GivenKeys : Type 0 where
   pub cut : List KeyPart
   pub pending : List (List ℕ)
 
--- none were given
+-- no keys
 abbrev pub no_keys : GivenKeys
 no_keys = record { cut = []; pending = [] }
 
--- all of them, in order
+-- all registered keys, in order
 abbrev pub all_keys : GivenKeys → List (List ℕ)
 all_keys given = joined_parts (keys_in given.cut) ++ given.pending
 
--- the parts in the end: those that were cut, and what is pending, where there is something
+-- the pending keys as a part, if there are any; and all parts, that one last
 abbrev pub rest_keys : BloomConstructionPolicy → List (List ℕ) → List KeyPart
 rest_keys policy [] = []
 rest_keys policy (k ∷ keys) = key_part policy (k ∷ keys) ∷ []
@@ -44,17 +44,16 @@ rest_keys policy (k ∷ keys) = key_part policy (k ∷ keys) ∷ []
 abbrev pub key_parts_of : BloomConstructionPolicy → GivenKeys → List KeyPart
 key_parts_of policy given = given.cut ++ rest_keys policy given.pending
 
--- a key more is pending
+-- the keys with one more pending
 abbrev pub pending_with : GivenKeys → List ℕ → GivenKeys
 pending_with given key = record given { pending = given.pending ++ key ∷ [] }
 
--- with a key more, all that is pending is cut off as a part
+-- the keys after one more, with all pending ones cut as a part
 abbrev pub cut_with : BloomConstructionPolicy → GivenKeys → List ℕ → GivenKeys
 cut_with policy given key =
     record { cut = given.cut ++ key_part policy (given.pending ++ key ∷ []) ∷ []; pending = [] }
 
--- a key more, under the kind and the policy in force: a partition is cut where what is pending is
--- enough
+-- the keys after one more under this kind and policy: a full partition is cut
 abbrev pub with_key : FilterKind → BloomConstructionPolicy → GivenKeys → List ℕ → GivenKeys
 with_key Full policy given key = pending_with given key
 with_key (Partitioned size) policy given key =
@@ -62,7 +61,7 @@ with_key (Partitioned size) policy given key =
     then cut_with policy given key
     else pending_with given key
 
--- keys that were all given under one kind and one policy
+-- the keys, all registered under one kind and one policy
 abbrev pub given_by : FilterKind → BloomConstructionPolicy → List (List ℕ) → GivenKeys
 given_by Full policy keys = record { cut = []; pending = keys }
 given_by (Partitioned size) policy keys =

@@ -1,4 +1,4 @@
--- What a writer of either kind holds.
+-- The handles that an index writer of either kind holds.
 use Rattle.lsm_section_writers.specs.Registered.{Registered}
 use Rattle.lsm_section_writers.specs.declared.index_either.IndexWriterImpl.{IndexWriterImpl}
 use Rattle.lsm_section_writers.specs.declared.index_either.IndexWriterImpl.TheVariants.{
@@ -6,7 +6,7 @@ use Rattle.lsm_section_writers.specs.declared.index_either.IndexWriterImpl.TheVa
   Partitioned,
 }
 
--- the handles that were registered, the kind, and whether the writer has refused
+-- the registered handles, the kind, and whether a call failed
 abbrev pub registered_by : {A : Type 0} → IndexWriterImpl A → Registered
 registered_by (Full w) = w
 registered_by (Partitioned w) = w

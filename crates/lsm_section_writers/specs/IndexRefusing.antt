@@ -1,4 +1,4 @@
--- What index writers refuse.
+-- The faults of index writers.
 use Rattle.std.specs.Prelude.{ℕ, ◌+◌, Bool, List, [], ◌∷◌, Option, None}
 use Rattle.std.specs.Option.{option_or}
 use Rattle.sst_entries.specs.declared.error.Error.{Error}
@@ -12,26 +12,25 @@ use Rattle.lsm_formats.specs.Partitions.{index_tops, is_full_index}
 use Rattle.lsm_formats.specs.declared.options.IndexKind.{IndexKind}
 use Rattle.lsm_formats.specs.declared.options.IndexKind.TheVariants.{Full, Partitioned}
 
--- what a part refuses behind blocks with so many bytes at most: its own block, then the section so
--- far
+-- the first fault of a part after blocks of a total bound: its own block, then the section so far
 abbrev pub part_fault : ℕ → List Handle → Option Error
 part_fault before part =
     option_or (handles_fault part) (section_fault (before + index_block_bound_of part))
 
--- what some parts refuse, one after another, behind blocks with so many bytes at most
+-- the first fault of these parts, one after another, after blocks of a total bound
 unfoldable pub parts_fault : ℕ → List (List Handle) → Option Error
 parts_fault before [] = None
 parts_fault before (p ∷ ps) =
     option_or (part_fault before p) (parts_fault (before + index_block_bound_of p) ps)
 
--- what an index of these handles refuses: its one block; or its parts, then the block of the top
--- level, whatever position the parts begin at
+-- the first fault of an index of these handles: its one block; or its parts, then the top level, at
+-- any offset of the parts
 abbrev pub kind_fault : IndexKind → List Handle → Option Error
 kind_fault Full hs = handles_fault hs
 kind_fault (Partitioned size) hs =
     let parts = parts_by (is_full_index size) hs in
     option_or (parts_fault 0 parts) (handles_fault (index_tops V4 0 parts))
 
--- what finishing refuses, first that the writer has failed
+-- the first fault of finishing: that the writer has failed, then that of the index
 abbrev pub index_fault : IndexKind → Bool → List Handle → Option Error
 index_fault kind failed hs = option_or (failed_fault failed) (kind_fault kind hs)

@@ -1,4 +1,4 @@
--- The words of clauses, from one place.
+-- The definitions that contracts of index writers cite, re-exported from one module.
 pub use Rattle.sst_entries.specs.Error.{Faults, FaultsFirst}
 pub use Rattle.sst_sections.specs.Sections.{slot_index}
 pub use Rattle.sst_blocks.specs.Block.{header_len}

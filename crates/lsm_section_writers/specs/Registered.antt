@@ -1,9 +1,9 @@
--- What an index writer holds.
+-- The state of an index writer.
 use Rattle.std.specs.Prelude.{Bool, List}
 use Rattle.sst_blocks.specs.Handle.{Handle}
 use Rattle.lsm_formats.specs.declared.options.IndexKind.{IndexKind}
 
--- the handles that were registered, the kind of the index, and whether the writer has refused
+-- the registered handles, the kind of the index, and whether a call failed
 pub record Registered : Type 0 where
   pub handles : List Handle
   pub kind : IndexKind

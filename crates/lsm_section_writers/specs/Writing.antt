@@ -1,4 +1,4 @@
--- What writing the filter of some keys does.
+-- The sections that a filter writer writes.
 use Rattle.std.specs.Prelude.{◌≡◌, ℕ, List, [], ◌∷◌, length, map}
 use Rattle.std.specs.List.{AllByRecursion, flat_map}
 use Rattle.sst_sections.specs.declared.version.TableVersion.TheVariants.{V4}
@@ -18,14 +18,13 @@ use Rattle.lsm_formats.specs.Partitions.{handles_block, tops_from}
 use Rattle.lsm_section_writers.specs.Given.{GivenKeys, IsSomePart, keys_in, key_parts_of}
 use Rattle.lsm_section_writers.specs.Held.{AreFiltersOf, CutPart, filters_of, partition_of}
 
--- the sections of the filters of these keys, behind what was written before
+-- the sections of the filters of these keys, after the bytes written before
 abbrev pub sections_behind : FilterKind → BloomConstructionPolicy → List (List ℕ) → Written
     → List BloomFilter → Sections
 sections_behind kind policy keys before fs =
     filter_sections kind V4 (length before.bytes) (filter_parts kind policy keys) fs
 
--- the filters of these keys were written behind what was written before, and so many blocks are
--- counted
+-- the filters of these keys are written after the bytes before, and `count` blocks are counted
 pub record WritesFilter (kind : FilterKind) (policy : BloomConstructionPolicy)
     (keys : List (List ℕ)) (before after : Written) (count : ℕ) : Type 0 where
   pub filters : List BloomFilter
@@ -34,15 +33,14 @@ pub record WritesFilter (kind : FilterKind) (policy : BloomConstructionPolicy)
   pub counted : count ≡ filter_count kind filters
   pub fit : AllByRecursion SectionFits (sections_behind kind policy keys before filters)
 
--- the sections of the filters of parts of keys, behind what was written before
+-- the sections of the filters of parts of keys, after the bytes written before
 abbrev pub key_sections : FilterKind → BloomConstructionPolicy → GivenKeys → Written
     → List BloomFilter → Sections
 key_sections kind policy given before fs =
     filter_sections kind V4 (length before.bytes) (keys_in (key_parts_of policy given)) fs
 
--- the filters of these keys were written behind what was written before: each part has the filter
--- of the policy under which it was cut, what was pending that of the last policy; and so many
--- blocks are counted
+-- the filters of these parts are written after the bytes before, and `count` blocks are counted;
+-- the pending part has this policy, each other part its own
 pub record WritesParts (kind : FilterKind) (policy : BloomConstructionPolicy) (given : GivenKeys)
     (before after : Written) (count : ℕ) : Type 0 where
   pub uncut : kind ≡ Full → given.cut ≡ []
@@ -53,14 +51,14 @@ pub record WritesParts (kind : FilterKind) (policy : BloomConstructionPolicy) (g
   pub counted : count ≡ filter_count kind filters
   pub fit : AllByRecursion SectionFits (key_sections kind policy given before filters)
 
--- the top level of some parts, the first of them at a position
+-- the handles of the top level of these parts, the first part at an offset; and its block
 abbrev pub tops_of : ℕ → List CutPart → List Handle
 tops_of at parts = tops_from at (map partition_of parts)
 
 abbrev pub tops_block : ℕ → List CutPart → List ℕ
 tops_block at parts = handles_block V4 (tops_of at parts)
 
--- the sections of some parts
+-- the sections of these parts and their top level, the first part at an offset
 abbrev pub part_sections : ℕ → List CutPart → Sections
 part_sections at parts =
     (FilterSection, flat_map (filter_block V4) (filters_of parts))

@@ -17,9 +17,9 @@ use sst_blocks::{
 };
 use std::alloc::Allocator;
 
-/// Writes one block of these handles at the end, and answers where it lies. Its payload is put
-/// together in `buffer`. Refused where the block is too large, and [`Error::OutOfMemory`]; nothing
-/// is written then.
+/// Appends one block of these handles, and returns its handle. `buffer` is scratch memory for the
+/// payload. Fails if the block is too large, or with [`Error::OutOfMemory`]; nothing is written
+/// then.
 pub(crate) fn write_block<A: Allocator + Clone>(
     writer: &mut SectionWriter<A>,
     handles: &[KeyedBlockHandle<A>],
@@ -42,8 +42,8 @@ pub(crate) fn write_block<A: Allocator + Clone>(
     Block::write_into(writer, buffer, BlockType::Index, compression)
 }
 
-/// Writes the section of an index's top level, or of the whole of a full one: one block of these
-/// handles. Refused as [`write_block`] is; the bytes that were written before stay.
+/// Writes a section of one block of these handles: the top level, or a full index. Its errors are
+/// those of [`write_block`]; the bytes written before stay.
 pub(crate) fn write_top_level<A: Allocator + Clone>(
     writer: &mut SectionWriter<A>,
     handles: &[KeyedBlockHandle<A>],
@@ -63,9 +63,8 @@ pub(crate) fn write_top_level<A: Allocator + Clone>(
     Ok(())
 }
 
-/// Writes the section of a top level without handles. Only the section writer takes memory: what a
-/// block of no handles has is their count. Refused [`Error::OutOfMemory`] alone; no byte is written
-/// then.
+/// Writes the section of a top level without handles. The payload is a constant, so only the
+/// section writer allocates. Fails only with [`Error::OutOfMemory`]; no byte is written then.
 pub(crate) fn write_empty_top_level<A: Allocator + Clone>(
     writer: &mut SectionWriter<A>,
     compression: CompressionType,

@@ -6,8 +6,8 @@ ghost use Rattle.lsm_section_writers.specs.FilterWords.{fault_for, hash_of, tent
 use sst_blocks::{BloomConstructionPolicy, Builder, Error, filter_bound};
 use std::alloc::Allocator;
 
-/// The filter of the keys whose hashes are in a buffer, by the buffer's allocator. Fails as
-/// [`build_filter`] does. Its size is tested before the allocator is cloned.
+/// Builds the filter of the keys with these hashes, with the buffer's allocator. Tests the size
+/// before it clones the allocator. Its errors are those of [`build_filter`].
 pub(crate) fn build_from_buffer<A: Allocator + Clone>(
     policy: &BloomConstructionPolicy,
     hashes: &Vec<u64, A>,
@@ -25,8 +25,8 @@ pub(crate) fn build_from_buffer<A: Allocator + Clone>(
     build_filter(hashes.allocator().clone()?, policy, hashes)
 }
 
-/// The filter of the keys of these hashes. Refused [`Error::BlockTooLarge`] where its block would
-/// have 2^32 bytes or more, and [`Error::OutOfMemory`].
+/// Builds the filter of the keys with these hashes. Fails with [`Error::BlockTooLarge`] if its
+/// block would have 2^32 bytes or more, or with [`Error::OutOfMemory`].
 fn build_filter<A: Allocator>(
     alloc: A,
     policy: &BloomConstructionPolicy,

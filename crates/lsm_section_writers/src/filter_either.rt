@@ -1,4 +1,4 @@
-//! A writer of a filter of either kind.
+//! The filter writer of a kind chosen at run time.
 
 use crate::filter_full::FullFilterWriter;
 use crate::filter_partitioned::PartitionedFilterWriter;
@@ -6,7 +6,7 @@ use crate::filter_writer::FilterWriter;
 use sst_blocks::{BloomConstructionPolicy, CompressionType, Error, SectionWriter};
 use std::alloc::{Allocator, Global};
 
-/// A writer of a filter, of a kind that is chosen while it runs.
+/// A filter writer of a kind chosen at run time.
 #[derive(Drop)]
 pub enum FilterWriterImpl<A: Allocator = Global> {
     /// Writes one block with all keys.

@@ -15,11 +15,11 @@ use sst_blocks::{
 use std::alloc::{Allocator, Global};
 use std::marker::Model;
 
-/// Writes a filter of one block, which has all keys. A contract sees their hashes.
+/// Writes a filter of one block with all keys. Contracts see the hashes of the keys.
 #[derive(Drop)]
 pub struct FullFilterWriter<A: Allocator = Global> {
     bloom_policy: BloomConstructionPolicy,
-    // The filter is as large as there are keys, so it is built when all are there.
+    // The size depends on the number of keys, so `finish` builds the filter.
     bloom_hash_buffer: Vec<u64, A>,
     failed: bool,
 }
@@ -37,7 +37,7 @@ impl<A: Allocator> Model for FullFilterWriter<A> {
 }
 
 impl<A: Allocator> FullFilterWriter<A> {
-    /// No keys.
+    /// Creates a writer without keys.
     pub fn new(alloc: A, policy: BloomConstructionPolicy) -> FullFilterWriter<A>
         ensures value { result ≡ record { policy = policy; hashes = []; failed = false } }
         ensures holds { HoldsHashes result no_keys }
@@ -81,7 +81,7 @@ impl<A: Allocator + Clone> FilterWriter<A> for FullFilterWriter<A> {
             return Err(Error::WriterFailed); // nothing is written
         }
         if self.bloom_hash_buffer.is_empty() {
-            return Ok(1); // counted, though it is not written
+            return Ok(1); // an empty filter counts as one block
         }
         write_filter(writer, &self.bloom_policy, &self.bloom_hash_buffer)
     }
@@ -100,9 +100,9 @@ impl<A: Allocator + Clone> FilterWriter<A> for FullFilterWriter<A> {
     }
 }
 
-/// Writes the section of the filter of the keys of these hashes, and returns how many blocks it
-/// has. Fails with [`Error::BlockTooLarge`] if the filter is too large, before any memory is taken,
-/// and with [`Error::OutOfMemory`].
+/// Writes the filter section for these hashes, and returns its number of blocks. Fails with
+/// [`Error::BlockTooLarge`] before any allocation if the filter is too large, or with
+/// [`Error::OutOfMemory`].
 fn write_filter<A: Allocator + Clone>(
     writer: &mut SectionWriter<A>,
     policy: &BloomConstructionPolicy,

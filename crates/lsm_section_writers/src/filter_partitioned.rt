@@ -1,4 +1,4 @@
-//! The writer of a filter of partitions.
+//! The writer of a partitioned filter.
 ghost use Rattle.std.specs.Prelude.{◌≡◌, ◌+◌, ◌++◌, ◌∷◌, ℕ, List, [], None, true, false, nat_le};
 ghost use Rattle.std.specs.Prelude.{length, map, take, All, IfOk, IfErr, OnOk, OnErr};
 ghost use Rattle.lsm_section_writers.specs.FilterWords.{AreRising, AreStrictHandles, Cuts, Faults};
@@ -31,7 +31,7 @@ use sst_blocks::{
 use std::alloc::{Allocator, Global};
 use std::marker::Model;
 
-/// A partition that was cut: the last of its keys, and its filter.
+/// A cut partition: its last key and its filter.
 #[derive(Drop)]
 struct FilterPartition<A: Allocator = Global> {
     end_key: KeyBuffer<A>,
@@ -46,18 +46,19 @@ impl<A: Allocator> Model for FilterPartition<A> {
     ghost view = { λ p. record { end_key = p.end_key; filter = p.filter } };
 }
 
-/// Writes a filter of partitions, each cut when it has so many bytes, and a top level that has
-/// their last keys. A contract sees the filters of the partitions that were cut, and the hashes of
-/// the keys behind them.
+/// Writes a partitioned filter: partitions cut at a size in bytes, and a top level of their last
+/// keys.
+///
+/// Contracts see the filters of the cut partitions, and the hashes of the keys after them.
 #[derive(Drop)]
 pub struct PartitionedFilterWriter<A: Allocator = Global> {
     bloom_policy: BloomConstructionPolicy,
     partition_size: u32,
     compression: CompressionType,
-    // what was cut, and where its blocks end when they are written one behind another
+    // the cut partitions, and a bound on the length of their blocks
     partitions: Vec<FilterPartition<A>, A>,
     relative_file_pos: u64,
-    // the keys behind: their hashes, and the last one where there are any
+    // the pending keys: their hashes, and the last one if there is one
     bloom_hash_buffer: Vec<u64, A>,
     last_key: Option<KeyBuffer<A>>,
     failed: bool,
@@ -84,8 +85,11 @@ impl<A: Allocator> Model for PartitionedFilterWriter<A> {
 }
 
 impl<A: Allocator + Clone> PartitionedFilterWriter<A> {
-    /// No keys, and partitions of 4,096 bytes. Refused [`Error::OutOfMemory`] where the allocator
-    /// does not clone.
+    /// Creates a writer without keys, with partitions of 4,096 bytes.
+    ///
+    /// # Errors
+    ///
+    /// Only [`Error::OutOfMemory`], if the allocator cannot be cloned.
     pub fn new(
         alloc: A,
         policy: BloomConstructionPolicy,
@@ -114,7 +118,7 @@ impl<A: Allocator + Clone> PartitionedFilterWriter<A> {
         })
     }
 
-    // Whether the pending keys are cut off.
+    // Returns whether the pending keys are due to be cut.
     fn is_full(&self) -> bool
         ensures { result ≡
             nat_le self.now.size (size_for (tenths_of self.now.policy) (length self.now.hashes)) }
@@ -125,7 +129,7 @@ impl<A: Allocator + Clone> PartitionedFilterWriter<A> {
         approx_filter_size >= self.partition_size as usize
     }
 
-    // Cuts the pending keys off, of which `end_key` is the last.
+    // Cuts the pending keys as a partition; `end_key` is the last of them.
     fn spill_filter_partition(&mut self, end_key: KeyBuffer<A>) -> Result<(), Error>
         requires { AreRising (end_keys self.old.parts ++ end_key ∷ []) }
         ensures ok { OnOk result (Cuts end_key self.old self.new) }
@@ -146,7 +150,7 @@ impl<A: Allocator + Clone> PartitionedFilterWriter<A> {
         Ok(())
     }
 
-    // Adds a key to those that are pending, and cuts them off where they are enough.
+    // Adds a pending key, and cuts the pending keys once their filter reaches the partition size.
     fn push_key(&mut self, key: &[u8]) -> Result<(), Error>
         requires { AreRising (end_keys self.old.parts ++ key.now ∷ []) }
         ensures ok { OnOk result ((given : GivenKeys) → HoldsParts self.old given →
@@ -167,11 +171,11 @@ impl<A: Allocator + Clone> PartitionedFilterWriter<A> {
         }
         match self.last_key.take() {
             Some(end_key) => self.spill_filter_partition(end_key),
-            None => Ok(()), // there is the key that came
+            None => Ok(()), // unreachable: `keep` stored the key
         }
     }
 
-    // How long the block of the pending keys is at most: 0 where there are none.
+    // Returns a bound on the block of the pending keys in bytes: 0 without keys.
     fn pending_bound(&self) -> u64
         ensures { (given : GivenKeys) → HoldsParts self.now given →
             result ≡ key_parts_bound (rest_keys self.now.policy given.pending) }
@@ -182,7 +186,7 @@ impl<A: Allocator + Clone> PartitionedFilterWriter<A> {
         }
     }
 
-    // Tests the sizes of the pending keys' filter and of the section of all parts.
+    // Checks the size bounds of the pending keys' filter and of the section of all partitions.
     fn check_sizes(&self) -> Result<(), Error>
         ensures { (given : GivenKeys) → HoldsParts self.now given →
             Refuses result (size_fault (Partitioned self.now.size) self.now.policy given) }
@@ -197,7 +201,7 @@ impl<A: Allocator + Clone> PartitionedFilterWriter<A> {
         Ok(())
     }
 
-    // Cuts the pending keys off, where there are any.
+    // Cuts the pending keys if there are any.
     fn spill_rest(&mut self) -> Result<(), Error>
         ensures ok { OnOk result ((given : GivenKeys) →
             HoldsParts self.old given → HoldsAll self.new given) }
@@ -205,7 +209,7 @@ impl<A: Allocator + Clone> PartitionedFilterWriter<A> {
         ensures size { self.new.size ≡ self.old.size }
         ensures refused { (given : GivenKeys) → HoldsParts self.old given →
             Faults result (keys_fault self.old.policy given.pending) }
-        // Where nothing is pending it succeeds.
+        // Without pending keys it succeeds.
         ensures idle { OnErr result (self.old.last ≡ None → ⊥) }
     {
         match self.last_key.take() {
@@ -272,9 +276,8 @@ impl<A: Allocator + Clone> FilterWriter<A> for PartitionedFilterWriter<A> {
     }
 }
 
-/// Writes the section of the partitions, one behind another, and the section of their top level.
-/// Answers how many partitions there are. Refused where the top level's block is too large, and
-/// [`Error::OutOfMemory`].
+/// Writes the section of the partitions and that of their top level, and returns the number of
+/// partitions. Fails if the block of the top level is too large, or with [`Error::OutOfMemory`].
 fn write_sections<A: Allocator + Clone>(
     writer: &mut SectionWriter<A>,
     partitions: Vec<FilterPartition<A>, A>,
@@ -296,8 +299,8 @@ fn write_sections<A: Allocator + Clone>(
     Ok(handles.len())
 }
 
-/// Writes the blocks of the partitions, one behind another, and answers the top level's handles of
-/// them. Refused [`Error::OutOfMemory`] alone.
+/// Writes the blocks of the partitions, one after another, and returns their handles for the top
+/// level. Fails only with [`Error::OutOfMemory`].
 fn write_partitions<A: Allocator + Clone>(
     writer: &mut SectionWriter<A>,
     partitions: Vec<FilterPartition<A>, A>,
@@ -318,8 +321,8 @@ fn write_partitions<A: Allocator + Clone>(
     Ok(handles)
 }
 
-/// Writes the block of a partition at the end, and answers the top level's handle of it. Refused
-/// [`Error::OutOfMemory`] alone.
+/// Appends the block of a partition, and returns its handle for the top level. Fails only with
+/// [`Error::OutOfMemory`].
 fn write_partition<A: Allocator + Clone>(
     writer: &mut SectionWriter<A>,
     partition: FilterPartition<A>,
@@ -339,8 +342,8 @@ fn write_partition<A: Allocator + Clone>(
     Ok(KeyedBlockHandle::new(end_key, 0, place))
 }
 
-/// Writes the section of the top level: one block of these handles. Refused where it is too large,
-/// and [`Error::OutOfMemory`].
+/// Writes the section of the top level: one block of these handles. Fails if it is too large, or
+/// with [`Error::OutOfMemory`].
 fn write_top_level<A: Allocator + Clone>(
     writer: &mut SectionWriter<A>,
     handles: &Vec<KeyedBlockHandle<A>, A>,

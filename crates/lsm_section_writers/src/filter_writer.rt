@@ -1,4 +1,4 @@
-//! What writers of a filter do.
+//! The trait of filter writers, and laws of the filters that they write.
 ghost use Rattle.std.specs.Prelude.{◌≡◌, ◌<◌, ◌≤◌, ◌^◌, ◌++◌, ◌∷◌, ℕ, List, [], None, true};
 ghost use Rattle.lsm_section_writers.specs.FilterWords.{AreRising, GivenKeys, IsAdmitted};
 ghost use Rattle.lsm_section_writers.specs.FilterWords.{WritesFilter, WritesParts};
@@ -36,29 +36,34 @@ pub trait FilterWriter<A: Allocator> {
     /// The kind of the filter.
     ghost kind: { Self → FilterKind };
 
-    /// How large the filter is made.
+    /// The policy: how large the filter is made.
     ghost policy: { Self → BloomConstructionPolicy };
 
-    /// Whether it has refused.
+    /// Whether a call failed.
     ghost has_failed: { Self → Bool };
 
-    /// It stands for these keys: those of the parts that were cut, and those that are pending. Of
-    /// most keys nothing but their hashes is kept.
+    /// The writer holds these keys: those of the cut partitions, and the pending ones. Most keys
+    /// are kept as hashes only.
     ghost Holds: { Self → GivenKeys → Type 0 };
 
-    /// The writer after its policy was set.
+    /// The writer after its policy is set.
     ghost with_policy: { Self → BloomConstructionPolicy → Self };
 
-    /// The writer after the size of its partitions was set, where it has partitions.
+    /// The writer after its partition size is set, if it has partitions.
     ghost with_partition_size: { Self → ℕ → Self };
 
-    /// Registers a key, which is greater than those before it. Its hash comes to the pending part,
-    /// which is then cut off where its filter, by the policy in force, is as large as the partition
-    /// size in force; no part before it changes.
+    /// Registers a key that is greater than all before it.
     ///
-    /// Refused [`Error::WriterFailed`] where it has refused before; [`Error::BlockTooLarge`] where
-    /// the filter of a part that is cut behind the key is too large; and [`Error::OutOfMemory`]. It
-    /// has then failed.
+    /// The key becomes pending. The pending keys are cut as a partition once their filter, under
+    /// the current policy, reaches the current partition size. Earlier partitions do not change.
+    ///
+    /// # Errors
+    ///
+    /// - [`Error::WriterFailed`] if an earlier call failed;
+    /// - [`Error::BlockTooLarge`] if the key completes a partition whose filter is too large;
+    /// - [`Error::OutOfMemory`].
+    ///
+    /// After an error the writer has failed.
     fn register_key(&mut self, key: &UserKey<A>) -> Result<(), Error>
         requires { has_failed self.old ≡ false → Rises (Holds self.old) key.now }
         ensures ok { OnOk result ((given : GivenKeys) → Holds self.old given →
@@ -70,13 +75,13 @@ pub trait FilterWriter<A: Allocator> {
         ensures refused { (given : GivenKeys) → Holds self.old given →
             Faults result (option_or (failed_fault (has_failed self.old))
             (register_fault (kind self.old) (policy self.old) given.pending key.now)) }
-        // That it has failed takes no memory to find.
+        // `WriterFailed` comes before `OutOfMemory`.
         ensures first { FaultsFirst result (failed_fault (has_failed self.old)) }
     {
         self.register_key_bytes(key.as_slice())
     }
 
-    /// Registers the key of these bytes, as [`FilterWriter::register_key`] does.
+    /// Registers the key with these bytes; see [`FilterWriter::register_key`].
     fn register_key_bytes(&mut self, key: &[u8]) -> Result<(), Error>
         requires { has_failed self.old ≡ false → Rises (Holds self.old) key.now }
         ensures ok { OnOk result ((given : GivenKeys) → Holds self.old given →
@@ -88,25 +93,26 @@ pub trait FilterWriter<A: Allocator> {
         ensures refused { (given : GivenKeys) → Holds self.old given →
             Faults result (option_or (failed_fault (has_failed self.old))
             (register_fault (kind self.old) (policy self.old) given.pending key.now)) }
-        // That it has failed takes no memory to find.
+        // `WriterFailed` comes before `OutOfMemory`.
         ensures first { FaultsFirst result (failed_fault (has_failed self.old)) };
 
-    /// Writes the filter and returns the number of blocks to count: 1 for a full filter, also
-    /// without keys, else the number of partitions. Without keys it writes nothing and takes no
-    /// memory.
+    /// Writes the filter and returns the number of blocks to count.
+    ///
+    /// It returns 1 for a full filter, even without keys, and else the number of partitions.
+    /// Without keys it writes nothing and does not allocate.
     ///
     /// # Errors
     ///
-    /// The first of these, before any memory is taken:
+    /// The first of these, before any allocation:
     ///
     /// - [`Error::WriterFailed`] if an earlier call failed;
-    /// - [`Error::BlockTooLarge`] if the filter of all keys, or of those after the last cut, needs a
-    ///   block of 2^32 bytes or more;
+    /// - [`Error::BlockTooLarge`] if the filter of all keys, or of those after the last cut, needs
+    ///   a block of 2^32 bytes or more;
     /// - [`Error::SectionTooLarge`] if the blocks of all partitions add up to that.
     ///
     /// Then, for partitions, [`Error::KeyTooLong`] if the last key of one is too long for the top
     /// level, and [`Error::BlockTooLarge`] if the top level is too large. Also
-    /// [`Error::OutOfMemory`]. The bytes that were written before stay.
+    /// [`Error::OutOfMemory`]. The bytes written before stay.
     fn finish(self, writer: &mut SectionWriter<A>) -> Result<usize, Error>
         requires { HasNoFilter writer.old }
         ensures ok { IfOk result (λ n. (given : GivenKeys) → Holds self given →
@@ -116,16 +122,17 @@ pub trait FilterWriter<A: Allocator> {
             Faults result (option_or (failed_fault (has_failed self))
             (given_fault (kind self) (policy self) given)) }
         ensures first { FaultsFirst result (failed_fault (has_failed self)) }
-        // Sizes that the number of keys decides are tested before any memory is taken.
+        // Size faults that depend on the number of keys come before `OutOfMemory`.
         ensures sized { (given : GivenKeys) → Holds self given →
             FaultsFirst result (option_or (failed_fault (has_failed self))
             (size_fault (kind self) (policy self) given)) }
-        // Without keys, only a writer that has failed refuses.
+        // Without keys, only a failed writer returns an error.
         ensures idle { OnErr result (Holds self no_keys → has_failed self ≡ true) };
 
-    /// Sets how large the filter is made, and changes nothing else: the keys that were registered
-    /// stay, and the partitions that were cut stay as they were cut. It is in force for what is
-    /// pending and for what comes.
+    /// Sets the policy: how large the filter is made.
+    ///
+    /// It applies to the pending and all later keys. The registered keys and the cut partitions
+    /// stay.
     fn set_filter_policy(self, bloom_policy: BloomConstructionPolicy) -> Self
         ensures value { result ≡ with_policy self bloom_policy }
         ensures policy { policy result ≡ bloom_policy }
@@ -133,14 +140,14 @@ pub trait FilterWriter<A: Allocator> {
         ensures failed { has_failed result ≡ has_failed self }
         ensures holds { (given : GivenKeys) → Holds self given → Holds result given };
 
-    /// Compresses the top level, where the filter has partitions. What it holds and what it writes
-    /// stay.
+    /// Sets the compression of the top level, if the filter has partitions. This changes neither
+    /// the keys nor the bytes written.
     fn use_tli_compression(self, compression: CompressionType) -> Self
         ensures { result ≡ self };
 
-    /// Sets the size in bytes at which a partition is cut, where the filter has partitions, and
-    /// changes nothing else: what was registered and what was cut stay. It is in force from the
-    /// next key on.
+    /// Sets the size in bytes at which a partition is cut, if the filter has partitions.
+    ///
+    /// It applies from the next key on. The registered keys and the cut partitions stay.
     fn use_partition_size(self, size: u32) -> Self
         ensures value { result ≡ with_partition_size self size }
         ensures policy { policy result ≡ policy self }
@@ -149,8 +156,10 @@ pub trait FilterWriter<A: Allocator> {
         ensures holds { (given : GivenKeys) → Holds self given → Holds result given };
 }
 
-/// A law of partitions of at most 4,194,304 bytes, where the options stayed from the first key on:
-/// the filter of one that is cut behind a key is never too large. The call does nothing.
+/// A law of partition sizes of at most 4,194,304 bytes: the filter of a cut partition is never too
+/// large.
+///
+/// The options must stay unchanged from the first key on. The call does nothing.
 pub fn small_partitions_fit()
     ensures { (kind : FilterKind) (policy : BloomConstructionPolicy) (keys : List (List ℕ))
         (key : List ℕ) → tenths_of policy < 2 ^ 32 → partition_size kind ≤ 4194304 →
@@ -158,13 +167,20 @@ pub fn small_partitions_fit()
 {}
 
 /// A law of keys that were all registered under one kind and one policy, set before the first one.
-/// What a writer stands for then, key by key, is what their list is cut into. So
-/// [`FilterWriter::finish`] writes the filters of the parts of the list: all of it for a full
-/// filter, else the shortest fronts whose filters are as large as the partition size, and what is
-/// left. Memory aside, a writer that has not refused before refuses exactly the fault that is told
-/// of the list: a filter of all keys, or of those behind the last cut, that is too large; then, of
-/// partitions alone, too long a section, and a top level that cannot be written. The call does
-/// nothing.
+///
+/// The keys that the writer holds are the list of keys, cut into its parts. So
+/// [`FilterWriter::finish`] writes the filters of these parts. A full filter has one part with all
+/// keys. Else each part is the shortest prefix of the rest whose filter reaches the partition size,
+/// and the last part is the rest.
+///
+/// Except for [`Error::OutOfMemory`], an unfailed writer fails exactly with the first fault of the
+/// list:
+///
+/// - the filter of all keys, or of those after the last cut, is too large;
+/// - for partitions only, the section is too long;
+/// - for partitions only, the top level cannot be written.
+///
+/// The call does nothing.
 pub fn options_set_before_keys()
     ensures none { (kind : FilterKind) (policy : BloomConstructionPolicy) →
         given_by kind policy [] ≡ no_keys }
@@ -180,12 +196,14 @@ pub fn options_set_before_keys()
         given_fault kind policy (given_by kind policy keys) ≡ filter_fault kind policy keys }
 {}
 
-/// A law of what [`FilterWriter::finish`] writes, whatever options were set between keys: the
-/// filter says yes of each key that was registered. The one block of a full filter loads, and its
-/// filter has the key's hash. Of partitions the first handle of the top level whose end key is not
-/// below the key leads to a block that loads, and its filter has the hash. So a no of the filter
-/// means that the key was not registered. It says too that a key that is registered comes behind
-/// all others. The call does nothing.
+/// A law of what [`FilterWriter::finish`] writes: the filter admits each registered key. So a key
+/// that it does not admit was not registered.
+///
+/// The options may change between keys. The block of a full filter loads, and its filter has the
+/// key's hash. With partitions, take the first handle of the top level whose end key is not below
+/// the key. Its block loads, and the filter in it has the hash.
+///
+/// A second clause: a registered key comes after all others. The call does nothing.
 pub fn registered_keys_are_admitted()
     ensures admitted { (kind : FilterKind) (policy : BloomConstructionPolicy) (given : GivenKeys)
         (before after : Written) (count : ℕ) (behind key : List ℕ) →

@@ -1,4 +1,4 @@
-//! The handles that writers of either kind keep.
+//! The handles that an index writer of either kind holds.
 ghost use Rattle.std.specs.Prelude.{◌≡◌, ◌++◌, ◌∷◌, [], true, false, OnOk, OnErr};
 ghost use Rattle.lsm_section_writers.specs.IndexWords.{Faults, FaultsFirst, failed_fault};
 ghost use Rattle.lsm_section_writers.specs.IndexWords.{handle_with};
@@ -7,7 +7,7 @@ use crate::kept::KeptHandles;
 use sst_blocks::{BlockHandle, Error, SeqNo};
 use std::alloc::{Allocator, Global};
 
-/// The handles that were registered, and whether the writer has refused.
+/// The registered handles, and whether a call failed.
 #[derive(Drop)]
 pub(crate) struct HeldHandles<A: Allocator = Global> {
     pub(crate) handles: KeptHandles<A>,
@@ -15,7 +15,7 @@ pub(crate) struct HeldHandles<A: Allocator = Global> {
 }
 
 impl<A: Allocator> HeldHandles<A> {
-    /// No handles.
+    /// Creates a value without handles.
     pub(crate) fn new(alloc: A) -> HeldHandles<A>
         ensures handles { result.handles ≡ [] }
         ensures failed { result.failed ≡ false }
@@ -28,8 +28,8 @@ impl<A: Allocator> HeldHandles<A> {
 }
 
 impl<A: Allocator + Clone> HeldHandles<A> {
-    /// Keeps a handle of these parts behind the others. Refused [`Error::WriterFailed`] after a
-    /// refusal, and [`Error::OutOfMemory`].
+    /// Appends a handle of these parts. Fails with [`Error::WriterFailed`] if an earlier call
+    /// failed, or with [`Error::OutOfMemory`].
     pub(crate) fn register_ref(
         &mut self,
         end_key: &[u8],

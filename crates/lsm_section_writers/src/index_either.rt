@@ -1,4 +1,4 @@
-//! A writer of an index of either kind.
+//! The index writer of a kind chosen at run time.
 ghost use Rattle.std.specs.Prelude.{◌≡◌};
 ghost use Rattle.lsm_section_writers.specs.IndexEither.{registered_by};
 ghost use Rattle.lsm_section_writers.specs.IndexWords.{AreStrictHandles};
@@ -11,7 +11,7 @@ use lsm_formats::IndexKind;
 use sst_blocks::{BlockHandle, CompressionType, Error, SectionWriter, SeqNo};
 use std::alloc::{Allocator, Global};
 
-/// A writer of an index, of a kind that is chosen while it runs.
+/// An index writer of a kind chosen at run time.
 #[derive(Drop)]
 pub enum IndexWriterImpl<A: Allocator = Global> {
     /// Writes one block with all handles.
@@ -21,7 +21,7 @@ pub enum IndexWriterImpl<A: Allocator = Global> {
 }
 
 impl<A: Allocator> IndexWriterImpl<A> {
-    /// A writer of these handles, in an index of this kind.
+    /// Creates a writer of these handles, for an index of this kind.
     pub(crate) fn of(
         kind: IndexKind,
         compression: CompressionType,

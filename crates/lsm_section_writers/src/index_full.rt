@@ -19,8 +19,7 @@ use sst_blocks::{BlockHandle, CompressionType, Error, SectionWriter, SeqNo};
 use std::alloc::{Allocator, Global};
 use std::marker::Model;
 
-/// Writes an index of one block, which has the handles of all data blocks. A contract sees the
-/// handles.
+/// Writes an index of one block with the handles of all data blocks. Contracts see the handles.
 #[derive(Drop)]
 pub struct FullIndexWriter<A: Allocator = Global> {
     compression: CompressionType,
@@ -44,14 +43,14 @@ impl<A: Allocator> Model for FullIndexWriter<A> {
 }
 
 impl<A: Allocator> FullIndexWriter<A> {
-    /// No handles.
+    /// Creates a writer without handles.
     pub fn new(alloc: A) -> FullIndexWriter<A>
         ensures { result ≡ record { handles = []; kind = Full; failed = false } }
     {
         FullIndexWriter::of(CompressionType::None, HeldHandles::new(alloc))
     }
 
-    /// A writer of these handles.
+    /// Creates a writer of these handles.
     pub(crate) fn of(compression: CompressionType, held: HeldHandles<A>) -> FullIndexWriter<A>
         requires { AreStrictHandles held.handles }
         ensures { result ≡
@@ -60,8 +59,9 @@ impl<A: Allocator> FullIndexWriter<A> {
         FullIndexWriter { compression, held }
     }
 
-    /// A writer of an index of another kind, with the same handles: so a table's writer can choose
-    /// the kind when all handles are there.
+    /// Returns a writer of an index of this kind, with the same handles.
+    ///
+    /// So a caller can choose the kind after all handles are registered.
     pub fn into_kind(self, kind: IndexKind) -> IndexWriterImpl<A>
         ensures { registered_by result ≡ record self { kind = kind } }
     {
@@ -106,8 +106,8 @@ impl<A: Allocator + Clone> BlockIndexWriter<A> for FullIndexWriter<A> {
     }
 }
 
-/// Writes the section of the one block of these handles, and answers how many blocks it has.
-/// Refused where the block is too large, and [`Error::OutOfMemory`].
+/// Writes the section of one block of these handles, and returns its number of blocks. Fails if the
+/// block is too large, or with [`Error::OutOfMemory`].
 fn write_section<A: Allocator + Clone>(
     writer: &mut SectionWriter<A>,
     kept: KeptHandles<A>,

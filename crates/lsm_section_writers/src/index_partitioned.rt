@@ -1,4 +1,4 @@
-//! The writer of an index of partitions.
+//! The writer of a partitioned index.
 ghost use Rattle.std.specs.Prelude.{◌≡◌, ◌+◌, ◌-◌, ◌<◌, ◌≤◌, ◌^◌, ◌++◌, ◌∷◌, [], false, length};
 ghost use Rattle.std.specs.Prelude.{take};
 ghost use Rattle.std.specs.Prelude.{IfOk, IfErr, OnOk, OnErr};
@@ -25,12 +25,13 @@ use sst_blocks::{
 use std::alloc::{Allocator, Global};
 use std::marker::Model;
 
-/// What a handle counts towards the size of its partition, beside the length of its end key.
+/// Bytes that a handle adds to the size of its partition, besides its end key.
 const HANDLE_SIZE: u64 = 48;
 
-/// Writes an index of partitions, each cut when it has so many bytes, and a top level with their
-/// handles. A contract sees the handles of the data blocks, which are all kept until the writer
-/// finishes.
+/// Writes a partitioned index: partitions cut at a size in bytes, and a top level of their handles.
+///
+/// Keeps the handles of all data blocks until [`BlockIndexWriter::finish`]. Contracts see these
+/// handles.
 #[derive(Drop)]
 pub struct PartitionedIndexWriter<A: Allocator = Global> {
     compression: CompressionType,
@@ -55,14 +56,14 @@ impl<A: Allocator> Model for PartitionedIndexWriter<A> {
 }
 
 impl<A: Allocator> PartitionedIndexWriter<A> {
-    /// No handles, and partitions of 4,096 bytes.
+    /// Creates a writer without handles, with partitions of 4,096 bytes.
     pub fn new(alloc: A) -> PartitionedIndexWriter<A>
         ensures { result ≡ record { handles = []; kind = Partitioned 4096; failed = false } }
     {
         PartitionedIndexWriter::of(CompressionType::None, 4_096, HeldHandles::new(alloc))
     }
 
-    /// A writer of these handles, in partitions of `partition_size` bytes.
+    /// Creates a writer of these handles, with partitions of `partition_size` bytes.
     pub(crate) fn of(
         compression: CompressionType,
         partition_size: u32,
@@ -126,9 +127,8 @@ impl<A: Allocator + Clone> BlockIndexWriter<A> for PartitionedIndexWriter<A> {
     }
 }
 
-/// Writes the section of the partitions where there are none, and the section of a top level
-/// without handles. Only the section writer takes memory. Refused [`Error::OutOfMemory`] alone; no
-/// byte is written then.
+/// Writes an empty section of partitions, and the section of a top level without handles. Only the
+/// section writer allocates. Fails only with [`Error::OutOfMemory`]; no byte is written then.
 fn write_no_partitions<A: Allocator + Clone>(
     writer: &mut SectionWriter<A>,
     compression: CompressionType,
@@ -143,9 +143,8 @@ fn write_no_partitions<A: Allocator + Clone>(
     write_empty_top_level(writer, compression)
 }
 
-/// Writes the section of the partitions of these handles, and the section of their top level.
-/// Answers how many partitions there are. Refused where a block or all of them are too large, and
-/// [`Error::OutOfMemory`].
+/// Writes the section of the partitions and that of their top level, and returns the number of
+/// partitions. Fails if a block or the section is too large, or with [`Error::OutOfMemory`].
 fn write_sections<A: Allocator + Clone>(
     writer: &mut SectionWriter<A>,
     kept: KeptHandles<A>,
@@ -181,9 +180,9 @@ fn write_sections<A: Allocator + Clone>(
     Ok(tops.len())
 }
 
-/// Cuts the handles into partitions, writes their blocks one behind another, and puts the top
-/// level's handles of them into `tops`, which is empty. Refused where a block or all of them are
-/// too large, and [`Error::OutOfMemory`].
+/// Cuts the handles into partitions, writes their blocks one after another, and puts the top
+/// level's handles of them into `tops`, which is empty. Fails if a block or the section is too
+/// large, or with [`Error::OutOfMemory`].
 fn write_partitions<A: Allocator + Clone>(
     writer: &mut SectionWriter<A>,
     handles: &[KeyedBlockHandle<A>],
@@ -224,8 +223,7 @@ fn write_partitions<A: Allocator + Clone>(
     Ok(())
 }
 
-/// The size of a partition of `size` bytes with a handle more. It stays at the largest number where
-/// the sum would pass it.
+/// Returns the size of a partition of `size` bytes with one more handle. The sum saturates.
 fn with_handle<A: Allocator>(size: u64, handle: &KeyedBlockHandle<A>) -> u64
     ensures { result ≡ capped (size + handle_size handle.now) }
 {
@@ -233,9 +231,9 @@ fn with_handle<A: Allocator>(size: u64, handle: &KeyedBlockHandle<A>) -> u64
     size.saturating_add(HANDLE_SIZE)
 }
 
-/// Writes the block of a part of the handles at the end, and puts the top level's handle of it
-/// behind the others. The blocks of the section begin at `base`. Refused where the block or the
-/// section so far is too large, and [`Error::OutOfMemory`].
+/// Appends the block of a partition, and adds its handle to `tops`. The blocks of the section start
+/// at `base`. Fails if the block or the section so far is too large, or with
+/// [`Error::OutOfMemory`].
 fn write_partition<A: Allocator + Clone>(
     writer: &mut SectionWriter<A>,
     base: u64,

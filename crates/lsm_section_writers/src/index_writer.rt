@@ -1,4 +1,4 @@
-//! What writers of an index do.
+//! The trait of index writers.
 
 use sst_blocks::{BlockHandle, CompressionType, Error, KeyedBlockHandle, SectionWriter, SeqNo};
 use std::alloc::Allocator;
@@ -24,15 +24,18 @@ pub trait BlockIndexWriter<A: Allocator> {
     /// The kind of the index.
     ghost kind: { Self → IndexKind };
 
-    /// The handles that were registered.
+    /// The registered handles.
     ghost registered: { Self → List Handle };
 
-    /// Whether it has refused.
+    /// Whether a call failed.
     ghost has_failed: { Self → Bool };
 
-    /// Registers a data block. The blocks are registered in strict order of their end keys and
-    /// numbers. Refused [`Error::WriterFailed`] where it has refused before, and
-    /// [`Error::OutOfMemory`]; it has then failed.
+    /// Registers a data block. Blocks come in strict order of end key and sequence number.
+    ///
+    /// # Errors
+    ///
+    /// [`Error::WriterFailed`] if an earlier call failed, or [`Error::OutOfMemory`]. After an error
+    /// the writer has failed.
     fn register_data_block(&mut self, handle: &KeyedBlockHandle<A>) -> Result<(), Error>
         requires { AreStrictHandles (registered self.old ++ handle.now ∷ []) }
         ensures ok { OnOk result (registered self.new ≡ registered self.old ++ handle.now ∷ []) }
@@ -41,16 +44,17 @@ pub trait BlockIndexWriter<A: Allocator> {
         ensures failed { OnErr result (has_failed self.new ≡ true) }
         ensures kind { kind self.new ≡ kind self.old }
         ensures refused { Faults result (failed_fault (has_failed self.old)) }
-        // That it has failed takes no memory to find.
+        // `WriterFailed` comes before `OutOfMemory`.
         ensures first { FaultsFirst result (failed_fault (has_failed self.old)) }
     {
         let block = BlockHandle::new(handle.offset(), handle.size());
         self.register_ref(handle.end_key().as_slice(), handle.seqno(), block)
     }
 
-    /// Registers a data block by where it lies and by the key and the number of its last entry, as
-    /// [`BlockIndexWriter::register_data_block`] does. The end key is copied behind the others,
-    /// into memory that all of them share.
+    /// Registers a data block by its handle and by the key and sequence number of its last entry;
+    /// see [`BlockIndexWriter::register_data_block`].
+    ///
+    /// It copies the end key into one buffer that all end keys share.
     fn register_ref(
         &mut self,
         end_key: &[u8],
@@ -66,19 +70,24 @@ pub trait BlockIndexWriter<A: Allocator> {
         ensures failed { OnErr result (has_failed self.new ≡ true) }
         ensures kind { kind self.new ≡ kind self.old }
         ensures refused { Faults result (failed_fault (has_failed self.old)) }
-        // That it has failed takes no memory to find.
+        // `WriterFailed` comes before `OutOfMemory`.
         ensures first { FaultsFirst result (failed_fault (has_failed self.old)) };
 
-    /// Writes the index, and answers of how many blocks it is, the top level of partitions not
-    /// counted. Refused [`Error::WriterFailed`] where it has refused before. Then each block in
-    /// turn is refused [`Error::KeyTooLong`] where an end key is too long, and
-    /// [`Error::BlockTooLarge`] where its length bound is 2^32 bytes or more; behind a partition
-    /// [`Error::SectionTooLarge`] where the bounds of the partitions so far come to that; the top
-    /// level is last. Also [`Error::OutOfMemory`]. The bytes that were written before stay.
+    /// Writes the index, and returns its number of blocks without the top level of partitions.
     ///
-    /// Without handles it writes the section of the partitions, where it has partitions, with no
-    /// bytes, and a block of no handles. Where that is refused, no byte is written (`idle`); that
-    /// nothing but the section writer takes memory for it is to be read in the code.
+    /// Without handles it writes a block of no handles, after an empty section of partitions if the
+    /// index has partitions. Only the section writer allocates then; this is not proved.
+    ///
+    /// # Errors
+    ///
+    /// - [`Error::WriterFailed`] if an earlier call failed;
+    /// - [`Error::KeyTooLong`] if an end key is too long, and [`Error::BlockTooLarge`] if the size
+    ///   bound of a block reaches 2^32, for each block in turn, the top level last;
+    /// - [`Error::SectionTooLarge`] after a partition, if the bounds of the partitions so far add
+    ///   up to 2^32 or more;
+    /// - [`Error::OutOfMemory`].
+    ///
+    /// The bytes written before stay. Without handles, an error writes no byte.
     fn finish(self, writer: &mut SectionWriter<A>) -> Result<usize, Error>
         requires { HasNoIndex writer.old }
         ensures ok { OnOk result (writer.new ≡ appended writer.old
@@ -93,18 +102,19 @@ pub trait BlockIndexWriter<A: Allocator> {
         ensures refused { Faults result
             (index_fault (kind self) (has_failed self) (registered self)) }
         ensures first { FaultsFirst result (failed_fault (has_failed self)) }
-        // Without handles a refusal writes no byte.
+        // Without handles, an error writes no byte.
         ensures idle { OnErr result (registered self ≡ [] →
             writer.new.bytes ≡ writer.old.bytes) };
 
-    /// Compresses the blocks of the index. What it holds and what it writes stay.
+    /// Sets the compression of the index blocks. This changes neither the handles nor the bytes
+    /// written.
     fn use_compression(self, compression: CompressionType) -> Self
         ensures kind { kind result ≡ kind self }
         ensures registered { registered result ≡ registered self }
         ensures failed { has_failed result ≡ has_failed self };
 
-    /// Sets the size in bytes at which a partition is cut, where the index has partitions. Each
-    /// handle counts for the length of its end key and 48 bytes.
+    /// Sets the size in bytes at which a partition is cut, if the index has partitions. Each handle
+    /// counts with the length of its end key plus 48 bytes.
     fn use_partition_size(self, size: u32) -> Self
         ensures kind { kind result ≡ index_with_size size (kind self) }
         ensures registered { registered result ≡ registered self }

@@ -1,4 +1,4 @@
-//! Handles that are kept until all of them are written.
+//! Storage of handles until all of them are written.
 ghost use Rattle.std.specs.Prelude.{◌≡◌, ◌↔◌, ◌++◌, ◌∷◌, [], length, unwrap_or, IsTrue};
 ghost use Rattle.std.specs.Prelude.{IfOk, IfErr, OnOk, OnErr};
 ghost use Rattle.sst_entries.specs.declared.error.Error.TheVariants.{OutOfMemory};
@@ -9,8 +9,8 @@ use sst_blocks::{BlockHandle, Error, KeyedBlockHandle, SeqNo, Slice};
 use std::alloc::{Allocator, Global};
 use std::marker::Model;
 
-/// A handle whose end key lies among others: where it begins and ends there, and the rest of the
-/// handle. Places are counted from the first key, so they hold wherever the keys are moved to.
+/// A handle with its end key as a range of a shared buffer. Offsets start at the first key, so they
+/// stay valid when the buffer moves.
 #[derive(Clone, Copy)]
 pub(crate) struct HandlePlace {
     start: usize,
@@ -19,11 +19,11 @@ pub(crate) struct HandlePlace {
     block: BlockHandle,
 }
 
-/// Handles in the order in which they came. Their end keys lie one behind another in one buffer,
-/// so that a handle takes no memory of its own. A contract sees the handles.
+/// Handles in the order of registration. Their end keys share one buffer, so a handle needs no
+/// allocation of its own. Contracts see the handles.
 #[derive(Drop)]
 pub(crate) struct KeptHandles<A: Allocator = Global> {
-    // none before the first handle
+    // `None` before the first handle
     keys: Option<KeyBuffer<A>>,
     places: Vec<HandlePlace, A>,
 }
@@ -41,7 +41,7 @@ impl<A: Allocator> Model for KeptHandles<A> {
 }
 
 impl<A: Allocator> KeptHandles<A> {
-    /// No handles.
+    /// Creates a value without handles.
     pub(crate) fn new(alloc: A) -> KeptHandles<A>
         ensures { result ≡ [] }
     {
@@ -51,7 +51,7 @@ impl<A: Allocator> KeptHandles<A> {
         }
     }
 
-    /// Whether there are no handles.
+    /// Returns whether there are no handles.
     pub(crate) fn is_empty(&self) -> bool
         ensures { IsTrue result ↔ (self.now ≡ []) }
     {
@@ -60,8 +60,8 @@ impl<A: Allocator> KeptHandles<A> {
 }
 
 impl<A: Allocator + Clone> KeptHandles<A> {
-    /// Keeps a handle of these parts behind the others. Refused [`Error::OutOfMemory`] alone;
-    /// nothing changes then.
+    /// Appends a handle of these parts. Fails only with [`Error::OutOfMemory`]; nothing changes
+    /// then.
     pub(crate) fn push(
         &mut self,
         end_key: &[u8],
@@ -82,7 +82,8 @@ impl<A: Allocator + Clone> KeptHandles<A> {
         Ok(())
     }
 
-    /// The handles, whose end keys share the buffer's memory. Refused [`Error::OutOfMemory`] alone.
+    /// Returns the handles; their end keys share the buffer. Fails only with
+    /// [`Error::OutOfMemory`].
     pub(crate) fn into_handles(self) -> Result<Vec<KeyedBlockHandle<A>, A>, Error>
         ensures ok { IfOk result (λ hs. hs.items ≡ self) }
         ensures err { IfErr result (λ e. e ≡ OutOfMemory) }
@@ -97,8 +98,8 @@ impl<A: Allocator + Clone> KeptHandles<A> {
     }
 }
 
-/// Puts an end key behind the others, and answers where it begins and ends. Refused
-/// [`Error::OutOfMemory`] alone; nothing changes then.
+/// Appends an end key to the buffer, and returns its start and end offset. Fails only with
+/// [`Error::OutOfMemory`]; nothing changes then.
 fn put_key<A: Allocator + Clone>(
     keys: &mut Option<KeyBuffer<A>>,
     alloc: &A,
@@ -121,8 +122,8 @@ fn put_key<A: Allocator + Clone>(
     Ok((0, end))
 }
 
-/// The handles at these places, whose end keys are parts of `keys`. Refused [`Error::OutOfMemory`]
-/// alone.
+/// Returns the handles of these ranges; their end keys are slices of `keys`. Fails only with
+/// [`Error::OutOfMemory`].
 fn shared_handles<A: Allocator>(
     alloc: A,
     keys: &Slice<A>,

@@ -1,4 +1,4 @@
-//! Keys in memory that stays.
+//! A buffer of keys whose memory is reused.
 ghost use Rattle.std.specs.Prelude.{◌≡◌, ◌++◌, Some, length, IfOk, IfErr, OnOk, OnErr};
 ghost use Rattle.sst_entries.specs.declared.error.Error.TheVariants.{OutOfMemory};
 
@@ -6,8 +6,9 @@ use sst_blocks::{Error, UserKey};
 use std::alloc::{Allocator, Global};
 use std::marker::Model;
 
-/// The bytes of a key, or of some keys one behind another, in memory that stays when others come
-/// into it. A contract sees the bytes.
+/// The bytes of one key, or of several keys one after another. New bytes reuse the memory.
+///
+/// Contracts see the bytes.
 #[derive(Drop)]
 #[derive_where(Debug)]
 pub struct KeyBuffer<A: Allocator = Global> {
@@ -23,7 +24,11 @@ impl<A: Allocator> Model for KeyBuffer<A> {
 }
 
 impl<A: Allocator> KeyBuffer<A> {
-    /// A copy of a key. Refused [`Error::OutOfMemory`] alone.
+    /// Copies a key into a new buffer.
+    ///
+    /// # Errors
+    ///
+    /// Only [`Error::OutOfMemory`].
     pub fn from(alloc: A, key: &[u8]) -> Result<KeyBuffer<A>, Error>
         ensures ok { IfOk result (λ b. b ≡ key.now) }
         ensures err { IfErr result (λ e. e ≡ OutOfMemory) }
@@ -33,7 +38,7 @@ impl<A: Allocator> KeyBuffer<A> {
         Ok(KeyBuffer { bytes })
     }
 
-    /// The bytes.
+    /// Returns the bytes.
     #[inline]
     pub fn as_slice(&self) -> &[u8]
         ensures { result.now ≡ self.now }
@@ -41,7 +46,7 @@ impl<A: Allocator> KeyBuffer<A> {
         self.bytes.as_slice()
     }
 
-    /// How many bytes there are.
+    /// Returns the number of bytes.
     #[inline]
     pub fn len(&self) -> usize
         ensures { result ≡ length self.now }
@@ -49,8 +54,11 @@ impl<A: Allocator> KeyBuffer<A> {
         self.bytes.len()
     }
 
-    /// Puts another key in the place of what it has. Refused [`Error::OutOfMemory`] alone; nothing
-    /// changes then.
+    /// Replaces the bytes by those of another key.
+    ///
+    /// # Errors
+    ///
+    /// Only [`Error::OutOfMemory`]; nothing changes then.
     pub fn set(&mut self, key: &[u8]) -> Result<(), Error>
         ensures ok { OnOk result (self.new ≡ key.now) }
         ensures left { OnErr result (self.new ≡ self.old) }
@@ -65,8 +73,11 @@ impl<A: Allocator> KeyBuffer<A> {
         Ok(())
     }
 
-    /// Puts bytes behind those that it has. Refused [`Error::OutOfMemory`] alone; nothing changes
-    /// then.
+    /// Appends bytes.
+    ///
+    /// # Errors
+    ///
+    /// Only [`Error::OutOfMemory`]; nothing changes then.
     pub fn append(&mut self, bytes: &[u8]) -> Result<(), Error>
         ensures ok { OnOk result (self.new ≡ self.old ++ bytes.now) }
         ensures left { OnErr result (self.new ≡ self.old) }
@@ -81,8 +92,11 @@ impl<A: Allocator + Clone> KeyBuffer<A> {
     ghost use Rattle.std.specs.Prelude.{◌≡◌, Some, IfOk, IfErr, OnOk, OnErr};
     ghost use Rattle.sst_entries.specs.declared.error.Error.TheVariants.{OutOfMemory};
 
-    /// The bytes as a key, whose memory is that of the buffer. Refused [`Error::OutOfMemory`]
-    /// alone.
+    /// Converts the buffer into a key, which takes over the buffer's memory.
+    ///
+    /// # Errors
+    ///
+    /// Only [`Error::OutOfMemory`].
     pub fn into_key(self) -> Result<UserKey<A>, Error>
         ensures ok { IfOk result (λ key. key ≡ self) }
         ensures err { IfErr result (λ e. e ≡ OutOfMemory) }
@@ -90,8 +104,11 @@ impl<A: Allocator + Clone> KeyBuffer<A> {
         UserKey::from_vec(self.bytes)
     }
 
-    /// Keeps a key in the place of the one that was kept, in its memory where there is one. Refused
-    /// [`Error::OutOfMemory`] alone; nothing changes then.
+    /// Stores a key in `kept`, in the memory of the key stored before, if there is one.
+    ///
+    /// # Errors
+    ///
+    /// Only [`Error::OutOfMemory`]; nothing changes then.
     pub fn keep(kept: &mut Option<KeyBuffer<A>>, alloc: &A, key: &[u8]) -> Result<(), Error>
         ensures ok { OnOk result (kept.new ≡ Some key.now) }
         ensures left { OnErr result (kept.new ≡ kept.old) }

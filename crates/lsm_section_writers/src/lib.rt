@@ -1,5 +1,5 @@
-//! Writers of the sections behind a table's data blocks: the filter of its keys, and the index of
-//! its blocks, each as one block, or in partitions below a top level.
+//! Writers of the index and the filter of a table, each as one block, or as partitions with a top
+//! level.
 #![tactic(auto)]
 
 mod block;

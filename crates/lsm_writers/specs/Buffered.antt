@@ -1,4 +1,4 @@
--- The entries of a block that is being filled, in the bytes of its payload.
+-- The entries of a block that is being filled, and the bytes of its payload.
 use Rattle.std.specs.Prelude.{◌≡◌, ℕ, ◌+◌, ◌≤◌, List, [], ◌++◌, length, drop, slice_range, Option}
 use Rattle.std.specs.Prelude.{Some, None, unwrap_or}
 use Rattle.std.specs.List.{AllByRecursion, flat_map}
@@ -12,15 +12,15 @@ use Rattle.sst_blocks.specs.Reading.{entry_at}
 use Rattle.lsm_writers.specs.declared.writer.block_buffer.Place.{Place}
 use Rattle.lsm_writers.specs.declared.writer.block_buffer.Mark.{Mark}
 
--- the n entries that the bytes behind the count of a payload spell
+-- the n entries encoded in a payload, after its count
 unfoldable pub entries_behind : ℕ → List ℕ → List Entry
 entries_behind n bytes = unwrap_or (items_at (entry_at V4) n (drop 4 bytes)) []
 
--- the bytes of some entries, one behind the other
+-- the encoded entries, one after another
 abbrev pub body : List Entry → List ℕ
 body es = flat_map (spelled V4) es
 
--- the entry that lies at a place of some bytes; its value runs to their end
+-- the entry with its key and value at these offsets; its value runs to the end of the bytes
 abbrev pub placed : List ℕ → Place → Entry
 placed bytes p = entry (slice_range bytes p.key p.value) (drop p.value bytes) p.seqno p.value_type
 
@@ -28,21 +28,21 @@ abbrev pub IsWithin : List ℕ → Option Place → Type 0
 IsWithin bytes None = Unit {0}
 IsWithin bytes (Some p) = (p.key ≤ p.value) × (p.value ≤ length bytes)
 
--- how many entries there are, where their bytes end behind the count, and where the last one lies
+-- a checkpoint: the number of entries, the length of their bytes with the count, the last entry
 pub record IsMark (m : Mark) (es : List Entry) : Type 0 where
   pub count : m.len ≡ length es
   pub ends : m.end ≡ 4 + length (body es)
   pub within : IsWithin (body es) m.last
   pub last_is : last_of None es ≡ option_map (placed (body es)) m.last
 
--- the bytes are room for a count, and then these entries
+-- the bytes are four bytes for a count, then these entries
 pub record AreBuffered (bytes : List ℕ) (m : Mark) (es : List Entry) : Type 0 where
   pub room : 4 ≤ length bytes
   pub bytes_are : drop 4 bytes ≡ body es
   pub fit : AllByRecursion (IsSpellable V4) es
   pub mark : IsMark m es
 
--- a mark of the entries at the front
+-- a checkpoint after the first entries of a list
 pub record MarksFront (m : Mark) (es : List Entry) : Type 0 where
   pub front : List Entry
   pub rest : List Entry

@@ -1,4 +1,4 @@
--- What a writer counts while it writes.
+-- The counts of a writer.
 use Rattle.std.specs.Prelude.{ℕ, ◌+◌, ◌-◌, ◌<◌, ◌≤◌, ◌^◌, List, [], ◌++◌, length, min, max}
 use Rattle.std.specs.Prelude.{count_by, sum_by, Option, Some, None, unwrap_or}
 use Rattle.std.specs.Option.{option_or}
@@ -18,7 +18,7 @@ use Rattle.lsm_formats.specs.MetaBlock.{BlockCounts, meta_items}
 use Rattle.lsm_formats.specs.declared.options.Options.{Options}
 use Rattle.lsm_formats.specs.declared.label.Label.{Label}
 
--- nothing was written
+-- the counts of an empty list
 abbrev pub no_counts : {A : Type 0} → Metadata A
 no_counts = record {
   data_block_count = 0;
@@ -35,7 +35,8 @@ no_counts = record {
   highest_seqno = 0;
 }
 
--- blocks, items, bytes and the last key are those that were cut; the rest counts the whole list
+-- the counts of a list: blocks, items, bytes and the last key count what was cut, the rest all
+-- entries
 abbrev pub metadata_of : {A : Type 0} → TableVersion → List (List Entry) → List Entry → Metadata A
 metadata_of v cut pending =
     let es = joined cut ++ pending in
@@ -54,12 +55,12 @@ metadata_of v cut pending =
       highest_seqno = highest_seqno es;
     }
 
--- the first key that an entry brings: its own, where there is none yet
+-- the first key that an entry adds: its own if there was none
 abbrev pub brought : Option (List ℕ) → List ℕ → Option (List ℕ)
 brought None key = Some key
 brought (Some first) key = None
 
--- what an entry adds to the counts, after the one before it
+-- what an entry adds to the counts, given the entry before it
 abbrev pub tally_of : {A : Type 0} → Option Entry → Entry → Option (List ℕ) → Tally A
 tally_of before e first = record {
   starts_key = starts_key before e;
@@ -70,7 +71,7 @@ tally_of before e first = record {
   first_key = brought first e.user_key;
 }
 
--- one more entry is counted
+-- the counts with one more entry
 abbrev pub added : {A : Type 0} → Tally A → Metadata A → Metadata A
 added t m = record m {
   tombstone_count = m.tombstone_count + one_if t.is_tombstone;
@@ -82,18 +83,18 @@ added t m = record m {
   highest_seqno = max m.highest_seqno t.seqno;
 }
 
--- one more entry is counted, after the one before it
+-- the counts with one more entry, given the entry before it
 abbrev pub with_entry : {A : Type 0} → Option Entry → Entry → Metadata A → Metadata A
 with_entry before e m = added (tally_of before e m.first_key) m
 
--- no count is at its largest value
+-- each count can grow by one
 pub record HasRoom {A : Type 0} (m : Metadata A) : Type 0 where
   pub tombstones : m.tombstone_count + 1 < 2 ^ 64
   pub weak : m.weak_tombstone_count + 1 < 2 ^ 64
   pub reclaimable : m.weak_tombstone_reclaimable_count + 1 < 2 ^ 64
   pub keys : m.key_count + 1 < 2 ^ 64
 
--- what a meta block says of the list that was counted
+-- the facts of a list in its meta block, by these counts
 abbrev pub counted_facts : {A : Type 0} → Metadata A → ListFacts
 counted_facts m = record {
   item_count = m.item_count;
@@ -107,14 +108,14 @@ counted_facts m = record {
   highest = m.highest_seqno;
 }
 
--- the items of the meta block of what was counted
+-- the items of the meta block, by these counts
 unfoldable pub counted_items : {A : Type 0} → Label → Options → BlockCounts → Metadata A → List
     Entry
 counted_items label options counts m =
     meta_items V4 label options counts (counted_facts m)
     m.data_block_count m.file_pos.0 m.uncompressed_size
 
--- the first and the last key are no longer than a table takes
+-- the first and the last key are at most as long as a key of a table may be
 pub record HasShortKeys {A : Type 0} (m : Metadata A) : Type 0 where
   pub first : length (unwrap_or m.first_key []) ≤ longest_key V4
   pub last : length (unwrap_or m.last_key []) ≤ longest_key V4

@@ -1,4 +1,4 @@
--- The data blocks that were cut, and the chunks that their bytes hold.
+-- The data blocks cut so far, and the chunks that their bytes encode.
 use Rattle.std.specs.Prelude.{◌≡◌, ℕ, zero, suc, ◌+◌, ◌*◌, ◌<◌, ◌≤◌, ◌^◌, Bool, false, List, []}
 use Rattle.std.specs.Prelude.{◌∷◌, ◌++◌, length, take, drop, Option, Some, None, unwrap_or, sum_by}
 use Rattle.std.specs.List.{AllByRecursion}
@@ -19,27 +19,27 @@ use Rattle.lsm_formats.specs.Chunks.{joined}
 use Rattle.lsm_formats.specs.Facts.{last_key}
 use Rattle.lsm_formats.specs.Index.{handles, data_section}
 
--- the chunks of the blocks that were cut, and whether cutting has refused
+-- the chunks of the blocks cut so far, and whether a cut failed
 pub record Cut : Type 0 where
   pub chunks : List (List Entry)
   pub failed : Bool
 
--- the entries of n blocks at the front of some bytes, a list for each block
+-- the chunks of the first n blocks in some bytes
 unfoldable pub chunks_in : TableVersion → ℕ → List ℕ → List (List Entry)
 chunks_in v zero bytes = []
 chunks_in v (suc n) bytes =
     unwrap_or (entries_in v (take (data_len bytes) (drop header_len bytes))) []
     ∷ chunks_in v n (drop (header_len + data_len bytes) bytes)
 
--- a chunk whose block reads back
+-- a chunk that its block decodes to
 pub record IsReadable (v : TableVersion) (c : List Entry) : Type 0 where
   pub some : 0 < length c
   pub reads : entries_in v (payload v c) ≡ Some c
   pub short : header_len + length (payload v c) < 2 ^ 32
   pub wide : entry_head_len * length c ≤ length (payload v c)
 
--- the bytes begin with the blocks of the chunks, and have nothing else unless a block could not
--- be registered; the index has the handles of all blocks
+-- the bytes are the blocks of these chunks, with a rest only after a failed registration; the index
+-- has the handles of these blocks
 pub record AreCut (chunks : List (List Entry)) (w : Written) (hs : List Handle)
     (last : Option Entry) (failed : Bool) : Type 0 where
   pub rest : List ℕ
@@ -51,12 +51,11 @@ pub record AreCut (chunks : List (List Entry)) (w : Written) (hs : List Handle)
   pub strict : IsStrict (joined chunks)
   pub last_is : last ≡ last_of None (joined chunks)
 
--- the bytes begin with the blocks of the chunks, and have nothing else unless an index writer could
--- not register a block; that writer has the handles of all blocks
+-- the same for an index writer that has the handles and the failure flag
 abbrev pub AreCutBy : List (List Entry) → Written → Registered → Option Entry → Type 0
 AreCutBy chunks w index last = AreCut chunks w index.handles last index.failed
 
--- entries may be cut off behind the blocks that were cut
+-- these entries can be cut as the next block
 pub record CanCut (w : Written) (hs : List Handle) (failed : Bool) (es : List Entry) : Type 0 where
   pub chunks : List (List Entry)
   pub last : Option Entry
@@ -64,12 +63,12 @@ pub record CanCut (w : Written) (hs : List Handle) (failed : Bool) (es : List En
   pub works : failed ≡ false
   pub strict : IsStrict (joined chunks ++ es)
 
--- what is left as a chunk, where there is something
+-- the rest as a chunk, if it has entries
 abbrev pub rest_chunk : List Entry → List (List Entry)
 rest_chunk [] = []
 rest_chunk (e ∷ es) = (e ∷ es) ∷ []
 
--- the counts of the blocks that were cut
+-- the counts, with those of blocks set for these chunks
 abbrev pub with_cut : {A : Type 0} → List (List Entry) → Metadata A → Metadata A
 with_cut cs m = record m {
   data_block_count = length cs;
@@ -79,6 +78,6 @@ with_cut cs m = record m {
   last_key = last_key (joined cs);
 }
 
--- the counts are those of the blocks that were cut
+-- the counts of blocks are those of these chunks
 pub record CountsCut {A : Type 0} (cs : List (List Entry)) (m : Metadata A) : Type 0 where
   pub are : m ≡ with_cut cs m

@@ -1,4 +1,4 @@
--- The keys of a table's filter, and the filter writer that has them.
+-- The keys of a table's filter, and the filter writer that holds them.
 use Rattle.std.specs.Prelude.{◌≡◌, ℕ, ◌≤◌, Bool, false, ◌&&◌, nat_lt, List, [], ◌∷◌, ◌++◌, Option}
 use Rattle.std.specs.Prelude.{Some, None, if◌then◌else◌}
 use Rattle.sst_entries.specs.Entry.{Entry}
@@ -13,12 +13,12 @@ use Rattle.lsm_section_writers.specs.Given.{given_by}
 use Rattle.lsm_section_writers.specs.FilterRefusing.{partition_size}
 use Rattle.lsm_section_writers.specs.Rising.{AreRising}
 
--- the key of an entry as a filter has it: none without an active policy, and none but the first of
--- its key
+-- the keys that an entry registers: its key if it is the first of its key and the policy is active
 abbrev pub registered_key : BloomConstructionPolicy → Bool → List ℕ → List (List ℕ)
 registered_key policy starts key = if nat_lt 0 (tenths_of policy) && starts then key ∷ [] else []
 
--- a filter writer of a kind and a policy that has these keys, all given under them
+-- an unfailed filter writer of this kind and policy that holds these keys, all registered under
+-- both
 pub record HasKeys {A : Type 0} (kind : FilterKind) (policy : BloomConstructionPolicy)
     (w : FilterWriterImpl A) (keys : List (List ℕ)) : Type 0 where
   pub kind_is : kind_by w ≡ kind
@@ -26,24 +26,24 @@ pub record HasKeys {A : Type 0} (kind : FilterKind) (policy : BloomConstructionP
   pub works : failed_by w ≡ false
   pub holds : HoldsBy w (given_by kind policy keys)
 
--- what may be a filter writer has these keys; it is made when the first key comes
+-- an optional filter writer holds these keys; it is `None` exactly without keys
 abbrev pub MayHaveKeys : {A : Type 0} → FilterKind → BloomConstructionPolicy
     → Option (FilterWriterImpl A) → List (List ℕ) → Type 0
 MayHaveKeys kind policy None keys = keys ≡ []
 MayHaveKeys kind policy (Some w) keys = (keys ≡ [] → ⊥) × HasKeys kind policy w keys
 
--- whatever keys there were, more stand behind them now
+-- the filter writer holds these keys after those that it held before
 abbrev pub Registers : {A : Type 0} → Options → Option (FilterWriterImpl A)
     → Option (FilterWriterImpl A) → List (List ℕ) → Type 0
 Registers options before after more =
     (keys : List (List ℕ)) → MayHaveKeys options.filter_kind options.bloom_policy before keys
     → MayHaveKeys options.filter_kind options.bloom_policy after (keys ++ more)
 
--- partitions of a filter are cut below four megabytes
+-- the partition size of a filter is at most 4,194,304 bytes
 abbrev pub IsSmallFilter : FilterKind → Type 0
 IsSmallFilter kind = partition_size kind ≤ 4194304
 
--- keys may be registered behind those that are there
+-- these keys can be registered after those that are held
 pub record CanRegister {A : Type 0} (kind : FilterKind) (policy : BloomConstructionPolicy)
     (w : Option (FilterWriterImpl A)) (more : List (List ℕ)) : Type 0 where
   pub keys : List (List ℕ)
@@ -51,7 +51,7 @@ pub record CanRegister {A : Type 0} (kind : FilterKind) (policy : BloomConstruct
   pub rising : AreRising (keys ++ more)
   pub small : IsSmallFilter kind
 
--- the filter writer of a writer has the keys of the list, unless something was refused
+-- unless a call failed, the filter writer holds the keys of the list
 pub record IsFiltered {A : Type 0} (failed : Bool) (kind : FilterKind)
     (policy : BloomConstructionPolicy) (w : Option (FilterWriterImpl A)) (es : List Entry)
     : Type 0 where

@@ -1,4 +1,4 @@
--- A list that is cut into tables, and the state of a writer of many tables.
+-- A list cut into tables, and the state of a writer of many tables.
 use Rattle.std.specs.Prelude.{◌≡◌, ℕ, zero, suc, ◌+◌, ◌-◌, ◌^◌, ◌<◌, ◌≤◌, ◌==◌, ◌&&◌, Bool, true}
 use Rattle.std.specs.Prelude.{false, nat_lt, nat_le, IsTrue, List, [], ◌∷◌, ◌++◌, length, take}
 use Rattle.std.specs.Prelude.{drop, map, slice_index, Option, Some, None, unwrap_or, MatchOption}
@@ -33,11 +33,11 @@ use Rattle.lsm_writers.specs.Writing.{IsFinished, IsFresh, IsTableWith, IsWritab
 use Rattle.lsm_writers.specs.Writing.{finish_fault, fresh_writing, gained, may_be_written}
 use Rattle.lsm_writers.specs.Writing.{write_fault, written}
 
--- the chunks of a list that are full: those whose blocks are cut while it is written
+-- the full chunks of a list: those that are cut while it is written
 abbrev pub full_chunks : ℕ → List Entry → List (List Entry)
 full_chunks size es = filter (is_full size) (parts_by (is_full size) es)
 
--- how long the blocks of these are
+-- the length of the blocks of these chunks
 abbrev pub cut_len : ℕ → List Entry → ℕ
 cut_len size es = length (data_section V4 (full_chunks size es))
 
@@ -47,13 +47,12 @@ apart [] b = false
 apart (x ∷ a) [] = false
 apart (x ∷ a) (y ∷ b) = starts_key (last_of None (x ∷ a)) y
 
--- a table has entries, and no shorter front that ends with a key's last entry has full blocks of
--- the target's length
+-- a nonempty list; no proper prefix that ends a key has full blocks of the target's length
 pub record IsCut (size : ℕ) (target : ℕ) (t : List Entry) : Type 0 where
   pub some : 0 < length t
   pub shortest : (a b : List Entry) → t ≡ a ++ b → apart a b ≡ true → cut_len size a < target
 
--- a table that another follows ends with a key's last entry, and has reached the target
+-- a table that another one follows ends a key, and its full blocks have the target's length
 abbrev pub EndsCut : ℕ → ℕ → List Entry → List (List Entry) → Type 0
 EndsCut size target t [] = Unit {0}
 EndsCut size target t (u ∷ us) = (apart t u ≡ true) × (target ≤ cut_len size t)
@@ -63,28 +62,28 @@ AreCuts size target [] = Unit {0}
 AreCuts size target (t ∷ ts) =
     IsCut size target t × EndsCut size target t ts × AreCuts size target ts
 
--- a list cut into tables: each is the shortest front of the rest that ends with a key's last entry
--- and has full blocks of the target's length, and the last one takes what is left
+-- the tables are the list: each the shortest prefix of the rest that ends a key and has full blocks
+-- of the target's length, the last one the rest
 pub record AreTables (size : ℕ) (target : ℕ) (es : List Entry) (ts : List (List Entry)) : Type 0
   where
     pub whole : joined ts ≡ es
     pub each : AreCuts size target ts
 
--- tables that a list is cut into
+-- the list can be cut into tables
 pub record HasTables (size : ℕ) (target : ℕ) (es : List Entry) : Type 0 where
   pub tables : List (List Entry)
   pub are : AreTables size target es tables
 
--- each list is cut into tables, whatever the size of blocks and the target
+-- each list can be cut into tables, for each block size and target
 abbrev pub CutLaw : Type 0
 CutLaw = (size target : ℕ) (es : List Entry) → HasTables size target es
 
--- in one way
+-- the tables that a list is cut into are unique
 abbrev pub OneCutLaw : Type 0
 OneCutLaw = (size target : ℕ) (es : List Entry) (ts us : List (List Entry)) →
     AreTables size target es ts → AreTables size target es us → ts ≡ us
 
--- the keys of a table are below those of the one behind it
+-- the keys of a table are below those of the next table
 abbrev pub IsBelow : List Entry → List (List Entry) → Type 0
 IsBelow t [] = Unit {0}
 IsBelow t ([] ∷ us) = IsBelow t us
@@ -96,11 +95,11 @@ AreInKeyOrder (t ∷ ts) = IsBelow t ts × AreInKeyOrder ts
 
 -- ---- finished tables
 
--- the label of the table behind
+-- the table info of the next table
 abbrev pub next_label : Label → Label
 next_label label = record label { table_id = label.table_id + 1 }
 
--- finished tables of these lists, under ids that run on from the first label's
+-- finished tables of these lists, with consecutive ids from the first table info
 abbrev pub AreFinished : {A : Type 0} → Options → Label → List (List Entry)
     → List (FinishedTable A) → Type 0
 AreFinished options label [] [] = Unit {0}
@@ -110,8 +109,7 @@ AreFinished options label (t ∷ ts) (f ∷ fs) =
     IsTableWith label options t f.id f.checksum.0 f.bytes
     × AreFinished options (next_label label) ts fs
 
--- the chunks of the data blocks at the front of some bytes: they end where a block of another kind
--- begins
+-- the chunks of the leading data blocks of some bytes, up to a block of another kind
 unfoldable pub leading_chunks : ℕ → List ℕ → List (List Entry)
 leading_chunks zero bytes = []
 leading_chunks (suc n) bytes =
@@ -120,14 +118,14 @@ leading_chunks (suc n) bytes =
     ∷ leading_chunks n (drop (header_len + data_len bytes) bytes)
     else []
 
--- the list of a finished table, as its bytes hold it
+-- the list of a finished table, decoded from its bytes
 abbrev pub list_in : List ℕ → List Entry
 list_in bytes = joined (leading_chunks (length bytes) bytes)
 
 abbrev pub lists_in : {A : Type 0} → List (FinishedTable A) → List (List Entry)
 lists_in {A = A} fs = map (λ (f : FinishedTable A). list_in f.bytes) fs
 
--- the finished table of a writer behind those before, where the writer has entries
+-- the finished tables, with that of the writer appended if it has entries
 pub record AddsTable {A : Type 0} (w : Writing) (fs gs : List (FinishedTable A)) : Type 0 where
   pub table : Option (FinishedTable A)
   pub added : gs ≡ fs ++ option_to_list table
@@ -135,24 +133,24 @@ pub record AddsTable {A : Type 0} (w : Writing) (fs gs : List (FinishedTable A))
 
 -- ---- ids
 
--- the id behind this one, where there is one
+-- the next id, if there is one
 abbrev pub next_id : ℕ → Option ℕ
 next_id id = if nat_lt id (2 ^ 64 - 1) then Some (id + 1) else None
 
--- a counter once it was drawn from
+-- the counter after one id is drawn
 abbrev pub drawn : Option ℕ → Option ℕ
 drawn None = None
 drawn (Some id) = next_id id
 
--- what drawing an id refuses
+-- the fault of drawing an id
 abbrev pub ids_fault : Option ℕ → Option Error
 ids_fault None = Some TableIdsSpent
 ids_fault (Some id) = None
 
 -- ---- a writer of many tables
 
--- the length that a table reaches, the next id, the lists of the finished tables, the table that is
--- being written, with the options, the level and the moment of all, and whether a call was refused
+-- the target size, the next id, the lists of the finished tables, the writer of the current table,
+-- and whether a call failed
 pub record TablesWriting : Type 0 where
   pub target : ℕ
   pub ids : Option ℕ
@@ -160,20 +158,19 @@ pub record TablesWriting : Type 0 where
   pub present : Writing
   pub failed : Bool
 
--- the list written: the entries of the finished tables, then those of the present one; a writer
--- that has refused gives it up
+-- the list written: the finished tables, then the current one; empty after a failed call
 abbrev pub all_written : TablesWriting → List Entry
 all_written m = if m.failed then [] else joined m.tables ++ written m.present
 
--- the lists of all tables, the present one the last
+-- the lists of all tables, the current one last
 abbrev pub tables_of : TablesWriting → List (List Entry)
 tables_of m = m.tables ++ rest_chunk (written m.present)
 
--- no entry was given yet
+-- no entry was written and no call failed
 abbrev pub IsFreshRun : TablesWriting → Type 0
 IsFreshRun m = (m.tables ≡ []) × IsFresh m.present × (m.failed ≡ false)
 
--- a writer of no table yet, which has drawn its first id
+-- a writer without entries that has drawn its first id
 abbrev pub new_tables : Option ℕ → ℕ → ℕ → ℕ → TablesWriting
 new_tables ids target level moment = record {
   target = target;
@@ -183,29 +180,29 @@ new_tables ids target level moment = record {
   failed = false;
 }
 
--- the label of the table that stands so many places before
+-- the table info of the n-th table before
 abbrev pub label_before : ℕ → Label → Label
 label_before n label = record label { table_id = label.table_id - n }
 
--- the label of the first table
+-- the table info of the first table
 abbrev pub first_label : TablesWriting → Label
 first_label m = label_before (length m.tables) m.present.label
 
--- other options, for all tables
+-- the state with other options for all tables
 abbrev pub with_options : TablesWriting → Options → TablesWriting
 with_options m options = record m { present = record m.present { options = options } }
 
--- an entry is the first of its key, and the data bytes that were cut have reached the target
+-- an entry is the first of its key, and the cut data blocks reach the target
 abbrev pub is_due : ℕ → Writing → Entry → Bool
 is_due target w e =
     starts_key (last_of None (written w)) e && nat_le target (length (data_section V4 w.cut))
 
--- a writer of the next table, with the same options
+-- a writer of the next table, with the same level, timestamp and options
 abbrev pub next_writing : Option ℕ → Writing → Writing
 next_writing ids w =
     fresh_writing (record w.label { table_id = unwrap_or ids 0 }) w.options
 
--- the present table is finished, and the next one stands in its place
+-- the state after the current table is finished and the next one begun
 abbrev pub rotated : TablesWriting → TablesWriting
 rotated m = record m {
   ids = drawn m.ids;
@@ -213,51 +210,51 @@ rotated m = record m {
   present = next_writing m.ids m.present;
 }
 
--- the ids, the finished tables and the writer once a table that was due has begun
+-- the ids, the finished tables and the writer after the next table is begun, if one is due
 abbrev pub IsStanding : {A : Type 0} → Bool → Option ℕ → List (FinishedTable A) → Writing
     → Option ℕ → List (FinishedTable A) → Writing → Type 0
 IsStanding false ids fs w ids' fs' w' = (ids' ≡ ids) × (fs' ≡ fs) × (w' ≡ w)
 IsStanding true ids fs w ids' fs' w' =
     (ids' ≡ drawn ids) × AddsTable w fs fs' × (w' ≡ next_writing ids w)
 
--- the tables as they stand when an entry is taken
+-- the state before an entry is added: rotated if a table is due
 abbrev pub standing : TablesWriting → Entry → TablesWriting
 standing m e = if is_due m.target m.present e then rotated m else m
 
--- the ids once an entry was given, whatever is answered
+-- the ids after an entry is written, whatever the result
 abbrev pub ids_after : TablesWriting → Entry → Option ℕ
 ids_after m e = if m.failed then m.ids else (standing m e).ids
 
--- one more entry
+-- the state after one more entry
 abbrev pub took : TablesWriting → Entry → TablesWriting
 took m e = let n = standing m e in record n { present = gained n.present e }
 
--- what is refused where the next id is drawn, and then the present table finished
+-- the first fault of drawing the next id, then finishing the current table
 abbrev pub rotation_fault : Option ℕ → Writing → Option Error
 rotation_fault ids w = option_or (ids_fault ids) (finish_fault w)
 
 abbrev pub turn_fault : ℕ → Option ℕ → Writing → Entry → Option Error
 turn_fault target ids w e = if is_due target w e then rotation_fault ids w else None
 
--- what writing an entry refuses: the rotation first, then the entry
+-- the first fault of writing an entry: of the rotation, then of the entry
 abbrev pub took_fault : TablesWriting → Entry → Option Error
 took_fault m e =
     if m.failed then Some WriterFailed
     else option_or (turn_fault m.target m.ids m.present e) (write_fault (standing m e).present e)
 
--- what of it is found before any memory is taken
+-- the first fault of writing an entry that comes before `OutOfMemory`
 abbrev pub early_refusal : TablesWriting → Entry → Option Error
 early_refusal m e =
     if m.failed then Some WriterFailed
     else (if is_due m.target m.present e then ids_fault m.ids else write_fault m.present e)
 
--- what finishing refuses
+-- the first fault of finishing
 abbrev pub run_fault : TablesWriting → Option Error
 run_fault m = if m.failed then Some WriterFailed else finish_fault m.present
 
--- ---- what is refused for want of memory alone
+-- ---- when only `OutOfMemory` can occur
 
--- what writing the index and then the filter of a table of a list refuses
+-- the first fault of writing the index, then the filter, of the table of a list
 abbrev pub table_fault : Options → List Entry → Option Error
 table_fault options es =
     let cs = parts_by (is_full options.data_block_size) es in
@@ -265,18 +262,17 @@ table_fault options es =
     option_or (index_fault options.index_kind false (handles V4 cs))
     (filter_fault options.filter_kind options.bloom_policy keys)
 
--- the entries of a list that are in no full chunk
+-- the entries of a list after its last full chunk
 abbrev pub filling : Options → List Entry → List Entry
 filling options es = waiting_by (is_full options.data_block_size) es
 
--- an entry behind a table's list: it fits, so does its block, and so do the table's sections
+-- an entry after a table's list: it fits, so do its block and the table's sections
 pub record FitsBehind (options : Options) (es : List Entry) (e : Entry) : Type 0 where
   pub entry : EntryFits V4 e
   pub block : data_block_bound_of (filling options es ++ e ∷ []) < 2 ^ 32
   pub sections : table_fault options es ≡ None
 
--- a writer that has not refused, and an id that is left, where the entry fits behind the list of
--- the present table
+-- an unfailed writer with an id left, and an entry that fits after the list of the current table
 pub record HasRoomFor (m : TablesWriting) (e : Entry) : Type 0 where
   pub works : m.failed ≡ false
   pub left : m.ids ≡ None → ⊥
@@ -284,35 +280,31 @@ pub record HasRoomFor (m : TablesWriting) (e : Entry) : Type 0 where
 
 -- ---- a list that is written whole
 
--- a table whose entries, data blocks and sections of index and filter fit
+-- the entries, the data blocks and the sections of index and filter of a table fit
 pub record TableFits (options : Options) (t : List Entry) : Type 0 where
   pub entries : AllByRecursion (EntryFits V4) t
   pub blocks : AllByRecursion (λ (c : List Entry). data_block_bound_of c < 2 ^ 32)
       (parts_by (is_full options.data_block_size) t)
   pub sections : table_fault options t ≡ None
 
--- the id of the first table: at target 0 the second one, since the table that has the first is
--- finished before it has an entry
+-- the id of the first table: at target 0 the second id, as the first goes to no table
 abbrev pub first_id : ℕ → ℕ → ℕ
 first_id target first = if target == 0 then first + 1 else first
 
--- a writer of many tables that has taken its list: finishing refuses nothing, and its tables are
--- these, under ids that run on from this label's
+-- finishing has no fault, and the tables are these, with consecutive ids from this table info
 pub record HasTaken (ts : List (List Entry)) (label : Label) (m : TablesWriting) : Type 0 where
   pub finishes : run_fault m ≡ None
   pub tables : tables_of m ≡ ts
   pub first : (ts ≡ [] → ⊥) → first_label m ≡ label
 
--- a list is taken whole: each entry may follow those before it and is not refused, and at the end
--- the tables are these
+-- each entry can follow those before it and has no fault; at the end the tables are these
 abbrev pub Takes : List (List Entry) → Label → TablesWriting → List Entry → Type 0
 Takes ts label m [] = HasTaken ts label m
 Takes ts label m (e ∷ es) =
     IsTrue (may_be_written (all_written m) e.user_key e.seqno) × (took_fault m e ≡ None)
     × Takes ts label (took m e) es
 
--- a list each of whose tables fits is taken whole by a writer that was told its options before the
--- first entry, where an id is left for each table
+-- a writable list is written whole as its tables if each fits and an id is left for each
 abbrev pub TakesLaw : Type 0
 TakesLaw = (first target level moment : ℕ) (options : Options) (es : List Entry)
     (ts : List (List Entry)) → IsWritable es → AreTables options.data_block_size target es ts →
@@ -320,25 +312,25 @@ TakesLaw = (first target level moment : ℕ) (options : Options) (es : List Entr
     Takes ts (label_of (first_id target first) level moment)
     (with_options (new_tables (Some first) target level moment) options) es
 
--- entries of one key
+-- all entries have one key
 abbrev pub HasOneKey : List Entry → Type 0
 HasOneKey [] = Unit {0}
 HasOneKey (e ∷ es) = AllByRecursion (λ (x : Entry). x.user_key ≡ e.user_key) es
 
--- at target 0 each table has the entries of one key, and as the keys of tables rise, all of them
+-- at target 0 each table of a strict list has one key, and the tables are in key order
 abbrev pub OneKeyLaw : Type 0
 OneKeyLaw = (size : ℕ) (es : List Entry) (ts : List (List Entry)) → IsStrict es →
     AreTables size 0 es ts → AllByRecursion HasOneKey ts × AreInKeyOrder ts
 
--- ---- what holds of a writer of many tables between its calls
+-- ---- invariant of a writer of many tables between its calls
 
--- a writer that has taken some entries
+-- the state after some more entries
 abbrev pub gained_all : Writing → List Entry → Writing
 gained_all w [] = w
 gained_all w (e ∷ es) = gained_all (gained w e) es
 
--- the present writer has taken its entries and nothing else; the lists are cut where they may be,
--- and the finished tables are tables of theirs, under ids that run on up to the present one
+-- the writer has exactly its entries; the lists are cut by the target; the finished tables are
+-- theirs, with consecutive ids up to the current one
 pub record GoesOn {A : Type 0} (target : ℕ) (ids : Option ℕ) (fs : List (FinishedTable A))
     (w : Writing) : Type 0 where
   pub present : w ≡ gained_all (fresh_writing w.label w.options) (written w)

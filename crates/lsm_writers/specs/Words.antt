@@ -1,4 +1,4 @@
--- The words of clauses, from one place.
+-- The definitions that contracts cite, re-exported from one module.
 pub use Rattle.sst_entries.specs.Entry.{Entry}
 pub use Rattle.sst_entries.specs.Error.{Faults, FaultsFirst}
 pub use Rattle.sst_entries.specs.Strict.{IsStrict, last_of}

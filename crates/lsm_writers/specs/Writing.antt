@@ -1,4 +1,4 @@
--- The state of a writer, and what its calls do to it.
+-- The state of a writer, and the effects of its calls.
 use Rattle.std.specs.Prelude.{◌≡◌, ℕ, ◌+◌, ◌-◌, ◌^◌, ◌<◌, ◌≤◌, Bool, false, ◌&&◌, nat_lt, nat_le}
 use Rattle.std.specs.Prelude.{List, [], ◌∷◌, ◌++◌, length, Option, Some, None, if◌then◌else◌}
 use Rattle.std.specs.List.{AllByRecursion}
@@ -34,7 +34,7 @@ use Rattle.lsm_formats.specs.declared.options.Options.{Options}
 use Rattle.lsm_formats.specs.declared.label.Label.{Label}
 use Rattle.lsm_formats.specs.Options.{default_options}
 
--- the chunks whose blocks were cut, the entries of the next block, whether the writer has refused
+-- a writer: its table info, options, cut chunks and pending entries, and whether a call failed
 pub record Writing : Type 0 where
   pub label : Label
   pub options : Options
@@ -46,33 +46,32 @@ pub record Writing : Type 0 where
 abbrev pub written : Writing → List Entry
 written w = joined w.cut ++ w.pending
 
--- no entry was given yet
+-- no entry was written and no call failed
 abbrev pub IsFresh : Writing → Type 0
 IsFresh w = (w.cut ≡ []) × (w.pending ≡ []) × (w.failed ≡ false)
 
--- partitions of an index are cut at four megabytes at most
+-- the partition size of an index is at most 4,194,304 bytes
 abbrev pub IsSmallIndex : IndexKind → Type 0
 IsSmallIndex FullIndex = Unit {0}
 IsSmallIndex (PartitionedIndex size) = size ≤ 4194304
 
--- a key and number may come next: the number is below the largest one, and they come strictly
--- after the last entry
+-- a key and seqno can come next: the seqno is below `u64::MAX`, both strictly after the last entry
 abbrev pub may_be_written : List Entry → List ℕ → ℕ → Bool
 may_be_written es key seqno =
     nat_lt seqno (2 ^ 64 - 1) && may_follow (last_of None es) (entry key [] seqno Value)
 
--- what is wrong with an entry after the pending ones: the first fault
+-- the first fault of an entry after the pending ones
 abbrev pub item_fault : List Entry → Entry → Option Error
 item_fault pending e =
     if is_long_key e.user_key then Some KeyTooLong
     else (if nat_le (2 ^ 32) (length e.value) then Some ValueTooLong
     else large_fault (data_block_bound_of (pending ++ e ∷ [])))
 
--- what writing an entry refuses
+-- the first fault of writing an entry
 abbrev pub write_fault : Writing → Entry → Option Error
 write_fault w e = if w.failed then Some WriterFailed else item_fault w.pending e
 
--- one more entry; the block is cut once it is full
+-- the state after one more entry: a full chunk is cut
 abbrev pub gained : Writing → Entry → Writing
 gained w e =
     let chunk = w.pending ++ e ∷ [] in
@@ -80,32 +79,32 @@ gained w e =
     then record w { cut = w.cut ++ chunk ∷ []; pending = [] }
     else record w { pending = chunk }
 
--- all chunks, with what is pending as the last one
+-- all chunks, the pending entries as the last one
 abbrev pub blocks_of : Writing → List (List Entry)
 blocks_of w = w.cut ++ rest_chunk w.pending
 
--- the pending entries are cut off as a block
+-- the state after the pending entries are cut as a block
 abbrev pub spilled : Writing → Writing
 spilled w = record w { cut = blocks_of w; pending = [] }
 
--- where chunks end that are not full, the first of them at a place
+-- the end positions of the chunks that are not full, counted from a start
 unfoldable pub early_ends : ℕ → ℕ → List (List Entry) → List ℕ
 early_ends size at [] = []
 early_ends size at (c ∷ cs) =
     if is_full size c then early_ends size (at + length c) cs
     else (at + length c) ∷ early_ends size (at + length c) cs
 
--- the places where a block was spilled before it was full
+-- the positions in the list after which a block was cut before it was full
 abbrev pub spills_of : Writing → List ℕ
 spills_of w = early_ends w.options.data_block_size 0 w.cut
 
--- the keys of the filter of a list of chunks, in parts
+-- the keys of the filter of a list of chunks, by partition
 abbrev pub keys_of_parts : Options → List (List Entry) → List (List (List ℕ))
 keys_of_parts options cs =
     filter_parts options.filter_kind options.bloom_policy
     (filtered_keys options.bloom_policy (joined cs))
 
--- what the table of a list of chunks holds, with these filters
+-- the content of the table of a list of chunks, with these filters
 abbrev pub content_of : Options → List (List Entry) → List BloomFilter → Content
 content_of options cs fs = record {
   blocks = cs;
@@ -114,7 +113,7 @@ content_of options cs fs = record {
   filters = fs;
 }
 
--- the bytes are the table of the blocks that were cut, and these and the sections fit
+-- the bytes are the table of the cut blocks; these blocks and the sections fit
 pub record WritesTable (w : Writing) (bytes : List ℕ) : Type 0 where
   pub filters : List BloomFilter
   pub are_filters : AreFiltersFor w.options.bloom_policy (keys_of_parts w.options w.cut) filters
@@ -125,19 +124,18 @@ pub record WritesTable (w : Writing) (bytes : List ℕ) : Type 0 where
   pub filter : AllByRecursion SectionFits
       (filter_part V4 w.options (content_of w.options w.cut filters))
 
--- what writing the index and then the filter of the blocks that were cut refuses
+-- the first fault of writing the index, then the filter, of the cut blocks
 abbrev pub sections_fault : Writing → Option Error
 sections_fault w =
     option_or (index_fault w.options.index_kind false (handles V4 w.cut))
     (filter_fault w.options.filter_kind w.options.bloom_policy
     (filtered_keys w.options.bloom_policy (joined w.cut)))
 
--- what finishing refuses
+-- the first fault of finishing
 abbrev pub finish_fault : Writing → Option Error
 finish_fault w = if w.failed then Some WriterFailed else sections_fault (spilled w)
 
--- a finished table: its id, its bytes, and the checksum of these. The bytes are a table of the
--- list, in the version that is written; the list is strict, and what the bytes hold fits
+-- a finished table: its id, its checksum, and its bytes: a table of the strict list, which fits
 pub record IsFinished (w : Writing) (id : ℕ) (checksum : ℕ) (bytes : List ℕ) : Type 0 where
   pub some : written w ≡ [] → ⊥
   pub id_is : id ≡ w.label.table_id
@@ -146,35 +144,34 @@ pub record IsFinished (w : Writing) (id : ℕ) (checksum : ℕ) (bytes : List �
   pub strict : IsStrict (written w)
   pub fits : Fits V4 w.label w.options file_is.content
 
--- a list that a table can be written of: strict, and numbered below the largest number
+-- a list that is strict, with each seqno below `u64::MAX`
 pub record IsWritable (es : List Entry) : Type 0 where
   pub strict : IsStrict es
   pub numbered : AllByRecursion (λ (e : Entry). e.seqno < 2 ^ 64 - 1) es
 
--- a writer of a table that has no entry yet
+-- a writer without entries
 abbrev pub fresh_writing : Label → Options → Writing
 fresh_writing label options =
     record { label = label; options = options; cut = []; pending = []; failed = false }
 
--- a writer that has no entry yet, with the options that hold where none are told
+-- a writer without entries, with the default options
 abbrev pub new_writing : Label → Writing
 new_writing label = fresh_writing label default_options
 
--- a writer that has cut these chunks off, and has no entry that is pending
+-- a writer with these chunks cut and no pending entries
 abbrev pub cut_writing : Label → Options → List (List Entry) → Writing
 cut_writing label options cut = record (fresh_writing label options) { cut = cut }
 
--- the first fault of writing some entries one by one and then finishing
+-- the first fault of writing some entries one by one, then finishing
 abbrev pub writing_fault : Writing → List Entry → Option Error
 writing_fault w [] = finish_fault w
 writing_fault w (e ∷ es) = option_or (write_fault w e) (writing_fault (gained w e) es)
 
--- what writing a list as a table refuses
+-- the first fault of writing a list as a table
 abbrev pub list_fault : Label → List Entry → Option Error
 list_fault label es = writing_fault (new_writing label) es
 
--- a finished table of a list under a label and with options, of which no block was spilled before
--- it was full: its id, its checksum and its bytes
+-- a finished table of a list, with this table info and options, and no block cut before it was full
 pub record IsTableWith (label : Label) (options : Options) (es : List Entry) (id : ℕ)
     (checksum : ℕ) (bytes : List ℕ) : Type 0 where
   pub some : es ≡ [] → ⊥
@@ -186,6 +183,6 @@ pub record IsTableWith (label : Label) (options : Options) (es : List Entry) (id
   pub version_is : table.version ≡ V4
   pub spills_are : table.spills ≡ []
 
--- a finished table of a list under a label, with the options that hold where none are told
+-- a finished table of a list, with this table info and the default options
 abbrev pub IsTableOf : Label → List Entry → ℕ → ℕ → List ℕ → Type 0
 IsTableOf label es id checksum bytes = IsTableWith label default_options es id checksum bytes

@@ -1,4 +1,4 @@
-//! Writing sorted tables: entries in strict order come in, and the bytes of a table come out.
+//! Writers of sorted tables: they take entries in strict order and return the bytes of tables.
 #![tactic(auto)]
 
 mod list;

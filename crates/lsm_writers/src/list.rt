@@ -1,4 +1,4 @@
-//! Writing a whole list as one table.
+//! Writing a list as one table.
 ghost use Rattle.std.specs.Prelude.{◌≡◌, ◌↔◌, ◌-◌, ◌^◌, [], nat_lt, IfOk, IsTrue, MatchOption};
 ghost use Rattle.std.specs.List.{list_all};
 ghost use Rattle.sst_entries.specs.Entry.{Entry};
@@ -17,20 +17,23 @@ fn are_numbered<A: Allocator>(items: &[InternalValue<A>]) -> bool
     items.iter().all(|item| item.key.seqno < SeqNo::MAX)
 }
 
-/// Whether a table can be written of some entries: each comes strictly before the next by key and
-/// number, and each number is below `u64::MAX`.
+/// Returns whether a list meets the requirement of [`write_list`].
+///
+/// Each entry is strictly before the next by key and sequence number. Each sequence number is below
+/// `u64::MAX`.
 pub fn is_writable<A: Allocator>(items: &[InternalValue<A>]) -> bool
     ensures { IsTrue result ↔ IsWritable items.now }
 {
     are_strict(items) && are_numbered(items)
 }
 
-/// Writes a list as one table, as a [`Writer`] does that is told nothing else; `None` where the
-/// list has no entry. The table stands at `initial_level` and is created at a moment that is handed
-/// in.
+/// Writes a list as one table with default options. Returns `None` if the list is empty.
 ///
-/// Refused with the first fault of [`Writer::write`] or [`Writer::finish`], and
-/// [`Error::OutOfMemory`].
+/// The table is at level `initial_level` and has the timestamp `created_at`.
+///
+/// # Errors
+///
+/// The first error of [`Writer::write`] or [`Writer::finish`], or [`Error::OutOfMemory`].
 pub fn write_list<A: Allocator + Clone>(
     alloc: A,
     id: TableId,

@@ -1,4 +1,4 @@
-//! Writing many tables, one after another.
+//! The writer of several tables, one after another.
 ghost use Rattle.std.specs.Prelude.{◌≡◌, ◌↔◌, ◌<◌, ◌≤◌, ◌∷◌, ◌++◌, if◌then◌else◌, [], false, true};
 ghost use Rattle.std.specs.Prelude.{IfErr, IfOk, IsTrue, OnErr, OnOk, Some, None};
 ghost use Rattle.sst_entries.specs.Lending.{entry_of_ref};
@@ -32,19 +32,23 @@ use std::alloc::{Allocator, Global};
 use std::marker::Model;
 use std::mem;
 
-/// Writes entries into tables, one after another, each with an id of its own. The next table begins
-/// at the first entry of a key, once the data blocks that were cut for the present one have the
-/// target's length. A contract sees the lists of the finished tables, the writer of the present one
-/// and the counter of ids.
+/// Writes entries into tables, one after another, each with its own id.
+///
+/// The next table begins at the first entry of a key, once the cut data blocks of the current table
+/// reach the target size. A table can exceed the target by one block and all versions of one key.
+/// After an error its finished tables are dropped too.
+///
+/// Contracts see the lists of the finished tables, the writer of the current one and the id
+/// counter.
 #[derive(Drop)]
 pub struct MultiWriter<A: Allocator = Global> {
     target_size: u64,
     ids: TableIds,
-    // the tables before the present one
+    // the tables before the current one
     finished: Vec<FinishedTable<A>, A>,
-    // the present table; it has the options, the level and the moment of all
+    // the current table; its options, level and timestamp are those of all tables
     writer: Writer<A>,
-    // it stands while a call works, so that whatever the call refuses stays refused
+    // set while a call runs, so it stays set after an error
     failed: bool,
 }
 
@@ -67,11 +71,14 @@ impl<A: Allocator> Model for MultiWriter<A> {
 }
 
 impl<A: Allocator + Clone> MultiWriter<A> {
-    /// A writer of tables that stand at `initial_level` and are created at a moment that is handed
-    /// in; each but the last has at least `target_size` bytes of data blocks. It draws the first
-    /// id.
+    /// Creates a writer of tables at level `initial_level` and with the timestamp `created_at`.
     ///
-    /// Refused [`Error::TableIdsSpent`] where no id is left, and [`Error::OutOfMemory`].
+    /// Each table but the last has at least `target_size` bytes of data blocks. The call draws the
+    /// first id. At a target of 0 the first id goes to no table.
+    ///
+    /// # Errors
+    ///
+    /// [`Error::TableIdsSpent`] if no id is left, else only [`Error::OutOfMemory`].
     pub fn new(
         alloc: A,
         mut ids: TableIds,
@@ -96,16 +103,17 @@ impl<A: Allocator + Clone> MultiWriter<A> {
         })
     }
 
-    /// Whether no entry was given yet, also none that was refused.
+    /// Returns whether no entry was written and no call failed.
     pub fn is_empty(&self) -> bool
         ensures { IsTrue result ↔ IsFreshRun self.now }
     {
         !self.failed && self.finished.is_empty() && self.writer.is_empty()
     }
 
-    /// Whether an entry of this key may be written next: its number is below `u64::MAX`, and it
-    /// comes strictly after the last one by key and number. A writer that has refused has given its
-    /// list up, so any key may follow there.
+    /// Returns whether an entry with this key can be written next.
+    ///
+    /// Its sequence number is below `u64::MAX`. It is strictly after the last entry by key and
+    /// sequence number. After an error the list is empty, so any key can follow.
     pub fn can_follow(&self, key: &InternalKey<A>) -> bool
         ensures { result ≡ may_be_written (all_written self.now) key.now.user_key key.now.seqno }
     {
@@ -115,7 +123,7 @@ impl<A: Allocator + Clone> MultiWriter<A> {
         self.writer.can_follow(key)
     }
 
-    /// Whether this entry may be written next, as [`MultiWriter::can_follow`] says.
+    /// Returns whether this entry can be written next; see [`MultiWriter::can_follow`].
     pub fn can_follow_ref(&self, entry: &EntryRef<'_>) -> bool
         ensures { let e = entry_of_ref entry.now in
             result ≡ may_be_written (all_written self.now) e.user_key e.seqno }
@@ -126,35 +134,41 @@ impl<A: Allocator + Clone> MultiWriter<A> {
         self.writer.can_follow_ref(entry)
     }
 
-    /// The counter of ids as it stands: its next id is that of the table behind the present one.
+    /// Returns the id counter. Its next id is that of the table after the current one.
     pub fn table_ids(&self) -> TableIds
         ensures { result ≡ self.now.ids }
     {
         self.ids
     }
 
-    /// Writes an entry, at the front of the next table where one is due: at the first entry of a
-    /// key, once the data blocks that were cut for the present table have the target's length. The
-    /// present table is then finished.
+    /// Writes an entry. If a new table is due, it finishes the current table first.
     ///
-    /// Refused [`Error::WriterFailed`] where a call was refused before; where a table is due,
-    /// [`Error::TableIdsSpent`] where no id is left for it, and what [`Writer::finish`] refuses of
-    /// the present one; then what [`Writer::write`] refuses; and [`Error::OutOfMemory`]. Whatever
-    /// is refused, the list is given up, and each later call is refused [`Error::WriterFailed`] and
-    /// changes nothing. An id that was drawn stays drawn, also where the call is refused then.
+    /// A table is due at the first entry of a key, once the cut data blocks of the current table
+    /// reach the target size.
+    ///
+    /// # Errors
+    ///
+    /// The first of these, or [`Error::OutOfMemory`]:
+    ///
+    /// - [`Error::WriterFailed`] if an earlier call failed;
+    /// - if a table is due, [`Error::TableIdsSpent`] if no id is left, then the errors of
+    ///   [`Writer::finish`] for the current table;
+    /// - the errors of [`Writer::write`].
+    ///
+    /// After an error the list is lost. Each later call fails with [`Error::WriterFailed`] and
+    /// changes nothing. An id that was drawn stays drawn, even if the call fails later.
     pub fn write(&mut self, item: InternalValue<A>) -> Result<(), Error>
         requires { IsTrue (may_be_written (all_written self.old) item.user_key item.seqno) }
         ensures ok { OnOk result (self.new ≡ took self.old item) }
         ensures listed { OnOk result (all_written self.new ≡ all_written self.old ++ item ∷ []) }
         ensures refused { Faults result (took_fault self.old item) }
-        // What needs no memory to be found comes before any want of memory.
+        // These faults come before `OutOfMemory`.
         ensures first { FaultsFirst result (early_refusal self.old item) }
         ensures memory { took_fault self.old item ≡ None → IfErr result (λ e. e ≡ OutOfMemory) }
-        // So it is where an id is left, and the entry, its block and the sections of the present
-        // table fit.
+        // With an id left and an entry that fits, an unfailed writer fails only with `OutOfMemory`.
         ensures taken { HasRoomFor self.old item → IfErr result (λ e. e ≡ OutOfMemory) }
         ensures failed { OnErr result (self.new.failed ≡ true) }
-        // Whatever is answered, an id was drawn just where a table was due.
+        // Whatever the result, an unfailed writer draws an id exactly if a table is due.
         ensures ids { self.new.ids ≡ ids_after self.old item }
         ensures kept { self.old.failed ≡ true → self.new ≡ self.old }
     {
@@ -163,8 +177,8 @@ impl<A: Allocator + Clone> MultiWriter<A> {
         outcome
     }
 
-    /// Writes an entry as [`MultiWriter::write`] does. Its key and its value are copied into the
-    /// memory of a block, which stays from block to block.
+    /// Writes a borrowed entry; see [`MultiWriter::write`]. It copies the key and value into a
+    /// buffer that is reused from block to block.
     pub fn write_ref(&mut self, entry: &EntryRef<'_>) -> Result<(), Error>
         requires { let e = entry_of_ref entry.now in
             IsTrue (may_be_written (all_written self.old) e.user_key e.seqno) }
@@ -172,16 +186,15 @@ impl<A: Allocator + Clone> MultiWriter<A> {
         ensures listed { OnOk result
             (all_written self.new ≡ all_written self.old ++ entry_of_ref entry.now ∷ []) }
         ensures refused { Faults result (took_fault self.old (entry_of_ref entry.now)) }
-        // What needs no memory to be found comes before any want of memory.
+        // These faults come before `OutOfMemory`.
         ensures first { FaultsFirst result (early_refusal self.old (entry_of_ref entry.now)) }
         ensures memory { took_fault self.old (entry_of_ref entry.now) ≡ None →
             IfErr result (λ e. e ≡ OutOfMemory) }
-        // So it is where an id is left, and the entry, its block and the sections of the present
-        // table fit.
+        // With an id left and an entry that fits, an unfailed writer fails only with `OutOfMemory`.
         ensures taken { HasRoomFor self.old (entry_of_ref entry.now) →
             IfErr result (λ e. e ≡ OutOfMemory) }
         ensures failed { OnErr result (self.new.failed ≡ true) }
-        // Whatever is answered, an id was drawn just where a table was due.
+        // Whatever the result, an unfailed writer draws an id exactly if a table is due.
         ensures ids { self.new.ids ≡ ids_after self.old (entry_of_ref entry.now) }
         ensures kept { self.old.failed ≡ true → self.new ≡ self.old }
     {
@@ -201,12 +214,15 @@ impl<A: Allocator + Clone> MultiWriter<A> {
         Ok(())
     }
 
-    /// Finishes the present table and answers all tables in key order: none where nothing was
-    /// written. Their ids run on from the first; at target 0 from the second, as the first table is
-    /// finished before it has an entry.
+    /// Finishes the current table and returns all tables in key order, none if nothing was written.
     ///
-    /// Refused [`Error::WriterFailed`] where a call was refused before, then what
-    /// [`Writer::finish`] refuses of the present table; and [`Error::OutOfMemory`].
+    /// The ids of the tables are consecutive from the first id drawn. At a target of 0 they start
+    /// at the second, because the first table is finished before it has an entry.
+    ///
+    /// # Errors
+    ///
+    /// [`Error::WriterFailed`] if an earlier call failed; else the errors of [`Writer::finish`] for
+    /// the current table, or [`Error::OutOfMemory`]. The finished tables are dropped then.
     pub fn finish(self) -> Result<Vec<FinishedTable<A>, A>, Error>
         ensures tables { IfOk result (λ fs.
             AreTables self.present.options.data_block_size self.target
@@ -219,11 +235,11 @@ impl<A: Allocator + Clone> MultiWriter<A> {
         ensures refused { Faults result (run_fault self) }
         ensures first { FaultsFirst result (failed_fault self.failed) }
         ensures memory { run_fault self ≡ None → IfErr result (λ e. e ≡ OutOfMemory) }
-        // So it is where the sections of the last table fit.
+        // If the sections of the last table fit, an unfailed writer fails only with `OutOfMemory`.
         ensures taken { self.failed ≡ false →
             table_fault self.present.options (written self.present) ≡ None →
             IfErr result (λ e. e ≡ OutOfMemory) }
-        // Where nothing was written, only a writer that has failed refuses.
+        // If nothing was written, only a failed writer returns an error.
         ensures idle { OnErr result (all_written self ≡ [] → self.failed ≡ true) }
     {
         if self.failed {
@@ -239,7 +255,7 @@ impl<A: Allocator + Clone> MultiWriter<A> {
         Ok(finished)
     }
 
-    // Other options, for all tables.
+    // Replaces the options of all tables.
     fn with_options(mut self, options: Options) -> MultiWriter<A>
         requires fresh { IsFreshRun self }
         requires small { IsSmallFilter options.filter_kind }
@@ -249,8 +265,8 @@ impl<A: Allocator + Clone> MultiWriter<A> {
         self
     }
 
-    /// Sets all that the tables are written with: what was set before is forgotten. Only tables
-    /// with an index block restart interval of 1 can be opened.
+    /// Replaces the options of all tables. Only tables with an index block restart interval of 1
+    /// can be opened.
     pub fn use_options(self, options: Options) -> MultiWriter<A>
         requires fresh { IsFreshRun self }
         requires some { 0 < options.data_block_restart_interval }
@@ -278,8 +294,8 @@ impl<A: Allocator + Clone> MultiWriter<A> {
         self.with_options(options)
     }
 
-    /// Sets the restart interval of index blocks. It is stored in the meta block and changes no index
-    /// block. Only tables written with 1 can be opened.
+    /// Sets the restart interval of index blocks. It is stored in the meta block and changes no
+    /// index block. Only tables written with 1 can be opened.
     pub fn use_index_block_restart_interval(self, interval: u8) -> MultiWriter<A>
         requires { IsFreshRun self }
         ensures { result ≡
@@ -306,7 +322,7 @@ impl<A: Allocator + Clone> MultiWriter<A> {
         self.with_options(options)
     }
 
-    /// How many bytes of keys and values a data block has when it is cut.
+    /// Sets the length of keys and values, in bytes, at which a data block is cut.
     pub fn use_data_block_size(self, size: u32) -> MultiWriter<A>
         requires fresh { IsFreshRun self }
         requires small { size ≤ 4194304 }
@@ -320,7 +336,7 @@ impl<A: Allocator + Clone> MultiWriter<A> {
         self.with_options(options)
     }
 
-    /// Writes filters of partitions, each cut when it has 4,096 bytes.
+    /// Writes partitioned filters. A partition is cut at 4,096 bytes.
     pub fn use_partitioned_filter(self) -> MultiWriter<A>
         requires { IsFreshRun self }
         ensures { result ≡
@@ -334,7 +350,7 @@ impl<A: Allocator + Clone> MultiWriter<A> {
         self.with_options(options)
     }
 
-    /// Writes indexes of partitions, each cut when it has 4,096 bytes.
+    /// Writes partitioned indexes. A partition is cut at 4,096 bytes.
     pub fn use_partitioned_index(self) -> MultiWriter<A>
         requires { IsFreshRun self }
         ensures { result ≡
@@ -347,8 +363,8 @@ impl<A: Allocator + Clone> MultiWriter<A> {
         self.with_options(options)
     }
 
-    /// How many bytes a partition of an index or of a filter has when it is cut. Nothing changes
-    /// where they have none.
+    /// Sets the size in bytes at which a partition of an index or a filter is cut. Full indexes and
+    /// filters are not affected.
     #[tactic(auto, using(crate::proofs::Filtered::sized_small))]
     pub fn use_meta_partition_size(self, size: u32) -> MultiWriter<A>
         requires fresh { IsFreshRun self }
@@ -369,7 +385,7 @@ impl<A: Allocator + Clone> MultiWriter<A> {
         self.with_options(options)
     }
 
-    /// How many bits a filter has for a key; where these are 0, no filter is written.
+    /// Sets the bits that a filter has for each key. With 0 bits no filter is written.
     pub fn use_bloom_policy(self, policy: BloomConstructionPolicy) -> MultiWriter<A>
         requires { IsFreshRun self }
         ensures { result ≡
@@ -382,7 +398,7 @@ impl<A: Allocator + Clone> MultiWriter<A> {
         self.with_options(options)
     }
 
-    /// How data blocks are compressed.
+    /// Sets the compression of data blocks.
     pub fn use_data_block_compression(self, compression: CompressionType) -> MultiWriter<A>
         requires { IsFreshRun self }
         ensures { result ≡ self }
@@ -392,7 +408,7 @@ impl<A: Allocator + Clone> MultiWriter<A> {
         }
     }
 
-    /// How the blocks of the index are compressed.
+    /// Sets the compression of index blocks.
     pub fn use_index_block_compression(self, compression: CompressionType) -> MultiWriter<A>
         requires { IsFreshRun self }
         ensures { result ≡ self }
@@ -403,8 +419,8 @@ impl<A: Allocator + Clone> MultiWriter<A> {
     }
 }
 
-/// Finishes a table and puts it behind the others, unless it has no entry. Refused as
-/// [`Writer::finish`] is.
+/// Finishes a table and appends it to the others, unless it has no entry. Its errors are those of
+/// [`Writer::finish`].
 fn add_table<A: Allocator + Clone>(
     finished: &mut Vec<FinishedTable<A>, A>,
     writer: Writer<A>,
@@ -419,7 +435,7 @@ fn add_table<A: Allocator + Clone>(
     Ok(())
 }
 
-/// Whether the next table begins with this entry.
+/// Returns whether the next table begins with this entry.
 fn is_due<A: Allocator + Clone>(target: u64, writer: &Writer<A>, entry: &EntryRef<'_>) -> bool
     ensures { result ≡ is_due target writer.now (entry_of_ref entry.now) }
 {
@@ -427,8 +443,12 @@ fn is_due<A: Allocator + Clone>(target: u64, writer: &Writer<A>, entry: &EntryRe
     writer.metadata().file_pos.0 >= target && writer.starts_key(entry)
 }
 
-/// Draws the next id, finishes the present table, and begins the next one. Refused
-/// [`Error::TableIdsSpent`] where no id is left, then as [`Writer::finish`] is; the id stays drawn.
+/// Draws the next id, finishes the current table, and begins the next one.
+///
+/// # Errors
+///
+/// [`Error::TableIdsSpent`] if no id is left; else the errors of [`Writer::finish`]. The id stays
+/// drawn.
 fn rotate<A: Allocator + Clone>(
     ids: &mut TableIds,
     finished: &mut Vec<FinishedTable<A>, A>,
@@ -447,7 +467,7 @@ fn rotate<A: Allocator + Clone>(
     add_table(finished, mem::replace(writer, next))
 }
 
-/// Begins the next table where one is due. Refused as the rotation is.
+/// Begins the next table if one is due. Its errors are those of [`rotate`].
 fn make_ready<A: Allocator + Clone>(
     target: u64,
     ids: &mut TableIds,
@@ -471,9 +491,12 @@ fn make_ready<A: Allocator + Clone>(
     Ok(())
 }
 
-/// Laws of a list that is written whole. Each list is cut into tables, and in one way. Where each
-/// of these fits, and an id is left for each, a strict list is taken, and its tables are these; at
-/// target 0 each table has all entries of one key. The call does nothing.
+/// Laws of a list that is cut into tables. The call does nothing.
+///
+/// - Each list can be cut into tables, and these are unique.
+/// - A writable list is written as these tables if each table fits and an id is left for each. The
+///   only possible error is [`Error::OutOfMemory`].
+/// - At a target of 0 each table of a strict list has all entries of exactly one key.
 pub fn tables_law()
     ensures cut { CutLaw }
     ensures one_cut { OneCutLaw }

@@ -1,12 +1,13 @@
-//! Ids of tables that are drawn one after another.
+//! A counter of table ids.
 ghost use Rattle.std.specs.Prelude.{◌≡◌, Some};
 ghost use Rattle.lsm_writers.specs.Tables.{drawn};
 
 use crate::TableId;
 use std::marker::Model;
 
-/// A counter of table ids, which run upward from the first; the last one is `u64::MAX`. A contract
-/// sees the id that is drawn next, or none where the ids are spent.
+/// A counter of table ids from a first one up to `u64::MAX`.
+///
+/// Contracts see the next id, or `None` if no id is left.
 #[derive(Clone, Copy, Debug, PartialEq, Eq)]
 pub struct TableIds {
     next: Option<TableId>,
@@ -23,14 +24,14 @@ impl Model for TableIds {
 }
 
 impl TableIds {
-    /// The counter whose next id is `first`.
+    /// Returns a counter whose next id is `first`.
     pub fn new(first: TableId) -> TableIds
         ensures { result ≡ Some first }
     {
         TableIds { next: Some(first) }
     }
 
-    /// Draws the next id; `None` once `u64::MAX` was drawn.
+    /// Draws the next id. Returns `None` once `u64::MAX` was drawn.
     pub fn next(&mut self) -> Option<TableId>
         ensures id { result ≡ self.old }
         ensures left { self.new ≡ drawn self.old }

@@ -1,4 +1,4 @@
-//! Writing a table.
+//! The writer of one table.
 ghost use Rattle.std.specs.Prelude.{◌≡◌, ◌↔◌, ◌<◌, ◌≤◌, ◌+◌, ◌*◌, ◌^◌, ℕ, List, [], ◌∷◌, ◌++◌};
 ghost use Rattle.std.specs.Prelude.{None, Some, false, true, length, IsTrue, IfOk, IfErr, OnOk};
 ghost use Rattle.std.specs.Prelude.{OnErr, MatchResult, MatchOption};
@@ -53,20 +53,21 @@ use std::alloc::{Allocator, Global};
 use std::fmt;
 use std::marker::Model;
 
-/// Writes the entries of a table into blocks, and the blocks into the bytes of a table. A contract
-/// sees the list written: the chunks whose blocks were cut, and the entries that are pending.
+/// Writes entries into blocks, and the blocks into the bytes of one table.
+///
+/// Contracts see the list written: the chunks of the blocks that were cut, and the pending entries.
 #[derive(Drop)]
 pub struct Writer<A: Allocator = Global> {
     label: Label,
     options: Options,
     blocks: DataBlocks<A>,
-    // the entries of the next block, and how many bytes their keys and values have
+    // the pending entries, and the length of their keys and values in bytes
     chunk: BlockBuffer<A>,
     chunk_size: usize,
     meta: Metadata<A>,
-    // has the first key of each run of versions, from the first one on
+    // has each distinct key once; `None` while no key is registered
     filter_writer: Option<FilterWriterImpl<A>>,
-    // it stands while a call works, so that whatever the call refuses stays refused
+    // set while a call runs, so it stays set after an error
     failed: bool,
 }
 
@@ -97,8 +98,12 @@ impl<A: Allocator> Model for Writer<A> {
 }
 
 impl<A: Allocator + Clone> Writer<A> {
-    /// A writer of the table `id`, which stands at `initial_level` and is created at a moment that
-    /// is handed in. Refused [`Error::OutOfMemory`] alone.
+    /// Creates a writer of the table `id`, at level `initial_level` and with the timestamp
+    /// `created_at`.
+    ///
+    /// # Errors
+    ///
+    /// Only [`Error::OutOfMemory`].
     pub fn new(
         alloc: A,
         id: TableId,
@@ -116,8 +121,8 @@ impl<A: Allocator + Clone> Writer<A> {
         Writer::fresh(alloc, label, Options::default())
     }
 
-    /// A writer of another table that has no entry yet, with the same level, moment and options.
-    /// Refused [`Error::OutOfMemory`] alone.
+    /// Creates a writer of the table `id`, with the level, timestamp and options of this one. Fails
+    /// only with [`Error::OutOfMemory`].
     pub(crate) fn successor(&self, id: TableId) -> Result<Writer<A>, Error>
         ensures ok { IfOk result (λ w.
             w ≡ fresh_writing (record self.now.label { table_id = id }) self.now.options) }
@@ -131,7 +136,7 @@ impl<A: Allocator + Clone> Writer<A> {
         Writer::fresh(self.chunk.allocator().clone()?, label, self.options)
     }
 
-    /// A writer that has no entry yet. Refused [`Error::OutOfMemory`] alone.
+    /// Creates a writer without entries. Fails only with [`Error::OutOfMemory`].
     fn fresh(alloc: A, label: Label, options: Options) -> Result<Writer<A>, Error>
         requires label { LabelFits label }
         requires small { IsSmallFilter options.filter_kind }
@@ -151,7 +156,7 @@ impl<A: Allocator + Clone> Writer<A> {
         })
     }
 
-    /// Whether an entry is the first of its key, if it is written next.
+    /// Returns whether an entry is the first of its key if it is written next.
     pub(crate) fn starts_key(&self, entry: &EntryRef<'_>) -> bool
         ensures { result ≡
             starts_key (last_of None (written self.now)) (entry_of_ref entry.now) }
@@ -159,22 +164,24 @@ impl<A: Allocator + Clone> Writer<A> {
         starts_key(last_written(&self.chunk, &self.blocks), entry)
     }
 
-    /// Whether no entry was given yet, also none that was refused.
+    /// Returns whether no entry was written and no call failed.
     pub fn is_empty(&self) -> bool
         ensures { IsTrue result ↔ IsFresh self.now }
     {
         !self.failed && self.chunk.is_empty() && self.meta.data_block_count == 0
     }
 
-    /// Whether an entry of this key may be written next: its number is below `u64::MAX`, and it
-    /// comes strictly after the last one by key and number.
+    /// Returns whether an entry with this key can be written next.
+    ///
+    /// Its sequence number is below `u64::MAX`. It is strictly after the last entry by key and
+    /// sequence number.
     pub fn can_follow(&self, key: &InternalKey<A>) -> bool
         ensures { result ≡ may_be_written (written self.now) key.now.user_key key.now.seqno }
     {
         self.follows(key.user_key.as_slice(), key.seqno)
     }
 
-    /// Whether this entry may be written next, as [`Writer::can_follow`] says.
+    /// Returns whether this entry can be written next; see [`Writer::can_follow`].
     pub fn can_follow_ref(&self, entry: &EntryRef<'_>) -> bool
         ensures { let e = entry_of_ref entry.now in
             result ≡ may_be_written (written self.now) e.user_key e.seqno }
@@ -182,7 +189,7 @@ impl<A: Allocator + Clone> Writer<A> {
         self.follows(entry.user_key, entry.seqno)
     }
 
-    /// Whether an entry of this key and number may be written next.
+    /// Returns whether an entry with this key and sequence number can be written next.
     #[inline]
     fn follows(&self, key: &[u8], seqno: SeqNo) -> bool
         ensures { result ≡ may_be_written (written self.now) key.now seqno }
@@ -194,33 +201,39 @@ impl<A: Allocator + Clone> Writer<A> {
             }
     }
 
-    /// Counts of what was written so far.
+    /// Returns counts of the entries and blocks written so far.
     pub fn metadata(&self) -> &Metadata<A>
         ensures { result.now ≡ metadata_of V4 self.now.cut self.now.pending }
     {
         &self.meta
     }
 
-    /// How many bytes the keys and values have that wait for the next block.
+    /// Returns the length of the pending keys and values in bytes.
     pub fn chunk_size(&self) -> usize
         ensures { result ≡ entries_size self.now.pending }
     {
         self.chunk_size
     }
 
-    /// Writes an entry. The block is cut once its keys and values reach the data block size.
+    /// Writes an entry. A block is cut once its keys and values reach the data block size.
     ///
-    /// Refused [`Error::WriterFailed`] where a call was refused before, then [`Error::KeyTooLong`],
-    /// then [`Error::ValueTooLong`], then [`Error::BlockTooLarge`] where the bound of the block
-    /// that is being filled reaches 2^32; and [`Error::OutOfMemory`]. Whatever is refused, each
-    /// later call is refused [`Error::WriterFailed`].
+    /// # Errors
+    ///
+    /// The first of these, or [`Error::OutOfMemory`]:
+    ///
+    /// - [`Error::WriterFailed`] if an earlier call failed;
+    /// - [`Error::KeyTooLong`] if the key is longer than 1,048,576 bytes;
+    /// - [`Error::ValueTooLong`] if the value has 2^32 bytes or more;
+    /// - [`Error::BlockTooLarge`] if the size bound of the block being filled reaches 2^32.
+    ///
+    /// After an error each later call fails with [`Error::WriterFailed`].
     pub fn write(&mut self, item: InternalValue<A>) -> Result<(), Error>
         requires { IsTrue (may_be_written (written self.old) item.user_key item.seqno) }
         ensures ok { OnOk result (self.new ≡ gained self.old item) }
         ensures refused { Faults result (write_fault self.old item) }
-        // What is wrong with the entry or the writer is found before any memory is taken.
+        // A fault comes before `OutOfMemory`.
         ensures first { FaultsFirst result (write_fault self.old item) }
-        // A refused entry is given up, and the list and its counts stay.
+        // After an error the entry is dropped; the list and its counts stay.
         ensures failed { OnErr result (self.new ≡ record self.old { failed = true }) }
     {
         let outcome = self.write_ref(&item.as_entry_ref());
@@ -228,16 +241,16 @@ impl<A: Allocator + Clone> Writer<A> {
         outcome
     }
 
-    /// Writes an entry as [`Writer::write`] does. Its key and its value are copied into the block's
-    /// memory, which stays from block to block.
+    /// Writes a borrowed entry; see [`Writer::write`]. It copies the key and value into a buffer
+    /// that is reused from block to block.
     pub fn write_ref(&mut self, entry: &EntryRef<'_>) -> Result<(), Error>
         requires { let e = entry_of_ref entry.now in
             IsTrue (may_be_written (written self.old) e.user_key e.seqno) }
         ensures ok { OnOk result (self.new ≡ gained self.old (entry_of_ref entry.now)) }
         ensures refused { Faults result (write_fault self.old (entry_of_ref entry.now)) }
-        // What is wrong with the entry or the writer is found before any memory is taken.
+        // A fault comes before `OutOfMemory`.
         ensures first { FaultsFirst result (write_fault self.old (entry_of_ref entry.now)) }
-        // A refused entry is given up, and the list and its counts stay.
+        // After an error the entry is dropped; the list and its counts stay.
         ensures failed { OnErr result (self.new ≡ record self.old { failed = true }) }
     {
         if self.failed {
@@ -266,15 +279,18 @@ impl<A: Allocator + Clone> Writer<A> {
         Ok(())
     }
 
-    /// Cuts the pending entries off as a block, full or not; nothing happens where none are
-    /// pending. Refused [`Error::WriterFailed`] where a call was refused before, and
-    /// [`Error::OutOfMemory`]; each later call is then refused [`Error::WriterFailed`].
+    /// Cuts the pending entries as a block, full or not. Without pending entries nothing happens.
+    ///
+    /// # Errors
+    ///
+    /// [`Error::WriterFailed`] if an earlier call failed, or [`Error::OutOfMemory`]. After an error
+    /// each later call fails with [`Error::WriterFailed`].
     pub fn spill_block(&mut self) -> Result<(), Error>
         ensures ok { OnOk result (self.new ≡ spilled self.old) }
         ensures refused { Faults result (failed_fault self.old.failed) }
         ensures first { FaultsFirst result (failed_fault self.old.failed) }
         ensures failed { OnErr result (self.new ≡ record self.old { failed = true }) }
-        // Where nothing is pending, only a writer that has failed refuses.
+        // Without pending entries, only a failed writer returns an error.
         ensures idle { OnErr result (self.old.pending ≡ [] → self.old.failed ≡ true) }
     {
         if self.failed {
@@ -287,21 +303,25 @@ impl<A: Allocator + Clone> Writer<A> {
         Ok(())
     }
 
-    /// Cuts the rest off as a block, writes the index, the filter, the version and the meta block,
-    /// and answers the table: `None` where nothing was written.
+    /// Finishes the table: cuts the pending entries as a block, then writes all other sections.
     ///
-    /// Refused [`Error::WriterFailed`] where a call was refused before; [`Error::BlockTooLarge`]
-    /// and [`Error::SectionTooLarge`] where the bound of a block or a section of the index, and
-    /// then of the filter, reaches 2^32; and [`Error::OutOfMemory`].
+    /// These are the index, the filter, the version and the meta block. Returns `None` if nothing
+    /// was written.
+    ///
+    /// # Errors
+    ///
+    /// - [`Error::WriterFailed`] if an earlier call failed;
+    /// - [`Error::BlockTooLarge`] or [`Error::SectionTooLarge`] if the size bound of a block or
+    ///   section of the index, then of the filter, reaches 2^32;
+    /// - [`Error::OutOfMemory`].
     pub fn finish(mut self) -> Result<Option<FinishedTable<A>>, Error>
         ensures table { IfOk result (λ t. MatchOption t (written self ≡ [])
             (λ f. IsFinished self f.id f.checksum.0 f.bytes)) }
         ensures refused { Faults result (finish_fault self) }
         ensures first { FaultsFirst result (failed_fault self.failed) }
-        // Where nothing was written, only a writer that has failed refuses.
+        // If nothing was written, only a failed writer returns an error.
         ensures idle { OnErr result (written self ≡ [] → self.failed ≡ true) }
-        // The list that was written is strict, and its entries fit the fields of a table, whatever
-        // is answered.
+        // Whatever the result, the list is strict and its entries fit the fields of a table.
         ensures strict { IsStrict (written self) }
         ensures fits { AllByRecursion (EntryFits V4) (written self) }
     {
@@ -318,8 +338,8 @@ impl<A: Allocator + Clone> Writer<A> {
         Ok(Some(self.table()?))
     }
 
-    /// The table of the blocks that were cut: behind them stand their index, the filter, the
-    /// version, the meta block and the trailer. Refused as [`Writer::finish`] is.
+    /// Writes the sections after the data blocks, and the trailer. Its errors are those of
+    /// [`Writer::finish`].
     fn table(self) -> Result<FinishedTable<A>, Error>
         requires works { self.failed ≡ false }
         requires cut { self.pending ≡ [] }
@@ -364,7 +384,7 @@ impl<A: Allocator + Clone> Writer<A> {
         })
     }
 
-    /// What it writes with.
+    /// Returns the options.
     pub(crate) fn options(&self) -> Options
         ensures is { result ≡ self.now.options }
         ensures small { IsSmallFilter result.filter_kind }
@@ -372,7 +392,7 @@ impl<A: Allocator + Clone> Writer<A> {
         self.options
     }
 
-    /// Other options.
+    /// Replaces the options.
     pub(crate) fn with_options(mut self, options: Options) -> Writer<A>
         requires fresh { IsFresh self }
         requires small { IsSmallFilter options.filter_kind }
@@ -382,8 +402,7 @@ impl<A: Allocator + Clone> Writer<A> {
         self
     }
 
-    /// Sets all that the table is written with: what was set before is forgotten. Only tables with
-    /// an index block restart interval of 1 can be opened.
+    /// Replaces all options. Only tables with an index block restart interval of 1 can be opened.
     pub fn use_options(self, options: Options) -> Writer<A>
         requires fresh { IsFresh self }
         requires some { 0 < options.data_block_restart_interval }
@@ -410,8 +429,8 @@ impl<A: Allocator + Clone> Writer<A> {
         self
     }
 
-    /// Sets the restart interval of index blocks. It is stored in the meta block and changes no index
-    /// block. Only tables written with 1 can be opened.
+    /// Sets the restart interval of index blocks. It is stored in the meta block and changes no
+    /// index block. Only tables written with 1 can be opened.
     pub fn use_index_block_restart_interval(mut self, interval: u8) -> Writer<A>
         requires { IsFresh self }
         ensures { result ≡ record self {
@@ -437,7 +456,7 @@ impl<A: Allocator + Clone> Writer<A> {
         self
     }
 
-    /// How many bytes of keys and values a data block has when it is cut.
+    /// Sets the length of keys and values, in bytes, at which a data block is cut.
     pub fn use_data_block_size(mut self, size: u32) -> Writer<A>
         requires fresh { IsFresh self }
         requires small { size ≤ 4194304 }
@@ -451,8 +470,8 @@ impl<A: Allocator + Clone> Writer<A> {
         self
     }
 
-    /// Writes a filter of partitions, each cut when it has 4,096 bytes: a size that was set before
-    /// is forgotten.
+    /// Writes a partitioned filter. A partition is cut at 4,096 bytes; this replaces an earlier
+    /// size.
     pub fn use_partitioned_filter(mut self) -> Writer<A>
         requires { IsFresh self }
         ensures { result ≡ record self {
@@ -463,8 +482,8 @@ impl<A: Allocator + Clone> Writer<A> {
         self
     }
 
-    /// Writes an index of partitions, each cut when it has 4,096 bytes: a size that was set before
-    /// is forgotten.
+    /// Writes a partitioned index. A partition is cut at 4,096 bytes; this replaces an earlier
+    /// size.
     pub fn use_partitioned_index(mut self) -> Writer<A>
         requires { IsFresh self }
         ensures { result ≡ record self {
@@ -475,8 +494,8 @@ impl<A: Allocator + Clone> Writer<A> {
         self
     }
 
-    /// How many bytes a partition of the index or of the filter has when it is cut. Nothing changes
-    /// where they have none.
+    /// Sets the size in bytes at which a partition of the index or the filter is cut. A full index
+    /// or filter is not affected.
     pub fn use_meta_partition_size(mut self, size: u32) -> Writer<A>
         requires fresh { IsFresh self }
         requires small { size ≤ 4194304 }
@@ -492,7 +511,7 @@ impl<A: Allocator + Clone> Writer<A> {
         self
     }
 
-    /// How many bits the filter has for a key; where these are 0, no filter is written.
+    /// Sets the bits that the filter has for each key. With 0 bits no filter is written.
     pub fn use_bloom_policy(mut self, policy: BloomConstructionPolicy) -> Writer<A>
         requires { IsFresh self }
         ensures { result ≡ record self {
@@ -503,7 +522,7 @@ impl<A: Allocator + Clone> Writer<A> {
         self
     }
 
-    /// How data blocks are compressed.
+    /// Sets the compression of data blocks.
     pub fn use_data_block_compression(self, compression: CompressionType) -> Writer<A>
         requires { IsFresh self }
         ensures { result ≡ self }
@@ -513,7 +532,7 @@ impl<A: Allocator + Clone> Writer<A> {
         }
     }
 
-    /// How the blocks of the index are compressed.
+    /// Sets the compression of index blocks.
     pub fn use_index_block_compression(self, compression: CompressionType) -> Writer<A>
         requires { IsFresh self }
         ensures { result ≡ self }
@@ -524,15 +543,14 @@ impl<A: Allocator + Clone> Writer<A> {
     }
 }
 
-/// A table whose bytes are complete. Printed with `Debug` it tells how many bytes there are, and
-/// not which.
+/// A finished table. Its `Debug` output has the number of bytes, not the bytes.
 #[derive(Drop)]
 pub struct FinishedTable<A: Allocator = Global> {
     /// The table's id.
     pub id: TableId,
-    /// The checksum of all bytes.
+    /// The checksum of `bytes`.
     pub checksum: Checksum,
-    /// The sections and their trailer.
+    /// The bytes of the table: its sections and the trailer.
     pub bytes: Slice<A>,
 }
 
@@ -546,7 +564,8 @@ impl<A: Allocator> fmt::Debug for FinishedTable<A> {
     }
 }
 
-/// Writes the number of the version. Refused [`Error::OutOfMemory`] alone; nothing is written then.
+/// Writes the section of the table version. Fails only with [`Error::OutOfMemory`]; nothing is
+/// written then.
 fn write_version<A: Allocator + Clone>(file_writer: &mut SectionWriter<A>) -> Result<(), Error>
     requires { HasNoVersion file_writer.old }
     ensures ok { OnOk result (file_writer.new ≡ appended file_writer.old (version_section V4)) }
@@ -556,14 +575,14 @@ fn write_version<A: Allocator + Clone>(file_writer: &mut SectionWriter<A>) -> Re
     file_writer.append(&[4])
 }
 
-/// The entry written last: the last pending one, or the last of the blocks that were cut.
+/// Returns the entry written last: the last pending one, else the last one of the cut blocks.
 fn last_written<'a, A: Allocator + Clone>(
     chunk: &'a BlockBuffer<A>,
     blocks: &'a DataBlocks<A>,
 ) -> Option<EntryRef<'a>>
     ensures last { option_map entry_of_ref result ≡
         last_of (last_of None (joined blocks.now.chunks)) chunk.now }
-    // Each entry that was cut has bytes of its own, so there are fewer than can be counted.
+    // Each entry takes `entry_head_len` bytes or more, so a `u64` can count them.
     ensures few { entry_head_len * length (joined blocks.now.chunks) < 2 ^ 64 }
 {
     let cut = blocks.last_block();
@@ -571,9 +590,8 @@ fn last_written<'a, A: Allocator + Clone>(
     buffer.last()
 }
 
-/// Checks an entry that comes after `before`, and registers its key. Answers what it adds to the
-/// counts. What is wrong with the entry is refused before any memory is taken; and
-/// [`Error::OutOfMemory`].
+/// Checks an entry after `before`, registers its key, and returns what it adds to the counts. A
+/// fault of the entry comes before [`Error::OutOfMemory`].
 fn admit<A: Allocator + Clone>(
     chunk: &BlockBuffer<A>,
     chunk_size: usize,
@@ -611,8 +629,8 @@ fn admit<A: Allocator + Clone>(
     Ok(tally)
 }
 
-/// Puts an entry behind the pending ones, and cuts these off as a block once they are full. Refused
-/// [`Error::OutOfMemory`] alone; the entry is then given up, and all else stays.
+/// Appends an entry to the pending ones, and cuts these as a block once they are full. Fails only
+/// with [`Error::OutOfMemory`]; the entry is dropped then, and the rest is unchanged.
 fn take_entry<A: Allocator + Clone>(
     chunk: &mut BlockBuffer<A>,
     chunk_size: &mut usize,
@@ -646,15 +664,15 @@ fn take_entry<A: Allocator + Clone>(
         return Ok(());
     }
     if let Err(error) = blocks.cut(chunk, meta) {
-        chunk.rewind(before); // the entry is given up
+        chunk.rewind(before); // drops the entry
         return Err(error);
     }
     *chunk_size = 0;
     Ok(())
 }
 
-/// Writes the index of the data blocks behind them, the filter, the version and the meta block.
-/// Refused as [`Writer::finish`] is.
+/// Writes the sections after the data blocks: index, filter, version and meta block. Its errors are
+/// those of [`Writer::finish`].
 fn write_sections<A: Allocator + Clone>(
     file_writer: &mut SectionWriter<A>,
     buffer: &mut Vec<u8, A>,
@@ -682,7 +700,7 @@ fn write_sections<A: Allocator + Clone>(
     write_meta(file_writer, buffer, label, options, counts, meta)
 }
 
-/// Refused where an entry is too long, or would make the block of the pending ones too large.
+/// Fails if a key or value is too long, or if the block of the pending entries would be too large.
 fn check_entry<A: Allocator>(
     chunk: &BlockBuffer<A>,
     chunk_size: usize,

@@ -1,4 +1,4 @@
-//! The entries of a block that is being filled.
+//! The buffer of a block that is being filled.
 ghost use Rattle.std.specs.Prelude.{◌≡◌, ◌↔◌, ◌+◌, ◌++◌, ◌<◌, ◌≤◌, [], ◌∷◌, None, drop, length};
 ghost use Rattle.std.specs.Prelude.{take, vec_len};
 ghost use Rattle.std.specs.Prelude.{IfErr, IfOk, IsTrue, OnErr, OnOk};
@@ -27,8 +27,8 @@ use std::marker::Model;
 /// The length of the count before the entries.
 const COUNT_LEN: usize = 4;
 
-/// Where an entry lies that is the last one: its value runs to the end of the bytes. Places are
-/// counted behind the count, so they hold wherever the bytes are moved to.
+/// Where the last entry is: its value runs to the end of the bytes. Offsets start after the count,
+/// so they stay valid when the bytes move.
 #[derive(Clone, Copy)]
 pub(crate) struct Place {
     key: usize,
@@ -37,7 +37,7 @@ pub(crate) struct Place {
     value_type: ValueType,
 }
 
-/// How far a buffer is filled.
+/// A checkpoint of a buffer: how far it is filled.
 #[derive(Clone, Copy)]
 pub(crate) struct Mark {
     len: usize,
@@ -45,8 +45,8 @@ pub(crate) struct Mark {
     last: Option<Place>,
 }
 
-/// The entries of a block that is being filled, one behind the other as the block has them, behind
-/// room for their count. It keeps its memory from block to block. A contract sees the entries.
+/// The entries of a block that is being filled, encoded as in the block, after room for their
+/// count. The memory is reused from block to block. Contracts see the entries.
 #[derive(Drop)]
 pub(crate) struct BlockBuffer<A: Allocator = Global> {
     payload: Vec<u8, A>,
@@ -67,7 +67,7 @@ impl<A: Allocator> Model for BlockBuffer<A> {
 }
 
 impl<A: Allocator> BlockBuffer<A> {
-    /// No entries. Refused [`Error::OutOfMemory`] alone.
+    /// Creates an empty buffer. Fails only with [`Error::OutOfMemory`].
     pub(crate) fn new(alloc: A) -> Result<BlockBuffer<A>, Error>
         ensures ok { IfOk result (λ b. b ≡ []) }
         ensures err { IfErr result (λ e. e ≡ OutOfMemory) }
@@ -88,7 +88,7 @@ impl<A: Allocator> BlockBuffer<A> {
         self.payload.allocator()
     }
 
-    /// How many entries there are.
+    /// Returns the number of entries.
     #[inline]
     pub(crate) fn len(&self) -> usize
         ensures { result ≡ length self.now }
@@ -96,7 +96,7 @@ impl<A: Allocator> BlockBuffer<A> {
         self.filled.len
     }
 
-    /// Whether there are no entries.
+    /// Returns whether there are no entries.
     #[inline]
     pub(crate) fn is_empty(&self) -> bool
         ensures { IsTrue result ↔ (self.now ≡ []) }
@@ -104,14 +104,14 @@ impl<A: Allocator> BlockBuffer<A> {
         self.len() == 0
     }
 
-    /// The length of the payload of a block of these entries.
+    /// Returns the payload length, in bytes, of a block of these entries.
     pub(crate) fn payload_len(&self) -> usize
         ensures { result ≡ length (payload V4 self.now) }
     {
         self.payload.len()
     }
 
-    /// The last entry.
+    /// Returns the last entry.
     #[inline]
     pub(crate) fn last(&self) -> Option<EntryRef<'_>>
         ensures { option_map entry_of_ref result ≡ last_of None self.now }
@@ -126,7 +126,7 @@ impl<A: Allocator> BlockBuffer<A> {
         })
     }
 
-    /// Puts an entry behind the others. Refused [`Error::OutOfMemory`] alone; nothing changes then.
+    /// Appends an entry. Fails only with [`Error::OutOfMemory`]; nothing changes then.
     pub(crate) fn push(&mut self, entry: &EntryRef<'_>) -> Result<(), Error>
         requires { IsShortEntry (entry_of_ref entry.now) }
         ensures pushed { OnOk result (self.new ≡ self.old ++ entry_of_ref entry.now ∷ []) }
@@ -152,7 +152,7 @@ impl<A: Allocator> BlockBuffer<A> {
         Ok(())
     }
 
-    /// How far the buffer is filled.
+    /// Returns a checkpoint for [`BlockBuffer::rewind`].
     #[inline]
     pub(crate) fn mark(&self) -> Mark
         ensures { IsMark result self.now }
@@ -160,7 +160,7 @@ impl<A: Allocator> BlockBuffer<A> {
         self.filled
     }
 
-    /// Gives up the entries behind a mark.
+    /// Drops the entries after a checkpoint.
     pub(crate) fn rewind(&mut self, mark: Mark)
         requires { MarksFront mark self.old }
         ensures { self.new ≡ take mark.len self.old }
@@ -169,7 +169,7 @@ impl<A: Allocator> BlockBuffer<A> {
         self.filled = mark;
     }
 
-    /// Gives up all entries.
+    /// Drops all entries.
     pub(crate) fn clear(&mut self)
         ensures { self.new ≡ [] }
     {
@@ -181,15 +181,15 @@ impl<A: Allocator> BlockBuffer<A> {
         };
     }
 
-    /// The memory, for what else is to be encoded.
+    /// Returns the memory, so that it can be reused for other encodings.
     pub(crate) fn into_memory(self) -> Vec<u8, A> {
         self.payload
     }
 }
 
 impl<A: Allocator + Clone> BlockBuffer<A> {
-    /// Writes the block of the entries at the end, and answers where it lies. The entries stay.
-    /// Refused [`Error::OutOfMemory`] alone; nothing is written then.
+    /// Appends the block of the entries to `file_writer`, and returns its handle. The entries stay.
+    /// Fails only with [`Error::OutOfMemory`]; nothing is written then.
     pub(crate) fn write_into(
         &mut self,
         file_writer: &mut SectionWriter<A>,
@@ -218,7 +218,7 @@ impl<A: Allocator + Clone> BlockBuffer<A> {
     }
 }
 
-/// Writes a count over the room before the entries.
+/// Writes a count into the room before the entries.
 fn put_count<A: Allocator>(payload: &mut Vec<u8, A>, count: u32)
     requires { 4 ≤ length payload.old.items }
     ensures { payload.new.items ≡ le4 count ++ drop 4 payload.old.items }
@@ -230,7 +230,7 @@ fn put_count<A: Allocator>(payload: &mut Vec<u8, A>, count: u32)
     payload[3] = fourth;
 }
 
-/// What stands before the key of an entry: its kind, its number and the lengths of key and value.
+/// Returns the bytes before an entry's key: kind, sequence number, length of key and of value.
 #[tactic(auto, unfolding(sst_sections::specs::Number::le4, sst_sections::specs::Number::le8))]
 fn entry_head(value_type: ValueType, seqno: SeqNo, key_len: u32, value_len: u32) -> [u8; 17]
     ensures { result ≡ (tag_of value_type ∷ []) ++ le8 seqno ++ le4 key_len ++ le4 value_len }
@@ -244,7 +244,7 @@ fn entry_head(value_type: ValueType, seqno: SeqNo, key_len: u32, value_len: u32)
     ]
 }
 
-/// Writes an entry at the end of `buf`. Refused [`Error::OutOfMemory`] alone. What `buf` held stays
+/// Appends an entry to `buf`. Fails only with [`Error::OutOfMemory`]. The bytes that `buf` had stay
 /// at its front.
 #[tactic(auto, unfolding(sst_blocks::specs::Payload::spelled))]
 fn put_entry<A: Allocator>(buf: &mut Vec<u8, A>, entry: &EntryRef<'_>) -> Result<(), Error>

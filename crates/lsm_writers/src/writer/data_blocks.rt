@@ -1,4 +1,4 @@
-//! The data blocks of a table, with the index that they are registered with.
+//! The data blocks of a table, and the index of them.
 ghost use Rattle.std.specs.Prelude.{◌≡◌, ◌+◌, ◌*◌, ◌++◌, ◌^◌, ◌<◌, List, [], ◌∷◌, Option, None};
 ghost use Rattle.std.specs.Prelude.{Some, true, false, length, IfOk, IfErr, OnOk, OnErr};
 ghost use Rattle.sst_blocks.specs.Handles.{AreStrictHandles};
@@ -25,14 +25,13 @@ use std::alloc::{Allocator, Global};
 use std::marker::Model;
 use std::mem;
 
-/// The data blocks that were cut so far, behind one another in the data section, and the index that
-/// has their handles. A contract sees the chunks that the blocks hold, as they are read back from
-/// the bytes.
+/// The data blocks cut so far, one after another in the data section, and the index of their
+/// handles. Contracts see the chunks of the blocks, as decoded from the bytes.
 #[derive(Drop)]
 pub(crate) struct DataBlocks<A: Allocator = Global> {
     file_writer: SectionWriter<A>,
     index_writer: FullIndexWriter<A>,
-    // the entries of the last block; the next one's come into its memory
+    // the entries of the last block; the next block reuses the memory
     last_block: BlockBuffer<A>,
     // memory for the last key of the next block
     spare_key: Option<KeyBuffer<A>>,
@@ -61,7 +60,7 @@ impl<A: Allocator> Model for DataBlocks<A> {
 }
 
 impl<A: Allocator + Clone> DataBlocks<A> {
-    /// No blocks, and the data section started.
+    /// Starts a data section without blocks. Fails only with [`Error::OutOfMemory`].
     pub(crate) fn new(alloc: A) -> Result<DataBlocks<A>, Error>
         ensures ok { IfOk result (λ b. b ≡ record { chunks = []; failed = false }) }
         ensures err { IfErr result (λ e. e ≡ OutOfMemory) }
@@ -88,9 +87,9 @@ impl<A: Allocator + Clone> DataBlocks<A> {
         &self.last_block
     }
 
-    /// Cuts the entries of `chunk` off as a block, where there are some, and registers it with the
-    /// index. `chunk` is then empty, and `meta` counts the block. Refused [`Error::OutOfMemory`]
-    /// alone; `chunk` and `meta` stay then as they were.
+    /// Cuts the entries of `chunk`, if there are any, as a block, and registers it with the index.
+    /// `chunk` is then empty, and `meta` counts the block. Fails only with [`Error::OutOfMemory`];
+    /// `chunk` and `meta` are unchanged then.
     pub(crate) fn cut(
         &mut self,
         chunk: &mut BlockBuffer<A>,
@@ -107,7 +106,7 @@ impl<A: Allocator + Clone> DataBlocks<A> {
         ensures unchanged { OnErr result (self.new.chunks ≡ self.old.chunks) }
         ensures left { OnErr result (chunk.new ≡ chunk.old) }
         ensures uncounted { OnErr result (meta.new ≡ meta.old) }
-        // Nothing is refused where nothing is to be cut.
+        // An empty chunk never causes an error.
         ensures some { OnErr result (chunk.old ≡ [] → ⊥) }
         ensures err { IfErr result (λ e. e ≡ OutOfMemory) }
     {
@@ -123,8 +122,7 @@ impl<A: Allocator + Clone> DataBlocks<A> {
         Ok(())
     }
 
-    /// The data section, the index that has the handles of all its blocks, and memory for what is
-    /// left to encode.
+    /// Returns the data section, the index of all its blocks, and memory to reuse.
     pub(crate) fn into_parts(self) -> (SectionWriter<A>, FullIndexWriter<A>, Vec<u8, A>)
         requires { self.failed ≡ false }
         ensures data { result.0 ≡ laid ((Data, data_section V4 self.chunks) ∷ []) }
@@ -142,8 +140,8 @@ impl<A: Allocator + Clone> DataBlocks<A> {
     }
 }
 
-/// Writes these entries as a block at the end, and registers it with the index. Refused
-/// [`Error::OutOfMemory`] alone; the blocks before stay.
+/// Appends a block of these entries, and registers it with the index. Fails only with
+/// [`Error::OutOfMemory`]; the earlier blocks stay.
 fn add_block<A: Allocator + Clone>(
     file_writer: &mut SectionWriter<A>,
     index_writer: &mut FullIndexWriter<A>,
@@ -169,7 +167,7 @@ fn add_block<A: Allocator + Clone>(
     register_block(index_writer, entries, block)
 }
 
-/// Registers the block of these entries with the index. Refused [`Error::OutOfMemory`] alone.
+/// Registers the block of these entries with the index. Fails only with [`Error::OutOfMemory`].
 fn register_block<A: Allocator + Clone>(
     index_writer: &mut FullIndexWriter<A>,
     entries: &BlockBuffer<A>,

@@ -1,4 +1,4 @@
-//! The keys of a table's filter.
+//! Registration of a table's keys with its filter.
 ghost use Rattle.std.specs.Prelude.{◌≡◌, ◌<◌, ◌^◌, ◌&&◌, ℕ, List, [], nat_lt, OnOk, IfOk};
 ghost use Rattle.std.specs.Prelude.{IfErr};
 ghost use Rattle.lsm_writers.specs.Words.{CanRegister, Faults, HasKeys, HasNoFilter, MayHaveKeys};
@@ -14,7 +14,8 @@ use sst_blocks::{Error, SectionWriter};
 use sst_filters::BloomConstructionPolicy;
 use std::alloc::Allocator;
 
-/// A filter writer of the options' kind and policy, without keys.
+/// Creates a filter writer of the options' kind and policy, without keys. Fails only with
+/// [`Error::OutOfMemory`].
 fn filter_writer_of<A: Allocator + Clone>(
     alloc: A,
     options: &Options,
@@ -31,8 +32,8 @@ fn filter_writer_of<A: Allocator + Clone>(
     })
 }
 
-/// Whether the key of an entry is registered: the first of a run of versions is, under an active
-/// policy.
+/// Returns whether the key of an entry is registered. The entry must be the first of its key, and
+/// the policy active.
 fn is_registered(policy: BloomConstructionPolicy, starts_key: bool) -> bool
     ensures is { result ≡ (nat_lt 0 (tenths_of policy) && starts_key) }
     ensures few { tenths_of policy < 2 ^ 32 }
@@ -40,8 +41,8 @@ fn is_registered(policy: BloomConstructionPolicy, starts_key: bool) -> bool
     policy.is_active() && starts_key
 }
 
-/// Registers the key of an entry that is the first of its key, under an active policy. The writer
-/// is made when the first key comes. Refused [`Error::OutOfMemory`] alone.
+/// Registers the key of an entry if the entry is the first of its key and the policy is active. The
+/// first registered key creates the writer. Fails only with [`Error::OutOfMemory`].
 pub(crate) fn register_key<A: Allocator + Clone>(
     filter_writer: &mut Option<FilterWriterImpl<A>>,
     alloc: &A,
@@ -71,8 +72,8 @@ pub(crate) fn register_key<A: Allocator + Clone>(
     Ok(())
 }
 
-/// Writes the filter of the keys that were registered, and answers how many blocks it counts.
-/// Refused where a block or a section of it is too large, and [`Error::OutOfMemory`].
+/// Writes the filter of the registered keys, and returns the number of blocks to count. Fails if a
+/// block or section of it is too large, or with [`Error::OutOfMemory`].
 pub(crate) fn finish_filter<A: Allocator + Clone>(
     filter_writer: Option<FilterWriterImpl<A>>,
     options: &Options,

@@ -1,4 +1,4 @@
-//! What a writer knows of the table so far.
+//! Counts of the entries and blocks that a writer has written.
 ghost use Rattle.std.specs.Prelude.{◌≡◌, ◌+◌, ◌<◌, ◌^◌, Some, IfErr};
 ghost use Rattle.std.specs.Option.{option_map};
 ghost use Rattle.sst_entries.specs.Lending.{entry_of_ref};
@@ -13,35 +13,37 @@ use sst_entries::EntryRef;
 use std::alloc::{Allocator, Global};
 use std::mem;
 
-/// Counts of what was written. The fields that speak of blocks, with `item_count` and `last_key`,
-/// change when a block is cut; the others change with each entry.
+/// Counts of the entries and blocks written so far.
+///
+/// A cut block changes the counts and sizes of blocks, `item_count` and `last_key`. Each entry
+/// changes the other fields.
 #[derive(Drop)]
 #[derive_where(Debug)]
 pub struct Metadata<A: Allocator = Global> {
-    /// Data blocks that were cut.
+    /// Number of data blocks cut so far.
     pub data_block_count: usize,
-    /// Entries in the blocks that were cut.
+    /// Number of entries in the blocks cut so far.
     pub item_count: usize,
-    /// Entries that are tombstones of either kind.
+    /// Number of tombstones of either kind.
     pub tombstone_count: usize,
-    /// Entries that are weak tombstones.
+    /// Number of weak tombstones.
     pub weak_tombstone_count: usize,
-    /// Values directly after a weak tombstone of their key, which both may go once no reader needs
-    /// them.
+    /// Number of values directly after a weak tombstone of their key. Both can be dropped once no
+    /// reader needs them.
     pub weak_tombstone_reclaimable_count: usize,
-    /// Distinct keys.
+    /// Number of distinct keys.
     pub key_count: usize,
-    /// Where the next data block begins.
+    /// Offset of the next data block.
     pub file_pos: BlockOffset,
-    /// The payloads of the data blocks that were cut, in bytes.
+    /// Total length of the payloads of the blocks cut so far, in bytes.
     pub uncompressed_size: u64,
     /// The first key.
     pub first_key: Option<UserKey<A>>,
-    /// The last key of the blocks that were cut, in memory that the cuts reuse.
+    /// The last key of the blocks cut so far. Cuts reuse its memory.
     pub last_key: Option<KeyBuffer<A>>,
-    /// The lowest number, `u64::MAX` where there is none.
+    /// The lowest sequence number, `u64::MAX` without entries.
     pub lowest_seqno: SeqNo,
-    /// The highest number, 0 where there is none.
+    /// The highest sequence number, 0 without entries.
     pub highest_seqno: SeqNo,
 }
 
@@ -69,7 +71,7 @@ impl<A: Allocator> Default for Metadata<A> {
     }
 }
 
-/// Whether an entry is the first of its key, by the entry directly before it.
+/// Returns whether an entry is the first of its key, given the entry directly before it.
 pub(crate) fn starts_key(before: Option<EntryRef<'_>>, entry: &EntryRef<'_>) -> bool
     ensures { result ≡ starts_key (option_map entry_of_ref before.entry) (entry_of_ref entry.now) }
 {
@@ -118,13 +120,13 @@ fn is_value(kind: ValueType) -> bool
 /// What an entry adds to the counts.
 #[derive(Drop)]
 pub(crate) struct Tally<A: Allocator = Global> {
-    /// Whether it is the first of its key.
+    /// Whether the entry is the first of its key.
     pub(crate) starts_key: bool,
     is_tombstone: bool,
     is_weak: bool,
     is_reclaimable: bool,
     seqno: SeqNo,
-    // the key of an entry that is the first of all
+    // the key, if the entry is the first of the table
     first_key: Option<UserKey<A>>,
 }
 
@@ -135,8 +137,8 @@ impl<A: Allocator + Clone> Metadata<A> {
     ghost use Rattle.sst_entries.specs.declared.error.Error.TheVariants.{OutOfMemory};
     ghost use Rattle.lsm_writers.specs.Counts.{tally_of};
 
-    /// What an entry adds to the counts, after the one before it. Refused [`Error::OutOfMemory`]
-    /// alone.
+    /// Returns what an entry adds to the counts after the one before it. Fails only with
+    /// [`Error::OutOfMemory`].
     pub(crate) fn tally(
         &self,
         alloc: &A,
@@ -191,8 +193,8 @@ impl<A: Allocator> Metadata<A> {
         self.highest_seqno = self.highest_seqno.max(seqno);
     }
 
-    /// Counts a block that was cut: its entries, the bytes of its payload, where it ends and its
-    /// last key, which is exchanged for the one of the block before.
+    /// Counts a cut block: its entries, payload length, end offset and last key. The last key is
+    /// swapped with that of the previous block.
     pub(crate) fn count_block(
         &mut self,
         items: usize,

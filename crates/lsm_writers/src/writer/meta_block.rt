@@ -1,4 +1,4 @@
-//! The meta block of a table: what a reader is told of it.
+//! The meta block of a table: its counts, keys and options.
 ghost use Rattle.std.specs.Prelude.{◌≡◌, [], ◌∷◌, ◌++◌, None, map, unwrap_or, IfOk};
 ghost use Rattle.std.specs.Prelude.{IfErr, OnOk};
 ghost use Rattle.sst_entries.specs.declared.error.Error.TheVariants.{OutOfMemory};
@@ -21,14 +21,14 @@ use sst_blocks::{
 };
 use std::alloc::Allocator;
 
-/// How many blocks the index and the filter of a table count.
+/// Numbers of blocks of the index and the filter.
 #[derive(Clone, Copy)]
 pub(crate) struct BlockCounts {
     pub(crate) index: usize,
     pub(crate) filter: usize,
 }
 
-/// Writes the meta block of what was counted. Refused [`Error::OutOfMemory`] alone.
+/// Writes the meta block of these counts. Fails only with [`Error::OutOfMemory`].
 pub(crate) fn write_meta<A: Allocator + Clone>(
     file_writer: &mut SectionWriter<A>,
     buffer: &mut Vec<u8, A>,
@@ -48,7 +48,7 @@ pub(crate) fn write_meta<A: Allocator + Clone>(
     write_items(file_writer, buffer, &items)
 }
 
-/// Writes a block of these items. Refused [`Error::OutOfMemory`] alone.
+/// Writes a meta block of these items. Fails only with [`Error::OutOfMemory`].
 fn write_items<A: Allocator + Clone>(
     file_writer: &mut SectionWriter<A>,
     buffer: &mut Vec<u8, A>,
@@ -68,8 +68,8 @@ fn write_items<A: Allocator + Clone>(
     Ok(())
 }
 
-/// The items of the meta block, in the byte order of their names. Refused [`Error::OutOfMemory`]
-/// alone.
+/// Returns the items of the meta block in byte order of their names. Fails only with
+/// [`Error::OutOfMemory`].
 #[tactic(auto, unfolding(crate::specs::Counts::counted_items))]
 fn meta_items<A: Allocator + Clone>(
     alloc: &A,
@@ -91,7 +91,7 @@ fn meta_items<A: Allocator + Clone>(
     Ok(items)
 }
 
-/// The counts of blocks, the formats and the moment of the creation.
+/// Appends the counts of blocks, the formats and the creation timestamp.
 fn put_block_items<A: Allocator + Clone>(
     items: &mut Vec<InternalValue<A>, A>,
     label: &Label,
@@ -127,7 +127,7 @@ fn put_block_items<A: Allocator + Clone>(
     )
 }
 
-/// The hash, the level, the number of items and the keys.
+/// Appends the filter hash type, the level, the number of items, and the first and last key.
 fn put_level_and_key_items<A: Allocator + Clone>(
     items: &mut Vec<InternalValue<A>, A>,
     label: &Label,
@@ -150,7 +150,7 @@ fn put_level_and_key_items<A: Allocator + Clone>(
     )
 }
 
-/// The number of keys, the options and the numbers.
+/// Appends the number of keys, the options, the sequence numbers, the table id and the version.
 fn put_option_items<A: Allocator + Clone>(
     items: &mut Vec<InternalValue<A>, A>,
     label: &Label,
@@ -183,7 +183,7 @@ fn put_option_items<A: Allocator + Clone>(
     )
 }
 
-/// The other counts.
+/// Appends the counts of tombstones and the size of the payloads.
 fn put_count_items<A: Allocator + Clone>(
     items: &mut Vec<InternalValue<A>, A>,
     meta: &Metadata<A>,
@@ -212,7 +212,7 @@ fn put_count_items<A: Allocator + Clone>(
     )
 }
 
-/// An item more for each name and value.
+/// Appends an item for each name and value. Fails only with [`Error::OutOfMemory`].
 fn put_all<A: Allocator + Clone>(
     items: &mut Vec<InternalValue<A>, A>,
     named: &[(ItemName, &[u8])],
@@ -227,7 +227,7 @@ fn put_all<A: Allocator + Clone>(
     Ok(())
 }
 
-/// The bytes of a number, the low one first.
+/// Returns the little-endian bytes of a number.
 #[tactic(auto, unfolding(sst_sections::specs::Number::le4))]
 fn bytes4(number: u32) -> [u8; 4]
     ensures { result ≡ le4 number }
@@ -249,21 +249,21 @@ fn bytes16(number: u128) -> [u8; 16]
     number.to_le_bytes()
 }
 
-/// The version of the crate whose format is written.
+/// Returns the version of the upstream crate whose format is written.
 fn crate_version() -> &'static [u8]
     ensures { result.now ≡ crate_version }
 {
     b"3.1.10"
 }
 
-/// The number of the version that is written.
+/// Returns the number of the table version.
 fn table_version() -> &'static [u8]
     ensures { result.now ≡ version_number V4 ∷ [] }
 {
     &[4]
 }
 
-/// The bytes of the first key, none where there is no key.
+/// Returns the first key, or no bytes if there is none.
 fn first_key<A: Allocator>(meta: &Metadata<A>) -> &[u8]
     ensures { result.now ≡ unwrap_or meta.now.first_key [] }
 {
@@ -273,7 +273,7 @@ fn first_key<A: Allocator>(meta: &Metadata<A>) -> &[u8]
     }
 }
 
-/// The bytes of the last key, none where there is no key.
+/// Returns the last key, or no bytes if there is none.
 fn last_key<A: Allocator>(meta: &Metadata<A>) -> &[u8]
     ensures { result.now ≡ unwrap_or meta.now.last_key [] }
 {
@@ -283,7 +283,7 @@ fn last_key<A: Allocator>(meta: &Metadata<A>) -> &[u8]
     }
 }
 
-/// One item more. Refused [`Error::OutOfMemory`] alone.
+/// Appends an item. Fails only with [`Error::OutOfMemory`].
 fn put<A: Allocator + Clone>(
     items: &mut Vec<InternalValue<A>, A>,
     name: ItemName,
@@ -298,7 +298,7 @@ fn put<A: Allocator + Clone>(
     Ok(())
 }
 
-/// A copy of some bytes. Refused [`Error::OutOfMemory`] alone.
+/// Copies bytes. Fails only with [`Error::OutOfMemory`].
 fn copied<A: Allocator + Clone>(alloc: &A, bytes: &[u8]) -> Result<Slice<A>, Error>
     ensures ok { IfOk result (λ s. s ≡ bytes.now) }
     ensures err { IfErr result (λ e. e ≡ OutOfMemory) }
