@@ -128,7 +128,7 @@ impl<A: Allocator + Clone> RunReader<A> {
     /// The first and the last table are read within both bounds, those between whole. No table is
     /// opened yet. The call does not fail.
     ///
-    /// The first index is at most the last, and the last is below the number of tables.
+    /// The first index must be at most the last, and the last below the number of tables.
     pub fn culled(
         run: Arc<Run<Table<A>, A>, A>,
         range: (Bound<UserKey<A>>, Bound<UserKey<A>>),

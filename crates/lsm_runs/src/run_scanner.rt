@@ -93,7 +93,7 @@ fn share_in<A: Allocator + Clone>(reader: &mut Option<Scanner<A>>) -> IterItem<A
 impl<A: Allocator + Clone> RunScanner<A> {
     /// Returns a scanner of the tables from a first index to a last, by default of all.
     ///
-    /// The first index is at most the last, and the last is below the number of tables. The first
+    /// The first index must be at most the last, and the last below the number of tables. The first
     /// table is opened here.
     ///
     /// # Errors
