@@ -25,7 +25,7 @@ pub record Stands {A : Type 0} (reader : Option (Range A)) (x : Result Entry Err
   pub front : range.front ≡ entry ∷ others
   pub told : x ≡ lifted_told range.of.global_seqno entry
 
--- one step of it; an entry in a loaded block is yielded even when memory is out
+-- one step of it; an entry in a loaded block is yielded even when out of memory
 pub record ReaderLends {A : Type 0} (s : Option (Range A)) (r : Option (Result Entry Error))
     (t : Option (Range A)) : Type 0 where
   pub gives : StepGives Front (remains_in range_remains s) r (remains_in range_remains t)
@@ -56,7 +56,7 @@ abbrev pub over_run : {A : Type 0} → RunRange A → RunRange A
 over_run s = record { unopened = none_unopened s.unopened; front = None; back = None }
 
 -- one step: one call at the front of the run; the next entry in a loaded block of the front table
--- is yielded even when memory is out
+-- is yielded even when out of memory
 pub record RunLends {A : Type 0} (s : RunRange A) (r : Option (Result Entry Error))
     (t : RunRange A) : Type 0 where
   pub gives : RunGives front_of front_tables s r t

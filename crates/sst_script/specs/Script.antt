@@ -62,7 +62,7 @@ AddsRun old count new =
 abbrev pub Writes : Store → ℕ → Store → Type 0
 Writes old count new = (adding_fault old ≡ None) × AddsRun old count new
 
--- the pending entries were dropped for their fault, or because memory was out
+-- the pending entries were dropped for their fault, or for `OutOfMemory`
 abbrev pub GivesUp : Store → Failure → Store → Type 0
 GivesUp old e new =
     ((e ≡ Refused OutOfMemory) ⊎ (adding_fault old ≡ Some e))
@@ -94,7 +94,7 @@ kept_fault s left = option_map Refused (tables_fault s.next_id target_size 0 lef
 abbrev pub CompactsTo : Store → List Entry → ℕ → Store → Type 0
 CompactsTo old left count new = (kept_fault old left ≡ None) × LeavesRun old left count new
 
--- nothing changed, because of the kept entries' fault, or because memory was out
+-- nothing changed, because of the kept entries' fault, or of `OutOfMemory`
 abbrev pub FailsToCompact : Store → List Entry → Failure → Store → Type 0
 FailsToCompact old left e new =
     ((e ≡ Refused OutOfMemory) ⊎ (kept_fault old left ≡ Some e)) × (new ≡ old)
@@ -118,7 +118,7 @@ abbrev pub Packs : Store → ℕ → Store → Type 0
 Packs old count new = (count ≡ length new.runs) × ArePackedRuns old.runs new.runs
     × (new ≡ store old.pending new.runs old.next_id)
 
--- nothing changed, because memory was out
+-- nothing changed, because of `OutOfMemory`
 abbrev pub WantsMemory : Store → Failure → Store → Type 0
 WantsMemory old e new = (e ≡ Refused OutOfMemory) × (new ≡ old)
 
@@ -127,7 +127,7 @@ abbrev pub PacksRuns : Store → Result ℕ Failure → Store → Type 0
 PacksRuns old r new =
     MatchResult r (λ count. Packs old count new) (λ e. WantsMemory old e new)
 
--- why an entry is not added: it may not follow the pending ones, or memory was out
+-- why an entry is not added: it may not follow the pending ones, or else `OutOfMemory`
 abbrev pub entry_failure : List Entry → List ℕ → ℕ → Failure
 entry_failure es key seqno = if may_be_written es key seqno then Refused OutOfMemory else BadLine
 

@@ -2,7 +2,7 @@
 //!
 //! - `entry KEY NUMBER KIND VALUE` adds a pending entry with that seqno.
 //! - `table` writes the pending entries as tables, which are a run.
-//! - `get KEY BOUND` reads the newest version of a key below a seqno.
+//! - `get KEY BOUND` reads the newest version of a key with a seqno below `BOUND`.
 //! - `range LOW HIGH` reads the newest version of each key within two bounds. A bound is `*` for
 //!   none, `=` before a key that is included, or `!` before one that is not.
 //! - `compact WATERMARK` replaces all runs by one run of what a compaction under that watermark

@@ -86,7 +86,7 @@ impl<A: Allocator + Clone> Pending<A> {
     ///
     /// # Errors
     ///
-    /// `BadLine` if the entry may not follow the last one, else out of memory. Nothing is added
+    /// `BadLine` if the entry may not follow the last one, else `OutOfMemory`. Nothing is added
     /// then.
     pub(crate) fn add(
         &mut self,

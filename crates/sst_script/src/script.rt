@@ -41,7 +41,7 @@ use std::{io, mem};
 ///
 /// - `sst: line` and the line's number, if a line is no command, or one that the script's state
 ///   does not allow;
-/// - `sst: input`, if the input fails, or memory for it is out;
+/// - `sst: input`, if the input fails, or there is no memory for it;
 /// - `sst: output`, if the output fails.
 ///
 /// An error of writing to `errors` is ignored. Nothing else is written to it.

@@ -14,7 +14,7 @@ pub enum Stop {
     Output,
 }
 
-/// Memory for reading the script is out.
+/// Out of memory for reading the script.
 impl From<AllocError> for Stop {
     ghost use Rattle.std.specs.Prelude.{◌≡◌};
     ghost use Rattle.sst_script.specs.declared.stop.Stop.TheVariants.{Input};
