@@ -48,8 +48,8 @@ opens_fault options es g = option_or (interval_fault options es) (number_fault e
 abbrev pub opening_fault : Label → List Entry → ℕ → Option Error
 opening_fault label es g = option_or (list_fault label es) (number_fault es g)
 
--- an opened table of a list: of the version that is written, of tree 0, with the checksum of its
--- bytes, no block spilled before it was full, filter and index pinned
+-- an opened table of a list: of the written version and tree 0, with the checksum of its bytes, no
+-- block spilled before it was full, filter and index pinned
 pub record IsOpened (label : Label) (es : List Entry) (g : ℕ) (t : OpenTable) : Type 0 where
   pub some : es ≡ [] → ⊥
   pub table : IsTable t.bytes es

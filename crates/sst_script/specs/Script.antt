@@ -104,8 +104,8 @@ abbrev pub CompactsRuns : Store → List Entry → Result ℕ Failure → Store 
 CompactsRuns old left r new =
     MatchResult r (λ count. CompactsTo old left count new) (λ e. FailsToCompact old left e new)
 
--- the same tables in other runs, which hold the same sorted entries: each key has its tables in the
--- same order, and the runs, in order, are as few as possible
+-- the same tables in other runs, with the same sorted entries: each key has its tables in the same
+-- order, and the runs, in order, are as few as possible
 pub record ArePackedRuns (old new : List Run) : Type 0 where
   pub tables : SameTables (run_tables old) (run_tables new)
   pub holders : SameHolders range_of (run_tables old) (run_tables new)
